@@ -1,0 +1,9 @@
+pub mod Word
+pub mod Value
+pub mod Causes
+pub mod Decode
+pub mod Regs
+pub mod Kind
+pub mod Memory
+pub mod Isa
+pub mod Path
