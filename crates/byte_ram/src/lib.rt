@@ -1,0 +1,13 @@
+//! Memory: a base address and a list of bytes, read and written in all widths.
+//!
+//! Which accesses are refused, and what the others do, is said in `specs/Access.antt`, by the definitions of memory in
+//! `rv_types` (`docs/instruction-set.md`, "Memory").
+#![tactic(auto)]
+
+mod bytes;
+mod ram;
+
+pub use ram::Ram;
+
+#[cfg(test)]
+mod tests;
