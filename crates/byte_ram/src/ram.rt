@@ -104,11 +104,10 @@ impl Ram {
         if addr % size != 0 {
             return Some(misaligned);
         }
-        if self.holds(addr, size) {
-            None
-        } else {
-            Some(outside)
+        if !self.holds(addr, size) {
+            return Some(outside);
         }
+        None
     }
 
     fn load_fault(&self, addr: u32, size: u32) -> Option<Cause>
