@@ -1,0 +1,11 @@
+use Rattle.tool_words.proofs.Tool.{words_are, words_faulty}
+use Rattle.tool_words.proofs.read_words.Goals as goal
+
+pub returns-in-Some-clause-ok : goal.returns-in-Some-clause-ok
+returns-in-Some-clause-ok c = words_are _ c.in-Ok.matches _ c.in-Ok.ensures.ok.0 c.in-Ok.ensures.ok.1 c.in-Some.ensures
+
+pub returns-clause-refused : goal.returns-clause-refused
+returns-clause-refused c = λ e. words_are _ c.in-Ok.matches _ c.in-Ok.ensures.ok.0 c.in-Ok.ensures.ok.1 c.in-None.ensures
+
+pub returns-in-Err-clause-refused : goal.returns-in-Err-clause-refused
+returns-in-Err-clause-refused c = λ e. words_faulty _ (c.in-Err.ensures.refused e)

@@ -1,0 +1,69 @@
+-- The commands of the tool, as clap's written definition takes them (docs/formats.md, "Words").
+use Rattle.std.specs.Prelude.{ℕ, if◌then◌else◌, option_map, option_and_then, List, [], ◌∷◌, Option, Some, None, true, false, codes}
+use Rattle.clap.specs.Words.{Kinds, fault_of, subcommand_of, first_of, Row, Rule, Text, App, Shape, new_rule, new_app, with_rule, with_subcommand}
+use Rattle.std.specs.Str.{bytes_eq}
+use Rattle.std.specs.Str.Parse.{digits_value, without_leading_plus}
+use Rattle.clap.specs.ValueTests.{accepts}
+use Rattle.clap.specs.declared.builder.value_parser.ValueParser.TheVariants as parser
+use Rattle.tool_words.specs.declared.Command.{Command}
+use Rattle.tool_words.specs.declared.Command.TheVariants.{Isa}
+use Rattle.tool_words.specs.declared.TheConstants.{STEPS_MAX}
+
+-- a required name at its place
+abbrev pub name_rule : Text → Rule
+name_rule id = record (new_rule id) { required = true }
+
+-- a required option with a number in this range
+abbrev pub number_rule : Text → ℕ → ℕ → Rule
+number_rule id least most = record (new_rule id) { long = Some id; required = true; parser = Some (parser.Unsigned least most) }
+
+-- isa IMAGE --steps N
+abbrev pub isa_shape : Shape
+isa_shape = (with_rule (with_rule (new_app (codes "isa")) (name_rule (codes "image"))) (number_rule (codes "steps") 1 STEPS_MAX)).top
+
+-- no help, no version, and the words begin with the command
+abbrev pub bare_app : App
+bare_app = let a = new_app (codes "stt") in record a {
+  top = record a.top { no_binary_name = true; disable_help_flag = true; disable_help_subcommand = true; disable_version_flag = true; subcommand_required = true };
+}
+
+-- the tool's one command so far
+abbrev pub tool_app : App
+tool_app = with_subcommand bare_app isa_shape
+
+-- the kinds of fault that clap finds in the words
+unfoldable pub faults : List Text → Kinds
+faults ws = fault_of tool_app ws
+
+-- the subcommand that the words name, and what they give it
+unfoldable pub rows_in : List Text → Option (Text × List Row)
+rows_in ws = subcommand_of tool_app ws
+
+-- a command with its values, as contracts see it: for isa the image's name and the number of steps
+pub data CommandText : Type 0 where
+  isa_text : Text → ℕ → CommandText
+
+abbrev pub command_text : Command → CommandText
+command_text (Isa image steps) = isa_text image.now steps
+
+-- the number of a text that clap takes as one
+unfoldable pub number_of : Text → Option ℕ
+number_of t = if accepts false (parser.Unsigned 0 18446744073709551615) t then Some (digits_value 10 (without_leading_plus t)) else None
+
+abbrev pub number_in : Text → List Row → Option ℕ
+number_in id rows = option_and_then number_of (first_of id rows)
+
+abbrev pub isa_in : List Row → Option CommandText
+isa_in rows = option_and_then (λ image. option_map (λ steps. isa_text image steps) (number_in (codes "steps") rows)) (first_of (codes "image") rows)
+
+abbrev pub command_in : Option (Text × List Row) → Option CommandText
+command_in None = None
+command_in (Some p) = if bytes_eq p.0 (codes "isa") then isa_in p.1 else None
+
+abbrev pub if_none : Kinds → Option CommandText → Option CommandText
+if_none [] command = command
+if_none (k ∷ ks) command = None
+
+-- the command of the words: none where clap finds a fault in them
+unfoldable pub command_of : List Text → Option CommandText
+command_of ws = if_none (faults ws) (command_in (rows_in ws))

@@ -1,0 +1,159 @@
+//! The words of the command line, read by clap.
+//!
+//! Which words are a command is said in `specs/Words.antt`, over clap's own written definition of what it takes:
+//! `docs/formats.md`, "Words", has it in plain words.
+#![tactic(auto)]
+
+ghost use Rattle.std.specs.Prelude.{◌≡◌, IfOk, map, IfErr, ◌≢◌, None, Some, [], option_map, false};
+ghost use Rattle.clap.specs.Words.{rule_of, shape_of, app_of, subcommand_rows_of, rows_of, found_of, first_of};
+ghost use Rattle.clap.specs.declared.builder.command.Command.TheViews.{out-Command};
+ghost use Rattle.tool_words.specs.Words.{name_rule, number_rule, isa_shape, bare_app, tool_app, faults, rows_in, command_text, number_of, number_in, isa_in, command_in, command_of};
+
+use clap::builder::ValueParser;
+use clap::error::ErrorKind;
+use clap::{Arg, ArgMatches, Command as Parser};
+use std::alloc::{AllocError, Global};
+
+/// The most steps, or cycles, that may be asked for.
+pub const STEPS_MAX: u64 = 4294967295;
+
+/// A command with its values.
+#[derive(Clone, Copy, Debug, PartialEq, Eq)]
+pub enum Command<'a> {
+    /// `isa IMAGE --steps N`: runs the instruction set for at most so many steps.
+    Isa { image: &'a str, steps: u64 },
+}
+
+/// Why the words give no command.
+#[derive(Clone, Copy, Debug, PartialEq, Eq)]
+pub enum Refused {
+    /// They are no command.
+    Words,
+    /// There was no memory to read them.
+    Memory,
+}
+
+// A required name at its place.
+fn name_arg<'a>(alloc: Global, id: &'a str) -> Arg<'a>
+    ensures rule { rule_of result ≡ name_rule id.now }
+    ensures here { result.global ≡ false }
+{
+    Arg::new(alloc, id).required(true)
+}
+
+// A required option with a number in this range.
+fn number_arg<'a>(alloc: Global, id: &'a str, least: u64, most: u64) -> Arg<'a>
+    ensures rule { rule_of result ≡ number_rule id.now least most }
+    ensures here { result.global ≡ false }
+{
+    Arg::new(alloc, id)
+        .long(id)
+        .required(true)
+        .value_parser(ValueParser::Unsigned(least, most))
+}
+
+fn isa_parser<'a>(alloc: Global) -> Result<Parser<'a>, AllocError>
+    ensures shape { IfOk result (λ c. shape_of c ≡ isa_shape) }
+    ensures here { IfOk result (λ c. (out-Command c).has_globals ≡ false) }
+{
+    Parser::new(alloc, "isa")
+        .arg(name_arg(alloc, "image"))?
+        .arg(number_arg(alloc, "steps", 1, STEPS_MAX))
+}
+
+// A parser with no command so far: no help, no version, and the words begin with the command.
+fn bare_parser<'a>(alloc: Global) -> Parser<'a>
+    ensures { app_of result ≡ bare_app }
+{
+    Parser::new(alloc, "stt")
+        .no_binary_name(true)
+        .disable_help_flag(true)
+        .disable_help_subcommand(true)
+        .disable_version_flag(true)
+        .subcommand_required(true)
+}
+
+fn tool_parser<'a>(alloc: Global) -> Result<Parser<'a>, AllocError>
+    ensures { IfOk result (λ c. app_of c ≡ tool_app) }
+{
+    bare_parser(alloc).subcommand(isa_parser(alloc)?)
+}
+
+// What clap finds in the words.
+fn parse<'a>(alloc: Global, words: &'a [&'a str]) -> Result<ArgMatches<'a>, Refused>
+    ensures ok { IfOk result (λ m. (faults (map (λ w. w.now) words.now) ≡ []) × (subcommand_rows_of m ≡ rows_in (map (λ w. w.now) words.now))) }
+    ensures refused { IfErr result (λ e. e ≡ Refused.Words → faults (map (λ w. w.now) words.now) ≢ []) }
+{
+    let parser = match tool_parser(alloc) {
+        Ok(parser) => parser,
+        Err(_) => return Err(Refused::Memory),
+    };
+    match parser.try_get_matches_from(words) {
+        Ok(matches) => Ok(matches),
+        Err(error) => match error.kind() {
+            ErrorKind::OutOfMemory => Err(Refused::Memory),
+            _ => Err(Refused::Words),
+        },
+    }
+}
+
+fn text_in<'a>(matches: &ArgMatches<'a>, id: &str) -> Option<&'a str>
+    ensures { option_map (λ t. t.now) result ≡ first_of id.now (rows_of (found_of matches.now)) }
+{
+    matches.get_str(id)
+}
+
+fn number_of(text: &str) -> Option<u64>
+    ensures { result ≡ number_of text.now }
+{
+    match text.parse::<u64>() {
+        Ok(number) => Some(number),
+        Err(_) => None,
+    }
+}
+
+// The number of an option.
+fn number_in(matches: &ArgMatches<'_>, id: &str) -> Option<u64>
+    ensures { result ≡ number_in id.now (rows_of (found_of matches.now)) }
+{
+    match text_in(matches, id) {
+        Some(text) => number_of(text),
+        None => None,
+    }
+}
+
+fn isa_in<'a>(matches: &ArgMatches<'a>) -> Option<Command<'a>>
+    ensures { option_map command_text result ≡ isa_in (rows_of (found_of matches.now)) }
+{
+    let image = text_in(matches, "image")?;
+    let steps = number_in(matches, "steps")?;
+    Some(Command::Isa { image, steps })
+}
+
+fn command_in<'a>(matches: &ArgMatches<'a>) -> Option<Command<'a>>
+    ensures { option_map command_text result ≡ command_in (subcommand_rows_of matches.now) }
+{
+    let (name, inner) = matches.subcommand()?;
+    match name {
+        "isa" => isa_in(inner),
+        _ => None,
+    }
+}
+
+/// The command of the words after the program's name. Errors: `Words`, only where they are no command; `Memory`.
+pub fn read_words<'a>(alloc: Global, words: &'a [&'a str]) -> Result<Command<'a>, Refused>
+    ensures ok { IfOk result (λ c. command_of (map (λ w. w.now) words.now) ≡ Some (command_text c)) }
+    ensures refused { IfErr result (λ e. e ≡ Refused.Words → command_of (map (λ w. w.now) words.now) ≡ None) }
+{
+    let matches = match parse(alloc, words) {
+        Ok(matches) => matches,
+        Err(refused) => return Err(refused),
+    };
+    match command_in(&matches) {
+        Some(command) => Ok(command),
+        None => Err(Refused::Words),
+    }
+}
+
+#[cfg(test)]
+mod tests;

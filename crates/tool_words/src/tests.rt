@@ -1,0 +1,44 @@
+//! Words that are a command, and words that are none.
+use crate::{Command, read_words};
+use std::alloc::Global;
+
+// The number of steps of a command on p.elf, 0 where the words are refused.
+fn steps_of(alloc: Global, words: &[&str]) -> u64 {
+    match read_words(alloc, words) {
+        Ok(
+            Command::Isa {
+                image: "p.elf",
+                steps,
+            },
+        ) => steps,
+        _ => 0,
+    }
+}
+
+#[test]
+fn reads_the_words(rt: HostRuntime) {
+    let alloc = rt.alloc();
+    let rows: [(&[&str], u64); 18] = [
+        (&["isa", "p.elf", "--steps", "5"], 5),
+        (&["isa", "--steps", "5", "p.elf"], 5),
+        (&["isa", "p.elf", "--steps=5"], 5),
+        (&["isa", "p.elf", "--steps", "+5"], 5),
+        (&["isa", "p.elf", "--steps", "005"], 5),
+        (&["isa", "p.elf", "--steps", "4294967295"], 4294967295),
+        (&["isa", "p.elf", "--steps", "4294967296"], 0),
+        (&["isa", "p.elf", "--steps", "0"], 0),
+        (&["isa", "p.elf", "--steps", "-1"], 0),
+        (&["isa", "p.elf"], 0),
+        (&["isa", "p.elf", "--steps", "5", "--steps", "6"], 0),
+        (&["isa", "p.elf", "q.elf", "--steps", "5"], 0),
+        (&["isa", "--help"], 0),
+        (&["--help"], 0),
+        (&["--version"], 0),
+        (&["help"], 0),
+        (&["isa"], 0),
+        (&[], 0),
+    ];
+    for (words, want) in rows {
+        assert_eq!(rt; steps_of(alloc, words), want, "at {words:?}");
+    }
+}
