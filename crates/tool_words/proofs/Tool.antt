@@ -84,6 +84,6 @@ unfolding faults clap_on_literals
 no_words = refl
 
 -- a command computes
-isa_is_read : command_of (codes "isa" ∷ codes "p.elf" ∷ codes "--steps" ∷ codes "5" ∷ []) ≡ Some (isa_text (codes "p.elf") 5)
+isa_is_read : command_of (codes "isa" ∷ codes "p.elf" ∷ codes "--steps" ∷ codes "5" ∷ []) ≡ Some (isa_text (codes "p.elf") 5 None)
 unfolding command_of faults rows_in number_of clap_on_literals
 isa_is_read = refl

@@ -17,9 +17,15 @@ name_rule id = record (new_rule id) { required = true }
 abbrev pub number_rule : Text → ℕ → ℕ → Rule
 number_rule id least most = record (new_rule id) { long = Some id; required = true; parser = Some (parser.Unsigned least most) }
 
--- isa IMAGE --steps N
+-- an option with a text, which may be left out
+abbrev pub text_rule : Text → Rule
+text_rule id = record (new_rule id) { long = Some id }
+
+-- isa IMAGE --steps N [--desc D]
 abbrev pub isa_shape : Shape
-isa_shape = (with_rule (with_rule (new_app (codes "isa")) (name_rule (codes "image"))) (number_rule (codes "steps") 1 STEPS_MAX)).top
+isa_shape =
+    (with_rule (with_rule (with_rule (new_app (codes "isa")) (name_rule (codes "image"))) (number_rule (codes "steps") 1 STEPS_MAX))
+    (text_rule (codes "desc"))).top
 
 -- no help, no version, and the words begin with the command
 abbrev pub bare_app : App
@@ -39,12 +45,13 @@ faults ws = fault_of tool_app ws
 unfoldable pub rows_in : List Text → Option (Text × List Row)
 rows_in ws = subcommand_of tool_app ws
 
--- a command with its values, as contracts see it: for isa the image's name and the number of steps
+-- a command with its values, as contracts see it: for isa the image's name, the number of steps, and the description's
+-- name, if one is given
 pub data CommandText : Type 0 where
-  isa_text : Text → ℕ → CommandText
+  isa_text : Text → ℕ → Option Text → CommandText
 
 abbrev pub command_text : Command → CommandText
-command_text (Isa image steps) = isa_text image.now steps
+command_text (Isa image steps description) = isa_text image.now steps (option_map (λ t. t.now) description)
 
 -- the number of a text that clap takes as one
 unfoldable pub number_of : Text → Option ℕ
@@ -54,7 +61,7 @@ abbrev pub number_in : Text → List Row → Option ℕ
 number_in id rows = option_and_then number_of (first_of id rows)
 
 abbrev pub isa_in : List Row → Option CommandText
-isa_in rows = option_and_then (λ image. option_map (λ steps. isa_text image steps) (number_in (codes "steps") rows)) (first_of (codes "image") rows)
+isa_in rows = option_and_then (λ image. option_map (λ steps. isa_text image steps (first_of (codes "desc") rows)) (number_in (codes "steps") rows)) (first_of (codes "image") rows)
 
 abbrev pub command_in : Option (Text × List Row) → Option CommandText
 command_in None = None

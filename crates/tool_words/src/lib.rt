@@ -7,7 +7,7 @@
 ghost use Rattle.std.specs.Prelude.{◌≡◌, IfOk, map, IfErr, ◌≢◌, None, Some, [], option_map, false};
 ghost use Rattle.clap.specs.Words.{rule_of, shape_of, app_of, subcommand_rows_of, rows_of, found_of, first_of};
 ghost use Rattle.clap.specs.declared.builder.command.Command.TheViews.{out-Command};
-ghost use Rattle.tool_words.specs.Words.{name_rule, number_rule, isa_shape, bare_app, tool_app, faults, rows_in, command_text, number_of, number_in, isa_in, command_in, command_of};
+ghost use Rattle.tool_words.specs.Words.{name_rule, number_rule, text_rule, isa_shape, bare_app, tool_app, faults, rows_in, command_text, number_of, number_in, isa_in, command_in, command_of};
 
 use clap::builder::ValueParser;
 use clap::error::ErrorKind;
@@ -20,8 +20,13 @@ pub const STEPS_MAX: u64 = 4294967295;
 /// A command with its values.
 #[derive(Clone, Copy, Debug, PartialEq, Eq)]
 pub enum Command<'a> {
-    /// `isa IMAGE --steps N`: runs the instruction set for at most so many steps.
-    Isa { image: &'a str, steps: u64 },
+    /// `isa IMAGE --steps N [--desc D]`: runs the instruction set on an image for at most so many steps, in the memory of a
+    /// description where one is named.
+    Isa {
+        image: &'a str,
+        steps: u64,
+        description: Option<&'a str>,
+    },
 }
 
 /// Why the words give no command.
@@ -52,13 +57,22 @@ fn number_arg<'a>(alloc: Global, id: &'a str, least: u64, most: u64) -> Arg<'a>
         .value_parser(ValueParser::Unsigned(least, most))
 }
 
+// An option with a text, which may be left out.
+fn text_arg<'a>(alloc: Global, id: &'a str) -> Arg<'a>
+    ensures rule { rule_of result ≡ text_rule id.now }
+    ensures here { result.global ≡ false }
+{
+    Arg::new(alloc, id).long(id)
+}
+
 fn isa_parser<'a>(alloc: Global) -> Result<Parser<'a>, AllocError>
     ensures shape { IfOk result (λ c. shape_of c ≡ isa_shape) }
     ensures here { IfOk result (λ c. (out-Command c).has_globals ≡ false) }
 {
     Parser::new(alloc, "isa")
         .arg(name_arg(alloc, "image"))?
-        .arg(number_arg(alloc, "steps", 1, STEPS_MAX))
+        .arg(number_arg(alloc, "steps", 1, STEPS_MAX))?
+        .arg(text_arg(alloc, "desc"))
 }
 
 // A parser with no command so far: no help, no version, and the words begin with the command.
@@ -127,7 +141,12 @@ fn isa_in<'a>(matches: &ArgMatches<'a>) -> Option<Command<'a>>
 {
     let image = text_in(matches, "image")?;
     let steps = number_in(matches, "steps")?;
-    Some(Command::Isa { image, steps })
+    let description = text_in(matches, "desc");
+    Some(Command::Isa {
+        image,
+        steps,
+        description,
+    })
 }
 
 fn command_in<'a>(matches: &ArgMatches<'a>) -> Option<Command<'a>>

@@ -2,15 +2,20 @@
 use crate::{Command, read_words};
 use std::alloc::Global;
 
-// The number of steps of a command on p.elf, 0 where the words are refused.
+// The number of steps of a command on p.elf, 100 more with the description d.toml, 0 where the words are refused.
 fn steps_of(alloc: Global, words: &[&str]) -> u64 {
     match read_words(alloc, words) {
         Ok(
             Command::Isa {
                 image: "p.elf",
                 steps,
+                description,
             },
-        ) => steps,
+        ) => match description {
+            None => steps,
+            Some("d.toml") => steps.saturating_add(100),
+            Some(_) => 0,
+        },
         _ => 0,
     }
 }
@@ -18,7 +23,7 @@ fn steps_of(alloc: Global, words: &[&str]) -> u64 {
 #[test]
 fn reads_the_words(rt: HostRuntime) {
     let alloc = rt.alloc();
-    let rows: [(&[&str], u64); 18] = [
+    let rows: [(&[&str], u64); 21] = [
         (&["isa", "p.elf", "--steps", "5"], 5),
         (&["isa", "--steps", "5", "p.elf"], 5),
         (&["isa", "p.elf", "--steps=5"], 5),
@@ -29,6 +34,9 @@ fn reads_the_words(rt: HostRuntime) {
         (&["isa", "p.elf", "--steps", "0"], 0),
         (&["isa", "p.elf", "--steps", "-1"], 0),
         (&["isa", "p.elf"], 0),
+        (&["isa", "p.elf", "--steps", "5", "--desc", "d.toml"], 105),
+        (&["isa", "--desc=d.toml", "p.elf", "--steps", "5"], 105),
+        (&["isa", "p.elf", "--steps", "5", "--desc"], 0),
         (&["isa", "p.elf", "--steps", "5", "--steps", "6"], 0),
         (&["isa", "p.elf", "q.elf", "--steps", "5"], 0),
         (&["isa", "--help"], 0),

@@ -26,30 +26,30 @@ values : (value Mulh 0xffffffff 0xffffffff ∷ value Mulhu 0xffffffff 0xffffffff
     ≡ (0 ∷ 0xfffffffe ∷ 0xffffffff ∷ 0xffffffff ∷ 0xfffffffd ∷ 0xffffffff ∷ 1 ∷ 0xffffffff ∷ 0xffffffff ∷ 7 ∷ [])
 values = refl
 
-p4 : List ℕ
-p4 = 0x00700293 ∷ 0x0202c333 ∷ 0x0202e3b3 ∷ 0x80000437 ∷ 0xfff00493 ∷ 0x029445b3 ∷ 0x02946633 ∷ 0x05d00893 ∷ 0x00000073 ∷ []
+divisions : List ℕ
+divisions = 0x00700293 ∷ 0x0202c333 ∷ 0x0202e3b3 ∷ 0x80000437 ∷ 0xfff00493 ∷ 0x029445b3 ∷ 0x02946633 ∷ 0x05d00893 ∷ 0x00000073 ∷ []
 
-row4 : let r = isa (code_of p4) (start 0x10000 (ram [])) 9 in
+division_corners : let r = isa (code_of divisions) (start 0x10000 (ram [])) 9 in
     (r.last.regs ≡ regs ((2, 0x0001fff0) ∷ (5, 7) ∷ (6, 0xffffffff) ∷ (7, 7) ∷ (8, 0x80000000) ∷ (9, 0xffffffff) ∷ (11, 0x80000000) ∷ (17, 0x5d) ∷ [])) × (r.last.pc ≡ 0x00010024) × (r.steps ≡ 9) × (r.ended ≡ Some (Exit 0))
-unfolding p4 ram regs set_all code_of decode isa_step
-row4 = (refl, refl, refl, refl)
+unfolding divisions ram regs set_all code_of decode isa_step
+division_corners = (refl, refl, refl, refl)
 
-p14 : List ℕ
-p14 = 0x04000893 ∷ 0x00100513 ∷ 0x000115b7 ∷ 0x40100613 ∷ 0x00000073 ∷ 0x00050693 ∷ 0x00200513 ∷ 0x001105b7 ∷ 0x00000073 ∷ 0x05d00893 ∷ 0x00000073 ∷ []
+writes : List ℕ
+writes = 0x04000893 ∷ 0x00100513 ∷ 0x000115b7 ∷ 0x40100613 ∷ 0x00000073 ∷ 0x00050693 ∷ 0x00200513 ∷ 0x001105b7 ∷ 0x00000073 ∷ 0x05d00893 ∷ 0x00000073 ∷ []
 
-row14 : let r = isa (code_of p14) (start 0x10000 (ram [])) 100 in
+write_calls : let r = isa (code_of writes) (start 0x10000 (ram [])) 100 in
     (r.last.regs ≡ regs ((2, 0x0001fff0) ∷ (10, 0xfffffff2) ∷ (11, 0x00110000) ∷ (12, 0x401) ∷ (13, 0x400) ∷ (17, 0x5d) ∷ [])) × (r.last.pc ≡ 0x0001002c) × (r.steps ≡ 11) × (r.ended ≡ Some (Exit 4294967282)) × (map length r.pieces ≡ 1024 ∷ [])
-unfolding p14 ram regs set_all code_of decode isa_step
-row14 = (refl, refl, refl, refl, refl)
+unfolding writes ram regs set_all code_of decode isa_step
+write_calls = (refl, refl, refl, refl, refl)
 
-p16 : List ℕ
-p16 = 0x00000297 ∷ 0x0002a423 ∷ 0x05d00893 ∷ 0x00000073 ∷ []
+overwrites : List ℕ
+overwrites = 0x00000297 ∷ 0x0002a423 ∷ 0x05d00893 ∷ 0x00000073 ∷ []
 
 words : List ℕ → List ℕ
 words [] = []
 words (w ∷ ws) = to_le 4 w ++ words ws
 
-row16 : let r = isa (code_of p16) (start 0x10000 (ram (words p16))) 100 in
+overwritten_code : let r = isa (code_of overwrites) (start 0x10000 (ram (words overwrites))) 100 in
     (r.last.regs ≡ regs ((2, 0x0001fff0) ∷ (5, 0x00010000) ∷ (17, 0x5d) ∷ [])) × (r.last.pc ≡ 0x00010010) × (r.steps ≡ 4) × (bytes_at r.last.ram 0x10000 16 ≡ 0x97 ∷ 2 ∷ 0 ∷ 0 ∷ 0x23 ∷ 0xa4 ∷ 2 ∷ 0 ∷ 0 ∷ 0 ∷ 0 ∷ 0 ∷ 0x73 ∷ 0 ∷ 0 ∷ 0 ∷ [])
-unfolding p16 ram regs set_all code_of decode isa_step words
-row16 = (refl, refl, refl, refl)
+unfolding overwrites ram regs set_all code_of decode isa_step words
+overwritten_code = (refl, refl, refl, refl)

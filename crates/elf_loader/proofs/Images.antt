@@ -1,0 +1,94 @@
+-- What callers need of images: which one a file is, and where its code may stand.
+use Rattle.std.proofs.Common.{◌≡◌, ℕ, ◌+◌, ◌-◌, ◌*◌, ◌/◌, ◌%◌, ◌^◌, ◌<◌, ◌≤◌, Bool, true, false, ◌&&◌, cond, nat_le, List, [], ◌∷◌, length, get_or, Option, None, Some, IsSome, Ok, Err, refl, ap, ◌∙◌, subst, ◌⊎◌, inl, inr, arith}
+use Rattle.std.specs.Prelude.{◌==◌}
+use Rattle.std.specs.List.{list_any}
+use Rattle.std.proofs.lemmas.Bool.{cases_lt, false≢true}
+use Rattle.std.proofs.lemmas.Bool.Decides.{nat_tests}
+use Rattle.std.proofs.lemmas.List.{get_or_past}
+use Rattle.rv_types.specs.Memory.{Ram, zeros, bytes_at}
+use Rattle.rv_types.specs.Word.{from_le}
+use Rattle.elf_loader.specs.declared.faults.ElfFault.{ElfFault}
+use Rattle.elf_loader.specs.Faults.{first_some, header_fault}
+use Rattle.elf_loader.specs.Image.{ram_fault, image_in, unless, image_of, code_of, has_code, loads_of}
+use Rattle.elf_loader.specs.Code.{CodeText, word_at, IsCode}
+use Rattle.elf_loader.proofs.Marked.{no_code_outside}
+
+-- a file without fault is its image in this memory
+pub image_without : (file : List ℕ) (base size : ℕ) → header_fault file ≡ None → ram_fault file (record { base = base; bytes = zeros size }) ≡ None
+    → image_of file base size ≡ Ok (image_in file (record { base = base; bytes = zeros size }))
+unfolding image_of
+image_without file base size h r =
+    let ram : Ram = record { base = base; bytes = zeros size } in
+    let e : first_some (header_fault file ∷ ram_fault file ram ∷ []) ≡ None =
+    ap (λ (o : Option ElfFault). first_some (o ∷ ram_fault file ram ∷ [])) h ∙ ap (λ (o : Option ElfFault). first_some (o ∷ [])) r in
+    ap (λ (o : Option ElfFault). unless o (image_in file ram)) e
+
+-- else its first fault, one of the headers
+pub image_headers : (file : List ℕ) (base size : ℕ) (e : ElfFault) → header_fault file ≡ Some e → image_of file base size ≡ Err e
+unfolding image_of
+image_headers file base size e h =
+    let ram : Ram = record { base = base; bytes = zeros size } in
+    ap (λ (o : Option ElfFault). unless (first_some (o ∷ ram_fault file ram ∷ [])) (image_in file ram)) h
+
+-- or a segment outside memory
+pub image_outside : (file : List ℕ) (base size : ℕ) (e : ElfFault) → header_fault file ≡ None → ram_fault file (record { base = base; bytes = zeros size }) ≡ Some e → image_of file base size ≡ Err e
+unfolding image_of
+image_outside file base size e h r =
+    let ram : Ram = record { base = base; bytes = zeros size } in
+    ap (λ (o : Option ElfFault). unless (first_some (o ∷ ram_fault file ram ∷ [])) (image_in file ram)) h
+    ∙ ap (λ (o : Option ElfFault). unless (first_some (o ∷ [])) (image_in file ram)) r
+
+-- ---- Where code stands
+
+whole_by : (n : ℕ) (b : Bool) (x : Option ℕ) (whole : Bool) → (n == 0) ≡ whole → IsSome (cond (whole && b) x None) → n ≡ 0
+whole_by n b x true e h = grind (arith, nat_tests)
+whole_by n b x false e h = absurd (false≢true h)
+
+-- at multiples of 4
+pub code_aligned : (code : CodeText) (pc : ℕ) → IsSome (word_at code pc) → pc % 4 ≡ 0
+code_aligned code pc h = whole_by (pc % 4) (nat_le code.base pc) (get_or code.words ((pc - code.base) / 4) None) (pc % 4 == 0) refl h
+
+pub code_of_aligned : (file : List ℕ) (ram : Ram) (pc : ℕ) → IsSome (code_of file ram pc) → pc % 4 ≡ 0
+unfolding code_of
+code_of_aligned file ram pc h = whole_by (pc % 4) (list_any (has_code pc) (loads_of file)) (Some (from_le (bytes_at ram pc 4))) (pc % 4 == 0) refl h
+
+low_by : (base pc : ℕ) (x : Option ℕ) (whole low : Bool) → nat_le base pc ≡ low → IsSome (cond (whole && low) x None) → (base ≤ pc) × IsSome x
+low_by base pc x true true e h = (grind (arith, nat_tests), h)
+low_by base pc x true false e h = absurd (false≢true h)
+low_by base pc x false low e h = absurd (false≢true h)
+
+some_below : (words : List (Option ℕ)) (k : ℕ) → IsSome (get_or words k None) → (k < length words) ⊎ (length words ≤ k) → k < length words
+some_below words k h (inl l) = l
+some_below words k h (inr l) = absurd (false≢true (subst (λ (o : Option ℕ). IsSome o) (get_or_past words k None l) h))
+
+-- within its places
+pub code_within : (code : CodeText) (pc : ℕ) → IsCode code → IsSome (word_at code pc) → (code.base ≤ pc) × (pc + 4 ≤ code.base + 4 * length code.words)
+code_within code pc is h =
+    let k = (pc - code.base) / 4 in
+    let low = low_by code.base pc (get_or code.words k None) (pc % 4 == 0) (nat_le code.base pc) refl h in
+    let below : k < length code.words = some_below code.words k low.1 (cases_lt k (length code.words)) in
+    let l : code.base ≤ pc = low.0 in
+    let a : pc % 4 ≡ 0 = code_aligned code pc h in
+    (l, omega (arith, is.aligned))
+
+-- so at addresses
+pub code_in_range : (code : CodeText) (pc : ℕ) → IsCode code → IsSome (word_at code pc) → pc + 4 ≤ 2 ^ 32
+code_in_range code pc is h = let w = code_within code pc is h in omega (arith, is.within, w.1)
+
+any_by : (x : Option ℕ) (whole any : Bool) → IsSome (cond (whole && any) x None) → any ≡ true
+any_by x true true h = refl
+any_by x true false h = absurd (false≢true h)
+any_by x false any h = absurd (false≢true h)
+
+-- and in memory
+inside_by : (low high pc : ℕ) (any : Bool) → any ≡ true → ((pc < low) ⊎ (high < pc + 4) → any ≡ false) → (pc < low) ⊎ (low ≤ pc) → (high < pc + 4) ⊎ (pc + 4 ≤ high) → (low ≤ pc) × (pc + 4 ≤ high)
+inside_by low high pc any t none (inl l) b = let f = none (inl l) in absurd (cc)
+inside_by low high pc any t none (inr l) (inl u) = let f = none (inr u) in absurd (cc)
+inside_by low high pc any t none (inr l) (inr u) = (l, u)
+
+pub code_of_inside : (file : List ℕ) (ram : Ram) (pc : ℕ) → header_fault file ≡ None → ram_fault file ram ≡ None → IsSome (code_of file ram pc)
+    → (ram.base ≤ pc) × (pc + 4 ≤ ram.base + length ram.bytes)
+unfolding code_of
+code_of_inside file ram pc h r s =
+    let any = any_by (Some (from_le (bytes_at ram pc 4))) (pc % 4 == 0) (list_any (has_code pc) (loads_of file)) s in
+    inside_by ram.base (ram.base + length ram.bytes) pc (list_any (has_code pc) (loads_of file)) any (no_code_outside file ram pc h r) (cases_lt pc ram.base) (cases_lt (ram.base + length ram.bytes) (pc + 4))

@@ -1,0 +1,9 @@
+pub mod Searching
+pub mod Faultless
+pub mod Jumping
+pub mod Filling
+pub mod Placing
+pub mod Loads
+pub mod Placed
+pub mod Marked
+pub mod Images

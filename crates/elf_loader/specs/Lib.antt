@@ -1,0 +1,6 @@
+pub mod Code
+pub mod Faults
+pub mod Fields
+pub mod Filling
+pub mod Image
+pub mod Jumps

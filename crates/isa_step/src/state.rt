@@ -1,0 +1,114 @@
+//! The state: pc, registers and memory, and the words that may be fetched.
+ghost use Rattle.std.specs.Prelude.{◌≡◌};
+ghost use Rattle.rv_types.specs.Isa.{start, reg, with_reg};
+ghost use Rattle.rv_types.specs.Regs.{unless_zero};
+ghost use Rattle.rv_types.specs.Word.{word_add, word};
+
+use byte_ram::Ram;
+use elf_loader::{Code, Image};
+use rv_types::Reg;
+use std::marker::Model;
+
+// The stack pointer, and how many bytes below memory's end it begins.
+const SP: usize = 2;
+
+const STACK_GAP: u64 = 16;
+
+/// The machine of the instruction set, seen as its code and its state. It takes no memory of its own.
+#[derive(Drop)]
+pub struct Isa {
+    pub(crate) pc: u32,
+    pub(crate) regs: [u32; 32],
+    pub(crate) ram: Ram,
+    pub(crate) code: Code,
+}
+
+impl Model for Isa {
+    ghost use Rattle.isa_step.specs.State.{IsaState};
+
+    ghost Value = { IsaState };
+
+    ghost view = { λ s. record { code = s.code; hart = record { pc = s.pc; regs = s.regs; ram = s.ram } } };
+}
+
+// Writes a register; register 0 is never written.
+#[inline]
+#[tactic(auto, using(crate::proofs::Registers::written, crate::proofs::Registers::unwritten))]
+fn write_reg(regs: &mut [u32; 32], rd: Reg, value: u32)
+    ensures { regs.new ≡ with_reg regs.old (unless_zero rd.number) value }
+{
+    if rd.number != 0 {
+        regs[rd.number as usize] = value;
+    }
+}
+
+impl Isa {
+    /// The state in which an image begins: pc is the entry, x2 is 16 bytes below memory's end, all other registers are 0.
+    pub fn new(image: Image) -> Isa
+        ensures { result ≡ record { code = image.code; hart = start image.entry image.ram } }
+    {
+        let Image { ram, code, entry } = image;
+        let mut regs = [0u32; 32];
+        regs[SP] = (ram.base() as u64 + ram.size() as u64 - STACK_GAP) as u32;
+        Isa {
+            pc: entry,
+            regs,
+            ram,
+            code,
+        }
+    }
+
+    /// The address of the next instruction.
+    pub fn pc(&self) -> u32
+        ensures { result ≡ self.now.hart.pc }
+    {
+        self.pc
+    }
+
+    /// The registers.
+    pub fn regs(&self) -> &[u32; 32]
+        ensures { result.now ≡ self.now.hart.regs }
+    {
+        &self.regs
+    }
+
+    /// The memory.
+    pub fn ram(&self) -> &Ram
+        ensures { result.now ≡ self.now.hart.ram }
+    {
+        &self.ram
+    }
+
+    // The value of a register.
+    #[inline]
+    pub(crate) fn reg(&self, register: Reg) -> u32
+        ensures { result ≡ reg self.now.hart.regs register.number }
+    {
+        self.regs[register.number as usize]
+    }
+
+    // The value of a register, and an offset added to it.
+    #[inline]
+    pub(crate) fn address(&self, base: Reg, offset: i32) -> u32
+        ensures { result ≡ word_add (reg self.now.hart.regs base.number) (word offset) }
+    {
+        self.reg(base).wrapping_add(offset.cast_unsigned())
+    }
+
+    // An offset added to pc.
+    #[inline]
+    pub(crate) fn relative(&self, offset: i32) -> u32
+        ensures { result ≡ word_add self.now.hart.pc (word offset) }
+    {
+        self.pc.wrapping_add(offset.cast_unsigned())
+    }
+
+    // Goes on at an address, with a register written.
+    #[inline]
+    pub(crate) fn go_on(&mut self, rd: Reg, value: u32, next: u32)
+        ensures { self.new ≡ record self.old { hart = record self.old.hart { pc = next; regs = with_reg self.old.hart.regs (unless_zero rd.number) value } } }
+    {
+        write_reg(&mut self.regs, rd, value);
+        self.pc = next;
+    }
+}

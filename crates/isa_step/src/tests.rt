@@ -1,0 +1,430 @@
+//! Every instruction once at least, traps, system calls and whole runs. The words are what an assembler makes of the
+//! lines beside them, and the values are those of the manual's formulas.
+ghost use Rattle.std.specs.Prelude.{◌≤◌, length};
+
+use crate::{Isa, Stepped};
+use byte_ram::Ram;
+use elf_loader::{load, segments};
+use rv_types::{Cause, End, Piece, Width};
+use std::alloc::{AllocError, Global};
+use std::test::Fail;
+
+const BASE: u32 = 0x0001_0000;
+
+const SIZE: u32 = 0x0001_0000;
+
+// An address with a word of data, as the test of single instructions begins.
+const DATA: u32 = 0x0001_0100;
+
+const WORD: u32 = 0x7f80_ff01;
+
+// What x7 holds before an instruction, the address behind one at the base, and the same as a return address.
+const OLD: u32 = 7;
+
+const NEXT: u32 = 0x0001_0004;
+
+const LINK: u32 = 0x0001_0004;
+
+// An instruction at the base, the values of x5 and x6 before it, and afterwards the value of x7, the word of data, and
+// pc.
+const ROWS: [(u32, u32, u32, u32, u32, u32); 86] = [
+    (0x8000_03b7, 0, 0, 0x8000_0000, WORD, NEXT), // lui x7, 0x80000
+    (0xffff_f397, 0, 0, 0xf000, WORD, NEXT), // auipc x7, 0xfffff
+    (0x1234_5397, 0, 0, 0x1235_5000, WORD, NEXT), // auipc x7, 0x12345
+    (0x0100_03ef, 0, 0, LINK, WORD, 0x0001_0010), // jal x7, .+16
+    (0xff1f_f3ef, 0, 0, LINK, WORD, 0xfff0), // jal x7, .-16
+    (0x0080_006f, 0, 0, OLD, WORD, 0x0001_0008), // jal x0, .+8
+    (0x0012_83e7, 0x0001_0010, 0, LINK, WORD, 0x0001_0010), // jalr x7, 1(x5)
+    (0xffc2_83e7, 0x0001_0021, 0, LINK, WORD, 0x0001_001c), // jalr x7, -4(x5)
+    (0x0013_83e7, 0, 0, LINK, WORD, 8), // jalr x7, 1(x7)
+    (0x0042_8067, 0xffff_fffd, 0, OLD, WORD, 0), // jalr x0, 4(x5)
+    (0x0062_8463, 5, 5, OLD, WORD, 0x0001_0008), // beq x5, x6, .+8
+    (0x0062_8463, 5, 6, OLD, WORD, NEXT), // beq x5, x6, .+8
+    (0x0062_9463, 5, 6, OLD, WORD, 0x0001_0008), // bne x5, x6, .+8
+    (0x0062_9463, 5, 5, OLD, WORD, NEXT), // bne x5, x6, .+8
+    (0x0062_c463, 0xffff_ffff, 0, OLD, WORD, 0x0001_0008), // blt x5, x6, .+8
+    (0x0062_c463, 0, 0xffff_ffff, OLD, WORD, NEXT), // blt x5, x6, .+8
+    (0x0062_c463, 3, 3, OLD, WORD, NEXT), // blt x5, x6, .+8
+    (0x0062_d463, 3, 3, OLD, WORD, 0x0001_0008), // bge x5, x6, .+8
+    (0x0062_d463, 0x8000_0000, 0x7fff_ffff, OLD, WORD, NEXT), // bge x5, x6, .+8
+    (0x0062_e463, 0, 0xffff_ffff, OLD, WORD, 0x0001_0008), // bltu x5, x6, .+8
+    (0x0062_e463, 0xffff_ffff, 0, OLD, WORD, NEXT), // bltu x5, x6, .+8
+    (0x0062_f463, 0xffff_ffff, 0, OLD, WORD, 0x0001_0008), // bgeu x5, x6, .+8
+    (0x0062_f463, 0, 1, OLD, WORD, NEXT), // bgeu x5, x6, .+8
+    (0xfe62_80e3, 9, 9, OLD, WORD, 0xffe0), // beq x5, x6, .-32
+    (0x0062_9163, 9, 9, OLD, WORD, NEXT), // bne x5, x6, .+2
+    (0x0002_8383, DATA, 0, 1, WORD, NEXT), // lb x7, 0(x5)
+    (0x0012_8383, DATA, 0, 0xffff_ffff, WORD, NEXT), // lb x7, 1(x5)
+    (0x0012_c383, DATA, 0, 0xff, WORD, NEXT), // lbu x7, 1(x5)
+    (0x0002_9383, DATA, 0, 0xffff_ff01, WORD, NEXT), // lh x7, 0(x5)
+    (0x0022_9383, DATA, 0, 0x7f80, WORD, NEXT), // lh x7, 2(x5)
+    (0x0002_d383, DATA, 0, 0xff01, WORD, NEXT), // lhu x7, 0(x5)
+    (0x0002_a383, DATA, 0, 0x7f80_ff01, WORD, NEXT), // lw x7, 0(x5)
+    (0xffc2_a383, DATA + 4, 0, 0x7f80_ff01, WORD, NEXT), // lw x7, -4(x5)
+    (0x0002_a003, DATA, 0, OLD, WORD, NEXT), // lw x0, 0(x5)
+    (0x0062_80a3, DATA, 0x1234_5678, OLD, 0x7f80_7801, NEXT), // sb x6, 1(x5)
+    (0x0062_9123, DATA, 0x1234_5678, OLD, 0x5678_ff01, NEXT), // sh x6, 2(x5)
+    (0x0062_a023, DATA, 0x1234_5678, OLD, 0x1234_5678, NEXT), // sw x6, 0(x5)
+    (0xfe62_8fa3, DATA + 4, 0x1234_5678, OLD, 0x7880_ff01, NEXT), // sb x6, -1(x5)
+    (0xfff2_8393, 0, 0, 0xffff_ffff, WORD, NEXT), // addi x7, x5, -1
+    (0x7ff2_8393, 0xffff_f900, 0, 0xff, WORD, NEXT), // addi x7, x5, 2047
+    (0x0012_8013, 5, 0, OLD, WORD, NEXT), // addi x0, x5, 1
+    (0xfff2_a393, 0x8000_0000, 0, 1, WORD, NEXT), // slti x7, x5, -1
+    (0xfff2_a393, 0, 0, 0, WORD, NEXT), // slti x7, x5, -1
+    (0xfff2_b393, 5, 0, 1, WORD, NEXT), // sltiu x7, x5, -1
+    (0x0012_b393, 1, 0, 0, WORD, NEXT), // sltiu x7, x5, 1
+    (0xfff2_c393, 0x0f0f_0f0f, 0, 0xf0f0_f0f0, WORD, NEXT), // xori x7, x5, -1
+    (0x0552_e393, 0xff00_0000, 0, 0xff00_0055, WORD, NEXT), // ori x7, x5, 0x55
+    (0xff02_f393, 0x1234_5678, 0, 0x1234_5670, WORD, NEXT), // andi x7, x5, -16
+    (0x01f2_9393, 3, 0, 0x8000_0000, WORD, NEXT), // slli x7, x5, 31
+    (0x01f2_d393, 0x8000_0000, 0, 1, WORD, NEXT), // srli x7, x5, 31
+    (0x41f2_d393, 0x8000_0000, 0, 0xffff_ffff, WORD, NEXT), // srai x7, x5, 31
+    (0x4042_d393, 0x7fff_ffff, 0, 0x07ff_ffff, WORD, NEXT), // srai x7, x5, 4
+    (0x0062_83b3, 0xffff_ffff, 2, 1, WORD, NEXT), // add x7, x5, x6
+    (0x4062_83b3, 0, 1, 0xffff_ffff, WORD, NEXT), // sub x7, x5, x6
+    (
+        0x0062_93b3,
+        0x2121_2121,
+        0xffff_ffce,
+        0x4848_4000,
+        WORD,
+        NEXT,
+    ), // sll x7, x5, x6
+    (0x0062_a3b3, 0x8000_0000, 0x7fff_ffff, 1, WORD, NEXT), // slt x7, x5, x6
+    (0x0062_a3b3, 0, 0xffff_ffff, 0, WORD, NEXT), // slt x7, x5, x6
+    (0x0062_b3b3, 0, 0xffff_ffff, 1, WORD, NEXT), // sltu x7, x5, x6
+    (0x0062_b3b3, 0x8000_0000, 0x7fff_ffff, 0, WORD, NEXT), // sltu x7, x5, x6
+    (
+        0x0062_c3b3,
+        0xff00_ff00,
+        0x0f0f_0f0f,
+        0xf00f_f00f,
+        WORD,
+        NEXT,
+    ), // xor x7, x5, x6
+    (0x0062_d3b3, 0x8000_0000, 0x3f, 1, WORD, NEXT), // srl x7, x5, x6
+    (
+        0x4062_d3b3,
+        0x8181_8181,
+        0xffff_ffce,
+        0xfffe_0606,
+        WORD,
+        NEXT,
+    ), // sra x7, x5, x6
+    (
+        0x0062_e3b3,
+        0xff00_ff00,
+        0x0f0f_0f0f,
+        0xff0f_ff0f,
+        WORD,
+        NEXT,
+    ), // or x7, x5, x6
+    (
+        0x0062_f3b3,
+        0xff00_ff00,
+        0x0f0f_0f0f,
+        0x0f00_0f00,
+        WORD,
+        NEXT,
+    ), // and x7, x5, x6
+    (0x0262_83b3, 0xffff_ffff, 0xffff_ffff, 1, WORD, NEXT), // mul x7, x5, x6
+    (
+        0x0262_83b3,
+        0x1234_5678,
+        0x9abc_def0,
+        0x242d_2080,
+        WORD,
+        NEXT,
+    ), // mul x7, x5, x6
+    (
+        0x0262_93b3,
+        0x8000_0000,
+        0x8000_0000,
+        0x4000_0000,
+        WORD,
+        NEXT,
+    ), // mulh x7, x5, x6
+    (0x0262_93b3, 0xffff_ffff, 1, 0xffff_ffff, WORD, NEXT), // mulh x7, x5, x6
+    (
+        0x0262_a3b3,
+        0xffff_ffff,
+        0xffff_ffff,
+        0xffff_ffff,
+        WORD,
+        NEXT,
+    ), // mulhsu x7, x5, x6
+    (0x0262_a3b3, 1, 0xffff_ffff, 0, WORD, NEXT), // mulhsu x7, x5, x6
+    (
+        0x0262_b3b3,
+        0xffff_ffff,
+        0xffff_ffff,
+        0xffff_fffe,
+        WORD,
+        NEXT,
+    ), // mulhu x7, x5, x6
+    (0x0262_c3b3, 0xffff_ffec, 6, 0xffff_fffd, WORD, NEXT), // div x7, x5, x6
+    (0x0262_c3b3, 7, 0, 0xffff_ffff, WORD, NEXT), // div x7, x5, x6
+    (
+        0x0262_c3b3,
+        0x8000_0000,
+        0xffff_ffff,
+        0x8000_0000,
+        WORD,
+        NEXT,
+    ), // div x7, x5, x6
+    (0x0262_d3b3, 0xffff_ffec, 6, 0x2aaa_aaa7, WORD, NEXT), // divu x7, x5, x6
+    (0x0262_d3b3, 7, 0, 0xffff_ffff, WORD, NEXT), // divu x7, x5, x6
+    (0x0262_d3b3, 0x8000_0000, 0xffff_ffff, 0, WORD, NEXT), // divu x7, x5, x6
+    (0x0262_e3b3, 0xffff_ffec, 6, 0xffff_fffe, WORD, NEXT), // rem x7, x5, x6
+    (0x0262_e3b3, 0xffff_ffec, 0, 0xffff_ffec, WORD, NEXT), // rem x7, x5, x6
+    (0x0262_e3b3, 0x8000_0000, 0xffff_ffff, 0, WORD, NEXT), // rem x7, x5, x6
+    (0x0262_e3b3, 0x14, 0xffff_fffa, 2, WORD, NEXT), // rem x7, x5, x6
+    (0x0262_f3b3, 0xffff_ffec, 6, 2, WORD, NEXT), // remu x7, x5, x6
+    (0x0262_f3b3, 7, 0, 7, WORD, NEXT), // remu x7, x5, x6
+    (
+        0x0262_f3b3,
+        0x8000_0000,
+        0xffff_ffff,
+        0x8000_0000,
+        WORD,
+        NEXT,
+    ), // remu x7, x5, x6
+    (0x0062_8033, 5, 6, OLD, WORD, NEXT), // add x0, x5, x6
+    (0x0ff0_000f, 0, 0, OLD, WORD, NEXT), // fence
+];
+
+fn push_words(file: &mut Vec<u8>, words: &[u32]) -> Result<(), AllocError> {
+    for word in words {
+        file.extend_from_slice(&word.to_le_bytes())?;
+    }
+    Ok(())
+}
+
+// The bytes of an executable file with these words at the base, from which fetch begins.
+fn file_of(alloc: Global, words: &[u32]) -> Result<Vec<u8>, AllocError>
+    requires { length words.now ≤ 1024 }
+{
+    let size = words.len() as u32 * 4;
+    let mut file = Vec::new(alloc);
+    push_words(&mut file, &[0x464c_457f, 0x0001_0101, 0, 0, 0x00f3_0002, 1])?;
+    push_words(&mut file, &[BASE, 52, 0, 0, 0x0020_0034, 1, 0])?;
+    push_words(&mut file, &[1, 84, BASE, BASE, size, size, 7, 4])?;
+    push_words(&mut file, words)?;
+    Ok(file)
+}
+
+fn isa_of(alloc: Global, words: &[u32]) -> Result<Isa, Fail>
+    requires { length words.now ≤ 1024 }
+{
+    let file = file_of(alloc, words)?;
+    let ram = Ram::new(alloc, BASE, SIZE)?;
+    let parts = segments(file.as_slice())?;
+    Ok(Isa::new(load(alloc, &parts, ram)?))
+}
+
+// A machine at an instruction at the base, with these values of x5 and x6.
+fn before(alloc: Global, word: u32, x5: u32, x6: u32) -> Result<Isa, Fail> {
+    let mut isa = isa_of(alloc, &[word])?;
+    let _ = isa.ram.put(DATA, Width::W, WORD);
+    isa.regs[5] = x5;
+    isa.regs[6] = x6;
+    isa.regs[7] = OLD;
+    Ok(isa)
+}
+
+// How a step went, the values of x0 and x7, the word of data, and pc.
+fn after(isa: &mut Isa) -> (Stepped, u32, u32, Result<u32, Cause>, u32) {
+    let stepped = isa.step(&mut Piece::new());
+    let [x0, _, _, _, _, _, _, x7, ..] = *isa.regs();
+    (stepped, x0, x7, isa.ram().get(DATA, Width::W), isa.pc())
+}
+
+#[test]
+fn instructions_are_the_manuals(rt: HostRuntime) -> Result<(), Fail> {
+    for (word, a, b, x7, data, next) in ROWS {
+        let mut isa = before(rt.alloc(), word, a, b)?;
+        let wanted = (Stepped::Next, 0, x7, Ok(data), next);
+        assert_eq!(rt; after(&mut isa), wanted, "{word:#x} {a:#x} {b:#x}");
+    }
+    Ok(())
+}
+
+// The cause of the trap of an instruction at this pc, with this value of x5; None where it doesn't trap, or where it
+// changes the state or leaves output.
+fn trapped(alloc: Global, word: u32, pc: u32, x5: u32) -> Result<Option<Cause>, Fail> {
+    let mut isa = before(alloc, word, x5, 0)?;
+    isa.pc = pc;
+    let regs = isa.regs;
+    let ram = isa.ram.copy(alloc)?;
+    let mut out = Piece::new();
+    out.push(1);
+    let stepped = isa.step(&mut out);
+    let same = isa.pc() == pc && *isa.regs() == regs && isa.ram().bytes() == ram.bytes();
+    match stepped {
+        Stepped::Trap(cause) if same && out.as_slice().is_empty() => Ok(Some(cause)),
+        _ => Ok(None),
+    }
+}
+
+#[test]
+fn traps_change_nothing(rt: HostRuntime) -> Result<(), Fail> {
+    let rows: [(u32, u32, u32, Cause); 18] = [
+        (0x0020_03ef, BASE, 0, Cause::jump_misaligned()), // jal x7, .+2
+        (0x0022_83e7, BASE, BASE, Cause::jump_misaligned()), // jalr x7, 2(x5)
+        (0x0062_8163, BASE, 0, Cause::jump_misaligned()), // beq x5, x6, .+2
+        (0x0000_0013, BASE + 4, 0, Cause::outside_code()), // behind the last word
+        (0x0000_0013, BASE + 2, 0, Cause::outside_code()), // no multiple of 4
+        (0x0000_0013, 0, 0, Cause::outside_code()),
+        (0x0000_0000, BASE, 0, Cause::illegal()),
+        (0x0000_100f, BASE, 0, Cause::illegal()), // fence.i
+        (0x0010_0073, BASE, 0, Cause::breakpoint()),
+        (0x0022_a383, BASE, BASE, Cause::load_misaligned()), // lw x7, 2(x5)
+        (0x0010_1383, BASE, 0, Cause::load_misaligned()), // lh x7, 1(x0)
+        (0x0000_2383, BASE, 0, Cause::load_outside()), // lw x7, 0(x0)
+        (0x0002_8383, BASE, BASE + SIZE, Cause::load_outside()), // lb x7, 0(x5)
+        (0x0062_a123, BASE, BASE, Cause::store_misaligned()), // sw x6, 2(x5)
+        (0xfe62_9fa3, BASE, 0, Cause::store_misaligned()), // sh x6, -1(x5)
+        (0xfe62_8fa3, BASE, BASE, Cause::store_outside()), // sb x6, -1(x5)
+        (0x0062_a023, BASE, BASE + SIZE, Cause::store_outside()), // sw x6, 0(x5)
+        (0x0062_a023, BASE, 0, Cause::store_outside()),
+    ];
+    for (word, pc, x5, cause) in rows {
+        let found = trapped(rt.alloc(), word, pc, x5)?;
+        assert_eq!(rt; found, Some(cause), "{word:#x} {pc:#x} {x5:#x}");
+    }
+    Ok(())
+}
+
+// a7, a0, a1 and a2 of a call, how it goes, its answer in a0, and how many bytes it puts out.
+const CALLS: [(u32, u32, u32, u32, Stepped, u32, usize); 17] = [
+    (64, 1, DATA, 4, Stepped::Next, 4, 4),
+    (64, 2, DATA, 1024, Stepped::Next, 1024, 1024),
+    (64, 1, DATA, 1025, Stepped::Next, 1024, 1024),
+    (64, 1, DATA, 0xffff_ffff, Stepped::Next, 1024, 1024),
+    (64, 1, 0x0001_fc00, 1024, Stepped::Next, 1024, 1024), // up to memory's last byte
+    (64, 1, 0x0001_fc01, 1024, Stepped::Next, 0xffff_fff2, 0),
+    (64, 1, 0x0000_ffff, 1, Stepped::Next, 0xffff_fff2, 0),
+    (64, 1, 0xffff_ffff, 1024, Stepped::Next, 0xffff_fff2, 0),
+    (64, 2, 0, 0, Stepped::Next, 0, 0),
+    (64, 0, DATA, 4, Stepped::Next, 0xffff_fff7, 0),
+    (64, 3, 0, 0, Stepped::Next, 0xffff_fff7, 0),
+    (63, 1, DATA, 4, Stepped::Next, 0xffff_ffda, 0),
+    (0, 1, DATA, 4, Stepped::Next, 0xffff_ffda, 0),
+    (95, 1, DATA, 4, Stepped::Next, 0xffff_ffda, 0),
+    (93, 42, DATA, 4, Stepped::Exit(42), 42, 0),
+    (94, 42, DATA, 4, Stepped::Exit(42), 42, 0),
+    (
+        93,
+        0xffff_ffff,
+        DATA,
+        4,
+        Stepped::Exit(0xffff_ffff),
+        0xffff_ffff,
+        0,
+    ),
+];
+
+// How an ECALL goes with these values of a7, a0, a1 and a2, its answer in a0, and pc.
+fn called(
+    alloc: Global,
+    a7: u32,
+    a0: u32,
+    a1: u32,
+    a2: u32,
+    out: &mut Piece,
+) -> Result<(Stepped, u32, u32), Fail> {
+    let mut isa = before(alloc, 0x0000_0073, 0, 0)?;
+    isa.regs[17] = a7;
+    isa.regs[10] = a0;
+    isa.regs[11] = a1;
+    isa.regs[12] = a2;
+    let stepped = isa.step(out);
+    Ok((stepped, isa.regs[10], isa.pc()))
+}
+
+#[test]
+fn calls_answer(rt: HostRuntime) -> Result<(), Fail> {
+    let mut out = Piece::new();
+    for (a7, a0, a1, a2, stepped, answer, count) in CALLS {
+        let found = called(rt.alloc(), a7, a0, a1, a2, &mut out)?;
+        assert_eq!(rt; found, (stepped, answer, NEXT), "{a7} {a0} {a1:#x} {a2}");
+        assert_eq!(rt; out.as_slice().len(), count, "{a7} {a0} {a1:#x} {a2}");
+    }
+    let _ = called(rt.alloc(), 64, 1, DATA, 4, &mut out)?;
+    assert_eq!(rt; out.as_slice(), [0x01, 0xff, 0x80, 0x7f].as_slice());
+    Ok(())
+}
+
+// What a run of at most n steps answers, and pc behind it.
+fn ran(isa: &mut Isa, n: u64) -> (u64, Option<End>, u32) {
+    let ran = isa.run(n);
+    (ran.taken, ran.ended, isa.pc())
+}
+
+// addi x5, x0, 7; div x6, x5, x0; rem x7, x5, x0; lui x8, 0x80000; addi x9, x0, -1; div x11, x8, x9; rem x12, x8, x9;
+// addi x17, x0, 93; ecall
+const DIVISIONS: [u32; 9] = [
+    0x0070_0293,
+    0x0202_c333,
+    0x0202_e3b3,
+    0x8000_0437,
+    0xfff0_0493,
+    0x0294_45b3,
+    0x0294_6633,
+    0x05d0_0893,
+    0x0000_0073,
+];
+
+// The registers behind it.
+const DIVIDED: [u32; 32] = [
+    0,
+    0,
+    0x0001_fff0,
+    0,
+    0,
+    7,
+    0xffff_ffff,
+    7,
+    0x8000_0000,
+    0xffff_ffff,
+    0,
+    0x8000_0000,
+    0,
+    0,
+    0,
+    0,
+    0,
+    93,
+    0,
+    0,
+    0,
+    0,
+    0,
+    0,
+    0,
+    0,
+    0,
+    0,
+    0,
+    0,
+    0,
+    0,
+];
+
+// auipc x5, 0; sw x0, 8(x5), over the next instruction; addi x17, x0, 93; ecall
+const OVERWRITES: [u32; 4] = [0x0000_0297, 0x0002_a423, 0x05d0_0893, 0x0000_0073];
+
+#[test]
+fn runs_end(rt: HostRuntime) -> Result<(), Fail> {
+    let mut isa = isa_of(rt.alloc(), &DIVISIONS)?;
+    assert_eq!(rt; ran(&mut isa, 8), (8, None, BASE + 32));
+    assert_eq!(rt; ran(&mut isa, 5), (1, Some(End::Exit(0)), BASE + 36));
+    assert_eq!(rt; *isa.regs(), DIVIDED);
+    let mut isa = isa_of(rt.alloc(), &OVERWRITES)?;
+    assert_eq!(rt; ran(&mut isa, 100), (4, Some(End::Exit(0)), BASE + 16));
+    assert_eq!(rt; isa.ram().get(BASE + 8, Width::W), Ok(0));
+    let mut isa = isa_of(rt.alloc(), &[0x0070_0293, 0x0010_0073])?;
+    let trap = Some(End::Trap(Cause::breakpoint(), NEXT));
+    assert_eq!(rt; ran(&mut isa, 5), (1, trap, NEXT));
+    Ok(())
+}

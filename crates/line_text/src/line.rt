@@ -1,0 +1,113 @@
+//! A line of text that is built piece by piece.
+ghost use Rattle.std.specs.Prelude.{◌≡◌, ◌<◌, ◌≤◌, ◌+◌, ◌*◌, ◌/◌, ◌%◌, ◌∷◌, [], ◌++◌, length, decimal, flat_map};
+ghost use Rattle.line_text.specs.Digits.{hex_digit, hex2, hex8};
+
+use arrayvec::ArrayVec;
+use itoa::Buffer;
+use std::marker::Model;
+
+/// The most bytes that a line has.
+pub const LINE_MAX: usize = 2100;
+
+/// The hexadecimal digits.
+const DIGITS: [u8; 16] = *b"0123456789abcdef";
+
+/// A line of text: at most 2100 bytes, seen as a list. It takes no memory.
+#[derive(Drop)]
+pub struct Line {
+    bytes: ArrayVec<u8, LINE_MAX>,
+}
+
+impl Model for Line {
+    ghost use Rattle.std.specs.Prelude.{List, ℕ};
+
+    ghost Value = { List ℕ };
+
+    ghost view = { λ l. l.bytes.items };
+}
+
+fn hex_digit(d: u8) -> u8
+    requires { d < 16 }
+    ensures { result ≡ hex_digit d }
+{
+    DIGITS[d as usize]
+}
+
+impl Line {
+    /// The empty line.
+    pub fn new() -> Self
+        ensures { result ≡ [] }
+    {
+        Line {
+            bytes: ArrayVec::new(),
+        }
+    }
+
+    /// The bytes.
+    pub fn as_slice(&self) -> &[u8]
+        ensures { result.now ≡ self.now }
+    {
+        self.bytes.as_slice()
+    }
+
+    /// Appends one byte.
+    fn push(&mut self, byte: u8)
+        requires { length self.old < LINE_MAX }
+        ensures { self.new ≡ self.old ++ byte ∷ [] }
+    {
+        self.bytes.push(byte);
+    }
+
+    /// Appends the bytes of a text, where there is room for them.
+    pub fn add(&mut self, text: &[u8])
+        requires { length self.old + length text.now ≤ LINE_MAX }
+        ensures { self.new ≡ self.old ++ text.now }
+    {
+        for byte in text {
+            self.push(*byte);
+        }
+    }
+
+    /// Appends a number in decimal: at most 20 digits.
+    pub fn add_decimal(&mut self, n: u64)
+        requires { length self.old + 20 ≤ LINE_MAX }
+        ensures text { self.new ≡ self.old ++ decimal n }
+        ensures short { length self.new ≤ length self.old + 20 }
+    {
+        let mut buffer = Buffer::new();
+        self.add(buffer.format(n).as_bytes());
+    }
+
+    /// Appends the two hexadecimal digits of a byte.
+    pub fn add_hex2(&mut self, byte: u8)
+        requires { length self.old + 2 ≤ LINE_MAX }
+        ensures text { self.new ≡ self.old ++ hex2 byte }
+        ensures len { length self.new ≡ length self.old + 2 }
+    {
+        self.push(hex_digit(byte / 16));
+        self.push(hex_digit(byte % 16));
+    }
+
+    /// Appends the eight hexadecimal digits of a word.
+    pub fn add_hex8(&mut self, word: u32)
+        requires { length self.old + 8 ≤ LINE_MAX }
+        ensures text { self.new ≡ self.old ++ hex8 word }
+        ensures len { length self.new ≡ length self.old + 8 }
+    {
+        self.add_hex2((word / 0x100_0000) as u8);
+        self.add_hex2((word / 0x1_0000 % 0x100) as u8);
+        self.add_hex2((word / 0x100 % 0x100) as u8);
+        self.add_hex2((word % 0x100) as u8);
+    }
+
+    /// Appends the two hexadecimal digits of each byte in turn.
+    pub fn add_hex_bytes(&mut self, bytes: &[u8])
+        requires { length self.old + 2 * length bytes.now ≤ LINE_MAX }
+        ensures text { self.new ≡ self.old ++ flat_map hex2 bytes.now }
+        ensures len { length self.new ≡ length self.old + 2 * length bytes.now }
+    {
+        for byte in bytes {
+            self.add_hex2(*byte);
+        }
+    }
+}

@@ -1,0 +1,61 @@
+//! The last line in each of its forms, and the numbers of a line.
+use crate::{Line, write_end};
+use rv_types::{Cause, End, Ending};
+use std::test::Fail;
+use tool_io::MemSink;
+
+#[test]
+fn last_lines(rt: HostRuntime) -> Result<(), Fail> {
+    let alloc = rt.alloc();
+    let trap = End::Trap(Cause::outside_code(), 0x0001_0000);
+    let rows: [(Option<End>, u64, Option<u32>, &[u8]); 6] = [
+        (
+            Some(End::Exit(0)),
+            2,
+            Some(5),
+            b"end exit 0 retired 2 cycles 5\n",
+        ),
+        (
+            Some(End::Exit(4294967282)),
+            11,
+            None,
+            b"end exit 4294967282 retired 11\n",
+        ),
+        (
+            Some(trap),
+            0,
+            Some(3),
+            b"end trap 1 00010000 retired 0 cycles 3\n",
+        ),
+        (Some(trap), 0, None, b"end trap 1 00010000 retired 0\n"),
+        (None, 1, Some(4), b"end budget retired 1 cycles 4\n"),
+        (None, 1, None, b"end budget retired 1\n"),
+    ];
+    for (end, retired, cycles, want) in rows {
+        let ending = Ending {
+            end,
+            retired,
+            cycles,
+        };
+        let mut out = MemSink::new(alloc, 100, Vec::new(alloc))?;
+        assert_eq!(rt; write_end(&ending, &mut out), Ok(()));
+        assert_eq!(rt; out.as_slice(), want, "{ending:?}");
+    }
+    Ok(())
+}
+
+#[test]
+fn numbers_of_a_line(rt: HostRuntime) {
+    let mut line = Line::new();
+    line.add(b"mem ");
+    line.add_hex8(0xfedc_ba98);
+    line.add(b" ");
+    line.add_hex2(0x0f);
+    line.add_hex_bytes(&[0x76, 0x54, 0x32, 0x10]);
+    line.add(b" ");
+    line.add_decimal(u64::MAX);
+    assert_eq!(rt;
+        line.as_slice(),
+        b"mem fedcba98 0f76543210 18446744073709551615".as_slice()
+    );
+}

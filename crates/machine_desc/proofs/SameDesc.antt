@@ -1,0 +1,125 @@
+-- The contents of a description tell it from any other.
+use Rattle.std.proofs.Common.{◌≡◌, ◌+◌, ◌%◌, ◌^◌, ◌<◌, ◌≤◌, ℕ, List, ap, slice_index, Result, Ok}
+use Rattle.std.specs.Int.{IsPowerOfTwo}
+use Rattle.std.specs.Coded.{le_prop}
+use mathlib.Core.Path.{PathP}
+use mathlib.Core.HLevel.{is_prop→PathP, hedberg}
+use native.Mathlib.Decide.{ℕ_discrete}
+use Rattle.machine_desc.specs.declared.Desc.{Desc}
+use Rattle.machine_desc.specs.declared.fault.DescFault.{DescFault}
+use Rattle.machine_desc.specs.Description.{Contents, contents, description_of, Describes}
+use Rattle.machine_desc.specs.Power.{power_prop}
+
+-- two proofs of one fact, at two descriptions along a path of the number that it is about
+up : (least : ℕ) {a b : ℕ} (p : a ≡ b) (u : least ≤ a) (v : least ≤ b) → PathP (λ i. least ≤ p i) u v
+up least p u v = is_prop→PathP (λ i. least ≤ p i) (λ i. le_prop) u v
+
+down : (most : ℕ) {a b : ℕ} (p : a ≡ b) (u : a ≤ most) (v : b ≤ most) → PathP (λ i. p i ≤ most) u v
+down most p u v = is_prop→PathP (λ i. p i ≤ most) (λ i. le_prop) u v
+
+power : {a b : ℕ} (p : a ≡ b) (u : IsPowerOfTwo a) (v : IsPowerOfTwo b) → PathP (λ i. IsPowerOfTwo (p i)) u v
+power p u v = is_prop→PathP (λ i. IsPowerOfTwo (p i)) (λ i. power_prop (p i)) u v
+
+aligned : {a b : ℕ} (p : a ≡ b) (u : a % 16 ≡ 0) (v : b % 16 ≡ 0) → PathP (λ i. p i % 16 ≡ 0) u v
+aligned p u v = is_prop→PathP (λ i. p i % 16 ≡ 0) (λ i. hedberg ℕ_discrete (p i % 16) 0) u v
+
+above : {a b c d : ℕ} (p : a ≡ b) (q : c ≡ d) (u : a < c) (v : b < d) → PathP (λ i. p i < q i) u v
+above p q u v = is_prop→PathP (λ i. p i < q i) (λ i. le_prop) u v
+
+ends : {a b c d : ℕ} (p : a ≡ b) (q : c ≡ d) (u : a + c ≤ 2 ^ 32) (v : b + d ≤ 2 ^ 32) → PathP (λ i. p i + q i ≤ 2 ^ 32) u v
+ends p q u v = is_prop→PathP (λ i. p i + q i ≤ 2 ^ 32) (λ i. le_prop) u v
+
+pub same_desc : (d e : Desc) → contents d ≡ contents e → d ≡ e
+same_desc d e h =
+    let core_fetch_width : d.core_fetch_width ≡ e.core_fetch_width = ap (λ (c : Contents). slice_index c.numbers 0) h in
+    let core_retire_width : d.core_retire_width ≡ e.core_retire_width = ap (λ (c : Contents). slice_index c.numbers 1) h in
+    let core_rob : d.core_rob ≡ e.core_rob = ap (λ (c : Contents). slice_index c.numbers 2) h in
+    let core_stations : d.core_stations ≡ e.core_stations = ap (λ (c : Contents). slice_index c.numbers 3) h in
+    let core_loads : d.core_loads ≡ e.core_loads = ap (λ (c : Contents). slice_index c.numbers 4) h in
+    let core_stores : d.core_stores ≡ e.core_stores = ap (λ (c : Contents). slice_index c.numbers 5) h in
+    let core_queue : d.core_queue ≡ e.core_queue = ap (λ (c : Contents). slice_index c.numbers 6) h in
+    let units_alus : d.units_alus ≡ e.units_alus = ap (λ (c : Contents). slice_index c.numbers 7) h in
+    let units_mul_latency : d.units_mul_latency ≡ e.units_mul_latency = ap (λ (c : Contents). slice_index c.numbers 8) h in
+    let predictor_counters : d.predictor_counters ≡ e.predictor_counters = ap (λ (c : Contents). slice_index c.numbers 9) h in
+    let predictor_btb : d.predictor_btb ≡ e.predictor_btb = ap (λ (c : Contents). slice_index c.numbers 10) h in
+    let cache_sets : d.cache_sets ≡ e.cache_sets = ap (λ (c : Contents). slice_index c.numbers 11) h in
+    let cache_ways : d.cache_ways ≡ e.cache_ways = ap (λ (c : Contents). slice_index c.numbers 12) h in
+    let cache_line : d.cache_line ≡ e.cache_line = ap (λ (c : Contents). slice_index c.numbers 13) h in
+    let cache_hit_latency : d.cache_hit_latency ≡ e.cache_hit_latency = ap (λ (c : Contents). slice_index c.numbers 14) h in
+    let cache_miss_latency : d.cache_miss_latency ≡ e.cache_miss_latency = ap (λ (c : Contents). slice_index c.numbers 15) h in
+    let cache_mshrs : d.cache_mshrs ≡ e.cache_mshrs = ap (λ (c : Contents). slice_index c.numbers 16) h in
+    let ram_base : d.ram_base ≡ e.ram_base = ap (λ (c : Contents). slice_index c.numbers 17) h in
+    let ram_size : d.ram_size ≡ e.ram_size = ap (λ (c : Contents). slice_index c.numbers 18) h in
+    let stt_model : d.stt_model ≡ e.stt_model = ap (λ (c : Contents). c.model) h in
+    λ i. record {
+      core_fetch_width = core_fetch_width i;
+      core_retire_width = core_retire_width i;
+      core_rob = core_rob i;
+      core_stations = core_stations i;
+      core_loads = core_loads i;
+      core_stores = core_stores i;
+      core_queue = core_queue i;
+      units_alus = units_alus i;
+      units_mul_latency = units_mul_latency i;
+      predictor_counters = predictor_counters i;
+      predictor_btb = predictor_btb i;
+      cache_sets = cache_sets i;
+      cache_ways = cache_ways i;
+      cache_line = cache_line i;
+      cache_hit_latency = cache_hit_latency i;
+      cache_miss_latency = cache_miss_latency i;
+      cache_mshrs = cache_mshrs i;
+      ram_base = ram_base i;
+      ram_size = ram_size i;
+      stt_model = stt_model i;
+      some_fetches = up 1 core_fetch_width d.some_fetches e.some_fetches i;
+      few_fetches = down 4 core_fetch_width d.few_fetches e.few_fetches i;
+      some_retires = up 1 core_retire_width d.some_retires e.some_retires i;
+      few_retires = down 4 core_retire_width d.few_retires e.few_retires i;
+      some_entries = up 4 core_rob d.some_entries e.some_entries i;
+      few_entries = down 64 core_rob d.few_entries e.few_entries i;
+      some_stations = up 2 core_stations d.some_stations e.some_stations i;
+      few_stations = down 32 core_stations d.few_stations e.few_stations i;
+      some_loads = up 1 core_loads d.some_loads e.some_loads i;
+      few_loads = down 16 core_loads d.few_loads e.few_loads i;
+      some_stores = up 1 core_stores d.some_stores e.some_stores i;
+      few_stores = down 16 core_stores d.few_stores e.few_stores i;
+      some_queue = up 1 core_queue d.some_queue e.some_queue i;
+      short_queue = down 16 core_queue d.short_queue e.short_queue i;
+      some_alus = up 1 units_alus d.some_alus e.some_alus i;
+      few_alus = down 4 units_alus d.few_alus e.few_alus i;
+      some_mul_latency = up 1 units_mul_latency d.some_mul_latency e.some_mul_latency i;
+      short_mul_latency = down 8 units_mul_latency d.short_mul_latency e.short_mul_latency i;
+      some_counters = up 2 predictor_counters d.some_counters e.some_counters i;
+      few_counters = down 4096 predictor_counters d.few_counters e.few_counters i;
+      counters_power = power predictor_counters d.counters_power e.counters_power i;
+      some_targets = up 1 predictor_btb d.some_targets e.some_targets i;
+      few_targets = down 256 predictor_btb d.few_targets e.few_targets i;
+      targets_power = power predictor_btb d.targets_power e.targets_power i;
+      some_sets = up 1 cache_sets d.some_sets e.some_sets i;
+      few_sets = down 256 cache_sets d.few_sets e.few_sets i;
+      sets_power = power cache_sets d.sets_power e.sets_power i;
+      some_ways = up 1 cache_ways d.some_ways e.some_ways i;
+      few_ways = down 8 cache_ways d.few_ways e.few_ways i;
+      some_bytes = up 4 cache_line d.some_bytes e.some_bytes i;
+      few_bytes = down 64 cache_line d.few_bytes e.few_bytes i;
+      line_power = power cache_line d.line_power e.line_power i;
+      some_hit_latency = up 1 cache_hit_latency d.some_hit_latency e.some_hit_latency i;
+      short_hit_latency = down 8 cache_hit_latency d.short_hit_latency e.short_hit_latency i;
+      miss_above_hit = above cache_hit_latency cache_miss_latency d.miss_above_hit e.miss_above_hit i;
+      short_miss_latency = down 200 cache_miss_latency d.short_miss_latency e.short_miss_latency i;
+      some_misses = up 1 cache_mshrs d.some_misses e.some_misses i;
+      few_misses = down 8 cache_mshrs d.few_misses e.few_misses i;
+      low_base = down 4294963200 ram_base d.low_base e.low_base i;
+      base_aligned = aligned ram_base d.base_aligned e.base_aligned i;
+      some_ram = up 4096 ram_size d.some_ram e.some_ram i;
+      small_ram = down 16777216 ram_size d.small_ram e.small_ram i;
+      size_aligned = aligned ram_size d.size_aligned e.size_aligned i;
+      ram_ends = ends ram_base ram_size d.ram_ends e.ram_ends i;
+    }
+
+same_ok : (c c' : Contents) (r : Result Contents DescFault) → r ≡ Ok c → r ≡ Ok c' → c ≡ c'
+same_ok c c' r h k = cc
+
+pub one_description : (bytes : List ℕ) (d e : Desc) → Describes bytes d → Describes bytes e → d ≡ e
+one_description bytes d e h k = same_desc d e (same_ok _ _ (description_of bytes) h k)

@@ -1,0 +1,8 @@
+use Rattle.std.proofs.Common.{◌≡◌}
+use Rattle.machine_desc.proofs.Unknown.{unknown_name}
+use Rattle.machine_desc.specs.Table.{some_key}
+use Rattle.std.specs.BTreeMap.{keys}
+use Rattle.machine_desc.proofs.document.unknown_key.Given as goal
+
+abbrev pub invariant-loop-name : goal.invariant-loop-name
+invariant-loop-name l = unknown_name (some_key l.keys l.section) l.name-iterator ≡ unknown_name (some_key l.keys l.section) (keys l.table)

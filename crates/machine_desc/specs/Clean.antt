@@ -1,0 +1,33 @@
+-- A document without fault.
+use Rattle.std.specs.Prelude.{◌≡◌, ◌+◌, ◌^◌, ◌<◌, ◌≤◌, ◌%◌, ℕ, IsTrue, None}
+use Rattle.toml.specs.Data.{Members}
+use Rattle.machine_desc.specs.declared.keys.Key.{Key}
+use Rattle.machine_desc.specs.declared.keys.Key.TheVariants.{CacheHitLatency, CacheMissLatency, RamBase, RamSize}
+use Rattle.machine_desc.specs.declared.keys.Values.{Values}
+use Rattle.machine_desc.specs.declared.keys.Values.TheVariants.{Numbers, Models}
+use Rattle.machine_desc.specs.declared.keys.Shape.{Shape}
+use Rattle.machine_desc.specs.declared.keys.Shape.TheVariants.{Any, PowerOfTwo, MultipleOf16}
+use Rattle.std.specs.Int.{IsPowerOfTwo}
+use Rattle.machine_desc.specs.Description.{has_shape, key_fault, number}
+
+-- what a shape asks of a number
+abbrev pub HasShape : Shape → ℕ → Type 0
+HasShape Any n = Unit {0}
+HasShape PowerOfTwo n = IsPowerOfTwo n
+HasShape MultipleOf16 n = n % 16 ≡ 0
+
+-- a number is one of these values
+abbrev pub Fits : Values → ℕ → Type 0
+Fits (Numbers least most shape) n = (least ≤ n) × (n ≤ most) × HasShape shape n
+Fits Models n = Unit {0}
+
+-- the same, with the shape as a test
+abbrev pub PassesAs : Values → ℕ → Type 0
+PassesAs (Numbers least most shape) n = (least ≤ n) × (n ≤ most) × IsTrue (has_shape shape n)
+PassesAs Models n = Unit {0}
+
+-- no key has a fault, a miss takes longer than a hit, and RAM ends at or below 2^32
+pub record IsClean (document : Members) : Type 0 where
+  pub keys : (k : Key) → key_fault document k ≡ None
+  pub latencies : number document CacheHitLatency < number document CacheMissLatency
+  pub ends : number document RamBase + number document RamSize ≤ 2 ^ 32

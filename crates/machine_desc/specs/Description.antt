@@ -1,0 +1,195 @@
+-- What a text describes: a description, or the first of its faults (docs/formats.md, "Machine descriptions").
+use Rattle.std.specs.Prelude.{◌≡◌, ◌+◌, ◌%◌, ◌^◌, ◌==◌, Bool, true, ◌&&◌, nat_lt, nat_le, ℕ, ℤ, pos, int_le, nat_abs, if◌then◌else◌, List, [], ◌∷◌, ◌++◌, map, take, codes, Option, Some, None, option_map, option_and_then, Result, Ok, Err}
+use Rattle.std.specs.Int.{is_power_of_two}
+use Rattle.std.specs.Str.{bytes_eq, is_utf8}
+use Rattle.toml.specs.Data.{Data, table, string, integer, Members, no_members, member, get_member, as_table}
+use Rattle.toml.specs.Parse.{parse_document}
+use Rattle.machine_desc.specs.declared.Desc.{Desc}
+use Rattle.machine_desc.specs.declared.SttModel.{SttModel}
+use Rattle.machine_desc.specs.declared.SttModel.TheVariants.{Spectre, Futuristic}
+use Rattle.machine_desc.specs.declared.keys.Section.{Section}
+use Rattle.machine_desc.specs.declared.keys.Key.{Key}
+use Rattle.machine_desc.specs.declared.keys.Key.TheVariants.{CacheHitLatency, CacheMissLatency, RamBase, RamSize, SttModel as ModelKey}
+use Rattle.machine_desc.specs.declared.keys.Shape.{Shape}
+use Rattle.machine_desc.specs.declared.keys.Shape.TheVariants.{Any, PowerOfTwo, MultipleOf16}
+use Rattle.machine_desc.specs.declared.keys.Values.{Values}
+use Rattle.machine_desc.specs.declared.keys.Values.TheVariants.{Numbers, Models}
+use Rattle.machine_desc.specs.declared.fault.Subject.TheVariants.{Table as OfTable, Key as OfKey}
+use Rattle.machine_desc.specs.declared.fault.DescFault.{DescFault}
+use Rattle.machine_desc.specs.declared.fault.DescFault.TheVariants.{Syntax, Unknown, Missing, Kind, Range, Shape as WrongShape}
+use Rattle.machine_desc.specs.Table.{row, section_name, sections, number_keys, keys, some_section, some_key}
+
+-- the first fault of these places, if there is one
+abbrev pub first : List (Option DescFault) → Option DescFault
+first [] = None
+first (None ∷ more) = first more
+first (Some fault ∷ more) = Some fault
+
+-- a test passes where there is no fault
+abbrev pub checked : Option DescFault → Result (Unit {0}) DescFault
+checked None = Ok tt
+checked (Some fault) = Err fault
+
+-- ---- names
+
+-- the first name that isn't known, so the least one: members ascend by the bytes of their names
+abbrev pub unknown : (List ℕ → Bool) → Members → Option (List ℕ)
+unknown known no_members = None
+unknown known (member name value more) = if known name then unknown known more else Some name
+
+-- of a name at the top, the first 64 bytes are kept
+unfoldable pub top_fault : Members → Option DescFault
+top_fault document = option_map (λ name. Unknown (take 64 name)) (unknown (some_section sections) document)
+
+-- of a name in a table too, behind the table's name and a dot
+abbrev pub name_fault : Section → Members → Option DescFault
+name_fault section members =
+    option_map (λ name. Unknown (section_name section ++ codes "." ++ take 64 name)) (unknown (some_key keys section) members)
+
+-- what stands at a table's name has to be a table, whose names are all known
+abbrev pub table_fault : Section → Option Data → Option DescFault
+table_fault section None = None
+table_fault section (Some (table members)) = name_fault section members
+table_fault section (Some other) = Some (Kind (OfTable section))
+
+-- the fault of what a document has at a table's name
+abbrev pub section_fault : Members → Section → Option DescFault
+section_fault document section = table_fault section (get_member (section_name section) document)
+
+-- the tables in order
+unfoldable pub sections_fault : Members → Option DescFault
+sections_fault document = first (map (section_fault document) sections)
+
+-- ---- values
+
+-- the value of a key, where it and its table are there
+abbrev pub value_at : Members → Key → Option Data
+value_at document key = option_and_then (get_member (row key).name) (option_and_then as_table (get_member (section_name (row key).section) document))
+
+-- a number has a shape
+abbrev pub has_shape : Shape → ℕ → Bool
+has_shape Any n = true
+has_shape PowerOfTwo n = is_power_of_two n
+has_shape MultipleOf16 n = n % 16 == 0
+
+-- the number where it is in the range and of the shape; the range is looked at first
+abbrev pub whole_in : Key → ℕ → ℕ → Shape → ℤ → Result ℕ DescFault
+whole_in key least most shape z =
+    if int_le (pos least) z && int_le z (pos most)
+    then (if has_shape shape (nat_abs z) then Ok (nat_abs z) else Err (WrongShape key))
+    else Err (Range key z)
+
+-- the number of a key: its value has to be there, and a whole number
+abbrev pub number_in : Key → ℕ → ℕ → Shape → Option Data → Result ℕ DescFault
+number_in key least most shape None = Err (Missing key)
+number_in key least most shape (Some (integer z)) = whole_in key least most shape z
+number_in key least most shape (Some other) = Err (Kind (OfKey key))
+
+-- the model of a name
+abbrev pub model_named : Key → List ℕ → Result SttModel DescFault
+model_named key text =
+    if bytes_eq text (codes "spectre") then Ok Spectre
+    else (if bytes_eq text (codes "futuristic") then Ok Futuristic else Err (Kind (OfKey key)))
+
+-- the model of a key: its value has to be there, and a text that names one
+abbrev pub model_in : Key → Option Data → Result SttModel DescFault
+model_in key None = Err (Missing key)
+model_in key (Some (string text)) = model_named key text
+model_in key (Some other) = Err (Kind (OfKey key))
+
+-- why an answer is none
+abbrev pub fault_of : {T : Type 0} → Result T DescFault → Option DescFault
+fault_of (Ok _) = None
+fault_of (Err fault) = Some fault
+
+-- the fault of a value, by what its key may have
+abbrev pub value_fault : Key → Values → Option Data → Option DescFault
+value_fault key (Numbers least most shape) value = fault_of (number_in key least most shape value)
+value_fault key Models value = fault_of (model_in key value)
+
+-- the fault of a key
+unfoldable pub key_fault : Members → Key → Option DescFault
+key_fault document key = value_fault key (row key).values (value_at document key)
+
+-- the keys in order
+unfoldable pub keys_fault : Members → Option DescFault
+keys_fault document = first (map (key_fault document) keys)
+
+-- a number, 0 where there is a fault
+abbrev pub number_or_zero : Result ℕ DescFault → ℕ
+number_or_zero (Ok n) = n
+number_or_zero (Err fault) = 0
+
+-- the number that a value gives, by what its key may have
+abbrev pub number_of : Key → Values → Option Data → ℕ
+number_of key (Numbers least most shape) value = number_or_zero (number_in key least most shape value)
+number_of key Models value = 0
+
+-- the number of a key, 0 where it has a fault
+abbrev pub number : Members → Key → ℕ
+number document key = number_of key (row key).values (value_at document key)
+
+-- the model of a document
+abbrev pub model : Members → Result SttModel DescFault
+model document = model_in ModelKey (value_at document ModelKey)
+
+-- a miss takes longer than a hit
+unfoldable pub latency_fault : Members → Option DescFault
+latency_fault document =
+    if nat_lt (number document CacheHitLatency) (number document CacheMissLatency) then None else Some (WrongShape CacheMissLatency)
+
+-- RAM ends at or below 2^32
+unfoldable pub end_fault : Members → Option DescFault
+end_fault document =
+    if nat_le (number document RamBase + number document RamSize) (2 ^ 32) then None else Some (WrongShape RamSize)
+
+-- ---- the whole
+
+-- the first fault of a document: names at the top, tables, keys, and the two facts on pairs of numbers
+unfoldable pub document_fault : Members → Option DescFault
+document_fault document = first (
+    top_fault document ∷
+    sections_fault document ∷
+    keys_fault document ∷
+    latency_fault document ∷
+    end_fault document ∷ [])
+
+-- what a description holds: its numbers in the order of their keys, and its model
+pub record Contents : Type 0 where
+  pub numbers : List ℕ
+  pub model : SttModel
+
+-- each number in its key's place
+abbrev pub contents : Desc → Contents
+contents d = record {
+  numbers =
+      d.core_fetch_width ∷ d.core_retire_width ∷ d.core_rob ∷ d.core_stations ∷ d.core_loads ∷ d.core_stores ∷ d.core_queue ∷
+      d.units_alus ∷ d.units_mul_latency ∷
+      d.predictor_counters ∷ d.predictor_btb ∷
+      d.cache_sets ∷ d.cache_ways ∷ d.cache_line ∷ d.cache_hit_latency ∷ d.cache_miss_latency ∷ d.cache_mshrs ∷
+      d.ram_base ∷ d.ram_size ∷ [];
+  model = d.stt_model;
+}
+
+-- the first fault, or else the contents
+abbrev pub contents_or : Option DescFault → List ℕ → Result SttModel DescFault → Result Contents DescFault
+contents_or (Some fault) numbers model = Err fault
+contents_or None numbers (Err fault) = Err fault
+contents_or None numbers (Ok model) = Ok (record { numbers = numbers; model = model })
+
+-- the contents of a document, or its first fault
+abbrev pub document_contents : Members → Result Contents DescFault
+document_contents document = contents_or (document_fault document) (map (number document) number_keys) (model document)
+
+-- the contents of what a text is as a TOML document, if it is one
+abbrev pub text_contents : Option Members → Result Contents DescFault
+text_contents None = Err Syntax
+text_contents (Some document) = document_contents document
+
+-- what the bytes describe, or their first fault: they have to be UTF-8, and a TOML document
+unfoldable pub description_of : List ℕ → Result Contents DescFault
+description_of bytes = if is_utf8 bytes then text_contents (parse_document bytes) else Err Syntax
+
+-- the bytes describe d
+abbrev pub Describes : List ℕ → Desc → Type 0
+Describes bytes d = description_of bytes ≡ Ok (contents d)

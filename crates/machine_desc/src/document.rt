@@ -1,0 +1,124 @@
+//! What a TOML document has at a name.
+ghost use Rattle.std.specs.Prelude.{◌≡◌, pos, ◌≤ℤ◌, codes, ◌≤◌, map, option_map};
+ghost use Rattle.toml.specs.View.{table_view, view};
+ghost use Rattle.toml.specs.Data.{get_member};
+ghost use Rattle.machine_desc.specs.Table.{some_key, some_section};
+ghost use Rattle.machine_desc.specs.Description.{unknown, value_at, has_shape, whole_in, number_in, model_in, model_named};
+
+use crate::keys::{Shape, some_key, some_section};
+use crate::{DescFault, Key, Section, SttModel, Subject};
+use toml::{Table, Value};
+
+// The least name at the top that isn't a table's.
+pub fn unknown_section<'a>(document: &'a Table, sections: &[Section]) -> Option<&'a str>
+    ensures { option_map (λ s. s.now) result ≡ unknown (some_section sections.now) (table_view document.now) }
+{
+    for name in document.keys() {
+        if !some_section(sections, name.as_str()) {
+            return Some(name.as_str());
+        }
+    }
+    None
+}
+
+// The least name of a table that isn't a key's.
+pub fn unknown_key<'a>(table: &'a Table, keys: &[Key], section: Section) -> Option<&'a str>
+    ensures { option_map (λ s. s.now) result ≡ unknown (some_key keys.now section) (table_view table.now) }
+{
+    for name in table.keys() {
+        if !some_key(keys, section, name.as_str()) {
+            return Some(name.as_str());
+        }
+    }
+    None
+}
+
+// What a table has at a name.
+pub fn member_of<'a>(table: &'a Table, name: &str) -> Option<&'a Value>
+    ensures { option_map (λ v. view v.now) result ≡ get_member name.now (table_view table.now) }
+{
+    table.get(name)
+}
+
+// The value of a key, where it and its table are there.
+pub fn value_at<'a>(document: &'a Table, key: Key) -> Option<&'a Value>
+    ensures { option_map (λ v. view v.now) result ≡ value_at (table_view document.now) key }
+{
+    let row = key.row();
+    match member_of(document, row.section.name()) {
+        Some(value) => match value.as_table() {
+            Some(table) => member_of(table, row.name),
+            None => None,
+        },
+        None => None,
+    }
+}
+
+fn has_shape(shape: Shape, number: u32) -> bool
+    ensures { result ≡ has_shape shape number }
+{
+    match shape {
+        Shape::Any => true,
+        Shape::PowerOfTwo => number.is_power_of_two(),
+        Shape::MultipleOf16 => number % 16 == 0,
+    }
+}
+
+// A whole number in a range, and of a shape.
+fn whole_in(key: Key, least: u32, most: u32, shape: Shape, number: i64) -> Result<u32, DescFault>
+    ensures { result ≡ whole_in key least most shape number }
+{
+    if (least as i64) <= number && number <= (most as i64) {
+        let number = number as u32;
+        if has_shape(shape, number) {
+            Ok(number)
+        } else {
+            Err(DescFault::Shape(key))
+        }
+    } else {
+        Err(DescFault::Range(key, number))
+    }
+}
+
+// The number of a key.
+pub fn number_in(
+    key: Key,
+    least: u32,
+    most: u32,
+    shape: Shape,
+    value: Option<&Value>,
+) -> Result<u32, DescFault>
+    ensures { result ≡ number_in key least most shape (option_map (λ v. view v.now) value.entry) }
+{
+    match value {
+        None => Err(DescFault::Missing(key)),
+        Some(value) => match value.as_integer() {
+            None => Err(DescFault::Kind(Subject::Key(key))),
+            Some(number) => whole_in(key, least, most, shape, number),
+        },
+    }
+}
+
+// The model of this name.
+fn model_named(key: Key, text: &str) -> Result<SttModel, DescFault>
+    ensures { result ≡ model_named key text.now }
+{
+    match text {
+        "spectre" => Ok(SttModel::Spectre),
+        "futuristic" => Ok(SttModel::Futuristic),
+        _ => Err(DescFault::Kind(Subject::Key(key))),
+    }
+}
+
+// The model that a key names.
+pub fn model_in(key: Key, value: Option<&Value>) -> Result<SttModel, DescFault>
+    ensures { result ≡ model_in key (option_map (λ v. view v.now) value.entry) }
+{
+    match value {
+        None => Err(DescFault::Missing(key)),
+        Some(value) => match value.as_str() {
+            None => Err(DescFault::Kind(Subject::Key(key))),
+            Some(text) => model_named(key, text),
+        },
+    }
+}

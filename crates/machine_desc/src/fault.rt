@@ -1,0 +1,52 @@
+//! Why a text is no description.
+ghost use Rattle.std.specs.Prelude.{◌≡◌};
+ghost use Rattle.machine_desc.specs.Table.{subject_text};
+
+use crate::{Key, Name, Section};
+use thiserror::Error;
+
+/// What has the wrong kind.
+#[derive(Clone, Copy, Debug, PartialEq, Eq)]
+pub enum Subject {
+    Table(Section),
+    Key(Key),
+}
+
+impl Subject {
+    /// The name of the table or key, as `core` or `core.fetch_width`.
+    pub fn text(self) -> Name
+        ensures { result ≡ subject_text self }
+    {
+        match self {
+            Subject::Table(section) => Name::new(section.name().as_bytes()),
+            Subject::Key(key) => key.text(),
+        }
+    }
+}
+
+/// Why a text is no description. `docs/formats.md` has the order in which faults are looked for.
+#[derive(Debug, Drop, Error)]
+pub enum DescFault {
+    /// The bytes aren't UTF-8, or aren't a TOML document.
+    #[error("K1")]
+    Syntax,
+    /// There is no table, or no key of its table, of this name.
+    #[error("K2")]
+    Unknown(Name),
+    /// The key isn't there, or its table isn't.
+    #[error("K3")]
+    Missing(Key),
+    /// The table is no table; the key's value isn't a whole number, or isn't a model's name.
+    #[error("K4")]
+    Kind(Subject),
+    /// The number is outside the key's range.
+    #[error("K5 {1}")]
+    Range(Key, i64),
+    /// The number isn't a power of two or a multiple of 16 where the key asks for one; a miss doesn't take longer than a
+    /// hit; or RAM ends above 2^32.
+    #[error("K6")]
+    Shape(Key),
+    /// There was no memory to read the text.
+    #[error("K7")]
+    NoMemory,
+}

@@ -1,0 +1,18 @@
+//! Laws on descriptions, each on a function that does nothing.
+ghost use Rattle.std.specs.Prelude.{◌≡◌, ℕ, List};
+ghost use Rattle.machine_desc.specs.declared.Desc.{Desc};
+ghost use Rattle.machine_desc.specs.Ranges.{IsDesc};
+ghost use Rattle.machine_desc.specs.Description.{Describes};
+
+use crate::Desc;
+
+/// All that is asked of a description holds of each.
+#[tactic(auto, using(crate::proofs::EveryDesc::every_desc))]
+pub fn every_desc(desc: &Desc)
+    ensures { IsDesc desc.now }
+{}
+
+/// A text has one description at most.
+pub fn one_description()
+    ensures { (bytes : List ℕ) (d e : Desc) → Describes bytes d → Describes bytes e → d ≡ e }
+{}

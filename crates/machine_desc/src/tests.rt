@@ -1,0 +1,357 @@
+//! Descriptions that are accepted, and each fault.
+use crate::{Desc, DescFault, SttModel, bound, read_desc};
+use std::alloc::Global;
+use std::process::Abort;
+use std::test::Fail;
+
+// The example of `docs/formats.md`, line by line.
+const EXAMPLE: [&str; 26] = [
+    "[core]",
+    "fetch_width = 2",
+    "retire_width = 2",
+    "rob = 16",
+    "stations = 8",
+    "loads = 4",
+    "stores = 4",
+    "queue = 8",
+    "[units]",
+    "alus = 2",
+    "mul_latency = 3",
+    "[predictor]",
+    "counters = 16",
+    "btb = 4",
+    "[cache]",
+    "sets = 2",
+    "ways = 2",
+    "line = 16",
+    "hit_latency = 2",
+    "miss_latency = 10",
+    "mshrs = 2",
+    "[ram]",
+    "base = 65536",
+    "size = 65536",
+    "[stt]",
+    "model = \"spectre\"",
+];
+
+// The example with two of its lines replaced.
+fn text(alloc: Global, first: (&str, &str), second: (&str, &str)) -> Result<String, Fail> {
+    let mut text = String::new(alloc);
+    for line in EXAMPLE {
+        if line == first.0 {
+            text.push_str(first.1)?;
+        } else if line == second.0 {
+            text.push_str(second.1)?;
+        } else {
+            text.push_str(line)?;
+        }
+        text.push_str("\n")?;
+    }
+    Ok(text)
+}
+
+// The fault as the program names it, or `accepted`.
+fn told(alloc: Global, read: Result<Desc, DescFault>) -> Result<Vec<u8>, Fail> {
+    let mut line = Vec::new(alloc);
+    match read {
+        Ok(_) => line.extend_from_slice(b"accepted")?,
+        Err(DescFault::Syntax) => line.extend_from_slice(b"K1")?,
+        Err(DescFault::Unknown(name)) => {
+            line.extend_from_slice(b"K2 ")?;
+            line.extend_from_slice(name.as_slice())?;
+        }
+        Err(DescFault::Missing(key)) => {
+            line.extend_from_slice(b"K3 ")?;
+            line.extend_from_slice(key.text().as_slice())?;
+        }
+        Err(DescFault::Kind(subject)) => {
+            line.extend_from_slice(b"K4 ")?;
+            line.extend_from_slice(subject.text().as_slice())?;
+        }
+        Err(DescFault::Range(key, value)) => {
+            let number = format!(in alloc; " {value}")?;
+            line.extend_from_slice(b"K5 ")?;
+            line.extend_from_slice(key.text().as_slice())?;
+            line.extend_from_slice(number.as_bytes())?;
+        }
+        Err(DescFault::Shape(key)) => {
+            line.extend_from_slice(b"K6 ")?;
+            line.extend_from_slice(key.text().as_slice())?;
+        }
+        Err(DescFault::NoMemory) => line.extend_from_slice(b"K7")?,
+    }
+    Ok(line)
+}
+
+fn expect(rt: &impl Abort, alloc: Global, bytes: &[u8], wanted: &str) -> Result<(), Fail> {
+    let line = told(alloc, read_desc(alloc, bytes))?;
+    assert_eq!(rt; line.as_slice(), wanted.as_bytes());
+    Ok(())
+}
+
+// The numbers in the order of their keys.
+fn numbers(desc: &Desc) -> [u32; 19] {
+    [
+        desc.core_fetch_width,
+        desc.core_retire_width,
+        desc.core_rob,
+        desc.core_stations,
+        desc.core_loads,
+        desc.core_stores,
+        desc.core_queue,
+        desc.units_alus,
+        desc.units_mul_latency,
+        desc.predictor_counters,
+        desc.predictor_btb,
+        desc.cache_sets,
+        desc.cache_ways,
+        desc.cache_line,
+        desc.cache_hit_latency,
+        desc.cache_miss_latency,
+        desc.cache_mshrs,
+        desc.ram_base,
+        desc.ram_size,
+    ]
+}
+
+#[test]
+fn the_example_is_accepted(rt: HostRuntime) -> Result<(), Fail> {
+    let alloc = rt.alloc();
+    let same = text(alloc, ("", ""), ("", ""))?;
+    let desc = read_desc(alloc, same.as_bytes())?;
+    let wanted = [
+        2, 2, 16, 8, 4, 4, 8, 2, 3, 16, 4, 2, 2, 16, 2, 10, 2, 65536, 65536,
+    ];
+    assert_eq!(rt; numbers(&desc).as_slice(), wanted.as_slice());
+    assert_eq!(rt; desc.stt_model, SttModel::Spectre);
+    assert_eq!(rt; bound(&desc), 121);
+    let other = text(
+        alloc,
+        ("model = \"spectre\"", "model = \"futuristic\""),
+        ("", ""),
+    )?;
+    assert_eq!(rt;
+        read_desc(alloc, other.as_bytes())?.stt_model,
+        SttModel::Futuristic
+    );
+    Ok(())
+}
+
+// Each number: its line, its name, its whole name, a number below its range, its least, its most, a number above.
+const NUMBERS: [(&str, &str, &str, i64, i64, i64, i64); 19] = [
+    (
+        "fetch_width = 2",
+        "fetch_width",
+        "core.fetch_width",
+        0,
+        1,
+        4,
+        5,
+    ),
+    (
+        "retire_width = 2",
+        "retire_width",
+        "core.retire_width",
+        0,
+        1,
+        4,
+        5,
+    ),
+    ("rob = 16", "rob", "core.rob", 3, 4, 64, 65),
+    ("stations = 8", "stations", "core.stations", 1, 2, 32, 33),
+    ("loads = 4", "loads", "core.loads", 0, 1, 16, 17),
+    ("stores = 4", "stores", "core.stores", 0, 1, 16, 17),
+    ("queue = 8", "queue", "core.queue", 0, 1, 16, 17),
+    ("alus = 2", "alus", "units.alus", 0, 1, 4, 5),
+    (
+        "mul_latency = 3",
+        "mul_latency",
+        "units.mul_latency",
+        0,
+        1,
+        8,
+        9,
+    ),
+    (
+        "counters = 16",
+        "counters",
+        "predictor.counters",
+        1,
+        2,
+        4096,
+        8192,
+    ),
+    ("btb = 4", "btb", "predictor.btb", 0, 1, 256, 512),
+    ("sets = 2", "sets", "cache.sets", 0, 1, 256, 512),
+    ("ways = 2", "ways", "cache.ways", 0, 1, 8, 9),
+    ("line = 16", "line", "cache.line", 2, 4, 64, 128),
+    (
+        "hit_latency = 2",
+        "hit_latency",
+        "cache.hit_latency",
+        0,
+        1,
+        8,
+        9,
+    ),
+    (
+        "miss_latency = 10",
+        "miss_latency",
+        "cache.miss_latency",
+        1,
+        3,
+        200,
+        201,
+    ),
+    ("mshrs = 2", "mshrs", "cache.mshrs", 0, 1, 8, 9),
+    (
+        "base = 65536",
+        "base",
+        "ram.base",
+        -16,
+        0,
+        4278190080,
+        4294963216,
+    ),
+    (
+        "size = 65536",
+        "size",
+        "ram.size",
+        4080,
+        4096,
+        16777216,
+        16777232,
+    ),
+];
+
+#[test]
+fn each_number_at_its_ends(rt: HostRuntime) -> Result<(), Fail> {
+    let alloc = rt.alloc();
+    for (line, name, whole, below, least, most, above) in NUMBERS {
+        for number in [least, most] {
+            let changed = format!(in alloc; "{name} = {number}")?;
+            let text = text(alloc, (line, changed.as_str()), ("", ""))?;
+            expect(&rt, alloc, text.as_bytes(), "accepted")?;
+        }
+        for number in [below, above] {
+            let changed = format!(in alloc; "{name} = {number}")?;
+            let text = text(alloc, (line, changed.as_str()), ("", ""))?;
+            let wanted = format!(in alloc; "K5 {whole} {number}")?;
+            expect(&rt, alloc, text.as_bytes(), wanted.as_str())?;
+        }
+    }
+    Ok(())
+}
+
+// Two changed lines of the example, and what is told.
+const CHANGES: [((&str, &str), (&str, &str), &str); 26] = [
+    // ranges that two keys share
+    (
+        ("base = 65536", "base = 4294963200"),
+        ("size = 65536", "size = 4096"),
+        "accepted",
+    ),
+    (
+        ("base = 65536", "base = 4294963200"),
+        ("size = 65536", "size = 4112"),
+        "K6 ram.size",
+    ),
+    (
+        ("hit_latency = 2", "hit_latency = 1"),
+        ("miss_latency = 10", "miss_latency = 2"),
+        "accepted",
+    ),
+    (
+        ("miss_latency = 10", "miss_latency = 2"),
+        ("", ""),
+        "K6 cache.miss_latency",
+    ),
+    // shapes
+    (
+        ("counters = 16", "counters = 3"),
+        ("", ""),
+        "K6 predictor.counters",
+    ),
+    (("btb = 4", "btb = 255"), ("", ""), "K6 predictor.btb"),
+    (("sets = 2", "sets = 3"), ("", ""), "K6 cache.sets"),
+    (("line = 16", "line = 24"), ("", ""), "K6 cache.line"),
+    (("base = 65536", "base = 8"), ("", ""), "K6 ram.base"),
+    (("size = 65536", "size = 4104"), ("", ""), "K6 ram.size"),
+    // kinds
+    (("rob = 16", "rob = \"16\""), ("", ""), "K4 core.rob"),
+    (("rob = 16", "rob = 16.0"), ("", ""), "K4 core.rob"),
+    (
+        ("model = \"spectre\"", "model = \"off\""),
+        ("", ""),
+        "K4 stt.model",
+    ),
+    (
+        ("model = \"spectre\"", "model = 1"),
+        ("", ""),
+        "K4 stt.model",
+    ),
+    // names
+    (("rob = 16", "robb = 16"), ("", ""), "K2 core.robb"),
+    (
+        ("rob = 16", "rob = 16\nrobc = 1\nrobb = 1"),
+        ("", ""),
+        "K2 core.robb",
+    ),
+    (("[units]", "[unit]\n[units]"), ("", ""), "K2 unit"),
+    (("rob = 16", ""), ("", ""), "K3 core.rob"),
+    (("model = \"spectre\"", ""), ("", ""), "K3 stt.model"),
+    (("rob = 16", "rob ="), ("", ""), "K1"),
+    // the first of two faults
+    (("alus = 2", "alu = 2"), ("[stt]", "[sttt]"), "K2 sttt"),
+    (
+        ("rob = 16", "rob = 65"),
+        ("sets = 2", "set = 2"),
+        "K2 cache.set",
+    ),
+    (
+        ("sets = 2", "sets = 3"),
+        ("fetch_width = 2", "fetch_width = 5"),
+        "K5 core.fetch_width 5",
+    ),
+    (
+        ("queue = 8", "queue = 0"),
+        ("alus = 2", "alus = 0"),
+        "K5 core.queue 0",
+    ),
+    (
+        ("miss_latency = 10", "miss_latency = 2"),
+        ("model = \"spectre\"", "model = \"off\""),
+        "K4 stt.model",
+    ),
+    (
+        ("miss_latency = 10", "miss_latency = 2"),
+        ("base = 65536", "base = 4294963200"),
+        "K6 cache.miss_latency",
+    ),
+];
+
+#[test]
+fn each_fault(rt: HostRuntime) -> Result<(), Fail> {
+    let alloc = rt.alloc();
+    for (first, second, wanted) in CHANGES {
+        let text = text(alloc, first, second)?;
+        expect(&rt, alloc, text.as_bytes(), wanted)?;
+    }
+    Ok(())
+}
+
+#[test]
+fn whole_texts(rt: HostRuntime) -> Result<(), Fail> {
+    let alloc = rt.alloc();
+    expect(&rt, alloc, b"", "K3 core.fetch_width")?;
+    expect(&rt, alloc, b"core = 1", "K4 core")?;
+    expect(&rt, alloc, b"stt = 1\nunits = 1", "K4 units")?;
+    expect(&rt, alloc, b"\xff", "K1")?;
+    let name = "aaaaaaaaaaaaaaaaaaaaaaaaaaaaaaaaaaaaaaaaaaaaaaaaaaaaaaaaaaaaaaaa";
+    let kept = format!(in alloc; "K2 {name}")?;
+    let long = format!(in alloc; "{name}aaaaaa = 1")?;
+    expect(&rt, alloc, long.as_bytes(), kept.as_str())?;
+    let kept = format!(in alloc; "K2 predictor.{name}")?;
+    let long = format!(in alloc; "[predictor]\n{name}aaaaaa = 1")?;
+    expect(&rt, alloc, long.as_bytes(), kept.as_str())
+}

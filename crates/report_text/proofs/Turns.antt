@@ -1,0 +1,33 @@
+-- The texts of numbers that are written in turn.
+use Rattle.std.proofs.Common.{◌≡◌, ◌<◌, ◌≤◌, ℕ, suc, ◌+◌, ◌-◌, List, [], ◌++◌, refl, arith}
+use Rattle.tool_io.specs.Outside.{Told, Wrote, WrotePart}
+use Rattle.tool_io.proofs.Writing.{WroteUpTo, up_to_start, up_to_more, up_to_part, up_to_end}
+use Rattle.report_text.specs.Report.{each_from}
+
+-- of the numbers from i on and below n, the first one's text and the others'
+each_more : (text : ℕ → List ℕ) (n i : ℕ) → i < n → each_from text i (n - i) ≡ text i ++ each_from text (i + 1) (n - (i + 1))
+unfolding each_from
+each_more text n i h = let e : n - i ≡ suc (n - (i + 1)) = omega arith in rw e refl
+
+-- past the last number there is no text
+each_end : (text : ℕ → List ℕ) (n i : ℕ) → n ≤ i → each_from text i (n - i) ≡ []
+unfolding each_from
+each_end text n i h = let e : n - i ≡ 0 = omega arith in rw e refl
+
+-- at first all is left to write
+pub each_begun : (text : ℕ → List ℕ) (n : ℕ) (s : Told) → WroteUpTo (each_from text 0 n) (each_from text 0 (n - 0)) s s
+each_begun text n s = let e : n - 0 ≡ n = omega arith in rw e (up_to_start _ _)
+
+-- after one more text the next number's is the first that is left
+pub each_wrote : (all : List ℕ) (text : ℕ → List ℕ) (n i : ℕ) (s t u : Told) → i < n → WroteUpTo all (each_from text i (n - i)) s t → Wrote (text i) t u
+    → WroteUpTo all (each_from text (i + 1) (n - (i + 1))) s u
+each_wrote all text n i s t u h p q = up_to_more _ _ _ _ _ _ (rw (each_more text n i h) at p) q
+
+-- a fault at one text leaves a part of all
+pub each_part : (all : List ℕ) (text : ℕ → List ℕ) (n i : ℕ) (s t u : Told) → i < n → WroteUpTo all (each_from text i (n - i)) s t → WrotePart (text i) t u
+    → WrotePart all s u
+each_part all text n i s t u h p q = up_to_part _ _ _ _ _ _ (rw (each_more text n i h) at p) q
+
+-- past the last number all is written
+pub each_done : (all : List ℕ) (text : ℕ → List ℕ) (n i : ℕ) (s t : Told) → n ≤ i → WroteUpTo all (each_from text i (n - i)) s t → Wrote all s t
+each_done all text n i s t h p = up_to_end _ _ _ (rw (each_end text n i h) at p)

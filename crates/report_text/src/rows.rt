@@ -1,0 +1,58 @@
+//! The rows of memory that a run changed (`docs/formats.md`, "The report").
+ghost use Rattle.std.specs.Prelude.{◌≡◌, ◌<◌, ◌≤◌, ◌+◌, ◌*◌, ◌/◌, ◌%◌, ◌^◌, length};
+ghost use Rattle.tool_io.specs.Outside.{Writes};
+ghost use Rattle.report_text.specs.Report.{row_of, row_line, row_text, row_lines};
+
+use byte_ram::Ram;
+use line_text::Line;
+use tool_io::{Failed, Sink};
+
+/// The bytes of a row.
+const ROW: usize = 16;
+
+fn row_of(bytes: &[u8], row: usize) -> &[u8]
+    requires { 16 * row + 16 ≤ length bytes.now }
+    ensures row { result.now ≡ row_of bytes.now row }
+    ensures len { length result.now ≡ 16 }
+{
+    &bytes[ROW * row..ROW * row + ROW]
+}
+
+#[tactic(auto, unfolding(crate::specs::Report::row_line))]
+fn row_line(addr: u32, bytes: &[u8]) -> Line
+    requires { length bytes.now ≡ 16 }
+    ensures { result ≡ row_line addr bytes.now }
+{
+    let mut line = Line::new();
+    line.add(b"mem ");
+    line.add_hex8(addr);
+    line.add(b" ");
+    line.add_hex_bytes(bytes);
+    line.add(b"\n");
+    line
+}
+
+fn write_row<S: Sink>(before: &Ram, after: &Ram, row: usize, out: &mut S) -> Result<(), Failed>
+    requires size { length before.now.bytes ≡ length after.now.bytes }
+    requires inside { 16 * row + 16 ≤ length after.now.bytes }
+    ensures { Writes (row_text before.now after.now row) (S.told out.old) (S.told out.new) result }
+{
+    let bytes = row_of(after.bytes(), row);
+    if row_of(before.bytes(), row) == bytes {
+        return Ok(());
+    }
+    let addr = after.base() + (ROW * row) as u32;
+    out.put(row_line(addr, bytes).as_slice())
+}
+
+/// Writes the lines of the rows that differ, by rising address, one put a line.
+pub(crate) fn write_rows<S: Sink>(before: &Ram, after: &Ram, out: &mut S) -> Result<(), Failed>
+    requires { length before.now.bytes ≡ length after.now.bytes }
+    ensures { Writes (row_lines before.now after.now) (S.told out.old) (S.told out.new) result }
+{
+    let rows = after.size() as usize / ROW;
+    for row in 0..rows {
+        write_row(before, after, row, out)?;
+    }
+    Ok(())
+}

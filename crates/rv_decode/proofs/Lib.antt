@@ -1,0 +1,4 @@
+pub mod Rows
+pub mod Reassembled
+pub mod Words
+pub mod Same

@@ -1,0 +1,44 @@
+-- What the loader's clauses say of the image of a file.
+use Rattle.std.proofs.Common.{◌≡◌, ℕ, List, Some, None, Ok, Err, sym, ap, ap₂, ◌∙◌, ◌⊎◌, inl, inr}
+use Rattle.rv_types.specs.Memory.{Ram, Code, zeros}
+use Rattle.elf_loader.specs.Fields.{entry_of}
+use Rattle.elf_loader.specs.Faults.{header_fault}
+use Rattle.elf_loader.specs.Image.{ImageText, image_of, ram_fault, ram_after, code_of}
+use Rattle.elf_loader.proofs.Images.{image_without, image_outside}
+use Rattle.elf_loader.specs.declared.faults.ElfFault.{ElfFault}
+use Rattle.elf_loader.specs.declared.loading.Image.{Image}
+use Rattle.elf_loader.specs.Code.{word_at}
+use Rattle.elf_loader.specs.declared.faults.ElfFault.TheVariants as elf
+use Rattle.stt_cli.specs.Input.{loaded, refusal_of, LoadRefused}
+
+-- memory that is all 0
+abbrev pub empty : ℕ → ℕ → Ram
+empty base size = record { base = base; bytes = zeros size }
+
+-- where the headers have no fault, a segment outside memory is the file's first
+memory_refuses : (file s : List ℕ) (base size : ℕ) (ram : Ram) (e : ElfFault) → s ≡ file → header_fault file ≡ None → ram ≡ empty base size → ram_fault s ram ≡ Some e
+    → image_of file base size ≡ Err e
+memory_refuses file s base size ram e q h r f = image_outside file base size e h (sym (ap₂ ram_fault q r) ∙ f)
+
+image : ℕ → Code → Ram → ImageText
+image entry code ram = record { entry = entry; code = code; ram = ram }
+
+same_image : (e e' : ℕ) (c c' : Code) (m m' : Ram) → e ≡ e' → c ≡ c' → m ≡ m' → image e c m ≡ image e' c' m'
+same_image e e' c c' m m' p q r = ap (λ x. image x c m) p ∙ (ap (λ x. image e' x m) q ∙ ap (λ x. image e' c' x) r)
+
+-- with no fault, the image is what was loaded
+pub loads : (file s : List ℕ) (base size : ℕ) (ram : Ram) (i : Image) → s ≡ file → header_fault file ≡ None → ram ≡ empty base size → ram_fault s ram ≡ None
+    → i.ram ≡ ram_after s ram → i.entry ≡ entry_of s → word_at i.code ≡ code_of s (ram_after s ram) → image_of file base size ≡ Ok (loaded i)
+unfolding image
+loads file s base size ram i q h r f m e c =
+    let m' : ram_after file (empty base size) ≡ i.ram = sym (ap₂ ram_after q r) ∙ sym m in
+    let c' : code_of file (ram_after file (empty base size)) ≡ word_at i.code = sym (ap₂ code_of q (ap₂ ram_after q r)) ∙ sym c in
+    let e' : entry_of file ≡ i.entry = sym (e ∙ ap entry_of q) in
+    image_without file base size h (sym (ap₂ ram_fault q r) ∙ f) ∙ ap Ok (same_image _ _ _ _ _ _ e' c' m')
+
+-- a fault of loading is want of memory, or the file's first
+pub load_refused : (file s : List ℕ) (base size : ℕ) (ram : Ram) (e : ElfFault) → s ≡ file → header_fault file ≡ None → ram ≡ empty base size
+    → ((e ≡ elf.NoMemory) × (ram_fault s ram ≡ None)) ⊎ (ram_fault s ram ≡ Some e) → LoadRefused file base size (refusal_of e)
+load_refused file s base size ram elf.NoMemory q h r f = tt
+load_refused file s base size ram e q h r (inl m) = let k = m.0 in absurd (cc)
+load_refused file s base size ram e q h r (inr f) = memory_refuses file s base size ram _ q h r f

@@ -1,0 +1,5 @@
+pub mod Images
+pub mod Turns
+pub mod Outcomes
+pub mod Told
+pub mod Statuses
