@@ -5,3 +5,4 @@ pub mod Powers
 pub mod Fitting
 pub mod EveryDesc
 pub mod SameDesc
+pub mod SomeDesc

@@ -1,8 +1,8 @@
 //! Laws on descriptions, each on a function that does nothing.
-ghost use Rattle.std.specs.Prelude.{◌≡◌, ℕ, List};
+ghost use Rattle.std.specs.Prelude.{◌≡◌, ℕ, List, Ok};
 ghost use Rattle.machine_desc.specs.declared.Desc.{Desc};
 ghost use Rattle.machine_desc.specs.Ranges.{IsDesc};
-ghost use Rattle.machine_desc.specs.Description.{Describes};
+ghost use Rattle.machine_desc.specs.Description.{Contents, contents, description_of, Describes};
 
 use crate::Desc;
 
@@ -15,4 +15,9 @@ pub fn every_desc(desc: &Desc)
 /// A text has one description at most.
 pub fn one_description()
     ensures { (bytes : List ℕ) (d e : Desc) → Describes bytes d → Describes bytes e → d ≡ e }
+{}
+
+/// A text without a fault has a description.
+pub fn some_description()
+    ensures { (bytes : List ℕ) (c : Contents) → description_of bytes ≡ Ok c → (d : Desc) × (contents d ≡ c) }
 {}

@@ -18,7 +18,7 @@ mod read;
 
 pub use fault::{DescFault, Subject};
 pub use keys::{Key, Section};
-pub use laws::{every_desc, one_description};
+pub use laws::{every_desc, one_description, some_description};
 pub use name::{NAME_MAX, Name};
 pub use progress::bound;
 pub use read::read_desc;

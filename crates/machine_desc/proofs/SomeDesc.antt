@@ -1,0 +1,139 @@
+-- A text without a fault describes something: its numbers are all that is asked of a description.
+use Rattle.std.proofs.Common.{◌≡◌, ◌≤◌, ◌<◌, ℕ, List, Option, Some, None, Result, Ok, Err, Bool, true, false, IsTrue, if◌then◌else◌, refl, sym, ◌∙◌, arith, map}
+use Rattle.std.specs.Prelude.{ℤ, pos, negsuc, int_le, nat_abs, nat_le, ◌&&◌}
+use borrow.Author.Tests.{leb-true}
+use Rattle.std.specs.Str.{is_utf8}
+use Rattle.toml.specs.Data.{Data, integer, Members}
+use Rattle.toml.specs.Parse.{parse_document}
+use Rattle.machine_desc.specs.declared.Desc.{Desc}
+use Rattle.machine_desc.specs.declared.SttModel.{SttModel}
+use Rattle.machine_desc.specs.declared.keys.Key.{Key}
+use Rattle.machine_desc.specs.declared.keys.Key.TheVariants.{CoreFetchWidth, CoreRetireWidth, CoreRob, CoreStations, CoreLoads, CoreStores, CoreQueue, UnitsAlus, UnitsMulLatency, PredictorCounters, PredictorBtb, CacheSets, CacheWays, CacheLine, CacheHitLatency, CacheMissLatency, CacheMshrs, RamBase, RamSize}
+use Rattle.machine_desc.specs.declared.keys.Shape.{Shape}
+use Rattle.machine_desc.specs.declared.keys.Values.{Values}
+use Rattle.machine_desc.specs.declared.keys.Values.TheVariants.{Numbers, Models}
+use Rattle.machine_desc.specs.declared.fault.DescFault.{DescFault}
+use Rattle.machine_desc.specs.declared.fault.DescFault.TheVariants.{Syntax}
+use Rattle.machine_desc.specs.Table.{row, number_keys}
+use Rattle.machine_desc.specs.Description.{has_shape, value_at, number_in, number_or_zero, number_of, number, fault_of, value_fault, key_fault, document_fault, model, Contents, contents, contents_or, document_contents, text_contents, description_of}
+use Rattle.machine_desc.specs.Clean.{Fits, PassesAs, IsClean}
+use Rattle.machine_desc.proofs.Fitting.{fits_from_test}
+use Rattle.machine_desc.proofs.Faultless.{is_clean}
+
+-- both tests hold where no fault is found
+passes : (n least most : ℕ) (shape : Shape) (low high fits : Bool) (a b : DescFault) → nat_le least n ≡ low → nat_le n most ≡ high → has_shape shape n ≡ fits
+    → fault_of (if low && high then (if fits then Ok n else Err a) else Err b) ≡ None
+    → PassesAs (Numbers least most shape) (number_or_zero (if low && high then (if fits then Ok n else Err a) else Err b))
+passes n least most shape true true true a b l h f e = (leb-true least n l, leb-true n most h, f)
+passes n least most shape true true false a b l h f e = absurd (cc)
+passes n least most shape true false fits a b l h f e = absurd (cc)
+passes n least most shape false high fits a b l h f e = absurd (cc)
+
+number_passes : (key : Key) (least most : ℕ) (shape : Shape) (v : Option Data) → fault_of (number_in key least most shape v) ≡ None
+    → PassesAs (Numbers least most shape) (number_or_zero (number_in key least most shape v))
+number_passes key least most shape None e = absurd (cc)
+number_passes key least most shape (Some (integer (pos n))) e =
+    passes n least most shape (nat_le least n) (nat_le n most) (has_shape shape n) _ _ refl refl refl e
+number_passes key least most shape (Some (integer (negsuc n))) e = absurd (cc)
+number_passes key least most shape (Some _) e = absurd (cc)
+
+value_passes : (key : Key) (values : Values) (v : Option Data) → value_fault key values v ≡ None → PassesAs values (number_of key values v)
+value_passes key (Numbers least most shape) v e = number_passes key least most shape v e
+value_passes key Models v e = tt
+
+-- each number of a document without fault is one of its key's values
+fits : (document : Members) → IsClean document → (key : Key) → Fits (row key).values (number document key)
+unfolding key_fault
+fits document clean key = fits_from_test (row key).values (number document key) (value_passes key (row key).values (value_at document key) (clean.keys key))
+
+-- the description of a document without fault
+desc_of : (document : Members) (m : SttModel) → IsClean document → Desc
+desc_of document m clean =
+    let f = fits document clean in
+    record {
+      core_fetch_width = number document CoreFetchWidth;
+      core_retire_width = number document CoreRetireWidth;
+      core_rob = number document CoreRob;
+      core_stations = number document CoreStations;
+      core_loads = number document CoreLoads;
+      core_stores = number document CoreStores;
+      core_queue = number document CoreQueue;
+      units_alus = number document UnitsAlus;
+      units_mul_latency = number document UnitsMulLatency;
+      predictor_counters = number document PredictorCounters;
+      predictor_btb = number document PredictorBtb;
+      cache_sets = number document CacheSets;
+      cache_ways = number document CacheWays;
+      cache_line = number document CacheLine;
+      cache_hit_latency = number document CacheHitLatency;
+      cache_miss_latency = number document CacheMissLatency;
+      cache_mshrs = number document CacheMshrs;
+      ram_base = number document RamBase;
+      ram_size = number document RamSize;
+      stt_model = m;
+      some_fetches = (f CoreFetchWidth).0;
+      few_fetches = (f CoreFetchWidth).1;
+      some_retires = (f CoreRetireWidth).0;
+      few_retires = (f CoreRetireWidth).1;
+      some_entries = (f CoreRob).0;
+      few_entries = (f CoreRob).1;
+      some_stations = (f CoreStations).0;
+      few_stations = (f CoreStations).1;
+      some_loads = (f CoreLoads).0;
+      few_loads = (f CoreLoads).1;
+      some_stores = (f CoreStores).0;
+      few_stores = (f CoreStores).1;
+      some_queue = (f CoreQueue).0;
+      short_queue = (f CoreQueue).1;
+      some_alus = (f UnitsAlus).0;
+      few_alus = (f UnitsAlus).1;
+      some_mul_latency = (f UnitsMulLatency).0;
+      short_mul_latency = (f UnitsMulLatency).1;
+      some_counters = (f PredictorCounters).0;
+      few_counters = (f PredictorCounters).1;
+      counters_power = (f PredictorCounters).2;
+      some_targets = (f PredictorBtb).0;
+      few_targets = (f PredictorBtb).1;
+      targets_power = (f PredictorBtb).2;
+      some_sets = (f CacheSets).0;
+      few_sets = (f CacheSets).1;
+      sets_power = (f CacheSets).2;
+      some_ways = (f CacheWays).0;
+      few_ways = (f CacheWays).1;
+      some_bytes = (f CacheLine).0;
+      few_bytes = (f CacheLine).1;
+      line_power = (f CacheLine).2;
+      some_hit_latency = (f CacheHitLatency).0;
+      short_hit_latency = (f CacheHitLatency).1;
+      miss_above_hit = clean.latencies;
+      short_miss_latency = (f CacheMissLatency).1;
+      some_misses = (f CacheMshrs).0;
+      few_misses = (f CacheMshrs).1;
+      low_base = (f RamBase).1;
+      base_aligned = (f RamBase).2;
+      some_ram = (f RamSize).0;
+      small_ram = (f RamSize).1;
+      size_aligned = (f RamSize).2;
+      ram_ends = clean.ends;
+    }
+
+-- its contents are the document's
+contents_are : (document : Members) (m : SttModel) (clean : IsClean document)
+    → contents (desc_of document m clean) ≡ record { numbers = map (number document) number_keys; model = m }
+unfolding desc_of
+contents_are document m clean = refl
+
+by_fault : (document : Members) (c : Contents) (fault : Option DescFault) (m : Result SttModel DescFault) → document_fault document ≡ fault
+    → contents_or fault (map (number document) number_keys) m ≡ Ok c → (d : Desc) × (contents d ≡ c)
+by_fault document c (Some e) m f h = absurd (cc)
+by_fault document c None (Err e) f h = absurd (cc)
+by_fault document c None (Ok m) f h = (desc_of document m (is_clean document f), contents_are document m (is_clean document f) ∙ (cc))
+
+by_text : (c : Contents) (utf8 : Bool) (document : Option Members) → (if utf8 then text_contents document else Err Syntax) ≡ Ok c → (d : Desc) × (contents d ≡ c)
+by_text c false document h = absurd (cc)
+by_text c true None h = absurd (cc)
+by_text c true (Some document) h = by_fault document c (document_fault document) (model document) refl h
+
+pub some_description : (bytes : List ℕ) (c : Contents) → description_of bytes ≡ Ok c → (d : Desc) × (contents d ≡ c)
+unfolding description_of
+some_description bytes c h = by_text c (is_utf8 bytes) (parse_document bytes) h
