@@ -1,0 +1,165 @@
+-- Corners of the machine's definition that no worked run shows.
+use Rattle.std.proofs.Common.{◌≡◌, ℕ, List, [], ◌∷◌, Option, Some, None, refl}
+use Rattle.std.specs.Prelude.{true, false, replicate}
+use Rattle.rv_types.specs.Causes.{jump_misaligned, load_outside, store_outside}
+use Rattle.rv_types.specs.Decode.{decode}
+use Rattle.rv_types.specs.Kind.{kind_of}
+use Rattle.rv_types.specs.declared.Cause.{Cause}
+use Rattle.rv_types.specs.declared.End.TheVariants.{Trap}
+use Rattle.machine_desc.specs.Example.{example}
+use Rattle.machine_desc.specs.declared.SttModel.TheVariants.{Spectre, Futuristic}
+use Rattle.window_model.specs.declared.Entry.{Entry}
+use Rattle.window_model.specs.declared.Event.TheVariants.{Res, Bp, Ret, St}
+use Rattle.window_model.specs.declared.Item.{Item}
+use Rattle.window_model.specs.declared.State.TheVariants.{Waiting, Done}
+use Rattle.window_model.specs.declared.Way.TheVariants.{Taken, Jump}
+use Rattle.window_model.specs.State.{Machine, opening}
+use Rattle.window_model.specs.Access.{covers, any_store_hidden}
+use Rattle.window_model.specs.Front.{fits}
+use Rattle.window_model.specs.Issue.{may_issue, issue, is_granted}
+use Rattle.window_model.specs.Resolve.{may_resolve, learn, freed_from}
+use Rattle.window_model.specs.Retire.{retire}
+use Rattle.window_model.specs.Taint.{tainted, safe, visible}
+use Rattle.window_model.proofs.Worked.{memory}
+
+-- the item of a word at 0x10000, predicted to go on behind it
+abbrev item_of : ℕ → Item
+item_of w = record { pc = 0x10000; instr = decode w; kind = kind_of (decode w); predicted = Some 0x10004 }
+
+-- an entry that waits
+abbrev waiting : ℕ → ℕ → Entry
+waiting serial w = record { serial = serial; item = item_of w; state = Waiting; outcome = None; resolved = false }
+
+-- an entry that is done, with an address and a fault
+abbrev done_at : ℕ → ℕ → ℕ → Option Cause → Entry
+done_at serial w a fault = record {
+  serial = serial;
+  item = item_of w;
+  state = Done;
+  outcome = Some (record { value = 1; next = 0x10004; addr = a; stored = 0; fault = fault });
+  resolved = false;
+}
+
+-- bgeu x0,x5,+16, not resolved
+abbrev branch : Entry
+branch = waiting 0 0x00507863
+
+-- lbu x6,8(x2), done: a root that isn't visible behind the branch
+abbrev load : Entry
+load = done_at 1 0x00814303 0x1fff8 None
+
+-- add x7,x2,x6
+abbrev sum : Entry
+sum = done_at 2 0x006103b3 0 None
+
+-- taint flows through the second source as through the first, and ends as the branch is resolved
+second_source_taints : tainted Spectre (sum ∷ load ∷ branch ∷ []) 7 ≡ true
+unfolding decode
+second_source_taints = refl
+
+resolved_branch_untaints : tainted Spectre (sum ∷ load ∷ record branch { resolved = true } ∷ []) 7 ≡ false
+unfolding decode
+resolved_branch_untaints = refl
+
+-- a branch on a tainted second operand (beq x0,x6,+8) isn't resolved
+second_operand_of_a_branch : may_resolve example (load ∷ branch ∷ []) (done_at 2 0x00600463 0 None) ≡ false
+unfolding decode
+second_operand_of_a_branch = refl
+
+-- a division by a tainted divisor (div x7,x2,x6) doesn't issue, and the sum of the same registers does
+divisor_alone : may_issue example true (load ∷ branch ∷ []) (waiting 2 0x026143b3) ≡ false
+unfolding decode
+divisor_alone = refl
+
+sum_of_tainted_issues : may_issue example true (load ∷ branch ∷ []) (waiting 2 0x006103b3) ≡ true
+unfolding decode
+sum_of_tainted_issues = refl
+
+-- a store (sw x5,4(x2)) or load with a fault isn't safe, and one without is
+faulting_store_is_not_safe : safe (done_at 0 0x00512223 0 (Some store_outside)) ≡ false
+unfolding decode
+faulting_store_is_not_safe = refl
+
+done_store_is_safe : safe (done_at 0 0x00512223 0x1fff4 None) ≡ true
+unfolding decode
+done_store_is_safe = refl
+
+-- behind a fault nothing is visible under the futuristic model, and all is under spectre
+fault_hides : visible Futuristic (done_at 0 0x00814303 0 (Some load_outside) ∷ []) ≡ false
+unfolding decode
+fault_hides = refl
+
+fault_shows : visible Spectre (done_at 0 0x00814303 0 (Some load_outside) ∷ []) ≡ true
+unfolding decode
+fault_shows = refl
+
+-- the divider is freed where its user is dropped, and not where the user is older
+dropped_user_frees : freed_from 3 (record { free_from = 40; user = Some 3 }) ≡ record { free_from = 0; user = None }
+dropped_user_frees = refl
+
+older_user_stays : freed_from 3 (record { free_from = 40; user = Some 2 }) ≡ record { free_from = 40; user = Some 2 }
+older_user_stays = refl
+
+-- the example's machine with this window, memory 0
+abbrev with_window : List Entry → Machine
+with_window es = record (opening example 0x10000 (memory 0 0)) { window = es }
+
+-- one store retires a cycle, and another waits
+one_store : (retire example (with_window (done_at 0 0x00512223 0x1fff4 None ∷ done_at 1 0x00512223 0x1fff4 None ∷ []))).events
+    ≡ Ret 0 ∷ St 0 0x1fff0 false ∷ []
+unfolding decode retire memory
+one_store = refl
+
+-- a second store that faults ends the run in the same cycle
+second_store_faults : (retire example (with_window (done_at 0 0x00512223 0x1fff4 None ∷ done_at 1 0x00512223 0 (Some store_outside) ∷ []))).machine.end
+    ≡ Some (Trap store_outside 0x10000)
+unfolding decode retire memory
+second_store_faults = refl
+
+-- of two loads that may issue only the older one is tried: with no register free, neither issues
+full_registers : (issue example (record (with_window (waiting 0 0x00814303 ∷ waiting 1 0x00012283 ∷ [])) {
+  misses = record { line = 0x10010; due = 9 } ∷ record { line = 0x10020; due = 9 } ∷ [];
+})).events ≡ []
+unfolding decode memory
+full_registers = refl
+
+younger_load_is_not_tried : is_granted example true (waiting 0 0x00814303 ∷ []) (waiting 1 0x00012283) ≡ false
+unfolding decode
+younger_load_is_not_tried = refl
+
+-- a branch that faults moves its counter, and a JALR that faults stores no target
+faulting_branch_teaches : (learn example (done_at 4 0x00507863 0 (Some jump_misaligned)) (replicate 16 1) (replicate 4 None)).events
+    ≡ Res 4 Taken ∷ Bp 0 2 ∷ []
+unfolding decode
+faulting_branch_teaches = refl
+
+faulting_jump_does_not : learn example (done_at 4 0x002100e7 0 (Some jump_misaligned)) (replicate 16 1) (replicate 4 None)
+    ≡ record { counters = replicate 16 1; targets = replicate 4 None; events = Res 4 Jump ∷ [] }
+unfolding decode
+faulting_jump_does_not = refl
+
+-- a stop needs no station, and a sum does; a call goes alone, and nothing behind it
+stop_needs_no_station : fits example (replicate 8 branch) (record (item_of 0x00100073) { predicted = None }) ≡ true
+unfolding decode
+stop_needs_no_station = refl
+
+sum_needs_a_station : fits example (replicate 8 branch) (item_of 0x006103b3) ≡ false
+unfolding decode
+sum_needs_a_station = refl
+
+call_goes_alone : fits example (load ∷ []) (item_of 0x00000073) ≡ false
+unfolding decode
+call_goes_alone = refl
+
+nothing_behind_a_call : fits example (done_at 0 0x00000073 0 None ∷ []) (item_of 0x006103b3) ≡ false
+unfolding decode
+nothing_behind_a_call = refl
+
+-- a store with a fault covers nothing, but its tainted address (sw x5,4(x6)) still hides
+faulting_store_covers_nothing : covers 0x1fff4 (done_at 0 0x00512223 0x1fff4 (Some store_outside)) ≡ false
+unfolding decode
+faulting_store_covers_nothing = refl
+
+faulting_store_hides : any_store_hidden Spectre (done_at 2 0x00532223 0 (Some store_outside) ∷ load ∷ branch ∷ []) ≡ true
+unfolding decode
+faulting_store_hides = refl

@@ -1,0 +1,61 @@
+-- One cycle, and whole runs (docs/machine.md, "A cycle", "Runs").
+use Rattle.std.specs.Prelude.{ℕ, zero, suc, ◌+◌, List, [], ◌∷◌, ◌++◌, Option}
+use Rattle.rv_types.specs.Memory.{Code, Ram}
+use Rattle.rv_types.specs.declared.End.{End}
+use Rattle.machine_desc.specs.declared.Desc.{Desc}
+use Rattle.window_model.specs.State.{Machine, After, opening}
+use Rattle.window_model.specs.Fill.{fill, complete}
+use Rattle.window_model.specs.Resolve.{resolve}
+use Rattle.window_model.specs.Retire.{retire, unless_ended}
+use Rattle.window_model.specs.Issue.{issue}
+use Rattle.window_model.specs.Row.{Row}
+use Rattle.window_model.specs.Front.{rename, fetch, then_does, nothing}
+
+-- the state, the row and the piece of output
+pub record Cycled : Type 0 where
+  pub machine : Machine
+  pub row : Row
+  pub piece : List ℕ
+
+-- the phases after Retire, unless the run has ended
+abbrev pub back : Desc → Code → Machine → After
+back d code x = unless_ended x.end (nothing x) (then_does (issue d x) (λ y. then_does (rename d y) (fetch d code)))
+
+-- one cycle: its number rises by one, then the seven phases, each on what the one before left
+unfoldable pub cycle : Desc → Code → Machine → Cycled
+cycle d code x =
+    let front = then_does (fill d (record x { cycle = x.cycle + 1 })) (λ y. then_does (complete y) (resolve d)) in
+    let r = retire d front.machine in
+    let b = back d code r.machine in
+    record {
+      machine = b.machine;
+      row = record { cycle = x.cycle + 1; events = front.events ++ r.events ++ b.events };
+      piece = r.piece;
+    }
+
+-- the state after k cycles, fewer where the run ended
+abbrev pub after_cycles : Desc → Code → ℕ → Machine → Machine
+after_cycles d code zero x = x
+after_cycles d code (suc k) x = unless_ended x.end x (after_cycles d code k (cycle d code x).machine)
+
+-- the rows of at most n cycles
+abbrev pub rows : Desc → Code → ℕ → Machine → List Row
+rows d code zero x = []
+rows d code (suc n) x = unless_ended x.end [] (let c = cycle d code x in c.row ∷ rows d code n c.machine)
+
+-- the rows, and how it ended
+pub record Trace : Type 0 where
+  pub rows : List Row
+  pub end : Option End
+  pub retired : ℕ
+  pub cycles : ℕ
+
+-- the state after k cycles from the opening, fewer where the run ended
+abbrev pub at : Desc → Code → ℕ → Ram → ℕ → Machine
+at d code entry ram k = after_cycles d code k (opening d entry ram)
+
+-- a run of at most n cycles
+abbrev pub trace : Desc → Code → ℕ → Ram → ℕ → Trace
+trace d code entry ram n =
+    let last = at d code entry ram n in
+    record { rows = rows d code n (opening d entry ram); end = last.end; retired = last.retired; cycles = last.cycle }

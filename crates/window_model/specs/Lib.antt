@@ -1,0 +1,12 @@
+pub mod State
+pub mod Order
+pub mod Taint
+pub mod Fill
+pub mod Resolve
+pub mod Retire
+pub mod Access
+pub mod Issue
+pub mod Front
+pub mod Row
+pub mod Cycle
+pub mod Path

@@ -1,0 +1,120 @@
+-- Entries by age (docs/machine.md, "Entries", "Writers and roots"). `before` is always a list of the older entries,
+-- youngest first: what an entry looks back on.
+use Rattle.std.specs.Prelude.{ℕ, Bool, true, false, ◌==◌, List, [], ◌∷◌, take, reverse, Option, Some, None, if◌then◌else◌, is_some}
+use Rattle.std.specs.List.{find, list_all}
+use Rattle.rv_types.specs.Isa.{reg}
+use Rattle.rv_types.specs.Regs.{reads_of, writes_of}
+use Rattle.rv_types.specs.declared.Cause.{Cause}
+use Rattle.rv_types.specs.declared.Kind.{Kind}
+use Rattle.rv_types.specs.declared.Kind.TheVariants.{Load, Store, Branch, Jalr}
+use Rattle.window_model.specs.declared.Entry.{Entry}
+use Rattle.window_model.specs.declared.Outcome.{Outcome}
+use Rattle.window_model.specs.declared.State.{State}
+use Rattle.window_model.specs.declared.State.TheVariants.{Waiting, Done}
+
+-- the entries older than position i
+abbrev pub before_at : List Entry → ℕ → List Entry
+before_at window i = reverse (take i window)
+
+-- each entry with those before it, oldest first
+abbrev pub each_from : {A : Type 0} → (List Entry → Entry → A) → List Entry → List Entry → List A
+each_from f before [] = []
+each_from f before (e ∷ es) = f before e ∷ each_from f (e ∷ before) es
+
+-- this of each entry with those before it, in order
+abbrev pub each : {A : Type 0} → (List Entry → Entry → A) → List Entry → List A
+each f window = each_from f [] window
+
+-- an entry in its place: those before it, youngest first, and those after it, oldest first
+pub record Place : Type 0 where
+  pub before : List Entry
+  pub entry : Entry
+  pub younger : List Entry
+
+-- the oldest entry with a property
+abbrev pub first_from : (List Entry → Entry → Bool) → List Entry → List Entry → Option Place
+first_from p before [] = None
+first_from p before (e ∷ es) = if p before e then Some (record { before = before; entry = e; younger = es }) else first_from p (e ∷ before) es
+
+-- the oldest entry of the window with a property
+abbrev pub first : (List Entry → Entry → Bool) → List Entry → Option Place
+first p window = first_from p [] window
+
+-- ---- what an entry is
+
+-- not yet issued
+abbrev pub is_waiting : State → Bool
+is_waiting Waiting = true
+is_waiting _ = false
+
+-- executed
+abbrev pub is_done : State → Bool
+is_done Done = true
+is_done _ = false
+
+-- a load
+abbrev pub is_load : Kind → Bool
+is_load Load = true
+is_load _ = false
+
+-- a store
+abbrev pub is_store : Kind → Bool
+is_store Store = true
+is_store _ = false
+
+-- a branch or JALR: what can be wrongly predicted
+abbrev pub is_control : Kind → Bool
+is_control Branch = true
+is_control Jalr = true
+is_control _ = false
+
+-- the value that an entry comes to, 0 where it has none yet
+abbrev pub value_of : Option Outcome → ℕ
+value_of None = 0
+value_of (Some o) = o.value
+
+-- its fault, if any
+abbrev pub fault_of : Option Outcome → Option Cause
+fault_of None = None
+fault_of (Some o) = o.fault
+
+-- the entry will trap if it becomes the oldest
+abbrev pub is_faulty : Entry → Bool
+is_faulty e = is_some (fault_of e.outcome)
+
+-- the registers that an entry reads
+abbrev pub sources : Entry → List ℕ
+sources e = reads_of e.item.instr
+
+-- this is the register
+abbrev pub is_register : ℕ → Option ℕ → Bool
+is_register r None = false
+is_register r (Some s) = s == r
+
+-- the entry writes the register
+abbrev pub writes : ℕ → Entry → Bool
+writes r e = is_register r (writes_of e.item.instr)
+
+-- ---- writers
+
+-- the youngest older entry that writes the register
+abbrev pub writer : List Entry → ℕ → Option Entry
+writer before r = find (writes r) before
+
+-- the writer's value, else this one
+abbrev pub from_writer : Option Entry → ℕ → ℕ
+from_writer None v = v
+from_writer (Some e) v = value_of e.outcome
+
+-- a register's value: the writer's, or the retired one
+abbrev pub operand : List ℕ → List Entry → ℕ → ℕ
+operand regs before r = from_writer (writer before r) (reg regs r)
+
+-- the writer has its value, or there is none
+abbrev pub is_known : Option Entry → Bool
+is_known None = true
+is_known (Some e) = is_done e.state
+
+-- the writer of each source has its value, or there is none
+abbrev pub ready : List Entry → Entry → Bool
+ready before e = list_all (λ r. is_known (writer before r)) (sources e)

@@ -1,0 +1,70 @@
+-- The machine's state: one list of instructions in program order, and what they share (docs/machine.md, "State").
+use Rattle.std.specs.Prelude.{ℕ, ◌*◌, ◌/◌, ◌%◌, List, [], replicate, Option, Some, None}
+use Rattle.rv_types.specs.Memory.{Ram}
+use Rattle.rv_types.specs.Isa.{start}
+use Rattle.rv_types.specs.declared.End.{End}
+use Rattle.machine_desc.specs.declared.Desc.{Desc}
+use Rattle.window_model.specs.declared.Entry.{Entry}
+use Rattle.window_model.specs.declared.Item.{Item}
+use Rattle.window_model.specs.declared.Event.{Event}
+pub use Rattle.window_model.specs.declared.Miss.{Miss}
+pub use Rattle.window_model.specs.declared.Target.{Target}
+pub use Rattle.window_model.specs.declared.Divider.{Divider}
+
+-- the machine at a cycle
+pub record Machine : Type 0 where
+  pub cycle : ℕ
+  -- as retired
+  pub regs : List ℕ
+  pub pc : ℕ
+  pub ram : Ram
+  -- in flight, oldest first
+  pub window : List Entry
+  -- fetched and not renamed
+  pub queue : List Item
+  pub fetch_pc : Option ℕ
+  pub counters : List ℕ
+  pub targets : List (Option Target)
+  -- per set a list of lines, most recent first
+  pub cache : List (List ℕ)
+  -- in the order of taking
+  pub misses : List Miss
+  pub divider : Divider
+  pub retired : ℕ
+  pub next_serial : ℕ
+  pub end : Option End
+
+-- what a phase leaves: the state, and the events that it adds to the cycle's row
+pub record After : Type 0 where
+  pub machine : Machine
+  pub events : List Event
+
+-- the first state: the instruction set's start, counters at 1, and all else empty
+abbrev pub opening : Desc → ℕ → Ram → Machine
+opening d entry ram =
+    let s = start entry ram in
+    record {
+      cycle = 0;
+      regs = s.regs;
+      pc = s.pc;
+      ram = s.ram;
+      window = [];
+      queue = [];
+      fetch_pc = Some entry;
+      counters = replicate d.predictor_counters 1;
+      targets = replicate d.predictor_btb None;
+      cache = replicate d.cache_sets [];
+      misses = [];
+      divider = record { free_from = 0; user = None };
+      retired = 0;
+      next_serial = 0;
+      end = None;
+    }
+
+-- the first address of an address's line
+abbrev pub line_of : Desc → ℕ → ℕ
+line_of d a = a / d.cache_line * d.cache_line
+
+-- the set that a line belongs to
+abbrev pub set_of : Desc → ℕ → ℕ
+set_of d line = line / d.cache_line % d.cache_sets

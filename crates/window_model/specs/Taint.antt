@@ -1,0 +1,62 @@
+-- Speculative taint: what a load reads may be secret until the load is visible (docs/machine.md, "Writers and roots",
+-- "Safe and visible").
+use Rattle.std.specs.Prelude.{ℕ, ◌-◌, Bool, true, false, not, ◌&&◌, ◌||◌, List, [], ◌∷◌, ◌++◌, length, drop, if◌then◌else◌}
+use Rattle.std.specs.List.{list_all, list_any, flat_map}
+use Rattle.rv_types.specs.declared.Kind.{Kind}
+use Rattle.rv_types.specs.declared.Kind.TheVariants.{Load, Store, Branch, Jalr, Call, Stop}
+use Rattle.window_model.specs.declared.Entry.{Entry}
+use Rattle.machine_desc.specs.declared.SttModel.{SttModel}
+use Rattle.machine_desc.specs.declared.SttModel.TheVariants.{Spectre, Futuristic}
+use Rattle.window_model.specs.Order.{is_done, is_load, is_control, is_faulty, writes, sources}
+
+-- nothing squashes what comes after it
+abbrev pub safe_as : Kind → Entry → Bool
+safe_as Load e = is_done e.state && not (is_faulty e)
+safe_as Store e = is_done e.state && not (is_faulty e)
+safe_as Branch e = e.resolved && not (is_faulty e)
+safe_as Jalr e = e.resolved && not (is_faulty e)
+safe_as Call e = false
+safe_as (Stop cause) e = false
+safe_as _ e = true
+
+-- the entry squashes nothing that comes after it
+abbrev pub safe : Entry → Bool
+safe e = safe_as e.item.kind e
+
+-- the entry is no branch or JALR, or it is resolved
+abbrev pub settled : Entry → Bool
+settled e = not (is_control e.item.kind) || e.resolved
+
+-- what stands after these entries has reached its visibility point
+abbrev pub visible : SttModel → List Entry → Bool
+visible Spectre before = list_all settled before
+visible Futuristic before = list_all safe before
+
+-- the oldest j of these entries
+abbrev pub oldest : ℕ → List Entry → List Entry
+oldest j before = drop (length before - j) before
+
+-- the positions of the loads from which a register's value after these entries flows
+abbrev pub roots : List Entry → ℕ → List ℕ
+roots [] r = []
+roots (e ∷ before) r =
+    if writes r e
+    then (if is_load e.item.kind then length before ∷ [] else []) ++ flat_map (λ s. roots before s) (sources e)
+    else roots before r
+
+-- a register has a root that is not visible
+abbrev pub tainted : SttModel → List Entry → ℕ → Bool
+tainted model before r = list_any (λ j. not (visible model (oldest j before))) (roots before r)
+
+-- an operand of the entry is tainted
+abbrev pub any_tainted : SttModel → List Entry → Entry → Bool
+any_tainted model before e = list_any (tainted model before) (sources e)
+
+-- the base register: the first source
+abbrev pub base_of : List ℕ → List ℕ
+base_of [] = []
+base_of (r ∷ rs) = r ∷ []
+
+-- the base register of a load or store is tainted
+abbrev pub address_tainted : SttModel → List Entry → Entry → Bool
+address_tainted model before e = list_any (tainted model before) (base_of (sources e))

@@ -1,0 +1,187 @@
+//! The out-of-order machine: the types of what is in flight and of what happens in a cycle, and in `specs/` every
+//! definition of the machine: its state, writers, taint and visibility, the seven phases, one cycle and whole runs.
+//!
+//! `docs/machine.md` has the rules in one place. The code that runs the machine isn't part of this crate.
+#![tactic(auto)]
+
+ghost use Rattle.std.specs.Prelude.{◌≡◌, ◌<◌, List, length, slice_get, Some};
+ghost use Rattle.window_model.specs.declared.Entry.{Entry};
+
+use rv_types::{Cause, Instr, Kind};
+
+mod row;
+
+pub use row::{ROW_MAX, Row, empty_row};
+
+/// A fetched instruction (`docs/machine.md`, "State").
+#[derive(Clone, Copy, Debug, PartialEq, Eq)]
+pub struct Item {
+    /// Its address.
+    pub pc: u32,
+    /// The instruction.
+    pub instr: Instr,
+    /// The kind by which the pipeline treats it.
+    pub kind: Kind,
+    /// The address from which fetching went on. Only a stop has none.
+    pub predicted: Option<u32>,
+}
+
+/// How far an instruction in flight is.
+#[derive(Clone, Copy, Debug, PartialEq, Eq)]
+pub enum State {
+    /// It waits for its operands, for a port, or for what its kind asks for besides.
+    Waiting,
+    /// It executes, and is done in this cycle.
+    Busy(u64),
+    /// It has its result.
+    Done,
+}
+
+/// What an instruction that has issued comes to (`docs/machine.md`, "Entries").
+#[derive(Clone, Copy, Debug, PartialEq, Eq)]
+pub struct Outcome {
+    /// The value for its register; of a branch 1 where it is taken and 0 where it isn't; else 0.
+    pub value: u32,
+    /// The address of the instruction that follows.
+    pub next: u32,
+    /// The address of a load or store; else 0.
+    pub addr: u32,
+    /// The value that a store writes; else 0.
+    pub stored: u32,
+    /// Why it traps once it is the oldest, if it does.
+    pub fault: Option<Cause>,
+}
+
+/// An instruction in flight (`docs/machine.md`, "Entries").
+#[derive(Clone, Copy, Debug, PartialEq, Eq)]
+pub struct Entry {
+    /// Its number in the order of renaming.
+    pub serial: u64,
+    /// What was fetched.
+    pub item: Item,
+    /// How far it is.
+    pub state: State,
+    /// What it comes to: there from the cycle in which it issues.
+    pub outcome: Option<Outcome>,
+    /// A branch or JALR that has taken effect.
+    pub resolved: bool,
+}
+
+/// How a branch or JALR went.
+#[derive(Clone, Copy, Debug, PartialEq, Eq)]
+pub enum Way {
+    /// A branch that is taken.
+    Taken,
+    /// A branch that isn't.
+    NotTaken,
+    /// A JALR.
+    Jump,
+}
+
+/// What a load found in the cache.
+#[derive(Clone, Copy, Debug, PartialEq, Eq)]
+pub enum Look {
+    /// Its line.
+    Hit,
+    /// Not its line: a miss register was taken for it.
+    Miss,
+    /// Not its line, but a miss register that waits for it.
+    Join,
+}
+
+/// What happened in a cycle (`docs/machine.md`, "Events"). A line is named by its first address, an entry by its serial.
+#[derive(Clone, Copy, Debug, PartialEq, Eq)]
+pub enum Event {
+    /// A line entered the cache.
+    Fill(u32),
+    /// An entry has its result.
+    Done(u64),
+    /// A branch or JALR was resolved.
+    Res(u64, Way),
+    /// A counter of the branch predictor now has this value.
+    Bp(u32, u8),
+    /// An entry of the table of targets now has this target.
+    Bt(u32, u32),
+    /// So many entries and fetched items were dropped.
+    Sq(u32),
+    /// An entry retired.
+    Ret(u64),
+    /// A store wrote memory; its line, and whether the cache had it.
+    St(u64, u32, bool),
+    /// A call took effect and put out so many bytes.
+    Call(u64, u32),
+    /// An entry issued to an arithmetic unit.
+    Alu(u64),
+    /// An entry issued to the multiplier.
+    Mul(u64),
+    /// An entry issued to the divider, for so many cycles.
+    Div(u64, u8),
+    /// A store issued: its address is computed.
+    Agu(u64),
+    /// A load issued; its line, and what it found.
+    Ld(u64, u32, Look),
+    /// A load issued whose bytes all come from older stores.
+    LdForward(u64),
+    /// A load issued that faults.
+    LdFault(u64),
+    /// The item of this address was renamed, with this serial.
+    Ren(u64, u32),
+    /// An instruction was fetched from this address.
+    Fet(u32),
+}
+
+impl Default for Event {
+    ghost use Rattle.window_model.specs.declared.Event.TheVariants.{Fill};
+
+    /// An event to fill free places with.
+    fn default() -> Self
+        ensures { result ≡ Fill 0 }
+    {
+        Event::Fill(0)
+    }
+}
+
+/// A miss register that is taken.
+#[derive(Clone, Copy, Debug, PartialEq, Eq)]
+pub struct Miss {
+    /// The line that it waits for.
+    pub line: u32,
+    /// The cycle in which the line enters the cache and the register is free again.
+    pub due: u64,
+}
+
+/// An entry of the table of targets.
+#[derive(Clone, Copy, Debug, PartialEq, Eq)]
+pub struct Target {
+    /// The address of the JALR.
+    pub pc: u32,
+    /// Where it went last.
+    pub target: u32,
+}
+
+/// The divider.
+#[derive(Clone, Copy, Debug, PartialEq, Eq)]
+pub struct Divider {
+    /// The cycle from which on it is free.
+    pub free_from: u64,
+    /// The serial of the division that used it last, unless that was dropped.
+    pub user: Option<u64>,
+}
+
+/// The entries in flight, oldest first, as one list.
+pub trait Window {
+    /// The entries.
+    ghost entries: { Self → List Entry };
+
+    /// How many there are.
+    fn len(&self) -> u32
+        ensures { result ≡ length (entries self.now) };
+
+    /// The entry at a position, counted from the oldest.
+    fn at(&self, i: u32) -> Entry
+        requires { i < length (entries self.now) }
+        ensures { slice_get (entries self.now) i ≡ Some result };
+}
+
+#[cfg(test)]
+mod tests;
