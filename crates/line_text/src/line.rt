@@ -7,12 +7,12 @@ use itoa::Buffer;
 use std::marker::Model;
 
 /// The most bytes that a line has.
-pub const LINE_MAX: usize = 2100;
+pub const LINE_MAX: usize = 4800;
 
 /// The hexadecimal digits.
 const DIGITS: [u8; 16] = *b"0123456789abcdef";
 
-/// A line of text: at most 2100 bytes, seen as a list. It takes no memory.
+/// A line of text: at most 4,800 bytes, seen as a list. It takes no memory.
 #[derive(Drop)]
 pub struct Line {
     bytes: ArrayVec<u8, LINE_MAX>,

@@ -1,6 +1,5 @@
 -- Texts that are written in turn.
-use Rattle.std.proofs.Common.{zero, suc, get_or, ◌≡◌, ◌<◌, ◌≤◌, ℕ, ◌+◌, List, [], ◌∷◌, ◌++◌, length, take, drop, Option, Some, None, option_map, refl, ap, sym, ◌∙◌, rules, arith, append_assoc, append-nil, subst}
-use Rattle.std.proofs.lemmas.List.{take_more, take-append-drop}
+use Rattle.std.proofs.Common.{zero, suc, ◌≡◌, ◌≤◌, ℕ, ◌+◌, List, [], ◌∷◌, ◌++◌, length, take, Option, Some, None, option_map, refl, ap, sym, ◌∙◌, rules, arith, append_assoc, append-nil, subst}
 use Rattle.std.proofs.Math.Seq.{take-append-add}
 use Rattle.std.proofs.Common.{Result, IsErr}
 use Rattle.std.proofs.lemmas.Result.{MatchResult-weaker, MatchResult-from_err}
@@ -49,17 +48,6 @@ pub part_more : (a b : List ℕ) (s t : Told) → WrotePart a s t → WrotePart 
 part_more a b s t q =
     let k = take-longer q.sent a b in
     record { sent = k.0; appended = rw k.1 q.appended; rose = q.rose; later = q.later }
-
--- one more byte of a text
-pub wrote_more : (text : List ℕ) (i : ℕ) (s t u : Told) → i < length text → Wrote (take i text) s t → Wrote (get_or text i 0 ∷ []) t u → Wrote (take (i + 1) text) s u
-wrote_more text i s t u h p q = rw (take_more text i 0 h) (wrote_then _ _ _ _ _ p q)
-
--- a fault at one byte of a text
-pub part_of_text : (text : List ℕ) (i : ℕ) (s t u : Told) → i < length text → Wrote (take i text) s t → WrotePart (get_or text i 0 ∷ []) t u → WrotePart text s u
-part_of_text text i s t u h p q =
-    let r : WrotePart (take (i + 1) text) s u = rw (take_more text i 0 h) (wrote_then_part _ _ _ _ _ p q) in
-    let P : List ℕ → Type 0 = λ x. WrotePart x s u in
-    subst P (take-append-drop (i + 1) text) (part_more _ (drop (i + 1) text) _ _ r)
 
 -- Of the text `all`, all but `rest` is written.
 pub record WroteUpTo (all rest : List ℕ) (s t : Told) : Type 0 where
