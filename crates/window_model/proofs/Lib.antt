@@ -4,3 +4,6 @@ pub mod Shadows
 pub mod Accesses
 pub mod Flow
 pub mod Corners
+pub mod Before
+pub mod Taints
+pub mod Walks

@@ -9,8 +9,10 @@ ghost use Rattle.window_model.specs.declared.Entry.{Entry};
 
 use rv_types::{Cause, Instr, Kind};
 
+mod clocked;
 mod row;
 
+pub use clocked::Clocked;
 pub use row::{ROW_MAX, Row, empty_row};
 
 /// A fetched instruction (`docs/machine.md`, "State").
