@@ -6,4 +6,16 @@ pub mod Flow
 pub mod Corners
 pub mod Before
 pub mod Taints
+pub mod Booleans
+pub mod Lists
+pub mod Places
+pub mod EntryByEntry
+pub mod Counts
+pub mod Memory
+pub mod Calls
+pub mod Registers
+pub mod Issuing
+pub mod Resolving
+pub mod Leaving
 pub mod Walks
+pub mod Quiet

@@ -1,5 +1,5 @@
--- Retire, Rename and Fetch step by step: what each step keeps, the phase keeps.
-use Rattle.std.proofs.Common.{◌≡◌, ℕ, zero, suc, Bool, true, false, ◌&&◌, ◌||◌, List, [], ◌∷◌, length, Option, Some, None, refl, subst}
+-- Retire, Rename and Fetch step by step, a cycle phase by phase, and a run cycle by cycle: what each step keeps, the whole keeps.
+use Rattle.std.proofs.Common.{◌≡◌, ℕ, zero, suc, ◌+◌, Bool, true, false, ◌&&◌, ◌||◌, List, [], ◌∷◌, length, Option, Some, None, refl, subst}
 use Rattle.std.specs.Prelude.{if◌then◌else◌, nat_lt}
 use Rattle.rv_types.specs.Memory.{Code}
 use Rattle.rv_types.specs.Isa.{Step, Goes, Exits, Traps, call}
@@ -13,7 +13,11 @@ use Rattle.window_model.specs.declared.Entry.{Entry}
 use Rattle.window_model.specs.declared.Item.{Item}
 use Rattle.window_model.specs.State.{Machine, After}
 use Rattle.window_model.specs.Order.{is_store}
-use Rattle.window_model.specs.Retire.{Retired, retire, turns, turn, head_turn, head_leaves, call_leaves, hart_of, then_retires, stays, unless_ended, may_leave, trap_of}
+use Rattle.window_model.specs.Fill.{fill, complete}
+use Rattle.window_model.specs.Resolve.{resolve}
+use Rattle.window_model.specs.Issue.{issue}
+use Rattle.window_model.specs.Cycle.{cycle, back, after_cycles}
+use Rattle.window_model.specs.Retire.{Retired, retire, turns, turn, head_turn, head_leaves, call_leaves, hart_of, then_retires, stays, unless_ended, may_leave, trap_of, ends_with}
 use Rattle.window_model.specs.Front.{rename, rename_up_to, rename_from, rename_one, fits, fetch, fetch_up_to, fetch_from, fetch_one, item_at, then_does, nothing}
 
 -- a head leaves the rest of the window
@@ -28,70 +32,141 @@ module _ (W : List Entry → Type 0) (drops : (e : Entry) (rest : List Entry) �
   head_drops Store x e rest q h = drops e rest (subst W q h)
   head_drops _ x e rest q h = drops e rest (subst W q h)
 
+-- ---- turn by turn, item by item
+
+-- what holds of no turn, of an end, and of a turn with what follows it holds of so many turns
+module _ (d : Desc) (Q : ℕ → Machine → Retired → Type 0)
+    (stops : (n : ℕ) (x : Machine) → Q n x (stays x))
+    (leaves : (n : ℕ) (stored : Bool) (x : Machine) (e : Entry) (rest : List Entry) → x.end ≡ None → x.window ≡ e ∷ rest → may_leave e ≡ true → trap_of e ≡ None →
+    (let y = (head_leaves e.item.kind d e rest x).machine in Q n y (turns d n stored y)) → Q (suc n) x (then_retires (head_leaves e.item.kind d e rest x) (turns d n stored)))
+    (ends : (n : ℕ) (x : Machine) (e : Entry) (rest : List Entry) (cause : Cause) → x.end ≡ None → x.window ≡ e ∷ rest → may_leave e ≡ true → trap_of e ≡ Some cause → Q n x (ends_with cause e x)) where
+  by_trap : (n : ℕ) (stored : Bool) (o : Option Cause) (x : Machine) (e : Entry) (rest : List Entry) → x.end ≡ None → x.window ≡ e ∷ rest → may_leave e ≡ true → trap_of e ≡ o → ((b : Bool) (y : Machine) → Q n y (turns d n b y)) →
+      Q (suc n) x (turn d stored o e rest x (turns d n))
+  by_trap n stored (Some cause) x e rest u q l t m = ends (suc n) x e rest cause u q l t
+  by_trap n stored None x e rest u q l t m = waits_or (stored && is_store e.item.kind)
+    where
+      waits_or : (b : Bool) → Q (suc n) x (if b then stays x else then_retires (head_leaves e.item.kind d e rest x) (turns d n (stored || is_store e.item.kind)))
+      waits_or true = stops (suc n) x
+      waits_or false = leaves n (stored || is_store e.item.kind) x e rest u q l t (m (stored || is_store e.item.kind) (head_leaves e.item.kind d e rest x).machine)
+
+  by_head : (n : ℕ) (stored : Bool) (w : List Entry) (x : Machine) → x.end ≡ None → x.window ≡ w → ((b : Bool) (y : Machine) → Q n y (turns d n b y)) → Q (suc n) x (head_turn d stored w x (turns d n))
+  by_head n stored [] x u q m = stops (suc n) x
+  by_head n stored (e ∷ rest) x u q m = leaves_or (may_leave e) refl
+    where
+      leaves_or : (b : Bool) → may_leave e ≡ b → Q (suc n) x (if b then turn d stored (trap_of e) e rest x (turns d n) else stays x)
+      leaves_or true l = by_trap n stored (trap_of e) x e rest u q l refl m
+      leaves_or false l = stops (suc n) x
+
+  by_turns : (n : ℕ) (stored : Bool) (x : Machine) → Q n x (turns d n stored x)
+  by_turns zero stored x = stops zero x
+  by_turns (suc n) stored x = by_end x.end refl (by_turns n)
+    where
+      by_end : (o : Option End) → x.end ≡ o → ((b : Bool) (y : Machine) → Q n y (turns d n b y)) → Q (suc n) x (unless_ended o (stays x) (head_turn d stored x.window x (turns d n)))
+      by_end None u m = by_head n stored x.window x u refl m
+      by_end (Some e) u m = stops (suc n) x
+
+  pub retire_by : (x : Machine) → Q d.core_retire_width x (retire d x)
+  unfolding retire
+  retire_by x = by_turns d.core_retire_width false x
+
+-- the same of items that are renamed
+module _ (d : Desc) (Q : ℕ → Machine → After → Type 0)
+    (stops : (n : ℕ) (x : Machine) → Q n x (nothing x))
+    (renames : (n : ℕ) (x : Machine) (i : Item) (rest : List Item) → x.queue ≡ i ∷ rest → fits d x.window i ≡ true →
+    (let y = (rename_one i rest x).machine in Q n y (rename_up_to d n y)) → Q (suc n) x (then_does (rename_one i rest x) (rename_up_to d n))) where
+  by_front : (n : ℕ) (q : List Item) (x : Machine) → x.queue ≡ q → ((y : Machine) → Q n y (rename_up_to d n y)) → Q (suc n) x (rename_from d q x (rename_up_to d n))
+  by_front n [] x q m = stops (suc n) x
+  by_front n (i ∷ rest) x q m = by_fit (fits d x.window i) refl
+    where
+      by_fit : (b : Bool) → fits d x.window i ≡ b → Q (suc n) x (if b then then_does (rename_one i rest x) (rename_up_to d n) else nothing x)
+      by_fit true f = renames n x i rest q f (m (rename_one i rest x).machine)
+      by_fit false f = stops (suc n) x
+
+  by_renamed : (n : ℕ) (x : Machine) → Q n x (rename_up_to d n x)
+  by_renamed zero x = stops zero x
+  by_renamed (suc n) x = by_front n x.queue x refl (by_renamed n)
+
+  pub rename_by : (x : Machine) → Q d.core_fetch_width x (rename d x)
+  unfolding rename
+  rename_by x = by_renamed d.core_fetch_width x
+
+-- and of items that are fetched
+module _ (d : Desc) (code : Code) (Q : ℕ → Machine → After → Type 0)
+    (stops : (n : ℕ) (x : Machine) → Q n x (nothing x))
+    (fetches : (n : ℕ) (x : Machine) (pc : ℕ) → x.fetch_pc ≡ Some pc → nat_lt (length x.queue) d.core_queue ≡ true →
+    (let y = (fetch_one (item_at d code x pc) x).machine in Q n y (fetch_up_to d code n y)) → Q (suc n) x (then_does (fetch_one (item_at d code x pc) x) (fetch_up_to d code n))) where
+  by_pc : (n : ℕ) (o : Option ℕ) (x : Machine) → x.fetch_pc ≡ o → ((y : Machine) → Q n y (fetch_up_to d code n y)) → Q (suc n) x (fetch_from d code o x (fetch_up_to d code n))
+  by_pc n None x q m = stops (suc n) x
+  by_pc n (Some pc) x q m = by_room (nat_lt (length x.queue) d.core_queue) refl
+    where
+      by_room : (b : Bool) → nat_lt (length x.queue) d.core_queue ≡ b → Q (suc n) x (if b then then_does (fetch_one (item_at d code x pc) x) (fetch_up_to d code n) else nothing x)
+      by_room true r = fetches n x pc q r (m (fetch_one (item_at d code x pc) x).machine)
+      by_room false r = stops (suc n) x
+
+  by_fetched : (n : ℕ) (x : Machine) → Q n x (fetch_up_to d code n x)
+  by_fetched zero x = stops zero x
+  by_fetched (suc n) x = by_pc n x.fetch_pc x refl (by_fetched n)
+
+  pub fetch_by : (x : Machine) → Q d.core_fetch_width x (fetch d code x)
+  unfolding fetch
+  fetch_by x = by_fetched d.core_fetch_width x
+
+-- ---- what is kept
+
 module _ (d : Desc) (P : Machine → Type 0) where
-  -- a head leaves, or ends the run
-  module _ (leaves : (k : Kind) (x : Machine) (e : Entry) (rest : List Entry) → x.window ≡ e ∷ rest → P x → P (head_leaves k d e rest x).machine)
-      (ends : (x : Machine) (end : End) → P x → P (record x { end = Some end })) where
-    by_trap : (stored : Bool) (o : Option Cause) (x : Machine) (e : Entry) (rest : List Entry) (more : Bool → Machine → Retired) → x.window ≡ e ∷ rest → P x → ((b : Bool) (y : Machine) → P y → P (more b y).machine) → P (turn d stored o e rest x more).machine
-    by_trap stored (Some cause) x e rest more q h m = ends x (Trap cause e.item.pc) h
-    by_trap stored None x e rest more q h m = waits_or (stored && is_store e.item.kind)
-      where
-        waits_or : (b : Bool) → P (if b then stays x else then_retires (head_leaves e.item.kind d e rest x) (more (stored || is_store e.item.kind))).machine
-        waits_or true = h
-        waits_or false = m (stored || is_store e.item.kind) (head_leaves e.item.kind d e rest x).machine (leaves e.item.kind x e rest q h)
+  -- what a head that may leave keeps, and an end, Retire keeps
+  pub heads_keep : ((x : Machine) (e : Entry) (rest : List Entry) → x.window ≡ e ∷ rest → may_leave e ≡ true → trap_of e ≡ None → P x → P (head_leaves e.item.kind d e rest x).machine) →
+      ((x : Machine) (end : End) → P x → P (record x { end = Some end })) → (x : Machine) → P x → P (retire d x).machine
+  heads_keep leaves ends x h =
+      retire_by d (λ n x r. P x → P r.machine) (λ n x h. h) (λ n stored x e rest u q l t more h. more (leaves x e rest q l t h)) (λ n x e rest cause u q l t h. ends x (Trap cause e.item.pc) h) x h
 
-    by_head : (stored : Bool) (w : List Entry) (x : Machine) (more : Bool → Machine → Retired) → x.window ≡ w → P x → ((b : Bool) (y : Machine) → P y → P (more b y).machine) → P (head_turn d stored w x more).machine
-    by_head stored [] x more q h m = h
-    by_head stored (e ∷ rest) x more q h m = leaves_or (may_leave e)
-      where
-        leaves_or : (b : Bool) → P (if b then turn d stored (trap_of e) e rest x more else stays x).machine
-        leaves_or true = by_trap stored (trap_of e) x e rest more q h m
-        leaves_or false = h
-
-    turns_keep : (n : ℕ) (stored : Bool) (x : Machine) → P x → P (turns d n stored x).machine
-    turns_keep zero stored x h = h
-    turns_keep (suc n) stored x h = by_end x.end (head_turn d stored x.window x (turns d n)) (by_head stored x.window x (turns d n) refl h (turns_keep n))
-      where
-        by_end : (o : Option End) (r : Retired) → P r.machine → P (unless_ended o (stays x) r).machine
-        by_end None r s = s
-        by_end (Some e) r s = h
-
-    pub retire_keep : (x : Machine) → P x → P (retire d x).machine
-    unfolding retire
-    retire_keep x h = turns_keep d.core_retire_width false x h
+  -- the same of a head of any kind
+  pub retire_keep : ((k : Kind) (x : Machine) (e : Entry) (rest : List Entry) → x.window ≡ e ∷ rest → P x → P (head_leaves k d e rest x).machine) →
+      ((x : Machine) (end : End) → P x → P (record x { end = Some end })) → (x : Machine) → P x → P (retire d x).machine
+  retire_keep leaves ends = heads_keep (λ x e rest q l t h. leaves e.item.kind x e rest q h) ends
 
   -- an item is renamed
-  module _ (renames : (x : Machine) (i : Item) (rest : List Item) → x.queue ≡ i ∷ rest → fits d x.window i ≡ true → P x → P (rename_one i rest x).machine) where
-    rename_from_keep : (q : List Item) (more : Machine → After) → ((y : Machine) → P y → P (more y).machine) → (x : Machine) → x.queue ≡ q → P x → P (rename_from d q x more).machine
-    rename_from_keep [] more m x q h = h
-    rename_from_keep (i ∷ rest) more m x q h = by_fit (fits d x.window i) refl
-      where
-        by_fit : (b : Bool) → fits d x.window i ≡ b → P (if b then then_does (rename_one i rest x) more else nothing x).machine
-        by_fit true f = m (rename_one i rest x).machine (renames x i rest q f h)
-        by_fit false f = h
-
-    rename_up_to_keep : (n : ℕ) (x : Machine) → P x → P (rename_up_to d n x).machine
-    rename_up_to_keep zero x h = h
-    rename_up_to_keep (suc n) x h = rename_from_keep x.queue (rename_up_to d n) (rename_up_to_keep n) x refl h
-
-    pub rename_keep : (x : Machine) → P x → P (rename d x).machine
-    unfolding rename
-    rename_keep x h = rename_up_to_keep d.core_fetch_width x h
+  pub rename_keep : ((x : Machine) (i : Item) (rest : List Item) → x.queue ≡ i ∷ rest → fits d x.window i ≡ true → P x → P (rename_one i rest x).machine) → (x : Machine) → P x → P (rename d x).machine
+  rename_keep renames x h = rename_by d (λ n x a. P x → P a.machine) (λ n x h. h) (λ n x i rest q f more h. more (renames x i rest q f h)) x h
 
   -- an item is fetched
-  module _ (code : Code) (fetches : (x : Machine) (pc : ℕ) → x.fetch_pc ≡ Some pc → nat_lt (length x.queue) d.core_queue ≡ true → P x → P (fetch_one (item_at d code x pc) x).machine) where
-    fetch_from_keep : (o : Option ℕ) (more : Machine → After) → ((y : Machine) → P y → P (more y).machine) → (x : Machine) → x.fetch_pc ≡ o → P x → P (fetch_from d code o x more).machine
-    fetch_from_keep None more m x q h = h
-    fetch_from_keep (Some pc) more m x q h = by_room (nat_lt (length x.queue) d.core_queue) refl
-      where
-        by_room : (b : Bool) → nat_lt (length x.queue) d.core_queue ≡ b → P (if b then then_does (fetch_one (item_at d code x pc) x) more else nothing x).machine
-        by_room true r = m (fetch_one (item_at d code x pc) x).machine (fetches x pc q r h)
-        by_room false r = h
+  pub fetch_keep : (code : Code) → ((x : Machine) (pc : ℕ) → x.fetch_pc ≡ Some pc → nat_lt (length x.queue) d.core_queue ≡ true → P x → P (fetch_one (item_at d code x pc) x).machine) → (x : Machine) → P x → P (fetch d code x).machine
+  fetch_keep code fetches x h = fetch_by d code (λ n x a. P x → P a.machine) (λ n x h. h) (λ n x pc q r more h. more (fetches x pc q r h)) x h
 
-    fetch_up_to_keep : (n : ℕ) (x : Machine) → P x → P (fetch_up_to d code n x).machine
-    fetch_up_to_keep zero x h = h
-    fetch_up_to_keep (suc n) x h = fetch_from_keep x.fetch_pc (fetch_up_to d code n) (fetch_up_to_keep n) x refl h
+  -- ---- a cycle, and a run
 
-    pub fetch_keep : (x : Machine) → P x → P (fetch d code x).machine
-    unfolding fetch
-    fetch_keep x h = fetch_up_to_keep d.core_fetch_width x h
+  -- what each phase after Retire keeps
+  module _ (code : Code)
+      (issues : (x : Machine) → P x → P (issue d x).machine)
+      (renames : (x : Machine) → P x → P (rename d x).machine)
+      (fetches : (x : Machine) → P x → P (fetch d code x).machine) where
+    behind_keep : (o : Option End) (x : Machine) → P x → P (unless_ended o (nothing x) (then_does (issue d x) (λ y. then_does (rename d y) (fetch d code)))).machine
+    behind_keep (Some e) x h = h
+    behind_keep None x h = fetches (rename d (issue d x).machine).machine (renames (issue d x).machine (issues x h))
+
+    pub back_keep : (x : Machine) → P x → P (back d code x).machine
+    back_keep x h = behind_keep x.end x h
+
+    -- and each from Resolve on
+    module _ (resolves : (x : Machine) → P x → P (resolve d x).machine) (retires : (x : Machine) → P x → P (retire d x).machine) where
+      -- a cycle has where its state after Complete has it
+      pub completed_keep : (x : Machine) → P (complete (fill d (record x { cycle = x.cycle + 1 })).machine).machine → P (cycle d code x).machine
+      unfolding cycle
+      completed_keep x h =
+          let y = (resolve d (complete (fill d (record x { cycle = x.cycle + 1 })).machine).machine).machine in
+          back_keep (retire d y).machine (retires y (resolves _ h))
+
+      -- and a cycle keeps what the first phases keep, too
+      pub cycle_keep : ((x : Machine) → P x → P (record x { cycle = x.cycle + 1 })) → ((x : Machine) → P x → P (fill d x).machine) → ((x : Machine) → P x → P (complete x).machine) → (x : Machine) → P x → P (cycle d code x).machine
+      cycle_keep begins fills completes x h =
+          let x1 : Machine = record x { cycle = x.cycle + 1 } in
+          completed_keep x (completes (fill d x1).machine (fills x1 (begins x h)))
+
+  -- what a cycle keeps a run keeps
+  pub run_keep : (code : Code) → ((x : Machine) → P x → P (cycle d code x).machine) → (k : ℕ) (x : Machine) → P x → P (after_cycles d code k x)
+  run_keep code cycles zero x h = h
+  run_keep code cycles (suc k) x h = by_end x.end (run_keep code cycles k (cycle d code x).machine (cycles x h))
+    where
+      by_end : (o : Option End) → P (after_cycles d code k (cycle d code x).machine) → P (unless_ended o x (after_cycles d code k (cycle d code x).machine))
+      by_end None s = s
+      by_end (Some e) s = h

@@ -10,3 +10,6 @@ pub mod Front
 pub mod Row
 pub mod Cycle
 pub mod Path
+pub mod Along
+pub mod Committed
+pub mod Shape

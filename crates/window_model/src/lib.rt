@@ -9,6 +9,7 @@ ghost use Rattle.window_model.specs.declared.Entry.{Entry};
 
 use rv_types::{Cause, Instr, Kind};
 
+mod blank;
 mod clocked;
 mod row;
 
