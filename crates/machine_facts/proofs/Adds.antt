@@ -1,0 +1,137 @@
+-- How many events each phase has, and how much it adds to the next serial and to the count of the retired.
+use Rattle.std.proofs.Common.{◌≡◌, ℕ, suc, ◌+◌, ◌*◌, ◌≤◌, Bool, true, false, List, ◌++◌, length, Option, Some, None, refl, ◌∙◌, arith, length-append}
+use Rattle.std.proofs.lemmas.List.{length-map}
+use Rattle.std.specs.Prelude.{if◌then◌else◌, map}
+use Rattle.std.specs.List.{filter}
+use Rattle.rv_types.specs.Memory.{Code}
+use Rattle.rv_types.specs.Isa.{Step, Goes, Exits, Traps, call}
+use Rattle.rv_types.specs.declared.Kind.{Kind}
+use Rattle.rv_types.specs.declared.Kind.TheVariants.{Branch, Store, Call}
+use Rattle.machine_desc.specs.declared.Desc.{Desc}
+use Rattle.window_model.specs.declared.Entry.{Entry}
+use Rattle.window_model.specs.declared.Event.{Event}
+use Rattle.window_model.specs.declared.Event.TheVariants as event
+use Rattle.window_model.specs.declared.Miss.{Miss}
+use Rattle.window_model.specs.declared.Target.{Target}
+use Rattle.window_model.specs.State.{Machine, After}
+use Rattle.window_model.specs.Order.{Place, first, is_faulty}
+use Rattle.window_model.specs.Fill.{fill, complete, completes, is_due}
+use Rattle.window_model.specs.Resolve.{resolve, resolve_at, may_resolve, Learnt, learn, learn_as, with_predictor, squash, keep, squashes}
+use Rattle.window_model.specs.Retire.{Retired, retire, head_leaves, call_leaves, hart_of}
+use Rattle.window_model.specs.Front.{rename, rename_up_to, rename_one, fetch, fetch_up_to, fetch_one, item_at}
+use Rattle.window_model.proofs.Lists.{filter_shortens}
+use Rattle.window_model.proofs.Walks.{retire_by, rename_by, fetch_by}
+
+-- a phase keeps cycle, next serial and count, and has at most so many events
+pub record Adds (most : ℕ) (x : Machine) (a : After) : Type 0 where
+  pub events : length a.events ≤ most
+  pub cycle : a.machine.cycle ≡ x.cycle
+  pub serials : a.machine.next_serial ≡ x.next_serial
+  pub retired : a.machine.retired ≡ x.retired
+
+pub joined : (m n : ℕ) (a c : List Event) → length a ≤ m → length c ≤ n → length (a ++ c) ≤ m + n
+joined m n a c p q = let l = length-append a c in omega arith
+
+-- ---- lines arrive, entries become done
+
+pub fill_adds : (d : Desc) (x : Machine) → Adds (length x.misses) x (fill d x)
+fill_adds d x = record {
+  events =
+      let f = filter_shortens (is_due x.cycle) x.misses in
+      let a = length-map (filter (is_due x.cycle) x.misses) (λ (m : Miss). m.line) in
+      let b = length-map (map (λ (m : Miss). m.line) (filter (is_due x.cycle) x.misses)) event.Fill in
+      omega arith;
+  cycle = refl;
+  serials = refl;
+  retired = refl;
+}
+
+pub complete_adds : (x : Machine) → Adds (length x.window) x (complete x)
+complete_adds x = record {
+  events =
+      let f = filter_shortens (completes x.cycle) x.window in
+      let a = length-map (filter (completes x.cycle) x.window) (λ (e : Entry). event.Done e.serial) in
+      omega arith;
+  cycle = refl;
+  serials = refl;
+  retired = refl;
+}
+
+-- ---- resolve
+
+learnt_few : (b : Bool) (a c : Learnt) → length a.events ≤ 2 → length c.events ≤ 2 → length (if b then a else c).events ≤ 2
+learnt_few true a c p q = p
+learnt_few false a c p q = q
+
+learn_few : (k : Kind) (d : Desc) (e : Entry) (n : List ℕ) (t : List (Option Target)) → length (learn_as k d e n t).events ≤ 2
+learn_few Branch d e n t = omega arith
+learn_few _ d e n t = learnt_few (is_faulty e) _ _ (omega arith) (omega arith)
+
+place_adds : (p : Place) (x : Machine) (b : Bool) (c : List ℕ) (t : List (Option Target)) → Adds 1 x (if b then squash p (with_predictor x c t) else keep p (with_predictor x c t))
+place_adds p x true c t = record { events = omega arith; cycle = refl; serials = refl; retired = refl }
+place_adds p x false c t = record { events = omega arith; cycle = refl; serials = refl; retired = refl }
+
+resolve_at_adds : (d : Desc) (o : Option Place) (x : Machine) → Adds 3 x (resolve_at d o x)
+resolve_at_adds d None x = record { events = omega arith; cycle = refl; serials = refl; retired = refl }
+resolve_at_adds d (Some p) x =
+    let l = learn d p.entry x.counters x.targets in
+    let a = place_adds p x (squashes p.entry) l.counters l.targets in
+    record { events = joined 2 1 l.events _ (learn_few p.entry.item.kind d p.entry x.counters x.targets) a.events; cycle = a.cycle; serials = a.serials; retired = a.retired }
+
+pub resolve_adds : (d : Desc) (x : Machine) → Adds 3 x (resolve d x)
+resolve_adds d x = resolve_at_adds d (first (may_resolve d) x.window) x
+
+-- ---- retire
+
+-- at most two events a turn, and one retired
+pub record Turns (n : ℕ) (x : Machine) (r : Retired) : Type 0 where
+  pub events : length r.events ≤ 2 * n
+  pub cycle : r.machine.cycle ≡ x.cycle
+  pub serials : r.machine.next_serial ≡ x.next_serial
+  pub retired : r.machine.retired ≤ x.retired + n
+
+call_turn : (e : Entry) (rest : List Entry) (x : Machine) (s : Step) → Turns 1 x (call_leaves e rest x s)
+call_turn e rest x (Goes s p) = record { events = omega arith; cycle = refl; serials = refl; retired = omega arith }
+call_turn e rest x (Exits v s) = record { events = omega arith; cycle = refl; serials = refl; retired = omega arith }
+call_turn e rest x (Traps c) = record { events = omega arith; cycle = refl; serials = refl; retired = omega arith }
+
+head_turn : (k : Kind) (d : Desc) (e : Entry) (rest : List Entry) (x : Machine) → Turns 1 x (head_leaves k d e rest x)
+head_turn Store d e rest x = record { events = omega arith; cycle = refl; serials = refl; retired = omega arith }
+head_turn Call d e rest x = call_turn e rest x (call (hart_of x))
+head_turn _ d e rest x = record { events = omega arith; cycle = refl; serials = refl; retired = omega arith }
+
+then_turns : (n : ℕ) (x : Machine) (r s : Retired) → Turns 1 x r → Turns n r.machine s → Turns (suc n) x (record { machine = s.machine; events = r.events ++ s.events; piece = r.piece ++ s.piece })
+then_turns n x r s p q = record {
+  events = let j = joined 2 (2 * n) r.events s.events (omega (arith, p.events)) q.events in omega (arith, j);
+  cycle = q.cycle ∙ p.cycle;
+  serials = q.serials ∙ p.serials;
+  retired = omega (arith, p.retired, q.retired);
+}
+
+pub retire_turns : (d : Desc) (x : Machine) → Turns d.core_retire_width x (retire d x)
+retire_turns d x =
+    retire_by d Turns (λ n x. record { events = omega arith; cycle = refl; serials = refl; retired = omega arith })
+    (λ n stored x e rest u q l t more. then_turns n x (head_leaves e.item.kind d e rest x) _ (head_turn e.item.kind d e rest x) more)
+    (λ n x e rest cause u q l t. record { events = omega arith; cycle = refl; serials = refl; retired = omega arith }) x
+
+-- ---- rename and fetch
+
+-- one event an item, and one serial
+pub record Renames (n : ℕ) (x : Machine) (a : After) : Type 0 where
+  pub events : length a.events ≤ n
+  pub cycle : a.machine.cycle ≡ x.cycle
+  pub serials : a.machine.next_serial ≤ x.next_serial + n
+  pub retired : a.machine.retired ≡ x.retired
+
+pub rename_renames : (d : Desc) (x : Machine) → Renames d.core_fetch_width x (rename d x)
+rename_renames d x =
+    rename_by d Renames (λ n x. record { events = omega arith; cycle = refl; serials = omega arith; retired = refl })
+    (λ n x i rest q f more.
+    record { events = let j = joined 1 n (rename_one i rest x).events (rename_up_to d n (rename_one i rest x).machine).events (omega arith) more.events in omega (arith, j); cycle = more.cycle; serials = omega (arith, more.serials); retired = more.retired }) x
+
+pub fetch_adds : (d : Desc) (code : Code) (x : Machine) → Adds d.core_fetch_width x (fetch d code x)
+fetch_adds d code x =
+    fetch_by d code Adds (λ n x. record { events = omega arith; cycle = refl; serials = refl; retired = refl })
+    (λ n x pc q r more.
+    let a = fetch_one (item_at d code x pc) x in
+    record { events = let j = joined 1 n a.events (fetch_up_to d code n a.machine).events (omega arith) more.events in omega (arith, j); cycle = more.cycle; serials = more.serials; retired = more.retired }) x

@@ -1,0 +1,164 @@
+-- What is under way ends soon: as the cycle goes on, as lines arrive and entries become done, and as entries begin.
+use Rattle.std.proofs.Common.{◌≡◌, ◌≢◌, ℕ, ◌+◌, ◌<◌, ◌≤◌, Bool, true, false, not, cond, List, [], ◌∷◌, ◌++◌, Option, Some, None, refl, sym, subst, arith}
+use Rattle.std.proofs.lemmas.Bool.Decides.{nat_tests}
+use Rattle.std.specs.Prelude.{if◌then◌else◌, ◌==◌, map}
+use Rattle.std.specs.List.{filter, find, AllByRecursion as Each}
+use Rattle.rv_types.specs.Isa.{Effect}
+use Rattle.rv_types.specs.declared.Kind.{Kind}
+use Rattle.rv_types.specs.declared.Kind.TheVariants.{Alu, Mul, Div, Load, Store, Branch, Jalr, Jal, Call, Stop}
+use Rattle.machine_desc.specs.declared.Desc.{Desc}
+use Rattle.machine_desc.specs.Ranges.{IsDesc}
+use Rattle.window_model.specs.declared.Entry.{Entry}
+use Rattle.window_model.specs.declared.Item.{Item}
+use Rattle.window_model.specs.declared.Miss.{Miss}
+use Rattle.window_model.specs.declared.State.{State}
+use Rattle.window_model.specs.declared.State.TheVariants.{Waiting, Busy, Done}
+use Rattle.window_model.specs.State.{Machine}
+use Rattle.window_model.specs.Order.{Place, each_from}
+use Rattle.window_model.specs.Fill.{is_due, completed, completes, completes_at}
+use Rattle.window_model.specs.Access.{Access, Faults, Forwards, Hits, Joins, Misses, Waits}
+use Rattle.window_model.specs.Issue.{Begun, issue_entry, begin_as, load_as, access_of, time_of, misses_after, divider_after}
+use Rattle.window_model.specs.Front.{renamed, at_once}
+use Rattle.window_model.proofs.Lists.{each_then, each_map, each_push, each_filter, OfSome, find_each}
+use Rattle.window_model.proofs.Issuing.{by_issue, begin_goes, by_load}
+use Rattle.machine_facts.specs.Timely.{IsSoon, DueSoon, IsDue, IsPending, Apart, latency, longest_division}
+
+-- ---- the cycle goes on
+
+due_later : (past cycle longest : ℕ) (t : State) → DueSoon past cycle longest t → DueSoon past (cycle + 1) longest t
+due_later past cycle longest (Busy due) h = (h.0, omega (arith, h.1))
+due_later past cycle longest Waiting h = tt
+due_later past cycle longest Done h = tt
+
+pub dues_later : (d : Desc) (past cycle : ℕ) (w : List Entry) → Each (IsDue d past cycle) w → Each (IsDue d past (cycle + 1)) w
+dues_later d past cycle w h = each_then (IsDue d past cycle) (IsDue d past (cycle + 1)) (λ e. due_later past cycle (latency e.item.kind d) e.state) w h
+
+pub misses_later : (d : Desc) (past cycle : ℕ) (ms : List Miss) → Each (IsPending d past cycle) ms → Each (IsPending d past (cycle + 1)) ms
+misses_later d past cycle ms h = each_then (IsPending d past cycle) (IsPending d past (cycle + 1)) (λ m s. (s.0, omega (arith, s.1))) ms h
+
+-- ---- what was due in this cycle is gone
+
+not_this : (past cycle due : ℕ) → (due == cycle) ≡ false → cycle ≡ past + 1 → past < due → cycle < due
+not_this past cycle due h q lt = let n : due ≢ cycle = grind (arith, nat_tests) in omega (arith, q, lt, n)
+
+left_miss : (d : Desc) (past cycle : ℕ) (m : Miss) (ms : List Miss) (b : Bool) → is_due cycle m ≡ b → cycle ≡ past + 1 → IsPending d past cycle m → Each (IsPending d cycle cycle) ms → Each (IsPending d cycle cycle) (if not b then m ∷ ms else ms)
+left_miss d past cycle m ms true h q s k = k
+left_miss d past cycle m ms false h q s k = ((not_this past cycle m.due h q s.0, s.1), k)
+
+pub misses_left : (d : Desc) (past cycle : ℕ) (ms : List Miss) → cycle ≡ past + 1 → Each (IsPending d past cycle) ms → Each (IsPending d cycle cycle) (filter (λ m. not (is_due cycle m)) ms)
+misses_left d past cycle [] q h = tt
+misses_left d past cycle (m ∷ ms) q h = left_miss d past cycle m _ (is_due cycle m) refl q h.0 (misses_left d past cycle ms q h.1)
+
+left_due : (d : Desc) (past cycle longest : ℕ) (t : State) → completes_at cycle t ≡ false → cycle ≡ past + 1 → DueSoon past cycle longest t → DueSoon cycle cycle longest t
+left_due d past cycle longest (Busy due) h q s = (not_this past cycle due h q s.0, s.1)
+left_due d past cycle longest Waiting h q s = tt
+left_due d past cycle longest Done h q s = tt
+
+completed_due : (d : Desc) (past cycle : ℕ) → cycle ≡ past + 1 → (e : Entry) → IsDue d past cycle e → IsDue d cycle cycle (completed cycle e)
+completed_due d past cycle q e h = by_due (completes cycle e) refl
+  where
+    by_due : (b : Bool) → completes cycle e ≡ b → IsDue d cycle cycle (if b then record e { state = Done } else e)
+    by_due true k = tt
+    by_due false k = left_due d past cycle (latency e.item.kind d) e.state k q h
+
+pub dues_left : (d : Desc) (past cycle : ℕ) (w : List Entry) → cycle ≡ past + 1 → Each (IsDue d past cycle) w → Each (IsDue d cycle cycle) (map (completed cycle) w)
+dues_left d past cycle w q h = each_map (IsDue d cycle cycle) (completed cycle) w (each_then (IsDue d past cycle) (λ e. IsDue d cycle cycle (completed cycle e)) (completed_due d past cycle q) w h)
+
+-- ---- what begins
+
+-- a division takes 3 to 35 cycles
+time_in : (x : Machine) (b : List Entry) (e : Entry) → (0 < time_of x b e) × (time_of x b e ≤ longest_division)
+time_in x b e = (omega arith, omega arith)
+
+-- an access ends soon where it joins
+abbrev JoinsSoon : Desc → Machine → Access → Type 0
+JoinsSoon d x (Joins line due) = IsSoon x.cycle x.cycle d.cache_miss_latency due
+JoinsSoon d x _ = Unit {0}
+
+of_found : (d : Desc) (x : Machine) (o : Option Miss) (m : Miss) → o ≡ Some m → OfSome (IsPending d x.cycle x.cycle) o → IsPending d x.cycle x.cycle m
+of_found d x o m q h = subst (OfSome (IsPending d x.cycle x.cycle)) q h
+
+joins_soon : (d : Desc) (x : Machine) → Each (IsPending d x.cycle x.cycle) x.misses → (b : List Entry) (e : Entry) → JoinsSoon d x (access_of d x b e)
+joins_soon d x h = by_load d x (JoinsSoon d x) tt (λ line. tt) (λ line m q. of_found d x _ m q (find_each (IsPending d x.cycle x.cycle) (λ m. m.line == line) x.misses h)) (λ line q r. tt) (λ r. tt) (λ c. tt)
+
+module _ (d : Desc) (x : Machine) (i : IsDesc d) where
+  abbrev Soon : Kind → State → Type 0
+  Soon k t = DueSoon x.cycle x.cycle (latency k d) t
+
+  load_soon : (a : Access) (e : Entry) (f : Effect) (v : ℕ) → JoinsSoon d x a → Soon Load e.state → Soon Load (load_as a d x e f v).entry.state
+  load_soon (Faults c) e f v h k = (omega arith, omega (arith, i.miss_latency.0.0))
+  load_soon Forwards e f v h k = (omega arith, omega (arith, i.miss_latency.0.0))
+  load_soon (Hits line) e f v h k = (omega (arith, i.hit_latency.0), omega (arith, i.miss_latency.1))
+  load_soon (Joins line due) e f v h k = h
+  load_soon (Misses line) e f v h k = (omega (arith, i.miss_latency.0.0), omega arith)
+  load_soon Waits e f v h k = k
+
+  begin_soon : (k : Kind) (b : List Entry) (e : Entry) → JoinsSoon d x (access_of d x b e) → Soon k e.state → Soon k (begin_as k d x b e).entry.state
+  begin_soon Load b e j h = load_soon (access_of d x b e) e _ _ j h
+  begin_soon Mul b e j h = (omega (arith, i.mul_latency.0), omega arith)
+  begin_soon Div b e j h = let n = time_in x b e in (omega (arith, n.0), omega (arith, n.1))
+  begin_soon Store b e j h = (omega arith, omega arith)
+  begin_soon Alu b e j h = (omega arith, omega arith)
+  begin_soon Branch b e j h = (omega arith, omega arith)
+  begin_soon Jalr b e j h = (omega arith, omega arith)
+  begin_soon Jal b e j h = (omega arith, omega arith)
+  begin_soon Call b e j h = (omega arith, omega arith)
+  begin_soon (Stop c) b e j h = (omega arith, omega arith)
+
+  issue_soon : Each (IsPending d x.cycle x.cycle) x.misses → (b : List Entry) (e : Entry) → IsDue d x.cycle x.cycle e → IsDue d x.cycle x.cycle (issue_entry d x b e).entry
+  issue_soon p b e h = by_issue d x b e (IsDue d x.cycle x.cycle) h (λ m.
+      let r = (begin_as e.item.kind d x b e).entry in
+      subst (λ (j : Item). DueSoon x.cycle x.cycle (latency j.kind d) r.state) (sym (begin_goes e.item.kind d x b e).item) (begin_soon e.item.kind b e (joins_soon d x p b e) h))
+
+  pub dues_issued : Each (IsPending d x.cycle x.cycle) x.misses → (b es : List Entry) → Each (IsDue d x.cycle x.cycle) es → Each (IsDue d x.cycle x.cycle) (map (λ (t : Begun). t.entry) (each_from (issue_entry d x) b es))
+  dues_issued p b [] h = tt
+  dues_issued p b (e ∷ es) h = (issue_soon p b e h.0, dues_issued p (e ∷ b) es h.1)
+
+  pub divider_soon : (o : Option Place) → x.divider.free_from ≤ x.cycle + longest_division → (divider_after x o).free_from ≤ x.cycle + longest_division
+  divider_soon None h = h
+  divider_soon (Some p) h = let n = time_in x p.before p.entry in omega (arith, n.1)
+
+-- ---- what is renamed
+
+pub due_new : (d : Desc) (past cycle serial : ℕ) (i : Item) → IsDue d past cycle (renamed serial i)
+due_new d past cycle serial i = by_kind (at_once i.kind)
+  where
+    by_kind : (b : Bool) → DueSoon past cycle (latency i.kind d) (if b then Done else Waiting)
+    by_kind true = tt
+    by_kind false = tt
+
+-- ---- lines of the miss registers
+
+apart_if : (b : Bool) (m : Miss) (ms : List Miss) → Each (λ (n : Miss). m.line ≢ n.line) ms → Apart ms → Apart (cond b (m ∷ ms) ms)
+apart_if true m ms p q = (p, q)
+apart_if false m ms p q = q
+
+pub apart_filter : (t : Miss → Bool) (ms : List Miss) → Apart ms → Apart (filter t ms)
+apart_filter t [] h = tt
+apart_filter t (m ∷ ms) h = apart_if (t m) m (filter t ms) (each_filter (λ (n : Miss). m.line ≢ n.line) t ms h.0) (apart_filter t ms h.1)
+
+apart_push : (ms : List Miss) (n : Miss) → Apart ms → Each (λ (m : Miss). m.line ≢ n.line) ms → Apart (ms ++ n ∷ [])
+apart_push [] n h k = (tt, tt)
+apart_push (m ∷ ms) n h k = (each_push (λ (n : Miss). m.line ≢ n.line) ms n h.0 k.0, apart_push ms n h.1 k.1)
+
+other_if : (m : Miss) (line : ℕ) (b : Bool) (o : Option Miss) → (m.line == line) ≡ b → (if b then Some m else o) ≡ None → (m.line ≢ line) × (o ≡ None)
+other_if m line true o h k = absurd (cc)
+other_if m line false o h k = (grind (arith, nat_tests), k)
+
+none_found : (ms : List Miss) (line : ℕ) → find (λ m. m.line == line) ms ≡ None → Each (λ (m : Miss). m.line ≢ line) ms
+none_found [] line h = tt
+none_found (m ∷ ms) line h =
+    let o = other_if m line (m.line == line) (find (λ m. m.line == line) ms) refl h in
+    (o.0, none_found ms line o.1)
+
+-- the miss registers after an access
+pub record MissesSoon (d : Desc) (cycle : ℕ) (ms : List Miss) : Type 0 where
+  pub misses : Each (IsPending d cycle cycle) ms
+  pub lines : Apart ms
+
+pub taken_soon : (d : Desc) (x : Machine) → IsDesc d → MissesSoon d x.cycle x.misses → (b : List Entry) (e : Entry) → MissesSoon d x.cycle (misses_after (access_of d x b e) d x)
+taken_soon d x i h = by_load d x (λ a. MissesSoon d x.cycle (misses_after a d x)) h (λ line. h) (λ line m q. h)
+    (λ line q r.
+    let new : Miss = record { line = line; due = x.cycle + d.cache_miss_latency } in
+    record { misses = each_push (IsPending d x.cycle x.cycle) x.misses new h.misses (omega (arith, i.miss_latency.0.0), omega arith); lines = apart_push x.misses new h.lines (none_found x.misses line q) })
+    (λ r. h) (λ c. h)

@@ -1,0 +1,14 @@
+pub mod Parts
+pub mod Caches
+pub mod SizedWindow
+pub mod SizedPhases
+pub mod SizedRetire
+pub mod SizedRun
+pub mod Serials
+pub mod Dues
+pub mod Reasons
+pub mod TimelyPhases
+pub mod TimelyRun
+pub mod Adds
+pub mod Ports
+pub mod FewEvents

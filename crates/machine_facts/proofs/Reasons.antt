@@ -1,0 +1,126 @@
+-- The reason why nothing is fetched stays: the youngest is a stop or a known fault.
+use Rattle.std.proofs.Common.{◌≡◌, ℕ, Bool, true, false, ◌&&◌, ◌||◌, List, [], ◌∷◌, ◌++◌, Option, Some, None, refl, ap, sym, ◌∙◌}
+use Rattle.std.specs.Prelude.{if◌then◌else◌, is_some, map}
+use Rattle.rv_types.specs.declared.Cause.{Cause}
+use Rattle.rv_types.specs.declared.Instr.{Instr}
+use Rattle.rv_types.specs.declared.Kind.{Kind}
+use Rattle.rv_types.specs.declared.Kind.TheVariants.{Alu, Mul, Div, Load, Store, Branch, Jalr, Jal, Call, Stop}
+use Rattle.machine_desc.specs.declared.Desc.{Desc}
+use Rattle.window_model.specs.declared.Entry.{Entry}
+use Rattle.window_model.specs.declared.Item.{Item}
+use Rattle.window_model.specs.declared.Target.{Target}
+use Rattle.window_model.specs.declared.State.TheVariants.{Done}
+use Rattle.window_model.specs.State.{Machine}
+use Rattle.window_model.specs.Order.{each_from, is_done, is_faulty, fault_of}
+use Rattle.window_model.specs.Fill.{completed, completes}
+use Rattle.window_model.specs.Retire.{trap_of}
+use Rattle.window_model.specs.Issue.{Begun, issue_entry, begin_as}
+use Rattle.window_model.specs.Front.{is_stop, predicted, renamed}
+use Rattle.window_model.proofs.Issuing.{by_issue, begin_goes}
+use Rattle.machine_facts.specs.Timely.{is_last, last_from, last_item_from}
+use Rattle.window_model.proofs.Booleans.{waiting_done}
+use Rattle.window_model.proofs.Leaving.{no_trap}
+
+-- ---- folds over the window and the queue
+
+-- a change that spares the last leaves the last
+pub last_map : (f : Entry → Entry) → ((e : Entry) → is_last e ≡ true → is_last (f e) ≡ true) → (b b2 : Bool) → (b ≡ true → b2 ≡ true) → (es : List Entry) → last_from b es ≡ true → last_from b2 (map f es) ≡ true
+last_map f k b b2 i [] h = i h
+last_map f k b b2 i (e ∷ es) h = last_map f k (is_last e) (is_last (f e)) (k e) es h
+
+pub items_more : (b b2 : Bool) → (b ≡ true → b2 ≡ true) → (is : List Item) → last_item_from b is ≡ true → last_item_from b2 is ≡ true
+items_more b b2 i [] h = i h
+items_more b b2 i (j ∷ js) h = h
+
+-- what holds with no youngest entry holds with one
+pub last_more : (b b2 : Bool) → (b ≡ true → b2 ≡ true) → (es : List Entry) → last_from b es ≡ true → last_from b2 es ≡ true
+last_more b b2 i [] h = i h
+last_more b b2 i (e ∷ es) h = h
+
+pub last_join : (b : Bool) (a c : List Entry) → last_from b (a ++ c) ≡ last_from (last_from b a) c
+last_join b [] c = refl
+last_join b (e ∷ a) c = last_join (is_last e) a c
+
+-- one more at the end is the last
+pub last_push : (b : Bool) (es : List Entry) (e : Entry) → last_from b (es ++ e ∷ []) ≡ is_last e
+last_push b es e = last_join b es (e ∷ [])
+
+pub last_item_push : (b : Bool) (is : List Item) (i : Item) → last_item_from b (is ++ i ∷ []) ≡ is_stop i.kind
+last_item_push b [] i = refl
+last_item_push b (x ∷ is) i = last_item_push (is_stop x.kind) is i
+
+-- ---- entries that become done
+
+done_last : (s t f : Bool) → (s || t && f) ≡ true → (s || f) ≡ true
+done_last true t f h = refl
+done_last false true f h = h
+done_last false false f h = absurd (cc)
+
+pub last_completed : (cycle : ℕ) (e : Entry) → is_last e ≡ true → is_last (completed cycle e) ≡ true
+last_completed cycle e h = by_due (completes cycle e)
+  where
+    by_due : (b : Bool) → is_last (if b then record e { state = Done } else e) ≡ true
+    by_due true = done_last (is_stop e.item.kind) (is_done e.state) (is_faulty e) h
+    by_due false = h
+
+-- ---- entries that begin
+
+still_stop : (s s2 t t2 f f2 : Bool) → s ≡ s2 → t ≡ false → (s || t && f) ≡ true → (s2 || t2 && f2) ≡ true
+still_stop true true t t2 f f2 p q h = refl
+still_stop false s2 false t2 f f2 p q h = absurd (cc)
+still_stop true false t t2 f f2 p q h = absurd (cc)
+still_stop false s2 true t2 f f2 p q h = absurd (cc)
+
+last_begins : (d : Desc) (x : Machine) (b : List Entry) (e : Entry) → is_last e ≡ true → is_last (issue_entry d x b e).entry ≡ true
+last_begins d x b e h = by_issue d x b e (λ r. is_last r ≡ true) h (λ m.
+    let r = (begin_as e.item.kind d x b e).entry in
+    still_stop (is_stop e.item.kind) (is_stop r.item.kind) (is_done e.state) (is_done r.state) (is_faulty e) (is_faulty r)
+    (ap (λ (i : Item). is_stop i.kind) (sym (begin_goes e.item.kind d x b e).item)) (waiting_done e.state m.waits) h)
+
+pub last_issued : (d : Desc) (x : Machine) (b : List Entry) (n n2 : Bool) → (n ≡ true → n2 ≡ true) → (es : List Entry) → last_from n es ≡ true → last_from n2 (map (λ (t : Begun). t.entry) (each_from (issue_entry d x) b es)) ≡ true
+last_issued d x b n n2 i [] h = i h
+last_issued d x b n n2 i (e ∷ es) h = last_issued d x (e ∷ b) (is_last e) (is_last (issue_entry d x b e).entry) (last_begins d x b e) es h
+
+-- ---- a head that doesn't trap is not the last
+
+no_fault : (s t f : Bool) → s ≡ false → f ≡ false → (s || t && f) ≡ false
+no_fault s true f p q = cc
+no_fault s false f p q = cc
+
+not_faulty : (o : Option Cause) → o ≡ None → is_some o ≡ false
+not_faulty None h = refl
+not_faulty (Some c) h = absurd (cc)
+
+pub not_last : (e : Entry) → trap_of e ≡ None → is_last e ≡ false
+not_last e h =
+    let n = no_trap e.item.kind e h in
+    no_fault (is_stop e.item.kind) (is_done e.state) (is_faulty e) n.0 (not_faulty (fault_of e.outcome) n.1)
+
+-- without the head
+pub last_rest : (e : Entry) (rest : List Entry) (q : List Item) (n : Bool) → trap_of e ≡ None → last_item_from (last_from (is_last e) rest) q ≡ true → last_item_from (last_from n rest) q ≡ true
+last_rest e rest q n t h =
+    let none : last_item_from (last_from false rest) q ≡ true = ap (λ b. last_item_from (last_from b rest) q) (sym (not_last e t)) ∙ h in
+    items_more (last_from false rest) (last_from n rest) (last_more false n (λ b. absurd (cc)) rest) q none
+
+-- ---- what is renamed and fetched
+
+pub last_new : (serial : ℕ) (i : Item) → is_last (renamed serial i) ≡ is_stop i.kind
+last_new serial i = by (is_stop i.kind) (is_done (renamed serial i).state)
+  where
+    by : (s t : Bool) → (s || t && false) ≡ s
+    by true t = refl
+    by false true = refl
+    by false false = refl
+
+-- only a stop predicts nothing
+pub stop_predicts : (k : Kind) (d : Desc) (c : List ℕ) (t : List (Option Target)) (pc : ℕ) (i : Instr) → predicted k d c t pc i ≡ None → is_stop k ≡ true
+stop_predicts (Stop a) d c t pc i h = refl
+stop_predicts Alu d c t pc i h = absurd (cc)
+stop_predicts Mul d c t pc i h = absurd (cc)
+stop_predicts Div d c t pc i h = absurd (cc)
+stop_predicts Load d c t pc i h = absurd (cc)
+stop_predicts Store d c t pc i h = absurd (cc)
+stop_predicts Branch d c t pc i h = absurd (cc)
+stop_predicts Jalr d c t pc i h = absurd (cc)
+stop_predicts Jal d c t pc i h = absurd (cc)
+stop_predicts Call d c t pc i h = absurd (cc)

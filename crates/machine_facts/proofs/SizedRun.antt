@@ -1,0 +1,50 @@
+-- A cycle and a run keep sizes and entries, and leave memory where it is.
+use Rattle.std.proofs.Common.{ℕ, ◌+◌, ap, sym, subst}
+use Rattle.rv_types.specs.Memory.{Code, Ram}
+use Rattle.machine_desc.specs.declared.Desc.{Desc}
+use Rattle.machine_desc.specs.Ranges.{IsDesc}
+use Rattle.window_model.specs.Shape.{SameShape}
+use Rattle.window_model.specs.State.{Machine, opening}
+use Rattle.window_model.specs.Cycle.{cycle, at}
+use Rattle.window_model.proofs.Walks.{cycle_keep, run_keep}
+use Rattle.window_model.specs.Fill.{fill, complete}
+use Rattle.window_model.specs.Retire.{retire}
+use Rattle.rv_types.specs.Isa.{Hart}
+use Rattle.window_model.proofs.Quiet.{before_retire, cycle_is, front_quiet, back_quiet}
+use Rattle.machine_facts.specs.Sized.{Sized}
+use Rattle.machine_facts.proofs.SizedPhases.{sized_opening, sized_begin, sized_fill, sized_complete, sized_resolve, sized_issue, sized_rename, sized_fetch}
+use Rattle.machine_facts.proofs.SizedRetire.{sized_retire, memory_stays_retire}
+use Rattle.window_model.proofs.Memory.{same_shape, shape_then}
+
+pub sized_cycle : (d : Desc) (code : Code) (x : Machine) → IsDesc d → Sized d x → Sized d (cycle d code x).machine
+sized_cycle d code x i s =
+    cycle_keep d (Sized d) code (λ x. sized_issue d x i) (λ x. sized_rename d x i) (λ x. sized_fetch d code x i) (λ x. sized_resolve d x i) (λ x. sized_retire d x i)
+    (λ x. sized_begin d x i) (λ x. sized_fill d x i) (λ x. sized_complete d x i) x s
+
+pub sized_at : (d : Desc) (code : Code) (entry : ℕ) (ram : Ram) (k : ℕ) → IsDesc d → Sized d (at d code entry ram k)
+sized_at d code entry ram k i = run_keep d (Sized d) code (λ x. sized_cycle d code x i) k (opening d entry ram) (sized_opening d entry ram i)
+
+-- ---- memory
+
+pub memory_stays_cycle : (d : Desc) (code : Code) (x : Machine) → IsDesc d → Sized d x → SameShape x.ram (cycle d code x).machine.ram
+memory_stays_cycle d code x i s =
+    let y = before_retire d x in
+    let z = (retire d y).machine in
+    let front = ap (λ (h : Hart). h.ram) (front_quiet d x).hart in
+    let back = ap (λ (h : Hart). h.ram) (back_quiet d code z).hart in
+    let x1 : Machine = record x { cycle = x.cycle + 1 } in
+    let x2 = (fill d x1).machine in
+    let x3 = (complete x2).machine in
+    let t : Sized d y = sized_resolve d x3 i (sized_complete d x2 i (sized_fill d x1 i (sized_begin d x i s))) in
+    let stays = subst (λ m. SameShape m z.ram) front (memory_stays_retire d y i t) in
+    subst (λ (u : Machine). SameShape x.ram u.ram) (sym (cycle_is d code x)) (subst (SameShape x.ram) (sym back) stays)
+
+-- sizes, and memory where it was at first
+record Lies (d : Desc) (ram : Ram) (x : Machine) : Type 0 where
+  sized : Sized d x
+  shape : SameShape ram x.ram
+
+pub memory_stays_at : (d : Desc) (code : Code) (entry : ℕ) (ram : Ram) (k : ℕ) → IsDesc d → SameShape ram (at d code entry ram k).ram
+memory_stays_at d code entry ram k i =
+    (run_keep d (Lies d ram) code (λ x h. record { sized = sized_cycle d code x i h.sized; shape = shape_then ram x.ram (cycle d code x).machine.ram h.shape (memory_stays_cycle d code x i h.sized) }) k
+    (opening d entry ram) (record { sized = sized_opening d entry ram i; shape = same_shape ram })).shape

@@ -1,0 +1,228 @@
+-- Each phase keeps serials, times and the reason why nothing is fetched.
+use Rattle.std.proofs.Common.{◌≡◌, ℕ, suc, ◌+◌, ◌≤◌, Bool, true, false, not, ◌&&◌, ◌||◌, List, [], ◌∷◌, ◌++◌, length, Option, Some, None, refl, ap, sym, ◌∙◌, subst, arith}
+use Rattle.std.specs.Prelude.{if◌then◌else◌, reverse, is_some, nat_lt}
+use Rattle.std.specs.List.{AllByRecursion as Each}
+use Rattle.rv_types.specs.Memory.{Code, Ram}
+use Rattle.rv_types.specs.Isa.{reg}
+use Rattle.rv_types.specs.Regs.{writes_of}
+use Rattle.rv_types.specs.declared.End.{End}
+use Rattle.machine_desc.specs.declared.Desc.{Desc}
+use Rattle.machine_desc.specs.Ranges.{IsDesc}
+use Rattle.window_model.specs.declared.Divider.{Divider}
+use Rattle.window_model.specs.declared.Entry.{Entry}
+use Rattle.window_model.specs.declared.Item.{Item}
+use Rattle.window_model.specs.declared.Target.{Target}
+use Rattle.window_model.specs.State.{Machine, opening}
+use Rattle.window_model.specs.Order.{Place, first, is_done, is_faulty, value_of}
+use Rattle.window_model.specs.Fill.{fill, complete, completed, is_due}
+use Rattle.window_model.specs.Resolve.{resolve, resolve_at, may_resolve, with_predictor, squash, keep, squashes, is_from, next_of}
+use Rattle.window_model.specs.Retire.{retire, head_leaves, trap_of}
+use Rattle.window_model.specs.Issue.{issue, is_free, after_load, tried, divides}
+use Rattle.window_model.specs.Front.{rename, rename_one, renamed, fits, fetch, fetch_one, item_at, instr_at, kind_at, is_stop}
+use Rattle.window_model.proofs.Lists.{each_join, each_left, each_right, each_push}
+use Rattle.window_model.proofs.Places.{Found, by_place}
+use Rattle.window_model.proofs.Registers.{read_other, writes_not_zero}
+use Rattle.window_model.proofs.Counts.{Evolves, evolves_same, map_evolves, place_evolves, completed_goes}
+use Rattle.window_model.proofs.Walks.{heads_keep, rename_keep, fetch_keep}
+use Rattle.machine_facts.specs.Timely.{Rises, IsDue, longest_division, last_from, last_item_from, TimelyFrom, Timely}
+use Rattle.machine_facts.proofs.Serials.{rises_from, rises_on, rises_push}
+use Rattle.machine_facts.proofs.Dues.{dues_later, misses_later, misses_left, dues_left, dues_issued, divider_soon, due_new, apart_filter, taken_soon}
+use Rattle.machine_facts.proofs.Reasons.{last_map, items_more, last_more, last_join, last_push, last_item_push, last_completed, last_issued, last_rest, last_new, stop_predicts}
+use Rattle.window_model.proofs.Resolving.{resolve_parts, placed, resolved_one, resolved_goes}
+use Rattle.window_model.proofs.Leaving.{gone, head_by}
+use Rattle.window_model.proofs.Issuing.{issue_evolves}
+
+-- ---- the first state, and the next cycle
+
+pub timely_opening : (d : Desc) (entry : ℕ) (ram : Ram) → IsDesc d → Timely d (opening d entry ram)
+timely_opening d entry ram i = record { serials = omega arith; dues = tt; misses = tt; lines = tt; divider = omega arith; fetches = λ h. absurd (cc); zero = refl }
+
+-- the number rises, and what was due later than the last cycle still is
+pub timely_begin : (d : Desc) (x : Machine) → IsDesc d → Timely d x → TimelyFrom x.cycle x.cycle d (record x { cycle = x.cycle + 1 })
+timely_begin d x i h = record {
+  serials = h.serials;
+  dues = dues_later d x.cycle x.cycle x.window h.dues;
+  misses = misses_later d x.cycle x.cycle x.misses h.misses;
+  lines = h.lines;
+  divider = omega (arith, h.divider);
+  fetches = h.fetches;
+  zero = h.zero;
+}
+
+-- ---- lines arrive, and entries become done
+
+pub timely_fill : (past_misses past : ℕ) (d : Desc) (x : Machine) → IsDesc d → x.cycle ≡ past_misses + 1 → TimelyFrom past_misses past d x → TimelyFrom x.cycle past d (fill d x).machine
+timely_fill past_misses past d x i q h = record {
+  serials = h.serials;
+  dues = h.dues;
+  misses = misses_left d past_misses x.cycle x.misses q h.misses;
+  lines = apart_filter (λ m. not (is_due x.cycle m)) x.misses h.lines;
+  divider = h.divider;
+  fetches = h.fetches;
+  zero = h.zero;
+}
+
+pub timely_complete : (past : ℕ) (d : Desc) (x : Machine) → IsDesc d → x.cycle ≡ past + 1 → TimelyFrom x.cycle past d x → Timely d (complete x).machine
+timely_complete past d x i q h = record {
+  serials = rises_on 0 x.next_serial x.window _ (map_evolves (completed x.cycle) (completed_goes x.cycle) x.window) h.serials;
+  dues = dues_left d past x.cycle x.window q h.dues;
+  misses = h.misses;
+  lines = h.lines;
+  divider = h.divider;
+  fetches = λ n. items_more _ _ (last_map (completed x.cycle) (last_completed x.cycle) (is_some x.end) (is_some x.end) (λ h. h) x.window) x.queue (h.fetches n);
+  zero = h.zero;
+}
+
+-- ---- resolve
+
+module _ (d : Desc) where
+  freed_in : (b : Bool) (v : Divider) (n : ℕ) → v.free_from ≤ n → (if b then (let f : Divider = record { free_from = 0; user = None } in f) else v).free_from ≤ n
+  freed_in true v n h = omega arith
+  freed_in false v n h = h
+
+  nowhere_after : (b : Bool) (n : ℕ) → (if b then None else Some n) ≡ None → b ≡ true
+  nowhere_after true n h = refl
+  nowhere_after false n h = absurd (cc)
+
+  last_resolved : (s t f : Bool) → t ≡ true → f ≡ true → (s || t && f) ≡ true
+  last_resolved true t f p q = refl
+  last_resolved false true f p q = q
+  last_resolved false false f p q = absurd (cc)
+
+  module _ (x : Machine) (h : Timely d x) (p : Place) (g : Found (may_resolve d) [] x.window p) where
+    older : List Entry
+    older = reverse p.before
+
+    place : x.window ≡ older ++ p.entry ∷ p.younger
+    unfolding older
+    place = placed d x.window p g
+
+    done : is_done p.entry.state ≡ true
+    done = (resolve_parts d p.before p.entry g.has).done
+
+    serials : (zs : List Entry) → Evolves p.younger zs → Rises 0 (older ++ resolved_one p.entry ∷ zs) x.next_serial
+    serials zs v = rises_on 0 x.next_serial x.window _ (subst (λ w. Evolves w (older ++ resolved_one p.entry ∷ zs)) (sym place) (place_evolves older p.entry (resolved_one p.entry) p.younger zs (resolved_goes p.entry) v)) h.serials
+
+    dues : (zs : List Entry) → (Each (IsDue d x.cycle x.cycle) p.younger → Each (IsDue d x.cycle x.cycle) zs) → Each (IsDue d x.cycle x.cycle) (older ++ resolved_one p.entry ∷ zs)
+    dues zs v =
+        let all = subst (Each (IsDue d x.cycle x.cycle)) place h.dues in
+        let behind = each_right (IsDue d x.cycle x.cycle) older _ all in
+        each_join (IsDue d x.cycle x.cycle) older _ (each_left (IsDue d x.cycle x.cycle) older _ all) (behind.0, v behind.1)
+
+    either : (b : Bool) (c : List ℕ) (t : List (Option Target)) → Timely d (if b then squash p (with_predictor x c t) else keep p (with_predictor x c t)).machine
+    unfolding older
+    either true c t = record {
+      serials = serials [] tt;
+      dues = dues [] (λ k. tt);
+      misses = h.misses;
+      lines = h.lines;
+      divider = freed_in (is_from (p.entry.serial + 1) x.divider.user) x.divider (x.cycle + longest_division) h.divider;
+      fetches = λ n.
+          last_join (is_some x.end) older (resolved_one p.entry ∷ [])
+          ∙ last_resolved (is_stop p.entry.item.kind) (is_done p.entry.state) (is_faulty p.entry) done (nowhere_after (is_faulty p.entry) (next_of p.entry.outcome) n);
+      zero = h.zero;
+    }
+    either false c t = record {
+      serials = serials p.younger (evolves_same p.younger);
+      dues = dues p.younger (λ k. k);
+      misses = h.misses;
+      lines = h.lines;
+      divider = h.divider;
+      fetches = λ n.
+          ap (λ b. last_item_from b x.queue)
+          (last_join (is_some x.end) older (resolved_one p.entry ∷ p.younger)
+          ∙ sym (last_join (is_some x.end) older (p.entry ∷ p.younger))
+          ∙ ap (last_from (is_some x.end)) (sym place))
+          ∙ h.fetches n;
+      zero = h.zero;
+    }
+
+    at_place : Timely d (resolve_at d (Some p) x).machine
+    at_place = either (squashes p.entry) _ _
+
+pub timely_resolve : (d : Desc) (x : Machine) → IsDesc d → Timely d x → Timely d (resolve d x).machine
+timely_resolve d x i h = by_place (may_resolve d) x.window (λ o. Timely d (resolve_at d o x).machine) h (at_place d x h)
+
+-- ---- retire
+
+module _ (d : Desc) where
+  timely_gone : (x : Machine) (e : Entry) (rest : List Entry) (regs : List ℕ) (pc : ℕ) (ram : Ram) (cache : List (List ℕ)) (retired : ℕ) (end : Option End) → x.window ≡ e ∷ rest → trap_of e ≡ None → reg regs 0 ≡ reg x.regs 0 → Timely d x →
+      Timely d (gone x rest regs pc ram cache retired end)
+  timely_gone x e rest regs pc ram cache retired end w t z h = record {
+    serials = rises_from (suc e.serial) 0 x.next_serial rest (omega arith) (subst (λ w. Rises 0 w x.next_serial) w h.serials).1;
+    dues = (subst (Each (IsDue d x.cycle x.cycle)) w h.dues).1;
+    misses = h.misses;
+    lines = h.lines;
+    divider = h.divider;
+    fetches = λ n. last_rest e rest x.queue (is_some end) t (ap (λ v. last_item_from (last_from (is_some x.end) v) x.queue) (sym w) ∙ h.fetches n);
+    zero = z ∙ h.zero;
+  }
+
+  leaves : (x : Machine) (e : Entry) (rest : List Entry) → x.window ≡ e ∷ rest → trap_of e ≡ None → Timely d x → Timely d (head_leaves e.item.kind d e rest x).machine
+  leaves x e rest w t h =
+      let zero = read_other x.regs (writes_of e.item.instr) 0 (value_of e.outcome) (writes_not_zero e.item.instr) in
+      head_by d e rest x (Timely d) h (λ s end f. timely_gone x e rest s.regs s.pc s.ram x.cache _ end w t f.zero h) (timely_gone x e rest _ _ _ _ _ _ w t zero h)
+      e.item.kind (λ q. timely_gone x e rest _ _ _ _ _ _ w t zero h)
+
+  ends : (x : Machine) (end : End) → Timely d x → Timely d (record x { end = Some end })
+  ends x end h = record {
+    serials = h.serials;
+    dues = h.dues;
+    misses = h.misses;
+    lines = h.lines;
+    divider = h.divider;
+    fetches = λ n. items_more _ _ (last_more (is_some x.end) true (λ b. refl) x.window) x.queue (h.fetches n);
+    zero = h.zero;
+  }
+
+pub timely_retire : (d : Desc) (x : Machine) → IsDesc d → Timely d x → Timely d (retire d x).machine
+timely_retire d x i h = heads_keep d (Timely d) (λ x e rest w l t k. leaves d x e rest w t k) (ends d) x h
+
+-- ---- issue
+
+issue_done : (d : Desc) (x : Machine) (o : Option Place) (w : List Entry) (v : Divider) → IsDesc d → Rises 0 w x.next_serial → Each (IsDue d x.cycle x.cycle) w → v.free_from ≤ x.cycle + longest_division →
+    (x.fetch_pc ≡ None → last_item_from (last_from (is_some x.end) w) x.queue ≡ true) → Timely d x → Timely d (record (after_load d o x) { window = w; divider = v })
+issue_done d x None w v i r u f n h = record { serials = r; dues = u; misses = h.misses; lines = h.lines; divider = f; fetches = n; zero = h.zero }
+issue_done d x (Some p) w v i r u f n h =
+    let m = taken_soon d x i (record { misses = h.misses; lines = h.lines }) p.before p.entry in
+    record { serials = r; dues = u; misses = m.misses; lines = m.lines; divider = f; fetches = n; zero = h.zero }
+
+pub timely_issue : (d : Desc) (x : Machine) → IsDesc d → Timely d x → Timely d (issue d x).machine
+timely_issue d x i h =
+    issue_done d x (first (tried d (is_free x)) x.window) _ _ i
+    (rises_on 0 x.next_serial x.window _ (issue_evolves d x [] x.window) h.serials)
+    (dues_issued d x i h.misses [] x.window h.dues)
+    (divider_soon d x i (first (divides d (is_free x)) x.window) h.divider)
+    (λ n. items_more _ _ (last_issued d x [] (is_some x.end) (is_some x.end) (λ h. h) x.window) x.queue (h.fetches n)) h
+
+-- ---- rename and fetch
+
+rename_item : (d : Desc) (x : Machine) (j : Item) (rest : List Item) → x.queue ≡ j ∷ rest → fits d x.window j ≡ true → Timely d x → Timely d (rename_one j rest x).machine
+rename_item d x j rest q f h = record {
+  serials = rises_push 0 x.next_serial x.window (renamed x.next_serial j) refl h.serials;
+  dues = each_push (IsDue d x.cycle x.cycle) x.window (renamed x.next_serial j) h.dues (due_new d x.cycle x.cycle x.next_serial j);
+  misses = h.misses;
+  lines = h.lines;
+  divider = h.divider;
+  fetches = λ n.
+      let before : last_item_from (last_from (is_some x.end) x.window) (j ∷ rest) ≡ true = ap (last_item_from (last_from (is_some x.end) x.window)) (sym q) ∙ h.fetches n in
+      ap (λ b. last_item_from b rest) (last_push (is_some x.end) x.window (renamed x.next_serial j) ∙ last_new x.next_serial j) ∙ before;
+  zero = h.zero;
+}
+
+pub timely_rename : (d : Desc) (x : Machine) → IsDesc d → Timely d x → Timely d (rename d x).machine
+timely_rename d x i h = rename_keep d (Timely d) (rename_item d) x h
+
+fetch_item : (d : Desc) (code : Code) (x : Machine) (pc : ℕ) → x.fetch_pc ≡ Some pc → nat_lt (length x.queue) d.core_queue ≡ true → Timely d x → Timely d (fetch_one (item_at d code x pc) x).machine
+fetch_item d code x pc q r h = record {
+  serials = h.serials;
+  dues = h.dues;
+  misses = h.misses;
+  lines = h.lines;
+  divider = h.divider;
+  fetches = λ n. last_item_push (last_from (is_some x.end) x.window) x.queue (item_at d code x pc) ∙ stop_predicts (kind_at (code pc)) d x.counters x.targets pc (instr_at (code pc)) n;
+  zero = h.zero;
+}
+
+pub timely_fetch : (d : Desc) (code : Code) (x : Machine) → IsDesc d → Timely d x → Timely d (fetch d code x).machine
+timely_fetch d code x i h = fetch_keep d (Timely d) code (fetch_item d code) x h

@@ -1,0 +1,43 @@
+-- What the phases, a cycle and every run keep (docs/theorems.md, "What every state keeps").
+use Rattle.std.specs.Prelude.{ℕ, ◌≤◌, length}
+use Rattle.rv_types.specs.Memory.{Code, Ram}
+use Rattle.machine_desc.specs.declared.Desc.{Desc}
+use Rattle.machine_desc.specs.Ranges.{IsDesc}
+use Rattle.window_model.specs.Shape.{SameShape}
+use Rattle.window_model.specs.State.{Machine}
+use Rattle.window_model.specs.Retire.{retire}
+use Rattle.window_model.specs.Cycle.{at, cycle}
+use Rattle.machine_facts.specs.Sized.{Sized}
+use Rattle.machine_facts.specs.Timely.{Timely, Counted}
+
+-- every state of a run has its sizes
+abbrev pub StatesAreSized : Type 0
+StatesAreSized = (d : Desc) (code : Code) (entry : ℕ) (ram : Ram) (k : ℕ) → IsDesc d → Sized d (at d code entry ram k)
+
+-- in every state of a run serials rise, all that is under way ends soon, and fetching stops only for a reason
+abbrev pub StatesAreTimely : Type 0
+StatesAreTimely = (d : Desc) (code : Code) (entry : ℕ) (ram : Ram) (k : ℕ) → IsDesc d → Timely d (at d code entry ram k)
+
+-- in every state of a run at most four instructions a cycle were renamed, and at most four retired
+abbrev pub StatesAreCounted : Type 0
+StatesAreCounted = (d : Desc) (code : Code) (entry : ℕ) (ram : Ram) (k : ℕ) → IsDesc d → Counted (at d code entry ram k)
+
+-- the most events that a cycle has (docs/machine.md, "Events")
+abbrev pub most_events : ℕ
+most_events = 99
+
+-- a cycle has no more events
+abbrev pub RowsAreShort : Type 0
+RowsAreShort = (d : Desc) (code : Code) (x : Machine) → IsDesc d → Sized d x → length (cycle d code x).row.events ≤ most_events
+
+-- Retire leaves memory where it is
+abbrev pub RetireKeepsShape : Type 0
+RetireKeepsShape = (d : Desc) (x : Machine) → IsDesc d → Sized d x → SameShape x.ram (retire d x).machine.ram
+
+-- and so does a cycle
+abbrev pub CycleKeepsShape : Type 0
+CycleKeepsShape = (d : Desc) (code : Code) (x : Machine) → IsDesc d → Sized d x → SameShape x.ram (cycle d code x).machine.ram
+
+-- in every state of a run memory is where it was at first
+abbrev pub StatesKeepShape : Type 0
+StatesKeepShape = (d : Desc) (code : Code) (entry : ℕ) (ram : Ram) (k : ℕ) → IsDesc d → SameShape ram (at d code entry ram k).ram

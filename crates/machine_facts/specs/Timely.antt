@@ -1,0 +1,92 @@
+-- What every state keeps of times: serials rise, all that is under way ends soon, and fetching stops only for a reason
+-- (docs/theorems.md, "What every state keeps").
+use Rattle.std.specs.Prelude.{◌≡◌, ◌≢◌, ℕ, suc, ◌+◌, ◌*◌, ◌<◌, ◌≤◌, Bool, true, ◌&&◌, ◌||◌, List, [], ◌∷◌, None, is_some}
+use Rattle.std.specs.List.{AllByRecursion as Each}
+use Rattle.rv_types.specs.Isa.{reg}
+use Rattle.rv_types.specs.declared.Kind.{Kind}
+use Rattle.rv_types.specs.declared.Kind.TheVariants.{Load, Mul, Div}
+use Rattle.machine_desc.specs.declared.Desc.{Desc}
+use Rattle.window_model.specs.declared.Entry.{Entry}
+use Rattle.window_model.specs.declared.Item.{Item}
+use Rattle.window_model.specs.declared.Miss.{Miss}
+use Rattle.window_model.specs.declared.State.{State}
+use Rattle.window_model.specs.declared.State.TheVariants.{Busy}
+use Rattle.window_model.specs.State.{Machine}
+use Rattle.window_model.specs.Order.{is_done, is_faulty}
+use Rattle.window_model.specs.Front.{is_stop}
+
+-- serials rise from one on, and all stay below another
+abbrev pub Rises : ℕ → List Entry → ℕ → Type 0
+Rises low [] next = low ≤ next
+Rises low (e ∷ es) next = (low ≤ e.serial) × Rises (suc e.serial) es next
+
+-- no division takes longer (docs/machine.md, "The time of a division")
+abbrev pub longest_division : ℕ
+longest_division = 35
+
+-- the longest that an entry of a kind is busy (docs/machine.md, "Issue", "Loads")
+abbrev pub latency : Kind → Desc → ℕ
+latency Load d = d.cache_miss_latency
+latency Mul d = d.units_mul_latency
+latency Div d = longest_division
+latency _ d = 1
+
+-- later than one cycle, and at most so many after another
+abbrev pub IsSoon : ℕ → ℕ → ℕ → ℕ → Type 0
+IsSoon past cycle longest due = (past < due) × (due ≤ cycle + longest)
+
+-- what is busy becomes done soon
+abbrev pub DueSoon : ℕ → ℕ → ℕ → State → Type 0
+DueSoon past cycle longest (Busy due) = IsSoon past cycle longest due
+DueSoon past cycle longest _ = Unit {0}
+
+-- an entry becomes done within its kind's latency
+abbrev pub IsDue : Desc → ℕ → ℕ → Entry → Type 0
+IsDue d past cycle e = DueSoon past cycle (latency e.item.kind d) e.state
+
+-- a miss register is freed within the latency of a miss
+abbrev pub IsPending : Desc → ℕ → ℕ → Miss → Type 0
+IsPending d past cycle m = IsSoon past cycle d.cache_miss_latency m.due
+
+-- no line has two miss registers
+abbrev pub Apart : List Miss → Type 0
+Apart [] = Unit {0}
+Apart (m ∷ ms) = Each (λ n. m.line ≢ n.line) ms × Apart ms
+
+-- nothing is fetched after the entry: it is a stop, or a fault of it is known
+abbrev pub is_last : Entry → Bool
+is_last e = is_stop e.item.kind || is_done e.state && is_faulty e
+
+-- whether the youngest of these entries is such an entry, `none` where there is none
+abbrev pub last_from : Bool → List Entry → Bool
+last_from none [] = none
+last_from none (e ∷ es) = last_from (is_last e) es
+
+-- whether the youngest of these items is a stop, `none` where there is none
+abbrev pub last_item_from : Bool → List Item → Bool
+last_item_from none [] = none
+last_item_from none (i ∷ is) = last_item_from (is_stop i.kind) is
+
+-- the youngest of window and queue is a stop or a known fault, or both are empty and the run has ended
+abbrev pub stopped : Machine → Bool
+stopped x = last_item_from (last_from (is_some x.end) x.window) x.queue
+
+-- misses end later than one cycle, and entries later than another
+pub record TimelyFrom (past_misses past : ℕ) (d : Desc) (x : Machine) : Type 0 where
+  pub serials : Rises 0 x.window x.next_serial
+  pub dues : Each (IsDue d past x.cycle) x.window
+  pub misses : Each (IsPending d past_misses x.cycle) x.misses
+  pub lines : Apart x.misses
+  pub divider : x.divider.free_from ≤ x.cycle + longest_division
+  -- there is a reason where there is no fetch pc
+  pub fetches : x.fetch_pc ≡ None → stopped x ≡ true
+  pub zero : reg x.regs 0 ≡ 0
+
+-- between cycles all that is under way ends in a later cycle
+abbrev pub Timely : Desc → Machine → Type 0
+Timely d x = TimelyFrom x.cycle x.cycle d x
+
+-- at most four instructions are renamed in a cycle, and at most four retire
+pub record Counted (x : Machine) : Type 0 where
+  pub serials : x.next_serial ≤ 4 * x.cycle
+  pub retired : x.retired ≤ 4 * x.cycle

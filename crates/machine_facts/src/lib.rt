@@ -1,0 +1,27 @@
+//! What every state of the machine keeps, from its opening on.
+//!
+//! The facts stand in `specs/`; each phase keeps them, and so does every run (`docs/theorems.md`, "What every state keeps").
+#![tactic(auto)]
+
+ghost use Rattle.machine_facts.specs.Laws.{
+  CycleKeepsShape,
+  RetireKeepsShape,
+  RowsAreShort,
+  StatesAreCounted,
+  StatesAreSized,
+  StatesAreTimely,
+  StatesKeepShape,
+};
+
+/// Every state of a run has the sizes of its description, all that is under way in it ends soon, and serials and the count of
+/// the retired are at most four times its cycle. No cycle has more than 99 events, and neither Retire nor a cycle moves memory
+/// or changes its size (`docs/theorems.md`, "What every state keeps").
+pub fn states_keep()
+    ensures sized { StatesAreSized }
+    ensures timely { StatesAreTimely }
+    ensures counted { StatesAreCounted }
+    ensures events { RowsAreShort }
+    ensures retire_memory { RetireKeepsShape }
+    ensures cycle_memory { CycleKeepsShape }
+    ensures memory { StatesKeepShape }
+{}
