@@ -1,0 +1,155 @@
+-- One turn of Retire: a head that leaves is a step of the instruction set.
+use Rattle.std.proofs.Common.{◌≡◌, ℕ, Bool, true, false, not, ◌&&◌, ◌||◌, List, [], ◌∷◌, Option, Some, None, refl, ap, sym, ◌∙◌, subst}
+use Rattle.std.specs.Prelude.{if◌then◌else◌, is_some}
+use Rattle.rv_types.specs.Word.{to_le}
+use Rattle.rv_types.specs.Memory.{Code, Ram, with_bytes}
+use Rattle.rv_types.specs.Isa.{Hart, Step, Goes, Traps, isa_step, step_at, step_of, with_reg, effect, first_of, second_of}
+use Rattle.rv_types.specs.Regs.{writes_of}
+use Rattle.rv_types.specs.Decode.{decode}
+use Rattle.rv_types.specs.declared.Cause.{Cause}
+use Rattle.rv_types.specs.Kind.{kind_of}
+use Rattle.rv_types.specs.declared.Instr.{Instr}
+use Rattle.rv_types.specs.declared.Kind.{Kind}
+use Rattle.rv_types.specs.declared.Kind.TheVariants.{Mul, Div, Load, Store}
+use Rattle.window_model.specs.declared.Entry.{Entry}
+use Rattle.window_model.specs.declared.Item.{Item}
+use Rattle.window_model.specs.declared.Outcome.{Outcome}
+use Rattle.window_model.specs.Order.{is_done, is_control, value_of, fault_of, sources}
+use Rattle.window_model.specs.Resolve.{next_of}
+use Rattle.window_model.specs.Retire.{may_leave, trap_of, trap_as, addr_of, stored_of, width_of}
+use Rattle.window_model.specs.Front.{instr_at, kind_at, at_once, is_call}
+use Rattle.committed_state.specs.Replay.{Bank, replayed, replayed_as, ram_after, effect_on}
+use Rattle.window_model.specs.Along.{Along}
+use Rattle.committed_state.specs.Links.{Chain, links}
+use Rattle.committed_state.specs.Consistent.{Stands, Holds, Predicts, bank_in}
+use Rattle.committed_state.proofs.Bytes.{some_is}
+use Rattle.window_model.proofs.Registers.{length_with}
+use Rattle.committed_state.proofs.Onward.{of_item, replayed_item, ram_item}
+use Rattle.committed_state.proofs.Heads.{item_of, hart_after, head_goes, head_traps, goes_on}
+use Rattle.committed_state.proofs.Shift.{along_shift}
+use Rattle.committed_state.proofs.Known.{done_has}
+use Rattle.window_model.proofs.Booleans.{some_of}
+use Rattle.window_model.proofs.Leaving.{no_trap}
+
+-- what a head does to memory, and to the retired state
+abbrev pub head_ram : Kind → Ram → Entry → Option Outcome → Ram
+head_ram Store m e o = with_bytes m (addr_of o) (to_le (width_of e) (stored_of o))
+head_ram _ m e o = m
+
+abbrev pub hart_with : Hart → Entry → Option Outcome → Hart
+hart_with s e o = record { pc = next_of o; regs = with_reg s.regs (writes_of e.item.instr) (value_of o); ram = head_ram e.item.kind s.ram e o }
+
+abbrev pub head_hart : Hart → Entry → Hart
+head_hart s e = hart_with s e e.outcome
+
+ram_left : (k : Kind) (m : Ram) (e : Entry) (r : Outcome) → r.fault ≡ None → head_ram k m e (Some r) ≡ ram_after k m e r
+ram_left Store m e r h = rw h refl
+ram_left _ m e r h = refl
+
+hart_left : (s : Hart) (e : Entry) (c : Option Outcome) (r : Outcome) → c ≡ Some r → r.fault ≡ None → hart_with s e c ≡ hart_after s e r
+hart_left s e c r h f = ap (hart_with s e) h ∙ ap (λ m. let t : Hart = record { pc = r.next; regs = with_reg s.regs (writes_of e.item.instr) r.value; ram = m } in t) (ram_left e.item.kind s.ram e r f)
+
+-- ---- the step at a head that is no stop
+
+made : ℕ → Instr → Kind → Option ℕ → Item
+made pc i k p = record { pc = pc; instr = i; kind = k; predicted = p }
+
+pub item_eq : (i : Item) (pc : ℕ) (j : Instr) → pc ≡ i.pc → i.instr ≡ j → i.kind ≡ kind_of j → i ≡ item_of pc j i.predicted
+unfolding made
+item_eq i pc j p a k = ap (λ n. made n i.instr i.kind i.predicted) (sym p) ∙ ap (λ u. made pc u i.kind i.predicted) a ∙ ap (λ u. made pc j u i.predicted) k
+
+abbrev hart_item : Hart → Item → Outcome → Hart
+hart_item s i o = hart_after s (of_item i) o
+
+hart_by_item : (s : Hart) (e : Entry) (o : Outcome) → hart_after s e o ≡ hart_item s e.item o
+hart_by_item s e o = ap (λ m. let t : Hart = record { pc = o.next; regs = with_reg s.regs (writes_of e.item.instr) o.value; ram = m } in t) (ram_item e.item.kind s.ram e o)
+
+abbrev pub steps : Option Cause → Hart → Step
+steps None t = Goes t []
+steps (Some cause) t = Traps cause
+
+by_fault : (s : Hart) (p : Option ℕ) (i : _) (f : Option Cause) → at_once (item_of s.pc i p).kind ≡ false → (replayed (bank_in s) (of_item (item_of s.pc i p))).fault ≡ f →
+    step_of s i ≡ steps f (hart_item s (item_of s.pc i p) (replayed (bank_in s) (of_item (item_of s.pc i p))))
+by_fault s p i None a h = head_goes s p i a h
+by_fault s p i (Some c) a h = head_traps s p i c a h
+
+pub step_as : (c : Option ℕ) (s : Hart) (e : Entry) → s.pc ≡ e.item.pc → e.item.instr ≡ instr_at c → e.item.kind ≡ kind_at c → at_once e.item.kind ≡ false →
+    (f : Option Cause) → (replayed (bank_in s) e).fault ≡ f → step_at c s ≡ steps f (hart_after s e (replayed (bank_in s) e))
+step_as None s e q a k n f h = absurd (cc)
+step_as (Some w) s e q a k n f h =
+    let i = decode w in
+    let it = item_eq e.item s.pc i q a k in
+    let r = replayed_item (bank_in s) (of_item (item_of s.pc i e.item.predicted)) e it in
+    let n2 = ap (λ (t : Item). at_once t.kind) (sym it) ∙ n in
+    by_fault s e.item.predicted i f n2 (sym (ap (λ (o : Outcome). o.fault) r) ∙ h)
+    ∙ ap (steps f) (ap (hart_item s (item_of s.pc i e.item.predicted)) (sym r) ∙ ap (λ t. hart_item s t (replayed (bank_in s) e)) (sym it) ∙ sym (hart_by_item s e (replayed (bank_in s) e)))
+
+-- ---- where the head goes on
+
+replayed_next : (k : Kind) (s : Bank) (e : Entry) → (replayed_as k s e).next ≡ (effect_on s e).next
+replayed_next Load s e = refl
+replayed_next Store s e = refl
+replayed_next Mul s e = refl
+replayed_next Div s e = refl
+replayed_next _ s e = refl
+
+next_as : (c : Option ℕ) (s : Bank) (e : Entry) → e.item.instr ≡ instr_at c → e.item.kind ≡ kind_at c → at_once e.item.kind ≡ false → is_control e.item.kind ≡ false → Predicts e.item.kind e.item →
+    e.item.predicted ≡ Some (effect_on s e).next
+next_as None s e a k n j h = absurd (cc)
+next_as (Some w) s e a k n j h =
+    let i = decode w in
+    let it = item_eq e.item e.item.pc i refl a k in
+    let h2 = subst (λ (t : Item). Predicts t.kind t) it h in
+    let n2 = ap (λ (t : Item). at_once t.kind) (sym it) ∙ n in
+    let j2 = ap (λ (t : Item). is_control t.kind) (sym it) ∙ j in
+    let g = goes_on i e.item.pc (first_of (sources e) s.regs) (second_of (sources e) s.regs) e.item.predicted h2 j2 n2 in
+    g ∙ ap (λ j. Some (effect e.item.pc j (first_of (sources e) s.regs) (second_of (sources e) s.regs)).next) (sym a)
+
+link_next : (r : Bool) (e : Entry) (c : Option Outcome) (o : Outcome) → c ≡ Some o → o.fault ≡ None → (r ≡ false → e.item.predicted ≡ Some o.next) →
+    (if r then (if is_some (fault_of c) then None else Some (next_of c)) else e.item.predicted) ≡ Some (next_of c)
+link_next true e c o h f p = rw h (rw f refl)
+link_next false e c o h f p = p refl ∙ ap (λ c. Some (next_of c)) (sym h)
+
+-- ---- what is known of a head that may leave
+
+pub leave_parts : (a b c : Bool) → (a && (not b || c)) ≡ true → (a ≡ true) × (c ≡ false → b ≡ false)
+leave_parts true false c h = (refl, λ k. refl)
+leave_parts true true true h = (refl, λ k. absurd (cc))
+leave_parts true true false h = absurd (cc)
+leave_parts false b c h = absurd (cc)
+
+no_stop : (k : Kind) (e : Entry) → trap_as k e ≡ None → is_call k ≡ false → (at_once k ≡ false) × (fault_of e.outcome ≡ None)
+no_stop k e h c = let n = no_trap k e h in (let s = n.0 in cc, n.1)
+
+-- after a head that is no call
+pub record Left (code : Code) (s : Hart) (e : Entry) (rest : List Entry) (queue : List Item) (fetch_pc : Option ℕ) : Type 0 where
+  pub holds : Holds code (head_hart s e) rest queue fetch_pc
+  pub step : isa_step code s ≡ Goes (head_hart s e) []
+
+pub head_leaves_so : (code : Code) (s : Hart) (e : Entry) (rest : List Entry) (queue : List Item) (fetch_pc : Option ℕ) → Holds code s (e ∷ rest) queue fetch_pc → may_leave e ≡ true → trap_of e ≡ None → is_call e.item.kind ≡ false →
+    Left code s e rest queue fetch_pc
+unfolding isa_step
+head_leaves_so code s e rest queue fetch_pc h may t k =
+    let st = h.entries.0 in
+    let pc = some_of _ _ h.chain.0 in
+    let m = leave_parts (is_done e.state) (is_control e.item.kind) e.resolved may in
+    let d = done_has e.state e st.state m.0 in
+    let n = no_stop e.item.kind e t k in
+    let r = replayed (bank_in s) e in
+    let o = some_is e.outcome (bank_in s) e st.replayed (d.0 ∙ ap not n.0) in
+    let f : r.fault ≡ None = sym (ap fault_of o) ∙ n.1 in
+    let left = hart_left s e e.outcome r o f in
+    let c = code s.pc in
+    let ins : e.item.instr ≡ instr_at c = st.item.instr ∙ ap (λ a. instr_at (code a)) (sym pc) in
+    let kin : e.item.kind ≡ kind_at c = st.item.kind ∙ ap (λ a. kind_at (code a)) (sym pc) in
+    let predicts = λ (u : e.resolved ≡ false). next_as c (bank_in s) e ins kin n.0 (m.1 u) st.item.next ∙ ap Some (sym (replayed_next e.item.kind (bank_in s) e)) in
+    let nx = link_next e.resolved e e.outcome r o f predicts in
+    record {
+      holds = record {
+        entries = subst (λ b. Along (Stands code b) [] rest) (sym (ap bank_in left)) (along_shift code (bank_in s) e rest h.entries.1);
+        items = h.items;
+        chain = subst (λ a. Chain a (links rest queue) fetch_pc) nx h.chain.1;
+        registers = length_with s.regs (writes_of e.item.instr) (value_of e.outcome) ∙ h.registers;
+      };
+      step = step_as c s e pc ins kin n.0 None f ∙ ap (λ u. Goes u []) (sym left);
+    }

@@ -1,0 +1,86 @@
+-- What holds of the retired state and of what is in flight, in every state of a run
+-- (docs/theorems.md, "Committed state").
+use Rattle.std.specs.Prelude.{◌≡◌, ℕ, Bool, true, false, not, ◌&&◌, ◌||◌, List, [], ◌∷◌, length, Option, Some, None, is_some}
+use Rattle.std.specs.List.{list_all, AllByRecursion as Each}
+use Rattle.rv_types.specs.Word.{word_add}
+use Rattle.rv_types.specs.Memory.{Code}
+use Rattle.rv_types.specs.Isa.{Hart}
+use Rattle.rv_types.specs.declared.Kind.{Kind}
+use Rattle.rv_types.specs.declared.Kind.TheVariants.{Branch, Jalr, Jal, Stop}
+use Rattle.window_model.specs.declared.Entry.{Entry}
+use Rattle.window_model.specs.declared.Item.{Item}
+use Rattle.window_model.specs.declared.State.{State}
+use Rattle.window_model.specs.declared.State.TheVariants.{Waiting, Busy, Done}
+use Rattle.window_model.specs.State.{Machine}
+use Rattle.window_model.specs.Order.{is_load, is_control, is_faulty, ready}
+use Rattle.window_model.specs.Retire.{hart_of}
+use Rattle.window_model.specs.Issue.{stores_done}
+use Rattle.window_model.specs.Front.{instr_at, kind_at, target_of, at_once, is_call, is_stop}
+use Rattle.committed_state.specs.Replay.{Bank, bank, IsReplayed}
+use Rattle.window_model.specs.Along.{Along}
+use Rattle.committed_state.specs.Links.{Chain, links}
+
+-- the next address that is predicted for a kind (docs/machine.md, "Fetch")
+abbrev pub Predicts : Kind → Item → Type 0
+Predicts (Stop cause) i = i.predicted ≡ None
+Predicts Jal i = i.predicted ≡ Some (target_of i.pc i.instr)
+Predicts Branch i = is_some i.predicted ≡ true
+Predicts Jalr i = is_some i.predicted ≡ true
+Predicts _ i = i.predicted ≡ Some (word_add i.pc 4)
+
+-- an instruction of the program, with its kind and a predicted next address
+pub record IsItem (code : Code) (i : Item) : Type 0 where
+  pub instr : i.instr ≡ instr_at (code i.pc)
+  pub kind : i.kind ≡ kind_at (code i.pc)
+  pub next : Predicts i.kind i
+
+-- the entry has its outcome
+abbrev pub is_issued : Entry → Bool
+is_issued e = is_some e.outcome
+
+-- when an entry has its outcome, and when it may be resolved
+abbrev pub FitsState : State → Entry → Type 0
+FitsState Waiting e = (e.outcome ≡ None) × (e.resolved ≡ false) × (at_once e.item.kind ≡ false)
+FitsState (Busy due) e = (is_issued e ≡ true) × (e.resolved ≡ false) × (at_once e.item.kind ≡ false)
+FitsState Done e = (is_issued e ≡ not (at_once e.item.kind)) × (e.resolved ≡ true → is_control e.item.kind ≡ true)
+
+-- the entry is no stop and no call
+abbrev pub goes_through : Entry → Bool
+goes_through e = not (at_once e.item.kind)
+
+-- an entry of the window over the retired registers and memory
+pub record Stands (code : Code) (s : Bank) (before : List Entry) (e : Entry) : Type 0 where
+  pub item : IsItem code e.item
+  pub state : FitsState e.state e
+  -- its outcome is the replay's
+  pub replayed : IsReplayed e.outcome (bank s before) e
+  -- it was issued with its operands known, and a load after the older stores
+  pub operands : is_issued e ≡ true → ready before e ≡ true
+  pub stores : is_issued e ≡ true → is_load e.item.kind ≡ true → stores_done before ≡ true
+  -- nothing follows a stop or a call, and a call follows nothing
+  pub through : list_all goes_through before ≡ true
+  pub alone : is_call e.item.kind ≡ true → before ≡ []
+
+-- registers and memory of a state
+abbrev pub bank_in : Hart → Bank
+bank_in s = record { regs = s.regs; ram = s.ram }
+
+-- the window, the queue and the fetch pc over the retired state
+pub record Holds (code : Code) (s : Hart) (window : List Entry) (queue : List Item) (fetch_pc : Option ℕ) : Type 0 where
+  pub entries : Along (Stands code (bank_in s)) [] window
+  pub items : Each (IsItem code) queue
+  pub chain : Chain (Some s.pc) (links window queue) fetch_pc
+  pub registers : length s.regs ≡ 32
+
+-- what each phase keeps
+abbrev pub Consistent : Code → Machine → Type 0
+Consistent code x = Holds code (hart_of x) x.window x.queue x.fetch_pc
+
+-- why fetch has nowhere to go: the youngest is a stop, or a resolved entry of the window with a fault
+abbrev pub HasStopped : List Entry → List Item → Type 0
+HasStopped [] [] = ⊥
+HasStopped [] (i ∷ []) = is_stop i.kind ≡ true
+HasStopped [] (i ∷ j ∷ is) = HasStopped [] (j ∷ is)
+HasStopped (e ∷ []) [] = (is_stop e.item.kind || (e.resolved && is_faulty e)) ≡ true
+HasStopped (e ∷ []) (i ∷ is) = HasStopped [] (i ∷ is)
+HasStopped (e ∷ f ∷ es) queue = HasStopped (f ∷ es) queue

@@ -1,0 +1,5 @@
+pub mod Replay
+pub mod Links
+pub mod Consistent
+pub mod Laws
+pub mod Guarded
