@@ -1,0 +1,153 @@
+-- What Rename and Fetch leave: the time, what is shared, and the oldest entries; and what comes where there was none.
+use Rattle.std.proofs.Common.{◌≡◌, ℕ, zero, suc, ◌≤◌, ◌<◌, Bool, true, false, ◌||◌, List, [], ◌∷◌, ◌++◌, length, Option, Some, None, refl, ap, sym, ◌∙◌, arith, append_assoc, append-nil}
+use Rattle.std.proofs.lemmas.Bool.Decides.{nat_tests}
+use Rattle.std.specs.Prelude.{if◌then◌else◌, nat_lt}
+use Rattle.std.specs.Cmp.Derive.{both_true}
+use Rattle.rv_types.specs.Memory.{Code}
+use Rattle.rv_types.specs.declared.Kind.{Kind}
+use Rattle.rv_types.specs.declared.Kind.TheVariants.{Load, Store, Call}
+use Rattle.machine_desc.specs.declared.Desc.{Desc}
+use Rattle.machine_desc.specs.Ranges.{IsDesc}
+use Rattle.window_model.specs.declared.Entry.{Entry}
+use Rattle.window_model.specs.declared.Item.{Item}
+use Rattle.window_model.specs.State.{Machine}
+use Rattle.window_model.specs.Front.{at_once, fits, fits_as, renamed, rename_one, rename_from, rename_up_to, rename, item_at, fetch_one, fetch_from, fetch_up_to, fetch, then_does, nothing}
+use Rattle.window_model.proofs.Walks.{rename_keep}
+
+-- time, miss registers and divider stay, and entries only come behind the others
+pub record Appends (x y : Machine) : Type 0 where
+  pub cycle : y.cycle ≡ x.cycle
+  pub misses : y.misses ≡ x.misses
+  pub divider : y.divider ≡ x.divider
+  pub window : (r : List Entry) × (y.window ≡ x.window ++ r)
+
+-- no step, and one step after another
+pub appends_same : (x : Machine) → Appends x x
+appends_same x = record { cycle = refl; misses = refl; divider = refl; window = ([], sym (append-nil x.window)) }
+
+pub appends_then : (x y z : Machine) → Appends x y → Appends y z → Appends x z
+appends_then x y z p q = record {
+  cycle = q.cycle ∙ p.cycle;
+  misses = q.misses ∙ p.misses;
+  divider = q.divider ∙ p.divider;
+  window = (p.window.0 ++ q.window.0, q.window.1 ∙ ap (λ w. w ++ q.window.0) p.window.1 ∙ append_assoc x.window p.window.0 q.window.0);
+}
+
+-- what is less passes the test
+pub nat_lt_is : (m n : ℕ) → m < n → nat_lt m n ≡ true
+nat_lt_is m n h = grind (arith, nat_tests)
+
+-- ---- rename
+
+module _ (d : Desc) where
+  one_renamed : (i : Item) (rest : List Item) (x : Machine) → Appends x (rename_one i rest x).machine
+  one_renamed i rest x = record { cycle = refl; misses = refl; divider = refl; window = (renamed x.next_serial i ∷ [], refl) }
+
+  -- any number of items, as few as come behind a first one
+  renamed_up_to : (n : ℕ) (x : Machine) → Appends x (rename_up_to d n x).machine
+  renamed_up_to zero x = appends_same x
+  renamed_up_to (suc n) x = by_front x.queue (renamed_up_to n)
+    where
+      by_fit : (b : Bool) (i : Item) (rest : List Item) → ((y : Machine) → Appends y (rename_up_to d n y).machine) → Appends x (if b then then_does (rename_one i rest x) (rename_up_to d n) else nothing x).machine
+      by_fit true i rest more = let y = (rename_one i rest x).machine in appends_then x y (rename_up_to d n y).machine (one_renamed i rest x) (more y)
+      by_fit false i rest more = appends_same x
+
+      by_front : (q : List Item) → ((y : Machine) → Appends y (rename_up_to d n y).machine) → Appends x (rename_from d q x (rename_up_to d n)).machine
+      by_front [] more = appends_same x
+      by_front (i ∷ rest) more = by_fit (fits d x.window i) i rest more
+
+  pub rename_appends : (x : Machine) → Appends x (rename d x).machine
+  unfolding rename
+  rename_appends x = renamed_up_to d.core_fetch_width x
+
+  -- with no item nothing is renamed
+  pub rename_none : (x : Machine) → (rename d (record x { queue = [] })).machine ≡ record x { queue = [] }
+  rename_none x =
+      let none : Machine = record x { queue = [] } in
+      rename_keep d (λ y. y ≡ none) (λ y j rest q f h. absurd (let e = ap (λ (m : Machine). m.queue) h in cc)) none refl
+
+  -- into a window with no entry the first item fits
+  module _ (i : IsDesc d) where
+    kind_fits : (k : Kind) → fits_as k d [] ≡ true
+    kind_fits Load = nat_lt_is 0 d.core_loads (omega (arith, i.loads.0))
+    kind_fits Store = nat_lt_is 0 d.core_stores (omega (arith, i.stores.0))
+    kind_fits Call = refl
+    kind_fits _ = refl
+
+    or_true : (a s : Bool) → s ≡ true → (a || s) ≡ true
+    or_true true s h = refl
+    or_true false s h = h
+
+    first_fits : (j : Item) → fits d [] j ≡ true
+    first_fits j =
+        both_true (both_true (both_true (nat_lt_is 0 d.core_rob (omega (arith, i.rob.0))) refl) (kind_fits j.kind))
+        (or_true (at_once j.kind) (nat_lt 0 d.core_stations) (nat_lt_is 0 d.core_stations (omega (arith, i.stations.0))))
+
+    first_up_to : (n : ℕ) (j : Item) (rest : List Item) (x : Machine) → 1 ≤ n →
+        Appends (rename_one j rest (record x { window = []; queue = j ∷ rest })).machine (rename_up_to d n (record x { window = []; queue = j ∷ rest })).machine
+    first_up_to zero j rest x h = absurd (omega arith)
+    first_up_to (suc n) j rest x h =
+        let alone : Machine = record x { window = []; queue = j ∷ rest } in
+        let y = (rename_one j rest alone).machine in
+        rw (first_fits j) (renamed_up_to n y)
+
+    pub rename_first : (j : Item) (rest : List Item) (x : Machine) →
+        Appends (rename_one j rest (record x { window = []; queue = j ∷ rest })).machine (rename d (record x { window = []; queue = j ∷ rest })).machine
+    unfolding rename
+    rename_first j rest x = first_up_to d.core_fetch_width j rest x i.fetch_width.0
+
+-- ---- fetch
+
+-- besides, the window stays, and items only come behind the others
+pub record Fetches (x y : Machine) : Type 0 where
+  pub appends : Appends x y
+  pub window : y.window ≡ x.window
+  pub queue : (r : List Item) × (y.queue ≡ x.queue ++ r)
+
+fetches_same : (x : Machine) → Fetches x x
+fetches_same x = record { appends = appends_same x; window = refl; queue = ([], sym (append-nil x.queue)) }
+
+fetches_then : (x y z : Machine) → Fetches x y → Fetches y z → Fetches x z
+fetches_then x y z p q = record {
+  appends = appends_then x y z p.appends q.appends;
+  window = q.window ∙ p.window;
+  queue = (p.queue.0 ++ q.queue.0, q.queue.1 ∙ ap (λ w. w ++ q.queue.0) p.queue.1 ∙ append_assoc x.queue p.queue.0 q.queue.0);
+}
+
+module _ (d : Desc) (code : Code) where
+  one_fetched : (i : Item) (x : Machine) → Fetches x (fetch_one i x).machine
+  one_fetched i x = record {
+    appends = record { cycle = refl; misses = refl; divider = refl; window = ([], sym (append-nil x.window)) };
+    window = refl;
+    queue = (i ∷ [], refl);
+  }
+
+  -- any number of items, as few as come behind a first one
+  fetched_up_to : (n : ℕ) (x : Machine) → Fetches x (fetch_up_to d code n x).machine
+  fetched_up_to zero x = fetches_same x
+  fetched_up_to (suc n) x = by_pc x.fetch_pc (fetched_up_to n)
+    where
+      by_room : (b : Bool) (i : Item) → ((y : Machine) → Fetches y (fetch_up_to d code n y).machine) → Fetches x (if b then then_does (fetch_one i x) (fetch_up_to d code n) else nothing x).machine
+      by_room true i more = let y = (fetch_one i x).machine in fetches_then x y (fetch_up_to d code n y).machine (one_fetched i x) (more y)
+      by_room false i more = fetches_same x
+
+      by_pc : (o : Option ℕ) → ((y : Machine) → Fetches y (fetch_up_to d code n y).machine) → Fetches x (fetch_from d code o x (fetch_up_to d code n)).machine
+      by_pc None more = fetches_same x
+      by_pc (Some pc) more = by_room (nat_lt (length x.queue) d.core_queue) (item_at d code x pc) more
+
+  pub fetch_fetches : (x : Machine) → Fetches x (fetch d code x).machine
+  unfolding fetch
+  fetch_fetches x = fetched_up_to d.core_fetch_width x
+
+  -- where there is a fetch pc, something comes into a queue with no item
+  some_up_to : (n pc : ℕ) (x : Machine) → 1 ≤ d.core_queue → 1 ≤ n →
+      Fetches (fetch_one (item_at d code x pc) (record x { queue = []; fetch_pc = Some pc })).machine (fetch_up_to d code n (record x { queue = []; fetch_pc = Some pc })).machine
+  some_up_to zero pc x q h = absurd (omega arith)
+  some_up_to (suc n) pc x q h =
+      let y = (fetch_one (item_at d code x pc) (record x { queue = []; fetch_pc = Some pc })).machine in
+      rw (nat_lt_is 0 d.core_queue (omega arith)) (fetched_up_to n y)
+
+  pub fetch_some : (pc : ℕ) (x : Machine) → IsDesc d →
+      Fetches (fetch_one (item_at d code x pc) (record x { queue = []; fetch_pc = Some pc })).machine (fetch d code (record x { queue = []; fetch_pc = Some pc })).machine
+  unfolding fetch
+  fetch_some pc x i = some_up_to d.core_fetch_width pc x i.queue.0 i.fetch_width.0

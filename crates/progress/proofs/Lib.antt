@@ -1,0 +1,8 @@
+pub mod Bounds
+pub mod Front
+pub mod Oldest
+pub mod Stops
+pub mod IssueOldest
+pub mod Idle
+pub mod Falls
+pub mod Run

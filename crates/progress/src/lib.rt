@@ -1,0 +1,16 @@
+//! Progress: within a bounded number of cycles one more instruction retires, or the run ends.
+//!
+//! The measure and the laws stand in `specs/` (`docs/theorems.md`, "Progress").
+#![tactic(auto)]
+
+ghost use Rattle.progress.specs.Laws.{MeasureFalls, MeasureIsBounded, RetiresInBudget, RetiresWithinBound};
+
+/// Within every `bound d` cycles one more instruction retires, or the run ends: a measure that is at most the bound falls in each
+/// cycle in which neither happens. So after n times `bound d` cycles at least n instructions have retired, or the run has ended
+/// (`docs/theorems.md`, "Progress").
+pub fn something_retires()
+    ensures bounded { MeasureIsBounded }
+    ensures falls { MeasureFalls }
+    ensures retires { RetiresWithinBound }
+    ensures budget { RetiresInBudget }
+{}
