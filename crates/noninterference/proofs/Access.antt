@@ -1,0 +1,119 @@
+-- What a load's access comes to is equal in both runs, and the time of a division.
+use Rattle.std.proofs.Common.{◌≡◌, ℕ, ◌+◌, Bool, true, false, not, ◌&&◌, ◌||◌, List, [], ◌∷◌, Option, Some, None, refl, ap, sym, ◌∙◌}
+use Rattle.std.specs.Prelude.{if◌then◌else◌, is_some, nat_le, nat_lt}
+use Rattle.std.specs.List.{find}
+use Rattle.rv_types.specs.Causes.{load_misaligned, load_outside}
+use Rattle.rv_types.specs.Memory.{Code, load_fault, range}
+use Rattle.rv_types.specs.declared.Cause.{Cause}
+use Rattle.rv_types.specs.declared.Kind.{Kind}
+use Rattle.rv_types.specs.declared.Kind.TheVariants.{Store}
+use Rattle.machine_desc.specs.declared.Desc.{Desc}
+use Rattle.machine_desc.specs.declared.SttModel.{SttModel}
+use Rattle.window_model.specs.declared.Entry.{Entry}
+use Rattle.window_model.specs.State.{Machine}
+use Rattle.window_model.specs.Order.{is_load, is_store, is_faulty}
+use Rattle.window_model.specs.Retire.{addr_of, op_of, width_of}
+use Rattle.window_model.specs.Taint.{any_tainted, address_tainted}
+use Rattle.window_model.specs.Issue.{effect_at, time_of, access_of}
+use Rattle.window_model.specs.Access.{access, access_at, covers, all_covered, any_store_hidden}
+use Rattle.window_model.specs.Shape.{SameShape}
+use Rattle.window_model.proofs.Booleans.{neither}
+use Rattle.window_model.proofs.Memory.{same_fault}
+use Rattle.committed_state.specs.Consistent.{IsItem}
+use Rattle.noninterference.specs.Alike.{Alike, without_outcome}
+use Rattle.noninterference.specs.Outcomes.{SameOutcome, SameOutcomes}
+use Rattle.noninterference.proofs.Looking.{same_kind}
+use Rattle.noninterference.proofs.Operand.{same_address, all_same_list}
+use Rattle.noninterference.proofs.Effects.{addresses_alike, base_alike, untainted_base_of}
+use Rattle.noninterference.proofs.Loads.{by_base}
+
+and_when : (a b : Bool) → a ≡ true → (a && b) ≡ false → b ≡ false
+and_when true b p h = h
+and_when false b p h = absurd (cc)
+
+-- ---- bytes of older stores
+
+same_hidden : (model : SttModel) (b b2 : List Entry) → SameOutcomes model b b2 → any_store_hidden model b ≡ any_store_hidden model b2
+same_hidden model [] [] s = refl
+same_hidden model (e ∷ b) (e2 ∷ b2) s =
+    let k : is_store e.item.kind ≡ is_store e2.item.kind = ap is_store (same_kind e e2 s.0.but_outcome) in
+    let a = same_address model b b2 e e2 s.1 s.0.but_outcome in
+    let rest = same_hidden model b b2 s.1 in
+    cc
+same_hidden model [] (e2 ∷ b2) s = absurd s
+same_hidden model (e ∷ b) [] s = absurd s
+
+covers_by : (k : Kind) (model : SttModel) (b : List Entry) (e e2 : Entry) (a : ℕ) → SameOutcome k model b e e2 → (is_store k ≡ true → address_tainted model b e ≡ false) → width_of e ≡ width_of e2 →
+    (is_store k && not (is_faulty e) && nat_le (addr_of e.outcome) a && nat_lt a (addr_of e.outcome + width_of e)) ≡ (is_store k && not (is_faulty e2) && nat_le (addr_of e2.outcome) a && nat_lt a (addr_of e2.outcome + width_of e2))
+covers_by Store model b e e2 a o t w =
+    let q = o.0 (t refl) in
+    let ad = q.0 in
+    let f = q.1 in
+    cc
+covers_by _ model b e e2 a o t w = refl
+
+some_if : (c c2 : Bool) (e e2 : Entry) (o o2 : Option Entry) → c ≡ c2 → is_some o ≡ is_some o2 → is_some (if c then Some e else o) ≡ is_some (if c2 then Some e2 else o2)
+some_if true true e e2 o o2 q h = refl
+some_if false false e e2 o o2 q h = h
+some_if true false e e2 o o2 q h = absurd (cc)
+some_if false true e e2 o o2 q h = absurd (cc)
+
+same_covered : (model : SttModel) (b b2 : List Entry) (a : ℕ) → SameOutcomes model b b2 → any_store_hidden model b ≡ false → is_some (find (covers a) b) ≡ is_some (find (covers a) b2)
+same_covered model [] [] a s h = refl
+same_covered model (e ∷ b) (e2 ∷ b2) a s h =
+    let here = (neither (is_store e.item.kind && address_tainted model b e) (any_store_hidden model b) h).0 in
+    let later = (neither (is_store e.item.kind && address_tainted model b e) (any_store_hidden model b) h).1 in
+    let w = ap width_of s.0.but_outcome in
+    let k = same_kind e e2 s.0.but_outcome in
+    let c : covers a e ≡ covers a e2 =
+    covers_by e.item.kind model b e e2 a s.0.outcomes (λ st. and_when (is_store e.item.kind) (address_tainted model b e) st here) w
+    ∙ ap (λ k. is_store k && not (is_faulty e2) && nat_le (addr_of e2.outcome) a && nat_lt a (addr_of e2.outcome + width_of e2)) k in
+    some_if (covers a e) (covers a e2) e e2 (find (covers a) b) (find (covers a) b2) c (same_covered model b b2 a s.1 later)
+same_covered model [] (e2 ∷ b2) a s h = absurd s
+same_covered model (e ∷ b) [] a s h = absurd s
+
+-- full forwarding is alike: where a store is hidden, neither forwards
+forward_if : (c c2 h h2 : Bool) → h ≡ h2 → (h ≡ false → c ≡ c2) → (c && not h) ≡ (c2 && not h2)
+forward_if c c2 false false q p = ap (λ b. b && true) (p refl)
+forward_if true true true true q p = refl
+forward_if true false true true q p = refl
+forward_if false true true true q p = refl
+forward_if false false true true q p = refl
+forward_if c c2 true false q p = absurd (cc)
+forward_if c c2 false true q p = absurd (cc)
+
+same_forward : (model : SttModel) (b b2 : List Entry) (a n : ℕ) → SameOutcomes model b b2 → (all_covered b a n && not (any_store_hidden model b)) ≡ (all_covered b2 a n && not (any_store_hidden model b2))
+same_forward model b b2 a n s =
+    forward_if (all_covered b a n) (all_covered b2 a n) (any_store_hidden model b) (any_store_hidden model b2) (same_hidden model b b2 s)
+    (λ h. all_same_list (λ r. is_some (find (covers r) b)) (λ r. is_some (find (covers r) b2)) (range a n) (λ r. same_covered model b b2 r s h))
+
+same_at : (d : Desc) (x x2 : Machine) (b b2 : List Entry) (a n : ℕ) (f : Option Cause) → SameOutcomes d.stt_model b b2 → Alike x x2 → access_at d x b a n f ≡ access_at d x2 b2 a n f
+same_at d x x2 b b2 a n (Some c) s r = refl
+same_at d x x2 b b2 a n None s r =
+    let w = same_forward d.stt_model b b2 a n s in
+    let c = ap (λ (m : Machine). m.cache) r in
+    let q = ap (λ (m : Machine). m.misses) r in
+    cc
+
+-- ---- of a load and of a division
+
+module _ (d : Desc) (code : Code) (x x2 : Machine) (r : Alike x x2) (place : SameShape x.ram x2.ram) (b b2 : List Entry) (same : SameOutcomes d.stt_model b b2) (e e2 : Entry) (h : without_outcome e ≡ without_outcome e2) where
+  regs_same : x.regs ≡ x2.regs
+  regs_same = ap (λ (m : Machine). m.regs) r
+
+  -- a load that issues has one access
+  pub same_access_of : IsItem code e.item → is_load e.item.kind ≡ true → address_tainted d.stt_model b e ≡ false → access_of d x b e ≡ access_of d x2 b2 e2
+  same_access_of item k t =
+      let a = addresses_alike d.stt_model x x2 regs_same b b2 same e e2 h (by_base code e item (ap (λ l. l || is_store e.item.kind) k)) t in
+      let w : width_of e ≡ width_of e2 = ap width_of h in
+      let n = width_of e2 in
+      let a2 = (effect_at x2 b2 e2).addr in
+      let f = sym (same_fault load_misaligned load_outside x.ram x2.ram a2 n place) in
+      ap (λ a. access d x b a (width_of e)) a ∙ ap (access d x b a2) w ∙ ap (access_at d x b a2 n) f ∙ same_at d x x2 b b2 a2 n (load_fault x2.ram a2 n) same r
+
+  -- and a division one time
+  pub same_time : any_tainted d.stt_model b e ≡ false → time_of x b e ≡ time_of x2 b2 e2
+  same_time t =
+      let f = base_alike d.stt_model x x2 regs_same b b2 same e e2 h (untainted_base_of d.stt_model x x2 regs_same b b2 same e e2 h t) in
+      let o : op_of e.item.instr ≡ op_of e2.item.instr = ap (λ (t : Entry). op_of t.item.instr) h in
+      cc

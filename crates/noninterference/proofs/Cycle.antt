@@ -1,0 +1,150 @@
+-- A cycle keeps two runs together, with one row.
+use Rattle.std.proofs.Common.{◌≡◌, ℕ, ◌+◌, ◌≤◌, List, ◌++◌, Option, Some, None, refl, ap, sym, ◌∙◌, subst, arith}
+use Rattle.rv_types.specs.Memory.{Code}
+use Rattle.rv_types.specs.declared.End.{End}
+use Rattle.machine_desc.specs.declared.Desc.{Desc}
+use Rattle.window_model.specs.declared.Event.{Event}
+use Rattle.window_model.specs.State.{Machine, After}
+use Rattle.window_model.specs.Fill.{fill, complete}
+use Rattle.window_model.specs.Resolve.{resolve}
+use Rattle.window_model.specs.Retire.{retire, unless_ended, hart_of}
+use Rattle.window_model.specs.Issue.{issue}
+use Rattle.window_model.specs.Front.{rename, fetch, then_does, nothing}
+use Rattle.window_model.specs.Row.{Row}
+use Rattle.window_model.specs.Cycle.{cycle}
+use Rattle.window_model.specs.Committed.{Aligned}
+use Rattle.window_model.specs.Path.{path}
+use Rattle.window_model.proofs.Quiet.{Quiet, front_quiet, back_quiet, fill_quiet, complete_quiet, resolve_quiet, issue_quiet, rename_quiet, fetch_quiet}
+use Rattle.committed_state.proofs.Retire.{retire_commits}
+use Rattle.noninterference.specs.Alike.{Alike, TellsNothing}
+use Rattle.noninterference.specs.InStep.{InStep, InStepUpTo}
+use Rattle.noninterference.specs.Together.{OwnFacts, Together, CyclesAlike}
+use Rattle.noninterference.specs.Laws.{CycleTellsNothing}
+use Rattle.noninterference.proofs.Facts.{facts_begin, facts_fill, facts_complete, facts_resolve, facts_retire, facts_issue, facts_rename, facts_fetch}
+use Rattle.noninterference.proofs.Complete.{fill_tells_nothing, complete_tells_nothing}
+use Rattle.noninterference.proofs.Resolve.{resolve_tells_nothing}
+use Rattle.noninterference.proofs.Retire.{retire_tells_nothing}
+use Rattle.noninterference.proofs.Issue.{issue_tells_nothing}
+use Rattle.noninterference.proofs.Front.{rename_tells_nothing, fetch_tells_nothing}
+use Rattle.noninterference.proofs.Agree.{together_agree}
+
+abbrev row_with : ℕ → List Event → List Event → List Event → Row
+row_with n a b c = record { cycle = n + 1; events = a ++ b ++ c }
+
+row_of : (n n2 : ℕ) (a a2 b b2 c c2 : List Event) → n ≡ n2 → a ≡ a2 → b ≡ b2 → c ≡ c2 → row_with n a b c ≡ row_with n2 a2 b2 c2
+row_of n n2 a a2 b b2 c c2 p q r t = cc
+
+module _ (d : Desc) (code : Code) (total : ℕ) (aligned : Aligned code) where
+  -- both runs between phases
+  abbrev T : Machine → Machine → Type 0
+  T = Together d code total
+
+  quiet_in_step : (x x2 y y2 : Machine) → Quiet x y → Quiet x2 y2 → InStepUpTo d.stt_model code total x x2 → InStepUpTo d.stt_model code total y y2
+  quiet_in_step x x2 y y2 s s2 a n le =
+      subst (λ h. InStep (path d.stt_model) code n h (hart_of y2)) (sym s.hart) (subst (InStep (path d.stt_model) code n (hart_of x)) (sym s2.hart) (a n (omega (arith, le, s.retired))))
+
+  -- a phase that leaves the retired state alone
+  phase : (f : Machine → After) → ((x : Machine) → OwnFacts d code x → OwnFacts d code (f x).machine) → ((x : Machine) → Quiet x (f x).machine) → (x x2 : Machine) → T x x2 → TellsNothing (f x) (f x2) → T (f x).machine (f x2).machine
+  phase f facts quiet x x2 p t = record {
+    alike = ap (λ (a : After). a.machine) t;
+    facts = facts x p.facts;
+    facts2 = facts x2 p.facts2;
+    in_step = quiet_in_step x x2 (f x).machine (f x2).machine (quiet x) (quiet x2) p.in_step;
+  }
+
+  same_events : (a a2 : After) → TellsNothing a a2 → a.events ≡ a2.events
+  same_events a a2 t = ap (λ (a : After). a.events) t
+
+  -- ---- the phases before Retire
+
+  begun : Machine → Machine
+  begun x = record x { cycle = x.cycle + 1 }
+
+  front : Machine → After
+  front x = then_does (fill d (begun x)) (λ y. then_does (complete y) (resolve d))
+
+  front_alike : (x x2 : Machine) → T x x2 → x.retired + d.core_rob ≤ total → T (front x).machine (front x2).machine × ((front x).events ≡ (front x2).events)
+  unfolding begun front
+  front_alike x x2 p le =
+      let p0 : T (begun x) (begun x2) = record { alike = ap begun p.alike; facts = facts_begin d code x p.facts; facts2 = facts_begin d code x2 p.facts2; in_step = p.in_step } in
+      let t1 = fill_tells_nothing d (begun x) (begun x2) p0.alike in
+      let p1 = phase (fill d) (facts_fill d code) (fill_quiet d) (begun x) (begun x2) p0 t1 in
+      let y = (fill d (begun x)).machine in
+      let y2 = (fill d (begun x2)).machine in
+      let t2 = complete_tells_nothing y y2 p1.alike in
+      let p2 = phase complete (facts_complete d code) complete_quiet y y2 p1 t2 in
+      let z = (complete y).machine in
+      let z2 = (complete y2).machine in
+      let t3 = resolve_tells_nothing d z z2 p2.alike (together_agree d code total z z2 aligned le p2) in
+      let e1 = same_events (fill d (begun x)) (fill d (begun x2)) t1 in
+      let e2 = same_events (complete y) (complete y2) t2 in
+      let e3 = same_events (resolve d z) (resolve d z2) t3 in
+      (phase (resolve d) (facts_resolve d code) (resolve_quiet d) z z2 p2 t3, cc)
+
+  -- ---- those after it
+
+  rest : Machine → After
+  rest x = then_does (issue d x) (λ y. then_does (rename d y) (fetch d code))
+
+  rest_alike : (x x2 : Machine) → T x x2 → x.retired + d.core_rob ≤ total → T (rest x).machine (rest x2).machine × ((rest x).events ≡ (rest x2).events)
+  unfolding rest
+  rest_alike x x2 p le =
+      let place = (p.in_step 0 (omega (arith, le))).place in
+      let t1 = issue_tells_nothing d code x x2 p.facts.consistent p.alike (together_agree d code total x x2 aligned le p) place in
+      let p1 = phase (issue d) (facts_issue d code) (issue_quiet d) x x2 p t1 in
+      let y = (issue d x).machine in
+      let y2 = (issue d x2).machine in
+      let t2 = rename_tells_nothing d y y2 p1.alike in
+      let p2 = phase (rename d) (facts_rename d code) (rename_quiet d) y y2 p1 t2 in
+      let z = (rename d y).machine in
+      let z2 = (rename d y2).machine in
+      let t3 = fetch_tells_nothing d code z z2 p2.alike in
+      let e1 = same_events (issue d x) (issue d x2) t1 in
+      let e2 = same_events (rename d y) (rename d y2) t2 in
+      let e3 = same_events (fetch d code z) (fetch d code z2) t3 in
+      (phase (fetch d code) (facts_fetch d code) (fetch_quiet d code) z z2 p2 t3, cc)
+
+  record Backs (a a2 : After) : Type 0 where
+    alike : Alike a.machine a2.machine
+    events : a.events ≡ a2.events
+    together : a.machine.end ≡ None → T a.machine a2.machine
+
+  back_alike : (o o2 : Option End) (x x2 : Machine) → o ≡ o2 → x.end ≡ o → Alike x x2 → (o ≡ None → T x x2) → (o ≡ None → x.retired + d.core_rob ≤ total) → Backs (unless_ended o (nothing x) (rest x)) (unless_ended o2 (nothing x2) (rest x2))
+  back_alike None None x x2 q n r p le =
+      let a = rest_alike x x2 (p refl) (le refl) in
+      record { alike = a.0.alike; events = a.1; together = λ z. a.0 }
+  back_alike (Some e) (Some e2) x x2 q n r p le = record { alike = r; events = refl; together = λ z. absurd (cc) }
+  back_alike None (Some e) x x2 q n r p le = absurd (cc)
+  back_alike (Some e) None x x2 q n r p le = absurd (cc)
+
+  -- ---- all of them
+
+  cycle_alike : (x x2 : Machine) → x.end ≡ None → T x x2 → (cycle d code x).machine.retired + d.core_rob ≤ total → CyclesAlike d code total x x2
+  unfolding cycle begun front rest
+  cycle_alike x x2 n p le =
+      let y = (front x).machine in
+      let y2 = (front x2).machine in
+      let r = (retire d y).machine in
+      let r2 = (retire d y2).machine in
+      let fq = front_quiet d x in
+      let bq = back_quiet d code r in
+      let ne : y.end ≡ None = fq.ended ∙ n in
+      let count = (retire_commits code aligned d y (front_facts x p.facts).consistent ne).committed.counted in
+      let f = front_alike x x2 p (omega (arith, le, fq.retired, bq.retired, count)) in
+      let fits = f.0.facts.fits in
+      let ne2 : y2.end ≡ None = sym (ap (λ (m : Machine). m.end) f.0.alike) ∙ ne in
+      let t = retire_tells_nothing d code total y y2 aligned ne f.0.facts.consistent f.0.facts2.consistent (omega (arith, fq.retired, bq.retired, count, le, fits)) f.0.alike f.0.in_step in
+      let b = back_alike r.end r2.end r r2 (ap (λ (m : Machine). m.end) t.alike) refl t.alike
+      (λ z. record { alike = t.alike; facts = facts_retire d code aligned y ne f.0.facts; facts2 = facts_retire d code aligned y2 ne2 f.0.facts2; in_step = t.in_step z })
+      (λ z. omega (arith, bq.retired, le)) in
+      let cy = ap (λ (m : Machine). m.cycle) p.alike in
+      let e1 = f.1 in
+      let e2 = t.events in
+      let e3 = b.events in
+      record { alike = b.alike; row = row_of x.cycle x2.cycle _ _ _ _ _ _ cy e1 e2 e3; together = b.together }
+    where
+      front_facts : (x : Machine) → OwnFacts d code x → OwnFacts d code (front x).machine
+      front_facts x f = facts_resolve d code _ (facts_complete d code _ (facts_fill d code _ (facts_begin d code x f)))
+
+pub cycle_tells_nothing : CycleTellsNothing
+cycle_tells_nothing d code total x x2 aligned n p le = cycle_alike d code total aligned x x2 n p le

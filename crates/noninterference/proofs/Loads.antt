@@ -1,0 +1,123 @@
+-- What the instructions of loads and stores say.
+use Rattle.std.proofs.Common.{◌≡◌, ℕ, Bool, true, false, List, Option, Some, None, refl, ap, sym, ◌∙◌, ◌||◌}
+use Rattle.std.specs.Prelude.{if◌then◌else◌, ◌%◌, ◌==◌}
+use Rattle.std.specs.List.{list_any, AllByRecursion as All}
+use Rattle.rv_types.specs.Value.{size_of, extend}
+use Rattle.rv_types.specs.Word.{from_le, word}
+use Rattle.rv_types.specs.Decode.{decode}
+use Rattle.rv_types.specs.Kind.{kind_of, op_kind}
+use Rattle.rv_types.specs.Regs.{reads_of}
+use Rattle.rv_types.specs.Causes.{load_misaligned, load_outside, jump_misaligned, outside_code}
+use Rattle.rv_types.specs.Memory.{Code, load_fault, range, bytes_at}
+use Rattle.rv_types.specs.Path.{loads_of, unless_fault}
+use Rattle.rv_types.specs.Isa.{effect}
+use Rattle.rv_types.specs.declared.Cause.{Cause}
+use Rattle.rv_types.specs.declared.Instr.{Instr}
+use Rattle.rv_types.specs.declared.Op.{Op}
+use Rattle.rv_types.specs.declared.Kind.{Kind}
+use Rattle.rv_types.specs.declared.Kind.TheVariants.{Alu, Mul, Div, Load, Jal, Stop}
+use Rattle.rv_types.specs.declared.Instr.TheVariants as instr
+use Rattle.rv_types.specs.declared.Op.TheVariants as op
+use Rattle.machine_desc.specs.declared.SttModel.{SttModel}
+use Rattle.window_model.specs.declared.Entry.{Entry}
+use Rattle.window_model.specs.Order.{is_load, is_store}
+use Rattle.window_model.specs.Retire.{width_of, op_of}
+use Rattle.window_model.specs.Taint.{base_of, tainted, any_tainted, address_tainted}
+use Rattle.window_model.specs.Front.{instr_at, kind_at}
+use Rattle.window_model.specs.Shape.{SameShape}
+use Rattle.window_model.proofs.Memory.{same_fault, inside}
+use Rattle.committed_state.specs.Replay.{Bank, effect_on, replayed_as, loaded_or}
+use Rattle.committed_state.specs.Consistent.{IsItem}
+use Rattle.noninterference.specs.InStep.{byte}
+use Rattle.noninterference.proofs.SameBytes.{same_bytes}
+
+-- a load of equal bytes has one value
+load_value : (f f2 : Option Cause) (s s2 : Bank) (e e2 : Entry) (a : ℕ) → load_fault s.ram a (width_of e) ≡ f → f ≡ f2 → SameShape s.ram s2.ram → op_of e.item.instr ≡ op_of e2.item.instr →
+    All (λ a. byte s.ram a ≡ byte s2.ram a) (unless_fault f (range a (width_of e))) → loaded_or f s e a ≡ loaded_or f2 s2 e2 a
+load_value (Some c) (Some c2) s s2 e e2 a h q p o b = refl
+load_value None None s s2 e e2 a h q p o b =
+    let r = inside _ _ s.ram a (width_of e) h in
+    let v = same_bytes s.ram s2.ram a (width_of e) p r.0 r.1 b in
+    ap (λ bs. extend (op_of e.item.instr) (from_le bs)) v ∙ ap (λ t. extend t (from_le (bytes_at s2.ram a (size_of t)))) o
+load_value (Some c) None s s2 e e2 a h q p o b = absurd (cc)
+load_value None (Some c) s s2 e e2 a h q p o b = absurd (cc)
+
+-- and so one outcome, at one address
+pub load_same : (s s2 : Bank) (e e2 : Entry) → SameShape s.ram s2.ram → op_of e.item.instr ≡ op_of e2.item.instr → effect_on s e ≡ effect_on s2 e2 →
+    All (λ a. byte s.ram a ≡ byte s2.ram a) (unless_fault (load_fault s.ram (effect_on s e).addr (width_of e)) (range (effect_on s e).addr (width_of e))) → replayed_as Load s e ≡ replayed_as Load s2 e2
+load_same s s2 e e2 p o f b =
+    let a = (effect_on s e).addr in
+    let c = sym (same_fault load_misaligned load_outside s.ram s2.ram a (width_of e) p) in
+    let w : width_of e ≡ width_of e2 = ap size_of o in
+    let c2 : load_fault s.ram a (width_of e) ≡ load_fault s2.ram a (width_of e2) = c ∙ ap (load_fault s2.ram a) w in
+    let v = load_value (load_fault s.ram a (width_of e)) (load_fault s2.ram a (width_of e2)) s s2 e e2 a refl c2 p o b in
+    cc
+
+-- kinds of JAL and of OP
+pub jal_kind : (f : Kind → Bool) (b : Bool) (c : Cause) → f Jal ≡ false → f (Stop c) ≡ false → f (if b then Jal else Stop c) ≡ false
+jal_kind f true c j t = j
+jal_kind f false c j t = t
+
+pub op_is : (f : Kind → Bool) (o : Op) → f Mul ≡ false → f Div ≡ false → f Alu ≡ false → f (op_kind o) ≡ false
+op_is f op.Mul m d a = m
+op_is f op.Mulh m d a = m
+op_is f op.Mulhsu m d a = m
+op_is f op.Mulhu m d a = m
+op_is f op.Div m d a = d
+op_is f op.Divu m d a = d
+op_is f op.Rem m d a = d
+op_is f op.Remu m d a = d
+op_is f _ m d a = a
+
+-- the instruction of a load
+pub is_load_instr : (i : Instr) → kind_of i ≡ Load → (s : Bank) (e : Entry) → e.item.instr ≡ i →
+    loads_of (record { pc = e.item.pc; regs = s.regs; ram = s.ram }) i ≡ unless_fault (load_fault s.ram (effect_on s e).addr (width_of e)) (range (effect_on s e).addr (width_of e))
+is_load_instr (instr.Load op rd rs1 imm) k s e q = rw q refl
+is_load_instr (instr.Jal rd imm) k s e q = absurd (let j = jal_kind is_load (word imm % 4 == 0) jump_misaligned refl refl in let t = ap is_load k in cc)
+is_load_instr (instr.OpReg o rd rs1 rs2) k s e q = absurd (let j = op_is is_load o refl refl refl in let t = ap is_load k in cc)
+is_load_instr _ k s e q = absurd (cc)
+
+-- a load or a store
+abbrev pub is_access : Kind → Bool
+is_access k = is_load k || is_store k
+
+-- its address comes from its base
+access_address : (i : Instr) → is_access (kind_of i) ≡ true → (pc a b c : ℕ) → (effect pc i a b).addr ≡ (effect pc i a c).addr
+access_address (instr.Load op rd rs1 imm) k pc a b c = refl
+access_address (instr.Store op rs1 rs2 imm) k pc a b c = refl
+access_address (instr.Jal rd imm) k pc a b c = absurd (let j = jal_kind is_access (word imm % 4 == 0) jump_misaligned refl refl in cc)
+access_address (instr.OpReg o rd rs1 rs2) k pc a b c = absurd (let j = op_is is_access o refl refl refl in cc)
+access_address _ k pc a b c = absurd (cc)
+
+-- what is no stop stands in the program, with its instruction
+pub word_of : (code : Code) (e : Entry) (f : Kind → Bool) → IsItem code e.item → ((c : Cause) → f (Stop c) ≡ false) → f e.item.kind ≡ true → (w : ℕ) × (code e.item.pc ≡ Some w) × (e.item.instr ≡ decode w) × (e.item.kind ≡ kind_of (decode w))
+word_of code e f item n k = by_word (code e.item.pc) refl
+  where
+    by_word : (o : Option ℕ) → code e.item.pc ≡ o → (w : ℕ) × (code e.item.pc ≡ Some w) × (e.item.instr ≡ decode w) × (e.item.kind ≡ kind_of (decode w))
+    by_word None q = absurd (let z = item.kind ∙ ap kind_at q in let t = ap f z in let u = n outside_code in cc)
+    by_word (Some w) q = (w, q, item.instr ∙ ap instr_at q, item.kind ∙ ap kind_at q)
+
+pub is_load_kind : (k : Kind) → is_load k ≡ true → k ≡ Load
+is_load_kind Load h = refl
+is_load_kind _ h = absurd (cc)
+
+-- a load has one source
+one_source : (f : ℕ → Bool) (i : Instr) → kind_of i ≡ Load → list_any f (base_of (reads_of i)) ≡ list_any f (reads_of i)
+one_source f (instr.Branch op rs1 rs2 imm) k = absurd (cc)
+one_source f (instr.Store op rs1 rs2 imm) k = absurd (cc)
+one_source f (instr.OpReg o rd rs1 rs2) k = absurd (let j = op_is is_load o refl refl refl in let t = ap is_load k in cc)
+one_source f _ k = refl
+
+-- ---- of an entry
+
+-- the address of an access comes from its base
+pub by_base : (code : Code) (e : Entry) → IsItem code e.item → is_access e.item.kind ≡ true → (pc a b c : ℕ) → (effect pc e.item.instr a b).addr ≡ (effect pc e.item.instr a c).addr
+by_base code e item k pc a b c =
+    let w = word_of code e is_access item (λ c. refl) k in
+    let q = access_address (decode w.0) (ap is_access (sym w.3) ∙ k) pc a b c in rw w.2 q
+
+-- a load whose base is untainted has no tainted operand
+pub load_untainted : (code : Code) (model : SttModel) (b : List Entry) (e : Entry) → IsItem code e.item → is_load e.item.kind ≡ true → address_tainted model b e ≡ false → any_tainted model b e ≡ false
+load_untainted code model b e item k t =
+    let w = word_of code e is_load item (λ c. refl) k in
+    sym (one_source (tainted model b) e.item.instr (ap kind_of w.2 ∙ sym w.3 ∙ is_load_kind e.item.kind k)) ∙ t

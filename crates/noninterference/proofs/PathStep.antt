@@ -1,0 +1,165 @@
+-- A step of the path at an entry that it passes is what the replay says.
+use Rattle.std.proofs.Common.{◌≡◌, ℕ, Bool, true, false, not, ◌&&◌, ◌||◌, [], Option, Some, None, refl, ap, sym, ◌∙◌, subst}
+use Rattle.std.specs.Prelude.{if◌then◌else◌, is_some}
+use Rattle.rv_types.specs.Decode.{decode}
+use Rattle.rv_types.specs.Kind.{kind_of}
+use Rattle.rv_types.specs.Regs.{writes_of}
+use Rattle.rv_types.specs.Memory.{Ram, Code}
+use Rattle.rv_types.specs.Isa.{Goes, effect, first_of, second_of, isa_step, with_reg}
+use Rattle.rv_types.specs.Path.{pass_at, pass_step}
+use Rattle.rv_types.specs.declared.Cause.{Cause}
+use Rattle.rv_types.specs.declared.Instr.{Instr}
+use Rattle.rv_types.specs.declared.Kind.{Kind}
+use Rattle.rv_types.specs.declared.Kind.TheVariants.{Load, Store, Branch, Jalr, Call, Stop}
+use Rattle.machine_desc.specs.declared.SttModel.{SttModel}
+use Rattle.machine_desc.specs.declared.SttModel.TheVariants.{Spectre, Futuristic}
+use Rattle.window_model.specs.declared.Entry.{Entry}
+use Rattle.window_model.specs.declared.Item.{Item}
+use Rattle.window_model.specs.declared.Outcome.{Outcome}
+use Rattle.window_model.specs.declared.State.{State}
+use Rattle.window_model.specs.declared.State.TheVariants.{Waiting, Busy, Done}
+use Rattle.window_model.specs.Order.{fault_of, is_control, is_done, is_faulty, sources}
+use Rattle.window_model.specs.Resolve.{next_of}
+use Rattle.window_model.specs.Taint.{settled, safe, safe_as}
+use Rattle.window_model.specs.Front.{at_once}
+use Rattle.window_model.specs.Committed.{Aligned}
+use Rattle.window_model.specs.Path.{path}
+use Rattle.window_model.proofs.Booleans.{both, not_true, some_of}
+use Rattle.committed_state.specs.Consistent.{FitsState, IsItem, Predicts}
+use Rattle.committed_state.specs.Links.{entry_link}
+use Rattle.committed_state.specs.Replay.{Bank, IsReplayed, bank_after, effect_on, ram_after, replayed, replayed_as}
+use Rattle.committed_state.proofs.Bytes.{some_is}
+use Rattle.committed_state.proofs.Heads.{item_of, goes_on}
+use Rattle.committed_state.proofs.Known.{done_has}
+use Rattle.committed_state.proofs.Onward.{of_item, by_item, ram_item}
+use Rattle.committed_state.proofs.Turn.{item_eq, step_as}
+use Rattle.noninterference.proofs.Loads.{is_access, word_of}
+use Rattle.noninterference.proofs.Paths.{path_goes}
+use Rattle.noninterference.proofs.Faults.{hart, entry_of, no_fault, passed_over}
+
+-- what stands behind the entry may still be visible
+abbrev pub passes : SttModel → Entry → Bool
+passes Spectre e = settled e
+passes Futuristic e = safe e
+
+-- the replay looks at the item alone
+bank_item : (s : Bank) (e : Entry) → bank_after e s ≡ bank_after (of_item e.item) s
+bank_item s e =
+    let to : Outcome → Ram → Bank = λ o m. record { regs = with_reg s.regs (writes_of e.item.instr) o.value; ram = m } in
+    ap (to (replayed s e)) (ram_item e.item.kind s.ram e (replayed s e))
+    ∙ ap (λ o. to o (ram_after e.item.kind s.ram (of_item e.item) o)) (by_item e.item.kind s e)
+
+replayed_next : (k : Kind) (s : Bank) (e : Entry) → (replayed_as k s e).next ≡ (effect_on s e).next
+replayed_next Load s e = refl
+replayed_next Store s e = refl
+replayed_next _ s e = refl
+
+module _ (code : Code) (aligned : Aligned code) (s : Bank) (e : Entry) (n : ℕ) (item : IsItem code e.item) (f : FitsState e.state e) (r : IsReplayed e.outcome s e) (g : at_once e.item.kind ≡ false) (l : (entry_link e).next ≡ Some n) where
+  abbrev O : Outcome
+  O = replayed s e
+
+  abbrev Steps : SttModel → Type 0
+  Steps model = path model code (hart e.item.pc s) ≡ Goes (hart n (bank_after e s)) []
+
+  of_isa : (model : SttModel) → O.fault ≡ None → n ≡ O.next → Steps model
+  unfolding isa_step
+  of_isa model h q =
+      path_goes model code (hart e.item.pc s) _ [] (step_as (code e.item.pc) (hart e.item.pc s) e refl item.instr item.kind g None h)
+      ∙ ap (λ m. Goes (hart m (bank_after e s)) []) (sym q)
+
+  word_there : (w : ℕ) × (code e.item.pc ≡ Some w) × (e.item.instr ≡ decode w) × (e.item.kind ≡ kind_of (decode w))
+  word_there = word_of code e (λ k. not (at_once k)) item (λ c. refl) (ap not g)
+
+  abbrev i : Instr
+  i = decode word_there.0
+
+  item_is : e.item ≡ item_of e.item.pc i e.item.predicted
+  item_is = item_eq e.item e.item.pc i refl word_there.2 word_there.3
+
+  outcome_is : O ≡ replayed s (entry_of s e.item.pc e.item.predicted i)
+  outcome_is = by_item e.item.kind s e ∙ ap (λ t. replayed s (of_item t)) item_is
+
+  -- what isn't a branch or JALR goes on at its prediction, and so does the replay
+  unresolved : (t : State) (b : Bool) → is_control e.item.kind ≡ false → FitsState t (record e { resolved = b }) → b ≡ false
+  unresolved Waiting b c f = f.1
+  unresolved (Busy due) b c f = f.1
+  unresolved Done false c f = refl
+  unresolved Done true c f = absurd (let d = f.1 refl in cc)
+
+  predicted_next : is_control e.item.kind ≡ false → n ≡ O.next
+  predicted_next c =
+      let u = unresolved e.state e.resolved c f in
+      let q : (entry_link e).next ≡ e.item.predicted = rw u refl in
+      let a = first_of (sources e) s.regs in
+      let b = second_of (sources e) s.regs in
+      let at_i = λ (k : Kind). k ≡ kind_of i in
+      let to = goes_on i e.item.pc a b e.item.predicted (subst (λ (t : Item). Predicts t.kind t) item_is item.next) (ap is_control (sym word_there.3) ∙ c) (ap at_once (sym word_there.3) ∙ g) in
+      some_of n O.next (sym l ∙ q ∙ to ∙ ap (λ j. Some (effect e.item.pc j a b).next) (sym word_there.2) ∙ ap Some (sym (replayed_next e.item.kind s e)))
+
+  -- a branch or JALR that is resolved has the replay's outcome
+  issued_when : (t : State) → FitsState t e → e.resolved ≡ true → is_some e.outcome ≡ true
+  issued_when Waiting f q = absurd (let d = f.1 in cc)
+  issued_when (Busy due) f q = absurd (let d = f.1 in cc)
+  issued_when Done f q = f.0 ∙ ap not g
+
+  no_fault_if : (c : Option Cause) (m : ℕ) → (if is_some c then None else Some m) ≡ Some n → (c ≡ None) × (n ≡ m)
+  no_fault_if None m h = (refl, sym (some_of m n h))
+  no_fault_if (Some c) m h = absurd (cc)
+
+  resolved_goes : (model : SttModel) → e.resolved ≡ true → Steps model
+  resolved_goes model q =
+      let o = some_is e.outcome s e r (issued_when e.state f q) in
+      let to : (entry_link e).next ≡ (if is_some (fault_of e.outcome) then None else Some (next_of e.outcome)) = rw q refl in
+      let there = no_fault_if O.fault O.next (ap (λ t. if is_some (fault_of t) then None else Some (next_of t)) (sym o) ∙ sym to ∙ l) in
+      of_isa model there.0 there.1
+
+  -- a load or store that is safe has no fault
+  none_of : (c : Option Cause) → is_some c ≡ false → c ≡ None
+  none_of None h = refl
+  none_of (Some c) h = absurd (cc)
+
+  safe_goes : (model : SttModel) → is_control e.item.kind ≡ false → (is_done e.state && not (is_faulty e)) ≡ true → Steps model
+  safe_goes model c v =
+      let ds = both (is_done e.state) _ v in
+      let o = some_is e.outcome s e r ((done_has e.state e f ds.0).0 ∙ ap not g) in
+      of_isa model (ap fault_of (sym o) ∙ none_of (fault_of e.outcome) (not_true _ ds.1)) (predicted_next c)
+
+  -- under the spectre model it is passed over where it faults
+  access_goes : is_control e.item.kind ≡ false → is_access e.item.kind ≡ true → Steps Spectre
+  unfolding pass_step
+  access_goes c k = by_fault O.fault refl
+    where
+      by_fault : (o : Option Cause) → O.fault ≡ o → Steps Spectre
+      by_fault None h = of_isa Spectre h (predicted_next c)
+      by_fault (Some cause) h =
+          let over = passed_over s e.item.pc e.item.predicted i cause (ap is_access (sym word_there.3) ∙ k) (ap (λ (o : Outcome). o.fault) (sym outcome_is) ∙ h) in
+          ap (λ o. pass_at o (hart e.item.pc s)) word_there.1 ∙ over
+          ∙ ap (λ m. Goes (hart m (bank_after (entry_of s e.item.pc e.item.predicted i) s)) []) (ap (λ (o : Outcome). o.next) (sym outcome_is) ∙ sym (predicted_next c))
+          ∙ ap (λ b. Goes (hart n b) []) (ap (λ t. bank_after (of_item t) s) (sym item_is) ∙ sym (bank_item s e))
+
+  plain_goes : (model : SttModel) → is_control e.item.kind ≡ false → is_access e.item.kind ≡ false → Steps model
+  plain_goes model c k =
+      let h = no_fault s e.item.pc e.item.predicted i (ap at_once (sym word_there.3) ∙ g) (ap is_control (sym word_there.3) ∙ c) (ap is_access (sym word_there.3) ∙ k) (aligned e.item.pc word_there.0 word_there.1) in
+      of_isa model (ap (λ (o : Outcome). o.fault) outcome_is ∙ h) (predicted_next c)
+
+  abbrev passes_as : SttModel → Kind → Bool
+  passes_as Spectre k = not (is_control k) || e.resolved
+  passes_as Futuristic k = safe_as k e
+
+  by_kind : (model : SttModel) (k : Kind) → e.item.kind ≡ k → passes_as model k ≡ true → Steps model
+  by_kind Spectre Load q v = access_goes (ap is_control q) (ap is_access q)
+  by_kind Spectre Store q v = access_goes (ap is_control q) (ap is_access q)
+  by_kind Futuristic Load q v = safe_goes Futuristic (ap is_control q) v
+  by_kind Futuristic Store q v = safe_goes Futuristic (ap is_control q) v
+  by_kind Spectre Branch q v = resolved_goes Spectre v
+  by_kind Spectre Jalr q v = resolved_goes Spectre v
+  by_kind Futuristic Branch q v = resolved_goes Futuristic (both e.resolved _ v).0
+  by_kind Futuristic Jalr q v = resolved_goes Futuristic (both e.resolved _ v).0
+  by_kind model Call q v = absurd (let t = ap at_once q in cc)
+  by_kind model (Stop c) q v = absurd (let t = ap at_once q in cc)
+  by_kind model _ q v = plain_goes model (ap is_control q) (ap is_access q)
+
+  -- an entry that is passed is a step of the path
+  pub passed_steps : (model : SttModel) → passes model e ≡ true → path model code (hart e.item.pc s) ≡ Goes (hart n (bank_after e s)) []
+  passed_steps Spectre v = by_kind Spectre e.item.kind refl v
+  passed_steps Futuristic v = by_kind Futuristic e.item.kind refl v

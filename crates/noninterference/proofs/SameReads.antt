@@ -1,0 +1,97 @@
+-- Visible loads of both runs have read the same, so all outcomes that may be looked at are equal.
+use Rattle.std.proofs.Common.{◌≡◌, ℕ, ◌+◌, ◌≤◌, true, not, List, [], ◌∷◌, length, map, refl, ap, sym, ◌∙◌, subst, arith}
+use Rattle.std.specs.Prelude.{is_some}
+use Rattle.std.specs.List.{AllByRecursion as All}
+use Rattle.std.proofs.lemmas.List.{length-map}
+use Rattle.rv_types.specs.Decode.{decode}
+use Rattle.rv_types.specs.Memory.{Code}
+use Rattle.rv_types.specs.Path.{loads_at}
+use Rattle.rv_types.specs.declared.Kind.TheVariants.{Load}
+use Rattle.machine_desc.specs.declared.SttModel.{SttModel}
+use Rattle.window_model.specs.declared.Entry.{Entry}
+use Rattle.window_model.specs.declared.State.{State}
+use Rattle.window_model.specs.declared.State.TheVariants.{Waiting, Busy, Done}
+use Rattle.window_model.specs.State.{Machine}
+use Rattle.window_model.specs.Order.{is_load}
+use Rattle.window_model.specs.Retire.{hart_of, op_of}
+use Rattle.window_model.specs.Taint.{visible}
+use Rattle.window_model.specs.Front.{at_once}
+use Rattle.window_model.specs.Committed.{Aligned}
+use Rattle.window_model.specs.Path.{path}
+use Rattle.window_model.proofs.Lists.{each_left}
+use Rattle.committed_state.specs.Replay.{Bank, bank, effect_on, replayed_as}
+use Rattle.committed_state.specs.Consistent.{FitsState, bank_in}
+use Rattle.noninterference.specs.Alike.{without_outcome}
+use Rattle.noninterference.specs.Outcomes.{SameOutcomes}
+use Rattle.noninterference.specs.InStep.{byte, InStep}
+use Rattle.noninterference.proofs.Looking.{same_visible}
+use Rattle.noninterference.proofs.Derive.{AllSameReads, derive}
+use Rattle.noninterference.proofs.Loads.{is_load_kind, is_load_instr, word_of, load_same}
+use Rattle.noninterference.proofs.OneRun.{OneRun, older}
+use Rattle.noninterference.proofs.Onward.{leads_on}
+use Rattle.noninterference.proofs.PathLink.{leads_to}
+use Rattle.noninterference.proofs.Faults.{hart}
+use Rattle.noninterference.proofs.Replays.{same_replay}
+
+-- the same entries have been issued
+issued_alike : (st : State) (e e2 : Entry) → FitsState st e → FitsState st e2 → at_once e.item.kind ≡ at_once e2.item.kind → is_some e.outcome ≡ is_some e2.outcome
+issued_alike Waiting e e2 f f2 k = ap is_some (f.0 ∙ sym f2.0)
+issued_alike (Busy due) e e2 f f2 k = f.0 ∙ sym f2.0
+issued_alike Done e e2 f f2 k = f.0 ∙ ap not k ∙ sym f2.0
+
+module _ (model : SttModel) (code : Code) (aligned : Aligned code) (x x2 : Machine) (limit : ℕ) (n : length x.regs ≡ 32) (n2 : length x2.regs ≡ 32) (in_step : (k : ℕ) → k ≤ limit → InStep (path model) code k (hart_of x) (hart_of x2)) where
+  abbrev s : Bank
+  s = bank_in (hart_of x)
+
+  abbrev s2 : Bank
+  s2 = bank_in (hart_of x2)
+
+  abbrev One : List Entry → Type 0
+  One = OneRun code model x
+
+  abbrev Two : List Entry → Type 0
+  Two = OneRun code model x2
+
+  -- a visible load reads the same in both runs, whose paths lead to it in step
+  visible_load : (b b2 : List Entry) (e e2 : Entry) → length b + 1 ≤ limit → One (e ∷ b) → Two (e2 ∷ b2) → length b ≡ length b2 → without_outcome e ≡ without_outcome e2 → is_some e.outcome ≡ is_some e2.outcome → visible model b ≡ true → visible model b2 ≡ true → is_load e.item.kind ≡ true → e.outcome ≡ e2.outcome
+  visible_load b b2 e e2 lt w w2 l h i v v2 k =
+      let t = hart e.item.pc (bank s b) in
+      let t2 = hart e2.item.pc (bank s2 b2) in
+      let one = leads_to model code aligned s x.pc b e.item.pc w.stands.1 w.linked.1 w.stands.0.through v w.linked.0 in
+      let two = leads_to model code aligned s2 x2.pc b2 e2.item.pc w2.stands.1 w2.linked.1 w2.stands.0.through v2 w2.linked.0 in
+      let there = leads_on model code 1 (length b) (hart_of x) (hart_of x2) t t2 (in_step (length b + 1) lt) one (rw l two) in
+      let f : effect_on (bank s b) e ≡ effect_on (bank s2 b2) e2 = (let g = there.regs in let q = ap (λ (x : Entry). x.item) h in cc) in
+      let word = word_of code e is_load w.stands.0.item (λ c. refl) k in
+      let kl : e.item.kind ≡ Load = is_load_kind e.item.kind k in
+      let kl2 : e2.item.kind ≡ Load = sym (ap (λ (x : Entry). x.item.kind) h) ∙ kl in
+      let q = ap (λ o. loads_at o t) word.1 ∙ is_load_instr (decode word.0) (sym word.3 ∙ kl) (bank s b) e word.2 in
+      let bytes = subst (All (λ a. byte (bank s b).ram a ≡ byte (bank s2 b2).ram a)) q (each_left _ (loads_at (code e.item.pc) t) _ there.bytes) in
+      let same = load_same (bank s b) (bank s2 b2) e e2 there.place (ap (λ (x : Entry). op_of x.item.instr) h) f bytes in
+      same_replay e.outcome e2.outcome (bank s b) (bank s2 b2) e e2 i w.stands.0.replayed w2.stands.0.replayed
+      (λ y y2. ap (λ k. replayed_as k (bank s b) e) kl ∙ same ∙ ap (λ k. replayed_as k (bank s2 b2) e2) (sym kl2))
+
+  derived : (b b2 : List Entry) → One b → Two b2 → AllSameReads model b b2 → SameOutcomes model b b2
+  derived b b2 w w2 a = let now = in_step 0 (omega arith) in derive model code x x2 n n2 now.regs now.place b b2 a w w2
+
+  same_reads : (b b2 : List Entry) → length b ≤ limit → One b → Two b2 → map without_outcome b ≡ map without_outcome b2 → AllSameReads model b b2
+  same_reads [] [] lt w w2 h = tt
+  same_reads (e ∷ b) (e2 ∷ b2) lt w w2 h =
+      let h1 : without_outcome e ≡ without_outcome e2 = cc in
+      let h2 : map without_outcome b ≡ map without_outcome b2 = cc in
+      let rest = same_reads b b2 (omega (arith, lt)) (older code model x e b w) (older code model x2 e2 b2 w2) h2 in
+      let same = derived b b2 (older code model x e b w) (older code model x2 e2 b2 w2) rest in
+      let l : length b ≡ length b2 = sym (length-map b without_outcome) ∙ ap length h2 ∙ length-map b2 without_outcome in
+      let i = issued_alike e.state e e2 w.stands.0.state (subst (λ st. FitsState st e2) (sym (ap (λ (x : Entry). x.state) h1)) w2.stands.0.state) (ap (λ (x : Entry). at_once x.item.kind) h1) in (
+        record {
+          but_outcome = h1;
+          issued = i;
+          reads = λ k v. visible_load b b2 e e2 (omega (arith, lt)) w w2 l h1 i v (sym (same_visible model b b2 same) ∙ v) k;
+        },
+        rest,
+      )
+  same_reads [] (e2 ∷ b2) lt w w2 h = absurd (cc)
+  same_reads (e ∷ b) [] lt w w2 h = absurd (cc)
+
+  -- all that may be looked at is equal in both runs
+  pub same_window : (b b2 : List Entry) → length b ≤ limit → One b → Two b2 → map without_outcome b ≡ map without_outcome b2 → SameOutcomes model b b2
+  same_window b b2 lt w w2 h = derived b b2 w w2 (same_reads b b2 lt w w2 h)

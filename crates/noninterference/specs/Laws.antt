@@ -1,0 +1,64 @@
+-- What the path doesn't load leaves no mark in the trace (docs/theorems.md, "Noninterference").
+use Rattle.std.specs.Prelude.{◌≡◌, ℕ, ◌+◌, ◌≤◌, length, None}
+use Rattle.rv_types.specs.Memory.{Code, Ram, Agree}
+use Rattle.machine_desc.specs.declared.Desc.{Desc}
+use Rattle.window_model.specs.Committed.{Aligned}
+use Rattle.window_model.specs.Shape.{SameShape}
+use Rattle.window_model.specs.State.{Machine}
+use Rattle.window_model.specs.Fill.{fill, complete}
+use Rattle.window_model.specs.Resolve.{resolve}
+use Rattle.window_model.specs.Retire.{retire}
+use Rattle.window_model.specs.Issue.{issue}
+use Rattle.window_model.specs.Front.{rename, fetch}
+use Rattle.window_model.specs.Cycle.{cycle, trace}
+use Rattle.window_model.specs.Path.{reads_of_trace}
+use Rattle.committed_state.specs.Consistent.{Consistent}
+use Rattle.noninterference.specs.Alike.{Alike, TellsNothing}
+use Rattle.noninterference.specs.Outcomes.{OutcomesAgree}
+use Rattle.noninterference.specs.InStep.{InStepUpTo}
+use Rattle.noninterference.specs.Together.{Together, RetiresAlike, CyclesAlike}
+
+-- every memory that agrees on the bytes that the path loads gives one trace
+abbrev pub Noninterference : Type 0
+Noninterference = (d : Desc) (code : Code) (entry : ℕ) (m m2 : Ram) (n : ℕ) → Aligned code → Agree m m2 (reads_of_trace d code entry m n) →
+    trace d code entry m2 n ≡ trace d code entry m n
+
+-- ---- phase by phase
+
+-- Fill tells nothing of two machines that show the same
+abbrev pub FillTellsNothing : Type 0
+FillTellsNothing = (d : Desc) (x x2 : Machine) → Alike x x2 → TellsNothing (fill d x) (fill d x2)
+
+-- nor does Complete
+abbrev pub CompleteTellsNothing : Type 0
+CompleteTellsNothing = (x x2 : Machine) → Alike x x2 → TellsNothing (complete x) (complete x2)
+
+-- nor Resolve, where the outcomes that may be looked at are equal
+abbrev pub ResolveTellsNothing : Type 0
+ResolveTellsNothing = (d : Desc) (x x2 : Machine) → Alike x x2 → OutcomesAgree d.stt_model x x2 → TellsNothing (resolve d x) (resolve d x2)
+
+-- nor Retire, where the path of both runs goes on in step past the window
+abbrev pub RetireTellsNothing : Type 0
+RetireTellsNothing = (d : Desc) (code : Code) (total : ℕ) (x x2 : Machine) → Aligned code → x.end ≡ None → Consistent code x → Consistent code x2 → x.retired + length x.window ≤ total → Alike x x2 →
+    InStepUpTo d.stt_model code total x x2 → RetiresAlike d.stt_model code total (retire d x) (retire d x2)
+
+-- nor Issue, which also looks at memory's place
+abbrev pub IssueTellsNothing : Type 0
+IssueTellsNothing = (d : Desc) (code : Code) (x x2 : Machine) → Consistent code x → Alike x x2 → OutcomesAgree d.stt_model x x2 → SameShape x.ram x2.ram → TellsNothing (issue d x) (issue d x2)
+
+-- nor Rename
+abbrev pub RenameTellsNothing : Type 0
+RenameTellsNothing = (d : Desc) (x x2 : Machine) → Alike x x2 → TellsNothing (rename d x) (rename d x2)
+
+-- nor Fetch
+abbrev pub FetchTellsNothing : Type 0
+FetchTellsNothing = (d : Desc) (code : Code) (x x2 : Machine) → Alike x x2 → TellsNothing (fetch d code x) (fetch d code x2)
+
+-- of two runs that go on together, the outcomes that may be looked at are equal
+abbrev pub TogetherAgree : Type 0
+TogetherAgree = (d : Desc) (code : Code) (total : ℕ) (x x2 : Machine) → Aligned code → x.retired + d.core_rob ≤ total → Together d code total x x2 → OutcomesAgree d.stt_model x x2
+
+-- and a cycle keeps them together, with one row
+abbrev pub CycleTellsNothing : Type 0
+CycleTellsNothing = (d : Desc) (code : Code) (total : ℕ) (x x2 : Machine) → Aligned code → x.end ≡ None → Together d code total x x2 → (cycle d code x).machine.retired + d.core_rob ≤ total →
+    CyclesAlike d code total x x2

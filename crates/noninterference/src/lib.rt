@@ -1,0 +1,39 @@
+//! What a program doesn't load on its path leaves no mark in the machine's trace.
+//!
+//! The relation between two runs stands in `specs/`; every phase keeps it (`docs/theorems.md`, "Noninterference").
+#![tactic(auto)]
+
+ghost use Rattle.noninterference.specs.Gadgets.{BoundsCheckBypass, FaultShadow, FaultShadowSpectre, TaintedBranch, TaintedDivisor, TaintedStoreAddress, TargetInjection};
+ghost use Rattle.noninterference.specs.Laws.{CompleteTellsNothing, CycleTellsNothing, FetchTellsNothing, FillTellsNothing, IssueTellsNothing, Noninterference, RenameTellsNothing, ResolveTellsNothing, RetireTellsNothing, TogetherAgree};
+
+/// Memories that agree on each byte that the path loads, in the steps that the trace retires and as many more as the window holds,
+/// give one trace, under both models.
+pub fn traces_agree()
+    ensures noninterference { Noninterference }
+{}
+
+/// Each phase of two runs that show the same has the same events and leaves them showing the same. Which outcomes are equal
+/// follows at each state from the paths, which run in step; and a cycle keeps all of this.
+pub fn phases_tell_nothing()
+    ensures fill { FillTellsNothing }
+    ensures complete { CompleteTellsNothing }
+    ensures resolve { ResolveTellsNothing }
+    ensures retire { RetireTellsNothing }
+    ensures issue { IssueTellsNothing }
+    ensures rename { RenameTellsNothing }
+    ensures fetch { FetchTellsNothing }
+    ensures outcomes { TogetherAgree }
+    ensures cycle { CycleTellsNothing }
+{}
+
+/// Programs that would show a secret byte by what they do on a wrong path show none of its 256 values, under both models. Behind a
+/// load that faults this is so under the futuristic model; under the spectre model the path itself loads the secret, and nothing is said.
+pub fn secrets_stay_hidden()
+    ensures bounds_check_bypass { BoundsCheckBypass }
+    ensures tainted_store_address { TaintedStoreAddress }
+    ensures tainted_branch { TaintedBranch }
+    ensures tainted_divisor { TaintedDivisor }
+    ensures target_injection { TargetInjection }
+    ensures fault_shadow { FaultShadow }
+    ensures fault_shadow_spectre { FaultShadowSpectre }
+{}
