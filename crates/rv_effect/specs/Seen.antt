@@ -1,0 +1,7 @@
+-- The effect that a program computes, as the definitions have it.
+use Rattle.rv_types.specs.Isa as isa
+use Rattle.rv_effect.specs.declared.fields.Effect.{Effect}
+
+-- field by field
+abbrev pub seen : Effect → isa.Effect
+seen f = record { value = f.value; next = f.next; addr = f.addr; stored = f.stored; misaligned = f.misaligned }

@@ -1,0 +1,88 @@
+//! What each instruction makes of its sources (RISC-V unprivileged manual, chapters RV32I and M).
+ghost use Rattle.std.specs.Prelude.{◌≡◌, ◌==◌, if◌then◌else◌};
+ghost use Rattle.rv_types.specs.Isa.{effect, only, jump, at_address};
+ghost use Rattle.rv_effect.specs.Seen.{seen};
+
+use crate::fields::Effect;
+use rv_alu::{taken, value};
+use rv_types::Instr;
+
+// Computes a value, and goes on behind the instruction.
+#[inline]
+fn only(pc: u32, value: u32) -> Effect
+    ensures { seen result ≡ only pc value }
+{
+    Effect {
+        value,
+        next: pc.wrapping_add(4),
+        addr: 0,
+        stored: 0,
+        misaligned: false,
+    }
+}
+
+// Jumps, with a value for the register that keeps the return address.
+#[inline]
+fn jump(value: u32, target: u32) -> Effect
+    ensures { seen result ≡ jump value target }
+{
+    Effect {
+        value,
+        next: target,
+        addr: 0,
+        stored: 0,
+        misaligned: target % 4 != 0,
+    }
+}
+
+// Branches, or goes on behind the branch.
+#[inline]
+fn branch(pc: u32, is_taken: bool, target: u32) -> Effect
+    ensures { seen result ≡ (if is_taken then jump 1 target else only pc 0) }
+{
+    if is_taken {
+        return jump(1, target);
+    }
+    only(pc, 0)
+}
+
+// Accesses an address, to store a value where it is a store.
+#[inline]
+fn access(pc: u32, addr: u32, stored: u32) -> Effect
+    ensures { seen result ≡ at_address pc addr stored }
+{
+    Effect {
+        value: 0,
+        next: pc.wrapping_add(4),
+        addr,
+        stored,
+        misaligned: false,
+    }
+}
+
+/// The effect of an instruction at this pc whose first source holds `first` and whose second holds `second`; what it
+/// doesn't read isn't looked at. What may only trap, and a system call, compute 0 and go on.
+pub fn effect(pc: u32, instr: &Instr, first: u32, second: u32) -> Effect
+    ensures { seen result ≡ effect pc instr.now first second }
+{
+    match *instr {
+        Instr::Lui { imm, .. } => only(pc, imm.cast_unsigned()),
+        Instr::Auipc { imm, .. } => only(pc, pc.wrapping_add(imm.cast_unsigned())),
+        Instr::Jal { imm, .. } => jump(pc.wrapping_add(4), pc.wrapping_add(imm.cast_unsigned())),
+        Instr::Jalr { imm, .. } => {
+            jump(
+                pc.wrapping_add(4),
+                first.wrapping_add(imm.cast_unsigned()) / 2 * 2,
+            )
+        }
+        Instr::Branch { op, imm, .. } => {
+            let target = pc.wrapping_add(imm.cast_unsigned());
+            branch(pc, taken(op, first, second), target)
+        }
+        Instr::Load { imm, .. } => access(pc, first.wrapping_add(imm.cast_unsigned()), 0),
+        Instr::Store { imm, .. } => access(pc, first.wrapping_add(imm.cast_unsigned()), second),
+        Instr::OpImm { op, imm, .. } => only(pc, value(op, first, imm.cast_unsigned())),
+        Instr::OpReg { op, .. } => only(pc, value(op, first, second)),
+        Instr::Fence(_) | Instr::Ecall | Instr::Ebreak | Instr::Illegal(_) => only(pc, 0),
+    }
+}

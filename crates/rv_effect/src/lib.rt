@@ -1,0 +1,15 @@
+//! What an instruction makes of the values of its sources, memory apart, and what a system call does.
+//!
+//! Both are definitions of `rv_types/specs/Isa.antt`: `effect` and `call`; in plain words they stand in
+//! `docs/instruction-set.md`. The instruction set's own step uses them, and so does each core.
+#![tactic(auto)]
+
+mod calls;
+mod effects;
+mod fields;
+#[cfg(test)]
+mod tests;
+
+pub use calls::call;
+pub use effects::effect;
+pub use fields::Effect;

@@ -1,0 +1,238 @@
+//! One instruction of each form, and one call of each answer; the values are those of the manual's formulas.
+use crate::{Effect, call, effect};
+use byte_ram::Ram;
+use rv_types::{Instr, Op, Piece, Reg, Width};
+use std::test::Fail;
+
+const PC: u32 = 0x0001_0000;
+
+const NEXT: u32 = 0x0001_0004;
+
+const BASE: u32 = 0x0002_0000;
+
+const SIZE: u32 = 64;
+
+const RD: Reg = Reg { number: 7 };
+
+const RS1: Reg = Reg { number: 5 };
+
+const RS2: Reg = Reg { number: 6 };
+
+// An instruction at PC, the values of its sources, and the value, next, address and stored value of its effect, and
+// whether it jumps to no multiple of 4.
+const EFFECTS: [(Instr, u32, u32, u32, u32, u32, u32, bool); 15] = [
+    (
+        Instr::Lui { rd: RD, imm: -4096 },
+        1,
+        2,
+        0xffff_f000,
+        NEXT,
+        0,
+        0,
+        false,
+    ),
+    (
+        Instr::Auipc { rd: RD, imm: -4096 },
+        1,
+        2,
+        0xf000,
+        NEXT,
+        0,
+        0,
+        false,
+    ),
+    (
+        Instr::Jal { rd: RD, imm: -16 },
+        1,
+        2,
+        NEXT,
+        0xfff0,
+        0,
+        0,
+        false,
+    ),
+    (
+        Instr::Jal { rd: RD, imm: 2 },
+        1,
+        2,
+        NEXT,
+        0x0001_0002,
+        0,
+        0,
+        true,
+    ),
+    (
+        Instr::Jalr {
+            rd: RD,
+            rs1: RS1,
+            imm: -4,
+        },
+        0x21,
+        2,
+        NEXT,
+        0x1c,
+        0,
+        0,
+        false,
+    ),
+    (
+        Instr::Jalr {
+            rd: RD,
+            rs1: RS1,
+            imm: 2,
+        },
+        0x21,
+        2,
+        NEXT,
+        0x22,
+        0,
+        0,
+        true,
+    ),
+    (
+        Instr::Branch {
+            op: Op::Beq,
+            rs1: RS1,
+            rs2: RS2,
+            imm: 6,
+        },
+        3,
+        3,
+        1,
+        0x0001_0006,
+        0,
+        0,
+        true,
+    ),
+    (
+        Instr::Branch {
+            op: Op::Beq,
+            rs1: RS1,
+            rs2: RS2,
+            imm: 6,
+        },
+        3,
+        4,
+        0,
+        NEXT,
+        0,
+        0,
+        false,
+    ),
+    (
+        Instr::Load {
+            op: Op::Lw,
+            rd: RD,
+            rs1: RS1,
+            imm: -1,
+        },
+        0,
+        2,
+        0,
+        NEXT,
+        0xffff_ffff,
+        0,
+        false,
+    ),
+    (
+        Instr::Store {
+            op: Op::Sw,
+            rs1: RS1,
+            rs2: RS2,
+            imm: 4,
+        },
+        0xffff_ffff,
+        9,
+        0,
+        NEXT,
+        3,
+        9,
+        false,
+    ),
+    (
+        Instr::OpImm {
+            op: Op::Add,
+            rd: RD,
+            rs1: RS1,
+            imm: -1,
+        },
+        5,
+        2,
+        4,
+        NEXT,
+        0,
+        0,
+        false,
+    ),
+    (
+        Instr::OpReg {
+            op: Op::Sub,
+            rd: RD,
+            rs1: RS1,
+            rs2: RS2,
+        },
+        5,
+        7,
+        0xffff_fffe,
+        NEXT,
+        0,
+        0,
+        false,
+    ),
+    (Instr::Fence(15), 1, 2, 0, NEXT, 0, 0, false),
+    (Instr::Ecall, 1, 2, 0, NEXT, 0, 0, false),
+    (Instr::Illegal(0), 1, 2, 0, NEXT, 0, 0, false),
+];
+
+#[test]
+fn effects_are_the_manuals(rt: HostRuntime) -> Result<(), Fail> {
+    for (instr, first, second, value, next, addr, stored, misaligned) in EFFECTS {
+        let wanted = Effect {
+            value,
+            next,
+            addr,
+            stored,
+            misaligned,
+        };
+        assert_eq!(rt; effect(PC, &instr, first, second), wanted, "{instr:?}");
+    }
+    Ok(())
+}
+
+// a7, a0, a1 and a2 of a call, the value with which it ends the run, its answer in a0, and how many bytes it puts out.
+const CALLS: [(u32, u32, u32, u32, Option<u32>, u32, usize); 8] = [
+    (64, 1, BASE, 4, None, 4, 4),
+    (64, 2, BASE, 0xffff_ffff, None, 0xffff_fff2, 0), // 1024 bytes, of which memory has 64
+    (64, 2, BASE + 60, 4, None, 4, 4),
+    (64, 1, 0, 0, None, 0, 0),
+    (64, 0, BASE, 4, None, 0xffff_fff7, 0),
+    (63, 1, BASE, 4, None, 0xffff_ffda, 0),
+    (93, 42, BASE, 4, Some(42), 42, 0),
+    (94, 42, BASE, 4, Some(42), 42, 0),
+];
+
+#[test]
+fn calls_answer(rt: HostRuntime) -> Result<(), Fail> {
+    let mut ram = Ram::new(rt.alloc(), BASE, SIZE)?;
+    let _ = ram.put(BASE, Width::W, 0x7f80_ff01);
+    for (a7, a0, a1, a2, ended, answer, count) in CALLS {
+        let mut pc = PC;
+        let mut regs = [0u32; 32];
+        regs[10] = a0;
+        regs[11] = a1;
+        regs[12] = a2;
+        regs[17] = a7;
+        let mut out = Piece::new();
+        assert_eq!(rt;
+            call(&mut pc, &mut regs, &ram, &mut out),
+            ended,
+            "{a7} {a0}"
+        );
+        assert_eq!(rt;
+            (pc, regs[10], out.as_slice().len()),
+            (NEXT, answer, count),
+            "{a7} {a0}"
+        );
+    }
+    Ok(())
+}
