@@ -1,0 +1,11 @@
+pub mod Described
+pub mod Arrivals
+pub mod Placed
+pub mod Items
+pub mod Turns
+pub mod Ports
+pub mod Accesses
+pub mod Begins
+pub mod Programmed
+pub mod Start
+pub mod Shared
