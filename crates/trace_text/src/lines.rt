@@ -1,0 +1,50 @@
+//! The lines of a trace (`docs/formats.md`, "The trace").
+ghost use Rattle.std.specs.Prelude.{◌≡◌, ◌≤◌, ◌+◌, ◌*◌, ◌++◌, length, codes};
+ghost use Rattle.tool_io.specs.Outside.{Writes};
+ghost use Rattle.trace_text.specs.TraceText.{event_text, events_text, row_text};
+
+use crate::events::add_event;
+use line_text::{LINE_MAX, Line};
+use tool_io::{Failed, Sink};
+use window_model::{Event, Row};
+
+// Appends a blank and the text of an event: at most 37 bytes.
+fn add_with_blank(line: &mut Line, event: Event)
+    requires { length line.old + 61 ≤ LINE_MAX }
+    ensures text { line.new ≡ line.old ++ (codes " " ++ event_text event) }
+    ensures short { length line.new ≤ length line.old + 37 }
+{
+    line.add(b" ");
+    add_event(line, event);
+}
+
+#[tactic(auto, unfolding(crate::specs::TraceText::events_text))]
+fn add_events(line: &mut Line, events: &[Event])
+    requires few { length events.now ≤ 128 }
+    requires room { length line.old ≤ 20 }
+    ensures text { line.new ≡ line.old ++ events_text events.now }
+    ensures short { length line.new ≤ length line.old + 37 * length events.now }
+{
+    for event in events {
+        add_with_blank(line, *event);
+    }
+}
+
+#[tactic(auto, unfolding(crate::specs::TraceText::row_text))]
+fn row_line(row: &Row) -> Line
+    ensures { result ≡ row_text row.now }
+{
+    let mut line = Line::new();
+    line.add_decimal(row.cycle() as u64);
+    add_events(&mut line, row.events());
+    line.add(b"\n");
+    line
+}
+
+/// Writes the line of a cycle, by one put. Error: `Failed`, only where the sink's count of faults rose; then the first
+/// bytes of the line were appended, maybe none.
+pub fn write_row<S: Sink>(row: &Row, out: &mut S) -> Result<(), Failed>
+    ensures { Writes (row_text row.now) (S.told out.old) (S.told out.new) result }
+{
+    out.put(row_line(row).as_slice())
+}
