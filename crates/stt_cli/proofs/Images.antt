@@ -1,9 +1,10 @@
 -- What the loader's clauses say of the image of a file.
-use Rattle.std.proofs.Common.{◌≡◌, ℕ, List, Some, None, Ok, Err, sym, ap, ap₂, ◌∙◌, ◌⊎◌, inl, inr}
-use Rattle.rv_types.specs.Memory.{Ram, Code, zeros}
+use Rattle.std.proofs.Common.{◌≡◌, ℕ, List, [], ◌∷◌, Some, None, Ok, Err, Option, length, refl, sym, ap, ap₂, ◌∙◌, ◌⊎◌, inl, inr}
+use Rattle.std.proofs.lemmas.List.FromFn.{length-map-range_with_len}
+use Rattle.rv_types.specs.Memory.{Ram, Code, zeros, length_zeros}
 use Rattle.elf_loader.specs.Fields.{entry_of}
-use Rattle.elf_loader.specs.Faults.{header_fault}
-use Rattle.elf_loader.specs.Image.{ImageText, image_of, ram_fault, ram_after, code_of}
+use Rattle.elf_loader.specs.Faults.{first_some, header_fault}
+use Rattle.elf_loader.specs.Image.{ImageText, image_of, image_in, unless, ram_fault, ram_after, code_of}
 use Rattle.elf_loader.proofs.Images.{image_without, image_outside}
 use Rattle.elf_loader.specs.declared.faults.ElfFault.{ElfFault}
 use Rattle.elf_loader.specs.declared.loading.Image.{Image}
@@ -42,3 +43,24 @@ pub load_refused : (file s : List ℕ) (base size : ℕ) (ram : Ram) (e : ElfFau
 load_refused file s base size ram elf.NoMemory q h r f = tt
 load_refused file s base size ram e q h r (inl m) = let k = m.0 in absurd (cc)
 load_refused file s base size ram e q h r (inr f) = memory_refuses file s base size ram _ q h r f
+
+-- ---- Where an image lies
+
+by_fault : (o : Option ElfFault) (i x : ImageText) → unless o i ≡ Ok x → i ≡ x
+by_fault None i x e = cc
+by_fault (Some f) i x e = absurd (cc)
+
+-- loading leaves memory in its place
+ram_stays : (file : List ℕ) (ram : Ram) → ((ram_after file ram).base ≡ ram.base) × (length (ram_after file ram).bytes ≡ length ram.bytes)
+unfolding ram_after
+ram_stays file ram = (refl, length-map-range_with_len _ 0 (length ram.bytes))
+
+-- an image lies in the memory that it was loaded into
+pub image_stays : (file : List ℕ) (base size : ℕ) (i : ImageText) → image_of file base size ≡ Ok i → (i.ram.base ≡ base) × (length i.ram.bytes ≡ size)
+unfolding image_of
+image_stays file base size i e =
+    let ram = empty base size in
+    let same : image_in file ram ≡ i = by_fault (first_some (header_fault file ∷ ram_fault file ram ∷ [])) (image_in file ram) i e in
+    let r : i.ram ≡ ram_after file ram = sym (ap (λ (x : ImageText). x.ram) same) in
+    let s = ram_stays file ram in
+    (ap (λ (m : Ram). m.base) r ∙ s.0, ap (λ (m : Ram). length m.bytes) r ∙ (s.1 ∙ length_zeros size))

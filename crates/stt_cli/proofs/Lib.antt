@@ -1,5 +1,7 @@
 pub mod Images
 pub mod Turns
-pub mod Outcomes
+pub mod Cycles
+pub mod CoreTexts
 pub mod Told
+pub mod Outcomes
 pub mod Statuses

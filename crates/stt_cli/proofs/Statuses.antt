@@ -2,39 +2,48 @@
 use Rattle.std.proofs.Common.{◌≡◌, ◌≤◌, ◌<◌, ◌⊎◌, ℕ, List, length, Option, Some, None, Result, Ok, Err, refl, sym, ap, ◌∙◌, subst, inl, inr, arith}
 use Rattle.elf_loader.specs.Image.{ImageText, image_of}
 use Rattle.elf_loader.specs.declared.faults.ElfFault.{ElfFault}
-use Rattle.machine_desc.specs.Description.{description_of}
+use Rattle.machine_desc.specs.Description.{description_of, Describes}
+use Rattle.machine_desc.specs.declared.Desc.{Desc}
 use Rattle.machine_desc.specs.declared.fault.DescFault.{DescFault}
 use Rattle.tool_io.specs.Outside.{Told, Shelf, Wrote, WrotePart, SameCounts, NameFailed, Rose}
-use Rattle.tool_words.specs.Words.{CommandText, command_of, isa_text}
+use Rattle.tool_words.specs.Words.{CommandText, command_of}
 use Rattle.stt_cli.specs.declared.reading.TheConstants.{DESCRIPTION_MAX, IMAGE_MAX}
 use Rattle.stt_cli.specs.declared.outcome.Ended.{Ended}
 use Rattle.stt_cli.specs.declared.outcome.Ended.TheVariants.{Exit, Trap, Budget}
 use Rattle.stt_cli.specs.declared.outcome.Refusal.{Refusal}
 use Rattle.stt_cli.specs.declared.outcome.Refusal.TheVariants.{Words, ReadDescription, DescriptionTooLong, Description, ReadImage, ImageTooLong, Image, Write, Memory}
 use Rattle.stt_cli.specs.Outcome.{ended_of, status_of}
-use Rattle.stt_cli.specs.Input.{MayHold, MayBeLonger, HasMemory, DescriptionRefused, InputRefused, MemoryRefused, IsInput}
-use Rattle.stt_cli.specs.Running.{run_of, isa_report}
-use Rattle.stt_cli.specs.Top.{Asks, Runs, NoImage, Ends, Statuses, IsFaultyDescription, IsFaultyImage, TellsMemory, CountRose, IsNamed}
-use Rattle.stt_cli.proofs.Told.{told_bytes, told_longer, told_memory, not_both}
+use Rattle.stt_cli.specs.Input.{MayHold, MayBeLonger, HasDesc, DescriptionRefused, NamedRefused, IsInput, base_of, size_of}
+use Rattle.stt_cli.specs.Top.{Asks, Runs, NoImage, Performs, Ends, Statuses, image_name, description_name, work_of, IsFaultyDescription, IsFaultyImage, TellsDesc, CountRose, IsNamed}
+use Rattle.stt_cli.proofs.Told.{told_bytes, told_longer, told_desc, not_both}
 
 -- words that are a command aren't none
 clash : {o : Option CommandText} {c : CommandText} → o ≡ Some c → o ≡ None → ⊥
 clash p q = cc
 
--- the words give one command
-same_command : (o : Option CommandText) (i i' : List ℕ) (n n' : ℕ) (d d' : Option (List ℕ)) → o ≡ Some (isa_text i n d) → o ≡ Some (isa_text i' n' d') → (i' ≡ i) × (n' ≡ n) × (d' ≡ d)
-same_command o i i' n n' d d' p q = (cc, cc, cc)
+-- the command that is performed is the one that the words give
+performed_one : (words : List (List ℕ)) (old new : Shelf) (out out' : Told) (r : Result Ended Refusal) (command : CommandText)
+    → Asks words (λ c. Performs c old new out out' r) → command_of words ≡ Some command → Performs command old new out out' r
+performed_one words old new out out' r command a k =
+    let first : command_of words ≡ Some a.0 = a.1 in
+    let same : a.0 ≡ command = cc in
+    let P : CommandText → Type 0 = λ c. Performs c old new out out' r in
+    subst P same a.2
 
 -- ---- 0, 1 and 3
 
-ran_ok : (words : List (List ℕ)) (old new : Shelf) (out out' : Told) (ended : Ended) → Ends words old new out out' (Ok ended)
-    → (image : ImageText) × (steps : ℕ) × Runs words old new image steps × Wrote (isa_report image steps) out out' × (status_of (Ok ended) ≡ status_of (Ok (ended_of (run_of image steps).ended)))
-ran_ok words old new out out' ended e = (e.0, e.1, e.2, e.3, ap (λ x. status_of (Ok x)) e.4)
+ran_ok : (words : List (List ℕ)) (old new : Shelf) (out out' : Told) (ended : Ended) → Asks words (λ command. Performs command old new out out' (Ok ended))
+    → Asks words (λ command. (desc : Option Desc) × (image : ImageText) × Runs command old new desc image × Wrote (work_of command desc image).text out out'
+    × (status_of (Ok ended) ≡ status_of (Ok (ended_of (work_of command desc image).ended))))
+ran_ok words old new out out' ended e = let p = e.2 in (e.0, e.1, (p.0, p.1, p.2, p.3, ap (λ x. status_of (Ok x)) p.4))
 
 ran : (words : List (List ℕ)) (old new : Shelf) (out out' : Told) (r : Result Ended Refusal) → Ends words old new out out' r
     → (status_of r ≡ 0) ⊎ (status_of r ≡ 1) ⊎ (status_of r ≡ 3)
-    → (image : ImageText) × (steps : ℕ) × Runs words old new image steps × Wrote (isa_report image steps) out out' × (status_of r ≡ status_of (Ok (ended_of (run_of image steps).ended)))
-ran words old new out out' (Ok ended) e h = ran_ok words old new out out' ended e
+    → Asks words (λ command. (desc : Option Desc) × (image : ImageText) × Runs command old new desc image × Wrote (work_of command desc image).text out out'
+    × (status_of r ≡ status_of (Ok (ended_of (work_of command desc image).ended))))
+ran words old new out out' (Ok Exit) e h = ran_ok words old new out out' Exit e
+ran words old new out out' (Ok Trap) e h = ran_ok words old new out out' Trap e
+ran words old new out out' (Ok Budget) e h = ran_ok words old new out out' Budget e
 ran words old new out out' (Err Words) e h = absurd (omega arith)
 ran words old new out out' (Err ReadDescription) e h = absurd (omega arith)
 ran words old new out out' (Err DescriptionTooLong) e h = absurd (omega arith)
@@ -48,10 +57,10 @@ ran words old new out out' (Err Memory) e h = absurd (omega arith)
 -- ---- 2
 
 two : (words : List (List ℕ)) (old new : Shelf) (out out' : Told) (r : Result Ended Refusal) → Ends words old new out out' r → status_of r ≡ 2 → command_of words ≡ None
-two words old new out out' (Err Words) e h = e.0.0
 two words old new out out' (Ok Exit) e h = absurd (omega arith)
 two words old new out out' (Ok Trap) e h = absurd (omega arith)
 two words old new out out' (Ok Budget) e h = absurd (omega arith)
+two words old new out out' (Err Words) e h = e.0
 two words old new out out' (Err ReadDescription) e h = absurd (omega arith)
 two words old new out out' (Err DescriptionTooLong) e h = absurd (omega arith)
 two words old new out out' (Err (Description f)) e h = absurd (omega arith)
@@ -62,48 +71,46 @@ two words old new out out' (Err Write) e h = absurd (omega arith)
 two words old new out out' (Err Memory) e h = absurd (omega arith)
 
 -- words that are no command
-
 no_command : (words : List (List ℕ)) (old new : Shelf) (out out' : Told) (r : Result Ended Refusal) → Ends words old new out out' r → command_of words ≡ None → (status_of r ≡ 2) ⊎ (status_of r ≡ 8)
-no_command words old new out out' (Ok Exit) e h = absurd (clash e.2.command h)
-no_command words old new out out' (Ok Trap) e h = absurd (clash e.2.command h)
-no_command words old new out out' (Ok Budget) e h = absurd (clash e.2.command h)
+no_command words old new out out' (Ok Exit) e h = absurd (clash e.1 h)
+no_command words old new out out' (Ok Trap) e h = absurd (clash e.1 h)
+no_command words old new out out' (Ok Budget) e h = absurd (clash e.1 h)
 no_command words old new out out' (Err Words) e h = inl refl
-no_command words old new out out' (Err ReadDescription) e h = absurd (clash e.0.3 h)
-no_command words old new out out' (Err DescriptionTooLong) e h = absurd (clash e.0.3 h)
-no_command words old new out out' (Err (Description f)) e h = absurd (clash e.0.3 h)
-no_command words old new out out' (Err ReadImage) e h = absurd (clash e.0.3 h)
-no_command words old new out out' (Err ImageTooLong) e h = absurd (clash e.0.3 h)
-no_command words old new out out' (Err (Image f)) e h = absurd (clash e.0.command h)
-no_command words old new out out' (Err Write) e h = absurd (clash e.2.command h)
+no_command words old new out out' (Err ReadDescription) e h = absurd (clash e.1 h)
+no_command words old new out out' (Err DescriptionTooLong) e h = absurd (clash e.1 h)
+no_command words old new out out' (Err (Description f)) e h = absurd (clash e.1 h)
+no_command words old new out out' (Err ReadImage) e h = absurd (clash e.1 h)
+no_command words old new out out' (Err ImageTooLong) e h = absurd (clash e.1 h)
+no_command words old new out out' (Err (Image f)) e h = absurd (clash e.1 h)
+no_command words old new out out' (Err Write) e h = absurd (clash e.1 h)
 no_command words old new out out' (Err Memory) e h = inr refl
 
 -- ---- 4
 
 -- a description that is refused is named
-named : (description : Option (List ℕ)) (old new : Shelf) (e : Refusal) → MemoryRefused description old new e → (name : List ℕ) × IsNamed description name × DescriptionRefused name old new e
+named : (description : Option (List ℕ)) (old new : Shelf) (e : Refusal) → NamedRefused description old new e → (name : List ℕ) × IsNamed description name × DescriptionRefused name old new e
 named None old new e h = absurd h
 named (Some name) old new e h = (name, refl, h)
 
-longer_description : (words : List (List ℕ)) (old new : Shelf) → Asks words (λ image steps description. InputRefused image description old new DescriptionTooLong)
-    → Asks words (λ image steps description. (name : List ℕ) × IsNamed description name
+longer_description : (words : List (List ℕ)) (old new : Shelf) (out out' : Told) → Asks words (λ command. Performs command old new out out' (Err DescriptionTooLong))
+    → Asks words (λ command. (name : List ℕ) × IsNamed (description_name command) name
     × (MayBeLonger old name DESCRIPTION_MAX ⊎ ((text : List ℕ) × (fault : DescFault) × MayHold old name DESCRIPTION_MAX text × (description_of text ≡ Err fault))))
-longer_description words old new a = let n = named a.2 old new DescriptionTooLong a.4 in (a.0, a.1, a.2, a.3, (n.0, n.1, inl n.2.0))
+longer_description words old new out out' a = let n = named (description_name a.0) old new DescriptionTooLong a.2.0 in (a.0, a.1, (n.0, n.1, inl n.2.0))
 
-refused_description : (words : List (List ℕ)) (old new : Shelf) (f : DescFault) → Asks words (λ image steps description. InputRefused image description old new (Description f))
-    → Asks words (λ image steps description. (name : List ℕ) × IsNamed description name
+no_description : (words : List (List ℕ)) (old new : Shelf) (out out' : Told) (f : DescFault) → Asks words (λ command. Performs command old new out out' (Err (Description f)))
+    → Asks words (λ command. (name : List ℕ) × IsNamed (description_name command) name
     × (MayBeLonger old name DESCRIPTION_MAX ⊎ ((text : List ℕ) × (fault : DescFault) × MayHold old name DESCRIPTION_MAX text × (description_of text ≡ Err fault))))
-refused_description words old new f a =
-    let n = named a.2 old new (Description f) a.4 in (a.0, a.1, a.2, a.3, (n.0, n.1, inr (n.2.0, f, n.2.1, n.2.2)))
+no_description words old new out out' f a = let n = named (description_name a.0) old new (Description f) a.2.0 in (a.0, a.1, (n.0, n.1, inr (n.2.0, f, n.2.1, n.2.2)))
 
-four : (words : List (List ℕ)) (old new : Shelf) (out out' : Told) (r : Result Ended Refusal) → Ends words old new out out' r → status_of r ≡ 4 → Asks words (λ image steps description. (name : List ℕ) × IsNamed description name
+four : (words : List (List ℕ)) (old new : Shelf) (out out' : Told) (r : Result Ended Refusal) → Ends words old new out out' r → status_of r ≡ 4 → Asks words (λ command. (name : List ℕ) × IsNamed (description_name command) name
     × (MayBeLonger old name DESCRIPTION_MAX ⊎ ((text : List ℕ) × (fault : DescFault) × MayHold old name DESCRIPTION_MAX text × (description_of text ≡ Err fault))))
 four words old new out out' (Ok Exit) e h = absurd (omega arith)
 four words old new out out' (Ok Trap) e h = absurd (omega arith)
 four words old new out out' (Ok Budget) e h = absurd (omega arith)
 four words old new out out' (Err Words) e h = absurd (omega arith)
 four words old new out out' (Err ReadDescription) e h = absurd (omega arith)
-four words old new out out' (Err DescriptionTooLong) e h = longer_description words old new e.0
-four words old new out out' (Err (Description f)) e h = refused_description words old new f e.0
+four words old new out out' (Err DescriptionTooLong) e h = longer_description words old new out out' e
+four words old new out out' (Err (Description f)) e h = no_description words old new out out' f e
 four words old new out out' (Err ReadImage) e h = absurd (omega arith)
 four words old new out out' (Err ImageTooLong) e h = absurd (omega arith)
 four words old new out out' (Err (Image f)) e h = absurd (omega arith)
@@ -112,8 +119,9 @@ four words old new out out' (Err Memory) e h = absurd (omega arith)
 
 -- ---- 5
 
-five : (words : List (List ℕ)) (old new : Shelf) (out out' : Told) (r : Result Ended Refusal) → Ends words old new out out' r → status_of r ≡ 5 → Asks words (λ image steps description. (base : ℕ) × (size : ℕ) × HasMemory old description base size
-    × (MayBeLonger old image IMAGE_MAX ⊎ ((file : List ℕ) × (fault : ElfFault) × MayHold old image IMAGE_MAX file × (image_of file base size ≡ Err fault))))
+five : (words : List (List ℕ)) (old new : Shelf) (out out' : Told) (r : Result Ended Refusal) → Ends words old new out out' r → status_of r ≡ 5 → Asks words (λ command. (desc : Option Desc) × HasDesc old (description_name command) desc
+    × (MayBeLonger old (image_name command) IMAGE_MAX
+    ⊎ ((file : List ℕ) × (fault : ElfFault) × MayHold old (image_name command) IMAGE_MAX file × (image_of file (base_of desc) (size_of desc) ≡ Err fault))))
 five words old new out out' (Ok Exit) e h = absurd (omega arith)
 five words old new out out' (Ok Trap) e h = absurd (omega arith)
 five words old new out out' (Ok Budget) e h = absurd (omega arith)
@@ -122,45 +130,46 @@ five words old new out out' (Err ReadDescription) e h = absurd (omega arith)
 five words old new out out' (Err DescriptionTooLong) e h = absurd (omega arith)
 five words old new out out' (Err (Description f)) e h = absurd (omega arith)
 five words old new out out' (Err ReadImage) e h = absurd (omega arith)
-five words old new out out' (Err ImageTooLong) e h = let a = e.0 in (a.0, a.1, a.2, a.3, (a.4.0, a.4.1, a.4.2, inl a.4.3))
-five words old new out out' (Err (Image f)) e h = let a = e.0 in (a.name, a.steps, a.description, a.command, (a.base, a.size, a.input.memory, inr (a.file, f, a.input.content, a.refused)))
+five words old new out out' (Err ImageTooLong) e h = let a = e.2.0 in (e.0, e.1, (a.0, a.1, inl a.2.0))
+five words old new out out' (Err (Image f)) e h = let a = e.2.0 in (e.0, e.1, (a.desc, a.input.described, inr (a.file, f, a.input.content, a.refused)))
 five words old new out out' (Err Write) e h = absurd (omega arith)
 five words old new out out' (Err Memory) e h = absurd (omega arith)
 
 -- ---- 6
 
-six : (words : List (List ℕ)) (old new : Shelf) (out out' : Told) (r : Result Ended Refusal) → Ends words old new out out' r → status_of r ≡ 6 → Asks words (λ image steps description.
-    ((name : List ℕ) × IsNamed description name × NameFailed name old new) ⊎ ((base : ℕ) × (size : ℕ) × HasMemory old description base size × NameFailed image old new))
+six : (words : List (List ℕ)) (old new : Shelf) (out out' : Told) (r : Result Ended Refusal) → Ends words old new out out' r → status_of r ≡ 6 → Asks words (λ command. ((name : List ℕ) × IsNamed (description_name command) name × NameFailed name old new)
+    ⊎ ((desc : Option Desc) × HasDesc old (description_name command) desc × NameFailed (image_name command) old new))
 six words old new out out' (Ok Exit) e h = absurd (omega arith)
 six words old new out out' (Ok Trap) e h = absurd (omega arith)
 six words old new out out' (Ok Budget) e h = absurd (omega arith)
 six words old new out out' (Err Words) e h = absurd (omega arith)
-six words old new out out' (Err ReadDescription) e h = let a = e.0 in let n = named a.2 old new ReadDescription a.4 in (a.0, a.1, a.2, a.3, inl n)
+six words old new out out' (Err ReadDescription) e h = (e.0, e.1, inl (named (description_name e.0) old new ReadDescription e.2.0))
 six words old new out out' (Err DescriptionTooLong) e h = absurd (omega arith)
 six words old new out out' (Err (Description f)) e h = absurd (omega arith)
-six words old new out out' (Err ReadImage) e h = let a = e.0 in (a.0, a.1, a.2, a.3, inr a.4)
+six words old new out out' (Err ReadImage) e h = (e.0, e.1, inr e.2.0)
 six words old new out out' (Err ImageTooLong) e h = absurd (omega arith)
 six words old new out out' (Err (Image f)) e h = absurd (omega arith)
 six words old new out out' (Err Write) e h = absurd (omega arith)
 six words old new out out' (Err Memory) e h = absurd (omega arith)
 
 not_six : (words : List (List ℕ)) (old new : Shelf) (out out' : Told) (r : Result Ended Refusal) → Ends words old new out out' r → (status_of r ≡ 6 → ⊥) → SameCounts old new
-not_six words old new out out' (Ok Exit) e h = e.2.input.counts
-not_six words old new out out' (Ok Trap) e h = e.2.input.counts
-not_six words old new out out' (Ok Budget) e h = e.2.input.counts
-not_six words old new out out' (Err Words) e h = e.0.1
+not_six words old new out out' (Ok Exit) e h = e.2.2.input.counts
+not_six words old new out out' (Ok Trap) e h = e.2.2.input.counts
+not_six words old new out out' (Ok Budget) e h = e.2.2.input.counts
+not_six words old new out out' (Err Words) e h = e.1
 not_six words old new out out' (Err ReadDescription) e h = absurd (h refl)
-not_six words old new out out' (Err DescriptionTooLong) e h = let a = e.0 in (named a.2 old new DescriptionTooLong a.4).2.1
-not_six words old new out out' (Err (Description f)) e h = let a = e.0 in (named a.2 old new (Description f) a.4).2.3
+not_six words old new out out' (Err DescriptionTooLong) e h = (named (description_name e.0) old new DescriptionTooLong e.2.0).2.1
+not_six words old new out out' (Err (Description f)) e h = (named (description_name e.0) old new (Description f) e.2.0).2.3
 not_six words old new out out' (Err ReadImage) e h = absurd (h refl)
-not_six words old new out out' (Err ImageTooLong) e h = e.0.4.4
-not_six words old new out out' (Err (Image f)) e h = e.0.input.counts
-not_six words old new out out' (Err Write) e h = e.2.input.counts
+not_six words old new out out' (Err ImageTooLong) e h = e.2.0.2.1
+not_six words old new out out' (Err (Image f)) e h = e.2.0.input.counts
+not_six words old new out out' (Err Write) e h = e.2.2.input.counts
 not_six words old new out out' (Err Memory) e h = e.0
 
 -- ---- 7
 
-seven : (words : List (List ℕ)) (old new : Shelf) (out out' : Told) (r : Result Ended Refusal) → Ends words old new out out' r → status_of r ≡ 7 → (image : ImageText) × (steps : ℕ) × Runs words old new image steps × WrotePart (isa_report image steps) out out'
+seven : (words : List (List ℕ)) (old new : Shelf) (out out' : Told) (r : Result Ended Refusal) → Ends words old new out out' r → status_of r ≡ 7 → Asks words (λ command. (desc : Option Desc) × (image : ImageText) × Runs command old new desc image
+    × WrotePart (work_of command desc image).text out out')
 seven words old new out out' (Ok Exit) e h = absurd (omega arith)
 seven words old new out out' (Ok Trap) e h = absurd (omega arith)
 seven words old new out out' (Ok Budget) e h = absurd (omega arith)
@@ -175,16 +184,16 @@ seven words old new out out' (Err Write) e h = e
 seven words old new out out' (Err Memory) e h = absurd (omega arith)
 
 not_seven : (words : List (List ℕ)) (old new : Shelf) (out out' : Told) (r : Result Ended Refusal) → Ends words old new out out' r → (status_of r ≡ 7 → ⊥) → out'.faults ≡ out.faults
-not_seven words old new out out' (Ok Exit) e h = e.3.count
-not_seven words old new out out' (Ok Trap) e h = e.3.count
-not_seven words old new out out' (Ok Budget) e h = e.3.count
-not_seven words old new out out' (Err Words) e h = ap (λ t. t.faults) e.1
-not_seven words old new out out' (Err ReadDescription) e h = ap (λ t. t.faults) e.1
-not_seven words old new out out' (Err DescriptionTooLong) e h = ap (λ t. t.faults) e.1
-not_seven words old new out out' (Err (Description f)) e h = ap (λ t. t.faults) e.1
-not_seven words old new out out' (Err ReadImage) e h = ap (λ t. t.faults) e.1
-not_seven words old new out out' (Err ImageTooLong) e h = ap (λ t. t.faults) e.1
-not_seven words old new out out' (Err (Image f)) e h = ap (λ t. t.faults) e.1
+not_seven words old new out out' (Ok Exit) e h = e.2.3.count
+not_seven words old new out out' (Ok Trap) e h = e.2.3.count
+not_seven words old new out out' (Ok Budget) e h = e.2.3.count
+not_seven words old new out out' (Err Words) e h = ap (λ t. t.faults) e.2
+not_seven words old new out out' (Err ReadDescription) e h = ap (λ t. t.faults) e.2.1
+not_seven words old new out out' (Err DescriptionTooLong) e h = ap (λ t. t.faults) e.2.1
+not_seven words old new out out' (Err (Description f)) e h = ap (λ t. t.faults) e.2.1
+not_seven words old new out out' (Err ReadImage) e h = ap (λ t. t.faults) e.2.1
+not_seven words old new out out' (Err ImageTooLong) e h = ap (λ t. t.faults) e.2.1
+not_seven words old new out out' (Err (Image f)) e h = ap (λ t. t.faults) e.2.1
 not_seven words old new out out' (Err Write) e h = absurd (h refl)
 not_seven words old new out out' (Err Memory) e h = ap (λ t. t.faults) e.1
 
@@ -194,186 +203,149 @@ nothing : (words : List (List ℕ)) (old new : Shelf) (out out' : Told) (r : Res
 nothing words old new out out' (Ok Exit) e h = absurd (omega arith)
 nothing words old new out out' (Ok Trap) e h = absurd (omega arith)
 nothing words old new out out' (Ok Budget) e h = absurd (omega arith)
-nothing words old new out out' (Err Words) e h = e.1
-nothing words old new out out' (Err ReadDescription) e h = e.1
-nothing words old new out out' (Err DescriptionTooLong) e h = e.1
-nothing words old new out out' (Err (Description f)) e h = e.1
-nothing words old new out out' (Err ReadImage) e h = e.1
-nothing words old new out out' (Err ImageTooLong) e h = e.1
-nothing words old new out out' (Err (Image f)) e h = e.1
+nothing words old new out out' (Err Words) e h = e.2
+nothing words old new out out' (Err ReadDescription) e h = e.2.1
+nothing words old new out out' (Err DescriptionTooLong) e h = e.2.1
+nothing words old new out out' (Err (Description f)) e h = e.2.1
+nothing words old new out out' (Err ReadImage) e h = e.2.1
+nothing words old new out out' (Err ImageTooLong) e h = e.2.1
+nothing words old new out out' (Err (Image f)) e h = e.2.1
 nothing words old new out out' (Err Write) e h = absurd (omega arith)
 nothing words old new out out' (Err Memory) e h = e.1
 
 -- ---- A faulty description
 
--- a faulty description gives no memory
-no_memory : (shelf : Shelf) (d : Option (List ℕ)) (base size : ℕ) (name text : List ℕ) → d ≡ Some name → shelf.content name ≡ Some text → HasMemory shelf d base size → IsFaultyDescription text → ⊥
-no_memory shelf d base size name text e t m (inl longer) =
-    let P : Option (List ℕ) → Type 0 = λ x. HasMemory shelf x base size in
-    let h : HasMemory shelf (Some name) base size = subst P e m in
-    let b = told_bytes (shelf.content name) DESCRIPTION_MAX text h.0 t h.1 in
+-- a faulty description is none
+no_desc : (shelf : Shelf) (d : Option (List ℕ)) (desc : Option Desc) (name text : List ℕ) → d ≡ Some name → shelf.content name ≡ Some text → HasDesc shelf d desc → IsFaultyDescription text → ⊥
+no_desc shelf d desc name text e t m (inl longer) =
+    let P : Option (List ℕ) → Type 0 = λ x. HasDesc shelf x desc in
+    let h : HasDesc shelf (Some name) desc = subst P e m in
+    let b = told_bytes (shelf.content name) DESCRIPTION_MAX text h.0 t h.2 in
     let short : length text ≤ DESCRIPTION_MAX = b.1 in
     omega (arith, short, longer)
-no_memory shelf d base size name text e t m (inr f) =
-    let P : Option (List ℕ) → Type 0 = λ x. HasMemory shelf x base size in
-    let h : HasMemory shelf (Some name) base size = subst P e m in
-    not_both text h.0 base size f.0 (told_bytes (shelf.content name) DESCRIPTION_MAX text h.0 t h.1).0 h.2 f.1
+no_desc shelf d desc name text e t m (inr f) =
+    let P : Option (List ℕ) → Type 0 = λ x. HasDesc shelf x desc in
+    let h : HasDesc shelf (Some name) desc = subst P e m in
+    not_both text h.0 h.1 f.0 (told_bytes (shelf.content name) DESCRIPTION_MAX text h.0 t h.2).0 h.3 f.1
 
-faulty_description : (words : List (List ℕ)) (old new : Shelf) (out out' : Told) (r : Result Ended Refusal) → Ends words old new out out' r → (image : List ℕ) (steps : ℕ) (name text : List ℕ)
-    → command_of words ≡ Some (isa_text image steps (Some name)) → old.content name ≡ Some text → IsFaultyDescription text → (status_of r ≡ 4) ⊎ ((status_of r ≡ 6) ⊎ (status_of r ≡ 8))
-faulty_description words old new out out' (Ok Exit) e image steps name text c t x = absurd (no_memory old _ _ _ name text (same_command _ _ _ _ _ _ _ c e.2.command).2 t e.2.input.memory x)
-faulty_description words old new out out' (Ok Trap) e image steps name text c t x = absurd (no_memory old _ _ _ name text (same_command _ _ _ _ _ _ _ c e.2.command).2 t e.2.input.memory x)
-faulty_description words old new out out' (Ok Budget) e image steps name text c t x = absurd (no_memory old _ _ _ name text (same_command _ _ _ _ _ _ _ c e.2.command).2 t e.2.input.memory x)
-faulty_description words old new out out' (Err Words) e image steps name text c t x = absurd (clash c e.0.0)
-faulty_description words old new out out' (Err ReadDescription) e image steps name text c t x = inr (inl refl)
-faulty_description words old new out out' (Err DescriptionTooLong) e image steps name text c t x = inl refl
-faulty_description words old new out out' (Err (Description f)) e image steps name text c t x = inl refl
-faulty_description words old new out out' (Err ReadImage) e image steps name text c t x = absurd (no_memory old _ _ _ name text (same_command _ _ _ _ _ _ _ c e.0.3).2 t e.0.4.2 x)
-faulty_description words old new out out' (Err ImageTooLong) e image steps name text c t x = absurd (no_memory old _ _ _ name text (same_command _ _ _ _ _ _ _ c e.0.3).2 t e.0.4.2 x)
-faulty_description words old new out out' (Err (Image f)) e image steps name text c t x = absurd (no_memory old _ _ _ name text (same_command _ _ _ _ _ _ _ c e.0.command).2 t e.0.input.memory x)
-faulty_description words old new out out' (Err Write) e image steps name text c t x = absurd (no_memory old _ _ _ name text (same_command _ _ _ _ _ _ _ c e.2.command).2 t e.2.input.memory x)
-faulty_description words old new out out' (Err Memory) e image steps name text c t x = inr (inr refl)
+faulty_description : (words : List (List ℕ)) (old new : Shelf) (out out' : Told) (r : Result Ended Refusal) → Ends words old new out out' r → (command : CommandText) (name text : List ℕ) → command_of words ≡ Some command → IsNamed (description_name command) name
+    → old.content name ≡ Some text → IsFaultyDescription text → (status_of r ≡ 4) ⊎ ((status_of r ≡ 6) ⊎ (status_of r ≡ 8))
+faulty_description words old new out out' (Ok Exit) e command name text k m t x = let p = performed_one words old new out out' (Ok Exit) command e k in absurd (no_desc old _ _ name text m t p.2.input.described x)
+faulty_description words old new out out' (Ok Trap) e command name text k m t x = let p = performed_one words old new out out' (Ok Trap) command e k in absurd (no_desc old _ _ name text m t p.2.input.described x)
+faulty_description words old new out out' (Ok Budget) e command name text k m t x = let p = performed_one words old new out out' (Ok Budget) command e k in absurd (no_desc old _ _ name text m t p.2.input.described x)
+faulty_description words old new out out' (Err Words) e command name text k m t x = absurd (clash k e.0)
+faulty_description words old new out out' (Err ReadDescription) e command name text k m t x = inr (inl refl)
+faulty_description words old new out out' (Err DescriptionTooLong) e command name text k m t x = inl refl
+faulty_description words old new out out' (Err (Description f)) e command name text k m t x = inl refl
+faulty_description words old new out out' (Err ReadImage) e command name text k m t x = let p = performed_one words old new out out' (Err ReadImage) command e k in absurd (no_desc old _ _ name text m t p.0.1 x)
+faulty_description words old new out out' (Err ImageTooLong) e command name text k m t x = let p = performed_one words old new out out' (Err ImageTooLong) command e k in absurd (no_desc old _ _ name text m t p.0.1 x)
+faulty_description words old new out out' (Err (Image f)) e command name text k m t x = let p = performed_one words old new out out' (Err (Image f)) command e k in absurd (no_desc old _ _ name text m t p.0.input.described x)
+faulty_description words old new out out' (Err Write) e command name text k m t x = let p = performed_one words old new out out' (Err Write) command e k in absurd (no_desc old _ _ name text m t p.2.input.described x)
+faulty_description words old new out out' (Err Memory) e command name text k m t x = inr (inr refl)
 
 -- ---- A faulty image, and completeness
 
 -- a told description is not longer than it may be
-not_longer : (shelf new : Shelf) (d : Option (List ℕ)) (base size : ℕ) → TellsMemory shelf d base size → MemoryRefused d shelf new DescriptionTooLong → ⊥
-not_longer shelf new None base size t h = h
-not_longer shelf new (Some name) base size t h =
-    let longer : DESCRIPTION_MAX < length t.0 = told_longer (shelf.content name) DESCRIPTION_MAX t.0 t.1 h.0 in
-    let short : length t.0 ≤ DESCRIPTION_MAX = t.2 in
+not_longer : (shelf new : Shelf) (d : Option (List ℕ)) (desc : Option Desc) → TellsDesc shelf d desc → NamedRefused d shelf new DescriptionTooLong → ⊥
+not_longer shelf new None desc t h = h
+not_longer shelf new (Some name) desc t h =
+    let longer : DESCRIPTION_MAX < length t.0 = told_longer (shelf.content name) DESCRIPTION_MAX t.0 t.2 h.0 in
+    let short : length t.0 ≤ DESCRIPTION_MAX = t.3 in
     omega (arith, short, longer)
 
 -- and has no fault
-not_refused : (shelf new : Shelf) (d : Option (List ℕ)) (base size : ℕ) (f : DescFault) → TellsMemory shelf d base size → MemoryRefused d shelf new (Description f) → ⊥
-not_refused shelf new None base size f t h = h
-not_refused shelf new (Some name) base size f t h =
-    let e : t.0 ≡ h.0 = sym (told_bytes (shelf.content name) DESCRIPTION_MAX t.0 h.0 t.1 h.1).0 in
-    not_both h.0 t.0 base size f e t.3 h.2
+not_refused : (shelf new : Shelf) (d : Option (List ℕ)) (desc : Option Desc) (f : DescFault) → TellsDesc shelf d desc → NamedRefused d shelf new (Description f) → ⊥
+not_refused shelf new None desc f t h = h
+not_refused shelf new (Some name) desc f t h =
+    let e : t.0 ≡ h.0 = sym (told_bytes (shelf.content name) DESCRIPTION_MAX t.0 h.0 t.2 h.1).0 in
+    not_both h.0 t.0 t.1 f e t.4 h.2
 
--- the files tell what a run was read from
-record SameInput (description : Option (List ℕ)) (base size : ℕ) (name file : List ℕ) (base' size' : ℕ) (file' : List ℕ) : Type 0 where
-  base_same : base' ≡ base
-  size_same : size' ≡ size
+-- the files tell what a command had
+record SameInput (desc : Option Desc) (file : List ℕ) (desc' : Option Desc) (file' : List ℕ) : Type 0 where
+  desc_same : desc' ≡ desc
   file_same : file' ≡ file
   short : length file ≤ IMAGE_MAX
 
-same_input : (old new : Shelf) (d d' : Option (List ℕ)) (base size base' size' : ℕ) (name name' file file' : List ℕ) → d' ≡ d → name' ≡ name
-    → TellsMemory old d base size → old.content name ≡ Some file → IsInput old new name' d' base' size' file' → SameInput d base size name file base' size' file'
-same_input old new d d' base size base' size' name name' file file' ed en m t i =
-    let P : Option (List ℕ) → Type 0 = λ x. HasMemory old x base' size' in
-    let Q : List ℕ → Type 0 = λ x. MayHold old x IMAGE_MAX file' in
-    let a = told_memory old d base size base' size' m (subst P ed i.memory) in
-    let b = told_bytes (old.content name) IMAGE_MAX file file' t (subst Q en i.content) in
-    record { base_same = a.0; size_same = a.1; file_same = b.0; short = b.1 }
+same_input : (old new : Shelf) (name : List ℕ) (d : Option (List ℕ)) (desc desc' : Option Desc) (file file' : List ℕ)
+    → TellsDesc old d desc → old.content name ≡ Some file → IsInput old new name d desc' file' → SameInput desc file desc' file'
+same_input old new name d desc desc' file file' m t i =
+    let b = told_bytes (old.content name) IMAGE_MAX file file' t i.content in
+    record { desc_same = told_desc old d desc desc' m i.described; file_same = b.0; short = b.1 }
 
 -- an image of these bytes in this memory, by those that are told
-image_is : (base size base' size' : ℕ) (file file' : List ℕ) → base' ≡ base → size' ≡ size → file' ≡ file → image_of file' base' size' ≡ image_of file base size
-image_is base size base' size' file file' a b c = ap (λ x. image_of x base' size') c ∙ (ap (λ x. image_of file x size') a ∙ ap (λ x. image_of file base x) b)
+image_is : (desc desc' : Option Desc) (file file' : List ℕ) → desc' ≡ desc → file' ≡ file → image_of file' (base_of desc') (size_of desc') ≡ image_of file (base_of desc) (size_of desc)
+image_is desc desc' file file' a c =
+    ap (λ x. image_of x (base_of desc') (size_of desc')) c ∙ ap (λ (d : Option Desc). image_of file (base_of d) (size_of d)) a
 
 -- a run had no faulty image
-no_faulty : (file : List ℕ) (base size : ℕ) (image : ImageText) → length file ≤ IMAGE_MAX → image_of file base size ≡ Ok image → IsFaultyImage file base size → ⊥
-no_faulty file base size image short i (inl longer) = omega (arith, short, longer)
-no_faulty file base size image short i (inr f) = let k = f.1 in cc
+no_faulty : (file : List ℕ) (desc : Option Desc) (image : ImageText) → length file ≤ IMAGE_MAX → image_of file (base_of desc) (size_of desc) ≡ Ok image → IsFaultyImage file desc → ⊥
+no_faulty file desc image short i (inl longer) = omega (arith, short, longer)
+no_faulty file desc image short i (inr f) = let k = f.1 in cc
 
-ran_faulty : (words : List (List ℕ)) (old new : Shelf) (image : ImageText) (n : ℕ) (name : List ℕ) (steps : ℕ) (description : Option (List ℕ)) (base size : ℕ) (file : List ℕ)
-    → Runs words old new image n → command_of words ≡ Some (isa_text name steps description) → TellsMemory old description base size → old.content name ≡ Some file
-    → IsFaultyImage file base size → ⊥
-ran_faulty words old new image n name steps description base size file r c m t x =
-    let k = same_command _ _ _ _ _ _ _ c r.command in
-    let s = same_input old new description r.description base size r.base r.size name r.name file r.file k.2 k.0 m t r.input in
-    no_faulty file base size image s.short (sym (image_is base size r.base r.size file r.file s.base_same s.size_same s.file_same) ∙ r.loads) x
-
--- reading the description failed by none of its faults
-unrefused_longer : (words : List (List ℕ)) (old new : Shelf) (name : List ℕ) (steps : ℕ) (description : Option (List ℕ)) (base size : ℕ)
-    → Asks words (λ i n d. InputRefused i d old new DescriptionTooLong) → command_of words ≡ Some (isa_text name steps description) → TellsMemory old description base size → ⊥
-unrefused_longer words old new name steps description base size a c m =
-    let P : Option (List ℕ) → Type 0 = λ x. MemoryRefused x old new DescriptionTooLong in
-    not_longer old new description base size m (subst P (same_command _ _ _ _ _ _ _ c a.3).2 a.4)
-
-unrefused : (words : List (List ℕ)) (old new : Shelf) (f : DescFault) (name : List ℕ) (steps : ℕ) (description : Option (List ℕ)) (base size : ℕ)
-    → Asks words (λ i n d. InputRefused i d old new (Description f)) → command_of words ≡ Some (isa_text name steps description) → TellsMemory old description base size → ⊥
-unrefused words old new f name steps description base size a c m =
-    let P : Option (List ℕ) → Type 0 = λ x. MemoryRefused x old new (Description f) in
-    not_refused old new description base size f m (subst P (same_command _ _ _ _ _ _ _ c a.3).2 a.4)
-
-faulty_image : (words : List (List ℕ)) (old new : Shelf) (out out' : Told) (r : Result Ended Refusal) → Ends words old new out out' r → (image : List ℕ) (steps : ℕ) (description : Option (List ℕ)) (base size : ℕ) (file : List ℕ)
-    → command_of words ≡ Some (isa_text image steps description) → TellsMemory old description base size → old.content image ≡ Some file → IsFaultyImage file base size
-    → (status_of r ≡ 5) ⊎ ((status_of r ≡ 6) ⊎ (status_of r ≡ 8))
-faulty_image words old new out out' (Ok Exit) e image steps description base size file c m t x = absurd (ran_faulty words old new e.0 e.1 image steps description base size file e.2 c m t x)
-faulty_image words old new out out' (Ok Trap) e image steps description base size file c m t x = absurd (ran_faulty words old new e.0 e.1 image steps description base size file e.2 c m t x)
-faulty_image words old new out out' (Ok Budget) e image steps description base size file c m t x = absurd (ran_faulty words old new e.0 e.1 image steps description base size file e.2 c m t x)
-faulty_image words old new out out' (Err Words) e image steps description base size file c m t x = absurd (clash c e.0.0)
-faulty_image words old new out out' (Err ReadDescription) e image steps description base size file c m t x = inr (inl refl)
-faulty_image words old new out out' (Err DescriptionTooLong) e image steps description base size file c m t x = absurd (unrefused_longer words old new image steps description base size e.0 c m)
-faulty_image words old new out out' (Err (Description f)) e image steps description base size file c m t x = absurd (unrefused words old new f image steps description base size e.0 c m)
-faulty_image words old new out out' (Err ReadImage) e image steps description base size file c m t x = inr (inl refl)
-faulty_image words old new out out' (Err ImageTooLong) e image steps description base size file c m t x = inl refl
-faulty_image words old new out out' (Err (Image f)) e image steps description base size file c m t x = inl refl
-faulty_image words old new out out' (Err Write) e image steps description base size file c m t x = absurd (ran_faulty words old new e.0 e.1 image steps description base size file e.2 c m t x)
-faulty_image words old new out out' (Err Memory) e image steps description base size file c m t x = inr (inr refl)
-
--- a whole report is that of the image that is told
-done : (words : List (List ℕ)) (old new : Shelf) (out out' : Told) (ended : Ended) → Ends words old new out out' (Ok ended)
-    → (name : List ℕ) (steps : ℕ) (description : Option (List ℕ)) (base size : ℕ) (file : List ℕ) (image : ImageText) → command_of words ≡ Some (isa_text name steps description)
-    → TellsMemory old description base size → old.content name ≡ Some file → image_of file base size ≡ Ok image
-    → (status_of (Ok ended) ≡ status_of (Ok (ended_of (run_of image steps).ended))) × Wrote (isa_report image steps) out out'
-done words old new out out' ended e name steps description base size file image c m t i =
-    let r = e.2 in
-    let k = same_command _ _ _ _ _ _ _ c r.command in
-    let s = same_input old new description r.description base size r.base r.size name r.name file r.file k.2 k.0 m t r.input in
-    let same : image_of file base size ≡ Ok e.0 = sym (image_is base size r.base r.size file r.file s.base_same s.size_same s.file_same) ∙ r.loads in
-    let one : e.0 ≡ image = cc in
-    let P : ImageText → ℕ → Type 0 = λ x n. (status_of (Ok ended) ≡ status_of (Ok (ended_of (run_of x n).ended))) × Wrote (isa_report x n) out out' in
-    let here : P e.0 e.1 = (ap (λ y. status_of (Ok y)) e.4, e.3) in
-    subst (λ (n : ℕ). P image n) k.1 (subst (λ (x : ImageText). P x e.1) one here)
+ran_faulty : (command : CommandText) (old new : Shelf) (had desc : Option Desc) (image : ImageText) (file : List ℕ) → Runs command old new had image
+    → TellsDesc old (description_name command) desc → old.content (image_name command) ≡ Some file → IsFaultyImage file desc → ⊥
+ran_faulty command old new had desc image file r m t x =
+    let s = same_input old new (image_name command) (description_name command) desc had file r.file m t r.input in
+    no_faulty file desc image s.short (sym (image_is desc had file r.file s.desc_same s.file_same) ∙ r.loads) x
 
 -- the file that is told is an image
-no_fault : (words : List (List ℕ)) (old new : Shelf) (f : ElfFault) (name : List ℕ) (steps : ℕ) (description : Option (List ℕ)) (base size : ℕ) (file : List ℕ) (image : ImageText)
-    → NoImage words old new f → command_of words ≡ Some (isa_text name steps description) → TellsMemory old description base size → old.content name ≡ Some file
-    → image_of file base size ≡ Ok image → ⊥
-no_fault words old new f name steps description base size file image r c m t i =
-    let k = same_command _ _ _ _ _ _ _ c r.command in
-    let s = same_input old new description r.description base size r.base r.size name r.name file r.file k.2 k.0 m t r.input in
-    let same : image_of file base size ≡ Err f = sym (image_is base size r.base r.size file r.file s.base_same s.size_same s.file_same) ∙ r.refused in
+no_fault : (command : CommandText) (old new : Shelf) (f : ElfFault) (desc : Option Desc) (file : List ℕ) (image : ImageText) → NoImage command old new f
+    → TellsDesc old (description_name command) desc → old.content (image_name command) ≡ Some file → image_of file (base_of desc) (size_of desc) ≡ Ok image → ⊥
+no_fault command old new f desc file image r m t i =
+    let s = same_input old new (image_name command) (description_name command) desc r.desc file r.file m t r.input in
+    let same : image_of file (base_of desc) (size_of desc) ≡ Err f = sym (image_is desc r.desc file r.file s.desc_same s.file_same) ∙ r.refused in
     cc
 
 -- and is not longer than one may be
-short_image : (words : List (List ℕ)) (old new : Shelf) (name : List ℕ) (steps : ℕ) (description : Option (List ℕ)) (file : List ℕ)
-    → Asks words (λ i n d. InputRefused i d old new ImageTooLong) → command_of words ≡ Some (isa_text name steps description) → old.content name ≡ Some file → length file ≤ IMAGE_MAX → ⊥
-short_image words old new name steps description file a c t l =
-    let P : List ℕ → Type 0 = λ x. MayBeLonger old x IMAGE_MAX in
-    let longer : IMAGE_MAX < length file = told_longer (old.content name) IMAGE_MAX file t (subst P (same_command _ _ _ _ _ _ _ c a.3).0 a.4.3) in
+short_image : (old : Shelf) (name file : List ℕ) → old.content name ≡ Some file → length file ≤ IMAGE_MAX → MayBeLonger old name IMAGE_MAX → ⊥
+short_image old name file t l h =
+    let longer : IMAGE_MAX < length file = told_longer (old.content name) IMAGE_MAX file t h in
     omega (arith, l, longer)
 
--- no count rose
-no_rise : (words : List (List ℕ)) (old new : Shelf) (name : List ℕ) (steps : ℕ) (description : Option (List ℕ)) → Asks words (λ i n d. InputRefused i d old new ReadDescription)
-    → command_of words ≡ Some (isa_text name steps description) → ((d : List ℕ) → IsNamed description d → CountRose old new d → ⊥) → ⊥
-no_rise words old new name steps description a c h =
-    let n = named a.2 old new ReadDescription a.4 in
-    h n.0 (sym (same_command _ _ _ _ _ _ _ c a.3).2 ∙ n.1) n.2.rose
+faulty_image : (words : List (List ℕ)) (old new : Shelf) (out out' : Told) (r : Result Ended Refusal) → Ends words old new out out' r → (command : CommandText) (desc : Option Desc) (file : List ℕ) → command_of words ≡ Some command
+    → TellsDesc old (description_name command) desc → old.content (image_name command) ≡ Some file → IsFaultyImage file desc → (status_of r ≡ 5) ⊎ ((status_of r ≡ 6) ⊎ (status_of r ≡ 8))
+faulty_image words old new out out' (Ok Exit) e command desc file k m t x = let p = performed_one words old new out out' (Ok Exit) command e k in absurd (ran_faulty command old new p.0 desc p.1 file p.2 m t x)
+faulty_image words old new out out' (Ok Trap) e command desc file k m t x = let p = performed_one words old new out out' (Ok Trap) command e k in absurd (ran_faulty command old new p.0 desc p.1 file p.2 m t x)
+faulty_image words old new out out' (Ok Budget) e command desc file k m t x = let p = performed_one words old new out out' (Ok Budget) command e k in absurd (ran_faulty command old new p.0 desc p.1 file p.2 m t x)
+faulty_image words old new out out' (Err Words) e command desc file k m t x = absurd (clash k e.0)
+faulty_image words old new out out' (Err ReadDescription) e command desc file k m t x = inr (inl refl)
+faulty_image words old new out out' (Err DescriptionTooLong) e command desc file k m t x = let p = performed_one words old new out out' (Err DescriptionTooLong) command e k in absurd (not_longer old new (description_name command) desc m p.0)
+faulty_image words old new out out' (Err (Description f)) e command desc file k m t x = let p = performed_one words old new out out' (Err (Description f)) command e k in absurd (not_refused old new (description_name command) desc f m p.0)
+faulty_image words old new out out' (Err ReadImage) e command desc file k m t x = inr (inl refl)
+faulty_image words old new out out' (Err ImageTooLong) e command desc file k m t x = inl refl
+faulty_image words old new out out' (Err (Image f)) e command desc file k m t x = inl refl
+faulty_image words old new out out' (Err Write) e command desc file k m t x = let p = performed_one words old new out out' (Err Write) command e k in absurd (ran_faulty command old new p.0 desc p.1 file p.2 m t x)
+faulty_image words old new out out' (Err Memory) e command desc file k m t x = inr (inr refl)
 
-no_image_rise : (words : List (List ℕ)) (old new : Shelf) (name : List ℕ) (steps : ℕ) (description : Option (List ℕ)) → Asks words (λ i n d. InputRefused i d old new ReadImage)
-    → command_of words ≡ Some (isa_text name steps description) → (CountRose old new name → ⊥) → ⊥
-no_image_rise words old new name steps description a c h =
-    let P : List ℕ → Type 0 = λ x. CountRose old new x in h (subst P (same_command _ _ _ _ _ _ _ c a.3).0 a.4.3.rose)
+-- a whole text is that of the image that is told
+done : (command : CommandText) (old new : Shelf) (out out' : Told) (ended : Ended) → Performs command old new out out' (Ok ended) → (desc : Option Desc) (file : List ℕ) (image : ImageText)
+    → TellsDesc old (description_name command) desc → old.content (image_name command) ≡ Some file → image_of file (base_of desc) (size_of desc) ≡ Ok image
+    → (status_of (Ok ended) ≡ status_of (Ok (ended_of (work_of command desc image).ended))) × Wrote (work_of command desc image).text out out'
+done command old new out out' ended p desc file image m t i =
+    let s = same_input old new (image_name command) (description_name command) desc p.0 file p.2.file m t p.2.input in
+    let same : image_of file (base_of desc) (size_of desc) ≡ Ok p.1 = sym (image_is desc p.0 file p.2.file s.desc_same s.file_same) ∙ p.2.loads in
+    let one : p.1 ≡ image = cc in
+    let P : Option Desc → ImageText → Type 0 = λ d x. (status_of (Ok ended) ≡ status_of (Ok (ended_of (work_of command d x).ended))) × Wrote (work_of command d x).text out out' in
+    let here : P p.0 p.1 = (ap (λ y. status_of (Ok y)) p.4, p.3) in
+    subst (λ (d : Option Desc). P d image) s.desc_same (subst (λ (x : ImageText). P p.0 x) one here)
 
-complete : (words : List (List ℕ)) (old new : Shelf) (out out' : Told) (r : Result Ended Refusal) → Ends words old new out out' r → (name : List ℕ) (steps : ℕ) (description : Option (List ℕ)) (base size : ℕ) (file : List ℕ) (image : ImageText)
-    → command_of words ≡ Some (isa_text name steps description) → TellsMemory old description base size → old.content name ≡ Some file → length file ≤ IMAGE_MAX
-    → image_of file base size ≡ Ok image → ((d : List ℕ) → IsNamed description d → CountRose old new d → ⊥) → (CountRose old new name → ⊥) → (Rose out.faults out'.faults → ⊥)
-    → ((status_of r ≡ 8) × (out' ≡ out)) ⊎ ((status_of r ≡ status_of (Ok (ended_of (run_of image steps).ended))) × Wrote (isa_report image steps) out out')
-complete words old new out out' (Ok Exit) e name steps description base size file image c m t l i nd ni nr = inr (done words old new out out' Exit e name steps description base size file image c m t i)
-complete words old new out out' (Ok Trap) e name steps description base size file image c m t l i nd ni nr = inr (done words old new out out' Trap e name steps description base size file image c m t i)
-complete words old new out out' (Ok Budget) e name steps description base size file image c m t l i nd ni nr = inr (done words old new out out' Budget e name steps description base size file image c m t i)
-complete words old new out out' (Err Words) e name steps description base size file image c m t l i nd ni nr = absurd (clash c e.0.0)
-complete words old new out out' (Err ReadDescription) e name steps description base size file image c m t l i nd ni nr = absurd (no_rise words old new name steps description e.0 c nd)
-complete words old new out out' (Err DescriptionTooLong) e name steps description base size file image c m t l i nd ni nr = absurd (unrefused_longer words old new name steps description base size e.0 c m)
-complete words old new out out' (Err (Description f)) e name steps description base size file image c m t l i nd ni nr = absurd (unrefused words old new f name steps description base size e.0 c m)
-complete words old new out out' (Err ReadImage) e name steps description base size file image c m t l i nd ni nr = absurd (no_image_rise words old new name steps description e.0 c ni)
-complete words old new out out' (Err ImageTooLong) e name steps description base size file image c m t l i nd ni nr = absurd (short_image words old new name steps description file e.0 c t l)
-complete words old new out out' (Err (Image f)) e name steps description base size file image c m t l i nd ni nr = absurd (no_fault words old new f name steps description base size file image e.0 c m t i)
-complete words old new out out' (Err Write) e name steps description base size file image c m t l i nd ni nr = absurd (nr e.3.rose)
-complete words old new out out' (Err Memory) e name steps description base size file image c m t l i nd ni nr = inl (refl, e.1)
+complete : (words : List (List ℕ)) (old new : Shelf) (out out' : Told) (r : Result Ended Refusal) → Ends words old new out out' r → (command : CommandText) (desc : Option Desc) (file : List ℕ) (image : ImageText)
+    → command_of words ≡ Some command → TellsDesc old (description_name command) desc → old.content (image_name command) ≡ Some file → length file ≤ IMAGE_MAX
+    → image_of file (base_of desc) (size_of desc) ≡ Ok image → ((d : List ℕ) → IsNamed (description_name command) d → CountRose old new d → ⊥) → (CountRose old new (image_name command) → ⊥)
+    → (Rose out.faults out'.faults → ⊥)
+    → ((status_of r ≡ 8) × (out' ≡ out)) ⊎ ((status_of r ≡ status_of (Ok (ended_of (work_of command desc image).ended))) × Wrote (work_of command desc image).text out out')
+complete words old new out out' (Ok Exit) e command desc file image k m t l i nd ni nr = inr (done command old new out out' Exit (performed_one words old new out out' (Ok Exit) command e k) desc file image m t i)
+complete words old new out out' (Ok Trap) e command desc file image k m t l i nd ni nr = inr (done command old new out out' Trap (performed_one words old new out out' (Ok Trap) command e k) desc file image m t i)
+complete words old new out out' (Ok Budget) e command desc file image k m t l i nd ni nr = inr (done command old new out out' Budget (performed_one words old new out out' (Ok Budget) command e k) desc file image m t i)
+complete words old new out out' (Err Words) e command desc file image k m t l i nd ni nr = absurd (clash k e.0)
+complete words old new out out' (Err ReadDescription) e command desc file image k m t l i nd ni nr = let p = performed_one words old new out out' (Err ReadDescription) command e k in let n = named (description_name command) old new ReadDescription p.0 in absurd (nd n.0 n.1 n.2.rose)
+complete words old new out out' (Err DescriptionTooLong) e command desc file image k m t l i nd ni nr = let p = performed_one words old new out out' (Err DescriptionTooLong) command e k in absurd (not_longer old new (description_name command) desc m p.0)
+complete words old new out out' (Err (Description f)) e command desc file image k m t l i nd ni nr = let p = performed_one words old new out out' (Err (Description f)) command e k in absurd (not_refused old new (description_name command) desc f m p.0)
+complete words old new out out' (Err ReadImage) e command desc file image k m t l i nd ni nr = let p = performed_one words old new out out' (Err ReadImage) command e k in absurd (ni p.0.2.rose)
+complete words old new out out' (Err ImageTooLong) e command desc file image k m t l i nd ni nr = let p = performed_one words old new out out' (Err ImageTooLong) command e k in absurd (short_image old (image_name command) file t l p.0.2.0)
+complete words old new out out' (Err (Image f)) e command desc file image k m t l i nd ni nr = let p = performed_one words old new out out' (Err (Image f)) command e k in absurd (no_fault command old new f desc file image p.0 m t i)
+complete words old new out out' (Err Write) e command desc file image k m t l i nd ni nr = let p = performed_one words old new out out' (Err Write) command e k in absurd (nr p.3.rose)
+complete words old new out out' (Err Memory) e command desc file image k m t l i nd ni nr = inl (refl, e.1)
 
 pub statuses : (words : List (List ℕ)) (old new : Shelf) (out out' : Told) (r : Result Ended Refusal) → Ends words old new out out' r → Statuses words old new out out' (status_of r)
 statuses words old new out out' r e = record {

@@ -94,7 +94,7 @@ hart_of pc regs ram = record { pc = pc; regs = regs; ram = ram }
 abbrev ending_of : Option End → ℕ → Ending
 ending_of ended taken = record { end = ended; retired = taken; cycles = None }
 
-same_hart : (hart : Hart) (pc : ℕ) (regs : List ℕ) (ram : Ram) → pc ≡ hart.pc → regs ≡ hart.regs → ram ≡ hart.ram → hart_of pc regs ram ≡ hart
+pub same_hart : (hart : Hart) (pc : ℕ) (regs : List ℕ) (ram : Ram) → pc ≡ hart.pc → regs ≡ hart.regs → ram ≡ hart.ram → hart_of pc regs ram ≡ hart
 same_hart hart pc regs ram p q r =
     ap (λ x. hart_of x regs ram) p ∙ (ap (λ x. hart_of hart.pc x ram) q ∙ ap (λ x. hart_of hart.pc hart.regs x) r)
 

@@ -24,12 +24,14 @@ MayHold shelf name max bytes = GetsTold (shelf.content name) max (Bytes bytes)
 abbrev pub MayBeLonger : Shelf → List ℕ → ℕ → Type 0
 MayBeLonger shelf name max = GetsTold (shelf.content name) max TooLong
 
--- a text describes memory of this base and size
-pub record GivesMemory (text : List ℕ) (base size : ℕ) : Type 0 where
-  pub desc : Desc
-  pub described : Describes text desc
-  pub base_is : base ≡ desc.ram_base
-  pub size_is : size ≡ desc.ram_size
+-- where the memory of a run begins, and its size: those of its description, or the usual ones
+abbrev pub base_of : Option Desc → ℕ
+base_of None = RAM_BASE
+base_of (Some d) = d.ram_base
+
+abbrev pub size_of : Option Desc → ℕ
+size_of None = RAM_SIZE
+size_of (Some d) = d.ram_size
 
 -- why a text is refused as a description
 abbrev pub TextRefused : List ℕ → Refusal → Type 0
@@ -37,10 +39,10 @@ TextRefused text (Description fault) = description_of text ≡ Err fault
 TextRefused text Memory = Unit {0}
 TextRefused text _ = ⊥
 
--- a run has memory of this base and size: the usual one, or that of the description named
-abbrev pub HasMemory : Shelf → Option (List ℕ) → ℕ → ℕ → Type 0
-HasMemory shelf None base size = (base ≡ RAM_BASE) × (size ≡ RAM_SIZE)
-HasMemory shelf (Some name) base size = (text : List ℕ) × MayHold shelf name DESCRIPTION_MAX text × GivesMemory text base size
+-- a run has this description: none, or that which the file named may hold
+abbrev pub HasDesc : Shelf → Option (List ℕ) → Option Desc → Type 0
+HasDesc shelf None desc = desc ≡ None
+HasDesc shelf (Some name) desc = (text : List ℕ) × (d : Desc) × MayHold shelf name DESCRIPTION_MAX text × Describes text d × (desc ≡ Some d)
 
 -- why a file of at most so many bytes isn't read; `old` and `new` are what the files tell before and after
 abbrev pub UnreadBy : List ℕ → ℕ → Shelf → Shelf → Unread → Type 0
@@ -57,25 +59,28 @@ DescriptionRefused name old new (Description fault) =
 DescriptionRefused name old new Memory = SameCounts old new
 DescriptionRefused name old new _ = ⊥
 
--- why a run has no memory: its description, if one is named, is refused
-abbrev pub MemoryRefused : Option (List ℕ) → Shelf → Shelf → Refusal → Type 0
-MemoryRefused None old new refusal = ⊥
-MemoryRefused (Some name) old new refusal = DescriptionRefused name old new refusal
+-- why the description of a run is refused, if it names one
+abbrev pub NamedRefused : Option (List ℕ) → Shelf → Shelf → Refusal → Type 0
+NamedRefused None old new refusal = ⊥
+NamedRefused (Some name) old new refusal = DescriptionRefused name old new refusal
+
+-- why reading an image is refused
+abbrev pub ImageRefused : List ℕ → Shelf → Shelf → Refusal → Type 0
+ImageRefused name old new ReadImage = NameFailed name old new
+ImageRefused name old new ImageTooLong = MayBeLonger old name IMAGE_MAX × SameCounts old new
+ImageRefused name old new Memory = SameCounts old new
+ImageRefused name old new _ = ⊥
 
 -- why reading the description, if one is named, or then the image is refused
 abbrev pub InputRefused : List ℕ → Option (List ℕ) → Shelf → Shelf → Refusal → Type 0
-InputRefused image description old new ReadDescription = MemoryRefused description old new ReadDescription
-InputRefused image description old new DescriptionTooLong = MemoryRefused description old new DescriptionTooLong
-InputRefused image description old new (Description fault) = MemoryRefused description old new (Description fault)
-InputRefused image description old new ReadImage = (base : ℕ) × (size : ℕ) × HasMemory old description base size × NameFailed image old new
-InputRefused image description old new ImageTooLong =
-    (base : ℕ) × (size : ℕ) × HasMemory old description base size × MayBeLonger old image IMAGE_MAX × SameCounts old new
+InputRefused image description old new ReadImage = (desc : Option Desc) × HasDesc old description desc × ImageRefused image old new ReadImage
+InputRefused image description old new ImageTooLong = (desc : Option Desc) × HasDesc old description desc × ImageRefused image old new ImageTooLong
 InputRefused image description old new Memory = SameCounts old new
-InputRefused image description old new _ = ⊥
+InputRefused image description old new refusal = NamedRefused description old new refusal
 
--- a run has this memory and the image in this file, and no count of the files rose
-pub record IsInput (old new : Shelf) (image : List ℕ) (description : Option (List ℕ)) (base size : ℕ) (file : List ℕ) : Type 0 where
-  pub memory : HasMemory old description base size
+-- a run has this description and the image in this file, and no count of the files rose
+pub record IsInput (old new : Shelf) (image : List ℕ) (description : Option (List ℕ)) (desc : Option Desc) (file : List ℕ) : Type 0 where
+  pub described : HasDesc old description desc
   pub content : MayHold old image IMAGE_MAX file
   pub counts : SameCounts old new
 

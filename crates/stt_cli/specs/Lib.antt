@@ -1,5 +1,6 @@
 pub mod Outcome
 pub mod Note
 pub mod Input
+pub mod Clocking
 pub mod Running
 pub mod Top

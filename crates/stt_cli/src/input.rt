@@ -1,41 +1,46 @@
 //! What a run reads: its description, if one is named, and then its image.
 ghost use Rattle.std.specs.Prelude.{◌≡◌, Option, Some, Result, MatchResult};
 ghost use Rattle.std.specs.Option.{option_map};
+ghost use Rattle.machine_desc.specs.Description.{Describes};
 ghost use Rattle.tool_io.specs.Outside.{SameContents, SameCounts};
-ghost use Rattle.stt_cli.specs.Input.{GivesMemory, TextRefused, HasMemory, DescriptionRefused, MemoryRefused, InputRefused, IsInput};
+ghost use Rattle.stt_cli.specs.Input.{TextRefused, MayHold, HasDesc, DescriptionRefused, NamedRefused, ImageRefused, InputRefused, IsInput};
+ghost use Rattle.stt_cli.specs.declared.reading.TheConstants.{IMAGE_MAX};
 
 use crate::outcome::Refusal;
 use crate::reading::{DESCRIPTION_MAX, IMAGE_MAX, Unread, read_file};
-use crate::region::{RAM_BASE, RAM_SIZE, Region};
-use machine_desc::{DescFault, read_desc};
+use machine_desc::{Desc, DescFault, read_desc};
 use std::alloc::Global;
 use tool_io::{Content, Files};
 
-/// What a run needs: where its memory lies, and the bytes of its image.
+/// What the instruction set's run needs: a description, if one is named, and the bytes of its image.
 #[derive(Drop)]
 pub struct Input {
-    pub region: Region,
+    pub desc: Option<Desc>,
     pub file: Content,
 }
 
-// The memory that a text describes.
-fn region_in(alloc: Global, text: &[u8]) -> Result<Region, Refusal>
-    ensures { MatchResult result (λ r. GivesMemory text.now r.base r.size) (λ e. TextRefused text.now e) }
+/// What the machine's run needs: a description, and the bytes of its image.
+#[derive(Drop)]
+pub struct CoreInput {
+    pub desc: Desc,
+    pub file: Content,
+}
+
+// The description of a text.
+fn desc_in(alloc: Global, text: &[u8]) -> Result<Desc, Refusal>
+    ensures { MatchResult result (Describes text.now) (λ e. TextRefused text.now e) }
 {
     match read_desc(alloc, text) {
-        Ok(desc) => Ok(Region {
-            base: desc.ram_base,
-            size: desc.ram_size,
-        }),
+        Ok(desc) => Ok(desc),
         Err(DescFault::NoMemory) => Err(Refusal::Memory),
         Err(fault) => Err(Refusal::Description(fault)),
     }
 }
 
-// The memory that the description of this name gives.
-fn described<F: Files>(alloc: Global, name: &str, files: &mut F) -> Result<Region, Refusal>
+// The description of this name.
+fn read_description<F: Files>(alloc: Global, name: &str, files: &mut F) -> Result<Desc, Refusal>
     ensures answer { MatchResult result
-        (λ r. HasMemory (F.shelf files.old) (Some name.now) r.base r.size × SameCounts (F.shelf files.old) (F.shelf files.new))
+        (λ d. HasDesc (F.shelf files.old) (Some name.now) (Some d) × SameCounts (F.shelf files.old) (F.shelf files.new))
         (λ e. DescriptionRefused name.now (F.shelf files.old) (F.shelf files.new) e) }
     ensures stays { SameContents (F.shelf files.old) (F.shelf files.new) }
 {
@@ -45,33 +50,48 @@ fn described<F: Files>(alloc: Global, name: &str, files: &mut F) -> Result<Regio
         Err(Unread::TooLong) => return Err(Refusal::DescriptionTooLong),
         Err(Unread::NoMemory) => return Err(Refusal::Memory),
     };
-    match region_in(alloc, text.as_slice()) {
-        Ok(region) => Ok(region),
+    match desc_in(alloc, text.as_slice()) {
+        Ok(desc) => Ok(desc),
         Err(refusal) => Err(refusal),
     }
 }
 
-// The memory of a run, by its description if one is named.
-fn region_of<F: Files>(
+// The description of a run, if one is named.
+fn read_named<F: Files>(
     alloc: Global,
     description: Option<&str>,
     files: &mut F,
-) -> Result<Region, Refusal>
+) -> Result<Option<Desc>, Refusal>
     ensures answer { MatchResult result
-        (λ r. HasMemory (F.shelf files.old) (option_map (λ t. t.now) description.entry) r.base r.size × SameCounts (F.shelf files.old) (F.shelf files.new))
-        (λ e. MemoryRefused (option_map (λ t. t.now) description.entry) (F.shelf files.old) (F.shelf files.new) e) }
+        (λ d. HasDesc (F.shelf files.old) (option_map (λ t. t.now) description.entry) d × SameCounts (F.shelf files.old) (F.shelf files.new))
+        (λ e. NamedRefused (option_map (λ t. t.now) description.entry) (F.shelf files.old) (F.shelf files.new) e) }
     ensures stays { SameContents (F.shelf files.old) (F.shelf files.new) }
 {
-    match description {
-        None => Ok(Region {
-            base: RAM_BASE,
-            size: RAM_SIZE,
-        }),
-        Some(name) => described(alloc, name, files),
+    let Some(name) = description else {
+        return Ok(None);
+    };
+    match read_description(alloc, name, files) {
+        Ok(desc) => Ok(Some(desc)),
+        Err(refusal) => Err(refusal),
     }
 }
 
-/// Reads what a run needs. Nothing of the image is read where the description is refused.
+// The bytes of an image.
+fn read_image<F: Files>(alloc: Global, name: &str, files: &mut F) -> Result<Content, Refusal>
+    ensures answer { MatchResult result
+        (λ file. MayHold (F.shelf files.old) name.now IMAGE_MAX file × SameCounts (F.shelf files.old) (F.shelf files.new))
+        (λ e. ImageRefused name.now (F.shelf files.old) (F.shelf files.new) e) }
+    ensures stays { SameContents (F.shelf files.old) (F.shelf files.new) }
+{
+    match read_file(alloc, name, IMAGE_MAX, files) {
+        Ok(file) => Ok(file),
+        Err(Unread::Failed) => Err(Refusal::ReadImage),
+        Err(Unread::TooLong) => Err(Refusal::ImageTooLong),
+        Err(Unread::NoMemory) => Err(Refusal::Memory),
+    }
+}
+
+/// Reads what the instruction set's run needs. Nothing of the image is read where the description is refused.
 pub fn read_input<F: Files>(
     alloc: Global,
     image: &str,
@@ -79,18 +99,38 @@ pub fn read_input<F: Files>(
     files: &mut F,
 ) -> Result<Input, Refusal>
     ensures answer { MatchResult result
-        (λ i. IsInput (F.shelf files.old) (F.shelf files.new) image.now (option_map (λ t. t.now) description.entry) i.region.base i.region.size i.file)
+        (λ i. IsInput (F.shelf files.old) (F.shelf files.new) image.now (option_map (λ t. t.now) description.entry) i.desc i.file)
         (λ e. InputRefused image.now (option_map (λ t. t.now) description.entry) (F.shelf files.old) (F.shelf files.new) e) }
     ensures stays { SameContents (F.shelf files.old) (F.shelf files.new) }
 {
-    let region = match region_of(alloc, description, files) {
-        Ok(region) => region,
+    let desc = match read_named(alloc, description, files) {
+        Ok(desc) => desc,
         Err(refusal) => return Err(refusal),
     };
-    match read_file(alloc, image, IMAGE_MAX, files) {
-        Ok(file) => Ok(Input { region, file }),
-        Err(Unread::Failed) => Err(Refusal::ReadImage),
-        Err(Unread::TooLong) => Err(Refusal::ImageTooLong),
-        Err(Unread::NoMemory) => Err(Refusal::Memory),
+    match read_image(alloc, image, files) {
+        Ok(file) => Ok(Input { desc, file }),
+        Err(refusal) => Err(refusal),
+    }
+}
+
+/// Reads what the machine's run needs. Nothing of the image is read where the description is refused.
+pub fn read_core_input<F: Files>(
+    alloc: Global,
+    image: &str,
+    description: &str,
+    files: &mut F,
+) -> Result<CoreInput, Refusal>
+    ensures answer { MatchResult result
+        (λ i. IsInput (F.shelf files.old) (F.shelf files.new) image.now (Some description.now) (Some i.desc) i.file)
+        (λ e. InputRefused image.now (Some description.now) (F.shelf files.old) (F.shelf files.new) e) }
+    ensures stays { SameContents (F.shelf files.old) (F.shelf files.new) }
+{
+    let desc = match read_description(alloc, description, files) {
+        Ok(desc) => desc,
+        Err(refusal) => return Err(refusal),
+    };
+    match read_image(alloc, image, files) {
+        Ok(file) => Ok(CoreInput { desc, file }),
+        Err(refusal) => Err(refusal),
     }
 }

@@ -1,7 +1,7 @@
 //! The state in which a run begins.
-ghost use Rattle.std.specs.Prelude.{◌≡◌, Ok, Result, MatchResult};
+ghost use Rattle.std.specs.Prelude.{◌≡◌, Ok, Some, Result, MatchResult};
 ghost use Rattle.elf_loader.specs.Image.{ImageText, image_of};
-ghost use Rattle.stt_cli.specs.Input.{LoadRefused, loaded, refusal_of};
+ghost use Rattle.stt_cli.specs.Input.{LoadRefused, loaded, refusal_of, base_of, size_of};
 ghost use Rattle.stt_cli.specs.Running.{Begins};
 
 use crate::outcome::Refusal;
@@ -9,6 +9,7 @@ use crate::region::Region;
 use byte_ram::Ram;
 use elf_loader::{ElfFault, Image, load, segments};
 use isa_step::Isa;
+use machine_desc::Desc;
 use std::alloc::Global;
 
 /// The instruction set's state, and memory as it was when the run began.
@@ -46,13 +47,24 @@ fn image_in(alloc: Global, file: &[u8], region: Region) -> Result<Image, Refusal
     }
 }
 
-/// The state in which the image of a file begins. All memory that a run takes is taken here.
-pub fn machine_of(alloc: Global, file: &[u8], region: Region) -> Result<Machine, Refusal>
-    ensures { MatchResult result
-        (λ m. (image : ImageText) × (image_of file.now region.base region.size ≡ Ok image) × Begins image m.isa m.before)
-        (λ e. LoadRefused file.now region.base region.size e) }
+/// The image of a file in the memory of a run.
+pub fn load_image(alloc: Global, file: &[u8], desc: Option<Desc>) -> Result<Image, Refusal>
+    ensures { MatchResult result (λ i. image_of file.now (base_of desc) (size_of desc) ≡ Ok (loaded i)) (λ e. LoadRefused file.now (base_of desc) (size_of desc) e) }
 {
-    let image = match image_in(alloc, file, region) {
+    let region = Region::of(desc);
+    match image_in(alloc, file, region) {
+        Ok(image) => Ok(image),
+        Err(refusal) => Err(refusal),
+    }
+}
+
+/// The state in which the image of a file begins. All memory that a run takes is taken here.
+pub fn machine_of(alloc: Global, file: &[u8], desc: Option<Desc>) -> Result<Machine, Refusal>
+    ensures { MatchResult result
+        (λ m. (image : ImageText) × (image_of file.now (base_of desc) (size_of desc) ≡ Ok image) × Begins image m.isa m.before)
+        (λ e. LoadRefused file.now (base_of desc) (size_of desc) e) }
+{
+    let image = match load_image(alloc, file, desc) {
         Ok(image) => image,
         Err(refusal) => return Err(refusal),
     };

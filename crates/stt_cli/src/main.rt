@@ -3,6 +3,8 @@
 //! `main` hands the words, the host's files and the standard streams to `stt_top`, which does all the rest.
 #![tactic(auto)]
 
+mod building;
+mod clocking;
 mod input;
 mod loading;
 mod note;
@@ -14,6 +16,7 @@ mod running;
 mod tests;
 mod top;
 
+use core_reference::ReferenceCore;
 use std::alloc::Global;
 use std::io::ErrorKind;
 use std::process::ExitCode;
@@ -53,5 +56,12 @@ fn main(rt: HostRuntime) -> ExitCode {
     let mut files = RealFiles::new(&rt);
     let mut out = RealSink::new(rt.stdout());
     let mut note = RealSink::new(rt.stderr());
-    ExitCode::from(stt_top(alloc, words.as_slice(), &mut files, &mut out, &mut note))
+    let status = stt_top::<ReferenceCore, _, _, _>(
+        alloc,
+        words.as_slice(),
+        &mut files,
+        &mut out,
+        &mut note,
+    );
+    ExitCode::from(status)
 }

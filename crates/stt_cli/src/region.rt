@@ -1,6 +1,8 @@
 //! Where a run's memory lies.
 ghost use Rattle.std.specs.Prelude.{◌≡◌, ◌<◌, ◌≤◌, ◌+◌, ◌%◌, ◌^◌};
 
+use machine_desc::Desc;
+
 /// The first address of memory where no description is named.
 pub const RAM_BASE: u32 = 65536;
 
@@ -16,4 +18,25 @@ pub struct Region {
     ghost size_aligned: { size % 16 ≡ 0 },
     ghost some: { 0 < size },
     ghost ends: { base + size ≤ 2 ^ 32 },
+}
+
+impl Region {
+    ghost use Rattle.stt_cli.specs.Input.{base_of, size_of};
+
+    /// The memory of a run, by its description if it has one.
+    pub fn of(desc: Option<Desc>) -> Self
+        ensures base { result.base ≡ base_of desc }
+        ensures size { result.size ≡ size_of desc }
+    {
+        match desc {
+            None => Region {
+                base: RAM_BASE,
+                size: RAM_SIZE,
+            },
+            Some(desc) => Region {
+                base: desc.ram_base,
+                size: desc.ram_size,
+            },
+        }
+    }
 }

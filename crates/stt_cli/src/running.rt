@@ -1,10 +1,10 @@
 //! A run of the instruction set whose output is written as it comes, and its report.
-ghost use Rattle.std.specs.Prelude.{◌≡◌, length, Result, MatchResult};
+ghost use Rattle.std.specs.Prelude.{◌≡◌, length, None, Result, MatchResult};
 ghost use Rattle.tool_io.specs.Outside.{WrotePart};
 ghost use Rattle.rv_types.specs.Isa.{isa};
 ghost use Rattle.elf_loader.specs.Code.{word_at};
-ghost use Rattle.report_text.specs.Report.{piece_lines};
-ghost use Rattle.stt_cli.specs.Running.{RanAs, Reports};
+ghost use Rattle.report_text.specs.Report.{piece_lines, report_text};
+ghost use Rattle.stt_cli.specs.Running.{RanAs, Tells};
 
 use crate::loading::Machine;
 use crate::outcome::{Ended, ended_of};
@@ -48,7 +48,8 @@ fn run<S: Sink>(state: &mut Isa, steps: u64, out: &mut S) -> Result<Ran, Failed>
 pub fn report<S: Sink>(machine: &mut Machine, steps: u64, out: &mut S) -> Result<Ended, Failed>
     requires base { machine.old.before.base ≡ machine.old.isa.hart.ram.base }
     requires size { length machine.old.before.bytes ≡ length machine.old.isa.hart.ram.bytes }
-    ensures { Reports machine.old.before (isa (word_at machine.old.isa.code) machine.old.isa.hart steps) (S.told out.old) (S.told out.new) result }
+    ensures { Tells (report_text machine.old.before (isa (word_at machine.old.isa.code) machine.old.isa.hart steps) None)
+        (isa (word_at machine.old.isa.code) machine.old.isa.hart steps).ended (S.told out.old) (S.told out.new) result }
 {
     let ran = match run(&mut machine.isa, steps, out) {
         Ok(ran) => ran,

@@ -1,11 +1,16 @@
 //! Worked runs and refusals over files and sinks in memory: each status, each note, and reads and puts that fail.
 use crate::top::stt_top;
+use core_reference::ReferenceCore;
 use std::alloc::Global;
 use std::test::Fail;
 use tool_io::{Content, MemFail, MemFile, MemFiles, MemSink};
 
+mod cores;
 mod images;
+mod machine;
+mod programs;
 mod texts;
+mod traces;
 
 use images::{DIVISIONS, EXIT_IN_TWO, OVERWRITES, WRITES, image_of};
 use texts::{DESCRIPTION, replaced, report_of};
@@ -38,6 +43,17 @@ fn sink_of(alloc: Global, call: u64, sent: usize) -> Result<MemSink, Fail> {
     Ok(MemSink::new(alloc, ROOM, fails)?)
 }
 
+// The program's top call.
+fn top(
+    alloc: Global,
+    words: &[&str],
+    files: &mut MemFiles,
+    out: &mut MemSink,
+    note: &mut MemSink,
+) -> u8 {
+    stt_top::<ReferenceCore, MemFiles, MemSink, MemSink>(alloc, words, files, out, note)
+}
+
 /// What a run of the program left.
 #[derive(Drop)]
 struct Left {
@@ -51,7 +67,7 @@ fn run(alloc: Global, words: &[&str], image: &[u8], description: &[u8]) -> Resul
     let mut files = files_of(alloc, image, description, 0)?;
     let mut out = sink_of(alloc, 0, 0)?;
     let mut note = sink_of(alloc, 0, 0)?;
-    let status = stt_top(alloc, words, &mut files, &mut out, &mut note);
+    let status = top(alloc, words, &mut files, &mut out, &mut note);
     Ok(Left { status, out, note })
 }
 
@@ -161,7 +177,24 @@ fn writes_its_output(rt: HostRuntime) -> Result<(), Fail> {
 #[test]
 fn refuses_words_and_names(rt: HostRuntime) -> Result<(), Fail> {
     let alloc = rt.alloc();
-    let rows: [(&[&str], u8, &str); 12] = [
+    let rows: [(&[&str], u8, &str); 17] = [
+        (&["run", "d.toml", "p.elf"], 2, "words\n"),
+        (&["trace", "p.elf", "--cycles", "5"], 2, "words\n"),
+        (
+            &["run", "e.toml", "q.elf", "--cycles", "5"],
+            6,
+            "read description\n",
+        ),
+        (
+            &["trace", "d.toml", "q.elf", "--cycles", "5"],
+            6,
+            "read image\n",
+        ),
+        (
+            &["trace", "p.elf", "p.elf", "--cycles", "5"],
+            4,
+            "description K1\n",
+        ),
         (&[], 2, "words\n"),
         (&["isa"], 2, "words\n"),
         (&["isa", "p.elf"], 2, "words\n"),
@@ -282,7 +315,7 @@ fn reads_that_fail(rt: HostRuntime) -> Result<(), Fail> {
         let mut files = files_of(alloc, image.as_slice(), DESCRIPTION.as_bytes(), fail)?;
         let mut out = sink_of(alloc, 0, 0)?;
         let mut note = sink_of(alloc, 0, 0)?;
-        assert_eq!(rt; stt_top(alloc, &words, &mut files, &mut out, &mut note), 6);
+        assert_eq!(rt; top(alloc, &words, &mut files, &mut out, &mut note), 6);
         assert_eq!(rt; note.as_slice(), line.as_bytes());
         assert_eq!(rt; out.as_slice(), b"".as_slice());
     }
@@ -296,7 +329,7 @@ fn cut(alloc: Global, call: u64, sent: usize) -> Result<Left, Fail> {
     let mut out = sink_of(alloc, call, sent)?;
     let mut note = sink_of(alloc, 0, 0)?;
     let words = ["isa", "p.elf", "--steps", "100", "--desc", "d.toml"];
-    let status = stt_top(alloc, &words, &mut files, &mut out, &mut note);
+    let status = top(alloc, &words, &mut files, &mut out, &mut note);
     Ok(Left { status, out, note })
 }
 
@@ -325,7 +358,7 @@ fn a_note_that_fails(rt: HostRuntime) -> Result<(), Fail> {
     let mut out = sink_of(alloc, 0, 0)?;
     let mut note = sink_of(alloc, 1, 3)?;
     let words = ["isa", "q.elf", "--steps", "5"];
-    assert_eq!(rt; stt_top(alloc, &words, &mut files, &mut out, &mut note), 6);
+    assert_eq!(rt; top(alloc, &words, &mut files, &mut out, &mut note), 6);
     assert_eq!(rt; note.as_slice(), b"rea".as_slice());
     Ok(())
 }

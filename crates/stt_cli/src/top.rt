@@ -1,23 +1,116 @@
 //! The top call: all that the program does, over files and sinks that it is handed.
 //!
 //! Its promises stand in `specs/Top.antt`, and in plain words in `docs/theorems.md`.
-ghost use Rattle.std.specs.Prelude.{◌≡◌, map, Result};
+ghost use Rattle.std.specs.Prelude.{◌≡◌, map, Option, Result};
+ghost use Rattle.std.specs.Option.{option_map};
 ghost use Rattle.tool_io.specs.Outside.{SameContents};
+ghost use Rattle.tool_words.specs.Words.{isa_text, run_text, trace_text};
 ghost use Rattle.stt_cli.specs.Outcome.{status_of};
 ghost use Rattle.stt_cli.specs.Note.{Notes};
-ghost use Rattle.stt_cli.specs.Top.{Ends, Statuses};
+ghost use Rattle.stt_cli.specs.Top.{Performs, Ends, Statuses};
 
-use crate::input::read_input;
-use crate::loading::machine_of;
+use crate::building::Built;
+use crate::input::{read_core_input, read_input};
+use crate::loading::{load_image, machine_of};
 use crate::note::note_line;
 use crate::outcome::{Ended, Refusal, status_of};
-use crate::running::report;
+use crate::{clocking, running};
 use std::alloc::Global;
 use tool_io::{Files, Sink};
 use tool_words::{Command, Refused, read_words};
 
+// `isa`: the instruction set's run.
+fn isa<F: Files, O: Sink>(
+    alloc: Global,
+    image: &str,
+    steps: u64,
+    description: Option<&str>,
+    files: &mut F,
+    out: &mut O,
+) -> Result<Ended, Refusal>
+    ensures performs { Performs (isa_text image.now steps (option_map (λ t. t.now) description.entry)) (F.shelf files.old) (F.shelf files.new) (O.told out.old) (O.told out.new) result }
+    ensures stays { SameContents (F.shelf files.old) (F.shelf files.new) }
+{
+    let input = match read_input(alloc, image, description, files) {
+        Ok(input) => input,
+        Err(refusal) => return Err(refusal),
+    };
+    let mut machine = match machine_of(alloc, input.file.as_slice(), input.desc) {
+        Ok(machine) => machine,
+        Err(refusal) => return Err(refusal),
+    };
+    match running::report(&mut machine, steps, out) {
+        Ok(ended) => Ok(ended),
+        Err(_) => Err(Refusal::Write),
+    }
+}
+
+// `run`: the machine's run, as a report.
+fn run<C: Built + Drop, F: Files, O: Sink>(
+    alloc: Global,
+    description: &str,
+    image: &str,
+    cycles: u32,
+    files: &mut F,
+    out: &mut O,
+) -> Result<Ended, Refusal>
+    ensures performs { Performs (run_text description.now image.now cycles) (F.shelf files.old) (F.shelf files.new) (O.told out.old) (O.told out.new) result }
+    ensures stays { SameContents (F.shelf files.old) (F.shelf files.new) }
+{
+    let input = match read_core_input(alloc, image, description, files) {
+        Ok(input) => input,
+        Err(refusal) => return Err(refusal),
+    };
+    let image = match load_image(alloc, input.file.as_slice(), Some(input.desc)) {
+        Ok(image) => image,
+        Err(refusal) => return Err(refusal),
+    };
+    let before = match image.ram.copy(alloc) {
+        Ok(before) => before,
+        Err(_) => return Err(Refusal::Memory),
+    };
+    let mut core = match C::build(alloc, &input.desc, image) {
+        Ok(core) => core,
+        Err(_) => return Err(Refusal::Memory),
+    };
+    match clocking::report(&mut core, &before, cycles, out) {
+        Ok(ended) => Ok(ended),
+        Err(_) => Err(Refusal::Write),
+    }
+}
+
+// `trace`: the same run, cycle by cycle.
+fn trace<C: Built + Drop, F: Files, O: Sink>(
+    alloc: Global,
+    description: &str,
+    image: &str,
+    cycles: u32,
+    files: &mut F,
+    out: &mut O,
+) -> Result<Ended, Refusal>
+    ensures performs { Performs (trace_text description.now image.now cycles) (F.shelf files.old) (F.shelf files.new) (O.told out.old) (O.told out.new) result }
+    ensures stays { SameContents (F.shelf files.old) (F.shelf files.new) }
+{
+    let input = match read_core_input(alloc, image, description, files) {
+        Ok(input) => input,
+        Err(refusal) => return Err(refusal),
+    };
+    let image = match load_image(alloc, input.file.as_slice(), Some(input.desc)) {
+        Ok(image) => image,
+        Err(refusal) => return Err(refusal),
+    };
+    let mut core = match C::build(alloc, &input.desc, image) {
+        Ok(core) => core,
+        Err(_) => return Err(Refusal::Memory),
+    };
+    match clocking::trace(&mut core, cycles, out) {
+        Ok(ended) => Ok(ended),
+        Err(_) => Err(Refusal::Write),
+    }
+}
+
 // All but the note.
-fn answer<F: Files, O: Sink>(
+fn answer<C: Built + Drop, F: Files, O: Sink>(
     alloc: Global,
     words: &[&str],
     files: &mut F,
@@ -26,36 +119,38 @@ fn answer<F: Files, O: Sink>(
     ensures ends { Ends (map (λ w. w.now) words.now) (F.shelf files.old) (F.shelf files.new) (O.told out.old) (O.told out.new) result }
     ensures stays { SameContents (F.shelf files.old) (F.shelf files.new) }
 {
-    let Command::Isa {
-        image,
-        steps,
-        description,
-    } = match read_words(alloc, words) {
+    let command = match read_words(alloc, words) {
         Ok(command) => command,
         Err(Refused::Words) => return Err(Refusal::Words),
         Err(Refused::Memory) => return Err(Refusal::Memory),
     };
-    let read = match read_input(alloc, image, description, files) {
-        Ok(read) => read,
-        Err(refusal) => return Err(refusal),
-    };
-    let mut machine = match machine_of(alloc, read.file.as_slice(), read.region) {
-        Ok(machine) => machine,
-        Err(refusal) => return Err(refusal),
-    };
-    match report(&mut machine, steps, out) {
-        Ok(ended) => Ok(ended),
-        Err(_) => Err(Refusal::Write),
+    match command {
+        Command::Isa {
+            image,
+            steps,
+            description,
+        } => isa(alloc, image, steps, description, files, out),
+        Command::Run {
+            description,
+            image,
+            cycles,
+        } => run::<C, F, O>(alloc, description, image, cycles, files, out),
+        Command::Trace {
+            description,
+            image,
+            cycles,
+        } => trace::<C, F, O>(alloc, description, image, cycles, files, out),
     }
 }
 
-/// Does all that the program does, and answers its status. `words` are those after the program's name. What is asked for
-/// is written to `out`, one put a line; a refusal writes its line to `note`, whose failure changes no status.
+/// Does all that the program does, and answers its status; `run` and `trace` run the core `C`, which is the written machine
+/// whichever it is. `words` are those after the program's name. What is asked for is written to `out`, one put a line; a
+/// refusal writes its line to `note`, whose failure changes no status.
 ///
 /// Statuses: 0 the run ended by an exit, 1 by a trap, 3 not within its budget; 2 the words are no command; 4 the
 /// description, 5 the image is too long or at fault; 6 a file couldn't be read; 7 the output couldn't be written whole;
 /// 8 there was no memory, which comes only before the first byte of output.
-pub fn stt_top<F: Files, O: Sink, N: Sink>(
+pub fn stt_top<C: Built + Drop, F: Files, O: Sink, N: Sink>(
     alloc: Global,
     words: &[&str],
     files: &mut F,
@@ -68,7 +163,7 @@ pub fn stt_top<F: Files, O: Sink, N: Sink>(
     ensures statuses { Statuses (map (λ w. w.now) words.now) (F.shelf files.old) (F.shelf files.new) (O.told out.old) (O.told out.new) result }
     ensures stays { SameContents (F.shelf files.old) (F.shelf files.new) }
 {
-    let outcome = answer(alloc, words, files, out);
+    let outcome = answer::<C, F, O>(alloc, words, files, out);
     if let Err(refusal) = &outcome {
         let _ = note.put(note_line(refusal).as_slice());
     }

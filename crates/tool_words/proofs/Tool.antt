@@ -5,14 +5,14 @@ use Rattle.clap.specs.declared.error.Error.{Error}
 use Rattle.clap.specs.declared.error.kind.ErrorKind.{ErrorKind}
 use Rattle.clap.specs.declared.error.kind.ErrorKind.TheVariants as kind
 use Rattle.clap.specs.declared.parser.matches.ArgMatches.{ArgMatches}
-use Rattle.std.proofs.Common.{ℕ, ◌<◌, ◌^◌, Bool, false, if◌then◌else◌, Option, Some, None, Ok, Err, arith}
+use Rattle.std.proofs.Common.{ℕ, ◌<◌, ◌≤◌, ◌^◌, ◌+◌, Bool, false, if◌then◌else◌, Option, Some, None, Ok, Err, arith}
 use Rattle.std.specs.Str.Parse.{ParsesUnsigned, digits_value, without_leading_plus}
 use Rattle.std.proofs.lemmas.Result.{OkIff-at_ok, OkIff-at_err}
 use Rattle.std.proofs.Common.{codes}
 use Rattle.clap.proofs.OnLiterals.{clap_on_literals}
 use Rattle.clap.proofs.ValueTestLemmas.{accepts-Accepts, Accepts-accepts}
 use Rattle.clap.specs.declared.builder.value_parser.ValueParser.TheVariants as parser
-use Rattle.tool_words.specs.Words.{isa_text, tool_app, faults, rows_in, number_of, CommandText, command_in, command_of, if_none}
+use Rattle.tool_words.specs.Words.{isa_text, run_text, trace_text, tool_app, faults, rows_in, number_up_to, number_of, word_of, CommandText, command_in, command_of, if_none}
 
 pub tool_is_free : is_simple_and_free tool_app ≡ true
 tool_is_free = refl
@@ -50,17 +50,36 @@ no : (b : Bool) (v : ℕ) → (b ≡ true → ⊥) → None ≡ (if b then Some 
 no true v h = absurd (h refl)
 no false v h = refl
 
+-- a text that parses as a number of so many bits is one that clap takes
+read_up_to : {E : Type 0} (most : ℕ) (t : List ℕ) (r : Result ℕ E) (n bits : ℕ) → most < 2 ^ 64 → 2 ^ bits ≡ most + 1 → ParsesUnsigned bits 10 t r → r ≡ Ok n → Some n ≡ number_up_to most t
+read_up_to most t r n bits small_most b h e =
+    let p = OkIff-at_ok r _ _ n h e in
+    let small : digits_value 10 (without_leading_plus t) < 2 ^ bits = p.0.1 in
+    let below : digits_value 10 (without_leading_plus t) < most + 1 = subst (λ (k : ℕ). digits_value 10 (without_leading_plus t) < k) b small in
+    yes _ _ _ (Accepts-accepts false (parser.Unsigned 0 most) t (p.0.0, omega arith, omega arith, omega arith)) (sym p.1)
+
+not_read_up_to : {E : Type 0} (most : ℕ) (t : List ℕ) (r : Result ℕ E) (d : E) (bits : ℕ) → 2 ^ bits ≡ most + 1 → ParsesUnsigned bits 10 t r → r ≡ Err d → None ≡ number_up_to most t
+not_read_up_to most t r d bits b h e =
+    no _ _ (λ a. let q = accepts-Accepts false (parser.Unsigned 0 most) t a in
+    let up_to : digits_value 10 (without_leading_plus t) ≤ most = q.3 in
+    let below : digits_value 10 (without_leading_plus t) < most + 1 = omega (arith, up_to) in
+    OkIff-at_err r _ _ d h e (q.0, subst (λ (k : ℕ). digits_value 10 (without_leading_plus t) < k) (sym b) below))
+
 pub number_read : {E : Type 0} (t : List ℕ) (r : Result ℕ E) (n : ℕ) → ParsesUnsigned 64 10 t r → r ≡ Ok n → Some n ≡ number_of t
 unfolding number_of
-number_read t r n h e =
-    let p = OkIff-at_ok r _ _ n h e in
-    let small : digits_value 10 (without_leading_plus t) < 2 ^ 64 = p.0.1 in
-    yes _ _ _ (Accepts-accepts false (parser.Unsigned 0 18446744073709551615) t (p.0.0, p.0.1, omega arith, omega arith)) (sym p.1)
+number_read t r n h e = read_up_to 18446744073709551615 t r n 64 (omega arith) refl h e
 
 pub number_not_read : {E : Type 0} (t : List ℕ) (r : Result ℕ E) (d : E) → ParsesUnsigned 64 10 t r → r ≡ Err d → None ≡ number_of t
 unfolding number_of
-number_not_read t r d h e =
-    no _ _ (λ a. let q = accepts-Accepts false (parser.Unsigned 0 18446744073709551615) t a in OkIff-at_err r _ _ d h e (q.0, q.1))
+number_not_read t r d h e = not_read_up_to 18446744073709551615 t r d 64 refl h e
+
+pub word_read : {E : Type 0} (t : List ℕ) (r : Result ℕ E) (n : ℕ) → ParsesUnsigned 32 10 t r → r ≡ Ok n → Some n ≡ word_of t
+unfolding word_of
+word_read t r n h e = read_up_to 4294967295 t r n 32 (omega arith) refl h e
+
+pub word_not_read : {E : Type 0} (t : List ℕ) (r : Result ℕ E) (d : E) → ParsesUnsigned 32 10 t r → r ≡ Err d → None ≡ word_of t
+unfolding word_of
+word_not_read t r d h e = not_read_up_to 4294967295 t r d 32 refl h e
 
 pub words_are : (ws : List Text) (m : ArgMatches) (o : Option CommandText) → faults ws ≡ [] → subcommand_rows_of m ≡ rows_in ws → o ≡ command_in (subcommand_rows_of m) → command_of ws ≡ o
 unfolding command_of
@@ -87,3 +106,11 @@ no_words = refl
 isa_is_read : command_of (codes "isa" ∷ codes "p.elf" ∷ codes "--steps" ∷ codes "5" ∷ []) ≡ Some (isa_text (codes "p.elf") 5 None)
 unfolding command_of faults rows_in number_of clap_on_literals
 isa_is_read = refl
+
+run_is_read : command_of (codes "run" ∷ codes "d.toml" ∷ codes "p.elf" ∷ codes "--cycles" ∷ codes "9" ∷ []) ≡ Some (run_text (codes "d.toml") (codes "p.elf") 9)
+unfolding command_of faults rows_in word_of clap_on_literals
+run_is_read = refl
+
+trace_is_read : command_of (codes "trace" ∷ codes "--cycles" ∷ codes "9" ∷ codes "d.toml" ∷ codes "p.elf" ∷ []) ≡ Some (trace_text (codes "d.toml") (codes "p.elf") 9)
+unfolding command_of faults rows_in word_of clap_on_literals
+trace_is_read = refl

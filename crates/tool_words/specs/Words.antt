@@ -6,7 +6,7 @@ use Rattle.std.specs.Str.Parse.{digits_value, without_leading_plus}
 use Rattle.clap.specs.ValueTests.{accepts}
 use Rattle.clap.specs.declared.builder.value_parser.ValueParser.TheVariants as parser
 use Rattle.tool_words.specs.declared.Command.{Command}
-use Rattle.tool_words.specs.declared.Command.TheVariants.{Isa}
+use Rattle.tool_words.specs.declared.Command.TheVariants.{Isa, Run, Trace}
 use Rattle.tool_words.specs.declared.TheConstants.{STEPS_MAX}
 
 -- a required name at its place
@@ -27,15 +27,21 @@ isa_shape =
     (with_rule (with_rule (with_rule (new_app (codes "isa")) (name_rule (codes "image"))) (number_rule (codes "steps") 1 STEPS_MAX))
     (text_rule (codes "desc"))).top
 
+-- run D IMAGE --cycles N, or the same with another name
+abbrev pub cycles_shape : Text → Shape
+cycles_shape name =
+    (with_rule (with_rule (with_rule (new_app name) (name_rule (codes "description"))) (name_rule (codes "image")))
+    (number_rule (codes "cycles") 1 STEPS_MAX)).top
+
 -- no help, no version, and the words begin with the command
 abbrev pub bare_app : App
 bare_app = let a = new_app (codes "stt") in record a {
   top = record a.top { no_binary_name = true; disable_help_flag = true; disable_help_subcommand = true; disable_version_flag = true; subcommand_required = true };
 }
 
--- the tool's one command so far
+-- the tool's commands
 abbrev pub tool_app : App
-tool_app = with_subcommand bare_app isa_shape
+tool_app = with_subcommand (with_subcommand (with_subcommand bare_app isa_shape) (cycles_shape (codes "run"))) (cycles_shape (codes "trace"))
 
 -- the kinds of fault that clap finds in the words
 unfoldable pub faults : List Text → Kinds
@@ -46,26 +52,51 @@ unfoldable pub rows_in : List Text → Option (Text × List Row)
 rows_in ws = subcommand_of tool_app ws
 
 -- a command with its values, as contracts see it: for isa the image's name, the number of steps, and the description's
--- name, if one is given
+-- name, if one is given; for run and trace the description's name, the image's, and the number of cycles
 pub data CommandText : Type 0 where
   isa_text : Text → ℕ → Option Text → CommandText
+  run_text : Text → Text → ℕ → CommandText
+  trace_text : Text → Text → ℕ → CommandText
 
 abbrev pub command_text : Command → CommandText
 command_text (Isa image steps description) = isa_text image.now steps (option_map (λ t. t.now) description)
+command_text (Run description image cycles) = run_text description.now image.now cycles
+command_text (Trace description image cycles) = trace_text description.now image.now cycles
 
--- the number of a text that clap takes as one
+-- the number of a text that clap takes as one of at most this size
+abbrev pub number_up_to : ℕ → Text → Option ℕ
+number_up_to most t = if accepts false (parser.Unsigned 0 most) t then Some (digits_value 10 (without_leading_plus t)) else None
+
+-- a number of 64 bits
 unfoldable pub number_of : Text → Option ℕ
-number_of t = if accepts false (parser.Unsigned 0 18446744073709551615) t then Some (digits_value 10 (without_leading_plus t)) else None
+number_of t = number_up_to 18446744073709551615 t
 
 abbrev pub number_in : Text → List Row → Option ℕ
 number_in id rows = option_and_then number_of (first_of id rows)
 
+-- a number of 32 bits
+unfoldable pub word_of : Text → Option ℕ
+word_of t = number_up_to 4294967295 t
+
+abbrev pub word_in : Text → List Row → Option ℕ
+word_in id rows = option_and_then word_of (first_of id rows)
+
 abbrev pub isa_in : List Row → Option CommandText
 isa_in rows = option_and_then (λ image. option_map (λ steps. isa_text image steps (first_of (codes "desc") rows)) (number_in (codes "steps") rows)) (first_of (codes "image") rows)
 
+-- a description, an image and a number of cycles, for the command that is made of them
+abbrev pub cycles_in : (Text → Text → ℕ → CommandText) → List Row → Option CommandText
+cycles_in command rows =
+    option_and_then (λ description. option_and_then (λ image. option_map (λ cycles. command description image cycles) (word_in (codes "cycles") rows)) (first_of (codes "image") rows))
+    (first_of (codes "description") rows)
+
 abbrev pub command_in : Option (Text × List Row) → Option CommandText
 command_in None = None
-command_in (Some p) = if bytes_eq p.0 (codes "isa") then isa_in p.1 else None
+command_in (Some p) =
+    if bytes_eq p.0 (codes "isa") then isa_in p.1
+    else if bytes_eq p.0 (codes "run") then cycles_in run_text p.1
+    else if bytes_eq p.0 (codes "trace") then cycles_in trace_text p.1
+    else None
 
 abbrev pub if_none : Kinds → Option CommandText → Option CommandText
 if_none [] command = command

@@ -7,14 +7,14 @@
 ghost use Rattle.std.specs.Prelude.{◌≡◌, IfOk, map, IfErr, ◌≢◌, None, Some, [], option_map, false};
 ghost use Rattle.clap.specs.Words.{rule_of, shape_of, app_of, subcommand_rows_of, rows_of, found_of, first_of};
 ghost use Rattle.clap.specs.declared.builder.command.Command.TheViews.{out-Command};
-ghost use Rattle.tool_words.specs.Words.{name_rule, number_rule, text_rule, isa_shape, bare_app, tool_app, faults, rows_in, command_text, number_of, number_in, isa_in, command_in, command_of};
+ghost use Rattle.tool_words.specs.Words.{name_rule, number_rule, text_rule, run_text, trace_text, isa_shape, cycles_shape, bare_app, tool_app, faults, rows_in, command_text, number_of, number_in, word_of, word_in, isa_in, cycles_in, command_in, command_of};
 
 use clap::builder::ValueParser;
 use clap::error::ErrorKind;
 use clap::{Arg, ArgMatches, Command as Parser};
 use std::alloc::{AllocError, Global};
 
-/// The most steps, or cycles, that may be asked for.
+/// The most steps, or cycles, that may be asked for: what fits 32 bits.
 pub const STEPS_MAX: u64 = 4294967295;
 
 /// A command with its values.
@@ -26,6 +26,18 @@ pub enum Command<'a> {
         image: &'a str,
         steps: u64,
         description: Option<&'a str>,
+    },
+    /// `run D IMAGE --cycles N`: runs the machine of a description on an image for at most so many cycles.
+    Run {
+        description: &'a str,
+        image: &'a str,
+        cycles: u32,
+    },
+    /// `trace D IMAGE --cycles N`: the same run, told cycle by cycle.
+    Trace {
+        description: &'a str,
+        image: &'a str,
+        cycles: u32,
     },
 }
 
@@ -75,6 +87,17 @@ fn isa_parser<'a>(alloc: Global) -> Result<Parser<'a>, AllocError>
         .arg(text_arg(alloc, "desc"))
 }
 
+// The parser of `run` or of `trace`.
+fn cycles_parser<'a>(alloc: Global, name: &'a str) -> Result<Parser<'a>, AllocError>
+    ensures shape { IfOk result (λ c. shape_of c ≡ cycles_shape name.now) }
+    ensures here { IfOk result (λ c. (out-Command c).has_globals ≡ false) }
+{
+    Parser::new(alloc, name)
+        .arg(name_arg(alloc, "description"))?
+        .arg(name_arg(alloc, "image"))?
+        .arg(number_arg(alloc, "cycles", 1, STEPS_MAX))
+}
+
 // A parser with no command so far: no help, no version, and the words begin with the command.
 fn bare_parser<'a>(alloc: Global) -> Parser<'a>
     ensures { app_of result ≡ bare_app }
@@ -90,7 +113,10 @@ fn bare_parser<'a>(alloc: Global) -> Parser<'a>
 fn tool_parser<'a>(alloc: Global) -> Result<Parser<'a>, AllocError>
     ensures { IfOk result (λ c. app_of c ≡ tool_app) }
 {
-    bare_parser(alloc).subcommand(isa_parser(alloc)?)
+    bare_parser(alloc)
+        .subcommand(isa_parser(alloc)?)?
+        .subcommand(cycles_parser(alloc, "run")?)?
+        .subcommand(cycles_parser(alloc, "trace")?)
 }
 
 // What clap finds in the words.
@@ -136,6 +162,25 @@ fn number_in(matches: &ArgMatches<'_>, id: &str) -> Option<u64>
     }
 }
 
+fn word_of(text: &str) -> Option<u32>
+    ensures { result ≡ word_of text.now }
+{
+    match text.parse::<u32>() {
+        Ok(number) => Some(number),
+        Err(_) => None,
+    }
+}
+
+// The number of an option, of 32 bits.
+fn word_in(matches: &ArgMatches<'_>, id: &str) -> Option<u32>
+    ensures { result ≡ word_in id.now (rows_of (found_of matches.now)) }
+{
+    match text_in(matches, id) {
+        Some(text) => word_of(text),
+        None => None,
+    }
+}
+
 fn isa_in<'a>(matches: &ArgMatches<'a>) -> Option<Command<'a>>
     ensures { option_map command_text result ≡ isa_in (rows_of (found_of matches.now)) }
 {
@@ -149,12 +194,40 @@ fn isa_in<'a>(matches: &ArgMatches<'a>) -> Option<Command<'a>>
     })
 }
 
+fn run_in<'a>(matches: &ArgMatches<'a>) -> Option<Command<'a>>
+    ensures { option_map command_text result ≡ cycles_in run_text (rows_of (found_of matches.now)) }
+{
+    let description = text_in(matches, "description")?;
+    let image = text_in(matches, "image")?;
+    let cycles = word_in(matches, "cycles")?;
+    Some(Command::Run {
+        description,
+        image,
+        cycles,
+    })
+}
+
+fn trace_in<'a>(matches: &ArgMatches<'a>) -> Option<Command<'a>>
+    ensures { option_map command_text result ≡ cycles_in trace_text (rows_of (found_of matches.now)) }
+{
+    let description = text_in(matches, "description")?;
+    let image = text_in(matches, "image")?;
+    let cycles = word_in(matches, "cycles")?;
+    Some(Command::Trace {
+        description,
+        image,
+        cycles,
+    })
+}
+
 fn command_in<'a>(matches: &ArgMatches<'a>) -> Option<Command<'a>>
     ensures { option_map command_text result ≡ command_in (subcommand_rows_of matches.now) }
 {
     let (name, inner) = matches.subcommand()?;
     match name {
         "isa" => isa_in(inner),
+        "run" => run_in(inner),
+        "trace" => trace_in(inner),
         _ => None,
     }
 }

@@ -2,8 +2,9 @@
 use crate::{Command, read_words};
 use std::alloc::Global;
 
-// The number of steps of a command on p.elf, 100 more with the description d.toml, 0 where the words are refused.
-fn steps_of(alloc: Global, words: &[&str]) -> u64 {
+// The number of a command on p.elf: that of the steps, or 1000 more than the cycles, and 2000 more where they are traced;
+// 100 more with the description d.toml. 0 where the words are refused.
+fn number_of(alloc: Global, words: &[&str]) -> u64 {
     match read_words(alloc, words) {
         Ok(
             Command::Isa {
@@ -16,6 +17,20 @@ fn steps_of(alloc: Global, words: &[&str]) -> u64 {
             Some("d.toml") => steps.saturating_add(100),
             Some(_) => 0,
         },
+        Ok(
+            Command::Run {
+                description: "d.toml",
+                image: "p.elf",
+                cycles,
+            },
+        ) => (cycles as u64).saturating_add(1100),
+        Ok(
+            Command::Trace {
+                description: "d.toml",
+                image: "p.elf",
+                cycles,
+            },
+        ) => (cycles as u64).saturating_add(2100),
         _ => 0,
     }
 }
@@ -23,7 +38,7 @@ fn steps_of(alloc: Global, words: &[&str]) -> u64 {
 #[test]
 fn reads_the_words(rt: HostRuntime) {
     let alloc = rt.alloc();
-    let rows: [(&[&str], u64); 21] = [
+    let rows: [(&[&str], u64); 33] = [
         (&["isa", "p.elf", "--steps", "5"], 5),
         (&["isa", "--steps", "5", "p.elf"], 5),
         (&["isa", "p.elf", "--steps=5"], 5),
@@ -39,6 +54,26 @@ fn reads_the_words(rt: HostRuntime) {
         (&["isa", "p.elf", "--steps", "5", "--desc"], 0),
         (&["isa", "p.elf", "--steps", "5", "--steps", "6"], 0),
         (&["isa", "p.elf", "q.elf", "--steps", "5"], 0),
+        (&["run", "d.toml", "p.elf", "--cycles", "5"], 1105),
+        (
+            &["run", "d.toml", "p.elf", "--cycles", "4294967295"],
+            4294968395,
+        ),
+        (&["run", "--cycles=5", "d.toml", "p.elf"], 1105),
+        (&["run", "p.elf", "d.toml", "--cycles", "5"], 0),
+        (&["run", "p.elf", "--cycles", "5"], 0),
+        (&["run", "d.toml", "p.elf"], 0),
+        (&["run", "d.toml", "p.elf", "--steps", "5"], 0),
+        (&["run", "d.toml", "p.elf", "--cycles", "0"], 0),
+        (&["run", "d.toml", "p.elf", "--cycles", "4294967296"], 0),
+        (&["trace", "d.toml", "p.elf", "--cycles", "5"], 2105),
+        (&["trace", "d.toml", "--cycles", "5", "p.elf"], 2105),
+        (
+            &[
+                "trace", "d.toml", "p.elf", "--desc", "d.toml", "--cycles", "5",
+            ],
+            0,
+        ),
         (&["isa", "--help"], 0),
         (&["--help"], 0),
         (&["--version"], 0),
@@ -47,6 +82,6 @@ fn reads_the_words(rt: HostRuntime) {
         (&[], 0),
     ];
     for (words, want) in rows {
-        assert_eq!(rt; steps_of(alloc, words), want, "at {words:?}");
+        assert_eq!(rt; number_of(alloc, words), want, "at {words:?}");
     }
 }

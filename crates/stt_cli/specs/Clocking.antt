@@ -1,0 +1,54 @@
+-- Runs of a core, cycle by cycle, and what they write.
+use Rattle.std.specs.Prelude.{◌≡◌, ℕ, zero, suc, List, [], Some, Option, Result, MatchResult}
+use Rattle.rv_types.specs.Memory.{Code, Ram}
+use Rattle.rv_types.specs.Isa.{Run, with_piece}
+use Rattle.rv_types.specs.declared.End.{End}
+use Rattle.rv_types.specs.declared.Ending.{Ending}
+use Rattle.machine_desc.specs.declared.Desc.{Desc}
+use Rattle.window_model.specs.State.{Machine}
+use Rattle.window_model.specs.Retire.{hart_of, unless_ended}
+use Rattle.window_model.specs.Cycle.{Trace, cycle, rows, after_cycles}
+use Rattle.report_text.specs.Report.{piece_lines, report_text}
+use Rattle.trace_text.specs.TraceText.{rows_text}
+use Rattle.tool_io.specs.Outside.{Told, Wrote, WrotePart}
+use Rattle.tool_io.specs.declared.Failed.{Failed}
+
+-- the pieces of output of at most k cycles, in turn, but for the empty ones
+abbrev pub pieces : Desc → Code → ℕ → Machine → List (List ℕ)
+pieces d code zero x = []
+pieces d code (suc k) x = unless_ended x.end [] (with_piece (cycle d code x).piece (pieces d code k (cycle d code x).machine))
+
+-- a run of at most n cycles from a state, as a trace
+abbrev pub trace_from : Desc → Code → ℕ → Machine → Trace
+trace_from d code n x =
+    let last = after_cycles d code n x in
+    record { rows = rows d code n x; end = last.end; retired = last.retired; cycles = last.cycle }
+
+-- the same run as a report tells it: its steps are the instructions that retired
+abbrev pub run_from : Desc → Code → ℕ → Machine → Run
+run_from d code n x =
+    let last = after_cycles d code n x in
+    record { last = hart_of last; pieces = pieces d code n x; steps = last.retired; ended = last.end }
+
+-- its report, which counts the cycles
+abbrev pub report_from : Ram → Desc → Code → ℕ → Machine → List ℕ
+report_from before d code n x = report_text before (run_from d code n x) (Some (after_cycles d code n x).cycle)
+
+-- what the last line of a state says
+abbrev pub ending_at : Machine → Ending
+ending_at x = record { end = x.end; retired = x.retired; cycles = Some x.cycle }
+
+-- a core came from x to the state after at most n cycles, and this text is written
+pub record CameTo (text : List ℕ) (d : Desc) (code : Code) (n : ℕ) (x y : Machine) (old new : Told) : Type 0 where
+  pub lines : Wrote text old new
+  pub last : y ≡ after_cycles d code n x
+
+-- the lines of the rows of at most n cycles are written, whole and with the core at their end, or in part
+abbrev pub WritesRows : Desc → Code → ℕ → Machine → Machine → Told → Told → Result (Unit {0}) Failed → Type 0
+WritesRows d code n x y old new result =
+    MatchResult result (λ _. CameTo (rows_text (rows d code n x)) d code n x y old new) (λ _. WrotePart (rows_text (rows d code n x)) old new)
+
+-- the lines of the output of at most n cycles are written likewise
+abbrev pub WritesPieces : Desc → Code → ℕ → Machine → Machine → Told → Told → Result (Unit {0}) Failed → Type 0
+WritesPieces d code n x y old new result =
+    MatchResult result (λ _. CameTo (piece_lines (pieces d code n x)) d code n x y old new) (λ _. WrotePart (piece_lines (pieces d code n x)) old new)
