@@ -50,7 +50,7 @@ module _ (code : Code) (d : Desc) where
       (committed_between x y z _ _ f (back_quiet d code z) r.committed, consistent_back z r.holds)
 
 pub cycle_commits : CycleCommits
-cycle_commits d code x al h n = as_retired code (hart_of x) x.retired (cycle d code x).machine (with_piece (cycle d code x).piece []) (cycle_does code d x al h n).0
+cycle_commits d code x al h n = as_retired code x (cycle d code x).machine (cycle d code x).piece (cycle_does code d x al h n).0
 
 pub consistent_cycle : CycleKeeps
 consistent_cycle d code x al h n = (cycle_does code d x al h n).1

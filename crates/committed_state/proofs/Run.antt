@@ -6,10 +6,10 @@ use Rattle.rv_types.specs.declared.End.{End}
 use Rattle.machine_desc.specs.declared.Desc.{Desc}
 use Rattle.window_model.specs.State.{Machine, opening}
 use Rattle.window_model.specs.Retire.{hart_of, unless_ended}
-use Rattle.window_model.specs.Cycle.{cycle, after_cycles, at}
+use Rattle.window_model.specs.Cycle.{cycle, after_cycles, pieces, at}
 use Rattle.committed_state.specs.Consistent.{Consistent}
 use Rattle.window_model.specs.Committed.{Aligned, TrapsNext, exit_of}
-use Rattle.committed_state.specs.Laws.{pieces, RunCommits, RunKeeps}
+use Rattle.committed_state.specs.Laws.{RunCommits, RunKeeps}
 use Rattle.committed_state.proofs.Steps.{Leads, prepend, from_none}
 use Rattle.committed_state.proofs.Cycle.{cycle_does}
 

@@ -1,12 +1,12 @@
 -- Turns of Retire as steps of the instruction set.
-use Rattle.std.proofs.Common.{◌≡◌, ℕ, suc, ◌+◌, ◌-◌, ◌≤◌, List, [], None, refl, ap, ◌∙◌, subst, arith}
+use Rattle.std.proofs.Common.{◌≡◌, ℕ, suc, ◌+◌, ◌-◌, List, [], None, refl, ap, ◌∙◌, subst, arith}
 use Rattle.rv_types.specs.Memory.{Code}
 use Rattle.rv_types.specs.Isa.{Hart, Goes, Run, isa, isa_step, after, run, with_piece}
 use Rattle.window_model.specs.declared.Event.{Event}
 use Rattle.window_model.specs.State.{Machine}
 use Rattle.window_model.specs.Retire.{Retired, then_retires, stays, hart_of}
 use Rattle.committed_state.specs.Consistent.{Consistent}
-use Rattle.window_model.specs.Committed.{Committed, TrapsNext, exit_of}
+use Rattle.window_model.specs.Committed.{Committed, Commits, TrapsNext, exit_of}
 
 -- from a state with so many retired, some steps lead to this machine
 pub record Leads (code : Code) (from : Hart) (retired : ℕ) (x : Machine) (pieces : List (List ℕ)) : Type 0 where
@@ -22,8 +22,11 @@ steps_are code from x pieces m n e c = subst (λ n. Committed code from n x piec
 pub from_none : (code : Code) (from : Hart) (x : Machine) (pieces : List (List ℕ)) → Leads code from 0 x pieces → Committed code from x.retired x pieces
 from_none code from x pieces c = steps_are code from x pieces c.steps x.retired (omega (arith, c.counted)) (record { runs = c.runs; trap = c.trap })
 
-pub as_retired : (code : Code) (from : Hart) (retired : ℕ) (x : Machine) (pieces : List (List ℕ)) → Leads code from retired x pieces → (retired ≤ x.retired) × Committed code from (x.retired - retired) x pieces
-as_retired code from retired x pieces c = (omega (arith, c.counted), steps_are code from x pieces c.steps (x.retired - retired) (omega (arith, c.counted)) (record { runs = c.runs; trap = c.trap }))
+pub as_retired : (code : Code) (x y : Machine) (piece : List ℕ) → Leads code (hart_of x) x.retired y (with_piece piece []) → Commits code x y piece
+as_retired code x y piece c = record {
+  rises = omega (arith, c.counted);
+  committed = steps_are code (hart_of x) y (with_piece piece []) c.steps (y.retired - x.retired) (omega (arith, c.counted)) (record { runs = c.runs; trap = c.trap });
+}
 
 -- a turn or more, from a state that is consistent
 pub record Retires (code : Code) (x : Machine) (r : Retired) : Type 0 where

@@ -1,27 +1,22 @@
 -- The retired state is the instruction set's, after each cycle and along each run (docs/theorems.md, "Committed state").
-use Rattle.std.specs.Prelude.{◌≡◌, ℕ, zero, suc, ◌-◌, ◌≤◌, List, [], length, None}
+use Rattle.std.specs.Prelude.{◌≡◌, ℕ, length, None}
 use Rattle.rv_types.specs.Memory.{Code, Ram}
-use Rattle.rv_types.specs.Isa.{Hart, start, reg, with_piece}
+use Rattle.rv_types.specs.Isa.{Hart, start, reg}
 use Rattle.machine_desc.specs.declared.Desc.{Desc}
 use Rattle.window_model.specs.State.{Machine, opening}
-use Rattle.window_model.specs.Retire.{hart_of, unless_ended}
-use Rattle.window_model.specs.Cycle.{cycle, at}
+use Rattle.window_model.specs.Retire.{hart_of}
+use Rattle.window_model.specs.Cycle.{cycle, pieces, at}
 use Rattle.committed_state.specs.Consistent.{Consistent, HasStopped}
-use Rattle.window_model.specs.Committed.{Aligned, Committed}
+use Rattle.window_model.specs.Committed.{Aligned, Committed, Commits}
 
 -- what a cycle retires are as many steps of the instruction set, with its output
 abbrev pub CycleCommits : Type 0
 CycleCommits = (d : Desc) (code : Code) (x : Machine) → Aligned code → Consistent code x → x.end ≡ None →
-    let c = cycle d code x in (x.retired ≤ c.machine.retired) × Committed code (hart_of x) (c.machine.retired - x.retired) c.machine (with_piece c.piece [])
+    let c = cycle d code x in Commits code x c.machine c.piece
 
 -- and a cycle keeps what holds in every state
 abbrev pub CycleKeeps : Type 0
 CycleKeeps = (d : Desc) (code : Code) (x : Machine) → Aligned code → Consistent code x → x.end ≡ None → Consistent code (cycle d code x).machine
-
--- the pieces of output of k cycles, without empty ones
-abbrev pub pieces : Desc → Code → ℕ → Machine → List (List ℕ)
-pieces d code zero x = []
-pieces d code (suc k) x = unless_ended x.end [] (with_piece (cycle d code x).piece (pieces d code k (cycle d code x).machine))
 
 -- registers, pc and memory are the instruction set's after as many steps as have retired, with its output and end
 abbrev pub RunCommits : Type 0

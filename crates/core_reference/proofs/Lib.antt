@@ -15,4 +15,4 @@ pub mod Begun
 pub mod Slots
 pub mod Issuing
 pub mod Issued
-pub mod Counting
+pub mod Whole

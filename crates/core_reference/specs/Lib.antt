@@ -7,5 +7,6 @@ pub mod Ports
 pub mod Accesses
 pub mod Begins
 pub mod Programmed
+pub mod Kept
 pub mod Start
 pub mod Shared

@@ -21,7 +21,8 @@ pub struct ReferenceCore {
 
 impl Model for ReferenceCore {
     ghost use Rattle.core_reference.specs.Programmed.{Programmed, programmed_code};
-    ghost use Rattle.machine_facts.specs.Timely.{Counted};
+    ghost use Rattle.core_reference.specs.Kept.{Kept};
+    ghost use Rattle.elf_loader.specs.Code.{word_at};
 
     ghost Value = { Programmed };
 
@@ -29,7 +30,7 @@ impl Model for ReferenceCore {
 
     ghost view = { λ c. record { desc = c.state.desc; code = c.code; machine = c.state.machine } };
 
-    ghost invariant = { λ c. Counted c.state.machine };
+    ghost invariant = { λ c. Kept (word_at c.code) c.state.machine };
 }
 
 impl ReferenceCore {

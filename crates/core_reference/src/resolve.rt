@@ -1,8 +1,8 @@
 //! The third phase: the oldest branch or JALR that may be resolved takes effect (`docs/machine.md`, "Resolve").
-ghost use Rattle.std.specs.Prelude.{◌≡◌, ◌≤◌, ◌<◌, ◌+◌, ◌-◌, ◌++◌, ◌∷◌, [], None, Some, IfSome, MatchOption, length, true, drop, reverse, slice_index, slice_set, slice_get, take, if◌then◌else◌};
+ghost use Rattle.std.specs.Prelude.{◌≡◌, ◌≤◌, ◌<◌, ◌+◌, ◌-◌, ◌++◌, ◌∷◌, [], None, Some, IfSome, length, slice_set, take, true, if◌then◌else◌};
 ghost use Rattle.std.specs.Option.{option_map};
-ghost use Rattle.window_model.specs.Order.{before_at, first, is_faulty};
-ghost use Rattle.window_model.specs.Resolve.{resolve, may_resolve, learn, learn_branch, learn_target, moved, index, freed_from, next_of};
+ghost use Rattle.window_model.specs.Order.{first, is_faulty};
+ghost use Rattle.window_model.specs.Resolve.{resolve, may_resolve, learn, learn_branch, learn_target, moved, freed_from, next_of};
 ghost use Rattle.window_model.specs.declared.Event.TheVariants as event;
 ghost use Rattle.window_model.specs.declared.Way.TheVariants as way;
 ghost use Rattle.core_reference.specs.Placed.{placed};

@@ -28,6 +28,7 @@ use Rattle.noninterference.proofs.Issue.{issue_tells_nothing}
 use Rattle.noninterference.proofs.Front.{rename_tells_nothing, fetch_tells_nothing}
 use Rattle.noninterference.proofs.Agree.{together_agree}
 
+-- the row of a cycle: what happened before Retire, in it and after it
 abbrev row_with : ℕ → List Event → List Event → List Event → Row
 row_with n a b c = record { cycle = n + 1; events = a ++ b ++ c }
 

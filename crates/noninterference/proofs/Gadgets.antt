@@ -1,5 +1,5 @@
 -- The law at work: no secret byte shows in the trace of a program whose path doesn't load it.
-use Rattle.std.proofs.Common.{◌≡◌, ℕ, ◌<◌, ◌-◌, ◌%◌, ◌^◌, Bool, true, false, ◌&&◌, List, [], ◌∷◌, Option, Some, None, refl, ap, sym, subst, arith, lit<}
+use Rattle.std.proofs.Common.{◌≡◌, ℕ, suc, ◌+◌, ◌<◌, ◌-◌, ◌%◌, ◌^◌, Bool, true, ◌&&◌, List, [], ◌∷◌, Option, Some, None, refl, ap, sym, ◌∙◌, subst, arith, lit<, false}
 use Rattle.std.specs.Prelude.{◌==◌, if◌then◌else◌, replicate, nat_le, slice_index}
 use Rattle.std.specs.List.{list_any, AllByRecursion as Each}
 use Rattle.std.proofs.lemmas.List.Elements.{All-from_recursion, recursion_from_All, All-append, All-replicate}
@@ -7,19 +7,22 @@ use Rattle.std.proofs.lemmas.Bool.Decides.{nat_tests}
 use Rattle.std.specs.Int.Count.{count_leading_zeros}
 use Rattle.rv_types.specs.Decode.{decode}
 use Rattle.rv_types.specs.Memory.{Agree}
-use Rattle.rv_types.specs.Isa.{isa_step}
-use Rattle.rv_types.specs.Path.{pass_step}
+use Rattle.rv_types.specs.Isa.{Hart, isa_step, start}
+use Rattle.rv_types.specs.Path.{pass_step, reads}
 use Rattle.machine_desc.specs.declared.Desc.{Desc}
+use Rattle.machine_desc.specs.declared.SttModel.{SttModel}
+use Rattle.machine_desc.specs.declared.SttModel.TheVariants.{Spectre, Futuristic}
 use Rattle.machine_desc.specs.Example.{example}
-use Rattle.window_model.specs.Cycle.{cycle}
+use Rattle.window_model.specs.Cycle.{cycle, trace}
 use Rattle.window_model.specs.Retire.{retire}
 use Rattle.window_model.specs.Front.{rename, fetch}
 use Rattle.window_model.specs.Committed.{Aligned}
-use Rattle.window_model.proofs.Worked.{code_of, memory, futuristic}
+use Rattle.window_model.specs.Path.{path}
+use Rattle.window_model.proofs.Worked.{code_of, memory}
 use Rattle.window_model.proofs.BoundsCheck.{bounds_check}
 use Rattle.window_model.proofs.Shadows.{fault, store, branch, divisor, injection}
-use Rattle.noninterference.specs.Gadgets.{loaded_by, HidesSecret, HidesUnderBoth, BoundsCheckBypass, TaintedStoreAddress, TaintedBranch, TaintedDivisor, TargetInjection, FaultShadow, FaultShadowSpectre}
-use Rattle.noninterference.proofs.Runs.{noninterference}
+use Rattle.noninterference.specs.Gadgets.{loaded_by, HidesSecret, BoundsCheckBypass, TaintedStoreAddress, TaintedBranch, TaintedDivisor, TargetInjection, FaultShadow, FaultShadowSpectre}
+use Rattle.noninterference.proofs.Runs.{same_trace, fewer}
 
 -- ---- premises
 
@@ -53,61 +56,58 @@ agree_on secret lt addresses same =
     let low : Each Byte tail = (none, (none, (none, (none, (none, (none, (none, (none, (lt, (none, (none, (none, (none, (none, (none, (none, tt)))))))))))))))) in
     record { base = refl; size = refl; bytes = All-append Byte (replicate 65520 0) tail (All-replicate Byte 65520 0 none) (All-from_recursion Byte tail low); same = All-from_recursion _ addresses same }
 
-agree_on_bound : (secret : ℕ) → secret < 256 → Agree (memory 0 0) (memory 0 secret) bound
+-- what the path loads in so many steps, where the secret is 0
+abbrev loads : SttModel → List ℕ → ℕ → List ℕ
+loads model words steps = reads (path model) (code_of words) (start 0x10000 (memory 0 0)) steps
+
+-- the paths of these programs end within six steps
+abbrev six_more : ℕ → ℕ
+six_more steps = suc (suc (suc (suc (suc (suc steps)))))
+
+-- what depends on the secret nowhere, in however many steps, hides it
+hides : (d : Desc) (words loaded : List ℕ) → ((steps : ℕ) → loads d.stt_model words (six_more steps) ≡ loaded) → ((secret : ℕ) → Each (SameAt secret) loaded) → HidesSecret d words
+hides d words loaded all same secret n lt =
+    let run : Hart = start 0x10000 (memory 0 0) in
+    let steps = (trace d (code_of words) 0x10000 (memory 0 0) n).retired + d.core_rob in
+    let more = subst (Each (SameAt secret)) (sym (all steps)) (same secret) in
+    let less = fewer (SameAt secret) (path d.stt_model) (code_of words) steps (six_more steps) run (omega arith) more in
+    same_trace d (code_of words) 0x10000 (memory 0 0) (memory 0 secret) n (aligned_words words) (agree_on secret lt (loads d.stt_model words steps) less)
+
+same_bound : (secret : ℕ) → Each (SameAt secret) bound
 unfolding memory
-agree_on_bound secret lt = agree_on secret lt bound (refl, (refl, (refl, (refl, tt))))
+same_bound secret = (refl, (refl, (refl, (refl, tt))))
 
--- what loads the bound alone, or nothing, hides the secret
-hides : (d : Desc) (words loaded : List ℕ) → ((secret : ℕ) → secret < 256 → Agree (memory 0 0) (memory 0 secret) loaded) → loaded_by d words ≡ loaded → HidesSecret d words
-hides d words loaded agree h secret lt =
-    noninterference d (code_of words) 0x10000 (memory 0 0) (memory 0 secret) 100 (aligned_words words) (subst (Agree (memory 0 0) (memory 0 secret)) (sym h) (agree secret lt))
+-- ---- what the paths load: the bound alone
 
--- ---- what the paths load
+bypass_loads : (model : SttModel) (steps : ℕ) → loads model bounds_check (six_more steps) ≡ bound
+unfolding memory code_of decode isa_step pass_step
+bypass_loads Spectre steps = refl
+bypass_loads Futuristic steps = refl
 
-bypass_loads : loaded_by example bounds_check ≡ bound
-unfolding memory code_of decode cycle retire rename fetch count_leading_zeros isa_step pass_step
-bypass_loads = refl
+store_loads : (model : SttModel) (steps : ℕ) → loads model store (six_more steps) ≡ bound
+unfolding memory code_of decode isa_step pass_step
+store_loads Spectre steps = refl
+store_loads Futuristic steps = refl
 
-bypass_loads_futuristic : loaded_by futuristic bounds_check ≡ bound
-unfolding memory code_of decode cycle retire rename fetch count_leading_zeros isa_step pass_step
-bypass_loads_futuristic = refl
+branch_loads : (model : SttModel) (steps : ℕ) → loads model branch (six_more steps) ≡ bound
+unfolding memory code_of decode isa_step pass_step
+branch_loads Spectre steps = refl
+branch_loads Futuristic steps = refl
 
-store_loads : loaded_by example store ≡ bound
-unfolding memory code_of decode cycle retire rename fetch count_leading_zeros isa_step pass_step
-store_loads = refl
+divisor_loads : (model : SttModel) (steps : ℕ) → loads model divisor (six_more steps) ≡ bound
+unfolding memory code_of decode isa_step pass_step
+divisor_loads Spectre steps = refl
+divisor_loads Futuristic steps = refl
 
-store_loads_futuristic : loaded_by futuristic store ≡ bound
-unfolding memory code_of decode cycle retire rename fetch count_leading_zeros isa_step pass_step
-store_loads_futuristic = refl
-
-branch_loads : loaded_by example branch ≡ bound
-unfolding memory code_of decode cycle retire rename fetch count_leading_zeros isa_step pass_step
-branch_loads = refl
-
-branch_loads_futuristic : loaded_by futuristic branch ≡ bound
-unfolding memory code_of decode cycle retire rename fetch count_leading_zeros isa_step pass_step
-branch_loads_futuristic = refl
-
-divisor_loads : loaded_by example divisor ≡ bound
-unfolding memory code_of decode cycle retire rename fetch count_leading_zeros isa_step pass_step
-divisor_loads = refl
-
-divisor_loads_futuristic : loaded_by futuristic divisor ≡ bound
-unfolding memory code_of decode cycle retire rename fetch count_leading_zeros isa_step pass_step
-divisor_loads_futuristic = refl
-
-injection_loads : loaded_by example injection ≡ bound
-unfolding memory code_of decode cycle retire rename fetch count_leading_zeros isa_step pass_step
-injection_loads = refl
-
-injection_loads_futuristic : loaded_by futuristic injection ≡ bound
-unfolding memory code_of decode cycle retire rename fetch count_leading_zeros isa_step pass_step
-injection_loads_futuristic = refl
+injection_loads : (model : SttModel) (steps : ℕ) → loads model injection (six_more steps) ≡ bound
+unfolding memory code_of decode isa_step pass_step
+injection_loads Spectre steps = refl
+injection_loads Futuristic steps = refl
 
 -- the futuristic path ends at the fault
-fault_loads_futuristic : loaded_by futuristic fault ≡ []
-unfolding memory code_of decode cycle retire rename fetch count_leading_zeros isa_step pass_step
-fault_loads_futuristic = refl
+fault_loads_none : (steps : ℕ) → loads Futuristic fault (six_more steps) ≡ []
+unfolding memory code_of decode isa_step pass_step
+fault_loads_none steps = refl
 
 -- the spectre path passes it over, loads the secret, and then at an address made of it
 fault_loads : loaded_by example fault ≡ 0x1fff8 ∷ 0x1f7f0 ∷ 0x1f7f1 ∷ 0x1f7f2 ∷ 0x1f7f3 ∷ []
@@ -116,26 +116,23 @@ fault_loads = refl
 
 -- ---- and so what they hide
 
-hides_under_both : (words : List ℕ) → loaded_by example words ≡ bound → loaded_by futuristic words ≡ bound → HidesUnderBoth words
-hides_under_both words h h2 = (hides example words bound agree_on_bound h, hides futuristic words bound agree_on_bound h2)
-
 pub bypass_hides : BoundsCheckBypass
-bypass_hides = hides_under_both bounds_check bypass_loads bypass_loads_futuristic
+bypass_hides d = hides d bounds_check bound (bypass_loads d.stt_model) same_bound
 
 pub store_hides : TaintedStoreAddress
-store_hides = hides_under_both store store_loads store_loads_futuristic
+store_hides d = hides d store bound (store_loads d.stt_model) same_bound
 
 pub branch_hides : TaintedBranch
-branch_hides = hides_under_both branch branch_loads branch_loads_futuristic
+branch_hides d = hides d branch bound (branch_loads d.stt_model) same_bound
 
 pub divisor_hides : TaintedDivisor
-divisor_hides = hides_under_both divisor divisor_loads divisor_loads_futuristic
+divisor_hides d = hides d divisor bound (divisor_loads d.stt_model) same_bound
 
 pub injection_hides : TargetInjection
-injection_hides = hides_under_both injection injection_loads injection_loads_futuristic
+injection_hides d = hides d injection bound (injection_loads d.stt_model) same_bound
 
 pub fault_hides : FaultShadow
-fault_hides = hides futuristic fault [] (λ secret lt. agree_on secret lt [] tt) fault_loads_futuristic
+fault_hides d futuristic = hides d fault [] (λ steps. ap (λ m. loads m fault (six_more steps)) futuristic ∙ fault_loads_none steps) (λ secret. tt)
 
 pub fault_loads_secret : FaultShadowSpectre
 unfolding memory

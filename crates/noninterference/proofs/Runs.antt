@@ -36,7 +36,7 @@ module _ (d : Desc) (code : Code) (total : ℕ) (aligned : Aligned code) where
       by_end : (o : Option End) → x.end ≡ o → ((c.end ≡ None → Consistent code c) → c.retired ≤ (after_cycles d code n c).retired) → x.retired ≤ (unless_ended o x (after_cycles d code n c)).retired
       by_end (Some e) q more = omega arith
       by_end None q more =
-          let up = (cycle_commits d code x aligned (f q) q).0 in
+          let up = (cycle_commits d code x aligned (f q) q).rises in
           let m = more (λ z. consistent_cycle d code x aligned (f q) q) in
           omega (arith, up, m)
 
@@ -72,7 +72,7 @@ then_fewer P (Goes s p) f g h a = h s a
 then_fewer P (Exits v s) f g h a = a
 then_fewer P (Traps c) f g h a = a
 
-fewer : (P : ℕ → Type 0) (step : Code → Hart → Step) (code : Code) (k n : ℕ) (s : Hart) → k ≤ n → Each P (reads step code s n) → Each P (reads step code s k)
+pub fewer : (P : ℕ → Type 0) (step : Code → Hart → Step) (code : Code) (k n : ℕ) (s : Hart) → k ≤ n → Each P (reads step code s n) → Each P (reads step code s k)
 fewer P step code zero n s le a = tt
 fewer P step code (suc k) zero s le a = absurd (omega (arith, le))
 fewer P step code (suc k) (suc n) s le a =
@@ -113,8 +113,8 @@ module _ (d : Desc) (code : Code) (entry : ℕ) (m m2 : Ram) (total : ℕ) (agre
 abbrev with_end : List Row → Option End → ℕ → ℕ → Trace
 with_end rs e n c = record { rows = rs; end = e; retired = n; cycles = c }
 
-pub noninterference : Noninterference
-noninterference d code entry m m2 n aligned agree =
+pub same_trace : Noninterference
+same_trace d code entry m m2 n aligned agree =
     let x = opening d entry m in
     let x2 = opening d entry m2 in
     let total = (after_cycles d code n x).retired + d.core_rob in

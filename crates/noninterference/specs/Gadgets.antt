@@ -4,24 +4,45 @@ use Rattle.std.specs.Prelude.{◌≡◌, ◌≢◌, ℕ, ◌<◌, ◌==◌, true
 use Rattle.std.specs.List.{list_any}
 use Rattle.rv_types.specs.Memory.{Agree}
 use Rattle.machine_desc.specs.declared.Desc.{Desc}
+use Rattle.machine_desc.specs.declared.SttModel.TheVariants.{Futuristic}
 use Rattle.machine_desc.specs.Example.{example}
 use Rattle.window_model.specs.Cycle.{trace}
 use Rattle.window_model.specs.Path.{reads_of_trace}
-use Rattle.window_model.proofs.Worked.{code_of, memory, futuristic}
+use Rattle.window_model.proofs.Worked.{code_of, memory}
 use Rattle.window_model.proofs.BoundsCheck.{bounds_check}
 use Rattle.window_model.proofs.Shadows.{fault, store, branch, divisor, injection}
+
+-- with each secret byte the trace of these words, of any number of cycles, is that with 0
+abbrev pub HidesSecret : Desc → List ℕ → Type 0
+HidesSecret d words = (secret n : ℕ) → secret < 256 → trace d (code_of words) 0x10000 (memory 0 secret) n ≡ trace d (code_of words) 0x10000 (memory 0 0) n
+
+-- under every description: a load behind a bounds check that is predicted wrongly, and a load at an address made of the secret
+abbrev pub BoundsCheckBypass : Type 0
+BoundsCheckBypass = (d : Desc) → HidesSecret d bounds_check
+
+-- a store at such an address, and a load that it may cover
+abbrev pub TaintedStoreAddress : Type 0
+TaintedStoreAddress = (d : Desc) → HidesSecret d store
+
+-- a branch on the secret
+abbrev pub TaintedBranch : Type 0
+TaintedBranch = (d : Desc) → HidesSecret d branch
+
+-- a division of the secret
+abbrev pub TaintedDivisor : Type 0
+TaintedDivisor = (d : Desc) → HidesSecret d divisor
+
+-- a jump to an address made of the secret
+abbrev pub TargetInjection : Type 0
+TargetInjection = (d : Desc) → HidesSecret d injection
+
+-- a load behind one that faults, where the model is the futuristic one
+abbrev pub FaultShadow : Type 0
+FaultShadow = (d : Desc) → d.stt_model ≡ Futuristic → HidesSecret d fault
 
 -- the bytes that the path of these words loads in at most 100 cycles, where the secret is 0
 abbrev pub loaded_by : Desc → List ℕ → List ℕ
 loaded_by d words = reads_of_trace d (code_of words) 0x10000 (memory 0 0) 100
-
--- with each secret byte the trace of these words is that with 0
-abbrev pub HidesSecret : Desc → List ℕ → Type 0
-HidesSecret d words = (secret : ℕ) → secret < 256 → trace d (code_of words) 0x10000 (memory 0 secret) 100 ≡ trace d (code_of words) 0x10000 (memory 0 0) 100
-
--- so under both models
-abbrev pub HidesUnderBoth : List ℕ → Type 0
-HidesUnderBoth words = HidesSecret example words × HidesSecret futuristic words
 
 -- the path of these words loads the secret, so no memory with another one agrees on what it loads: the law says nothing
 abbrev pub LoadsSecret : Desc → List ℕ → Type 0
@@ -29,30 +50,6 @@ LoadsSecret d words =
     (list_any (λ a. a == 0x1fff8) (loaded_by d words) ≡ true)
     × ((secret : ℕ) → secret ≢ 0 → Agree (memory 0 0) (memory 0 secret) (loaded_by d words) → ⊥)
 
--- a load behind a bounds check that is predicted wrongly, and a load at an address made of the secret
-abbrev pub BoundsCheckBypass : Type 0
-BoundsCheckBypass = HidesUnderBoth bounds_check
-
--- a store at such an address, and a load that it may cover
-abbrev pub TaintedStoreAddress : Type 0
-TaintedStoreAddress = HidesUnderBoth store
-
--- a branch on the secret
-abbrev pub TaintedBranch : Type 0
-TaintedBranch = HidesUnderBoth branch
-
--- a division of the secret
-abbrev pub TaintedDivisor : Type 0
-TaintedDivisor = HidesUnderBoth divisor
-
--- a jump to an address made of the secret
-abbrev pub TargetInjection : Type 0
-TargetInjection = HidesUnderBoth injection
-
--- a load behind one that faults: under the futuristic model
-abbrev pub FaultShadow : Type 0
-FaultShadow = HidesSecret futuristic fault
-
--- not so under the spectre model
+-- so it is behind a load that faults under the spectre model
 abbrev pub FaultShadowSpectre : Type 0
 FaultShadowSpectre = LoadsSecret example fault

@@ -1,7 +1,7 @@
 -- What Rename and Fetch leave: the time, what is shared, and the oldest entries; and what comes where there was none.
-use Rattle.std.proofs.Common.{◌≡◌, ℕ, zero, suc, ◌≤◌, ◌<◌, Bool, true, false, ◌||◌, List, [], ◌∷◌, ◌++◌, length, Option, Some, None, refl, ap, sym, ◌∙◌, arith, append_assoc, append-nil}
+use Rattle.std.proofs.Common.{◌≡◌, ℕ, zero, suc, ◌≤◌, ◌<◌, Bool, true, false, ◌||◌, List, [], ◌∷◌, ◌++◌, Some, refl, ap, sym, ◌∙◌, arith, append_assoc, append-nil}
 use Rattle.std.proofs.lemmas.Bool.Decides.{nat_tests}
-use Rattle.std.specs.Prelude.{if◌then◌else◌, nat_lt}
+use Rattle.std.specs.Prelude.{nat_lt}
 use Rattle.std.specs.Cmp.Derive.{both_true}
 use Rattle.rv_types.specs.Memory.{Code}
 use Rattle.rv_types.specs.declared.Kind.{Kind}
@@ -11,8 +11,8 @@ use Rattle.machine_desc.specs.Ranges.{IsDesc}
 use Rattle.window_model.specs.declared.Entry.{Entry}
 use Rattle.window_model.specs.declared.Item.{Item}
 use Rattle.window_model.specs.State.{Machine}
-use Rattle.window_model.specs.Front.{at_once, fits, fits_as, renamed, rename_one, rename_from, rename_up_to, rename, item_at, fetch_one, fetch_from, fetch_up_to, fetch, then_does, nothing}
-use Rattle.window_model.proofs.Walks.{rename_keep}
+use Rattle.window_model.specs.Front.{at_once, fits, fits_as, renamed, rename_one, rename_up_to, rename, item_at, fetch_one, fetch_up_to, fetch}
+use Rattle.window_model.proofs.Walks.{rename_keep, by_renamed, by_fetched}
 
 -- time, miss registers and divider stay, and entries only come behind the others
 pub record Appends (x y : Machine) : Type 0 where
@@ -45,16 +45,9 @@ module _ (d : Desc) where
 
   -- any number of items, as few as come behind a first one
   renamed_up_to : (n : ℕ) (x : Machine) → Appends x (rename_up_to d n x).machine
-  renamed_up_to zero x = appends_same x
-  renamed_up_to (suc n) x = by_front x.queue (renamed_up_to n)
-    where
-      by_fit : (b : Bool) (i : Item) (rest : List Item) → ((y : Machine) → Appends y (rename_up_to d n y).machine) → Appends x (if b then then_does (rename_one i rest x) (rename_up_to d n) else nothing x).machine
-      by_fit true i rest more = let y = (rename_one i rest x).machine in appends_then x y (rename_up_to d n y).machine (one_renamed i rest x) (more y)
-      by_fit false i rest more = appends_same x
-
-      by_front : (q : List Item) → ((y : Machine) → Appends y (rename_up_to d n y).machine) → Appends x (rename_from d q x (rename_up_to d n)).machine
-      by_front [] more = appends_same x
-      by_front (i ∷ rest) more = by_fit (fits d x.window i) i rest more
+  renamed_up_to =
+      by_renamed d (λ n x a. Appends x a.machine) (λ n x. appends_same x)
+      (λ n x i rest q f more. let y = (rename_one i rest x).machine in appends_then x y (rename_up_to d n y).machine (one_renamed i rest x) more)
 
   pub rename_appends : (x : Machine) → Appends x (rename d x).machine
   unfolding rename
@@ -124,16 +117,9 @@ module _ (d : Desc) (code : Code) where
 
   -- any number of items, as few as come behind a first one
   fetched_up_to : (n : ℕ) (x : Machine) → Fetches x (fetch_up_to d code n x).machine
-  fetched_up_to zero x = fetches_same x
-  fetched_up_to (suc n) x = by_pc x.fetch_pc (fetched_up_to n)
-    where
-      by_room : (b : Bool) (i : Item) → ((y : Machine) → Fetches y (fetch_up_to d code n y).machine) → Fetches x (if b then then_does (fetch_one i x) (fetch_up_to d code n) else nothing x).machine
-      by_room true i more = let y = (fetch_one i x).machine in fetches_then x y (fetch_up_to d code n y).machine (one_fetched i x) (more y)
-      by_room false i more = fetches_same x
-
-      by_pc : (o : Option ℕ) → ((y : Machine) → Fetches y (fetch_up_to d code n y).machine) → Fetches x (fetch_from d code o x (fetch_up_to d code n)).machine
-      by_pc None more = fetches_same x
-      by_pc (Some pc) more = by_room (nat_lt (length x.queue) d.core_queue) (item_at d code x pc) more
+  fetched_up_to =
+      by_fetched d code (λ n x a. Fetches x a.machine) (λ n x. fetches_same x)
+      (λ n x pc q r more. let i = item_at d code x pc in let y = (fetch_one i x).machine in fetches_then x y (fetch_up_to d code n y).machine (one_fetched i x) more)
 
   pub fetch_fetches : (x : Machine) → Fetches x (fetch d code x).machine
   unfolding fetch

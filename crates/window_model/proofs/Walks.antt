@@ -82,7 +82,7 @@ module _ (d : Desc) (Q : ℕ → Machine → After → Type 0)
       by_fit true f = renames n x i rest q f (m (rename_one i rest x).machine)
       by_fit false f = stops (suc n) x
 
-  by_renamed : (n : ℕ) (x : Machine) → Q n x (rename_up_to d n x)
+  pub by_renamed : (n : ℕ) (x : Machine) → Q n x (rename_up_to d n x)
   by_renamed zero x = stops zero x
   by_renamed (suc n) x = by_front n x.queue x refl (by_renamed n)
 
@@ -103,7 +103,7 @@ module _ (d : Desc) (code : Code) (Q : ℕ → Machine → After → Type 0)
       by_room true r = fetches n x pc q r (m (fetch_one (item_at d code x pc) x).machine)
       by_room false r = stops (suc n) x
 
-  by_fetched : (n : ℕ) (x : Machine) → Q n x (fetch_up_to d code n x)
+  pub by_fetched : (n : ℕ) (x : Machine) → Q n x (fetch_up_to d code n x)
   by_fetched zero x = stops zero x
   by_fetched (suc n) x = by_pc n x.fetch_pc x refl (by_fetched n)
 

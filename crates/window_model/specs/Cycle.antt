@@ -1,6 +1,7 @@
 -- One cycle, and whole runs (docs/machine.md, "A cycle", "Runs").
 use Rattle.std.specs.Prelude.{ℕ, zero, suc, ◌+◌, List, [], ◌∷◌, ◌++◌, Option}
 use Rattle.rv_types.specs.Memory.{Code, Ram}
+use Rattle.rv_types.specs.Isa.{with_piece}
 use Rattle.rv_types.specs.declared.End.{End}
 use Rattle.machine_desc.specs.declared.Desc.{Desc}
 use Rattle.window_model.specs.State.{Machine, After, opening}
@@ -42,6 +43,11 @@ after_cycles d code (suc k) x = unless_ended x.end x (after_cycles d code k (cyc
 abbrev pub rows : Desc → Code → ℕ → Machine → List Row
 rows d code zero x = []
 rows d code (suc n) x = unless_ended x.end [] (let c = cycle d code x in c.row ∷ rows d code n c.machine)
+
+-- the pieces of output of at most n cycles, in turn, but for the empty ones
+abbrev pub pieces : Desc → Code → ℕ → Machine → List (List ℕ)
+pieces d code zero x = []
+pieces d code (suc n) x = unless_ended x.end [] (let c = cycle d code x in with_piece c.piece (pieces d code n c.machine))
 
 -- the rows, and how it ended
 pub record Trace : Type 0 where

@@ -4,6 +4,7 @@ ghost use Rattle.rv_types.specs.Memory.{Code};
 ghost use Rattle.machine_desc.specs.declared.Desc.{Desc};
 ghost use Rattle.window_model.specs.State.{Machine};
 ghost use Rattle.window_model.specs.Cycle.{Cycled, cycle};
+ghost use Rattle.window_model.specs.Committed.{Commits};
 
 use crate::Row;
 use byte_ram::Ram;
@@ -22,11 +23,12 @@ pub trait Clocked {
     ghost machine: { Self → Machine };
 
     /// One cycle. Row and piece are cleared first; then the row has the cycle's number and its events, and the piece the
-    /// bytes that it put out.
+    /// bytes that it put out. What retires are steps of the instruction set (`docs/theorems.md`, "Committed state").
     fn cycle(&mut self, row: &mut Row, piece: &mut Piece)
         requires running { (machine self.old).end ≡ None }
         requires few { (machine self.old).cycle < 2 ^ 32 - 1 }
         ensures cycled { record { machine = machine self.new; row = row.new; piece = piece.new } ≡ cycle (desc self.old) (code self.old) (machine self.old) }
+        ensures commits { Commits (code self.old) (machine self.old) (machine self.new) piece.new }
         ensures desc { desc self.new ≡ desc self.old }
         ensures code { code self.new ≡ code self.old }
         ensures events { length row.new.events ≤ 99 };

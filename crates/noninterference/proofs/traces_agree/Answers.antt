@@ -1,5 +1,5 @@
-use Rattle.noninterference.proofs.Runs.{noninterference}
+use Rattle.noninterference.proofs.Runs.{same_trace}
 use Rattle.noninterference.proofs.traces_agree.Goals as goal
 
 pub returns : goal.returns
-returns c = record { noninterference = noninterference }
+returns c = record { noninterference = same_trace }
