@@ -9,14 +9,14 @@ use Rattle.machine_desc.specs.declared.Desc.{Desc}
 use Rattle.window_model.specs.State.{Machine}
 use Rattle.window_model.specs.Row.{Row}
 use Rattle.window_model.specs.Retire.{unless_ended}
-use Rattle.window_model.specs.Cycle.{Cycled, cycle, rows, after_cycles}
+use Rattle.window_model.specs.Cycle.{Cycled, cycle, rows, pieces, after_cycles}
 use Rattle.report_text.specs.Report.{piece_text, piece_lines}
 use Rattle.report_text.proofs.Pieces.{piece_lines_more, piece_lines_none}
 use Rattle.trace_text.specs.TraceText.{row_text, rows_text}
 use Rattle.trace_text.proofs.Growing.{rows_text_more, rows_text_none}
 use Rattle.tool_io.specs.Outside.{Told, Wrote, WrotePart}
 use Rattle.tool_io.proofs.Writing.{WroteUpTo, up_to_start, up_to_more, up_to_part, up_to_end}
-use Rattle.stt_cli.specs.Clocking.{pieces, CameTo}
+use Rattle.stt_cli.specs.Clocking.{CameTo}
 use Rattle.machine_facts.proofs.FewEvents.{cycle_number}
 
 -- ---- One cycle

@@ -5,3 +5,4 @@ pub mod CoreTexts
 pub mod Told
 pub mod Outcomes
 pub mod Statuses
+pub mod Promised

@@ -21,8 +21,8 @@ use Rattle.stt_cli.specs.declared.outcome.Refusal.TheVariants.{Words, ReadDescri
 use Rattle.stt_cli.specs.Outcome.{ended_of}
 use Rattle.stt_cli.specs.Input.{InputRefused, NamedRefused, IsInput, LoadRefused, base_of, size_of}
 use Rattle.stt_cli.specs.Clocking.{trace_from, run_from, report_from}
-use Rattle.stt_cli.specs.Running.{Begins, Starts, run_of, opening_of, isa_work, run_work, trace_work}
-use Rattle.stt_cli.specs.Top.{image_name, description_name, work_of, Runs, Performs, Ends}
+use Rattle.stt_cli.specs.Running.{Begins, Starts, Reports, run_of, opening_of, isa_work, run_work, trace_work}
+use Rattle.stt_cli.specs.Top.{image_from, description_name, work_of, Runs, Performs, Ends}
 
 -- ---- Refusals
 
@@ -40,7 +40,7 @@ not_write None old new h = h
 not_write (Some name) old new h = h
 
 -- the description or the image isn't read
-pub input_refused : (command : CommandText) (old new : Shelf) (out : Told) (e : Refusal) → InputRefused (image_name command) (description_name command) old new e
+pub input_refused : (command : CommandText) (old new : Shelf) (out : Told) (e : Refusal) → InputRefused (image_from command) (description_name command) old new e
     → Performs command old new out out (Err e)
 input_refused command old new out Write h = absurd (not_write (description_name command) old new h)
 input_refused command old new out (Image fault) h = absurd (not_image (description_name command) old new fault h)
@@ -54,7 +54,7 @@ input_refused command old new out Memory h = (h, refl)
 
 -- the file is no image, or there was no memory to load it
 pub load_refused : (command : CommandText) (old new : Shelf) (out : Told) (desc : Option Desc) (file : List ℕ) (e : Refusal)
-    → IsInput old new (image_name command) (description_name command) desc file → LoadRefused file (base_of desc) (size_of desc) e → Performs command old new out out (Err e)
+    → IsInput old new (image_from command) (description_name command) desc file → LoadRefused file (base_of desc) (size_of desc) e → Performs command old new out out (Err e)
 load_refused command old new out desc file (Image fault) i h = (record { desc = desc; file = file; input = i; refused = h }, refl)
 load_refused command old new out desc file Memory i h = (i.counts, refl)
 load_refused command old new out desc file _ i h = absurd h
@@ -77,7 +77,7 @@ asked words old new out out' command (Err Memory) c p = p
 
 -- a command has this description, and its image was loaded
 pub runs : (command : CommandText) (old new : Shelf) (desc : Option Desc) (file read : List ℕ) (image : ImageText)
-    → IsInput old new (image_name command) (description_name command) desc file → read ≡ file → image_of read (base_of desc) (size_of desc) ≡ Ok image
+    → IsInput old new (image_from command) (description_name command) desc file → read ≡ file → image_of read (base_of desc) (size_of desc) ≡ Ok image
     → Runs command old new desc image
 runs command old new desc file read image i e l =
     record { file = file; input = i; loads = ap (λ x. image_of x (base_of desc) (size_of desc)) (sym e) ∙ l }
@@ -92,6 +92,22 @@ pub performed_part : (command : CommandText) (old new : Shelf) (out out' : Told)
     → Runs command old new desc image → text ≡ (work_of command desc image).text → WrotePart text out out' → Performs command old new out out' (Err Write)
 performed_part command old new out out' desc image text r t w =
     let P : List ℕ → Type 0 = λ x. WrotePart x out out' in (desc, image, r, subst P t w)
+
+-- a command whose work is the machine's report is performed by that
+pub reported : (command : CommandText) (old new : Shelf) (out out' : Told) (d : Desc) (file : List ℕ) (n : ℕ) (r : Result Ended Refusal)
+    → IsInput old new (image_from command) (description_name command) (Some d) file → ((image : ImageText) → work_of command (Some d) image ≡ run_work d image n)
+    → Reports d file n out out' r → Performs command old new out out' r
+reported command old new out out' d file n (Ok ended) i w p =
+    (Some d, p.0, record { file = file; input = i; loads = p.1 }, rw (w p.0) p.2, rw (w p.0) p.3)
+reported command old new out out' d file n (Err Write) i w p = (Some d, p.0, record { file = file; input = i; loads = p.1 }, rw (w p.0) p.2)
+reported command old new out out' d file n (Err Words) i w p = absurd p.0
+reported command old new out out' d file n (Err ReadDescription) i w p = absurd p.0
+reported command old new out out' d file n (Err DescriptionTooLong) i w p = absurd p.0
+reported command old new out out' d file n (Err (Description fault)) i w p = absurd p.0
+reported command old new out out' d file n (Err ReadImage) i w p = absurd p.0
+reported command old new out out' d file n (Err ImageTooLong) i w p = absurd p.0
+reported command old new out out' d file n (Err (Image fault)) i w p = (record { desc = Some d; file = file; input = i; refused = p.0 }, p.1)
+reported command old new out out' d file n (Err Memory) i w p = (i.counts, p.1)
 
 -- the run of the state in which an image begins
 pub isa_text_is : (image : ImageText) (state : IsaState) (before : Ram) (n : ℕ) → Begins image state before
@@ -121,6 +137,21 @@ trace_text_is image desc d code x n s = at_start (λ k c y. trace_text (trace_fr
 
 pub trace_end_is : (image : ImageText) (desc d : Desc) (code : Code) (x : Machine) (n : ℕ) → Starts image desc d code x → (trace_from d code n x).end ≡ (trace_work desc image n).ended
 trace_end_is image desc d code x n s = at_start (λ k c y. (trace_from k c n y).end) image desc d code x s
+
+-- what is written of the run of a core that starts with an image is the machine's report
+pub reports : (d c : Desc) (file read : List ℕ) (n : ℕ) (image : ImageText) (code : Code) (x : Machine) (before : Ram) (old new : Told) (ended : Ended)
+    → read ≡ file → image_of read (base_of (Some d)) (size_of (Some d)) ≡ Ok image → Starts image d c code x → before ≡ image.ram
+    → Wrote (report_from before c code n x) old new × (ended ≡ ended_of (run_from c code n x).ended) → Reports d file n old new (Ok ended)
+reports d c file read n image code x before old new ended e l s b w =
+    let P : List ℕ → Type 0 = λ t. Wrote t old new in
+    (image, ap (λ r. image_of r (base_of (Some d)) (size_of (Some d))) (sym e) ∙ l, subst P (run_text_is image d c code x before n s b) w.0, w.1 ∙ ap ended_of (run_end_is image d c code x n s))
+
+pub reports_part : (d c : Desc) (file read : List ℕ) (n : ℕ) (image : ImageText) (code : Code) (x : Machine) (before : Ram) (old new : Told)
+    → read ≡ file → image_of read (base_of (Some d)) (size_of (Some d)) ≡ Ok image → Starts image d c code x → before ≡ image.ram
+    → WrotePart (report_from before c code n x) old new → Reports d file n old new (Err Write)
+reports_part d c file read n image code x before old new e l s b w =
+    let P : List ℕ → Type 0 = λ t. WrotePart t old new in
+    (image, ap (λ r. image_of r (base_of (Some d)) (size_of (Some d))) (sym e) ∙ l, subst P (run_text_is image d c code x before n s b) w)
 
 -- ---- What a core's run asks for
 

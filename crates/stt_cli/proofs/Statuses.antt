@@ -13,8 +13,8 @@ use Rattle.stt_cli.specs.declared.outcome.Ended.TheVariants.{Exit, Trap, Budget}
 use Rattle.stt_cli.specs.declared.outcome.Refusal.{Refusal}
 use Rattle.stt_cli.specs.declared.outcome.Refusal.TheVariants.{Words, ReadDescription, DescriptionTooLong, Description, ReadImage, ImageTooLong, Image, Write, Memory}
 use Rattle.stt_cli.specs.Outcome.{ended_of, status_of}
-use Rattle.stt_cli.specs.Input.{MayHold, MayBeLonger, HasDesc, DescriptionRefused, NamedRefused, IsInput, base_of, size_of}
-use Rattle.stt_cli.specs.Top.{Asks, Runs, NoImage, Performs, Ends, Statuses, image_name, description_name, work_of, IsFaultyDescription, IsFaultyImage, TellsDesc, CountRose, IsNamed}
+use Rattle.stt_cli.specs.Input.{ImageFrom, from_file, from_seed, HasBytes, MayHold, MayBeLonger, HasDesc, DescriptionRefused, NamedRefused, ImageRefused, FileRefused, IsInput, base_of, size_of}
+use Rattle.stt_cli.specs.Top.{Asks, Runs, NoImage, Performs, Ends, Statuses, image_from, description_name, work_of, IsFaultyDescription, IsTooLong, IsFaultyImage, TellsDesc, TellsBytes, CountRose, IsNamed, IsFile}
 use Rattle.stt_cli.proofs.Told.{told_bytes, told_longer, told_desc, not_both}
 
 -- words that are a command aren't none
@@ -119,9 +119,14 @@ four words old new out out' (Err Memory) e h = absurd (omega arith)
 
 -- ---- 5
 
+-- an image that isn't read is that of a file
+filed : (image : ImageFrom) (old new : Shelf) (e : Refusal) → FileRefused image old new e → (name : List ℕ) × IsFile image name × ImageRefused name old new e
+filed (from_file name) old new e h = (name, refl, h)
+filed (from_seed seed blocks) old new e h = absurd h
+
 five : (words : List (List ℕ)) (old new : Shelf) (out out' : Told) (r : Result Ended Refusal) → Ends words old new out out' r → status_of r ≡ 5 → Asks words (λ command. (desc : Option Desc) × HasDesc old (description_name command) desc
-    × (MayBeLonger old (image_name command) IMAGE_MAX
-    ⊎ ((file : List ℕ) × (fault : ElfFault) × MayHold old (image_name command) IMAGE_MAX file × (image_of file (base_of desc) (size_of desc) ≡ Err fault))))
+    × (((name : List ℕ) × IsFile (image_from command) name × MayBeLonger old name IMAGE_MAX)
+    ⊎ ((file : List ℕ) × (fault : ElfFault) × HasBytes old (image_from command) file × (image_of file (base_of desc) (size_of desc) ≡ Err fault))))
 five words old new out out' (Ok Exit) e h = absurd (omega arith)
 five words old new out out' (Ok Trap) e h = absurd (omega arith)
 five words old new out out' (Ok Budget) e h = absurd (omega arith)
@@ -130,7 +135,7 @@ five words old new out out' (Err ReadDescription) e h = absurd (omega arith)
 five words old new out out' (Err DescriptionTooLong) e h = absurd (omega arith)
 five words old new out out' (Err (Description f)) e h = absurd (omega arith)
 five words old new out out' (Err ReadImage) e h = absurd (omega arith)
-five words old new out out' (Err ImageTooLong) e h = let a = e.2.0 in (e.0, e.1, (a.0, a.1, inl a.2.0))
+five words old new out out' (Err ImageTooLong) e h = let a = e.2.0 in let n = filed (image_from e.0) old new ImageTooLong a.2 in (e.0, e.1, (a.0, a.1, inl (n.0, n.1, n.2.0)))
 five words old new out out' (Err (Image f)) e h = let a = e.2.0 in (e.0, e.1, (a.desc, a.input.described, inr (a.file, f, a.input.content, a.refused)))
 five words old new out out' (Err Write) e h = absurd (omega arith)
 five words old new out out' (Err Memory) e h = absurd (omega arith)
@@ -138,7 +143,7 @@ five words old new out out' (Err Memory) e h = absurd (omega arith)
 -- ---- 6
 
 six : (words : List (List ℕ)) (old new : Shelf) (out out' : Told) (r : Result Ended Refusal) → Ends words old new out out' r → status_of r ≡ 6 → Asks words (λ command. ((name : List ℕ) × IsNamed (description_name command) name × NameFailed name old new)
-    ⊎ ((desc : Option Desc) × HasDesc old (description_name command) desc × NameFailed (image_name command) old new))
+    ⊎ ((desc : Option Desc) × HasDesc old (description_name command) desc × (name : List ℕ) × IsFile (image_from command) name × NameFailed name old new))
 six words old new out out' (Ok Exit) e h = absurd (omega arith)
 six words old new out out' (Ok Trap) e h = absurd (omega arith)
 six words old new out out' (Ok Budget) e h = absurd (omega arith)
@@ -146,7 +151,7 @@ six words old new out out' (Err Words) e h = absurd (omega arith)
 six words old new out out' (Err ReadDescription) e h = (e.0, e.1, inl (named (description_name e.0) old new ReadDescription e.2.0))
 six words old new out out' (Err DescriptionTooLong) e h = absurd (omega arith)
 six words old new out out' (Err (Description f)) e h = absurd (omega arith)
-six words old new out out' (Err ReadImage) e h = (e.0, e.1, inr e.2.0)
+six words old new out out' (Err ReadImage) e h = let a = e.2.0 in let n = filed (image_from e.0) old new ReadImage a.2 in (e.0, e.1, inr (a.0, a.1, n.0, n.1, n.2))
 six words old new out out' (Err ImageTooLong) e h = absurd (omega arith)
 six words old new out out' (Err (Image f)) e h = absurd (omega arith)
 six words old new out out' (Err Write) e h = absurd (omega arith)
@@ -161,7 +166,7 @@ not_six words old new out out' (Err ReadDescription) e h = absurd (h refl)
 not_six words old new out out' (Err DescriptionTooLong) e h = (named (description_name e.0) old new DescriptionTooLong e.2.0).2.1
 not_six words old new out out' (Err (Description f)) e h = (named (description_name e.0) old new (Description f) e.2.0).2.3
 not_six words old new out out' (Err ReadImage) e h = absurd (h refl)
-not_six words old new out out' (Err ImageTooLong) e h = e.2.0.2.1
+not_six words old new out out' (Err ImageTooLong) e h = (filed (image_from e.0) old new ImageTooLong e.2.0.2).2.1
 not_six words old new out out' (Err (Image f)) e h = e.2.0.input.counts
 not_six words old new out out' (Err Write) e h = e.2.2.input.counts
 not_six words old new out out' (Err Memory) e h = e.0
@@ -260,16 +265,24 @@ not_refused shelf new (Some name) desc f t h =
     let e : t.0 ≡ h.0 = sym (told_bytes (shelf.content name) DESCRIPTION_MAX t.0 h.0 t.2 h.1).0 in
     not_both h.0 t.0 t.1 f e t.4 h.2
 
+-- the bytes that are told are those that a command had
+same_bytes : (shelf : Shelf) (image : ImageFrom) (file file' : List ℕ) → TellsBytes shelf image file → HasBytes shelf image file' → (file' ≡ file) × (IsTooLong image file → ⊥)
+same_bytes shelf (from_file name) file file' t h =
+    let b = told_bytes (shelf.content name) IMAGE_MAX file file' t h in
+    let short : length file ≤ IMAGE_MAX = b.1 in
+    (b.0, λ longer. omega (arith, short, longer))
+same_bytes shelf (from_seed seed blocks) file file' t h = (h ∙ sym t, λ longer. longer)
+
 -- the files tell what a command had
-record SameInput (desc : Option Desc) (file : List ℕ) (desc' : Option Desc) (file' : List ℕ) : Type 0 where
+record SameInput (image : ImageFrom) (desc : Option Desc) (file : List ℕ) (desc' : Option Desc) (file' : List ℕ) : Type 0 where
   desc_same : desc' ≡ desc
   file_same : file' ≡ file
-  short : length file ≤ IMAGE_MAX
+  short : IsTooLong image file → ⊥
 
-same_input : (old new : Shelf) (name : List ℕ) (d : Option (List ℕ)) (desc desc' : Option Desc) (file file' : List ℕ)
-    → TellsDesc old d desc → old.content name ≡ Some file → IsInput old new name d desc' file' → SameInput desc file desc' file'
-same_input old new name d desc desc' file file' m t i =
-    let b = told_bytes (old.content name) IMAGE_MAX file file' t i.content in
+same_input : (old new : Shelf) (image : ImageFrom) (d : Option (List ℕ)) (desc desc' : Option Desc) (file file' : List ℕ)
+    → TellsDesc old d desc → TellsBytes old image file → IsInput old new image d desc' file' → SameInput image desc file desc' file'
+same_input old new image d desc desc' file file' m t i =
+    let b = same_bytes old image file file' t i.content in
     record { desc_same = told_desc old d desc desc' m i.described; file_same = b.0; short = b.1 }
 
 -- an image of these bytes in this memory, by those that are told
@@ -278,32 +291,32 @@ image_is desc desc' file file' a c =
     ap (λ x. image_of x (base_of desc') (size_of desc')) c ∙ ap (λ (d : Option Desc). image_of file (base_of d) (size_of d)) a
 
 -- a run had no faulty image
-no_faulty : (file : List ℕ) (desc : Option Desc) (image : ImageText) → length file ≤ IMAGE_MAX → image_of file (base_of desc) (size_of desc) ≡ Ok image → IsFaultyImage file desc → ⊥
-no_faulty file desc image short i (inl longer) = omega (arith, short, longer)
-no_faulty file desc image short i (inr f) = let k = f.1 in cc
+no_faulty : (from : ImageFrom) (file : List ℕ) (desc : Option Desc) (image : ImageText) → (IsTooLong from file → ⊥) → image_of file (base_of desc) (size_of desc) ≡ Ok image
+    → IsFaultyImage from file desc → ⊥
+no_faulty from file desc image short i (inl longer) = short longer
+no_faulty from file desc image short i (inr f) = let k = f.1 in cc
 
 ran_faulty : (command : CommandText) (old new : Shelf) (had desc : Option Desc) (image : ImageText) (file : List ℕ) → Runs command old new had image
-    → TellsDesc old (description_name command) desc → old.content (image_name command) ≡ Some file → IsFaultyImage file desc → ⊥
+    → TellsDesc old (description_name command) desc → TellsBytes old (image_from command) file → IsFaultyImage (image_from command) file desc → ⊥
 ran_faulty command old new had desc image file r m t x =
-    let s = same_input old new (image_name command) (description_name command) desc had file r.file m t r.input in
-    no_faulty file desc image s.short (sym (image_is desc had file r.file s.desc_same s.file_same) ∙ r.loads) x
+    let s = same_input old new (image_from command) (description_name command) desc had file r.file m t r.input in
+    no_faulty (image_from command) file desc image s.short (sym (image_is desc had file r.file s.desc_same s.file_same) ∙ r.loads) x
 
--- the file that is told is an image
+-- the bytes that are told are an image
 no_fault : (command : CommandText) (old new : Shelf) (f : ElfFault) (desc : Option Desc) (file : List ℕ) (image : ImageText) → NoImage command old new f
-    → TellsDesc old (description_name command) desc → old.content (image_name command) ≡ Some file → image_of file (base_of desc) (size_of desc) ≡ Ok image → ⊥
+    → TellsDesc old (description_name command) desc → TellsBytes old (image_from command) file → image_of file (base_of desc) (size_of desc) ≡ Ok image → ⊥
 no_fault command old new f desc file image r m t i =
-    let s = same_input old new (image_name command) (description_name command) desc r.desc file r.file m t r.input in
+    let s = same_input old new (image_from command) (description_name command) desc r.desc file r.file m t r.input in
     let same : image_of file (base_of desc) (size_of desc) ≡ Err f = sym (image_is desc r.desc file r.file s.desc_same s.file_same) ∙ r.refused in
     cc
 
--- and is not longer than one may be
-short_image : (old : Shelf) (name file : List ℕ) → old.content name ≡ Some file → length file ≤ IMAGE_MAX → MayBeLonger old name IMAGE_MAX → ⊥
-short_image old name file t l h =
-    let longer : IMAGE_MAX < length file = told_longer (old.content name) IMAGE_MAX file t h in
-    omega (arith, l, longer)
+-- and are not more than one may have
+short_image : (old new : Shelf) (image : ImageFrom) (file : List ℕ) → TellsBytes old image file → (IsTooLong image file → ⊥) → FileRefused image old new ImageTooLong → ⊥
+short_image old new (from_file name) file t l h = l (told_longer (old.content name) IMAGE_MAX file t h.0)
+short_image old new (from_seed seed blocks) file t l h = h
 
 faulty_image : (words : List (List ℕ)) (old new : Shelf) (out out' : Told) (r : Result Ended Refusal) → Ends words old new out out' r → (command : CommandText) (desc : Option Desc) (file : List ℕ) → command_of words ≡ Some command
-    → TellsDesc old (description_name command) desc → old.content (image_name command) ≡ Some file → IsFaultyImage file desc → (status_of r ≡ 5) ⊎ ((status_of r ≡ 6) ⊎ (status_of r ≡ 8))
+    → TellsDesc old (description_name command) desc → TellsBytes old (image_from command) file → IsFaultyImage (image_from command) file desc → (status_of r ≡ 5) ⊎ ((status_of r ≡ 6) ⊎ (status_of r ≡ 8))
 faulty_image words old new out out' (Ok Exit) e command desc file k m t x = let p = performed_one words old new out out' (Ok Exit) command e k in absurd (ran_faulty command old new p.0 desc p.1 file p.2 m t x)
 faulty_image words old new out out' (Ok Trap) e command desc file k m t x = let p = performed_one words old new out out' (Ok Trap) command e k in absurd (ran_faulty command old new p.0 desc p.1 file p.2 m t x)
 faulty_image words old new out out' (Ok Budget) e command desc file k m t x = let p = performed_one words old new out out' (Ok Budget) command e k in absurd (ran_faulty command old new p.0 desc p.1 file p.2 m t x)
@@ -319,10 +332,10 @@ faulty_image words old new out out' (Err Memory) e command desc file k m t x = i
 
 -- a whole text is that of the image that is told
 done : (command : CommandText) (old new : Shelf) (out out' : Told) (ended : Ended) → Performs command old new out out' (Ok ended) → (desc : Option Desc) (file : List ℕ) (image : ImageText)
-    → TellsDesc old (description_name command) desc → old.content (image_name command) ≡ Some file → image_of file (base_of desc) (size_of desc) ≡ Ok image
+    → TellsDesc old (description_name command) desc → TellsBytes old (image_from command) file → image_of file (base_of desc) (size_of desc) ≡ Ok image
     → (status_of (Ok ended) ≡ status_of (Ok (ended_of (work_of command desc image).ended))) × Wrote (work_of command desc image).text out out'
 done command old new out out' ended p desc file image m t i =
-    let s = same_input old new (image_name command) (description_name command) desc p.0 file p.2.file m t p.2.input in
+    let s = same_input old new (image_from command) (description_name command) desc p.0 file p.2.file m t p.2.input in
     let same : image_of file (base_of desc) (size_of desc) ≡ Ok p.1 = sym (image_is desc p.0 file p.2.file s.desc_same s.file_same) ∙ p.2.loads in
     let one : p.1 ≡ image = cc in
     let P : Option Desc → ImageText → Type 0 = λ d x. (status_of (Ok ended) ≡ status_of (Ok (ended_of (work_of command d x).ended))) × Wrote (work_of command d x).text out out' in
@@ -330,8 +343,8 @@ done command old new out out' ended p desc file image m t i =
     subst (λ (d : Option Desc). P d image) s.desc_same (subst (λ (x : ImageText). P p.0 x) one here)
 
 complete : (words : List (List ℕ)) (old new : Shelf) (out out' : Told) (r : Result Ended Refusal) → Ends words old new out out' r → (command : CommandText) (desc : Option Desc) (file : List ℕ) (image : ImageText)
-    → command_of words ≡ Some command → TellsDesc old (description_name command) desc → old.content (image_name command) ≡ Some file → length file ≤ IMAGE_MAX
-    → image_of file (base_of desc) (size_of desc) ≡ Ok image → ((d : List ℕ) → IsNamed (description_name command) d → CountRose old new d → ⊥) → (CountRose old new (image_name command) → ⊥)
+    → command_of words ≡ Some command → TellsDesc old (description_name command) desc → TellsBytes old (image_from command) file → (IsTooLong (image_from command) file → ⊥)
+    → image_of file (base_of desc) (size_of desc) ≡ Ok image → ((d : List ℕ) → IsNamed (description_name command) d → CountRose old new d → ⊥) → ((i : List ℕ) → IsFile (image_from command) i → CountRose old new i → ⊥)
     → (Rose out.faults out'.faults → ⊥)
     → ((status_of r ≡ 8) × (out' ≡ out)) ⊎ ((status_of r ≡ status_of (Ok (ended_of (work_of command desc image).ended))) × Wrote (work_of command desc image).text out out')
 complete words old new out out' (Ok Exit) e command desc file image k m t l i nd ni nr = inr (done command old new out out' Exit (performed_one words old new out out' (Ok Exit) command e k) desc file image m t i)
@@ -341,8 +354,8 @@ complete words old new out out' (Err Words) e command desc file image k m t l i 
 complete words old new out out' (Err ReadDescription) e command desc file image k m t l i nd ni nr = let p = performed_one words old new out out' (Err ReadDescription) command e k in let n = named (description_name command) old new ReadDescription p.0 in absurd (nd n.0 n.1 n.2.rose)
 complete words old new out out' (Err DescriptionTooLong) e command desc file image k m t l i nd ni nr = let p = performed_one words old new out out' (Err DescriptionTooLong) command e k in absurd (not_longer old new (description_name command) desc m p.0)
 complete words old new out out' (Err (Description f)) e command desc file image k m t l i nd ni nr = let p = performed_one words old new out out' (Err (Description f)) command e k in absurd (not_refused old new (description_name command) desc f m p.0)
-complete words old new out out' (Err ReadImage) e command desc file image k m t l i nd ni nr = let p = performed_one words old new out out' (Err ReadImage) command e k in absurd (ni p.0.2.rose)
-complete words old new out out' (Err ImageTooLong) e command desc file image k m t l i nd ni nr = let p = performed_one words old new out out' (Err ImageTooLong) command e k in absurd (short_image old (image_name command) file t l p.0.2.0)
+complete words old new out out' (Err ReadImage) e command desc file image k m t l i nd ni nr = let p = performed_one words old new out out' (Err ReadImage) command e k in let n = filed (image_from command) old new ReadImage p.0.2 in absurd (ni n.0 n.1 n.2.rose)
+complete words old new out out' (Err ImageTooLong) e command desc file image k m t l i nd ni nr = let p = performed_one words old new out out' (Err ImageTooLong) command e k in absurd (short_image old new (image_from command) file t l p.0.2)
 complete words old new out out' (Err (Image f)) e command desc file image k m t l i nd ni nr = let p = performed_one words old new out out' (Err (Image f)) command e k in absurd (no_fault command old new f desc file image p.0 m t i)
 complete words old new out out' (Err Write) e command desc file image k m t l i nd ni nr = let p = performed_one words old new out out' (Err Write) command e k in absurd (nr p.3.rose)
 complete words old new out out' (Err Memory) e command desc file image k m t l i nd ni nr = inl (refl, e.1)

@@ -9,7 +9,7 @@ use Rattle.stt_cli.specs.declared.reading.TheConstants.{DESCRIPTION_MAX, IMAGE_M
 use Rattle.stt_cli.specs.declared.outcome.Refusal.{Refusal}
 use Rattle.stt_cli.specs.declared.outcome.Refusal.TheVariants.{ReadImage, ImageTooLong, Memory}
 use Rattle.machine_desc.proofs.SameDesc.{one_description}
-use Rattle.stt_cli.specs.Input.{HasDesc, ImageRefused, InputRefused}
+use Rattle.stt_cli.specs.Input.{HasDesc, ImageRefused, InputRefused, from_file}
 use Rattle.stt_cli.specs.Top.{TellsDesc}
 
 -- what was read is what is told
@@ -58,7 +58,7 @@ counts_after old mid new s t n = t n ∙ s n
 
 -- an image is refused after a description was read
 pub image_refused : (old mid new : Shelf) (image : List ℕ) (description : Option (List ℕ)) (desc : Option Desc) (e : Refusal) → HasDesc old description desc → SameCounts old mid
-    → SameContents old mid → ImageRefused image mid new e → InputRefused image description old new e
+    → SameContents old mid → ImageRefused image mid new e → InputRefused (from_file image) description old new e
 image_refused old mid new image description desc ReadImage d s c h = (desc, d, failed_after image old mid new s h)
 image_refused old mid new image description desc ImageTooLong d s c h =
     let P : Option (List ℕ) → Type 0 = λ o. GetsTold o IMAGE_MAX TooLong in

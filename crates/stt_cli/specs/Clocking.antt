@@ -1,22 +1,16 @@
 -- Runs of a core, cycle by cycle, and what they write.
-use Rattle.std.specs.Prelude.{◌≡◌, ℕ, zero, suc, List, [], Some, Option, Result, MatchResult}
+use Rattle.std.specs.Prelude.{◌≡◌, ℕ, List, Some, Result, MatchResult}
 use Rattle.rv_types.specs.Memory.{Code, Ram}
-use Rattle.rv_types.specs.Isa.{Run, with_piece}
-use Rattle.rv_types.specs.declared.End.{End}
+use Rattle.rv_types.specs.Isa.{Run}
 use Rattle.rv_types.specs.declared.Ending.{Ending}
 use Rattle.machine_desc.specs.declared.Desc.{Desc}
 use Rattle.window_model.specs.State.{Machine}
-use Rattle.window_model.specs.Retire.{hart_of, unless_ended}
-use Rattle.window_model.specs.Cycle.{Trace, cycle, rows, after_cycles}
+use Rattle.window_model.specs.Retire.{hart_of}
+use Rattle.window_model.specs.Cycle.{Trace, rows, pieces, after_cycles}
 use Rattle.report_text.specs.Report.{piece_lines, report_text}
 use Rattle.trace_text.specs.TraceText.{rows_text}
 use Rattle.tool_io.specs.Outside.{Told, Wrote, WrotePart}
 use Rattle.tool_io.specs.declared.Failed.{Failed}
-
--- the pieces of output of at most k cycles, in turn, but for the empty ones
-abbrev pub pieces : Desc → Code → ℕ → Machine → List (List ℕ)
-pieces d code zero x = []
-pieces d code (suc k) x = unless_ended x.end [] (with_piece (cycle d code x).piece (pieces d code k (cycle d code x).machine))
 
 -- a run of at most n cycles from a state, as a trace
 abbrev pub trace_from : Desc → Code → ℕ → Machine → Trace

@@ -5,6 +5,7 @@ use Rattle.elf_loader.specs.Code.{word_at}
 use Rattle.elf_loader.specs.declared.faults.ElfFault.{ElfFault}
 use Rattle.elf_loader.specs.declared.faults.ElfFault.TheVariants as elf
 use Rattle.elf_loader.specs.declared.loading.Image.{Image}
+use Rattle.gen_image.specs.Generated.{generated_image}
 use Rattle.machine_desc.specs.Description.{description_of, Describes}
 use Rattle.machine_desc.specs.declared.Desc.{Desc}
 use Rattle.tool_io.specs.declared.Got.TheVariants.{Bytes, TooLong}
@@ -19,6 +20,16 @@ use Rattle.stt_cli.specs.declared.outcome.Refusal.TheVariants.{ReadDescription, 
 -- these may be the bytes under a name, of which there are at most so many: all that is told of them is so
 abbrev pub MayHold : Shelf → List ℕ → ℕ → List ℕ → Type 0
 MayHold shelf name max bytes = GetsTold (shelf.content name) max (Bytes bytes)
+
+-- where an image comes from: the file of this name, or a seed and a number of blocks that generate it
+pub data ImageFrom : Type 0 where
+  from_file : List ℕ → ImageFrom
+  from_seed : ℕ → ℕ → ImageFrom
+
+-- these are an image's bytes: such as the file may hold, or those that are generated
+abbrev pub HasBytes : Shelf → ImageFrom → List ℕ → Type 0
+HasBytes shelf (from_file name) file = MayHold shelf name IMAGE_MAX file
+HasBytes shelf (from_seed seed blocks) file = file ≡ generated_image seed blocks
 
 -- there may be more bytes under a name
 abbrev pub MayBeLonger : Shelf → List ℕ → ℕ → Type 0
@@ -71,17 +82,22 @@ ImageRefused name old new ImageTooLong = MayBeLonger old name IMAGE_MAX × SameC
 ImageRefused name old new Memory = SameCounts old new
 ImageRefused name old new _ = ⊥
 
+-- why reading the image of a run is refused, if it is that of a file
+abbrev pub FileRefused : ImageFrom → Shelf → Shelf → Refusal → Type 0
+FileRefused (from_file name) old new refusal = ImageRefused name old new refusal
+FileRefused (from_seed seed blocks) old new refusal = ⊥
+
 -- why reading the description, if one is named, or then the image is refused
-abbrev pub InputRefused : List ℕ → Option (List ℕ) → Shelf → Shelf → Refusal → Type 0
-InputRefused image description old new ReadImage = (desc : Option Desc) × HasDesc old description desc × ImageRefused image old new ReadImage
-InputRefused image description old new ImageTooLong = (desc : Option Desc) × HasDesc old description desc × ImageRefused image old new ImageTooLong
+abbrev pub InputRefused : ImageFrom → Option (List ℕ) → Shelf → Shelf → Refusal → Type 0
+InputRefused image description old new ReadImage = (desc : Option Desc) × HasDesc old description desc × FileRefused image old new ReadImage
+InputRefused image description old new ImageTooLong = (desc : Option Desc) × HasDesc old description desc × FileRefused image old new ImageTooLong
 InputRefused image description old new Memory = SameCounts old new
 InputRefused image description old new refusal = NamedRefused description old new refusal
 
--- a run has this description and the image in this file, and no count of the files rose
-pub record IsInput (old new : Shelf) (image : List ℕ) (description : Option (List ℕ)) (desc : Option Desc) (file : List ℕ) : Type 0 where
+-- a run has this description and the image of these bytes, and no count of the files rose
+pub record IsInput (old new : Shelf) (image : ImageFrom) (description : Option (List ℕ)) (desc : Option Desc) (file : List ℕ) : Type 0 where
   pub described : HasDesc old description desc
-  pub content : MayHold old image IMAGE_MAX file
+  pub content : HasBytes old image file
   pub counts : SameCounts old new
 
 -- an image in memory, as definitions see it

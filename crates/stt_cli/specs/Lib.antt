@@ -4,3 +4,4 @@ pub mod Input
 pub mod Clocking
 pub mod Running
 pub mod Top
+pub mod Promises

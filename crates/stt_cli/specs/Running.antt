@@ -1,10 +1,10 @@
 -- What the commands come to: the runs that they ask for, and the texts that these write.
-use Rattle.std.specs.Prelude.{◌≡◌, ℕ, List, Option, Some, None, Result, MatchResult}
+use Rattle.std.specs.Prelude.{◌≡◌, ℕ, List, Option, Some, None, Result, Ok, Err, MatchResult}
 use Rattle.rv_types.specs.Isa.{Hart, Run, isa, start}
 use Rattle.rv_types.specs.Memory.{Code, Ram}
 use Rattle.rv_types.specs.declared.End.{End}
 use Rattle.elf_loader.specs.Code.{word_at}
-use Rattle.elf_loader.specs.Image.{ImageText}
+use Rattle.elf_loader.specs.Image.{ImageText, image_of}
 use Rattle.isa_step.specs.State.{IsaState}
 use Rattle.machine_desc.specs.declared.Desc.{Desc}
 use Rattle.window_model.specs.State.{Machine, opening}
@@ -14,7 +14,10 @@ use Rattle.trace_text.specs.TraceText.{trace_text}
 use Rattle.tool_io.specs.Outside.{Told, Wrote, WrotePart}
 use Rattle.tool_io.specs.declared.Failed.{Failed}
 use Rattle.stt_cli.specs.declared.outcome.Ended.{Ended}
+use Rattle.stt_cli.specs.declared.outcome.Refusal.{Refusal}
+use Rattle.stt_cli.specs.declared.outcome.Refusal.TheVariants.{Write}
 use Rattle.stt_cli.specs.Outcome.{ended_of}
+use Rattle.stt_cli.specs.Input.{LoadRefused, base_of, size_of}
 use Rattle.stt_cli.specs.Clocking.{run_from, report_from}
 
 -- the text that a command writes, and how its run ends
@@ -74,3 +77,11 @@ pub record RanAs (run : Run) (hart : Hart) (taken : ℕ) (ended : Option End) (o
 abbrev pub Tells : List ℕ → Option End → Told → Told → Result Ended Failed → Type 0
 Tells text end old new result =
     MatchResult result (λ ended. Wrote text old new × (ended ≡ ended_of end)) (λ _. WrotePart text old new)
+
+-- how the machine's run of a file ends: with its whole report, with a part of it, or with nothing where there is no image
+abbrev pub Reports : Desc → List ℕ → ℕ → Told → Told → Result Ended Refusal → Type 0
+Reports d file n old new (Ok ended) =
+    (image : ImageText) × (image_of file (base_of (Some d)) (size_of (Some d)) ≡ Ok image) × Wrote (run_work d image n).text old new × (ended ≡ ended_of (run_work d image n).ended)
+Reports d file n old new (Err Write) =
+    (image : ImageText) × (image_of file (base_of (Some d)) (size_of (Some d)) ≡ Ok image) × WrotePart (run_work d image n).text old new
+Reports d file n old new (Err refusal) = LoadRefused file (base_of (Some d)) (size_of (Some d)) refusal × (new ≡ old)

@@ -3,14 +3,16 @@ ghost use Rattle.std.specs.Prelude.{◌≡◌, Option, Some, Result, MatchResult
 ghost use Rattle.std.specs.Option.{option_map};
 ghost use Rattle.machine_desc.specs.Description.{Describes};
 ghost use Rattle.tool_io.specs.Outside.{SameContents, SameCounts};
-ghost use Rattle.stt_cli.specs.Input.{TextRefused, MayHold, HasDesc, DescriptionRefused, NamedRefused, ImageRefused, InputRefused, IsInput};
+ghost use Rattle.stt_cli.specs.Input.{TextRefused, MayHold, HasDesc, DescriptionRefused, NamedRefused, ImageRefused, InputRefused, IsInput, from_file, from_seed};
 ghost use Rattle.stt_cli.specs.declared.reading.TheConstants.{IMAGE_MAX};
 
 use crate::outcome::Refusal;
 use crate::reading::{DESCRIPTION_MAX, IMAGE_MAX, Unread, read_file};
+use gen_image::generate;
 use machine_desc::{Desc, DescFault, read_desc};
 use std::alloc::Global;
 use tool_io::{Content, Files};
+use tool_words::Blocks;
 
 /// What the instruction set's run needs: a description, if one is named, and the bytes of its image.
 #[derive(Drop)]
@@ -99,8 +101,8 @@ pub fn read_input<F: Files>(
     files: &mut F,
 ) -> Result<Input, Refusal>
     ensures answer { MatchResult result
-        (λ i. IsInput (F.shelf files.old) (F.shelf files.new) image.now (option_map (λ t. t.now) description.entry) i.desc i.file)
-        (λ e. InputRefused image.now (option_map (λ t. t.now) description.entry) (F.shelf files.old) (F.shelf files.new) e) }
+        (λ i. IsInput (F.shelf files.old) (F.shelf files.new) (from_file image.now) (option_map (λ t. t.now) description.entry) i.desc i.file)
+        (λ e. InputRefused (from_file image.now) (option_map (λ t. t.now) description.entry) (F.shelf files.old) (F.shelf files.new) e) }
     ensures stays { SameContents (F.shelf files.old) (F.shelf files.new) }
 {
     let desc = match read_named(alloc, description, files) {
@@ -121,8 +123,8 @@ pub fn read_core_input<F: Files>(
     files: &mut F,
 ) -> Result<CoreInput, Refusal>
     ensures answer { MatchResult result
-        (λ i. IsInput (F.shelf files.old) (F.shelf files.new) image.now (Some description.now) (Some i.desc) i.file)
-        (λ e. InputRefused image.now (Some description.now) (F.shelf files.old) (F.shelf files.new) e) }
+        (λ i. IsInput (F.shelf files.old) (F.shelf files.new) (from_file image.now) (Some description.now) (Some i.desc) i.file)
+        (λ e. InputRefused (from_file image.now) (Some description.now) (F.shelf files.old) (F.shelf files.new) e) }
     ensures stays { SameContents (F.shelf files.old) (F.shelf files.new) }
 {
     let desc = match read_description(alloc, description, files) {
@@ -132,5 +134,31 @@ pub fn read_core_input<F: Files>(
     match read_image(alloc, image, files) {
         Ok(file) => Ok(CoreInput { desc, file }),
         Err(refusal) => Err(refusal),
+    }
+}
+
+/// Reads the description of the machine's run on a generated image, and then generates that image.
+pub fn generate_core_input<F: Files>(
+    alloc: Global,
+    description: &str,
+    seed: u64,
+    blocks: Blocks,
+    files: &mut F,
+) -> Result<CoreInput, Refusal>
+    ensures answer { MatchResult result
+        (λ i. IsInput (F.shelf files.old) (F.shelf files.new) (from_seed seed blocks.count) (Some description.now) (Some i.desc) i.file)
+        (λ e. InputRefused (from_seed seed blocks.count) (Some description.now) (F.shelf files.old) (F.shelf files.new) e) }
+    ensures stays { SameContents (F.shelf files.old) (F.shelf files.new) }
+{
+    let desc = match read_description(alloc, description, files) {
+        Ok(desc) => desc,
+        Err(refusal) => return Err(refusal),
+    };
+    match generate(alloc, seed, blocks.count) {
+        Ok(file) => Ok(CoreInput {
+            desc,
+            file: Content::new(file),
+        }),
+        Err(_) => Err(Refusal::Memory),
     }
 }

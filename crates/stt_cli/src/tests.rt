@@ -5,6 +5,7 @@ use std::alloc::Global;
 use std::test::Fail;
 use tool_io::{Content, MemFail, MemFile, MemFiles, MemSink};
 
+mod bench;
 mod cores;
 mod images;
 mod machine;

@@ -4,20 +4,22 @@
 ghost use Rattle.std.specs.Prelude.{◌≡◌, map, Option, Result};
 ghost use Rattle.std.specs.Option.{option_map};
 ghost use Rattle.tool_io.specs.Outside.{SameContents};
-ghost use Rattle.tool_words.specs.Words.{isa_text, run_text, trace_text};
+ghost use Rattle.tool_words.specs.Words.{isa_text, run_text, trace_text, bench_text};
 ghost use Rattle.stt_cli.specs.Outcome.{status_of};
 ghost use Rattle.stt_cli.specs.Note.{Notes};
+ghost use Rattle.stt_cli.specs.Running.{Reports};
 ghost use Rattle.stt_cli.specs.Top.{Performs, Ends, Statuses};
+ghost use Rattle.stt_cli.specs.Promises.{Promises, TracesAgree};
 
 use crate::building::Built;
-use crate::input::{read_core_input, read_input};
+use crate::input::{CoreInput, generate_core_input, read_core_input, read_input};
 use crate::loading::{load_image, machine_of};
 use crate::note::note_line;
 use crate::outcome::{Ended, Refusal, status_of};
 use crate::{clocking, running};
 use std::alloc::Global;
 use tool_io::{Files, Sink};
-use tool_words::{Command, Refused, read_words};
+use tool_words::{Blocks, Command, Refused, read_words};
 
 // `isa`: the instruction set's run.
 fn isa<F: Files, O: Sink>(
@@ -45,22 +47,15 @@ fn isa<F: Files, O: Sink>(
     }
 }
 
-// `run`: the machine's run, as a report.
-fn run<C: Built + Drop, F: Files, O: Sink>(
+// The machine's run of an image, as a report.
+fn report<C: Built + Drop, O: Sink>(
     alloc: Global,
-    description: &str,
-    image: &str,
+    input: &CoreInput,
     cycles: u32,
-    files: &mut F,
     out: &mut O,
 ) -> Result<Ended, Refusal>
-    ensures performs { Performs (run_text description.now image.now cycles) (F.shelf files.old) (F.shelf files.new) (O.told out.old) (O.told out.new) result }
-    ensures stays { SameContents (F.shelf files.old) (F.shelf files.new) }
+    ensures { Reports input.now.desc input.now.file cycles (O.told out.old) (O.told out.new) result }
 {
-    let input = match read_core_input(alloc, image, description, files) {
-        Ok(input) => input,
-        Err(refusal) => return Err(refusal),
-    };
     let image = match load_image(alloc, input.file.as_slice(), Some(input.desc)) {
         Ok(image) => image,
         Err(refusal) => return Err(refusal),
@@ -79,7 +74,46 @@ fn run<C: Built + Drop, F: Files, O: Sink>(
     }
 }
 
-// `trace`: the same run, cycle by cycle.
+// `run`: the machine's run, as a report.
+fn run<C: Built + Drop, F: Files, O: Sink>(
+    alloc: Global,
+    description: &str,
+    image: &str,
+    cycles: u32,
+    files: &mut F,
+    out: &mut O,
+) -> Result<Ended, Refusal>
+    ensures performs { Performs (run_text description.now image.now cycles) (F.shelf files.old) (F.shelf files.new) (O.told out.old) (O.told out.new) result }
+    ensures stays { SameContents (F.shelf files.old) (F.shelf files.new) }
+{
+    let input = match read_core_input(alloc, image, description, files) {
+        Ok(input) => input,
+        Err(refusal) => return Err(refusal),
+    };
+    report::<C, O>(alloc, &input, cycles, out)
+}
+
+// `bench`: the same run, of an image that is generated.
+fn bench<C: Built + Drop, F: Files, O: Sink>(
+    alloc: Global,
+    description: &str,
+    seed: u64,
+    blocks: Blocks,
+    cycles: u32,
+    files: &mut F,
+    out: &mut O,
+) -> Result<Ended, Refusal>
+    ensures performs { Performs (bench_text description.now seed blocks.count cycles) (F.shelf files.old) (F.shelf files.new) (O.told out.old) (O.told out.new) result }
+    ensures stays { SameContents (F.shelf files.old) (F.shelf files.new) }
+{
+    let input = match generate_core_input(alloc, description, seed, blocks, files) {
+        Ok(input) => input,
+        Err(refusal) => return Err(refusal),
+    };
+    report::<C, O>(alloc, &input, cycles, out)
+}
+
+// `trace`: the run of `run`, cycle by cycle.
 fn trace<C: Built + Drop, F: Files, O: Sink>(
     alloc: Global,
     description: &str,
@@ -140,11 +174,17 @@ fn answer<C: Built + Drop, F: Files, O: Sink>(
             image,
             cycles,
         } => trace::<C, F, O>(alloc, description, image, cycles, files, out),
+        Command::Bench {
+            description,
+            seed,
+            blocks,
+            cycles,
+        } => bench::<C, F, O>(alloc, description, seed, blocks, cycles, files, out),
     }
 }
 
-/// Does all that the program does, and answers its status; `run` and `trace` run the core `C`, which is the written machine
-/// whichever it is. `words` are those after the program's name. What is asked for is written to `out`, one put a line; a
+/// Does all that the program does, and answers its status; `run`, `trace` and `bench` run the core `C`, which is the written
+/// machine whichever it is. `words` are those after the program's name. What is asked for is written to `out`, one put a line; a
 /// refusal writes its line to `note`, whose failure changes no status.
 ///
 /// Statuses: 0 the run ended by an exit, 1 by a trap, 3 not within its budget; 2 the words are no command; 4 the
@@ -161,6 +201,7 @@ pub fn stt_top<C: Built + Drop, F: Files, O: Sink, N: Sink>(
         × Ends (map (λ w. w.now) words.now) (F.shelf files.old) (F.shelf files.new) (O.told out.old) (O.told out.new) outcome
         × Notes outcome (N.told note.old) (N.told note.new) }
     ensures statuses { Statuses (map (λ w. w.now) words.now) (F.shelf files.old) (F.shelf files.new) (O.told out.old) (O.told out.new) result }
+    ensures promises { Promises (map (λ w. w.now) words.now) (F.shelf files.old) (F.shelf files.new) (O.told out.old) (O.told out.new) result }
     ensures stays { SameContents (F.shelf files.old) (F.shelf files.new) }
 {
     let outcome = answer::<C, F, O>(alloc, words, files, out);
@@ -168,4 +209,12 @@ pub fn stt_top<C: Built + Drop, F: Files, O: Sink, N: Sink>(
         let _ = note.put(note_line(refusal).as_slice());
     }
     status_of(&outcome)
+}
+
+/// Two images with one entry and one code have one trace under a description, where their memories agree on each byte that the
+/// path loads in as many steps as the machine retires and the window may hold besides (`docs/theorems.md`,
+/// "Noninterference").
+pub fn traces_agree()
+    ensures { TracesAgree }
+{
 }

@@ -6,8 +6,9 @@ use Rattle.std.specs.Str.Parse.{digits_value, without_leading_plus}
 use Rattle.clap.specs.ValueTests.{accepts}
 use Rattle.clap.specs.declared.builder.value_parser.ValueParser.TheVariants as parser
 use Rattle.tool_words.specs.declared.Command.{Command}
-use Rattle.tool_words.specs.declared.Command.TheVariants.{Isa, Run, Trace}
+use Rattle.tool_words.specs.declared.Command.TheVariants.{Isa, Run, Trace, Bench}
 use Rattle.tool_words.specs.declared.TheConstants.{STEPS_MAX}
+use Rattle.tool_words.specs.declared.blocks.TheConstants.{BLOCKS_MAX}
 
 -- a required name at its place
 abbrev pub name_rule : Text → Rule
@@ -16,6 +17,10 @@ name_rule id = record (new_rule id) { required = true }
 -- a required option with a number in this range
 abbrev pub number_rule : Text → ℕ → ℕ → Rule
 number_rule id least most = record (new_rule id) { long = Some id; required = true; parser = Some (parser.Unsigned least most) }
+
+-- the number of cycles
+abbrev pub cycles_rule : Rule
+cycles_rule = number_rule (codes "cycles") 1 STEPS_MAX
 
 -- an option with a text, which may be left out
 abbrev pub text_rule : Text → Rule
@@ -31,7 +36,13 @@ isa_shape =
 abbrev pub cycles_shape : Text → Shape
 cycles_shape name =
     (with_rule (with_rule (with_rule (new_app name) (name_rule (codes "description"))) (name_rule (codes "image")))
-    (number_rule (codes "cycles") 1 STEPS_MAX)).top
+    cycles_rule).top
+
+-- bench D --seed S --blocks B --cycles N
+abbrev pub bench_shape : Shape
+bench_shape =
+    (with_rule (with_rule (with_rule (with_rule (new_app (codes "bench")) (name_rule (codes "description")))
+    (number_rule (codes "seed") 0 18446744073709551615)) (number_rule (codes "blocks") 1 BLOCKS_MAX)) cycles_rule).top
 
 -- no help, no version, and the words begin with the command
 abbrev pub bare_app : App
@@ -41,7 +52,7 @@ bare_app = let a = new_app (codes "stt") in record a {
 
 -- the tool's commands
 abbrev pub tool_app : App
-tool_app = with_subcommand (with_subcommand (with_subcommand bare_app isa_shape) (cycles_shape (codes "run"))) (cycles_shape (codes "trace"))
+tool_app = with_subcommand (with_subcommand (with_subcommand (with_subcommand bare_app isa_shape) (cycles_shape (codes "run"))) (cycles_shape (codes "trace"))) bench_shape
 
 -- the kinds of fault that clap finds in the words
 unfoldable pub faults : List Text → Kinds
@@ -52,34 +63,44 @@ unfoldable pub rows_in : List Text → Option (Text × List Row)
 rows_in ws = subcommand_of tool_app ws
 
 -- a command with its values, as contracts see it: for isa the image's name, the number of steps, and the description's
--- name, if one is given; for run and trace the description's name, the image's, and the number of cycles
+-- name, if one is given; for run and trace the description's name, the image's, and the number of cycles; for bench the
+-- description's name, the seed, the number of blocks, and that of cycles
 pub data CommandText : Type 0 where
   isa_text : Text → ℕ → Option Text → CommandText
   run_text : Text → Text → ℕ → CommandText
   trace_text : Text → Text → ℕ → CommandText
+  bench_text : Text → ℕ → ℕ → ℕ → CommandText
 
 abbrev pub command_text : Command → CommandText
 command_text (Isa image steps description) = isa_text image.now steps (option_map (λ t. t.now) description)
 command_text (Run description image cycles) = run_text description.now image.now cycles
 command_text (Trace description image cycles) = trace_text description.now image.now cycles
+command_text (Bench description seed blocks cycles) = bench_text description.now seed blocks.count cycles
 
--- the number of a text that clap takes as one of at most this size
-abbrev pub number_up_to : ℕ → Text → Option ℕ
-number_up_to most t = if accepts false (parser.Unsigned 0 most) t then Some (digits_value 10 (without_leading_plus t)) else None
+-- the number of a text that clap takes as one in this range
+abbrev pub number_between : ℕ → ℕ → Text → Option ℕ
+number_between least most t = if accepts false (parser.Unsigned least most) t then Some (digits_value 10 (without_leading_plus t)) else None
 
 -- a number of 64 bits
 unfoldable pub number_of : Text → Option ℕ
-number_of t = number_up_to 18446744073709551615 t
+number_of t = number_between 0 18446744073709551615 t
 
 abbrev pub number_in : Text → List Row → Option ℕ
 number_in id rows = option_and_then number_of (first_of id rows)
 
 -- a number of 32 bits
 unfoldable pub word_of : Text → Option ℕ
-word_of t = number_up_to 4294967295 t
+word_of t = number_between 0 4294967295 t
 
 abbrev pub word_in : Text → List Row → Option ℕ
 word_in id rows = option_and_then word_of (first_of id rows)
+
+-- a number of blocks
+unfoldable pub blocks_of : Text → Option ℕ
+blocks_of t = number_between 1 BLOCKS_MAX t
+
+abbrev pub blocks_in : Text → List Row → Option ℕ
+blocks_in id rows = option_and_then blocks_of (first_of id rows)
 
 abbrev pub isa_in : List Row → Option CommandText
 isa_in rows = option_and_then (λ image. option_map (λ steps. isa_text image steps (first_of (codes "desc") rows)) (number_in (codes "steps") rows)) (first_of (codes "image") rows)
@@ -90,12 +111,18 @@ cycles_in command rows =
     option_and_then (λ description. option_and_then (λ image. option_map (λ cycles. command description image cycles) (word_in (codes "cycles") rows)) (first_of (codes "image") rows))
     (first_of (codes "description") rows)
 
+abbrev pub bench_in : List Row → Option CommandText
+bench_in rows =
+    option_and_then (λ description. option_and_then (λ seed. option_and_then (λ blocks. option_map (λ cycles. bench_text description seed blocks cycles)
+    (word_in (codes "cycles") rows)) (blocks_in (codes "blocks") rows)) (number_in (codes "seed") rows)) (first_of (codes "description") rows)
+
 abbrev pub command_in : Option (Text × List Row) → Option CommandText
 command_in None = None
 command_in (Some p) =
     if bytes_eq p.0 (codes "isa") then isa_in p.1
     else if bytes_eq p.0 (codes "run") then cycles_in run_text p.1
     else if bytes_eq p.0 (codes "trace") then cycles_in trace_text p.1
+    else if bytes_eq p.0 (codes "bench") then bench_in p.1
     else None
 
 abbrev pub if_none : Kinds → Option CommandText → Option CommandText

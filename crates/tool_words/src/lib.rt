@@ -7,8 +7,11 @@
 ghost use Rattle.std.specs.Prelude.{◌≡◌, IfOk, map, IfErr, ◌≢◌, None, Some, [], option_map, false};
 ghost use Rattle.clap.specs.Words.{rule_of, shape_of, app_of, subcommand_rows_of, rows_of, found_of, first_of};
 ghost use Rattle.clap.specs.declared.builder.command.Command.TheViews.{out-Command};
-ghost use Rattle.tool_words.specs.Words.{name_rule, number_rule, text_rule, run_text, trace_text, isa_shape, cycles_shape, bare_app, tool_app, faults, rows_in, command_text, number_of, number_in, word_of, word_in, isa_in, cycles_in, command_in, command_of};
+ghost use Rattle.tool_words.specs.Words.{name_rule, number_rule, text_rule, run_text, trace_text, isa_shape, cycles_rule, cycles_shape, bench_shape, bare_app, tool_app, faults, rows_in, command_text, number_of, number_in, word_of, word_in, blocks_of, blocks_in, isa_in, cycles_in, bench_in, command_in, command_of};
 
+mod blocks;
+
+pub use blocks::{BLOCKS_MAX, Blocks};
 use clap::builder::ValueParser;
 use clap::error::ErrorKind;
 use clap::{Arg, ArgMatches, Command as Parser};
@@ -37,6 +40,13 @@ pub enum Command<'a> {
     Trace {
         description: &'a str,
         image: &'a str,
+        cycles: u32,
+    },
+    /// `bench D --seed S --blocks B --cycles N`: the run of `run`, on the image that a seed and a number of blocks generate.
+    Bench {
+        description: &'a str,
+        seed: u64,
+        blocks: Blocks,
         cycles: u32,
     },
 }
@@ -69,6 +79,14 @@ fn number_arg<'a>(alloc: Global, id: &'a str, least: u64, most: u64) -> Arg<'a>
         .value_parser(ValueParser::Unsigned(least, most))
 }
 
+// The number of cycles.
+fn cycles_arg<'a>(alloc: Global) -> Arg<'a>
+    ensures rule { rule_of result ≡ cycles_rule }
+    ensures here { result.global ≡ false }
+{
+    number_arg(alloc, "cycles", 1, STEPS_MAX)
+}
+
 // An option with a text, which may be left out.
 fn text_arg<'a>(alloc: Global, id: &'a str) -> Arg<'a>
     ensures rule { rule_of result ≡ text_rule id.now }
@@ -95,7 +113,18 @@ fn cycles_parser<'a>(alloc: Global, name: &'a str) -> Result<Parser<'a>, AllocEr
     Parser::new(alloc, name)
         .arg(name_arg(alloc, "description"))?
         .arg(name_arg(alloc, "image"))?
-        .arg(number_arg(alloc, "cycles", 1, STEPS_MAX))
+        .arg(cycles_arg(alloc))
+}
+
+fn bench_parser<'a>(alloc: Global) -> Result<Parser<'a>, AllocError>
+    ensures shape { IfOk result (λ c. shape_of c ≡ bench_shape) }
+    ensures here { IfOk result (λ c. (out-Command c).has_globals ≡ false) }
+{
+    Parser::new(alloc, "bench")
+        .arg(name_arg(alloc, "description"))?
+        .arg(number_arg(alloc, "seed", 0, u64::MAX))?
+        .arg(number_arg(alloc, "blocks", 1, BLOCKS_MAX as u64))?
+        .arg(cycles_arg(alloc))
 }
 
 // A parser with no command so far: no help, no version, and the words begin with the command.
@@ -116,7 +145,8 @@ fn tool_parser<'a>(alloc: Global) -> Result<Parser<'a>, AllocError>
     bare_parser(alloc)
         .subcommand(isa_parser(alloc)?)?
         .subcommand(cycles_parser(alloc, "run")?)?
-        .subcommand(cycles_parser(alloc, "trace")?)
+        .subcommand(cycles_parser(alloc, "trace")?)?
+        .subcommand(bench_parser(alloc)?)
 }
 
 // What clap finds in the words.
@@ -181,6 +211,31 @@ fn word_in(matches: &ArgMatches<'_>, id: &str) -> Option<u32>
     }
 }
 
+fn blocks_of(text: &str) -> Option<Blocks>
+    ensures { option_map (λ b. b.count) result ≡ blocks_of text.now }
+{
+    match text.parse::<u32>() {
+        Ok(count) => {
+            if 1 <= count && count <= BLOCKS_MAX {
+                Some(Blocks { count })
+            } else {
+                None
+            }
+        }
+        Err(_) => None,
+    }
+}
+
+// The number of blocks of an option.
+fn blocks_in(matches: &ArgMatches<'_>, id: &str) -> Option<Blocks>
+    ensures { option_map (λ b. b.count) result ≡ blocks_in id.now (rows_of (found_of matches.now)) }
+{
+    match text_in(matches, id) {
+        Some(text) => blocks_of(text),
+        None => None,
+    }
+}
+
 fn isa_in<'a>(matches: &ArgMatches<'a>) -> Option<Command<'a>>
     ensures { option_map command_text result ≡ isa_in (rows_of (found_of matches.now)) }
 {
@@ -220,6 +275,21 @@ fn trace_in<'a>(matches: &ArgMatches<'a>) -> Option<Command<'a>>
     })
 }
 
+fn bench_in<'a>(matches: &ArgMatches<'a>) -> Option<Command<'a>>
+    ensures { option_map command_text result ≡ bench_in (rows_of (found_of matches.now)) }
+{
+    let description = text_in(matches, "description")?;
+    let seed = number_in(matches, "seed")?;
+    let blocks = blocks_in(matches, "blocks")?;
+    let cycles = word_in(matches, "cycles")?;
+    Some(Command::Bench {
+        description,
+        seed,
+        blocks,
+        cycles,
+    })
+}
+
 fn command_in<'a>(matches: &ArgMatches<'a>) -> Option<Command<'a>>
     ensures { option_map command_text result ≡ command_in (subcommand_rows_of matches.now) }
 {
@@ -228,6 +298,7 @@ fn command_in<'a>(matches: &ArgMatches<'a>) -> Option<Command<'a>>
         "isa" => isa_in(inner),
         "run" => run_in(inner),
         "trace" => trace_in(inner),
+        "bench" => bench_in(inner),
         _ => None,
     }
 }

@@ -1,9 +1,10 @@
 //! Words that are a command, and words that are none.
-use crate::{Command, read_words};
+use crate::{Blocks, Command, read_words};
 use std::alloc::Global;
 
 // The number of a command on p.elf: that of the steps, or 1000 more than the cycles, and 2000 more where they are traced;
-// 100 more with the description d.toml. 0 where the words are refused.
+// 100 more with the description d.toml; for a generated image 3000, the seed, 10 for each block, and the cycles. 0 where the
+// words are refused.
 fn number_of(alloc: Global, words: &[&str]) -> u64 {
     match read_words(alloc, words) {
         Ok(
@@ -31,6 +32,14 @@ fn number_of(alloc: Global, words: &[&str]) -> u64 {
                 cycles,
             },
         ) => (cycles as u64).saturating_add(2100),
+        Ok(
+            Command::Bench {
+                description: "d.toml",
+                seed,
+                blocks: Blocks { count },
+                cycles,
+            },
+        ) => (cycles as u64 + 10 * count as u64 + 3000).saturating_add(seed),
         _ => 0,
     }
 }
@@ -38,7 +47,7 @@ fn number_of(alloc: Global, words: &[&str]) -> u64 {
 #[test]
 fn reads_the_words(rt: HostRuntime) {
     let alloc = rt.alloc();
-    let rows: [(&[&str], u64); 33] = [
+    let rows: [(&[&str], u64); 43] = [
         (&["isa", "p.elf", "--steps", "5"], 5),
         (&["isa", "--steps", "5", "p.elf"], 5),
         (&["isa", "p.elf", "--steps=5"], 5),
@@ -72,6 +81,60 @@ fn reads_the_words(rt: HostRuntime) {
             &[
                 "trace", "d.toml", "p.elf", "--desc", "d.toml", "--cycles", "5",
             ],
+            0,
+        ),
+        (
+            &[
+                "bench", "d.toml", "--seed", "0", "--blocks", "1", "--cycles", "5",
+            ],
+            3015,
+        ),
+        (
+            &[
+                "bench",
+                "--cycles=5",
+                "--blocks=4096",
+                "d.toml",
+                "--seed=18446744073709500000",
+            ],
+            18446744073709543965,
+        ),
+        (
+            &[
+                "bench",
+                "d.toml",
+                "--seed",
+                "18446744073709551616",
+                "--blocks",
+                "1",
+                "--cycles",
+                "5",
+            ],
+            0,
+        ),
+        (
+            &[
+                "bench", "d.toml", "--seed", "1", "--blocks", "0", "--cycles", "5",
+            ],
+            0,
+        ),
+        (
+            &[
+                "bench", "d.toml", "--seed", "1", "--blocks", "4097", "--cycles", "5",
+            ],
+            0,
+        ),
+        (
+            &[
+                "bench", "d.toml", "--seed", "1", "--blocks", "1", "--cycles", "0",
+            ],
+            0,
+        ),
+        (&["bench", "d.toml", "--seed", "1", "--blocks", "1"], 0),
+        (&["bench", "d.toml", "--seed", "1", "--cycles", "5"], 0),
+        (&["bench", "d.toml", "--blocks", "1", "--cycles", "5"], 0),
+        (
+            &["bench", "--seed", "1", "--blocks", "1", "--cycles", "5"],
             0,
         ),
         (&["isa", "--help"], 0),

@@ -11,6 +11,8 @@ returns c =
     c.in_ok-subcommand.ensures.shape c.in_ok-isa_parser.ensures.here ∙ ap₂ with_subcommand c.bare_parser.ensures c.in_ok-isa_parser.ensures.shape in
     let two : app_of c.in_ok-subcommand-2.field-0 ≡ with_subcommand (with_subcommand bare_app isa_shape) (cycles_shape (codes "run")) =
     c.in_ok-subcommand-2.ensures.shape c.in_ok-cycles_parser.ensures.here ∙ ap₂ with_subcommand one c.in_ok-cycles_parser.ensures.shape in
-    IfOk-weaker c.subcommand-3.result _ _
-    (λ r s. s.shape c.in_ok-cycles_parser-2.ensures.here ∙ ap₂ with_subcommand two c.in_ok-cycles_parser-2.ensures.shape)
-    c.subcommand-3.ensures
+    let three : app_of c.in_ok-subcommand-3.field-0 ≡ with_subcommand (with_subcommand (with_subcommand bare_app isa_shape) (cycles_shape (codes "run"))) (cycles_shape (codes "trace")) =
+    c.in_ok-subcommand-3.ensures.shape c.in_ok-cycles_parser-2.ensures.here ∙ ap₂ with_subcommand two c.in_ok-cycles_parser-2.ensures.shape in
+    IfOk-weaker c.subcommand-4.result _ _
+    (λ r s. s.shape c.in_ok-bench_parser.ensures.here ∙ ap₂ with_subcommand three c.in_ok-bench_parser.ensures.shape)
+    c.subcommand-4.ensures

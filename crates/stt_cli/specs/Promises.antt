@@ -1,0 +1,78 @@
+-- What may be relied on of a machine's run besides its text: what it has retired, how soon, and what it shows
+-- (docs/theorems.md, "Committed state", "Progress", "Noninterference").
+use Rattle.std.specs.Prelude.{◌≡◌, ℕ, ◌+◌, ◌*◌, ◌<◌, ◌≤◌, ◌⊎◌, List, Option, Some, None}
+use Rattle.rv_types.specs.Isa.{Run}
+use Rattle.rv_types.specs.Memory.{Ram, Agree}
+use Rattle.elf_loader.specs.Image.{ImageText}
+use Rattle.machine_desc.specs.declared.Desc.{Desc}
+use Rattle.machine_desc.specs.Ranges.{bound}
+use Rattle.window_model.specs.State.{Machine}
+use Rattle.window_model.specs.Cycle.{at}
+use Rattle.window_model.specs.Path.{reads_of_trace}
+use Rattle.window_model.specs.Committed.{Aligned, exit_of, TrapsNext}
+use Rattle.report_text.specs.Report.{report_text}
+use Rattle.trace_text.specs.TraceText as trace
+use Rattle.tool_io.specs.Outside.{Told, Shelf, Wrote}
+use Rattle.tool_words.specs.Words.{CommandText, isa_text, run_text, trace_text, bench_text}
+use Rattle.stt_cli.specs.Running.{run_of, trace_of}
+use Rattle.stt_cli.specs.Top.{Asks, Runs}
+
+-- ---- Committed state
+
+-- the instruction set's run of an image, of as many steps as the machine retires in n cycles
+abbrev pub retired_run : Desc → ImageText → ℕ → Run
+retired_run d image n = run_of image (trace_of d image n).retired
+
+-- what is written is the report of that run: its registers, memory and output, and how the machine ended. An exit is that
+-- run's own, and a trap is that of its next step
+pub record Commits (d : Desc) (image : ImageText) (n : ℕ) (out out' : Told) : Type 0 where
+  pub report : Wrote (report_text image.ram (record (retired_run d image n) { ended = (trace_of d image n).end }) (Some (trace_of d image n).cycles)) out out'
+  pub all : (retired_run d image n).steps ≡ (trace_of d image n).retired
+  pub exit : (retired_run d image n).ended ≡ exit_of (trace_of d image n).end
+  pub trap : TrapsNext image.code (retired_run d image n).last (trace_of d image n).end
+
+-- ---- Progress
+
+-- the machine after k cycles, fewer where the run ended
+abbrev pub state_at : Desc → ImageText → ℕ → Machine
+state_at d image k = at d image.code image.entry image.ram k
+
+-- within every `bound d` of the n cycles one more instruction retires, or the run ends; so a budget of m times that
+-- retires m, or the run ends before
+pub record MovesOn (d : Desc) (image : ImageText) (n : ℕ) : Type 0 where
+  pub one : (k : ℕ) → k + bound d ≤ n → (state_at d image (k + bound d)).end ≡ None → (state_at d image k).retired < (state_at d image (k + bound d)).retired
+  pub many : (m : ℕ) → n ≡ m * bound d → (trace_of d image n).end ≡ None → m ≤ (trace_of d image n).retired
+
+-- ---- Noninterference
+
+-- the image with another memory
+abbrev pub with_memory : ImageText → Ram → ImageText
+with_memory image m = record image { ram = m }
+
+-- what is written is the trace of the machine on every memory that agrees with the image's on each byte that the path
+-- loads, in as many steps as the machine retires and the window may hold besides
+pub record Hides (d : Desc) (image : ImageText) (n : ℕ) (out out' : Told) : Type 0 where
+  pub agreeing : (m : Ram) → Agree image.ram m (reads_of_trace d image.code image.entry image.ram n) → Wrote (trace.trace_text (trace_of d (with_memory image m) n)) out out'
+
+-- two images with one entry and code, whose memories so agree, have one trace
+abbrev pub TracesAgree : Type 0
+TracesAgree = (d : Desc) (one two : ImageText) (n : ℕ) → Aligned one.code → two.entry ≡ one.entry → two.code ≡ one.code
+    → Agree one.ram two.ram (reads_of_trace d one.code one.entry one.ram n) → trace.trace_text (trace_of d two n) ≡ trace.trace_text (trace_of d one n)
+
+-- ---- The program
+
+-- what a command with this description and image keeps besides
+abbrev pub Keeps : CommandText → Option Desc → ImageText → Told → Told → Type 0
+Keeps (isa_text name steps description) desc image out out' = Unit {0}
+Keeps (run_text description name n) (Some d) image out out' = Commits d image n out out' × MovesOn d image n
+Keeps (trace_text description name n) (Some d) image out out' = Hides d image n out out' × MovesOn d image n
+Keeps (bench_text description seed blocks n) (Some d) image out out' = Commits d image n out out' × MovesOn d image n
+Keeps command None image out out' = ⊥
+
+-- the status of a run that is written whole: it ended by an exit, by a trap, or not within its budget
+abbrev pub IsRun : ℕ → Type 0
+IsRun status = (status ≡ 0) ⊎ (status ≡ 1) ⊎ (status ≡ 3)
+
+-- with such a status the command keeps its promises
+pub record Promises (words : List (List ℕ)) (old new : Shelf) (out out' : Told) (status : ℕ) : Type 0 where
+  pub kept : IsRun status → Asks words (λ command. (desc : Option Desc) × (image : ImageText) × Runs command old new desc image × Keeps command desc image out out')
