@@ -13,7 +13,7 @@ use Rattle.machine_facts.specs.Sized.{Sized}
 use Rattle.machine_facts.proofs.SizedPhases.{sized_opening}
 use Rattle.report_text.specs.Report.{report_text}
 use Rattle.trace_text.specs.TraceText.{trace_text}
-use Rattle.tool_io.specs.Outside.{Told, Shelf, Wrote, WrotePart, SameCounts}
+use Rattle.tool_io.specs.Outside.{Told, Shelf, Wrote, WrotePart}
 use Rattle.tool_words.specs.Words.{CommandText, command_of}
 use Rattle.stt_cli.specs.declared.outcome.Ended.{Ended}
 use Rattle.stt_cli.specs.declared.outcome.Refusal.{Refusal}
@@ -21,7 +21,7 @@ use Rattle.stt_cli.specs.declared.outcome.Refusal.TheVariants.{Words, ReadDescri
 use Rattle.stt_cli.specs.Outcome.{ended_of}
 use Rattle.stt_cli.specs.Input.{InputRefused, NamedRefused, IsInput, LoadRefused, base_of, size_of}
 use Rattle.stt_cli.specs.Clocking.{trace_from, run_from, report_from}
-use Rattle.stt_cli.specs.Running.{Begins, Starts, Reports, run_of, opening_of, isa_work, run_work, trace_work}
+use Rattle.stt_cli.specs.Running.{Begins, Starts, Reports, opening_of, isa_work, run_work, trace_work}
 use Rattle.stt_cli.specs.Top.{image_from, description_name, work_of, Runs, Performs, Ends}
 
 -- ---- Refusals

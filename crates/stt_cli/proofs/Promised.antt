@@ -1,28 +1,24 @@
 -- A machine's run keeps its promises: by the laws of committed state, progress and noninterference.
-use Rattle.std.proofs.Common.{◌≡◌, ◌+◌, ◌*◌, ◌≤◌, ◌<◌, ◌⊎◌, ℕ, zero, suc, List, [], length, Option, Some, None, Result, Ok, Err, refl, sym, ap, ◌∙◌, subst, arith}
-use Rattle.rv_types.specs.Memory.{Code, Ram, Agree}
+use Rattle.std.proofs.Common.{◌≡◌, ◌≤◌, ℕ, List, [], Option, Some, None, sym, ap, ◌∙◌, subst}
+use Rattle.rv_types.specs.Memory.{Code}
 use Rattle.rv_types.specs.Isa.{Run, start}
-use Rattle.rv_types.specs.declared.End.{End}
-use Rattle.elf_loader.specs.Image.{ImageText, image_of}
+use Rattle.elf_loader.specs.Image.{ImageText}
 use Rattle.machine_desc.specs.declared.Desc.{Desc}
-use Rattle.machine_desc.specs.Ranges.{bound}
 use Rattle.machine_desc.proofs.EveryDesc.{every_desc}
-use Rattle.window_model.specs.State.{Machine, opening}
-use Rattle.window_model.specs.Cycle.{at, trace, pieces}
-use Rattle.window_model.specs.Path.{reads_of_trace}
-use Rattle.window_model.specs.Committed.{Aligned, Committed, exit_of, TrapsNext}
+use Rattle.window_model.specs.Cycle.{trace, pieces}
+use Rattle.window_model.specs.Committed.{Aligned, Committed, TrapsNext}
 use Rattle.committed_state.proofs.Run.{run_commits}
 use Rattle.progress.proofs.Run.{retires_within_bound, retires_in_budget}
 use Rattle.noninterference.proofs.Runs.{same_trace}
 use Rattle.report_text.specs.Report.{report_text}
 use Rattle.trace_text.specs.TraceText as text
 use Rattle.tool_io.specs.Outside.{Told, Shelf, Wrote}
-use Rattle.tool_words.specs.Words.{CommandText, command_of, isa_text, run_text, trace_text, bench_text}
-use Rattle.stt_cli.specs.Input.{HasDesc, base_of, size_of}
+use Rattle.tool_words.specs.Words.{CommandText, isa_text, run_text, trace_text, bench_text}
+use Rattle.stt_cli.specs.Input.{HasDesc}
 use Rattle.stt_cli.specs.Clocking.{run_from}
-use Rattle.stt_cli.specs.Running.{run_of, opening_of, trace_of}
-use Rattle.stt_cli.specs.Top.{Asks, Runs, Statuses, description_name, work_of}
-use Rattle.stt_cli.specs.Promises.{Commits, MovesOn, Hides, Keeps, Promises, IsRun, TracesAgree, retired_run, state_at, with_memory}
+use Rattle.stt_cli.specs.Running.{opening_of, trace_of}
+use Rattle.stt_cli.specs.Top.{Runs, Statuses, work_of}
+use Rattle.stt_cli.specs.Promises.{Commits, MovesOn, Hides, Keeps, Promises, TracesAgree, retired_run, state_at}
 use Rattle.stt_cli.proofs.Images.{image_aligned}
 
 -- ---- Committed state

@@ -6,7 +6,7 @@ use std::test::Fail;
 use tool_io::{Content, MemFail, MemFile, MemFiles, MemSink};
 
 mod bench;
-mod cores;
+mod failing;
 mod images;
 mod machine;
 mod programs;

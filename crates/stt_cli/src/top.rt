@@ -216,5 +216,4 @@ pub fn stt_top<C: Built + Drop, F: Files, O: Sink, N: Sink>(
 /// "Noninterference").
 pub fn traces_agree()
     ensures { TracesAgree }
-{
-}
+{}

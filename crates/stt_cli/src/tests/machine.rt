@@ -1,4 +1,4 @@
-//! The worked traces and reports of the out-of-order machine, and reads and puts that fail in them.
+//! The worked traces and reports of the out-of-order machine (`docs/machine.md`, "Worked traces").
 use super::images::{EXIT_IN_TWO, image_with_data};
 use super::texts::{DESCRIPTION, replaced, report_of};
 use super::{Left, files_of, programs, run, sink_of, top, traces};
@@ -120,20 +120,49 @@ fn what_the_path_reads_shows(rt: HostRuntime) -> Result<(), Fail> {
 #[test]
 fn reports_of_the_core(rt: HostRuntime) -> Result<(), Fail> {
     let alloc = rt.alloc();
-    let left = run_with(alloc, "run", "100", &programs::FORWARDING, b"", "spectre")?;
-    let registers = [
-        (2, 0x0001_fff0),
-        (5, 0xffff_ffff),
-        (6, 0x0000_ffff),
-        (7, 0xffff_ffff),
-        (9, 1),
-        (17, 0x5d),
+    let rows: [(&[u32], &str, &[(usize, u32)], &str, u8); 4] = [
+        (
+            &programs::FORWARDING,
+            "100",
+            &[
+                (2, 0x0001_fff0),
+                (5, 0xffff_ffff),
+                (6, 0x0000_ffff),
+                (7, 0xffff_ffff),
+                (9, 1),
+                (17, 0x5d),
+            ],
+            "pc 00010020\nmem 0001fff0 ffff0000ffffffff0000000000000000\nend exit 0 retired 8 cycles 27\n",
+            0,
+        ),
+        (
+            &EXIT_IN_TWO,
+            "5",
+            &[(2, 0x0001_fff0), (17, 0x5d)],
+            "pc 00010008\nend exit 0 retired 2 cycles 5\n",
+            0,
+        ),
+        (
+            &EXIT_IN_TWO,
+            "4",
+            &[(2, 0x0001_fff0), (17, 0x5d)],
+            "pc 00010004\nend budget retired 1 cycles 4\n",
+            3,
+        ),
+        (
+            &[],
+            "9",
+            &[(2, 0x0001_fff0)],
+            "pc 00010000\nend trap 1 00010000 retired 0 cycles 3\n",
+            1,
+        ),
     ];
-    let lines =
-        "pc 00010020\nmem 0001fff0 ffff0000ffffffff0000000000000000\nend exit 0 retired 8 cycles 27\n";
-    let want = report_of(alloc, &registers, lines)?;
-    assert_eq!(rt; left.out.as_slice(), want.as_bytes());
-    assert_eq!(rt; left.status, 0);
+    for (code, cycles, registers, lines, status) in rows {
+        let left = run_with(alloc, "run", cycles, code, b"", "spectre")?;
+        let want = report_of(alloc, registers, lines)?;
+        assert_eq!(rt; left.out.as_slice(), want.as_bytes());
+        assert_eq!(rt; left.status, status);
+    }
     Ok(())
 }
 
@@ -149,33 +178,6 @@ fn nothing_to_fetch(rt: HostRuntime) -> Result<(), Fail> {
     let left = run(alloc, &words, image.as_slice(), DESCRIPTION.as_bytes())?;
     assert_eq!(rt; left.out.as_slice(), traces::NO_CODE.as_bytes());
     assert_eq!(rt; left.status, 1);
-    Ok(())
-}
-
-#[test]
-fn a_trace_that_fails(rt: HostRuntime) -> Result<(), Fail> {
-    let alloc = rt.alloc();
-    let image = image_with_data(alloc, &programs::HIT_UNDER_MISS, b"")?;
-    let words = ["trace", "d.toml", "p.elf", "--cycles", "100"];
-    let mut note = sink_of(alloc, 0, 0)?;
-    let mut out = sink_of(alloc, 3, 7)?;
-    let mut files = files_of(alloc, image.as_slice(), DESCRIPTION.as_bytes(), 0)?;
-    assert_eq!(rt; top(alloc, &words, &mut files, &mut out, &mut note), 7);
-    assert_eq!(rt; note.as_slice(), b"write\n".as_slice());
-    assert!(rt;
-        traces::HIT_UNDER_MISS
-            .as_bytes()
-            .starts_with(out.as_slice())
-    );
-    let mut unread = sink_of(alloc, 0, 0)?;
-    let mut nothing = sink_of(alloc, 0, 0)?;
-    let mut second = files_of(alloc, image.as_slice(), DESCRIPTION.as_bytes(), 2)?;
-    assert_eq!(rt;
-        top(alloc, &words, &mut second, &mut nothing, &mut unread),
-        6
-    );
-    assert_eq!(rt; unread.as_slice(), b"read image\n".as_slice());
-    assert_eq!(rt; nothing.as_slice(), b"".as_slice());
     Ok(())
 }
 

@@ -1,6 +1,5 @@
 -- The machine starts with the image, and what its run writes is its report.
-use Rattle.std.proofs.Common.{Some}
-use Rattle.stt_cli.specs.Input.{loaded, base_of, size_of}
+use Rattle.stt_cli.specs.Input.{loaded}
 use Rattle.stt_cli.proofs.Images.{image_stays}
 use Rattle.stt_cli.proofs.Outcomes.{reports, reports_part, starts_sized}
 use Rattle.stt_cli.proofs.top.report.Goals as goal
