@@ -31,15 +31,18 @@ fn reads_fail(
     code: &[u32],
     notes: &[&str],
 ) -> Result<(), Fail> {
-    let mut read = 0;
+    let mut read = 0u64;
     for line in notes {
-        read += 1;
+        read = read.saturating_add(1);
         let left = fails(alloc, words, code, read, 0, 0)?;
         assert_eq!(rt; left.status, 6);
         assert_eq!(rt; left.note.as_slice(), line.as_bytes());
         assert_eq!(rt; left.out.as_slice(), b"".as_slice());
     }
-    assert_eq!(rt; fails(alloc, words, code, read + 1, 0, 0)?.status, 0);
+    assert_eq!(rt;
+        fails(alloc, words, code, read.saturating_add(1), 0, 0)?.status,
+        0
+    );
     Ok(())
 }
 
@@ -48,20 +51,23 @@ fn reads_fail(
 fn puts_fail(rt: &impl Abort, alloc: Global, words: &[&str], code: &[u32]) -> Result<(), Fail> {
     let whole = fails(alloc, words, code, 0, 0, 0)?;
     assert_eq!(rt; whole.status, 0);
-    let mut before = 0;
-    let mut put = 0;
+    let mut before = 0usize;
+    let mut put = 0u64;
     for line in whole.out.as_slice().split_inclusive(|byte| *byte == b'\n') {
-        put += 1;
+        put = put.saturating_add(1);
         for sent in [0, 1, line.len().saturating_sub(1)] {
             let left = fails(alloc, words, code, 0, put, sent)?;
             assert_eq!(rt; left.status, 7);
             assert_eq!(rt; left.note.as_slice(), b"write\n".as_slice());
-            assert_eq!(rt; left.out.as_slice().len(), before + sent);
+            assert_eq!(rt; left.out.as_slice().len(), before.saturating_add(sent));
             assert!(rt; whole.out.as_slice().starts_with(left.out.as_slice()));
         }
-        before += line.len();
+        before = before.saturating_add(line.len());
     }
-    assert_eq!(rt; fails(alloc, words, code, 0, put + 1, 0)?.status, 0);
+    assert_eq!(rt;
+        fails(alloc, words, code, 0, put.saturating_add(1), 0)?.status,
+        0
+    );
     Ok(())
 }
 
