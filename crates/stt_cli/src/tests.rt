@@ -7,6 +7,7 @@ use tool_io::{Content, MemFail, MemFile, MemFiles, MemSink};
 
 mod bench;
 mod failing;
+mod hostile;
 mod images;
 mod machine;
 mod programs;
@@ -14,7 +15,7 @@ mod texts;
 mod traces;
 
 use images::{DIVISIONS, EXIT_IN_TWO, OVERWRITES, WRITES, image_of};
-use texts::{DESCRIPTION, replaced, report_of};
+use texts::{DESCRIPTION, report_of};
 
 /// Room for every report of these tests.
 const ROOM: usize = 8192;
@@ -224,142 +225,21 @@ fn refuses_words_and_names(rt: HostRuntime) -> Result<(), Fail> {
 }
 
 #[test]
-fn refuses_images(rt: HostRuntime) -> Result<(), Fail> {
-    let alloc = rt.alloc();
-    let rows: [(usize, u8, &str); 13] = [
-        (0, 0x7e, "image E2\n"),
-        (4, 2, "image E3 2\n"),
-        (5, 2, "image E4 2\n"),
-        (6, 0, "image E5 0\n"),
-        (16, 3, "image E6 3\n"),
-        (18, 3, "image E7 3\n"),
-        (36, 1, "image E8 1\n"),
-        (42, 40, "image E9 40\n"),
-        (28, 61, "image E10 93 92\n"),
-        (52, 3, "image E11 0\n"),
-        (72, 7, "image E12 0\n"),
-        (56, 85, "image E13 0\n"),
-        (62, 0, "image E14 0\n"),
-    ];
-    let words = ["isa", "p.elf", "--steps", "5"];
-    for (at, byte, note) in rows {
-        let mut image = image_of(alloc, &EXIT_IN_TWO, 5)?;
-        if let Some(place) = image.get_mut(at) {
-            *place = byte;
-        }
-        let left = run(alloc, &words, image.as_slice(), b"")?;
-        assert_eq!(rt; left.note.as_slice(), note.as_bytes());
-        assert_eq!(rt; left.status, 5);
-        assert_eq!(rt; left.out.as_slice(), b"".as_slice());
-    }
-    Ok(())
-}
-
-#[test]
-fn refuses_lengths(rt: HostRuntime) -> Result<(), Fail> {
-    let alloc = rt.alloc();
-    let described = ["isa", "p.elf", "--steps", "5", "--desc", "d.toml"];
-    let short = run(alloc, &described, &[0x7f; 51], DESCRIPTION.as_bytes())?;
-    assert_eq!(rt; short.status, 5);
-    assert_eq!(rt; short.note.as_slice(), b"image E1 52 51\n".as_slice());
-    let long = vec![in alloc; 0x7fu8; 33554433]?;
-    let longer = run(alloc, &described, long.as_slice(), DESCRIPTION.as_bytes())?;
-    assert_eq!(rt; longer.status, 5);
-    assert_eq!(rt; longer.note.as_slice(), b"image too long\n".as_slice());
-    let text = vec![in alloc; b' '; 65537]?;
-    let wordy = run(alloc, &described, &[0x7f; 51], text.as_slice())?;
-    assert_eq!(rt; wordy.status, 4);
-    assert_eq!(rt; wordy.note.as_slice(), b"description too long\n".as_slice());
-    Ok(())
-}
-
-#[test]
-fn refuses_descriptions(rt: HostRuntime) -> Result<(), Fail> {
-    let alloc = rt.alloc();
-    let rows: [(&str, &str, &str); 9] = [
-        ("[core]", "[core", "description K1\n"),
-        (
-            "rob = 16",
-            "rob = 16\nrobb = 1",
-            "description K2 core.robb\n",
-        ),
-        (
-            "[core]",
-            "\"a\\u0001b\" = 1\n[core]",
-            "description K2 a?b\n",
-        ),
-        ("fetch_width = 2\n", "", "description K3 core.fetch_width\n"),
-        ("rob = 16", "rob = \"16\"", "description K4 core.rob\n"),
-        ("rob = 16", "rob = 65", "description K5 core.rob 65\n"),
-        ("rob = 16", "rob = -1", "description K5 core.rob -1\n"),
-        ("sets = 2", "sets = 3", "description K6 cache.sets\n"),
-        ("spectre", "off", "description K4 stt.model\n"),
-    ];
-    // The description is read and refused before the image, which isn't there.
-    let words = ["isa", "q.elf", "--steps", "5", "--desc", "d.toml"];
-    for (old, new, note) in rows {
-        let text = replaced(alloc, DESCRIPTION, old, new)?;
-        let left = run(alloc, &words, b"", text.as_slice())?;
-        assert_eq!(rt; left.note.as_slice(), note.as_bytes());
-        assert_eq!(rt; left.status, 4);
-        assert_eq!(rt; left.out.as_slice(), b"".as_slice());
-    }
-    Ok(())
-}
-
-#[test]
-fn reads_that_fail(rt: HostRuntime) -> Result<(), Fail> {
-    let alloc = rt.alloc();
-    let words = ["isa", "p.elf", "--steps", "5", "--desc", "d.toml"];
-    for (fail, line) in [(1, "read description\n"), (2, "read image\n")] {
-        let image = image_of(alloc, &EXIT_IN_TWO, 5)?;
-        let mut files = files_of(alloc, image.as_slice(), DESCRIPTION.as_bytes(), fail)?;
-        let mut out = sink_of(alloc, 0, 0)?;
-        let mut note = sink_of(alloc, 0, 0)?;
-        assert_eq!(rt; top(alloc, &words, &mut files, &mut out, &mut note), 6);
-        assert_eq!(rt; note.as_slice(), line.as_bytes());
-        assert_eq!(rt; out.as_slice(), b"".as_slice());
-    }
-    Ok(())
-}
-
-// Runs the writing program with a put that fails after so many bytes.
-fn cut(alloc: Global, call: u64, sent: usize) -> Result<Left, Fail> {
-    let image = image_of(alloc, &WRITES, 5)?;
-    let mut files = files_of(alloc, image.as_slice(), DESCRIPTION.as_bytes(), 0)?;
-    let mut out = sink_of(alloc, call, sent)?;
-    let mut note = sink_of(alloc, 0, 0)?;
-    let words = ["isa", "p.elf", "--steps", "100", "--desc", "d.toml"];
-    let status = top(alloc, &words, &mut files, &mut out, &mut note);
-    Ok(Left { status, out, note })
-}
-
-#[test]
-fn puts_that_fail(rt: HostRuntime) -> Result<(), Fail> {
-    let alloc = rt.alloc();
-    let whole = cut(alloc, 0, 0)?;
-    // One line of output, 32 registers, the pc and the last line.
-    for call in 1..=35u64 {
-        for sent in [0, 1, 11] {
-            let left = cut(alloc, call, sent)?;
-            assert_eq!(rt; left.status, 7);
-            assert_eq!(rt; left.note.as_slice(), b"write\n".as_slice());
-            assert!(rt; whole.out.as_slice().starts_with(left.out.as_slice()));
-            assert!(rt; left.out.as_slice().len() < whole.out.as_slice().len());
-        }
-    }
-    assert_eq!(rt; cut(alloc, 36, 0)?.status, 0);
-    Ok(())
-}
-
-#[test]
 fn a_note_that_fails(rt: HostRuntime) -> Result<(), Fail> {
     let alloc = rt.alloc();
-    let mut files = files_of(alloc, b"", b"", 0)?;
-    let mut out = sink_of(alloc, 0, 0)?;
-    let mut note = sink_of(alloc, 1, 3)?;
-    let words = ["isa", "q.elf", "--steps", "5"];
-    assert_eq!(rt; top(alloc, &words, &mut files, &mut out, &mut note), 6);
-    assert_eq!(rt; note.as_slice(), b"rea".as_slice());
+    let rows: [(&[&str], u8, &str); 4] = [
+        (&["isa", "p.elf", "--steps", "0"], 2, "wor"),
+        (&["run", "p.elf", "p.elf", "--cycles", "5"], 4, "des"),
+        (&["trace", "d.toml", "d.toml", "--cycles", "5"], 5, "ima"),
+        (&["isa", "q.elf", "--steps", "5"], 6, "rea"),
+    ];
+    for (words, status, sent) in rows {
+        let mut files = files_of(alloc, b"\x7f", DESCRIPTION.as_bytes(), 0)?;
+        let mut out = sink_of(alloc, 0, 0)?;
+        let mut note = sink_of(alloc, 1, 3)?;
+        assert_eq!(rt; top(alloc, words, &mut files, &mut out, &mut note), status);
+        assert_eq!(rt; note.as_slice(), sent.as_bytes());
+        assert_eq!(rt; out.as_slice(), b"".as_slice());
+    }
     Ok(())
 }
