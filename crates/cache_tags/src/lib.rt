@@ -1,0 +1,13 @@
+//! The cache's tags: which lines it has, and in which order they were used. Their bytes are memory's, so none are kept.
+//!
+//! A line is named by its first address. `docs/machine.md`, "State", "Fill", "Retire" and "Loads", has the rules in words;
+//! the contracts cite them from `window_model/specs`, `State`, `Fill` and `Retire`.
+#![tactic(auto)]
+
+mod line_set;
+mod tags;
+
+pub use tags::Tags;
+
+#[cfg(test)]
+mod tests;
