@@ -1,0 +1,45 @@
+-- What the predictor holds, what it predicts, and what it learns (docs/machine.md, "State", "Resolve", "Fetch").
+use Rattle.std.specs.Prelude.{ℕ, Bool, ◌==◌, nat_le, if◌then◌else◌, List, slice_index, slice_index_or, Option, Some, None, refl}
+use Rattle.std.specs.Coded.{Coded, code_by, coded×, coded_ℕ, coded_list, coded_option}
+use Rattle.machine_desc.specs.contracts.Desc as desc
+use Rattle.machine_desc.specs.declared.Desc.{Desc}
+use Rattle.window_model.specs.contracts.Target as target
+use Rattle.window_model.specs.declared.Target.{Target}
+use Rattle.window_model.specs.Resolve.{index, moved}
+
+-- in a machine of this description, the counters of branches and the targets of JALRs
+pub record Tables : Type 0 where
+  pub desc : Desc
+  pub counters : List ℕ
+  pub targets : List (Option Target)
+
+-- they are stored as the three
+abbrev pub tables_code : Coded Tables
+tables_code =
+    code_by (Desc × (List ℕ × List (Option Target))) (coded× desc.the_row.coded (coded× (coded_list coded_ℕ) (coded_list (coded_option target.the_row.coded))))
+    (λ t. (t.desc, (t.counters, t.targets))) (λ p. record { desc = p.0; counters = p.1.0; targets = p.1.1 }) (λ _. refl)
+
+-- the place of a branch's counter
+abbrev pub counter_place : Tables → ℕ → ℕ
+counter_place t pc = index pc t.desc.predictor_counters
+
+-- the place of a JALR's target
+abbrev pub target_place : Tables → ℕ → ℕ
+target_place t pc = index pc t.desc.predictor_btb
+
+-- a branch is predicted to be taken where its counter is 2 or 3
+abbrev pub is_taken : Tables → ℕ → Bool
+is_taken t pc = nat_le 2 (slice_index t.counters (counter_place t pc))
+
+-- a target, where it was stored for this address
+abbrev pub target_if : ℕ → Option Target → Option ℕ
+target_if pc None = None
+target_if pc (Some t) = if t.pc == pc then Some t.target else None
+
+-- the target that is stored for a JALR
+abbrev pub target_at : Tables → ℕ → Option ℕ
+target_at t pc = target_if pc (slice_index_or t.targets (target_place t pc) None)
+
+-- the counter of a branch, after the branch went this way
+abbrev pub counter_after : Tables → ℕ → Bool → ℕ
+counter_after t pc way = moved way (slice_index t.counters (counter_place t pc))

@@ -1,0 +1,128 @@
+//! The counters and the targets.
+ghost use Rattle.std.specs.Prelude.{◌≡◌, ◌<◌, replicate, slice_set, IfOk, None, Some};
+ghost use Rattle.window_model.specs.Resolve.{index, moved};
+ghost use Rattle.window_model.specs.declared.Event.TheVariants as event;
+ghost use Rattle.predictor.specs.Tables.{counter_place, target_place, is_taken, target_if, target_at, counter_after};
+
+use machine_desc::Desc;
+use rv_types::NoMemory;
+use std::alloc::Global;
+use std::marker::Model;
+use window_model::{Event, Target};
+
+/// The value of each counter at first.
+const COUNTER_START: u8 = 1;
+
+/// From this value on a counter predicts that its branch is taken.
+const TAKEN_FROM: u8 = 2;
+
+/// The most that a counter comes to.
+const COUNTER_MAX: u8 = 3;
+
+/// The predictor of branches and JALRs, seen as the description that it is made for, the counters and the targets.
+#[derive(Drop)]
+pub struct Predictor {
+    desc: Desc,
+    counters: Vec<u8>,
+    targets: Vec<Option<Target>>,
+}
+
+impl Model for Predictor {
+    ghost use Rattle.std.specs.Prelude.{◌≡◌, vec_len};
+    ghost use Rattle.predictor.specs.Tables.{Tables, tables_code};
+
+    ghost Value = { Tables };
+
+    ghost coded = { tables_code };
+
+    ghost view = { λ p. record { desc = p.desc; counters = p.counters.items; targets = p.targets.items } };
+
+    ghost invariant = { λ p. (vec_len p.counters ≡ p.desc.predictor_counters) × (vec_len p.targets ≡ p.desc.predictor_btb) };
+}
+
+impl Predictor {
+    /// A predictor of this description that has learnt nothing: every counter is 1, and there is no target. It takes all
+    /// memory that the predictor takes; the one error is want of it.
+    pub fn new(alloc: Global, desc: &Desc) -> Result<Predictor, NoMemory>
+        ensures { IfOk result (λ p. p ≡ record { desc = desc.now; counters = replicate desc.now.predictor_counters 1; targets = replicate desc.now.predictor_btb None }) }
+    {
+        let counters = vec![in alloc; COUNTER_START; desc.predictor_counters as usize]?;
+        let targets = vec![in alloc; None; desc.predictor_btb as usize]?;
+        Ok(Predictor {
+            desc: *desc,
+            counters,
+            targets,
+        })
+    }
+
+    /// Whether a branch at this address is predicted to be taken: exactly where its counter is 2 or 3.
+    pub fn direction(&self, pc: u32) -> bool
+        ensures { result ≡ is_taken self.now pc }
+    {
+        self.counters[index(pc, self.desc.predictor_counters)] >= TAKEN_FROM
+    }
+
+    /// The address to which a JALR at this address is predicted to go. None exactly where no target is stored for this
+    /// very address.
+    pub fn target(&self, pc: u32) -> Option<u32>
+        ensures { result ≡ target_at self.now pc }
+    {
+        target_for(self.targets[index(pc, self.desc.predictor_btb)], pc)
+    }
+
+    /// Learns how the branch at this address went: its counter goes one up where it was taken, to at most 3, else one
+    /// down, to at least 0. No other counter changes, and no target. Answers the event that tells the counter's value.
+    pub fn learn_branch(&mut self, pc: u32, taken: bool) -> Event
+        ensures moved { self.new ≡ record self.old { counters = slice_set self.old.counters (counter_place self.old pc) (counter_after self.old pc taken) } }
+        ensures event { result ≡ event.Bp (counter_place self.old pc) (counter_after self.old pc taken) }
+    {
+        let place = index(pc, self.desc.predictor_counters);
+        let counter = moved(self.counters[place], taken);
+        self.counters[place] = counter;
+        Event::Bp(place as u32, counter)
+    }
+
+    /// Learns where the JALR at this address went: address and target take its place. No other target changes, and no
+    /// counter. Answers the event that tells the target.
+    pub fn learn_target(&mut self, pc: u32, target: u32) -> Event
+        ensures stored { self.new ≡ record self.old { targets = slice_set self.old.targets (target_place self.old pc) (Some (record { pc = pc; target = target })) } }
+        ensures event { result ≡ event.Bt (target_place self.old pc) target }
+    {
+        let place = index(pc, self.desc.predictor_btb);
+        self.targets[place] = Some(Target { pc, target });
+        Event::Bt(place as u32, target)
+    }
+}
+
+// Where an address stands in a table of this size.
+fn index(pc: u32, size: u32) -> usize
+    requires { 0 < size }
+    ensures value { result ≡ index pc size }
+    ensures inside { result < size }
+{
+    (pc / 4 % size) as usize
+}
+
+// A counter after its branch went this way.
+fn moved(counter: u8, taken: bool) -> u8
+    ensures { result ≡ moved taken counter }
+{
+    if !taken {
+        return counter.saturating_sub(1);
+    }
+    if counter < COUNTER_MAX {
+        counter + 1
+    } else {
+        COUNTER_MAX
+    }
+}
+
+// A target, where it was stored for this address.
+fn target_for(stored: Option<Target>, pc: u32) -> Option<u32>
+    ensures { result ≡ target_if pc stored }
+{
+    match stored {
+        Some(stored) if stored.pc == pc => Some(stored.target),
+        _ => None,
+    }
+}

@@ -1,0 +1,72 @@
+//! Sixteen counters and four targets, step by step; the expected values follow from `docs/machine.md`.
+use crate::Predictor;
+use machine_desc::read_desc;
+use std::test::Fail;
+use window_model::Event;
+
+// The example of `docs/formats.md`, "Machine descriptions".
+const EXAMPLE: &str =
+    "[core]\nfetch_width = 2\nretire_width = 2\nrob = 16\nstations = 8\nloads = 4\nstores = 4\nqueue = 8\n[units]\nalus = 2\nmul_latency = 3\n[predictor]\ncounters = 16\nbtb = 4\n[cache]\nsets = 2\nways = 2\nline = 16\nhit_latency = 2\nmiss_latency = 10\nmshrs = 2\n[ram]\nbase = 65536\nsize = 65536\n[stt]\nmodel = \"spectre\"\n";
+
+// A branch, the one after it, and one that shares the first's counter.
+const BRANCH: u32 = 0x10004;
+
+const NEXT: u32 = 0x10008;
+
+const SAME_COUNTER: u32 = 0x10044;
+
+// Two JALRs at one place.
+const JUMP: u32 = 0x1000c;
+
+const SAME_PLACE: u32 = 0x1001c;
+
+#[test]
+fn a_counter_moves_between_0_and_3(rt: HostRuntime) -> Result<(), Fail> {
+    let alloc = rt.alloc();
+    let desc = read_desc(alloc, EXAMPLE.as_bytes())?;
+    let mut predictor = Predictor::new(alloc, &desc)?;
+    assert_eq!(rt; predictor.direction(BRANCH), false);
+    // How the branch goes, the counter then, and what is predicted.
+    let ways = [
+        (true, 2, true),
+        (true, 3, true),
+        (true, 3, true),
+        (false, 2, true),
+        (false, 1, false),
+        (false, 0, false),
+        (false, 0, false),
+        (true, 1, false),
+        (true, 2, true),
+    ];
+    for (taken, counter, predicted) in ways {
+        assert_eq!(rt;
+            predictor.learn_branch(BRANCH, taken),
+            Event::Bp(1, counter)
+        );
+        assert_eq!(rt; predictor.direction(BRANCH), predicted);
+    }
+    assert_eq!(rt; predictor.direction(SAME_COUNTER), true);
+    assert_eq!(rt; predictor.direction(NEXT), false);
+    Ok(())
+}
+
+#[test]
+fn a_target_is_for_its_own_address(rt: HostRuntime) -> Result<(), Fail> {
+    let alloc = rt.alloc();
+    let desc = read_desc(alloc, EXAMPLE.as_bytes())?;
+    let mut predictor = Predictor::new(alloc, &desc)?;
+    assert_eq!(rt; predictor.target(JUMP), None);
+    assert_eq!(rt;
+        predictor.learn_target(JUMP, 0x20000),
+        Event::Bt(3, 0x20000)
+    );
+    assert_eq!(rt; predictor.target(JUMP), Some(0x20000));
+    assert_eq!(rt; predictor.target(SAME_PLACE), None);
+    assert_eq!(rt;
+        predictor.learn_target(SAME_PLACE, 0x30000),
+        Event::Bt(3, 0x30000)
+    );
+    assert_eq!(rt; predictor.target(JUMP), None);
+    assert_eq!(rt; predictor.target(SAME_PLACE), Some(0x30000));
+    Ok(())
+}
