@@ -1,0 +1,117 @@
+//! The queue and the fetch pc.
+ghost use Rattle.std.specs.Prelude.{◌≡◌, ◌<◌, ◌≤◌, ◌+◌, ◌++◌, ◌∷◌, [], length, drop, slice_get, IfOk, Some};
+ghost use Rattle.elf_loader.specs.Code.{word_at};
+ghost use Rattle.window_model.specs.State.{Machine};
+ghost use Rattle.fetch_unit.specs.Front.{with_front, fetches, next_of};
+
+use crate::item::item_at;
+use circular_buffer::HeapCircularBuffer;
+use elf_loader::Code;
+use machine_desc::Desc;
+use predictor::Predictor;
+use rv_types::NoMemory;
+use std::alloc::Global;
+use std::marker::Model;
+use window_model::{Event, Item, Row};
+
+/// The fetch unit, seen as the description that it is made for, the queue of items, oldest first, and the fetch pc: where
+/// fetching goes on, None where it doesn't.
+#[derive(Drop)]
+pub struct Fetch {
+    desc: Desc,
+    queue: HeapCircularBuffer<Item>,
+    fetch_pc: Option<u32>,
+}
+
+impl Model for Fetch {
+    ghost use Rattle.std.specs.Prelude.{◌≡◌, ◌≤◌, length};
+    ghost use Rattle.fetch_unit.specs.Front.{Front, front_code};
+
+    ghost Value = { Front };
+
+    ghost coded = { front_code };
+
+    ghost view = { λ f. record { desc = f.desc; queue = f.queue.items; fetch_pc = f.fetch_pc } };
+
+    ghost invariant = { λ f. (f.queue.capacity ≡ f.desc.core_queue) × (length f.queue.items ≤ f.desc.core_queue) };
+}
+
+impl Fetch {
+    /// A fetch unit of this description that begins at the entry, with an empty queue. It takes all memory that the queue
+    /// takes; the one error is want of it.
+    pub fn new(alloc: Global, desc: &Desc, entry: u32) -> Result<Fetch, NoMemory>
+        ensures { IfOk result (λ f. f ≡ record { desc = desc.now; queue = []; fetch_pc = Some entry }) }
+    {
+        let queue = HeapCircularBuffer::with_capacity(alloc, desc.core_queue as usize)?;
+        Ok(Fetch {
+            desc: *desc,
+            queue,
+            fetch_pc: Some(entry),
+        })
+    }
+
+    /// Phase Fetch: up to the description's width of fetching, items come into the queue, each with its event. What it
+    /// leaves is what the definition leaves of every machine with this queue, this fetch pc and this predictor.
+    pub fn fetch(&mut self, code: &Code, predictor: &Predictor, row: &mut Row)
+        requires room { length row.old.events + 4 ≤ 128 }
+        requires one_description { predictor.now.desc ≡ self.old.desc }
+        ensures front { (x : Machine) → with_front self.new predictor.now x ≡ (fetches (word_at code.now) self.old predictor.now x).machine }
+        ensures row { (x : Machine) → row.new ≡ record row.old { events = row.old.events ++ (fetches (word_at code.now) self.old predictor.now x).events } }
+        ensures desc { self.new.desc ≡ self.old.desc }
+        ensures few { length row.new.events ≤ length row.old.events + 4 }
+    {
+        for _ in 0..self.desc.core_fetch_width {
+            let Some(pc) = self.next() else {
+                return;
+            };
+            self.add(item_at(predictor, code, pc));
+            row.push(Event::Fet(pc));
+        }
+    }
+
+    // Where the next item is fetched, None where fetching doesn't go on or the queue is full.
+    fn next(&self) -> Option<u32>
+        ensures { result ≡ next_of self.now }
+    {
+        if self.queue.len() < self.desc.core_queue as usize {
+            self.fetch_pc
+        } else {
+            None
+        }
+    }
+
+    // The item comes into the queue, which has room, and fetching goes on at its predicted next address.
+    fn add(&mut self, item: Item)
+        requires room { length self.old.queue < self.old.desc.core_queue }
+        ensures { self.new ≡ record self.old { queue = self.old.queue ++ item ∷ []; fetch_pc = item.predicted } }
+    {
+        let _ = self.queue.try_push_back(item);
+        self.fetch_pc = item.predicted;
+    }
+
+    /// The oldest item, None exactly where the queue is empty.
+    pub fn front(&self) -> Option<Item>
+        ensures { result ≡ slice_get self.now.queue 0 }
+    {
+        self.queue.front().copied()
+    }
+
+    /// Takes the oldest item out of the queue and answers it. None exactly where the queue is empty; nothing changes then.
+    pub fn take(&mut self) -> Option<Item>
+        ensures item { result ≡ slice_get self.old.queue 0 }
+        ensures left { self.new ≡ record self.old { queue = drop 1 self.old.queue } }
+    {
+        self.queue.pop_front()
+    }
+
+    /// Drops the whole queue, and lets fetching go on at this address, or nowhere. Answers how many items were dropped.
+    pub fn redirect(&mut self, pc: Option<u32>) -> u32
+        ensures dropped { result ≡ length self.old.queue }
+        ensures redirected { self.new ≡ record self.old { queue = []; fetch_pc = pc } }
+    {
+        let dropped = self.queue.len() as u32;
+        self.queue.clear();
+        self.fetch_pc = pc;
+        dropped
+    }
+}
