@@ -1,0 +1,29 @@
+-- The ports that entries have asked for, oldest first, are those that the machine's definition counts (docs/machine.md,
+-- "Issue").
+use Rattle.std.specs.Prelude.{◌≡◌, ℕ, ◌-◌, Bool, ◌&&◌, nat_lt, if◌then◌else◌, List, [], ◌∷◌}
+use Rattle.machine_desc.specs.declared.Desc.{Desc}
+use Rattle.window_model.specs.declared.Entry.{Entry}
+use Rattle.window_model.specs.Issue.{Port, asking, is_granted, may_issue, port_of, ports}
+use Rattle.unit_ports.specs.Ports.{Ports, begun_at, left_at, taken_at}
+
+-- what is left are the ports that none of these entries may issue at
+pub record LeftAfter (d : Desc) (free : Bool) (before : List Entry) (p : Ports) : Type 0 where
+  pub each_port : (port : Port) → left_at port p ≡ ports d port - asking d free port before
+
+-- the ports once an entry has asked, where it may issue
+abbrev pub asked : Bool → Entry → Ports → Ports
+asked may e p = if may then taken_at (port_of e.item.kind) p else p
+
+-- as a cycle begins none has asked
+abbrev pub OpensWithAll : Type 0
+OpensWithAll = (d : Desc) (free : Bool) (cycle : ℕ) (p : Ports) → p.alus ≡ d.units_alus → LeftAfter d free [] (begun_at cycle p)
+
+-- an entry that may issue asks for the port of its kind, and what is then left is left to those after it
+abbrev pub LeavesAsCounted : Type 0
+LeavesAsCounted = (d : Desc) (free : Bool) (before : List Entry) (e : Entry) (p : Ports) →
+    LeftAfter d free before p → LeftAfter d free (e ∷ before) (asked (may_issue d free before e) e p)
+
+-- an entry that may issue gets a port exactly where the definition grants it
+abbrev pub GrantsAsCounted : Type 0
+GrantsAsCounted = (d : Desc) (free : Bool) (before : List Entry) (e : Entry) (p : Ports) →
+    LeftAfter d free before p → (may_issue d free before e && nat_lt 0 (left_at (port_of e.item.kind) p)) ≡ is_granted d free before e

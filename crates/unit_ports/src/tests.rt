@@ -1,0 +1,53 @@
+//! Ports of two cycles, and a divider that is used, freed and used again. The expected values follow from
+//! `docs/machine.md`, "Issue" and "Resolve".
+use crate::Ports;
+use machine_desc::read_desc;
+use rv_types::Kind;
+use std::test::Fail;
+
+// A description with two arithmetic units.
+const TWO_UNITS: &[u8] =
+    b"[core]\nfetch_width = 2\nretire_width = 2\nrob = 16\nstations = 8\nloads = 4\nstores = 4\nqueue = 8\n[units]\nalus = 2\nmul_latency = 3\n[predictor]\ncounters = 16\nbtb = 4\n[cache]\nsets = 2\nways = 2\nline = 16\nhit_latency = 2\nmiss_latency = 10\nmshrs = 2\n[ram]\nbase = 65536\nsize = 65536\n[stt]\nmodel = \"spectre\"\n";
+
+#[test]
+fn two_units_and_one_of_each_other_port(rt: HostRuntime) -> Result<(), Fail> {
+    let mut ports = Ports::new(&read_desc(rt.alloc(), TWO_UNITS)?);
+    // A JAL and a branch take the two arithmetic units; JALR and arithmetic then find none.
+    let rows: [(Kind, bool); 10] = [
+        (Kind::Jal, true),
+        (Kind::Load, true),
+        (Kind::Branch, true),
+        (Kind::Jalr, false),
+        (Kind::Mul, true),
+        (Kind::Alu, false),
+        (Kind::Store, true),
+        (Kind::Div, true),
+        (Kind::Load, false),
+        (Kind::Mul, false),
+    ];
+    for cycle in 1..3 {
+        ports.begin(cycle);
+        for (kind, granted) in rows {
+            assert_eq!(rt; ports.grant(kind), granted, "{kind:?} in cycle {cycle}");
+        }
+    }
+    Ok(())
+}
+
+#[test]
+fn divider(rt: HostRuntime) -> Result<(), Fail> {
+    let mut ports = Ports::new(&read_desc(rt.alloc(), TWO_UNITS)?);
+    assert_eq!(rt; ports.free_div(), true);
+    ports.begin(4);
+    ports.divide(9, 12);
+    assert_eq!(rt; ports.free_div(), false);
+    // The user is older than what is dropped.
+    ports.drop_from(13);
+    assert_eq!(rt; ports.free_div(), false);
+    ports.begin(9);
+    assert_eq!(rt; ports.free_div(), true);
+    ports.divide(30, 14);
+    ports.drop_from(13);
+    assert_eq!(rt; ports.free_div(), true);
+    Ok(())
+}
