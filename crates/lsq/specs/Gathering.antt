@@ -1,0 +1,48 @@
+-- What one walk over the stores gathers for a load, and what it then comes to.
+use Rattle.std.specs.Prelude.{ℕ, ◌+◌, Bool, ◌&&◌, List, [], ◌∷◌, None, is_some}
+use Rattle.std.specs.Option.{option_or}
+use Rattle.rv_types.specs.Word.{from_le}
+use Rattle.rv_types.specs.Memory.{Ram}
+use Rattle.rv_types.specs.declared.Width.{Width}
+use Rattle.rv_types.specs.declared.Width.TheVariants.{B, H, W}
+use Rattle.lsq.specs.declared.store.Store.{Store}
+use Rattle.lsq.specs.declared.merging.Gathered.{Gathered}
+use Rattle.lsq.specs.Queues.{younger, youngest_root}
+use Rattle.lsq.specs.Merging.{byte_by, byte_or_memory, forwarded}
+
+-- what these stores, youngest first, give to a load of the bytes from an address on
+abbrev pub gathered : List Store → ℕ → Gathered
+gathered stores a = record {
+  first = forwarded stores a;
+  second = forwarded stores (a + 1);
+  third = forwarded stores (a + 1 + 1);
+  fourth = forwarded stores (a + 1 + 1 + 1);
+  root = youngest_root stores;
+}
+
+-- what no store gives
+abbrev pub nothing : Gathered
+nothing = record { first = None; second = None; third = None; fourth = None; root = None }
+
+-- what is gathered once a younger store is passed
+abbrev pub passed : ℕ → Store → Gathered → Gathered
+passed a s g = record {
+  first = option_or (byte_by a s.known) g.first;
+  second = option_or (byte_by (a + 1) s.known) g.second;
+  third = option_or (byte_by (a + 1 + 1) s.known) g.third;
+  fourth = option_or (byte_by (a + 1 + 1 + 1) s.known) g.fourth;
+  root = younger s.root g.root;
+}
+
+-- the number of so many bytes from an address on, those that memory holds where none was gathered
+abbrev pub number_in : Ram → ℕ → Width → Gathered → ℕ
+number_in ram a B g = from_le (byte_or_memory ram a g.first ∷ [])
+number_in ram a H g = from_le (byte_or_memory ram a g.first ∷ byte_or_memory ram (a + 1) g.second ∷ [])
+number_in ram a W g =
+    from_le (byte_or_memory ram a g.first ∷ byte_or_memory ram (a + 1) g.second ∷ byte_or_memory ram (a + 1 + 1) g.third ∷ byte_or_memory ram (a + 1 + 1 + 1) g.fourth ∷ [])
+
+-- all of so many bytes were gathered
+abbrev pub covered_in : Width → Gathered → Bool
+covered_in B g = is_some g.first
+covered_in H g = is_some g.first && is_some g.second
+covered_in W g = is_some g.first && is_some g.second && is_some g.third && is_some g.fourth

@@ -1,0 +1,36 @@
+-- What a load finds in the stores before it and in memory (docs/machine.md, "Loads").
+use Rattle.std.specs.Prelude.{ℕ, ◌+◌, ◌-◌, Bool, not, ◌&&◌, nat_le, nat_lt, if◌then◌else◌, List, [], ◌∷◌, map, slice_index, Option, Some, None, is_some}
+use Rattle.std.specs.Option.{option_or}
+use Rattle.std.specs.List.{list_all}
+use Rattle.rv_types.specs.Word.{to_le}
+use Rattle.rv_types.specs.Memory.{Ram, range}
+use Rattle.rv_types.specs.Value.{bytes_in}
+use Rattle.lsq.specs.declared.store.Known.{Known}
+use Rattle.lsq.specs.declared.store.Store.{Store}
+
+-- what a store writes reaches an address; with a fault it reaches none
+abbrev pub reaches : ℕ → Known → Bool
+reaches a k = not (is_some k.fault) && nat_le k.addr a && nat_lt a (k.addr + bytes_in k.width)
+
+-- the byte that a store writes at an address, if it is known and reaches it
+abbrev pub byte_by : ℕ → Option Known → Option ℕ
+byte_by a None = None
+byte_by a (Some k) = if reaches a k then Some (slice_index (to_le (bytes_in k.width) k.stored) (a - k.addr)) else None
+
+-- the byte that these stores, youngest first, give to a load at an address: that of the youngest that writes it
+abbrev pub forwarded : List Store → ℕ → Option ℕ
+forwarded [] a = None
+forwarded (s ∷ stores) a = option_or (byte_by a s.known) (forwarded stores a)
+
+-- a byte that is given, else the one that memory holds
+abbrev pub byte_or_memory : Ram → ℕ → Option ℕ → ℕ
+byte_or_memory ram a None = slice_index ram.bytes (a - ram.base)
+byte_or_memory ram a (Some byte) = byte
+
+-- the n bytes that a load finds from an address on, behind these stores
+abbrev pub merged_bytes : Ram → List Store → ℕ → ℕ → List ℕ
+merged_bytes ram stores a n = map (λ b. byte_or_memory ram b (forwarded stores b)) (range a n)
+
+-- these stores give all n bytes from an address on
+abbrev pub all_forwarded : List Store → ℕ → ℕ → Bool
+all_forwarded stores a n = list_all (λ b. is_some (forwarded stores b)) (range a n)

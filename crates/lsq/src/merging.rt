@@ -1,0 +1,205 @@
+//! What a load finds in the stores before it and in memory (`docs/machine.md`, "Loads"): one walk over the stores.
+ghost use Rattle.std.specs.Prelude.{◌≡◌, ◌≤◌, ◌<◌, ◌+◌, ◌-◌, ◌^◌, None, nat_lt, if◌then◌else◌, length, slice_index};
+ghost use Rattle.rv_types.specs.Memory.{load_fault};
+ghost use Rattle.rv_types.specs.Value.{bytes_in};
+ghost use Rattle.rv_types.specs.Word.{from_le, to_le};
+ghost use Rattle.lsq.specs.Queues.{older, younger, youngest_root};
+ghost use Rattle.lsq.specs.Merging.{all_forwarded, byte_by, byte_or_memory, merged_bytes, reaches};
+ghost use Rattle.lsq.specs.Gathering.{covered_in, gathered, nothing, number_in, passed};
+
+use crate::store::{Known, Store};
+use byte_ram::Ram;
+use rv_types::Width;
+
+/// What a load finds.
+#[derive(Clone, Copy, Debug, PartialEq, Eq)]
+pub struct Merged {
+    /// The number of its bytes, the lowest first.
+    pub value: u32,
+    /// Older stores give all its bytes.
+    pub covered: bool,
+    /// The serial of the youngest load from which an older store's address flows, if there is one.
+    pub root: Option<u64>,
+}
+
+/// What stores give to a load: the bytes of the youngest stores that write them, as far as there are such, at its address
+/// and at the three behind; and the youngest root of the stores' addresses.
+#[derive(Clone, Copy, Debug, PartialEq, Eq)]
+pub(crate) struct Gathered {
+    pub(crate) first: Option<u8>,
+    pub(crate) second: Option<u8>,
+    pub(crate) third: Option<u8>,
+    pub(crate) fourth: Option<u8>,
+    pub(crate) root: Option<u64>,
+}
+
+// How many bytes an access of this width moves.
+fn bytes_in(width: Width) -> u32
+    ensures { result ≡ bytes_in width }
+{
+    match width {
+        Width::B => 1,
+        Width::H => 2,
+        Width::W => 4,
+    }
+}
+
+// Whether what a store writes reaches an address. A store with a fault reaches none.
+fn reaches(known: &Known, addr: u64) -> bool
+    ensures { result ≡ reaches addr known.now }
+{
+    known.fault.is_none()
+        && known.addr as u64 <= addr
+        && addr < known.addr as u64 + bytes_in(known.width) as u64
+}
+
+// A byte of a number of this width, the lowest first, and 0 past its last.
+fn byte_in(width: Width, number: u32, place: u64) -> u8
+    ensures { result ≡ slice_index (to_le (bytes_in width) number) place }
+{
+    match (width, place) {
+        (_, 0) => (number % 256) as u8,
+        (Width::H | Width::W, 1) => (number / 256 % 256) as u8,
+        (Width::W, 2) => (number / 256 / 256 % 256) as u8,
+        (Width::W, 3) => (number / 256 / 256 / 256 % 256) as u8,
+        _ => 0,
+    }
+}
+
+// The byte that a store writes at an address, if it is known and reaches it.
+fn byte_by(store: &Store, addr: u64) -> Option<u8>
+    ensures { result ≡ byte_by addr store.now.known }
+{
+    match &store.known {
+        Some(known) if reaches(known, addr) => Some(byte_in(
+            known.width,
+            known.stored,
+            addr.saturating_sub(known.addr as u64),
+        )),
+        _ => None,
+    }
+}
+
+// The younger of two roots.
+fn younger(first: Option<u64>, second: Option<u64>) -> Option<u64>
+    ensures { result ≡ younger first second }
+{
+    match (first, second) {
+        (None, root) => root,
+        (Some(a), None) => Some(a),
+        (Some(a), Some(b)) => Some(a.max(b)),
+    }
+}
+
+impl Gathered {
+    // What no store gives.
+    fn nothing() -> Gathered
+        ensures { result ≡ nothing }
+    {
+        Gathered {
+            first: None,
+            second: None,
+            third: None,
+            fourth: None,
+            root: None,
+        }
+    }
+
+    // What is gathered for the bytes from an address on, once this younger store is passed.
+    fn passed(self, store: &Store, addr: u64) -> Gathered
+        requires { addr < 2 ^ 32 }
+        ensures { result ≡ passed addr store.now self }
+    {
+        let second = addr + 1;
+        let third = second + 1;
+        let fourth = third + 1;
+        Gathered {
+            first: byte_by(store, addr).or(self.first),
+            second: byte_by(store, second).or(self.second),
+            third: byte_by(store, third).or(self.third),
+            fourth: byte_by(store, fourth).or(self.fourth),
+            root: younger(store.root, self.root),
+        }
+    }
+
+    // The same, where the store is older than the load.
+    fn passed_if_older(self, store: &Store, serial: u64, addr: u64) -> Gathered
+        requires { addr < 2 ^ 32 }
+        ensures { result ≡ (if nat_lt store.now.serial serial then passed addr store.now self else self) }
+    {
+        if store.serial < serial {
+            return self.passed(store, addr);
+        }
+        self
+    }
+
+    // The number of the bytes from an address on: those that were gathered, else memory's.
+    fn number(&self, addr: u64, width: Width, ram: &Ram) -> u32
+        requires { load_fault ram.now addr (bytes_in width) ≡ None }
+        ensures { result ≡ number_in ram.now addr width self.now }
+    {
+        let first = byte_or_memory(self.first, ram, addr) as u32;
+        match width {
+            Width::B => first,
+            Width::H => first + 256 * byte_or_memory(self.second, ram, addr + 1) as u32,
+            Width::W => {
+                let second = byte_or_memory(self.second, ram, addr + 1) as u32;
+                let third = byte_or_memory(self.third, ram, addr + 1 + 1) as u32;
+                let fourth = byte_or_memory(self.fourth, ram, addr + 1 + 1 + 1) as u32;
+                first + 256 * (second + 256 * (third + 256 * fourth))
+            }
+        }
+    }
+
+    // Whether all bytes of a width were gathered.
+    fn is_covered(&self, width: Width) -> bool
+        ensures { result ≡ covered_in width self.now }
+    {
+        let halves = self.first.is_some() && self.second.is_some();
+        match width {
+            Width::B => self.first.is_some(),
+            Width::H => halves,
+            Width::W => halves && self.third.is_some() && self.fourth.is_some(),
+        }
+    }
+}
+
+// The byte that was gathered for an address, else the one that memory holds there.
+fn byte_or_memory(byte: Option<u8>, ram: &Ram, addr: u64) -> u8
+    requires low { ram.now.base ≤ addr }
+    requires high { addr < ram.now.base + length ram.now.bytes }
+    ensures { result ≡ byte_or_memory ram.now addr byte }
+{
+    match byte {
+        Some(byte) => byte,
+        None => ram.bytes()[(addr - ram.base() as u64) as usize],
+    }
+}
+
+// What the stores older than a serial give to a load of the bytes from an address on.
+fn gather(stores: &[Store], serial: u64, addr: u64) -> Gathered
+    requires { addr < 2 ^ 32 }
+    ensures { result ≡ gathered (older serial stores.now) addr }
+{
+    let mut gathered = Gathered::nothing();
+    for store in stores {
+        gathered = gathered.passed_if_older(store, serial, addr);
+    }
+    gathered
+}
+
+// What a load with a serial finds in these stores and in memory. The access has no fault.
+#[tactic(auto, using(crate::proofs::Gathers::number_is, crate::proofs::Gathers::covered_is))]
+pub(crate) fn merge(stores: &[Store], serial: u64, addr: u32, width: Width, ram: &Ram) -> Merged
+    requires address { load_fault ram.now addr (bytes_in width) ≡ None }
+    ensures value { result.value ≡ from_le (merged_bytes ram.now (older serial stores.now) addr (bytes_in width)) }
+    ensures covered { result.covered ≡ all_forwarded (older serial stores.now) addr (bytes_in width) }
+    ensures root { result.root ≡ youngest_root (older serial stores.now) }
+{
+    let gathered = gather(stores, serial, addr as u64);
+    Merged {
+        value: gathered.number(addr as u64, width, ram),
+        covered: gathered.is_covered(width),
+        root: gathered.root,
+    }
+}

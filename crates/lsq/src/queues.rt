@@ -1,0 +1,222 @@
+//! The queue of loads and the queue of stores.
+ghost use Rattle.std.specs.Prelude.{◌≡◌, ◌<◌, ◌≤◌, not, ◌==◌, ◌||◌, nat_le, nat_lt, [], ◌∷◌, ◌++◌, length, map, None, IfOk, vec_len, vec_capacity};
+ghost use Rattle.std.specs.List.{filter, list_all};
+ghost use Rattle.rv_types.specs.Memory.{load_fault};
+ghost use Rattle.rv_types.specs.Value.{bytes_in};
+ghost use Rattle.rv_types.specs.Word.{from_le};
+ghost use Rattle.lsq.specs.Queues.{empty, is_known, known_at, older, youngest_root};
+ghost use Rattle.lsq.specs.Merging.{all_forwarded, merged_bytes};
+
+use crate::merging::{Merged, merge};
+use crate::store::{Known, Store};
+use byte_ram::Ram;
+use machine_desc::Desc;
+use rv_types::{Cause, NoMemory, Width};
+use std::alloc::Global;
+use std::marker::Model;
+
+/// The loads and the stores in flight, each oldest first. Entries are named by their serials.
+#[derive(Drop)]
+pub struct Lsq {
+    loads: Vec<u64>,
+    stores: Vec<Store>,
+    max_loads: u32,
+    max_stores: u32,
+}
+
+impl Model for Lsq {
+    ghost use Rattle.std.specs.Prelude.{◌≤◌, vec_capacity};
+    ghost use Rattle.lsq.specs.Queues.{Queues};
+
+    ghost Value = { Queues };
+
+    ghost view = { λ q. record { loads = q.loads.items; stores = q.stores.items; max_loads = q.max_loads; max_stores = q.max_stores } };
+
+    ghost invariant = { λ q. (q.max_loads ≤ vec_capacity q.loads) × (q.max_stores ≤ vec_capacity q.stores) };
+}
+
+impl Lsq {
+    /// Empty queues with the description's room. No later call takes memory. The one error is want of memory.
+    pub fn new(alloc: Global, desc: &Desc) -> Result<Lsq, NoMemory>
+        ensures { IfOk result (λ q. q ≡ empty desc.now) }
+    {
+        let loads = Vec::with_capacity(alloc, desc.core_loads as usize)?;
+        let stores = Vec::with_capacity(alloc, desc.core_stores as usize)?;
+        Ok(Lsq {
+            loads,
+            stores,
+            max_loads: desc.core_loads,
+            max_stores: desc.core_stores,
+        })
+    }
+
+    /// Whether there is room for one more load.
+    pub fn has_load_room(&self) -> bool
+        ensures { result ≡ nat_lt (length self.now.loads) self.now.max_loads }
+    {
+        self.loads.len() < self.max_loads as usize
+    }
+
+    /// Whether there is room for one more store.
+    pub fn has_store_room(&self) -> bool
+        ensures { result ≡ nat_lt (length self.now.stores) self.now.max_stores }
+    {
+        self.stores.len() < self.max_stores as usize
+    }
+
+    /// Appends a load.
+    pub fn add_load(&mut self, serial: u64)
+        requires room { length self.old.loads < self.old.max_loads }
+        ensures { self.new ≡ record self.old { loads = self.old.loads ++ serial ∷ [] } }
+    {
+        push_within(&mut self.loads, serial);
+    }
+
+    /// Appends a store of which nothing is known, with the serial of the youngest load from which its address flows.
+    pub fn add_store(&mut self, serial: u64, root: Option<u64>)
+        requires room { length self.old.stores < self.old.max_stores }
+        ensures { self.new ≡ record self.old { stores = self.old.stores ++ record { serial = serial; root = root; known = None } ∷ [] } }
+    {
+        let store = Store {
+            serial,
+            root,
+            known: None,
+        };
+        push_within(&mut self.stores, store);
+    }
+
+    /// Notes what the store with this serial writes, which is Done: the lowest bytes of a number from an address on, or nothing
+    /// where it has a fault.
+    pub fn store_known(
+        &mut self,
+        serial: u64,
+        addr: u32,
+        width: Width,
+        stored: u32,
+        fault: Option<Cause>,
+    )
+        ensures { self.new ≡ record self.old { stores = map (known_at serial (record { addr = addr; width = width; stored = stored; fault = fault })) self.old.stores } }
+    {
+        let known = Known {
+            addr,
+            width,
+            stored,
+            fault,
+        };
+        set_known(&mut self.stores, serial, known);
+    }
+
+    /// Whether of each store older than this serial is known what it writes.
+    #[tactic(auto, using(crate::proofs::Older::all_older))]
+    pub fn all_older_known(&self, serial: u64) -> bool
+        ensures { result ≡ list_all is_known (older serial self.now.stores) }
+    {
+        are_known(self.stores.as_slice(), serial)
+    }
+
+    /// What a load with this serial finds: the number of its bytes, each from the youngest older store that writes it, else
+    /// from memory; whether older stores give them all; and the youngest root of the older stores' addresses. The access has
+    /// no fault.
+    pub fn merge(&self, serial: u64, addr: u32, width: Width, ram: &Ram) -> Merged
+        requires address { load_fault ram.now addr (bytes_in width) ≡ None }
+        ensures value { result.value ≡ from_le (merged_bytes ram.now (older serial self.now.stores) addr (bytes_in width)) }
+        ensures covered { result.covered ≡ all_forwarded (older serial self.now.stores) addr (bytes_in width) }
+        ensures root { result.root ≡ youngest_root (older serial self.now.stores) }
+    {
+        merge(self.stores.as_slice(), serial, addr, width, ram)
+    }
+
+    /// Takes out each load and store from this serial on: they were dropped.
+    pub fn cut(&mut self, first: u64)
+        ensures { self.new ≡ record self.old { loads = filter (λ l. nat_lt l first) self.old.loads; stores = filter (λ s. nat_lt s.serial first) self.old.stores } }
+    {
+        cut_loads(&mut self.loads, first);
+        cut_stores(&mut self.stores, first);
+    }
+
+    /// Takes out the load or store with this serial, if there is one: it retired.
+    pub fn pop(&mut self, serial: u64)
+        ensures { self.new ≡ record self.old { loads = filter (λ l. not (l == serial)) self.old.loads; stores = filter (λ s. not (s.serial == serial)) self.old.stores } }
+    {
+        pop_load(&mut self.loads, serial);
+        pop_store(&mut self.stores, serial);
+    }
+}
+
+// Appends where there is room.
+fn push_within<T: Drop>(items: &mut Vec<T>, item: T)
+    requires { vec_len items.old < vec_capacity items.old }
+    ensures items { items.new.items ≡ items.old.items ++ item ∷ [] }
+    ensures capacity { vec_capacity items.old ≤ vec_capacity items.new }
+{
+    match items.push(item) {
+        Ok(()) => (),
+        Err(_) => unreachable!(),
+    }
+}
+
+// Whether each store has a serial from this one on, or is known.
+fn are_known(stores: &[Store], serial: u64) -> bool
+    ensures { result ≡ list_all (λ s. nat_le serial s.serial || is_known s) stores.now }
+{
+    stores
+        .iter()
+        .all(|store| store.serial >= serial || store.known.is_some())
+}
+
+// The store, with what is known of it, where it has this serial.
+fn known_at(store: Store, serial: u64, known: Known) -> Store
+    ensures { result ≡ known_at serial known store }
+{
+    if store.serial == serial {
+        return Store {
+            known: Some(known),
+            ..store
+        };
+    }
+    store
+}
+
+// Notes what is known in a list of stores.
+fn set_known_in(stores: &mut [Store], serial: u64, known: Known)
+    ensures { stores.new ≡ map (known_at serial known) stores.old }
+{
+    for store in stores.iter_mut() {
+        *store = known_at(*store, serial, known);
+    }
+}
+
+fn set_known(stores: &mut Vec<Store>, serial: u64, known: Known)
+    ensures items { stores.new.items ≡ map (known_at serial known) stores.old.items }
+    ensures capacity { vec_capacity stores.new ≡ vec_capacity stores.old }
+{
+    set_known_in(stores.as_mut_slice(), serial, known);
+}
+
+fn cut_loads(loads: &mut Vec<u64>, first: u64)
+    ensures kept { loads.new.items ≡ filter (λ l. nat_lt l first) loads.old.items }
+    ensures capacity { vec_capacity loads.new ≡ vec_capacity loads.old }
+{
+    loads.retain(|load| *load < first);
+}
+
+fn cut_stores(stores: &mut Vec<Store>, first: u64)
+    ensures kept { stores.new.items ≡ filter (λ s. nat_lt s.serial first) stores.old.items }
+    ensures capacity { vec_capacity stores.new ≡ vec_capacity stores.old }
+{
+    stores.retain(|store| store.serial < first);
+}
+
+fn pop_load(loads: &mut Vec<u64>, serial: u64)
+    ensures kept { loads.new.items ≡ filter (λ l. not (l == serial)) loads.old.items }
+    ensures capacity { vec_capacity loads.new ≡ vec_capacity loads.old }
+{
+    loads.retain(|load| *load != serial);
+}
+
+fn pop_store(stores: &mut Vec<Store>, serial: u64)
+    ensures kept { stores.new.items ≡ filter (λ s. not (s.serial == serial)) stores.old.items }
+    ensures capacity { vec_capacity stores.new ≡ vec_capacity stores.old }
+{
+    stores.retain(|store| store.serial != serial);
+}

@@ -1,0 +1,110 @@
+//! Queues that are filled, asked and emptied. The expected values follow from `docs/machine.md`, "Loads", "Rename" and
+//! "Issue".
+use crate::{Lsq, Merged};
+use byte_ram::Ram;
+use machine_desc::read_desc;
+use rv_types::{Cause, Width};
+use std::test::Fail;
+
+const BASE: u32 = 65536;
+
+// A description with four loads and four stores.
+const FOUR_OF_EACH: &[u8] =
+    b"[core]\nfetch_width = 2\nretire_width = 2\nrob = 16\nstations = 8\nloads = 4\nstores = 4\nqueue = 8\n[units]\nalus = 2\nmul_latency = 3\n[predictor]\ncounters = 16\nbtb = 4\n[cache]\nsets = 2\nways = 2\nline = 16\nhit_latency = 2\nmiss_latency = 10\nmshrs = 2\n[ram]\nbase = 65536\nsize = 65536\n[stt]\nmodel = \"spectre\"\n";
+
+// Whether there was room for the load, which is then added.
+fn add_load(lsq: &mut Lsq, serial: u64) -> bool {
+    if !lsq.has_load_room() {
+        return false;
+    }
+    lsq.add_load(serial);
+    true
+}
+
+// Whether there was room for the store, which is then added.
+fn add_store(lsq: &mut Lsq, serial: u64, root: Option<u64>) -> bool {
+    if !lsq.has_store_room() {
+        return false;
+    }
+    lsq.add_store(serial, root);
+    true
+}
+
+// What a load finds, None where the access has a fault.
+#[tactic(auto, using(crate::proofs::Faultless::answered))]
+fn found(lsq: &Lsq, serial: u64, ram: &Ram, addr: u32, width: Width) -> Option<Merged> {
+    match ram.get(addr, width) {
+        Ok(_) => Some(lsq.merge(serial, addr, width, ram)),
+        Err(_) => None,
+    }
+}
+
+fn merged(value: u32, covered: bool, root: Option<u64>) -> Option<Merged> {
+    Some(Merged {
+        value,
+        covered,
+        root,
+    })
+}
+
+#[test]
+fn a_load_finds_the_youngest_bytes_before_it(rt: HostRuntime) -> Result<(), Fail> {
+    let alloc = rt.alloc();
+    let mut ram = Ram::new(alloc, BASE, 64)?;
+    assert_eq!(rt; ram.put(BASE, Width::W, 0x4433_2211), Ok(()));
+    let mut lsq = Lsq::new(alloc, &read_desc(alloc, FOUR_OF_EACH)?)?;
+    assert_eq!(rt; add_store(&mut lsq, 3, None), true);
+    assert_eq!(rt; add_store(&mut lsq, 5, Some(2)), true);
+    assert_eq!(rt; add_store(&mut lsq, 8, Some(1)), true);
+    assert_eq!(rt; add_store(&mut lsq, 12, Some(11)), true);
+    assert_eq!(rt; add_store(&mut lsq, 13, None), false);
+    lsq.store_known(3, BASE, Width::H, 0xbeef, None);
+    assert_eq!(rt;
+        (lsq.all_older_known(5), lsq.all_older_known(6)),
+        (true, false)
+    );
+    lsq.store_known(5, BASE + 1, Width::B, 0x1cd, None);
+    // A store with a fault gives nothing, but its address has a root as any other's.
+    lsq.store_known(8, BASE, Width::W, 0x5566_7788, Some(Cause::store_outside()));
+    let rows: [(u64, u32, Width, Option<Merged>); 7] = [
+        (3, BASE, Width::W, merged(0x4433_2211, false, None)),
+        (5, BASE, Width::H, merged(0xbeef, true, None)),
+        (7, BASE, Width::H, merged(0xcdef, true, Some(2))),
+        (10, BASE, Width::W, merged(0x4433_cdef, false, Some(2))),
+        (10, BASE + 1, Width::B, merged(0xcd, true, Some(2))),
+        (13, BASE + 2, Width::B, merged(0x33, false, Some(11))),
+        (13, BASE + 1, Width::H, None),
+    ];
+    for (serial, addr, width, want) in rows {
+        assert_eq!(rt;
+            found(&lsq, serial, &ram, addr, width),
+            want,
+            "{serial} at {addr}"
+        );
+    }
+    lsq.cut(8);
+    assert_eq!(rt; lsq.all_older_known(20), true);
+    lsq.pop(3);
+    let left = found(&lsq, 20, &ram, BASE, Width::H);
+    assert_eq!(rt; left, merged(0xcd11, false, Some(2)));
+    Ok(())
+}
+
+#[test]
+fn four_loads_have_room(rt: HostRuntime) -> Result<(), Fail> {
+    let alloc = rt.alloc();
+    let mut lsq = Lsq::new(alloc, &read_desc(alloc, FOUR_OF_EACH)?)?;
+    for serial in 0..4 {
+        assert_eq!(rt; add_load(&mut lsq, serial), true);
+    }
+    assert_eq!(rt; add_load(&mut lsq, 4), false);
+    lsq.pop(4);
+    assert_eq!(rt; add_load(&mut lsq, 4), false);
+    lsq.pop(0);
+    assert_eq!(rt; add_load(&mut lsq, 4), true);
+    lsq.cut(3);
+    assert_eq!(rt; add_load(&mut lsq, 5), true);
+    assert_eq!(rt; add_load(&mut lsq, 6), true);
+    assert_eq!(rt; add_load(&mut lsq, 7), false);
+    Ok(())
+}
