@@ -1,0 +1,114 @@
+-- Entries that are renamed, that change unseen, and how many there are.
+use Rattle.std.proofs.Common.{◌≡◌, ℕ, Bool, true, false, cond, List, [], ◌∷◌, ◌++◌, length, Option, Some, None, refl, ap, sym, ◌∙◌, append-nil}
+use Rattle.std.specs.Prelude.{map, if◌then◌else◌}
+use Rattle.std.specs.List.{filter}
+use Rattle.std.proofs.lemmas.List.{map-append, length-map}
+use Rattle.std.proofs.lemmas.List.Elements.{filter-append}
+use Rattle.std.proofs.lemmas.List.Sums.{length-filter}
+use Rattle.rv_types.specs.declared.Kind.{Kind}
+use Rattle.rv_types.specs.declared.Kind.TheVariants.{Load, Store as StoreKind}
+use Rattle.window_model.specs.declared.Entry.{Entry}
+use Rattle.window_model.specs.Order.{is_load, is_store}
+use Rattle.queue_laws.specs.Window.{Seen, Shown, loads_in, seen, shown_entry, shown_store, stores_in, write_in}
+use Rattle.queue_laws.specs.Laws.{AddsLoad, AddsOther, AddsStore, ChangesUnseen, OpensEmpty, RoomAsCounted}
+
+-- ---- an entry behind the youngest
+
+stores_push : (window : List Entry) (e : Entry) (b : Bool) → is_store e.item.kind ≡ b → stores_in (window ++ e ∷ []) ≡ stores_in window ++ cond b (shown_entry e ∷ []) []
+stores_push window e b h =
+    ap (map shown_entry) (filter-append (λ e. is_store e.item.kind) window (e ∷ [])) ∙ map-append shown_entry (filter (λ e. is_store e.item.kind) window) _
+    ∙ ap (λ ws. stores_in window ++ ws) (ap (λ b. map shown_entry (cond b (e ∷ []) [])) h ∙ shown_if b)
+  where
+    shown_if : (b : Bool) → map shown_entry (cond b (e ∷ []) []) ≡ cond b (shown_entry e ∷ []) []
+    shown_if true = refl
+    shown_if false = refl
+
+loads_push : (window : List Entry) (e : Entry) (b : Bool) → is_load e.item.kind ≡ b → loads_in (window ++ e ∷ []) ≡ loads_in window ++ cond b (e.serial ∷ []) []
+loads_push window e b h =
+    ap (map (λ (e : Entry). e.serial)) (filter-append (λ (e : Entry). is_load e.item.kind) window (e ∷ [])) ∙ map-append (λ (e : Entry). e.serial) (filter (λ e. is_load e.item.kind) window) _
+    ∙ ap (λ ws. loads_in window ++ ws) (ap (λ b. map (λ (e : Entry). e.serial) (cond b (e ∷ []) [])) h ∙ serial_if b)
+  where
+    serial_if : (b : Bool) → map (λ (e : Entry). e.serial) (cond b (e ∷ []) []) ≡ cond b (e.serial ∷ []) []
+    serial_if true = refl
+    serial_if false = refl
+
+no_store : (window : List Entry) (e : Entry) → is_store e.item.kind ≡ false → stores_in (window ++ e ∷ []) ≡ stores_in window
+no_store window e h = stores_push window e false h ∙ append-nil (stores_in window)
+
+no_load : (window : List Entry) (e : Entry) → is_load e.item.kind ≡ false → loads_in (window ++ e ∷ []) ≡ loads_in window
+no_load window e h = loads_push window e false h ∙ append-nil (loads_in window)
+
+load_no_store : (k : Kind) → is_load k ≡ true → is_store k ≡ false
+load_no_store StoreKind h = absurd (cc)
+load_no_store _ h = refl
+
+store_no_load : (k : Kind) → is_store k ≡ true → is_load k ≡ false
+store_no_load Load h = absurd (cc)
+store_no_load _ h = refl
+
+pub opens : OpensEmpty
+opens d = record { loads = refl; stores = refl }
+
+pub adds_load : AddsLoad
+adds_load q window e s h = record {
+  loads = ap (λ ls. ls ++ e.serial ∷ []) s.loads ∙ sym (loads_push window e true h);
+  stores = s.stores ∙ sym (no_store window e (load_no_store e.item.kind h));
+}
+
+pub adds_store : AddsStore
+adds_store q window e root s h d = record {
+  loads = s.loads ∙ sym (no_load window e (store_no_load e.item.kind h));
+  stores = map-append shown_store q.stores _ ∙ ap (λ ws. ws ++ record { serial = e.serial; write = None } ∷ []) s.stores
+      ∙ ap (λ d. stores_in window ++ record { serial = e.serial; write = if d then Some (write_in e) else None } ∷ []) (sym d)
+      ∙ sym (stores_push window e true h);
+}
+
+pub adds_other : AddsOther
+adds_other q window e s l h = record { loads = s.loads ∙ sym (no_load window e l); stores = s.stores ∙ sym (no_store window e h) }
+
+-- ---- what the queues see
+
+abbrev somes : {X : Type 0} → List (Option X) → List X
+somes [] = []
+somes (None ∷ os) = somes os
+somes (Some x ∷ os) = x ∷ somes os
+
+store_seen : (b : Bool) (e : Entry) (f : List Entry) (r : List Shown) → map shown_entry f ≡ r →
+    map shown_entry (cond b (e ∷ f) f) ≡ somes ((if b then Some (shown_entry e) else None) ∷ []) ++ r
+store_seen true e f r h = ap (λ r. shown_entry e ∷ r) h
+store_seen false e f r h = h
+
+load_seen : (b : Bool) (e : Entry) (f : List Entry) (r : List ℕ) → map (λ e. e.serial) f ≡ r →
+    map (λ (e : Entry). e.serial) (cond b (e ∷ f) f) ≡ somes ((if b then Some e.serial else None) ∷ []) ++ r
+load_seen true e f r h = ap (λ r. e.serial ∷ r) h
+load_seen false e f r h = h
+
+some_more : {X : Type 0} (o : Option X) (os : List (Option X)) → somes (o ∷ []) ++ somes os ≡ somes (o ∷ os)
+some_more None os = refl
+some_more (Some x) os = refl
+
+stores_seen : (ws : List Entry) → stores_in ws ≡ somes (map (λ (s : Seen). s.store) (map seen ws))
+stores_seen [] = refl
+stores_seen (e ∷ ws) =
+    store_seen (is_store e.item.kind) e (filter (λ e. is_store e.item.kind) ws) _ (stores_seen ws) ∙ some_more (seen e).store (map (λ (s : Seen). s.store) (map seen ws))
+
+loads_seen : (ws : List Entry) → loads_in ws ≡ somes (map (λ (s : Seen). s.load) (map seen ws))
+loads_seen [] = refl
+loads_seen (e ∷ ws) =
+    load_seen (is_load e.item.kind) e (filter (λ e. is_load e.item.kind) ws) _ (loads_seen ws) ∙ some_more (seen e).load (map (λ (s : Seen). s.load) (map seen ws))
+
+pub unseen_stands : ChangesUnseen
+unseen_stands q window new s h = record {
+  loads = s.loads ∙ loads_seen window ∙ ap (λ ss. somes (map (λ (s : Seen). s.load) ss)) (sym h) ∙ sym (loads_seen new);
+  stores = s.stores ∙ stores_seen window ∙ ap (λ ss. somes (map (λ (s : Seen). s.store) ss)) (sym h) ∙ sym (stores_seen new);
+}
+
+-- ---- how many
+
+pub room_is : RoomAsCounted
+room_is q window s =
+    let loads = filter (λ (e : Entry). is_load e.item.kind) window in
+    let stores = filter (λ (e : Entry). is_store e.item.kind) window in (
+      ap length s.loads ∙ length-map loads (λ e. e.serial) ∙ length-filter (λ e. is_load e.item.kind) window,
+      sym (length-map q.stores shown_store) ∙ ap length s.stores ∙ length-map stores shown_entry ∙ length-filter (λ e. is_store e.item.kind) window,
+    )
