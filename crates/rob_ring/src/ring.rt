@@ -1,0 +1,123 @@
+//! The ring itself.
+ghost use Rattle.std.specs.Prelude.{◌≡◌, ◌<◌, ◌≤◌, ◌++◌, ◌∷◌, [], length, take, drop, slice_get, slice_set, Some, IfOk};
+ghost use Rattle.std.specs.List.{AllPairs};
+ghost use Rattle.rob_ring.specs.Ring.{Ring, below};
+
+use circular_buffer::HeapCircularBuffer;
+use machine_desc::Desc;
+use rv_types::NoMemory;
+use std::alloc::Global;
+use std::marker::Model;
+use window_model::{Entry, Window};
+
+/// The entries in flight, oldest first, and room for `core.rob` of them. Positions count from the oldest, which has 0.
+#[derive(Drop)]
+pub struct RobRing {
+    items: HeapCircularBuffer<Entry>,
+}
+
+impl Model for RobRing {
+    ghost use Rattle.std.specs.Prelude.{◌<◌, ◌^◌};
+    ghost use Rattle.rob_ring.specs.Ring.{Ring};
+
+    ghost Value = { Ring };
+
+    ghost view = { λ r. record { entries = r.items.items; room = r.items.capacity } };
+
+    ghost invariant = { λ r. r.items.capacity < 2 ^ 32 };
+}
+
+impl RobRing {
+    /// An empty ring with room for `core.rob` entries. The one error is want of memory.
+    pub fn new(alloc: Global, desc: &Desc) -> Result<RobRing, NoMemory>
+        ensures { IfOk result (λ r. r ≡ record { entries = []; room = desc.now.core_rob }) }
+    {
+        let items = HeapCircularBuffer::with_capacity(alloc, desc.core_rob as usize)?;
+        Ok(RobRing { items })
+    }
+
+    /// How many entries there are.
+    pub fn len(&self) -> u32
+        ensures len { result ≡ length self.now.entries }
+        ensures within { result ≤ self.now.room }
+    {
+        self.items.len() as u32
+    }
+
+    /// Adds an entry, which is the youngest then.
+    pub fn push(&mut self, entry: Entry)
+        requires { length self.old.entries < self.old.room }
+        ensures { self.new ≡ record self.old { entries = self.old.entries ++ entry ∷ [] } }
+    {
+        let _ = self.items.try_push_back(entry);
+    }
+
+    /// The oldest entry, None where there is none.
+    pub fn head(&self) -> Option<Entry>
+        ensures { result ≡ slice_get self.now.entries 0 }
+    {
+        self.items.front().copied()
+    }
+
+    /// The entry at a position.
+    pub fn at(&self, i: u32) -> Entry
+        requires { i < length self.now.entries }
+        ensures { slice_get self.now.entries i ≡ Some result }
+    {
+        *self.items.get(i as usize).unwrap()
+    }
+
+    /// Puts an entry in the place of the one at a position.
+    pub fn set(&mut self, i: u32, entry: Entry)
+        requires { i < length self.old.entries }
+        ensures { self.new ≡ record self.old { entries = slice_set self.old.entries i entry } }
+    {
+        if let Some(place) = self.items.get_mut(i as usize) {
+            *place = entry;
+        }
+    }
+
+    /// Keeps the oldest `len` entries and drops the younger ones.
+    pub fn cut(&mut self, len: u32)
+        requires { len ≤ length self.old.entries }
+        ensures { self.new ≡ record self.old { entries = take len self.old.entries } }
+    {
+        self.items.truncate_back(len as usize);
+    }
+
+    /// Drops the oldest entry.
+    pub fn pop_head(&mut self)
+        requires { 0 < length self.old.entries }
+        ensures { self.new ≡ record self.old { entries = drop 1 self.old.entries } }
+    {
+        let _ = self.items.pop_front();
+    }
+
+    /// The position of the entry with this serial, or the one at which it would stand: how many entries have a serial below
+    /// it. It walks from the youngest entry to there.
+    pub fn position_of(&self, serial: u64) -> u32
+        requires rise { AllPairs (λ a b. a.serial < b.serial) self.now.entries }
+        ensures count { result ≡ length (below serial self.now.entries) }
+        ensures older { take result self.now.entries ≡ below serial self.now.entries }
+        ensures within { result ≤ length self.now.entries }
+    {
+        for i in (0..self.len()).rev() {
+            if self.at(i).serial < serial {
+                return i + 1;
+            }
+        }
+        0
+    }
+}
+
+impl Window for RobRing {
+    ghost entries = { λ r. r.entries };
+
+    fn len(&self) -> u32 {
+        RobRing::len(self)
+    }
+
+    fn at(&self, i: u32) -> Entry {
+        RobRing::at(self, i)
+    }
+}
