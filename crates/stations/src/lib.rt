@@ -1,0 +1,15 @@
+//! The stations: the entries that wait for their operands.
+//!
+//! They stand for the Waiting entries of the window (`docs/machine.md`, "Entries"), each with the serials of the writers
+//! that it awaits, so that whether an entry is ready is known without a search. An entry stays in the place that it was
+//! given; a list has the places by age. What is seen of them stands in `specs/Stations.antt`.
+#![tactic(auto)]
+
+mod by_age;
+mod occupant;
+mod places;
+
+pub use by_age::Stations;
+
+#[cfg(test)]
+mod tests;

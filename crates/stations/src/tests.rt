@@ -1,0 +1,41 @@
+//! Entries that come, are woken and go: what they await follows from who writes their sources.
+use crate::Stations;
+use machine_desc::{Desc, read_desc};
+use std::alloc::Global;
+use std::test::Fail;
+
+const DESC: &str =
+    "[core]\nfetch_width = 2\nretire_width = 2\nrob = 16\nstations = 2\nloads = 4\nstores = 4\nqueue = 8\n[units]\nalus = 2\nmul_latency = 3\n[predictor]\ncounters = 16\nbtb = 4\n[cache]\nsets = 2\nways = 2\nline = 16\nhit_latency = 2\nmiss_latency = 10\nmshrs = 2\n[ram]\nbase = 65536\nsize = 65536\n[stt]\nmodel = \"spectre\"\n";
+
+fn desc(alloc: Global) -> Result<Desc, Fail> {
+    Ok(read_desc(alloc, DESC.as_bytes())?)
+}
+
+#[test]
+fn an_entry_is_ready_once_both_writers_are_done(rt: HostRuntime) -> Result<(), Fail> {
+    let alloc = rt.alloc();
+    let mut stations = Stations::new(alloc, &desc(alloc)?)?;
+    stations.insert(5, [Some(3), Some(4)]);
+    stations.wake(4);
+    assert_eq!(rt; stations.ready(0), false);
+    stations.wake(3);
+    assert_eq!(rt; stations.ready(0), true);
+    Ok(())
+}
+
+#[test]
+fn an_entry_stays_in_its_place(rt: HostRuntime) -> Result<(), Fail> {
+    let alloc = rt.alloc();
+    let mut stations = Stations::new(alloc, &desc(alloc)?)?;
+    stations.insert(5, [None, None]);
+    stations.insert(6, [Some(5), None]);
+    assert_eq!(rt; stations.free(), 0);
+    let place = stations.place(1);
+    stations.remove(0);
+    assert_eq!(rt; stations.place(0), place);
+    assert_eq!(rt; stations.free(), 1);
+    stations.drop_from(6);
+    assert_eq!(rt; stations.len(), 0);
+    assert_eq!(rt; stations.free(), 2);
+    Ok(())
+}
