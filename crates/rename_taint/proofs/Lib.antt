@@ -1,0 +1,2 @@
+pub mod UndoList
+pub mod Tables
