@@ -1,4 +1,4 @@
--- A table with a slot for each register, and an undo list: what they keep of the writes.
+-- A table with a slot for each register, and an undo list: how they stand for the writes that are held.
 use Rattle.std.specs.Prelude.{◌≡◌, ℕ, ◌<◌, Bool, false, ◌==◌, nat_le, if◌then◌else◌, List, [], ◌∷◌, Option, Some, None, map, reverse, slice_index_or, slice_get, length, drop, get_or, suc}
 use Rattle.std.specs.List.{find, All}
 use Rattle.std.specs.Option.{option_map, option_or}
@@ -8,17 +8,20 @@ use Rattle.rename_taint.specs.declared.Source.TheVariants.{Committed, Entry}
 use Rattle.rename_taint.specs.declared.slots.Slot.{Slot}
 use Rattle.rename_taint.specs.declared.slots.Undo.{Undo}
 
+-- the writes of an undo list
 abbrev pub writes_of : List Undo → List Write
 writes_of undo = map (λ u. u.write) undo
 
+-- what a slot says of a register's last write
 abbrev pub slot_of : Option Write → Option Slot
 slot_of o = option_map (λ (w : Write). record { serial = w.serial; root = w.root }) o
 
--- what a slot answers
+-- the writer that a slot names
 abbrev pub source_in : Option Slot → Source
 source_in None = Committed
 source_in (Some s) = Entry s.serial
 
+-- the root that it names
 abbrev pub root_in : Option Slot → Option ℕ
 root_in None = None
 root_in (Some s) = s.root
@@ -27,15 +30,16 @@ root_in (Some s) = s.root
 abbrev pub oldest_of : List Undo → Option ℕ
 oldest_of undo = option_map (λ u. u.write.serial) (slice_get undo 0)
 
--- the first, or the last, of a list does
+-- the first of a list passes
 abbrev pub is_first : (Undo → Bool) → List Undo → Bool
 is_first p [] = false
 is_first p (u ∷ us) = p u
 
+-- the last does
 abbrev pub is_last : (Undo → Bool) → List Undo → Bool
 is_last p undo = is_first p (reverse undo)
 
--- what still counts of a slot: nothing of a writer that has retired
+-- what a slot still says where this is the oldest serial that is held: nothing of a writer that has retired
 abbrev pub held : Option ℕ → Option Slot → Option Slot
 held None s = None
 held (Some oldest) None = None
@@ -47,25 +51,25 @@ held (Some oldest) (Some s) = if nat_le oldest s.serial then Some s else None
 abbrev pub last_of : ℕ → List Undo → Option Write
 last_of r undo = find (λ w. w.register == r) (map (λ u. u.write) undo)
 
--- the same of a list that is youngest first
+-- the serial of the oldest
 abbrev pub oldest_in : List Undo → Option ℕ
 oldest_in [] = None
 oldest_in (u ∷ older) = option_or (oldest_in older) (Some u.write.serial)
 
--- an entry leads back to the last write of its register before it, and is younger than all before it
+-- an undo entry restores the last write of its register among the older ones, and is younger than they are
 abbrev pub LinkedTo : List Undo → Undo → Type 0
 LinkedTo older u =
     (held (oldest_in older) u.previous ≡ slot_of (last_of u.write.register older)) × (u.write.register < 32) × All (λ v. v.write.serial < u.write.serial) older
 
--- each of them does
+-- each of a list does
 abbrev pub Linked : List Undo → Type 0
 Linked undo = (i : ℕ) (d : Undo) → i < length undo → LinkedTo (drop (suc i) undo) (get_or undo i d)
 
--- each slot is the last write of its register
+-- each slot says what the last write of its register does
 abbrev pub IsTable : List (Option Slot) → List Undo → Type 0
 IsTable slots undo = (r : ℕ) → r < 32 → slice_index_or slots r None ≡ slot_of (last_of r undo)
 
--- the slots and the undo list, oldest first, stand for its writes
+-- the slots stand for the writes of the undo list, which is oldest first
 pub record Table (slots : List (Option Slot)) (undo : List Undo) : Type 0 where
   pub registers : length slots ≡ 32
   pub cells : IsTable slots (reverse undo)

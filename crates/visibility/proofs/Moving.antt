@@ -1,0 +1,253 @@
+-- Where the point is to stand over a window whose serials rise.
+use Rattle.std.proofs.Common.{◌≡◌, ℕ, zero, suc, ◌+◌, ◌<◌, ◌≤◌, Bool, true, false, not, ◌&&◌, List, [], ◌∷◌, length, take, get_or, Option, Some, None, refl, ap, ap₂, sym, ◌∙◌, subst, arith, slice_get}
+use Rattle.std.specs.Prelude.{reverse, nat_le}
+use Rattle.std.specs.List.{find, list_all, All, AllPairs}
+use Rattle.std.proofs.lemmas.Bool.Decides.{nat_tests}
+use Rattle.std.proofs.lemmas.List.{get_or-take, length-take-le}
+use Rattle.std.proofs.lemmas.List.Elements.{All-nil, All-cons, All-head, All-tail, All-weaker, All-more}
+use Rattle.std.proofs.lemmas.Option.{slice_get_within, get_or_from_slice_get}
+use Rattle.machine_desc.specs.declared.SttModel.{SttModel}
+use Rattle.machine_desc.specs.declared.SttModel.TheVariants.{Spectre, Futuristic}
+use Rattle.window_model.specs.declared.Entry.{Entry}
+use Rattle.window_model.specs.Along.{Along}
+use Rattle.window_model.specs.Taint.{visible}
+use Rattle.window_model.proofs.Before.{all_reverse}
+use Rattle.visibility.specs.Point.{Point, passes, next_after, serial_of, moved_over, Passed, IsPoint, CanAdvance, HasMoved, HasAdvanced}
+
+-- the serials rise
+abbrev pub Rise : List Entry → Type 0
+Rise window = AllPairs (λ (a b : Entry). a.serial < b.serial) window
+
+rise_head : (e : Entry) (es : List Entry) → Rise (e ∷ es) → All (λ b. e.serial < b.serial) es
+rise_head e es r = λ k d lt. r 0 (suc k) d (omega arith) (let l : suc k < suc (length es) = omega arith in l)
+
+rise_tail : (e : Entry) (es : List Entry) → Rise (e ∷ es) → Rise es
+rise_tail e es r = λ i j d lt l. r (suc i) (suc j) d (omega arith) (let m : suc j < suc (length es) = omega arith in m)
+
+-- the entries up to one that is below a serial are, too
+pub all_below : (window : List Entry) (i n : ℕ) (e : Entry) → Rise window → slice_get window i ≡ Some e → e.serial < n → All (λ b. b.serial < n) (take (i + 1) window)
+all_below window i n e r h lt =
+    let within = slice_get_within window i e h in
+    All-more (λ b. b.serial < n) window i e within (older within) (subst (λ (b : Entry). b.serial < n) (sym (get_or_from_slice_get window i e e h)) lt)
+  where
+    older : i < length window → All (λ b. b.serial < n) (take i window)
+    older within k d l =
+        let w = length-take-le i window (omega arith) in
+        let before : k < i = omega (arith, w) in
+        let s = r k i d before within in
+        let t : (get_or window k d).serial < e.serial = subst (λ (b : Entry). (get_or window k d).serial < b.serial) (get_or_from_slice_get window i e d h) s in
+        subst (λ (b : Entry). b.serial < n) (sym (get_or-take i window k d before)) (omega arith)
+
+-- ---- visible, entry by entry
+
+visible_cons : (model : SttModel) (e : Entry) (before : List Entry) → visible model (e ∷ before) ≡ (passes model e && visible model before)
+visible_cons Spectre e before = refl
+visible_cons Futuristic e before = refl
+
+visible_none : (model : SttModel) → visible model [] ≡ true
+visible_none Spectre = refl
+visible_none Futuristic = refl
+
+visible_is : (model : SttModel) (before : List Entry) → visible model before ≡ list_all (passes model) before
+visible_is Spectre before = refl
+visible_is Futuristic before = refl
+
+-- ---- what the search finds
+
+-- the oldest entry that doesn't pass
+abbrev pub stop : SttModel → List Entry → Option Entry
+stop model es = find (λ e. not (passes model e)) es
+
+-- what the search passes over passes, and what it finds doesn't
+on : (model : SttModel) (e f : Entry) (es : List Entry) → stop model (e ∷ es) ≡ Some f → passes model e ≡ true → stop model es ≡ Some f
+on model e f es h p = let q = p in cc
+
+here : (model : SttModel) (e f : Entry) (es : List Entry) → stop model (e ∷ es) ≡ Some f → passes model e ≡ false → e ≡ f
+here model e f es h p = let q : Some e ≡ Some f = cc in cc
+
+-- what holds of all entries holds of the one that is found
+found_has : (model : SttModel) (P : Entry → Type 0) (f : Entry) (es : List Entry) → All P es → stop model es ≡ Some f → P f
+found_has model P f [] a h = absurd (cc)
+found_has model P f (e ∷ es) a h = by_test (passes model e) refl (λ Q. found_has model Q f es)
+  where
+    by_test : (b : Bool) → passes model e ≡ b → ((P : Entry → Type 0) → All P es → stop model es ≡ Some f → P f) → P f
+    by_test true q more = more P (All-tail P e es a) (on model e f es h q)
+    by_test false q more = subst P (here model e f es h q) (All-head P e es a)
+
+-- what is found doesn't pass
+found_fails : (model : SttModel) (f : Entry) (es : List Entry) → stop model es ≡ Some f → passes model f ≡ false
+found_fails model f [] h = absurd (cc)
+found_fails model f (e ∷ es) h = by_test (passes model e) refl (found_fails model f es)
+  where
+    by_test : (b : Bool) → passes model e ≡ b → (stop model es ≡ Some f → passes model f ≡ false) → passes model f ≡ false
+    by_test true q more = more (on model e f es h q)
+    by_test false q more = subst (λ e. passes model e ≡ false) (here model e f es h q) q
+
+-- where none is found, all pass
+past : (model : SttModel) (e : Entry) (es : List Entry) → stop model (e ∷ es) ≡ None → (b : Bool) → passes model e ≡ b → (passes model e ≡ true) × (stop model es ≡ None)
+past model e es h true q = (q, cc)
+past model e es h false q = absurd (cc)
+
+none_stops : (model : SttModel) (es : List Entry) → stop model es ≡ None → list_all (passes model) es ≡ true
+none_stops model [] h = refl
+none_stops model (e ∷ es) h = let p = past model e es h (passes model e) refl in ap₂ (λ a b. a && b) p.0 (none_stops model es p.1)
+
+all_pass : (model : SttModel) (es : List Entry) → stop model es ≡ None → All (λ e. passes model e ≡ true) es
+all_pass model [] h = All-nil (λ e. passes model e ≡ true)
+all_pass model (e ∷ es) h = let p = past model e es h (passes model e) refl in All-cons (λ e. passes model e ≡ true) e es p.0 (all_pass model es p.1)
+
+-- ---- what the point tells of each entry
+
+-- it tells whether an entry is visible
+abbrev pub Tells : Point → List Entry → Entry → Type 0
+Tells p before e = nat_le e.serial p.serial ≡ visible p.model before
+
+-- entries above the point, behind one that doesn't pass
+hidden : (p : Point) (before es : List Entry) → visible p.model before ≡ false → All (λ e. p.serial < e.serial) es → Along (Tells p) before es
+hidden p before [] v a = tt
+hidden p before (e ∷ es) v a =
+    let l : p.serial < e.serial = All-head (λ e. p.serial < e.serial) e es a in
+    let n : nat_le e.serial p.serial ≡ false = grind (arith, nat_tests) in
+    let c : visible p.model (e ∷ before) ≡ false = visible_cons p.model e before ∙ ap (λ b. passes p.model e && b) v ∙ and_false (passes p.model e) in
+    (n ∙ sym v, hidden p (e ∷ before) es c (All-tail (λ e. p.serial < e.serial) e es a))
+  where
+    and_false : (b : Bool) → (b && false) ≡ false
+    and_false true = refl
+    and_false false = refl
+
+-- the point stands at the first that doesn't pass
+stops : (p : Point) (f : Entry) (before es : List Entry) → visible p.model before ≡ true → stop p.model es ≡ Some f → f.serial ≡ p.serial → Rise es → Along (Tells p) before es
+stops p f before [] v h q r = tt
+stops p f before (e ∷ es) v h q r = by_test (passes p.model e) refl (stops p f (e ∷ before) es)
+  where
+    by_test : (b : Bool) → passes p.model e ≡ b → (visible p.model (e ∷ before) ≡ true → stop p.model es ≡ Some f → f.serial ≡ p.serial → Rise es → Along (Tells p) (e ∷ before) es) → Along (Tells p) before (e ∷ es)
+    by_test true t more =
+        let s = on p.model e f es h t in
+        let l : e.serial < f.serial = found_has p.model (λ b. e.serial < b.serial) f es (rise_head e es r) s in
+        let n : nat_le e.serial p.serial ≡ true = grind (arith, nat_tests) in
+        let c : visible p.model (e ∷ before) ≡ true = visible_cons p.model e before ∙ ap₂ (λ a b. a && b) t v in
+        (n ∙ sym v, more c s q (rise_tail e es r))
+    by_test false t more =
+        let m : e.serial ≡ p.serial = ap (λ (e : Entry). e.serial) (here p.model e f es h t) ∙ q in
+        let n : nat_le e.serial p.serial ≡ true = grind (arith, nat_tests) in
+        let c : visible p.model (e ∷ before) ≡ false = visible_cons p.model e before ∙ ap₂ (λ a b. a && b) t v in
+        (n ∙ sym v, hidden p (e ∷ before) es c (subst (λ n. All (λ b. n < b.serial) es) m (rise_head e es r)))
+
+-- all pass, and the point is past them
+passes_all : (p : Point) (before es : List Entry) → visible p.model before ≡ true → stop p.model es ≡ None → All (λ e. e.serial < p.serial) es → Along (Tells p) before es
+passes_all p before [] v h a = tt
+passes_all p before (e ∷ es) v h a =
+    let t = past p.model e es h (passes p.model e) refl in
+    let l : e.serial < p.serial = All-head (λ e. e.serial < p.serial) e es a in
+    let n : nat_le e.serial p.serial ≡ true = grind (arith, nat_tests) in
+    let c : visible p.model (e ∷ before) ≡ true = visible_cons p.model e before ∙ ap₂ (λ a b. a && b) t.0 v in
+    (n ∙ sym v, passes_all p (e ∷ before) es c t.1 (All-tail (λ e. e.serial < p.serial) e es a))
+
+-- what stands before the one that doesn't pass passes
+before_stop : (p : Point) (f : Entry) (es : List Entry) → stop p.model es ≡ Some f → f.serial ≡ p.serial → Rise es → Passed p es
+before_stop p f [] h q r = All-nil (λ e. e.serial < p.serial → passes p.model e ≡ true)
+before_stop p f (e ∷ es) h q r = by_test (passes p.model e) refl (before_stop p f es)
+  where
+    by_test : (b : Bool) → passes p.model e ≡ b → (stop p.model es ≡ Some f → f.serial ≡ p.serial → Rise es → Passed p es) → Passed p (e ∷ es)
+    by_test true t more = All-cons (λ e. e.serial < p.serial → passes p.model e ≡ true) e es (λ lt. t) (more (on p.model e f es h t) q (rise_tail e es r))
+    by_test false t more =
+        let m : e.serial ≡ p.serial = ap (λ (e : Entry). e.serial) (here p.model e f es h t) ∙ q in
+        All-cons (λ e. e.serial < p.serial → passes p.model e ≡ true) e es (λ lt. absurd (omega arith))
+        (All-weaker (λ b. e.serial < b.serial) (λ b. b.serial < p.serial → passes p.model b ≡ true) (λ b l lt. absurd (omega arith)) es (rise_head e es r))
+
+-- ---- the serial after the youngest
+
+below_next : (s : ℕ) (e : Entry) (es : List Entry) → Rise (e ∷ es) → All (λ b. b.serial < next_after s (e ∷ es)) (e ∷ es)
+below_next s e [] r = All-cons (λ b. b.serial < e.serial + 1) e [] (omega arith) (All-nil (λ b. b.serial < e.serial + 1))
+below_next s e (f ∷ es) r =
+    let m = below_next (e.serial + 1) f es (rise_tail e (f ∷ es) r) in
+    let k = All-head (λ b. b.serial < next_after s (e ∷ f ∷ es)) f es m in
+    let l = All-head (λ b. e.serial < b.serial) f es (rise_head e (f ∷ es) r) in
+    All-cons (λ b. b.serial < next_after s (e ∷ f ∷ es)) e (f ∷ es) (omega (arith, k, l)) m
+
+-- ---- the point has moved
+
+smaller : (p : Point) (e : Entry) (es : List Entry) → IsPoint p (e ∷ es) → (s : ℕ) → All (λ e. s < e.serial) (e ∷ es) → s ≤ p.serial
+smaller p e es i s a =
+    let t : nat_le e.serial p.serial ≡ true = i.0 ∙ visible_none p.model in
+    let n : e.serial ≤ p.serial = grind (arith, nat_tests) in
+    let l = All-head (λ e. s < e.serial) e es a in
+    omega arith
+
+moved_to : (p : Point) (f e : Entry) (es : List Entry) → Rise (e ∷ es) → stop p.model (e ∷ es) ≡ Some f → f.serial ≡ p.serial → HasMoved p (e ∷ es)
+moved_to p f e es r h q =
+    let i = stops p f [] (e ∷ es) (visible_none p.model) h q r in
+    record {
+      each = i;
+      smaller = smaller p e es i;
+      next = λ s a le. let l = found_has p.model (λ b. b.serial < s) f (e ∷ es) a h in absurd (omega arith);
+      again = record {
+        passed = before_stop p f (e ∷ es) h q r;
+        near = let l = found_has p.model (λ b. b.serial < next_after p.serial (e ∷ es)) f (e ∷ es) (below_next p.serial e es r) h in omega arith;
+      };
+    }
+
+moved_past : (p : Point) (old : ℕ) (e : Entry) (es : List Entry) → Rise (e ∷ es) → stop p.model (e ∷ es) ≡ None → next_after old (e ∷ es) ≡ p.serial → HasMoved p (e ∷ es)
+moved_past p old e es r h q =
+    let i = passes_all p [] (e ∷ es) (visible_none p.model) h (subst (λ n. All (λ b. b.serial < n) (e ∷ es)) q (below_next old e es r)) in
+    record {
+      each = i;
+      smaller = smaller p e es i;
+      next = λ s a le. visible_is p.model (reverse (e ∷ es)) ∙ all_reverse (passes p.model) (e ∷ es) ∙ none_stops p.model (e ∷ es) h;
+      again = record {
+        passed = All-weaker (λ b. passes p.model b ≡ true) (λ b. b.serial < p.serial → passes p.model b ≡ true) (λ b t lt. t) (e ∷ es) (all_pass p.model (e ∷ es) h);
+        near = omega (arith, q);
+      };
+    }
+
+-- it stands where the contract says,
+pub has_advanced : (old : Point) (window : List Entry) → Rise window → HasAdvanced (moved_over window old) window
+has_advanced old [] r = tt
+has_advanced old (e ∷ es) r = by_stop (stop old.model (e ∷ es)) refl
+  where
+    by_stop : (o : Option Entry) → stop old.model (e ∷ es) ≡ o → HasMoved (record old { serial = serial_of o (next_after old.serial (e ∷ es)) }) (e ∷ es)
+    by_stop None h = moved_past (record old { serial = next_after old.serial (e ∷ es) }) old.serial e es r h refl
+    by_stop (Some f) h = moved_to (record old { serial = f.serial }) f e es r h refl
+
+not_below : (m n : ℕ) → (m < n → ⊥) → n ≤ m
+not_below m n h = by_test (nat_le n m) refl
+  where
+    by_test : (b : Bool) → nat_le n m ≡ b → n ≤ m
+    by_test true q = grind (arith, nat_tests)
+    by_test false q = let l : m < n = grind (arith, nat_tests) in absurd (h l)
+
+-- and it hasn't gone back
+pub moves_on : (old : Point) (window : List Entry) → Rise window → CanAdvance old window → old.serial ≤ (moved_over window old).serial
+moves_on old [] r can = omega arith
+moves_on old (e ∷ es) r can = by_stop (stop old.model (e ∷ es)) refl
+  where
+    by_stop : (o : Option Entry) → stop old.model (e ∷ es) ≡ o → old.serial ≤ serial_of o (next_after old.serial (e ∷ es))
+    by_stop None h = can.near
+    by_stop (Some f) h =
+        let fails = found_fails old.model f (e ∷ es) h in
+        not_below f.serial old.serial (λ lt. let t = found_has old.model (λ b. b.serial < old.serial → passes old.model b ≡ true) f (e ∷ es) can.passed h lt in absurd (cc))
+
+-- ---- what the code finds
+
+-- the last of a list
+pub next_is : (n s : ℕ) (es : List Entry) (e : Entry) → length es ≡ n + 1 → slice_get es n ≡ Some e → e.serial + 1 ≡ next_after s es
+next_is n s [] e l h = absurd (cc)
+next_is zero s (x ∷ []) e l h = let i : Some x ≡ Some e = h in let j : x ≡ e = cc in ap (λ (e : Entry). e.serial + 1) (sym j)
+next_is zero s (x ∷ y ∷ es) e l h = absurd (omega (arith, l))
+next_is (suc n) s (x ∷ es) e l h = let m : length es ≡ n + 1 = omega (arith, l) in next_is n (x.serial + 1) es e m h
+
+-- what the search and the youngest entry come to, at the point as it was
+module _ (p : Point) (window : List Entry) (n next : ℕ) (found : Option Entry)
+    (is : n ≡ serial_of found next) (stop_is : found ≡ stop p.model window) (next_is : next ≡ next_after p.serial window) (rise : Rise window) where
+  moved : n ≡ (moved_over window p).serial
+  moved = is ∙ ap₂ serial_of stop_is next_is
+
+  pub advanced_at : HasAdvanced (record p { serial = n }) window
+  advanced_at = subst (λ n. HasAdvanced (record p { serial = n }) window) (sym moved) (has_advanced p window rise)
+
+  pub on_at : (old : Point) → p ≡ old → CanAdvance old window → old.serial ≤ n
+  on_at old same can =
+      let l = moves_on p window rise (subst (λ q. CanAdvance q window) (sym same) can) in
+      let s : p.serial ≡ old.serial = ap (λ (q : Point). q.serial) same in
+      let m = moved in
+      omega (arith, l, s, m)
