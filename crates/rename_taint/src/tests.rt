@@ -44,7 +44,10 @@ fn asked<R: RenameTaint>(table: &R) -> [Option<u64>; 4] {
 }
 
 // What is answered after writes, after a squash, and after retirements.
-fn answers<R: RenameTaint + Drop>(alloc: Global, desc: &Desc) -> Result<[[Option<u64>; 4]; 6], NoMemory> {
+fn answers<R: RenameTaint + Drop>(
+    alloc: Global,
+    desc: &Desc,
+) -> Result<[[Option<u64>; 4]; 6], NoMemory> {
     let mut table = R::new(alloc, desc)?;
     let none = asked(&table);
     table.write(x5(), 1, None);

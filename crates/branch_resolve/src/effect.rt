@@ -1,0 +1,73 @@
+//! What comes of an entry that is resolved.
+ghost use Rattle.std.specs.Prelude.{◌≡◌, ◌≤◌, ◌+◌, ◌++◌, length, if◌then◌else◌};
+ghost use Rattle.window_model.specs.declared.Way.TheVariants as way;
+ghost use Rattle.branch_resolve.specs.Effect.{taught, told, resolution_of};
+
+use predictor::Predictor;
+use rv_types::Kind;
+use window_model::{Entry, Event, Row, Way};
+use window_walk::{is_faulty, next_of, value_of};
+
+/// How an entry's prediction turned out.
+#[derive(Clone, Copy, Debug, PartialEq, Eq)]
+pub enum Resolution {
+    /// Fetching went on at the right address: nothing is dropped.
+    Right,
+    /// Fetching has to go on at this address, and all that is younger goes.
+    Wrong(u32),
+    /// The entry will trap: all that is younger goes, and nothing is fetched.
+    Fault,
+}
+
+/// Resolves a branch or JALR: the predictor learns how it went, and the row tells it. A branch moves its counter, also where
+/// it faults; a JALR stores its target, but not where it faults.
+pub fn resolve(entry: &Entry, predictor: &mut Predictor, row: &mut Row) -> Resolution
+    requires room { length row.old.events + 2 ≤ 128 }
+    ensures learnt { predictor.new ≡ taught predictor.old entry.now }
+    ensures row { row.new ≡ record row.old { events = row.old.events ++ told predictor.old entry.now } }
+    ensures few { length row.new.events ≤ length row.old.events + 2 }
+    ensures resolution { result ≡ resolution_of entry.now }
+{
+    teach(entry, predictor, row);
+    resolution_of(entry)
+}
+
+// What the predictor learns from the entry, and the events of that.
+fn teach(entry: &Entry, predictor: &mut Predictor, row: &mut Row)
+    requires room { length row.old.events + 2 ≤ 128 }
+    ensures learnt { predictor.new ≡ taught predictor.old entry.now }
+    ensures row { row.new ≡ record row.old { events = row.old.events ++ told predictor.old entry.now } }
+    ensures few { length row.new.events ≤ length row.old.events + 2 }
+{
+    if entry.item.kind == Kind::Branch {
+        let taken = value_of(entry) == 1;
+        row.push(Event::Res(entry.serial, way_of(taken)));
+        row.push(predictor.learn_branch(entry.item.pc, taken));
+        return;
+    }
+    row.push(Event::Res(entry.serial, Way::Jump));
+    if !is_faulty(entry) {
+        row.push(predictor.learn_target(entry.item.pc, next_of(entry)));
+    }
+}
+
+// Which way a branch went.
+fn way_of(taken: bool) -> Way
+    ensures { result ≡ (if taken then way.Taken else way.NotTaken) }
+{
+    if taken { Way::Taken } else { Way::NotTaken }
+}
+
+// How the entry's prediction turned out.
+fn resolution_of(entry: &Entry) -> Resolution
+    ensures { result ≡ resolution_of entry.now }
+{
+    if is_faulty(entry) {
+        return Resolution::Fault;
+    }
+    let next = next_of(entry);
+    match entry.item.predicted {
+        Some(predicted) if predicted == next => Resolution::Right,
+        _ => Resolution::Wrong(next),
+    }
+}

@@ -1,0 +1,138 @@
+//! Branches and JALRs over a window of two, with serial 0 alone visible; the expected values follow from `docs/machine.md`,
+//! "Resolve".
+use crate::{Resolution, pick, resolve};
+use machine_desc::{Desc, read_desc};
+use predictor::Predictor;
+use rv_types::{Cause, Instr, Op, Reg, kind_of};
+use std::alloc::Global;
+use std::test::Fail;
+use visibility::VisPoint;
+use window_model::{Entry, Event, Item, Outcome, State, Way, Window, empty_row};
+
+const DESC: &str =
+    "[core]\nfetch_width = 2\nretire_width = 2\nrob = 16\nstations = 8\nloads = 4\nstores = 4\nqueue = 8\n[units]\nalus = 2\nmul_latency = 3\n[predictor]\ncounters = 16\nbtb = 4\n[cache]\nsets = 2\nways = 2\nline = 16\nhit_latency = 2\nmiss_latency = 10\nmshrs = 2\n[ram]\nbase = 65536\nsize = 65536\n[stt]\nmodel = \"spectre\"\n";
+
+fn desc(alloc: Global) -> Result<Desc, Fail> {
+    Ok(read_desc(alloc, DESC.as_bytes())?)
+}
+
+// A window of two entries.
+#[derive(Drop)]
+struct Two {
+    older: Entry,
+    younger: Entry,
+}
+
+impl Window for Two {
+    ghost use Rattle.std.specs.Prelude.{[], ◌∷◌};
+
+    ghost entries = { λ w. w.older ∷ w.younger ∷ [] };
+
+    fn len(&self) -> u32 {
+        2
+    }
+
+    fn at(&self, i: u32) -> Entry {
+        if i == 0 { self.older } else { self.younger }
+    }
+}
+
+// One at 0x10004 that is Done, predicted to go on at 0x10008.
+fn done(instr: Instr, value: u32, next: u32, fault: Option<Cause>) -> Entry {
+    let outcome = Outcome {
+        value,
+        next,
+        addr: 0,
+        stored: 0,
+        fault,
+    };
+    Entry {
+        serial: 3,
+        item: Item {
+            pc: 0x10004,
+            instr,
+            kind: kind_of(&instr),
+            predicted: Some(0x10008),
+        },
+        state: State::Done,
+        outcome: Some(outcome),
+        resolved: false,
+    }
+}
+
+fn branch() -> Instr {
+    let x1 = Reg { number: 1 };
+    Instr::Branch {
+        op: Op::Beq,
+        rs1: x1,
+        rs2: x1,
+        imm: 16,
+    }
+}
+
+fn jump() -> Instr {
+    let x1 = Reg { number: 1 };
+    Instr::Jalr {
+        rd: x1,
+        rs1: x1,
+        imm: 0,
+    }
+}
+
+fn sum() -> Instr {
+    let x1 = Reg { number: 1 };
+    Instr::OpReg {
+        op: Op::Add,
+        rd: x1,
+        rs1: x1,
+        rs2: x1,
+    }
+}
+
+#[test]
+fn the_oldest_without_a_tainted_operand_is_picked(rt: HostRuntime) -> Result<(), Fail> {
+    let point = VisPoint::new(&desc(rt.alloc())?);
+    let taken = done(branch(), 1, 0x10014, None);
+    let both = Two {
+        older: taken,
+        younger: done(jump(), 0x10008, 0x20000, None),
+    };
+    let clean = [[None, Some(0)], [Some(0), None]];
+    assert_eq!(rt; pick(&both, &point, clean.as_slice()), Some(0));
+    let hidden = [[None, Some(7)], [Some(0), None]];
+    assert_eq!(rt; pick(&both, &point, hidden.as_slice()), Some(1));
+    let all_hidden = [[Some(7), None], [Some(7), None]];
+    assert_eq!(rt; pick(&both, &point, all_hidden.as_slice()), None);
+    let neither = Two {
+        older: done(sum(), 1, 0x10008, None),
+        younger: Entry {
+            resolved: true,
+            ..taken
+        },
+    };
+    assert_eq!(rt; pick(&neither, &point, clean.as_slice()), None);
+    Ok(())
+}
+
+#[test]
+fn what_is_resolved_teaches_and_tells(rt: HostRuntime) -> Result<(), Fail> {
+    let alloc = rt.alloc();
+    let mut predictor = Predictor::new(alloc, &desc(alloc)?)?;
+    let fault = Some(Cause::jump_misaligned());
+    let rows = [
+        (done(branch(), 0, 0x10008, None), Resolution::Right, Way::NotTaken, Some(Event::Bp(1, 0))),
+        (done(branch(), 1, 0x10014, None), Resolution::Wrong(0x10014), Way::Taken, Some(Event::Bp(1, 1))),
+        (done(branch(), 1, 0x10016, fault), Resolution::Fault, Way::Taken, Some(Event::Bp(1, 2))),
+        (done(jump(), 0x10008, 0x20000, None), Resolution::Wrong(0x20000), Way::Jump, Some(Event::Bt(1, 0x20000))),
+        (done(jump(), 0x10008, 0x20002, fault), Resolution::Fault, Way::Jump, None),
+    ];
+    for (entry, resolution, way, taught) in rows {
+        let mut row = empty_row();
+        assert_eq!(rt; resolve(&entry, &mut predictor, &mut row), resolution);
+        assert_eq!(rt; row.events().first().copied(), Some(Event::Res(3, way)));
+        assert_eq!(rt; row.events().get(1).copied(), taught);
+        assert_eq!(rt; row.events().get(2).copied(), None);
+    }
+    assert_eq!(rt; predictor.target(0x10004), Some(0x20000));
+    Ok(())
+}
