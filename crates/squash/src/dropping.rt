@@ -1,0 +1,42 @@
+//! The squash itself.
+ghost use Rattle.std.specs.Prelude.{◌≡◌, ◌-◌, ◌<◌, length, nat_lt};
+ghost use Rattle.std.specs.List.{filter, AllPairs};
+ghost use Rattle.window_model.specs.Resolve.{freed_from};
+ghost use Rattle.rob_ring.specs.Ring.{below};
+ghost use Rattle.rename_taint.specs.Writes.{before_serial};
+
+use lsq::Lsq;
+use rename_taint::RenameTaint;
+use rob_ring::RobRing;
+use stations::Stations;
+use unit_ports::Ports;
+
+/// Drops the entries from the serial `first` on: the reorder buffer, the stations and the queues of loads and stores let go
+/// of them, each register has the writer and the root that it had before them, and the divider is free again where one of
+/// them was the last to use it. The answer is how many entries there were of them.
+pub fn squash_after<R: RenameTaint>(
+    first: u64,
+    rob: &mut RobRing,
+    rename: &mut R,
+    stations: &mut Stations,
+    lsq: &mut Lsq,
+    ports: &mut Ports,
+) -> u32
+    requires rise { AllPairs (λ a b. a.serial < b.serial) rob.old.entries }
+    ensures dropped { result ≡ length rob.old.entries - length (below first rob.old.entries) }
+    ensures rob { rob.new ≡ record rob.old { entries = below first rob.old.entries } }
+    ensures names { R.writes rename.new ≡ before_serial first (R.writes rename.old) }
+    ensures same_room { R.room rename.new ≡ R.room rename.old }
+    ensures stations { stations.new ≡ record stations.old { held = filter (λ s. nat_lt s.serial first) stations.old.held } }
+    ensures lsq { lsq.new ≡ record lsq.old { loads = filter (λ l. nat_lt l first) lsq.old.loads; stores = filter (λ s. nat_lt s.serial first) lsq.old.stores } }
+    ensures ports { ports.new ≡ record ports.old { divider = freed_from first ports.old.divider } }
+{
+    let len = rob.len();
+    let kept = rob.position_of(first);
+    rob.cut(kept);
+    rename.cut_back(first);
+    stations.drop_from(first);
+    lsq.cut(first);
+    ports.drop_from(first);
+    len - kept
+}

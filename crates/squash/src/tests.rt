@@ -1,0 +1,83 @@
+//! A squash behind a wrongly predicted branch, over both tables of names.
+ghost use Rattle.std.specs.Prelude.{◌≡◌};
+
+use crate::squash_after;
+use lsq::Lsq;
+use machine_desc::{Desc, read_desc};
+use rename_taint::{ByScan, ByTable, RenameTaint, Source};
+use rob_ring::RobRing;
+use rv_types::Reg;
+use stations::Stations;
+use std::alloc::Global;
+use std::process::Abort;
+use std::test::Fail;
+use unit_ports::Ports;
+use window_model::Entry;
+
+// A description with room for one store.
+const DESC: &str =
+    "[core]\nfetch_width = 2\nretire_width = 2\nrob = 4\nstations = 2\nloads = 1\nstores = 1\nqueue = 8\n[units]\nalus = 2\nmul_latency = 3\n[predictor]\ncounters = 16\nbtb = 4\n[cache]\nsets = 2\nways = 2\nline = 16\nhit_latency = 2\nmiss_latency = 10\nmshrs = 2\n[ram]\nbase = 65536\nsize = 65536\n[stt]\nmodel = \"spectre\"\n";
+
+fn desc(alloc: Global) -> Result<Desc, Fail> {
+    Ok(read_desc(alloc, DESC.as_bytes())?)
+}
+
+// An entry with this serial.
+fn entry(serial: u64) -> Entry
+    ensures { result.serial ≡ serial }
+{
+    let mut entry = Entry::default();
+    entry.serial = serial;
+    entry
+}
+
+// A load of a register with serial 3 stays. A division into the same register, which awaits it, and a store go.
+#[tactic(auto, using(rob_ring::proofs::Serials::rise_push))]
+fn squash_keeps_the_load<R: RenameTaint + Drop>(
+    rt: &impl Abort,
+    alloc: Global,
+) -> Result<(), Fail> {
+    let desc = desc(alloc)?;
+    let mut rob = RobRing::new(alloc, &desc)?;
+    let mut rename = R::new(alloc, &desc)?;
+    let mut stations = Stations::new(alloc, &desc)?;
+    let mut lsq = Lsq::new(alloc, &desc)?;
+    let mut ports = Ports::new(&desc);
+    let register = Reg { number: 5 };
+    rob.push(entry(3));
+    rename.write(register, 3, Some(3));
+    lsq.add_load(3);
+    rob.push(entry(5));
+    rename.write(register, 5, Some(3));
+    stations.insert(5, [Some(3), None]);
+    ports.divide(30, 5);
+    rob.push(entry(6));
+    stations.insert(6, [Some(5), None]);
+    lsq.add_store(6, Some(3));
+    let dropped = squash_after(
+        5,
+        &mut rob,
+        &mut rename,
+        &mut stations,
+        &mut lsq,
+        &mut ports,
+    );
+    assert_eq!(rt; dropped, 2);
+    assert_eq!(rt; rob.len(), 1);
+    assert_eq!(rt; rename.source(register), Source::Entry(3));
+    assert_eq!(rt; stations.len(), 0);
+    assert_eq!(rt; lsq.has_load_room(), false);
+    assert_eq!(rt; lsq.has_store_room(), true);
+    assert_eq!(rt; ports.free_div(), true);
+    Ok(())
+}
+
+#[test]
+fn over_a_scan(rt: HostRuntime) -> Result<(), Fail> {
+    squash_keeps_the_load::<ByScan>(&rt, rt.alloc())
+}
+
+#[test]
+fn over_a_table(rt: HostRuntime) -> Result<(), Fail> {
+    squash_keeps_the_load::<ByTable>(&rt, rt.alloc())
+}
