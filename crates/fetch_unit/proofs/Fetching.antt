@@ -12,7 +12,7 @@ use Rattle.window_model.specs.Row.{Row}
 use Rattle.window_model.specs.Resolve.{with_predictor}
 use Rattle.window_model.specs.Front.{fetch, fetch_up_to, fetch_from, fetch_one, item_at, then_does, nothing}
 use Rattle.predictor.specs.Tables.{Tables}
-use Rattle.fetch_unit.specs.Front.{Front, with_front, fetches, next_of}
+use Rattle.fetch_unit.specs.Front.{Front, with_front, fetches, next_fetch}
 
 -- the events so far, before those of what follows
 abbrev pub behind : List Event → After → After
@@ -54,7 +54,7 @@ one_behind d code n x pc es r p =
     ap (λ es. record { machine = a.machine; events = es }) (append_assoc es (event.Fet pc ∷ []) a.events) ∙ sym (ap (behind es) (one_more d code n x pc r p))
 
 pub fetches_more : (code : Code) (t : Tables) (first : Front) (row : Row) (i : ℕ) (f : Front) (now : Row) (pc : ℕ) (item : Item) (f2 : Front) (now2 : Row) →
-    FetchesOn code t first row (first.desc.core_fetch_width - i) f now → i < first.desc.core_fetch_width → next_of f ≡ Some pc → t.desc ≡ first.desc →
+    FetchesOn code t first row (first.desc.core_fetch_width - i) f now → i < first.desc.core_fetch_width → next_fetch f ≡ Some pc → t.desc ≡ first.desc →
     ((x : Machine) → item ≡ item_at t.desc code (with_predictor x t.counters t.targets) pc) → f2 ≡ with_item f item → now2 ≡ record now { events = now.events ++ event.Fet pc ∷ [] } →
     FetchesOn code t first row (first.desc.core_fetch_width - (i + 1)) f2 now2
 fetches_more code t first row i f now pc item f2 now2 s lt q same h e r =
@@ -108,7 +108,7 @@ over code t first row n f now h s =
       few = omega (arith, s.few);
     }
 
-pub over_early : (code : Code) (t : Tables) (first : Front) (row : Row) (n : ℕ) (f : Front) (now : Row) → FetchesOn code t first row n f now → next_of f ≡ None → Over code t first row f now
+pub over_early : (code : Code) (t : Tables) (first : Front) (row : Row) (n : ℕ) (f : Front) (now : Row) → FetchesOn code t first row n f now → next_fetch f ≡ None → Over code t first row f now
 over_early code t first row n f now s q =
     let room = ap (λ (d : Desc). nat_lt (length f.queue) d.core_queue) (sym s.desc) in
     over code t first row n f now (λ x. no_more first.desc code n (with_front f t x) f.fetch_pc (nat_lt (length f.queue) f.desc.core_queue) refl room q) s

@@ -31,5 +31,5 @@ abbrev pub fetches : Code → Front → Tables → Machine → After
 fetches code f t x = fetch f.desc code (with_front f t x)
 
 -- where the next item is fetched: nowhere where the queue is full
-abbrev pub next_of : Front → Option ℕ
-next_of f = if nat_lt (length f.queue) f.desc.core_queue then f.fetch_pc else None
+abbrev pub next_fetch : Front → Option ℕ
+next_fetch f = if nat_lt (length f.queue) f.desc.core_queue then f.fetch_pc else None

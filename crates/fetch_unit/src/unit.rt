@@ -2,7 +2,7 @@
 ghost use Rattle.std.specs.Prelude.{◌≡◌, ◌<◌, ◌≤◌, ◌+◌, ◌++◌, ◌∷◌, [], length, drop, slice_get, IfOk, Some};
 ghost use Rattle.elf_loader.specs.Code.{word_at};
 ghost use Rattle.window_model.specs.State.{Machine};
-ghost use Rattle.fetch_unit.specs.Front.{with_front, fetches, next_of};
+ghost use Rattle.fetch_unit.specs.Front.{with_front, fetches, next_fetch};
 
 use crate::item::item_at;
 use circular_buffer::HeapCircularBuffer;
@@ -71,7 +71,7 @@ impl Fetch {
 
     // Where the next item is fetched, None where fetching doesn't go on or the queue is full.
     fn next(&self) -> Option<u32>
-        ensures { result ≡ next_of self.now }
+        ensures { result ≡ next_fetch self.now }
     {
         if self.queue.len() < self.desc.core_queue as usize {
             self.fetch_pc
