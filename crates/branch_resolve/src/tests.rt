@@ -120,11 +120,36 @@ fn what_is_resolved_teaches_and_tells(rt: HostRuntime) -> Result<(), Fail> {
     let mut predictor = Predictor::new(alloc, &desc(alloc)?)?;
     let fault = Some(Cause::jump_misaligned());
     let rows = [
-        (done(branch(), 0, 0x10008, None), Resolution::Right, Way::NotTaken, Some(Event::Bp(1, 0))),
-        (done(branch(), 1, 0x10014, None), Resolution::Wrong(0x10014), Way::Taken, Some(Event::Bp(1, 1))),
-        (done(branch(), 1, 0x10016, fault), Resolution::Fault, Way::Taken, Some(Event::Bp(1, 2))),
-        (done(jump(), 0x10008, 0x20000, None), Resolution::Wrong(0x20000), Way::Jump, Some(Event::Bt(1, 0x20000))),
-        (done(jump(), 0x10008, 0x20002, fault), Resolution::Fault, Way::Jump, None),
+        (
+            done(branch(), 0, 0x10008, None),
+            Resolution::Right,
+            Way::NotTaken,
+            Some(Event::Bp(1, 0)),
+        ),
+        (
+            done(branch(), 1, 0x10014, None),
+            Resolution::Wrong(0x10014),
+            Way::Taken,
+            Some(Event::Bp(1, 1)),
+        ),
+        (
+            done(branch(), 1, 0x10016, fault),
+            Resolution::Fault,
+            Way::Taken,
+            Some(Event::Bp(1, 2)),
+        ),
+        (
+            done(jump(), 0x10008, 0x20000, None),
+            Resolution::Wrong(0x20000),
+            Way::Jump,
+            Some(Event::Bt(1, 0x20000)),
+        ),
+        (
+            done(jump(), 0x10008, 0x20002, fault),
+            Resolution::Fault,
+            Way::Jump,
+            None,
+        ),
     ];
     for (entry, resolution, way, taught) in rows {
         let mut row = empty_row();
