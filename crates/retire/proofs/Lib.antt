@@ -1,0 +1,4 @@
+pub mod Quiet
+pub mod Turns
+pub mod Leaving
+pub mod Taken

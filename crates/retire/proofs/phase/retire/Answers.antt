@@ -1,0 +1,97 @@
+-- At each exit no turn is left, and each turn of the loop is one head more.
+use Rattle.std.proofs.Common.{sym, ◌∙◌, Some}
+use Rattle.retire.proofs.Leaving.{Over, ready, retires_start, retires_more, head_inside, over_waits, over_traps, over_ends}
+use Rattle.retire.proofs.phase.retire.Given as given
+use Rattle.retire.proofs.phase.retire.Goals as goal
+
+pub loop-init : goal.loop-init
+loop-init g c = retires_start _ _ (ready _ _ c.requires.empty c.requires.one_description c.requires.call_alone c.requires.stores_fit)
+
+-- ---- the head waits
+
+pub returns-in-Waits-clause-state : goal.returns-in-Waits-clause-state
+returns-in-Waits-clause-state g c =
+    (over_waits _ _ _ _ _ c.loop.invariant (ready _ _ c.requires.empty c.requires.one_description c.requires.call_alone c.requires.stores_fit) (sym c.turn_at.ensures ∙ c.in-Waits.is)).state
+
+pub returns-in-Waits-clause-row : goal.returns-in-Waits-clause-row
+returns-in-Waits-clause-row g c =
+    (over_waits _ _ _ _ _ c.loop.invariant (ready _ _ c.requires.empty c.requires.one_description c.requires.call_alone c.requires.stores_fit) (sym c.turn_at.ensures ∙ c.in-Waits.is)).row
+
+pub returns-in-Waits-clause-piece : goal.returns-in-Waits-clause-piece
+returns-in-Waits-clause-piece g c =
+    (over_waits _ _ _ _ _ c.loop.invariant (ready _ _ c.requires.empty c.requires.one_description c.requires.call_alone c.requires.stores_fit) (sym c.turn_at.ensures ∙ c.in-Waits.is)).piece
+
+-- ---- it traps
+
+pub returns-in-Traps-clause-state : goal.returns-in-Traps-clause-state
+returns-in-Traps-clause-state g c =
+    (over_traps _ _ _ _ _ _ _ c.loop.invariant (ready _ _ c.requires.empty c.requires.one_description c.requires.call_alone c.requires.stores_fit) c.loop-test.true (sym c.turn_at.ensures ∙ c.in-Traps.is)).state
+
+pub returns-in-Traps-clause-row : goal.returns-in-Traps-clause-row
+returns-in-Traps-clause-row g c =
+    (over_traps _ _ _ _ _ _ _ c.loop.invariant (ready _ _ c.requires.empty c.requires.one_description c.requires.call_alone c.requires.stores_fit) c.loop-test.true (sym c.turn_at.ensures ∙ c.in-Traps.is)).row
+
+pub returns-in-Traps-clause-piece : goal.returns-in-Traps-clause-piece
+returns-in-Traps-clause-piece g c =
+    (over_traps _ _ _ _ _ _ _ c.loop.invariant (ready _ _ c.requires.empty c.requires.one_description c.requires.call_alone c.requires.stores_fit) c.loop-test.true (sym c.turn_at.ensures ∙ c.in-Traps.is)).piece
+
+-- ---- it retires
+
+pub commit-requires-clause-inside : goal.commit-requires-clause-inside
+commit-requires-clause-inside g c = head_inside _ _ _ _ c.loop.invariant.stores (sym c.turn_at.ensures ∙ c.in-Leaves.is)
+
+-- and ends the run
+ends : (g : given.Over) (c : goal.In-Some g) → Over c.args.desc.now
+    (record { rob = c.args.rob.now; writes = g.R.RenameTaint.writes c.args.rename.now; names_room = g.R.RenameTaint.room c.args.rename.now; queues = c.args.lsq.now; tags = c.args.tags.now; ram = c.args.ram.now; regs = c.args.regs.now; pc = c.args.pc.now; row = c.args.row.now; piece = c.args.piece.now })
+    (Some c.in-Some.end)
+    (record { rob = c.take_out.new.rob; writes = g.R.RenameTaint.writes c.take_out.new.rename; names_room = g.R.RenameTaint.room c.take_out.new.rename; queues = c.take_out.new.lsq; tags = c.commit.new.tags; ram = c.commit.new.ram; regs = c.commit.new.regs; pc = c.commit.new.pc; row = c.commit.new.row; piece = c.commit.new.piece })
+ends g c =
+    over_ends _ _ _ _ _ _ c.in-Leaves.head _ c.loop.invariant (ready _ _ c.requires.empty c.requires.one_description c.requires.call_alone c.requires.stores_fit) c.loop-test.true (sym c.turn_at.ensures ∙ c.in-Leaves.is)
+    (record {
+      rob = c.take_out.ensures.rob;
+      names = c.take_out.ensures.names;
+      names_room = c.take_out.ensures.same_names_room;
+      queues = c.take_out.ensures.lsq;
+      state = c.in-Some.ensures.state;
+      row = c.in-Some.ensures.row;
+      piece = c.in-Some.ensures.piece;
+      desc = c.in-Some.ensures.desc;
+      shape = c.in-Some.ensures.shape;
+      few = c.in-Some.ensures.few;
+    })
+
+pub returns-in-Some-clause-state : goal.returns-in-Some-clause-state
+returns-in-Some-clause-state g c = (ends g c).state
+
+pub returns-in-Some-clause-row : goal.returns-in-Some-clause-row
+returns-in-Some-clause-row g c = (ends g c).row
+
+pub returns-in-Some-clause-piece : goal.returns-in-Some-clause-piece
+returns-in-Some-clause-piece g c = (ends g c).piece
+
+pub returns-in-Some-clause-left : goal.returns-in-Some-clause-left
+returns-in-Some-clause-left g c = (ends g c).left.window
+
+pub returns-in-Some-clause-names : goal.returns-in-Some-clause-names
+returns-in-Some-clause-names g c = (ends g c).left.names
+
+pub returns-in-Some-clause-lsq : goal.returns-in-Some-clause-lsq
+returns-in-Some-clause-lsq g c = (ends g c).left.queues
+
+-- and the run goes on
+pub loop-preserved : goal.loop-preserved
+loop-preserved g c =
+    retires_more _ _ _ _ _ _ c.in-Leaves.head _ c.loop.invariant c.loop-test.true (sym c.turn_at.ensures ∙ c.in-Leaves.is)
+    (record {
+      rob = c.take_out.ensures.rob;
+      names = c.take_out.ensures.names;
+      names_room = c.take_out.ensures.same_names_room;
+      queues = c.take_out.ensures.lsq;
+      state = c.in_default.ensures.state;
+      row = c.in_default.ensures.row;
+      piece = c.in_default.ensures.piece;
+      desc = c.in_default.ensures.desc;
+      shape = c.in_default.ensures.shape;
+      few = c.in_default.ensures.few;
+    })
+    c.has_stored-stored.ensures

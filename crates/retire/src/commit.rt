@@ -1,0 +1,146 @@
+//! What a head that retires does to the cache, memory, the registers and the pc (`docs/machine.md`, "Retire").
+ghost use Rattle.std.specs.Prelude.{◌≡◌, ◌≤◌, ◌+◌, ◌++◌, ◌∷◌, [], List, None, IfSome, length};
+ghost use Rattle.rv_types.specs.Isa.{call, with_reg};
+ghost use Rattle.rv_types.specs.Memory.{store_fault, with_bytes};
+ghost use Rattle.rv_types.specs.Regs.{writes_of};
+ghost use Rattle.rv_types.specs.Word.{to_le};
+ghost use Rattle.rv_types.specs.declared.Kind.TheVariants.{Store};
+ghost use Rattle.rv_effect.specs.Called.{stepped_as};
+ghost use Rattle.window_model.specs.declared.Entry.{Entry};
+ghost use Rattle.window_model.specs.declared.Event.TheVariants as event;
+ghost use Rattle.window_model.specs.Order.{value_of};
+ghost use Rattle.window_model.specs.Resolve.{next_of};
+ghost use Rattle.window_model.specs.Retire.{head_leaves, addr_of, stored_of, width_of, has_line, touched};
+ghost use Rattle.window_model.specs.Shape.{SameShape};
+ghost use Rattle.window_model.specs.State.{Machine, line_of};
+ghost use Rattle.retire.specs.Parts.{with_effects};
+ghost use Rattle.retire.specs.Turn.{end_of};
+
+use byte_ram::Ram;
+use cache_tags::Tags;
+use machine_desc::Desc;
+use rv_effect::call;
+use rv_types::{End, Kind, Piece, REGISTERS, width_of, writes_of};
+use window_model::{Entry, Event, Row};
+use window_walk::{addr_of, next_of, op_of, stored_of, value_of};
+
+/// The head takes effect, with its events, and a call with its bytes in the piece. Answers how it ends the run, None where
+/// the run goes on. What it leaves is what the definition leaves of every machine with this cache, memory, registers and pc.
+pub(crate) fn commit(
+    head: &Entry,
+    tags: &mut Tags,
+    ram: &mut Ram,
+    regs: &mut [u32; REGISTERS],
+    pc: &mut u32,
+    desc: &Desc,
+    row: &mut Row,
+    piece: &mut Piece,
+) -> Option<End>
+    requires room { length row.old.events + 2 ≤ 128 }
+    requires empty { piece.old ≡ [] }
+    requires one_description { tags.old.desc ≡ desc.now }
+    requires inside { head.now.item.kind ≡ Store → store_fault ram.old (addr_of head.now.outcome) (width_of head.now) ≡ None }
+    ensures state { (x : Machine) (rest : List Entry) → record (with_effects tags.new ram.new regs.new pc.new result x) { window = rest; retired = x.retired + 1 } ≡ (head_leaves head.now.item.kind desc.now head.now rest (with_effects tags.old ram.old regs.old pc.old None x)).machine }
+    ensures row { (x : Machine) (rest : List Entry) → row.new ≡ record row.old { events = row.old.events ++ (head_leaves head.now.item.kind desc.now head.now rest (with_effects tags.old ram.old regs.old pc.old None x)).events } }
+    ensures piece { (x : Machine) (rest : List Entry) → piece.new ≡ (head_leaves head.now.item.kind desc.now head.now rest (with_effects tags.old ram.old regs.old pc.old None x)).piece }
+    ensures desc { tags.new.desc ≡ tags.old.desc }
+    ensures shape { SameShape ram.old ram.new }
+    ensures few { length row.new.events ≤ length row.old.events + 2 }
+{
+    match head.item.kind {
+        Kind::Store => {
+            commit_store(head, tags, ram, regs, pc, desc, row);
+            None
+        }
+        Kind::Call => end_of(commit_call(head, ram, regs, pc, row, piece)),
+        _ => {
+            commit_value(head, regs, pc);
+            row.push(Event::Ret(head.serial));
+            None
+        }
+    }
+}
+
+// The head's register is written, if it has one, and the next one's address follows.
+fn commit_value(head: &Entry, regs: &mut [u32; REGISTERS], pc: &mut u32)
+    ensures regs { regs.new ≡ with_reg regs.old (writes_of head.now.item.instr) (value_of head.now.outcome) }
+    ensures pc { pc.new ≡ next_of head.now.outcome }
+{
+    if let Some(register) = writes_of(&head.item.instr) {
+        regs[register.number as usize] = value_of(head);
+    }
+    *pc = next_of(head);
+}
+
+// A store writes memory, and its line moves to the front where the cache has it.
+fn commit_store(
+    head: &Entry,
+    tags: &mut Tags,
+    ram: &mut Ram,
+    regs: &mut [u32; REGISTERS],
+    pc: &mut u32,
+    desc: &Desc,
+    row: &mut Row,
+)
+    requires room { length row.old.events + 2 ≤ 128 }
+    requires inside { store_fault ram.old (addr_of head.now.outcome) (width_of head.now) ≡ None }
+    ensures ram { ram.new ≡ with_bytes ram.old (addr_of head.now.outcome) (to_le (width_of head.now) (stored_of head.now.outcome)) }
+    ensures tags { tags.new ≡ record tags.old { sets = touched tags.old.desc tags.old.sets (line_of desc.now (addr_of head.now.outcome)) } }
+    ensures regs { regs.new ≡ with_reg regs.old (writes_of head.now.item.instr) (value_of head.now.outcome) }
+    ensures pc { pc.new ≡ next_of head.now.outcome }
+    ensures row { row.new ≡ record row.old { events = row.old.events ++ event.Ret head.now.serial ∷ event.St head.now.serial (line_of desc.now (addr_of head.now.outcome)) (has_line tags.old.desc tags.old.sets (line_of desc.now (addr_of head.now.outcome))) ∷ [] } }
+{
+    let line = line_of(desc, addr_of(head));
+    write_store(ram, head);
+    let hit = tags.touch(line);
+    commit_value(head, regs, pc);
+    row.push(Event::Ret(head.serial));
+    row.push(Event::St(head.serial, line, hit));
+}
+
+// The first address of an address's line.
+fn line_of(desc: &Desc, addr: u32) -> u32
+    ensures { result ≡ line_of desc.now addr }
+{
+    addr / desc.cache_line * desc.cache_line
+}
+
+// A store's bytes are written.
+fn write_store(ram: &mut Ram, store: &Entry)
+    requires inside { store_fault ram.old (addr_of store.now.outcome) (width_of store.now) ≡ None }
+    ensures { ram.new ≡ with_bytes ram.old (addr_of store.now.outcome) (to_le (width_of store.now) (stored_of store.now.outcome)) }
+{
+    let width = width_of(op_of(&store.item.instr));
+    let _ = ram.put(addr_of(store), width, stored_of(store));
+}
+
+// A call acts on the registers, the pc and memory. Answers the value with which it ends the run, if it does.
+fn commit_call(
+    head: &Entry,
+    ram: &Ram,
+    regs: &mut [u32; REGISTERS],
+    pc: &mut u32,
+    row: &mut Row,
+    piece: &mut Piece,
+) -> Option<u32>
+    requires room { length row.old.events + 2 ≤ 128 }
+    requires empty { piece.old ≡ [] }
+    ensures stepped { stepped_as (record { pc = pc.new; regs = regs.new; ram = ram.now }) piece.new result ≡ call (record { pc = pc.old; regs = regs.old; ram = ram.now }) }
+    ensures exit { IfSome result (λ v. piece.new ≡ []) }
+    ensures row { row.new ≡ record row.old { events = row.old.events ++ event.Ret head.now.serial ∷ event.Call head.now.serial (length piece.new) ∷ [] } }
+{
+    let exit = call(pc, regs, ram, piece);
+    row.push(Event::Ret(head.serial));
+    row.push(Event::Call(head.serial, piece.as_slice().len() as u32));
+    exit
+}
+
+// How a call ends the run, if it exits with a value.
+fn end_of(exit: Option<u32>) -> Option<End>
+    ensures { result ≡ end_of exit }
+{
+    match exit {
+        Some(value) => Some(End::Exit(value)),
+        None => None,
+    }
+}

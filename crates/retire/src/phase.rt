@@ -1,0 +1,81 @@
+//! The phase: turn by turn.
+ghost use Rattle.std.specs.Prelude.{◌≡◌, ◌≤◌, ◌<◌, ◌+◌, ◌-◌, ◌++◌, [], length, drop};
+ghost use Rattle.std.specs.List.{AllByRecursion as Each};
+ghost use Rattle.window_model.specs.State.{Machine};
+ghost use Rattle.rename_taint.specs.Writes.{without_retired};
+ghost use Rattle.retire.specs.Parts.{CallAlone, TakesStore, with_parts, counted, retires};
+ghost use Rattle.retire.specs.Gone.{gone, without_each, without, popped};
+
+use crate::commit::commit;
+use crate::turn::{Turn, has_stored, turn_at};
+use byte_ram::Ram;
+use cache_tags::Tags;
+use lsq::Lsq;
+use machine_desc::Desc;
+use rename_taint::RenameTaint;
+use rob_ring::RobRing;
+use rv_types::{End, Piece, REGISTERS};
+use window_model::Row;
+
+/// Phase Retire: up to the description's width of retiring, the oldest entries take effect, with their events in the row and
+/// a call's bytes in the piece. Answers how the run ends: None exactly where it goes on.
+///
+/// What it leaves is what the definition leaves of every machine with this window, cache, memory, registers and pc, whose
+/// run hasn't ended. As many have retired as the reorder buffer has fewer entries then: those were its oldest, and the
+/// table of names and the queues of loads and stores have let go of them.
+pub fn retire<R: RenameTaint>(
+    rob: &mut RobRing,
+    rename: &mut R,
+    lsq: &mut Lsq,
+    tags: &mut Tags,
+    ram: &mut Ram,
+    regs: &mut [u32; REGISTERS],
+    pc: &mut u32,
+    desc: &Desc,
+    row: &mut Row,
+    piece: &mut Piece,
+) -> Option<End>
+    requires room { length row.old.events + 8 ≤ 128 }
+    requires empty { piece.old ≡ [] }
+    requires one_description { tags.old.desc ≡ desc.now }
+    requires call_alone { CallAlone rob.old.entries }
+    requires stores_fit { Each (TakesStore ram.old) rob.old.entries }
+    ensures state { (x : Machine) → counted (length rob.old.entries - length rob.new.entries) (with_parts rob.new tags.new ram.new regs.new pc.new result x) ≡ (retires desc.now rob.old tags.old ram.old regs.old pc.old x).machine }
+    ensures row { (x : Machine) → row.new ≡ record row.old { events = row.old.events ++ (retires desc.now rob.old tags.old ram.old regs.old pc.old x).events } }
+    ensures piece { (x : Machine) → piece.new ≡ (retires desc.now rob.old tags.old ram.old regs.old pc.old x).piece }
+    ensures left { rob.old.entries ≡ gone rob.old rob.new ++ rob.new.entries }
+    ensures same_room { rob.new.room ≡ rob.old.room }
+    ensures names { R.writes rename.new ≡ without_each (gone rob.old rob.new) (R.writes rename.old) }
+    ensures same_names_room { R.room rename.new ≡ R.room rename.old }
+    ensures lsq { lsq.new ≡ popped (gone rob.old rob.new) lsq.old }
+    ensures desc { tags.new.desc ≡ tags.old.desc }
+    ensures few { length row.new.events ≤ length row.old.events + 8 }
+{
+    let mut stored = false;
+    for _ in 0..desc.core_retire_width {
+        let head = match turn_at(rob, stored) {
+            Turn::Leaves(head) => head,
+            Turn::Waits => return None,
+            Turn::Traps(cause, at) => return Some(End::Trap(cause, at)),
+        };
+        take_out(head.serial, rob, rename, lsq);
+        if let Some(end) = commit(&head, tags, ram, regs, pc, desc, row, piece) {
+            return Some(end);
+        }
+        stored = has_stored(stored, &head);
+    }
+    None
+}
+
+// The head, which has this serial, leaves the reorder buffer, the table of names and the queues of loads and stores.
+fn take_out<R: RenameTaint>(serial: u64, rob: &mut RobRing, rename: &mut R, lsq: &mut Lsq)
+    requires some { 0 < length rob.old.entries }
+    ensures rob { rob.new ≡ record rob.old { entries = drop 1 rob.old.entries } }
+    ensures names { R.writes rename.new ≡ without_retired serial (R.writes rename.old) }
+    ensures same_names_room { R.room rename.new ≡ R.room rename.old }
+    ensures lsq { lsq.new ≡ without serial lsq.old }
+{
+    rob.pop_head();
+    rename.retired(serial);
+    lsq.pop(serial);
+}

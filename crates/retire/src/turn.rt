@@ -1,0 +1,46 @@
+//! What the next turn of retiring finds at the head of the reorder buffer (`docs/machine.md`, "Retire").
+ghost use Rattle.std.specs.Prelude.{◌≡◌, ◌||◌};
+ghost use Rattle.window_model.specs.Order.{is_store};
+ghost use Rattle.retire.specs.Turn.{turn_at};
+
+use rob_ring::RobRing;
+use rv_types::Cause;
+use window_model::Entry;
+use window_walk::{is_store, may_leave, trap_of};
+
+/// What a turn does with the head, the oldest entry.
+#[derive(Clone, Copy)]
+pub(crate) enum Turn {
+    /// There is no head, or it may not leave yet, or it is the cycle's second store: no further turn follows.
+    Waits,
+    /// It ends the run as a trap, with this cause and at this address, and doesn't retire.
+    Traps(Cause, u32),
+    /// It retires.
+    Leaves(Entry),
+}
+
+/// The next turn, where a store has retired in this cycle or not.
+pub(crate) fn turn_at(rob: &RobRing, stored: bool) -> Turn
+    ensures { result ≡ turn_at stored rob.now.entries }
+{
+    let Some(head) = rob.head() else {
+        return Turn::Waits;
+    };
+    if !may_leave(&head) {
+        return Turn::Waits;
+    }
+    if let Some(cause) = trap_of(&head) {
+        return Turn::Traps(cause, head.item.pc);
+    }
+    if stored && is_store(&head) {
+        return Turn::Waits;
+    }
+    Turn::Leaves(head)
+}
+
+/// Whether a store has retired in this cycle, once this entry has.
+pub(crate) fn has_stored(stored: bool, head: &Entry) -> bool
+    ensures { result ≡ (stored || is_store head.now.item.kind) }
+{
+    stored || is_store(head)
+}
