@@ -1,0 +1,230 @@
+-- What the parts tell of the window.
+use Rattle.std.proofs.Common.{◌≡◌, ℕ, zero, suc, ◌+◌, ◌<◌, ◌≤◌, Bool, true, false, not, ◌&&◌, ◌||◌, cond, List, [], ◌∷◌, ◌++◌, length, take, Option, Some, None, refl, ap, ap₂, sym, ◌∙◌, arith, subst, slice_get, is_none, is_some}
+use Rattle.std.specs.Prelude.{if◌then◌else◌, map, reverse}
+use Rattle.std.specs.List.{All, count_by, list_all, list_any}
+use Rattle.std.specs.Option.{option_map}
+use Rattle.std.proofs.lemmas.List.{length-map, take_more}
+use Rattle.std.proofs.lemmas.List.Elements.{All-nil, All-cons, All-head, All-tail, All-weaker}
+use Rattle.std.proofs.lemmas.Option.{slice_get-map, slice_get_within, get_or_from_slice_get}
+use mathlib.Core.List.{reverse_aux}
+use Rattle.rv_types.specs.declared.Kind.{Kind}
+use Rattle.rv_types.specs.declared.Kind.TheVariants.{Load, Div}
+use Rattle.rv_types.specs.Regs.{two}
+use Rattle.machine_desc.specs.declared.Desc.{Desc}
+use Rattle.window_model.specs.declared.Entry.{Entry}
+use Rattle.window_model.specs.Along.{Along, Behind, Fact}
+use Rattle.window_model.specs.Order.{Place, before_at, first_from, is_control, is_done, is_known, is_waiting, sources, writer}
+use Rattle.window_model.specs.Resolve.{may_resolve}
+use Rattle.window_model.specs.Issue.{may_issue_as, stores_done}
+use Rattle.window_model.specs.Taint.{tainted, any_tainted, address_tainted, base_of}
+use Rattle.window_model.proofs.Counts.{count_is, count_pushed}
+use Rattle.rename_taint.specs.Writes.{root_of, source_of}
+use Rattle.stations.specs.Stations.{Station, awaits_none}
+use Rattle.visibility.specs.Point.{Point, HasAdvanced, HasMoved, is_hidden}
+use Rattle.branch_resolve.specs.Pick.{can_resolve, pick_from}
+use Rattle.transmit_gate.specs.Gate.{may_transmit}
+use Rattle.parts_stand.specs.Roots.{youngest_root, root_of_source, source_roots, unretired}
+use Rattle.parts_stand.specs.Parts.{RootsStand, Waiter, awaited, awaited_of, oldest_of, waiter_in, waiter_of, waiters_from, writes_in}
+use Rattle.parts_stand.specs.Steps.{station_of}
+use Rattle.parts_stand.specs.Telling.{CountsRoom, CountsStations, FindsAwaited, FindsWriter, HasStation, HoldsOlderOnes, NamesEntry, NamesRoot, NamesWriter, OperandsTold, PicksFirst, TellsIssue, TellsOperands, TellsReady, TellsTaint, TellsVisible, asks_besides, entry_of}
+use Rattle.parts_stand.proofs.Serials.{Rise, Falls, behind, behind_at, falls, oldest_least, rise_head}
+use Rattle.parts_stand.proofs.Youngest.{Tells, few_reads, retired_shown, root_tells}
+use Rattle.parts_stand.proofs.Tables.{as_many, few_writes, found, root_is, source_is, within, writes_have}
+use Rattle.parts_stand.proofs.Keeping.{roots_at, station_is, waiters_count, waiters_have}
+
+-- ---- room
+
+pub counts_room : CountsRoom
+counts_room p s = record {
+  roots = as_many (oldest_of p.next p.window) [] p.window p.roots s.roots;
+  writes = let a = ap length s.writes in let b = few_writes p.window p.roots in omega (arith, a, b);
+  held = sym (length-map p.held waiter_in) ∙ ap length s.held ∙ waiters_count [] p.window ∙ count_is (λ e. is_waiting e.state) p.window;
+}
+
+of_waiters : (n : ℕ) (held : List Station) → All (λ w. w.serial < n) (map waiter_in held) → All (λ s. s.serial < n) held
+of_waiters n [] a = All-nil (λ s. s.serial < n)
+of_waiters n (s ∷ held) a = All-cons (λ s. s.serial < n) s held (All-head (λ w. w.serial < n) (waiter_in s) (map waiter_in held) a) (of_waiters n held (All-tail (λ w. w.serial < n) (waiter_in s) (map waiter_in held) a))
+
+pub holds_older : HoldsOlderOnes
+holds_older p s = record {
+  writes = subst (All (λ w. w.serial < p.next)) (sym s.writes) (writes_have (λ n. n < p.next) p.window p.roots s.next);
+  held = of_waiters p.next p.held (subst (All (λ w. w.serial < p.next)) (sym s.held) (waiters_have (λ n. n < p.next) [] p.window s.next));
+}
+
+-- ---- writers
+
+pub names_writer : NamesWriter
+names_writer p r s = ap (λ ws. source_of ws r) s.writes ∙ source_is (oldest_of p.next p.window) r p.window p.roots s.roots
+
+pub names_entry : NamesEntry
+names_entry p r n s q = within r n p.window s.rise (writer (reverse p.window) r) refl (sym (names_writer p r s) ∙ q)
+
+pub finds_writer : FindsWriter
+finds_writer p r s = ap (entry_of p.window) (names_writer p r s) ∙ found r p.window s.rise (writer (reverse p.window) r) refl
+
+pub finds_awaited : FindsAwaited
+finds_awaited p r s = ap awaited_of (finds_writer p r s)
+
+-- ---- stations
+
+within_map : {X Y : Type 0} (f : X → Y) (o : Option X) (y : Y) → option_map f o ≡ Some y → is_some o ≡ true
+within_map f None y h = absurd (cc)
+within_map f (Some x) y h = refl
+
+some_within : {X : Type 0} (xs : List X) (i : ℕ) → is_some (slice_get xs i) ≡ true → i < length xs
+some_within [] i h = absurd (cc)
+some_within (x ∷ xs) zero h = omega arith
+some_within (x ∷ xs) (suc i) h = let k = some_within xs i h in omega (arith, k)
+
+pub has_station : HasStation
+has_station p i e s h w =
+    let is =
+    sym (slice_get-map waiter_in p.held (station_of i p.window)) ∙ ap (λ ws. slice_get ws (station_of i p.window)) s.held
+    ∙ ap (slice_get (waiters_from [] p.window)) (sym (count_is (λ e. is_waiting e.state) (take i p.window))) ∙ station_is [] p.window i e h w in
+    record { within = some_within p.held (station_of i p.window) (within_map waiter_in (slice_get p.held (station_of i p.window)) (waiter_of (before_at p.window i) e) is); is = is }
+
+pub counts_stations : CountsStations
+counts_stations window i e h =
+    ap (count_by (λ e. is_waiting e.state)) (take_more window i e (slice_get_within window i e h) ∙ ap (λ d. take i window ++ d ∷ []) (get_or_from_slice_get window i e e h))
+    ∙ count_pushed (λ e. is_waiting e.state) (take i window) e ∙ by_wait (is_waiting e.state) (count_by (λ e. is_waiting e.state) (take i window))
+  where
+    by_wait : (w : Bool) (n : ℕ) → n + cond w 1 0 ≡ (if w then n + 1 else n)
+    by_wait true n = refl
+    by_wait false n = omega arith
+
+none_awaited : (o : Option Entry) → is_none (awaited_of o) ≡ is_known o
+none_awaited None = refl
+none_awaited (Some e) = by_done (is_done e.state)
+  where
+    by_done : (b : Bool) → is_none (if b then None else Some e.serial) ≡ b
+    by_done true = refl
+    by_done false = refl
+
+and_true : (b : Bool) → (b && true) ≡ b
+and_true true = refl
+and_true false = refl
+
+ready_by : (before : List Entry) (rs : List ℕ) → length rs ≤ 2 → list_all is_none (map (awaited before) (two rs)) ≡ list_all (λ r. is_known (writer before r)) rs
+ready_by before [] le = refl
+ready_by before (a ∷ []) le = ap (λ b. b && true) (none_awaited (writer before a))
+ready_by before (a ∷ b ∷ []) le = ap₂ (λ p q. p && (q && true)) (none_awaited (writer before a)) (none_awaited (writer before b))
+ready_by before (a ∷ b ∷ c ∷ rs) le = absurd (omega (arith, le))
+
+awaits_as : (o : Option Station) → option_map awaits_none o ≡ option_map (λ (w : Waiter). list_all is_none w.awaits) (option_map waiter_in o)
+awaits_as None = refl
+awaits_as (Some s) = refl
+
+pub tells_ready : TellsReady
+tells_ready p i e s h w =
+    awaits_as (slice_get p.held (station_of i p.window)) ∙ ap (option_map (λ (w : Waiter). list_all is_none w.awaits)) (has_station p i e s h w).is
+    ∙ ap Some (ready_by (before_at p.window i) (sources e) (few_reads e.item.instr))
+
+-- ---- roots
+
+pub names_root : NamesRoot
+names_root p r s = ap (λ ws. unretired (oldest_of p.next p.window) (root_of ws r)) s.writes ∙ root_is (oldest_of p.next p.window) r p.window p.roots s.roots (oldest_least p.next p.window s.rise)
+
+-- what is known where the point has moved: what it tells of each entry, and that all that have retired are visible
+pub record Told (point : Point) (oldest : ℕ) (window : List Entry) : Type 0 where
+  pub tells : Along (Tells point) [] window
+  pub falls : Along Falls [] window
+  pub retired : (s : ℕ) → s < oldest → s ≤ point.serial
+
+pub told : (point : Point) (next : ℕ) (e : Entry) (es : List Entry) → Rise (e ∷ es) → HasMoved point (e ∷ es) → Told point (oldest_of next (e ∷ es)) (e ∷ es)
+told point next e es r m = record {
+  tells = m.each;
+  falls = falls (e ∷ es) r;
+  retired = λ s lt. m.smaller s (All-cons (λ d. s < d.serial) e es lt (All-weaker (λ d. e.serial < d.serial) (λ d. s < d.serial) (λ d l. omega (arith, lt, l)) es (rise_head e es r)));
+}
+
+along_at : (P : Fact) (before es : List Entry) (i : ℕ) (e : Entry) → Along P before es → slice_get es i ≡ Some e → P (reverse_aux (take i es) before) e
+along_at P before [] i e k h = absurd (cc)
+along_at P before (x ∷ es) zero e k h = let a : x ≡ e = cc in subst (P before) a k.0
+along_at P before (x ∷ es) (suc i) e k h = along_at P (x ∷ before) es i e k.1 h
+
+pub tells_visible : TellsVisible
+tells_visible point [] i e m h = absurd (cc)
+tells_visible point (x ∷ es) i e m h = along_at (Tells point) [] (x ∷ es) i e m.each h
+
+pub tells_taint : TellsTaint
+tells_taint p point r s m = by_window p.window p.roots s.rise s.roots m (names_root p r s) s.writes
+  where
+    by_window : (es : List Entry) (roots : List (List (Option ℕ))) → Rise es → RootsStand (oldest_of p.next es) [] es roots → HasAdvanced point es →
+        unretired (oldest_of p.next es) (root_of p.writes r) ≡ youngest_root (reverse es) r → p.writes ≡ writes_in es roots → is_hidden point.serial (root_of p.writes r) ≡ tainted point.model (reverse es) r
+    by_window [] roots ri rs m k w = ap (λ ws. is_hidden point.serial (root_of ws r)) w
+    by_window (e ∷ es) roots ri rs m k w =
+        let t = told point p.next e es ri m in
+        retired_shown point.serial e.serial (root_of p.writes r) t.retired ∙ ap (is_hidden point.serial) k
+        ∙ root_tells point (reverse (e ∷ es)) (behind (Tells point) [] (e ∷ es) tt t.tells) (behind Falls [] (e ∷ es) tt t.falls) r
+
+-- of an entry's roots, where the older entries are known
+any_shown : (point f : ℕ) (os : List (Option ℕ)) → ((s : ℕ) → s < f → s ≤ point) → list_any (is_hidden point) os ≡ list_any (is_hidden point) (map (unretired f) os)
+any_shown point f [] h = refl
+any_shown point f (o ∷ os) h = ap₂ (λ a b. a || b) (retired_shown point f o h) (any_shown point f os h)
+
+any_two : (p : Point) (before : List Entry) (rs : List ℕ) → length rs ≤ 2 → ((r : ℕ) → is_hidden p.serial (youngest_root before r) ≡ tainted p.model before r) →
+    (list_any (is_hidden p.serial) (map (root_of_source before) (two rs)) ≡ list_any (tainted p.model before) rs)
+    × (list_any (is_hidden p.serial) (take 1 (map (root_of_source before) (two rs))) ≡ list_any (tainted p.model before) (base_of rs))
+any_two p before [] le h = (refl, refl)
+any_two p before (a ∷ []) le h = (ap (λ b. b || false) (h a), ap (λ b. b || false) (h a))
+any_two p before (a ∷ b ∷ []) le h = (ap₂ (λ p q. p || (q || false)) (h a) (h b), ap (λ b. b || false) (h a))
+any_two p before (a ∷ b ∷ c ∷ rs) le h = absurd (omega (arith, le))
+
+take_shown : (f : ℕ) (os : List (Option ℕ)) → take 1 (map (unretired f) os) ≡ map (unretired f) (take 1 os)
+take_shown f [] = refl
+take_shown f (o ∷ os) = refl
+
+pub operands_told : (p : Point) (f : ℕ) (before : List Entry) (e : Entry) (roots : List (Option ℕ)) → Behind (Tells p) before → Behind Falls before → ((s : ℕ) → s < f → s ≤ p.serial) →
+    map (unretired f) roots ≡ source_roots before e → OperandsTold p before e roots
+operands_told p f before e roots t u old k =
+    let a = any_two p before (sources e) (few_reads e.item.instr) (root_tells p before t u) in
+    record {
+      any = any_shown p.serial f roots old ∙ ap (list_any (is_hidden p.serial)) k ∙ a.0;
+      base = any_shown p.serial f (take 1 roots) old ∙ ap (list_any (is_hidden p.serial)) (sym (take_shown f roots) ∙ ap (take 1) k) ∙ a.1;
+    }
+
+pub tells_operands : TellsOperands
+tells_operands p point i e roots s m h k = by_window p.window s.rise m h (roots_at (oldest_of p.next p.window) [] p.window p.roots i e roots s.roots h k)
+  where
+    by_window : (es : List Entry) → Rise es → HasAdvanced point es → slice_get es i ≡ Some e → map (unretired (oldest_of p.next es)) roots ≡ source_roots (before_at es i) e → OperandsTold point (before_at es i) e roots
+    by_window [] r m h k = absurd (cc)
+    by_window (d ∷ es) r m h k =
+        let t = told point p.next d es r m in
+        operands_told point d.serial (before_at (d ∷ es) i) e roots (behind_at (Tells point) [] (d ∷ es) i tt t.tells) (behind_at Falls [] (d ∷ es) i tt t.falls) t.retired k
+
+issue_by : (d : Desc) (point : Point) (before : List Entry) (e : Entry) (roots : List (Option ℕ)) (free : Bool) → point.model ≡ d.stt_model → OperandsTold point before e roots → (k : Kind) →
+    may_issue_as k d free before e ≡ (may_transmit k point.serial roots && asks_besides k free before)
+issue_by d point before e roots free q t Load = ap (λ b. not b && stores_done before) (ap (λ m. address_tainted m before e) (sym q) ∙ sym t.base)
+issue_by d point before e roots free q t Div = ap (λ b. not b && free) (ap (λ m. any_tainted m before e) (sym q) ∙ sym t.any)
+issue_by d point before e roots free q t _ = refl
+
+pub tells_issue : TellsIssue
+tells_issue d p point i e roots free s m q h k = issue_by d point (before_at p.window i) e roots free q (tells_operands p point i e roots s m h k) e.item.kind
+
+-- ---- the entry that resolves
+
+pick_by : (d : Desc) (point : Point) (f : ℕ) (before es : List Entry) (roots : List (List (Option ℕ))) → point.model ≡ d.stt_model → ((s : ℕ) → s < f → s ≤ point.serial) →
+    Behind (Tells point) before → Behind Falls before → Along (Tells point) before es → Along Falls before es → RootsStand f before es roots →
+    pick_from point.serial (length before) es roots ≡ option_map (λ (p : Place). length p.before) (first_from (may_resolve d) before es)
+pick_by d point f before [] roots q old t u a b s = refl
+pick_by d point f before (e ∷ es) [] q old t u a b s = absurd s
+pick_by d point f before (e ∷ es) (rs ∷ roots) q old t u a b s =
+    let o = operands_told point f before e rs t u old s.0 in
+    let same : can_resolve point.serial e rs ≡ may_resolve d before e = ap (λ t. is_control e.item.kind && is_done e.state && not e.resolved && not t) (o.any ∙ ap (λ m. any_tainted m before e) q) in
+    let k : length before + 1 ≡ length (e ∷ before) = omega arith in
+    ap (λ b. if b then Some (length before) else pick_from point.serial (length before + 1) es roots) same
+    ∙ by_test (may_resolve d before e) (ap (λ i. pick_from point.serial i es roots) k ∙ pick_by d point f (e ∷ before) es roots q old (a.0, t) (b.0, u) a.1 b.1 s.1)
+  where
+    by_test : (b : Bool) → pick_from point.serial (length before + 1) es roots ≡ option_map (λ (p : Place). length p.before) (first_from (may_resolve d) (e ∷ before) es) →
+        (if b then Some (length before) else pick_from point.serial (length before + 1) es roots)
+        ≡ option_map (λ (p : Place). length p.before) (if b then Some (record { before = before; entry = e; younger = es }) else first_from (may_resolve d) (e ∷ before) es)
+    by_test true h = refl
+    by_test false h = h
+
+pub picks_first : PicksFirst
+picks_first d p point s m q = by_window p.window s.rise m s.roots
+  where
+    by_window : (es : List Entry) → Rise es → HasAdvanced point es → RootsStand (oldest_of p.next es) [] es p.roots →
+        pick_from point.serial 0 es p.roots ≡ option_map (λ (p : Place). length p.before) (first_from (may_resolve d) [] es)
+    by_window [] r m s = refl
+    by_window (e ∷ es) r m s = let t = told point p.next e es r m in pick_by d point e.serial [] (e ∷ es) p.roots q t.retired tt tt t.tells t.falls s

@@ -1,0 +1,216 @@
+-- The parts go on to stand for the window.
+use Rattle.std.proofs.Common.{◌≡◌, ℕ, zero, suc, ◌+◌, ◌<◌, ◌≤◌, Bool, true, false, cond, List, [], ◌∷◌, ◌++◌, length, take, drop, Option, Some, None, refl, ap, ap₂, sym, ◌∙◌, arith, subst, slice_get}
+use Rattle.std.specs.Prelude.{if◌then◌else◌, map, nat_lt, reverse, slice_set}
+use Rattle.std.specs.List.{All, filter, remove}
+use Rattle.std.proofs.lemmas.Bool.Decides.{nat_tests}
+use Rattle.std.proofs.lemmas.List.{map-append, append-nil, length-append}
+use Rattle.std.proofs.lemmas.List.Elements.{All-nil, All-head, All-tail, All-weaker, All-push, filter-append}
+use Rattle.rv_types.specs.Regs.{two}
+use Rattle.window_model.specs.declared.Entry.{Entry}
+use Rattle.window_model.specs.declared.State.TheVariants.{Done}
+use Rattle.window_model.specs.Order.{is_waiting, is_done, sources}
+use Rattle.window_model.specs.Issue.{begun}
+use Rattle.window_model.proofs.Booleans.{done_waits, waiting_done}
+use Rattle.window_model.proofs.Counts.{count_is}
+use Rattle.rob_ring.specs.Ring.{below}
+use Rattle.rename_taint.specs.declared.Write.{Write}
+use Rattle.rename_taint.specs.Writes.{root_at, root_of, without_retired, before_serial}
+use Rattle.stations.specs.Stations.{Station, struck}
+use Rattle.parts_stand.specs.Roots.{youngest_root, root_of_source, source_roots, unretired}
+use Rattle.parts_stand.specs.Parts.{Stand, RootsStand, Waiter, oldest_of, waiter_in, waiter_of, waiters_from, writes_in}
+use Rattle.parts_stand.specs.Steps.{GoesOn, OpensEmpty, RenamesIn, RetiresHead, SquashesFrom, GoOn, ChangesUnseen, CompletesAt, IssuesAt, seated, station_of}
+use Rattle.parts_stand.proofs.Serials.{Rise, rise_nil, rise_head, rise_tail, rise_push, rise_left, all_left, oldest_least, splits}
+use Rattle.parts_stand.proofs.Youngest.{map_same, map_twice}
+use Rattle.parts_stand.proofs.Tables.{root_is, as_many, writes_join, writes_one, writes_have, keeps_all, keeps_none, without_head}
+use Rattle.parts_stand.proofs.Keeping.{roots_push, roots_left, roots_rest, roots_on, writes_on, all_on, rise_on, oldest_on, goes_same, zip_set, waiters_join, waiters_have, waiters_rest, Steady, Still, still_same, still_goes, waiters_still, map_remove, waiters_issue, struck_waiter, set_done, alone, waiters_done}
+
+pub opens_empty : OpensEmpty
+opens_empty next = record { rise = rise_nil; next = All-nil (λ e. e.serial < next); roots = tt; writes = refl; held = refl }
+
+-- ---- an entry is renamed
+
+seat_is : (place : ℕ) (awaits : List (Option ℕ)) (e : Entry) (held : List Station) →
+    map waiter_in (seated place awaits e held) ≡ map waiter_in held ++ (if is_waiting e.state then record { serial = e.serial; awaits = awaits } ∷ [] else [])
+seat_is place awaits e held = by_wait (is_waiting e.state)
+  where
+    by_wait : (w : Bool) → map waiter_in (if w then held ++ record { serial = e.serial; awaits = awaits; place = place } ∷ [] else held)
+        ≡ map waiter_in held ++ (if w then record { serial = e.serial; awaits = awaits } ∷ [] else [])
+    by_wait true = map-append waiter_in held (record { serial = e.serial; awaits = awaits; place = place } ∷ [])
+    by_wait false = sym (append-nil (map waiter_in held))
+
+-- the oldest serial, once an entry with the next one is there
+oldest_push : (next : ℕ) (es : List Entry) (e : Entry) → e.serial ≡ next → oldest_of (next + 1) (es ++ e ∷ []) ≡ oldest_of next es
+oldest_push next [] e h = h
+oldest_push next (x ∷ es) e h = refl
+
+asked : (f : ℕ) (before : List Entry) (ws : List Write) (os : List (Option ℕ)) → ((r : ℕ) → unretired f (root_of ws r) ≡ youngest_root before r) →
+    map (unretired f) (map (root_at ws) os) ≡ map (root_of_source before) os
+asked f before ws os h = map_twice (unretired f) (root_at ws) os ∙ map_same (λ o. unretired f (root_at ws o)) (root_of_source before) os each
+  where
+    each : (o : Option ℕ) → unretired f (root_at ws o) ≡ root_of_source before o
+    each None = refl
+    each (Some r) = h r
+
+pub renames_in : RenamesIn
+renames_in p e roots awaits place s is rs aw =
+    let w = p.window in
+    let f = oldest_of p.next p.window in
+    let root = λ (r : ℕ). ap (λ ws. unretired (oldest_of p.next p.window) (root_of ws r)) s.writes ∙ root_is (oldest_of p.next p.window) r p.window p.roots s.roots (oldest_least p.next p.window s.rise) in
+    let own : map (unretired (oldest_of p.next p.window)) roots ≡ source_roots (reverse p.window) e = ap (map (unretired (oldest_of p.next p.window))) rs ∙ asked (oldest_of p.next p.window) (reverse p.window) p.writes (two (sources e)) root in
+    record {
+      rise = rise_push p.window e s.rise (subst (λ n. All (λ b. b.serial < n) p.window) (sym is) s.next);
+      next = All-push (λ b. b.serial < p.next + 1) p.window e (All-weaker (λ b. b.serial < p.next) (λ b. b.serial < p.next + 1) (λ b lt. omega (arith, lt)) p.window s.next) (omega (arith, is));
+      roots = subst (λ f. RootsStand f [] (p.window ++ e ∷ []) (p.roots ++ roots ∷ [])) (sym (oldest_push p.next p.window e is))
+          (roots_push (oldest_of p.next p.window) [] p.window p.roots e roots s.roots own);
+      writes = ap₂ (λ ws vs. ws ++ vs) s.writes (sym (writes_one e roots)) ∙ sym (writes_join p.window (e ∷ []) p.roots (roots ∷ []) (as_many (oldest_of p.next p.window) [] p.window p.roots s.roots));
+      held =
+          seat_is place awaits e p.held
+          ∙ ap₂ (λ hs os. hs ++ (if is_waiting e.state then record { serial = e.serial; awaits = os } ∷ [] else [])) s.held aw
+          ∙ sym (waiters_join [] p.window (e ∷ []));
+    }
+
+-- ---- the oldest retires
+
+retires : (next : ℕ) (es : List Entry) (roots : List (List (Option ℕ))) (ws : List Write) (held : List Station) (h : Entry) →
+    Stand (record { next = next; window = es; roots = roots; writes = ws; held = held }) → slice_get es 0 ≡ Some h → is_done h.state ≡ true →
+    Stand (record { next = next; window = drop 1 es; roots = drop 1 roots; writes = without_retired h.serial ws; held = held })
+retires next [] roots ws held h s q d = absurd (cc)
+retires next (x ∷ es) [] ws held h s q d = absurd (s.roots)
+retires next (x ∷ es) (rs ∷ roots) ws held h s q d =
+    let a : x ≡ h = cc in
+    let rise = rise_tail x es s.rise in
+    let below = All-tail (λ e. e.serial < next) x es s.next in
+    let above = oldest_above next x es s.rise (All-head (λ e. e.serial < next) x es s.next) in
+    let done = ap (λ (e : Entry). is_done e.state) a ∙ d in
+    record {
+      rise = rise;
+      next = below;
+      roots = roots_rest x.serial (oldest_of next es) [] es roots x (omega (arith, above)) (All-nil (λ e. oldest_of next es ≤ e.serial)) (oldest_least next es rise) above s.roots.1;
+      writes =
+          ap (λ (e : Entry). without_retired e.serial ws) (sym a) ∙ ap (without_retired x.serial) s.writes
+          ∙ without_head x rs (writes_in es roots) (writes_have (λ n. x.serial < n) es roots (rise_head x es s.rise));
+      held =
+          s.held ∙ ap (λ b. if b then waiter_of [] x ∷ waiters_from (x ∷ []) es else waiters_from (x ∷ []) es) (done_waits x.state done) ∙ waiters_rest [] es x done;
+    }
+  where
+    oldest_above : (next : ℕ) (x : Entry) (es : List Entry) → Rise (x ∷ es) → x.serial < next → x.serial < oldest_of next es
+    oldest_above next x [] r lt = lt
+    oldest_above next x (e ∷ es) r lt = All-head (λ d. x.serial < d.serial) e es (rise_head x (e ∷ es) r)
+
+pub retires_head : RetiresHead
+retires_head p h s q d = retires p.next p.window p.roots p.writes p.held h s q d
+
+-- ---- entries are dropped
+
+pub take_first : {X : Type 0} (xs ys : List X) → take (length xs) (xs ++ ys) ≡ xs
+take_first [] [] = refl
+take_first [] (y ∷ ys) = refl
+take_first (x ∷ xs) ys = ap (λ zs. x ∷ zs) (take_first xs ys)
+
+-- a list is as many of it and the rest
+pub halves : {X : Type 0} (n : ℕ) (xs : List X) → take n xs ++ drop n xs ≡ xs
+halves zero xs = refl
+halves (suc n) [] = refl
+halves (suc n) (x ∷ xs) = ap (λ ys. x ∷ ys) (halves n xs)
+
+pub take_length : {X : Type 0} (n : ℕ) (xs : List X) → n ≤ length xs → length (take n xs) ≡ n
+take_length zero xs le = refl
+take_length (suc n) [] le = absurd (omega (arith, le))
+take_length (suc n) (x ∷ xs) le = ap suc (take_length n xs (omega (arith, le)))
+
+below_test : (m n : ℕ) → m < n → nat_lt m n ≡ true
+below_test m n lt = grind (arith, nat_tests)
+
+above_test : (m n : ℕ) → n ≤ m → nat_lt m n ≡ false
+above_test m n le = grind (arith, nat_tests)
+
+-- of what the older and the dropped entries have, a filter keeps the former
+pub keeps_older : {X : Type 0} (serial : X → ℕ) (first : ℕ) (xs ys : List X) → All (λ x. serial x < first) xs → All (λ y. first ≤ serial y) ys → filter (λ x. nat_lt (serial x) first) (xs ++ ys) ≡ xs
+keeps_older serial first xs ys a b =
+    filter-append (λ x. nat_lt (serial x) first) xs ys
+    ∙ ap₂ (λ us vs. us ++ vs)
+    (keeps_all (λ x. nat_lt (serial x) first) xs (All-weaker (λ x. serial x < first) (λ x. nat_lt (serial x) first ≡ true) (λ x lt. below_test (serial x) first lt) xs a))
+    (keeps_none (λ x. nat_lt (serial x) first) ys (All-weaker (λ y. first ≤ serial y) (λ y. nat_lt (serial y) first ≡ false) (λ y le. above_test (serial y) first le) ys b))
+    ∙ append-nil xs
+
+filter_held : (first : ℕ) (held : List Station) → map waiter_in (filter (λ s. nat_lt s.serial first) held) ≡ filter (λ (w : Waiter). nat_lt w.serial first) (map waiter_in held)
+filter_held first [] = refl
+filter_held first (s ∷ held) = by_test (nat_lt s.serial first) (filter_held first held)
+  where
+    by_test : (b : Bool) → map waiter_in (filter (λ s. nat_lt s.serial first) held) ≡ filter (λ (w : Waiter). nat_lt w.serial first) (map waiter_in held) → map waiter_in (cond b (s ∷ filter (λ s. nat_lt s.serial first) held) (filter (λ s. nat_lt s.serial first) held))
+        ≡ cond b (waiter_in s ∷ filter (λ (w : Waiter). nat_lt w.serial first) (map waiter_in held)) (filter (λ (w : Waiter). nat_lt w.serial first) (map waiter_in held))
+    by_test true h = ap (λ ws. waiter_in s ∷ ws) h
+    by_test false h = h
+
+-- the window's two parts, and those of the roots
+squashes : (next first : ℕ) (older gone : List Entry) (ro rg : List (List (Option ℕ))) (ws : List Write) (held : List Station) →
+    Stand (record { next = next; window = older ++ gone; roots = ro ++ rg; writes = ws; held = held }) → length ro ≡ length older →
+    All (λ e. e.serial < first) older → All (λ e. first ≤ e.serial) gone →
+    Stand (record { next = next; window = older; roots = ro; writes = before_serial first ws; held = filter (λ s. nat_lt s.serial first) held })
+squashes next first older gone ro rg ws held s n a b = record {
+  rise = rise_left older gone s.rise;
+  next = all_left (λ e. e.serial < next) older gone s.next;
+  roots = by_older older (roots_left (oldest_of next (older ++ gone)) [] older gone ro rg n s.roots);
+  writes =
+      ap (before_serial first) (s.writes ∙ writes_join older gone ro rg n)
+      ∙ keeps_older (λ (w : Write). w.serial) first (writes_in older ro) (writes_in gone rg) (writes_have (λ n. n < first) older ro a) (writes_have (λ n. first ≤ n) gone rg b);
+  held =
+      filter_held first held ∙ ap (filter (λ (w : Waiter). nat_lt w.serial first)) (s.held ∙ waiters_join [] older gone)
+      ∙ keeps_older (λ (w : Waiter). w.serial) first (waiters_from [] older) (waiters_from (reverse older) gone) (waiters_have (λ n. n < first) [] older a) (waiters_have (λ n. first ≤ n) (reverse older) gone b);
+}
+  where
+    by_older : (older : List Entry) → RootsStand (oldest_of next (older ++ gone)) [] older ro → RootsStand (oldest_of next older) [] older ro
+    by_older [] k = of_none ro k
+      where
+        of_none : (ro : List (List (Option ℕ))) → RootsStand (oldest_of next gone) [] [] ro → RootsStand next [] [] ro
+        of_none [] k = tt
+        of_none (r ∷ ro) k = absurd k
+    by_older (e ∷ older) k = k
+
+pub squashes_from : SquashesFrom
+squashes_from p first s =
+    let t = splits first p.window s.rise in
+    let n = length (below first p.window) in
+    let many = as_many (oldest_of p.next p.window) [] p.window p.roots s.roots in
+    let whole = ap length t.whole ∙ length-append (below first p.window) t.gone in
+    let few : length (below first p.window) ≤ length p.roots = omega (arith, many, whole) in
+    squashes p.next first (below first p.window) t.gone (take (length (below first p.window)) p.roots) (drop (length (below first p.window)) p.roots) p.writes p.held
+    (subst (λ rs. Stand (record { next = p.next; window = below first p.window ++ t.gone; roots = rs; writes = p.writes; held = p.held })) (sym (halves (length (below first p.window)) p.roots))
+    (subst (λ es. Stand (record { next = p.next; window = es; roots = p.roots; writes = p.writes; held = p.held })) t.whole s))
+    (take_length (length (below first p.window)) p.roots few) t.older t.younger
+
+-- ---- entries go on
+
+pub go_on : GoOn
+go_on p window held s v h = record {
+  rise = rise_on p.window window v s.rise;
+  next = all_on (λ n. n < p.next) p.window window v s.next;
+  roots = subst (λ f. RootsStand f [] window p.roots) (sym (oldest_on p.next p.window window v)) (roots_on (oldest_of p.next p.window) [] [] p.window window p.roots tt v s.roots);
+  writes = s.writes ∙ sym (writes_on p.window window p.roots v);
+  held = h;
+}
+
+pub changes_unseen : ChangesUnseen
+changes_unseen p i e e2 s h g q =
+    let still : Still e e2 = record { steady = record { on = g; done = ap is_done q }; waits = ap is_waiting q } in
+    let v = zip_set Still still_same p.window i e e2 h still in
+    go_on p (slice_set p.window i e2) p.held s (still_goes p.window (slice_set p.window i e2) v) (s.held ∙ sym (waiters_still [] [] p.window (slice_set p.window i e2) tt v))
+
+struck_held : (serial : ℕ) (held : List Station) → map waiter_in (map (struck serial) held) ≡ map (struck_waiter serial) (map waiter_in held)
+struck_held serial held = map_twice waiter_in (struck serial) held ∙ sym (map_twice (struck_waiter serial) waiter_in held)
+
+pub completes_at : CompletesAt
+completes_at p i e s h w =
+    let v = zip_set GoesOn goes_same p.window i e (record e { state = Done }) h (record { serial = refl; item = refl }) in
+    go_on p (slice_set p.window i (record e { state = Done })) (map (struck e.serial) p.held) s v
+    (struck_held e.serial p.held ∙ ap (map (struck_waiter e.serial)) s.held
+    ∙ sym (waiters_done e.serial [] p.window (alone p.window i e s.rise h w)) ∙ ap (waiters_from []) (sym (set_done p.window i e s.rise h)))
+
+pub issues_at : IssuesAt
+issues_at p i due e o s h w =
+    let v = zip_set GoesOn goes_same p.window i e (begun e due o) h (record { serial = refl; item = refl }) in
+    let steady : Steady e (begun e due o) = record { on = record { serial = refl; item = refl }; done = sym (waiting_done e.state w) } in
+    go_on p (slice_set p.window i (begun e due o)) (remove p.held (station_of i p.window)) s v
+    (map_remove waiter_in p.held (station_of i p.window) ∙ ap (λ ws. remove ws (station_of i p.window)) s.held
+    ∙ ap (remove (waiters_from [] p.window)) (sym (count_is (λ e. is_waiting e.state) (take i p.window)))
+    ∙ sym (waiters_issue [] p.window i e (begun e due o) h w refl steady))

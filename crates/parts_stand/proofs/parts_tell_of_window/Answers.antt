@@ -1,0 +1,21 @@
+use Rattle.parts_stand.proofs.Answering.{counts_room, counts_stations, finds_awaited, finds_writer, has_station, holds_older, names_entry, names_root, names_writer, picks_first, tells_issue, tells_operands, tells_ready, tells_taint, tells_visible}
+use Rattle.parts_stand.proofs.parts_tell_of_window.Goals as goal
+
+pub returns : goal.returns
+returns c = record {
+  room = counts_room;
+  older = holds_older;
+  writer = names_writer;
+  entry = names_entry;
+  found = finds_writer;
+  awaits = finds_awaited;
+  station = has_station;
+  count = counts_stations;
+  ready = tells_ready;
+  root = names_root;
+  visible = tells_visible;
+  taint = tells_taint;
+  operands = tells_operands;
+  issue = tells_issue;
+  picks = picks_first;
+}

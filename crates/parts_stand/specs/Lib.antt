@@ -1,0 +1,6 @@
+pub mod Roots
+pub mod Parts
+pub mod Steps
+pub mod Telling
+pub mod Points
+pub mod Addresses

@@ -1,0 +1,94 @@
+-- What the parts of a core hold, and when they stand for the machine's window (docs/machine.md, "The parts stand for the
+-- machine"). All lists are oldest first, as the parts have them; `before` is youngest first, as in the machine's definitions.
+use Rattle.std.specs.Prelude.{◌≡◌, ℕ, ◌<◌, List, [], ◌∷◌, map, Option, Some, None, if◌then◌else◌}
+use Rattle.std.specs.List.{All, AllPairs, cons_option}
+use Rattle.std.specs.Option.{option_map}
+use Rattle.rv_types.specs.Regs.{two, writes_of}
+use Rattle.window_model.specs.declared.Entry.{Entry}
+use Rattle.window_model.specs.Order.{is_waiting, is_done, writer, sources}
+use Rattle.rename_taint.specs.declared.Write.{Write}
+use Rattle.rename_taint.specs.Writes.{root_written}
+use Rattle.stations.specs.Stations.{Station}
+use Rattle.parts_stand.specs.Roots.{source_roots, unretired}
+
+-- what the parts hold
+pub record Parts : Type 0 where
+  -- the serial that the next entry gets
+  pub next : ℕ
+  -- the entries in the reorder buffer
+  pub window : List Entry
+  -- at each entry's position the youngest roots of its first and second source
+  pub roots : List (List (Option ℕ))
+  -- the writes in the rename table
+  pub writes : List Write
+  -- the stations of the entries that wait
+  pub held : List Station
+
+-- ---- youngest roots by position
+
+-- the serial of the oldest entry, the next one where there is none: smaller ones have retired, or were dropped
+abbrev pub oldest_of : ℕ → List Entry → ℕ
+oldest_of next [] = next
+oldest_of next (e ∷ es) = e.serial
+
+-- there is a pair of roots for each entry: its sources' youngest roots, and for a source without one maybe one that has retired
+abbrev pub RootsStand : ℕ → List Entry → List Entry → List (List (Option ℕ)) → Type 0
+RootsStand oldest before [] [] = Unit {0}
+RootsStand oldest before (e ∷ es) (rs ∷ roots) = (map (unretired oldest) rs ≡ source_roots before e) × RootsStand oldest (e ∷ before) es roots
+RootsStand oldest before _ _ = ⊥
+
+-- ---- writes
+
+-- what an entry with these roots writes, if it writes a register
+abbrev pub write_of : Entry → List (Option ℕ) → Option Write
+write_of e roots = option_map (λ r. record { serial = e.serial; register = r; root = root_written e.item.kind e.serial roots }) (writes_of e.item.instr)
+
+-- the writes of the entries
+abbrev pub writes_in : List Entry → List (List (Option ℕ)) → List Write
+writes_in [] roots = []
+writes_in (e ∷ es) [] = []
+writes_in (e ∷ es) (rs ∷ roots) = cons_option (write_of e rs) (writes_in es roots)
+
+-- ---- stations
+
+-- the serial of a writer that is not Done
+abbrev pub awaited_of : Option Entry → Option ℕ
+awaited_of None = None
+awaited_of (Some e) = if is_done e.state then None else Some e.serial
+
+-- the serial that a source awaits, if there is one
+abbrev pub awaited : List Entry → Option ℕ → Option ℕ
+awaited before None = None
+awaited before (Some r) = awaited_of (writer before r)
+
+-- the serials that an entry's first and second source await
+abbrev pub awaits_of : List Entry → Entry → List (Option ℕ)
+awaits_of before e = map (awaited before) (two (sources e))
+
+-- a station, whichever its place is
+pub record Waiter : Type 0 where
+  pub serial : ℕ
+  pub awaits : List (Option ℕ)
+
+-- the station of a place
+abbrev pub waiter_in : Station → Waiter
+waiter_in s = record { serial = s.serial; awaits = s.awaits }
+
+-- the station that an entry is to have
+abbrev pub waiter_of : List Entry → Entry → Waiter
+waiter_of before e = record { serial = e.serial; awaits = awaits_of before e }
+
+-- those of the entries that wait, where the older ones are `before`
+abbrev pub waiters_from : List Entry → List Entry → List Waiter
+waiters_from before [] = []
+waiters_from before (e ∷ es) = if is_waiting e.state then waiter_of before e ∷ waiters_from (e ∷ before) es else waiters_from (e ∷ before) es
+
+-- ---- all of them
+
+-- serials rise with age and are below the next one, and the parts say of the entries what the machine's definitions say
+pub record Stand (p : Parts) : Type 0 where
+  pub rise : AllPairs (λ a b. a.serial < b.serial) p.window
+  pub next : All (λ e. e.serial < p.next) p.window
+  pub roots : RootsStand (oldest_of p.next p.window) [] p.window p.roots
+  pub writes : p.writes ≡ writes_in p.window p.roots
+  pub held : map waiter_in p.held ≡ waiters_from [] p.window

@@ -1,0 +1,132 @@
+-- What parts that stand for the window tell of it (docs/machine.md, "The parts stand for the machine").
+use Rattle.std.specs.Prelude.{◌≡◌, ℕ, ◌+◌, ◌<◌, ◌≤◌, Bool, true, ◌&&◌, nat_le, List, length, reverse, take, slice_get, Option, Some, None, if◌then◌else◌}
+use Rattle.std.specs.List.{All, count_by, list_any}
+use Rattle.std.specs.Option.{option_map}
+use Rattle.rv_types.specs.declared.Kind.{Kind}
+use Rattle.rv_types.specs.declared.Kind.TheVariants.{Load, Div}
+use Rattle.machine_desc.specs.declared.Desc.{Desc}
+use Rattle.window_model.specs.declared.Entry.{Entry}
+use Rattle.window_model.specs.Order.{before_at, first, is_waiting, ready, writer}
+use Rattle.window_model.specs.Resolve.{may_resolve}
+use Rattle.window_model.specs.Issue.{may_issue_as, stores_done}
+use Rattle.window_model.specs.Taint.{visible, tainted, any_tainted, address_tainted}
+use Rattle.rob_ring.specs.Ring.{below}
+use Rattle.rename_taint.specs.declared.Source.{Source}
+use Rattle.rename_taint.specs.declared.Source.TheVariants as source
+use Rattle.rename_taint.specs.Writes.{source_of, root_of}
+use Rattle.stations.specs.Stations.{awaits_none}
+use Rattle.visibility.specs.Point.{Point, HasAdvanced, is_hidden}
+use Rattle.branch_resolve.specs.Pick.{pick_from}
+use Rattle.transmit_gate.specs.Gate.{may_transmit}
+use Rattle.parts_stand.specs.Roots.{youngest_root, unretired}
+use Rattle.parts_stand.specs.Parts.{Parts, Stand, awaited, awaited_of, oldest_of, waiter_in, waiter_of}
+use Rattle.parts_stand.specs.Steps.{station_of}
+
+-- ---- room
+
+-- as many pairs of roots as entries, no more writes, and as many stations as entries wait
+pub record HasRoom (p : Parts) : Type 0 where
+  pub roots : length p.roots ≡ length p.window
+  pub writes : length p.writes ≤ length p.window
+  pub held : length p.held ≡ count_by (λ e. is_waiting e.state) p.window
+
+abbrev pub CountsRoom : Type 0
+CountsRoom = (p : Parts) → Stand p → HasRoom p
+
+-- what is held is older than the next entry
+pub record HoldsOlder (p : Parts) : Type 0 where
+  pub writes : All (λ w. w.serial < p.next) p.writes
+  pub held : All (λ s. s.serial < p.next) p.held
+
+abbrev pub HoldsOlderOnes : Type 0
+HoldsOlderOnes = (p : Parts) → Stand p → HoldsOlder p
+
+-- ---- writers
+
+-- where the value of this writer is
+abbrev pub source_by : Option Entry → Source
+source_by None = source.Committed
+source_by (Some e) = source.Entry e.serial
+
+-- the table names each register's writer
+abbrev pub NamesWriter : Type 0
+NamesWriter = (p : Parts) (r : ℕ) → Stand p → source_of p.writes r ≡ source_by (writer (reverse p.window) r)
+
+-- a serial that it names is that of an entry in the window
+abbrev pub NamesEntry : Type 0
+NamesEntry = (p : Parts) (r s : ℕ) → Stand p → source_of p.writes r ≡ source.Entry s → length (below s p.window) < length p.window
+
+-- the entry of a source, by the position of the serial
+abbrev pub entry_of : List Entry → Source → Option Entry
+entry_of window source.Committed = None
+entry_of window (source.Entry s) = slice_get window (length (below s window))
+
+-- it is the writer
+abbrev pub FindsWriter : Type 0
+FindsWriter = (p : Parts) (r : ℕ) → Stand p → entry_of p.window (source_of p.writes r) ≡ writer (reverse p.window) r
+
+-- so what a source of the next entry awaits is found
+abbrev pub FindsAwaited : Type 0
+FindsAwaited = (p : Parts) (r : ℕ) → Stand p → awaited_of (entry_of p.window (source_of p.writes r)) ≡ awaited (reverse p.window) (Some r)
+
+-- ---- stations
+
+-- the station of an entry that waits is where the older ones that wait are counted
+pub record StationFor (p : Parts) (i : ℕ) (e : Entry) : Type 0 where
+  pub within : station_of i p.window < length p.held
+  pub is : option_map waiter_in (slice_get p.held (station_of i p.window)) ≡ Some (waiter_of (before_at p.window i) e)
+
+abbrev pub HasStation : Type 0
+HasStation = (p : Parts) (i : ℕ) (e : Entry) → Stand p → slice_get p.window i ≡ Some e → is_waiting e.state ≡ true → StationFor p i e
+
+-- so a walk from the oldest entry on counts them
+abbrev pub CountsStations : Type 0
+CountsStations = (window : List Entry) (i : ℕ) (e : Entry) → slice_get window i ≡ Some e →
+    station_of (i + 1) window ≡ (if is_waiting e.state then station_of i window + 1 else station_of i window)
+
+-- it awaits nothing where the entry is ready
+abbrev pub TellsReady : Type 0
+TellsReady = (p : Parts) (i : ℕ) (e : Entry) → Stand p → slice_get p.window i ≡ Some e → is_waiting e.state ≡ true →
+    option_map awaits_none (slice_get p.held (station_of i p.window)) ≡ Some (ready (before_at p.window i) e)
+
+-- ---- roots
+
+-- the table names each register's youngest root, or one that has retired where it has none
+abbrev pub NamesRoot : Type 0
+NamesRoot = (p : Parts) (r : ℕ) → Stand p → unretired (oldest_of p.next p.window) (root_of p.writes r) ≡ youngest_root (reverse p.window) r
+
+-- a point that has advanced tells which entries are visible
+abbrev pub TellsVisible : Type 0
+TellsVisible = (point : Point) (window : List Entry) (i : ℕ) (e : Entry) → HasAdvanced point window → slice_get window i ≡ Some e →
+    nat_le e.serial point.serial ≡ visible point.model (before_at window i)
+
+-- and by the root that the table names what is tainted
+abbrev pub TellsTaint : Type 0
+TellsTaint = (p : Parts) (point : Point) (r : ℕ) → Stand p → HasAdvanced point p.window →
+    is_hidden point.serial (root_of p.writes r) ≡ tainted point.model (reverse p.window) r
+
+-- by an entry's roots whether an operand is, and whether its base register is
+pub record OperandsTold (point : Point) (before : List Entry) (e : Entry) (roots : List (Option ℕ)) : Type 0 where
+  pub any : list_any (is_hidden point.serial) roots ≡ any_tainted point.model before e
+  pub base : list_any (is_hidden point.serial) (take 1 roots) ≡ address_tainted point.model before e
+
+abbrev pub TellsOperands : Type 0
+TellsOperands = (p : Parts) (point : Point) (i : ℕ) (e : Entry) (roots : List (Option ℕ)) → Stand p → HasAdvanced point p.window →
+    slice_get p.window i ≡ Some e → slice_get p.roots i ≡ Some roots → OperandsTold point (before_at p.window i) e roots
+
+-- what loads and divisions ask for beside untainted operands
+abbrev pub asks_besides : Kind → Bool → List Entry → Bool
+asks_besides Load free before = stores_done before
+asks_besides Div free before = free
+asks_besides _ free before = true
+
+-- with what `may_transmit` answers it is what Issue asks for
+abbrev pub TellsIssue : Type 0
+TellsIssue = (d : Desc) (p : Parts) (point : Point) (i : ℕ) (e : Entry) (roots : List (Option ℕ)) (free : Bool) → Stand p → HasAdvanced point p.window →
+    point.model ≡ d.stt_model → slice_get p.window i ≡ Some e → slice_get p.roots i ≡ Some roots →
+    may_issue_as e.item.kind d free (before_at p.window i) e ≡ (may_transmit e.item.kind point.serial roots && asks_besides e.item.kind free (before_at p.window i))
+
+-- what `pick` answers is the position of the entry that resolves
+abbrev pub PicksFirst : Type 0
+PicksFirst = (d : Desc) (p : Parts) (point : Point) → Stand p → HasAdvanced point p.window → point.model ≡ d.stt_model →
+    pick_from point.serial 0 p.window p.roots ≡ option_map (λ q. length q.before) (first (may_resolve d) p.window)
