@@ -1,6 +1,6 @@
 -- What the parts tell of the window.
 use Rattle.std.proofs.Common.{◌≡◌, ℕ, zero, suc, ◌+◌, ◌<◌, ◌≤◌, Bool, true, false, not, ◌&&◌, ◌||◌, cond, List, [], ◌∷◌, ◌++◌, length, take, Option, Some, None, refl, ap, ap₂, sym, ◌∙◌, arith, subst, slice_get, is_none, is_some}
-use Rattle.std.specs.Prelude.{if◌then◌else◌, map, reverse}
+use Rattle.std.specs.Prelude.{if◌then◌else◌, map, reverse, slice_set}
 use Rattle.std.specs.List.{All, count_by, list_all, list_any}
 use Rattle.std.specs.Option.{option_map}
 use Rattle.std.proofs.lemmas.List.{length-map, take_more}
@@ -17,7 +17,7 @@ use Rattle.window_model.specs.Order.{Place, before_at, first_from, is_control, i
 use Rattle.window_model.specs.Resolve.{may_resolve}
 use Rattle.window_model.specs.Issue.{may_issue_as, stores_done}
 use Rattle.window_model.specs.Taint.{tainted, any_tainted, address_tainted, base_of}
-use Rattle.window_model.proofs.Counts.{count_is, count_pushed}
+use Rattle.window_model.proofs.Counts.{count, count_is, count_pushed}
 use Rattle.rename_taint.specs.Writes.{root_of, source_of}
 use Rattle.stations.specs.Stations.{Station, awaits_none}
 use Rattle.visibility.specs.Point.{Point, HasAdvanced, HasMoved, is_hidden}
@@ -26,7 +26,7 @@ use Rattle.transmit_gate.specs.Gate.{may_transmit}
 use Rattle.parts_stand.specs.Roots.{youngest_root, root_of_source, source_roots, unretired}
 use Rattle.parts_stand.specs.Parts.{RootsStand, Waiter, awaited, awaited_of, oldest_of, waiter_in, waiter_of, waiters_from, writes_in}
 use Rattle.parts_stand.specs.Steps.{station_of}
-use Rattle.parts_stand.specs.Telling.{CountsRoom, CountsStations, FindsAwaited, FindsWriter, HasStation, HoldsOlderOnes, NamesEntry, NamesRoot, NamesWriter, OperandsTold, PicksFirst, TellsIssue, TellsOperands, TellsReady, TellsTaint, TellsVisible, asks_besides, entry_of}
+use Rattle.parts_stand.specs.Telling.{CountsRoom, CountsStations, FindsAwaited, FindsWriter, HasStation, HoldsOlderOnes, NamesEntry, NamesRoot, NamesWriter, OperandsTold, PicksFirst, TellsIssue, TellsOperands, StationsOlder, StationsYounger, TellsReady, TellsTaint, TellsVisible, asks_besides, entry_of}
 use Rattle.parts_stand.proofs.Serials.{Rise, Falls, behind, behind_at, falls, oldest_least, rise_head}
 use Rattle.parts_stand.proofs.Youngest.{Tells, few_reads, retired_shown, root_tells}
 use Rattle.parts_stand.proofs.Tables.{as_many, few_writes, found, root_is, source_is, within, writes_have}
@@ -91,6 +91,34 @@ counts_stations window i e h =
     by_wait : (w : Bool) (n : ℕ) → n + cond w 1 0 ≡ (if w then n + 1 else n)
     by_wait true n = refl
     by_wait false n = omega arith
+
+take_set : {X : Type 0} (xs : List X) (i m : ℕ) (x : X) → i ≤ m → take i (slice_set xs m x) ≡ take i xs
+take_set xs zero m x le = refl
+take_set [] (suc i) m x le = refl
+take_set (y ∷ xs) (suc i) zero x le = absurd (omega (arith, le))
+take_set (y ∷ xs) (suc i) (suc m) x le = ap (λ ys. y ∷ ys) (take_set xs i m x (omega (arith, le)))
+
+pub stations_older : StationsOlder
+stations_older window i m e le = ap (count_by (λ e. is_waiting e.state)) (take_set window i m e le)
+
+fewer : (window : List Entry) (i m : ℕ) (e e2 : Entry) → m < i → slice_get window m ≡ Some e → is_waiting e.state ≡ true → is_waiting e2.state ≡ false →
+    count (λ e. is_waiting e.state) (take i (slice_set window m e2)) + 1 ≡ count (λ e. is_waiting e.state) (take i window)
+fewer [] i m e e2 lt h w n = absurd (cc)
+fewer (x ∷ window) zero m e e2 lt h w n = absurd (omega (arith, lt))
+fewer (x ∷ window) (suc i) zero e e2 lt h w n =
+    let a : x ≡ e = cc in
+    let wx = ap (λ (e : Entry). is_waiting e.state) a ∙ w in
+    let c = ap (λ b. cond b 1 0 + count (λ e. is_waiting e.state) (take i window)) wx in
+    let d = ap (λ b. cond b 1 0 + count (λ e. is_waiting e.state) (take i window)) n in
+    omega (arith, c, d)
+fewer (x ∷ window) (suc i) (suc m) e e2 lt h w n = let k = fewer window i m e e2 (omega (arith, lt)) h w n in omega (arith, k)
+
+pub stations_younger : StationsYounger
+stations_younger window i m e e2 lt h w n =
+    let a = count_is (λ e. is_waiting e.state) (take i window) in
+    let b = count_is (λ e. is_waiting e.state) (take i (slice_set window m e2)) in
+    let k = fewer window i m e e2 lt h w n in
+    omega (arith, a, b, k)
 
 none_awaited : (o : Option Entry) → is_none (awaited_of o) ≡ is_known o
 none_awaited None = refl

@@ -18,7 +18,7 @@ use Rattle.rename_taint.specs.Writes.{root_at, root_of, without_retired, before_
 use Rattle.stations.specs.Stations.{Station, struck}
 use Rattle.parts_stand.specs.Roots.{youngest_root, root_of_source, source_roots, unretired}
 use Rattle.parts_stand.specs.Parts.{Stand, RootsStand, Waiter, oldest_of, waiter_in, waiter_of, waiters_from, writes_in}
-use Rattle.parts_stand.specs.Steps.{GoesOn, OpensEmpty, RenamesIn, RetiresHead, SquashesFrom, GoOn, ChangesUnseen, CompletesAt, IssuesAt, seated, station_of}
+use Rattle.parts_stand.specs.Steps.{GoesOn, OpensEmpty, RenamesIn, RetiresHead, SquashesFrom, EntriesGoOn, ChangesUnseen, CompletesAt, IssuesAt, seated, station_of}
 use Rattle.parts_stand.proofs.Serials.{Rise, rise_nil, rise_head, rise_tail, rise_push, rise_left, all_left, oldest_least, splits}
 use Rattle.parts_stand.proofs.Youngest.{map_same, map_twice}
 use Rattle.parts_stand.proofs.Tables.{root_is, as_many, writes_join, writes_one, writes_have, keeps_all, keeps_none, without_head}
@@ -181,7 +181,7 @@ squashes_from p first s =
 
 -- ---- entries go on
 
-pub go_on : GoOn
+pub go_on : EntriesGoOn
 go_on p window held s v h = record {
   rise = rise_on p.window window v s.rise;
   next = all_on (λ n. n < p.next) p.window window v s.next;

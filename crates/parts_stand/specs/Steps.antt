@@ -62,8 +62,8 @@ pub record GoesOn (e e2 : Entry) : Type 0 where
   pub item : e2.item ≡ e.item
 
 -- entries go on, and the stations are those of the entries that then wait
-abbrev pub GoOn : Type 0
-GoOn = (p : Parts) (window : List Entry) (held : List Station) → Stand p → AllZip GoesOn p.window window →
+abbrev pub EntriesGoOn : Type 0
+EntriesGoOn = (p : Parts) (window : List Entry) (held : List Station) → Stand p → AllZip GoesOn p.window window →
     map waiter_in held ≡ waiters_from [] window → Stand (record p { window = window; held = held })
 
 -- an entry's outcome or mark changes, as where a branch is resolved

@@ -1,5 +1,5 @@
 -- What parts that stand for the window tell of it (docs/machine.md, "The parts stand for the machine").
-use Rattle.std.specs.Prelude.{◌≡◌, ℕ, ◌+◌, ◌<◌, ◌≤◌, Bool, true, ◌&&◌, nat_le, List, length, reverse, take, slice_get, Option, Some, None, if◌then◌else◌}
+use Rattle.std.specs.Prelude.{◌≡◌, ℕ, ◌+◌, ◌<◌, ◌≤◌, Bool, true, ◌&&◌, nat_le, false, List, length, reverse, take, slice_get, slice_set, Option, Some, None, if◌then◌else◌}
 use Rattle.std.specs.List.{All, count_by, list_any}
 use Rattle.std.specs.Option.{option_map}
 use Rattle.rv_types.specs.declared.Kind.{Kind}
@@ -30,6 +30,7 @@ pub record HasRoom (p : Parts) : Type 0 where
   pub writes : length p.writes ≤ length p.window
   pub held : length p.held ≡ count_by (λ e. is_waiting e.state) p.window
 
+-- parts that stand for the window have room where it has
 abbrev pub CountsRoom : Type 0
 CountsRoom = (p : Parts) → Stand p → HasRoom p
 
@@ -38,6 +39,7 @@ pub record HoldsOlder (p : Parts) : Type 0 where
   pub writes : All (λ w. w.serial < p.next) p.writes
   pub held : All (λ s. s.serial < p.next) p.held
 
+-- so what is added for the next entry is the youngest
 abbrev pub HoldsOlderOnes : Type 0
 HoldsOlderOnes = (p : Parts) → Stand p → HoldsOlder p
 
@@ -71,20 +73,30 @@ FindsAwaited = (p : Parts) (r : ℕ) → Stand p → awaited_of (entry_of p.wind
 
 -- ---- stations
 
--- the station of an entry that waits is where the older ones that wait are counted
+-- an entry's station is where the older ones that wait are counted, with what its sources await
 pub record StationFor (p : Parts) (i : ℕ) (e : Entry) : Type 0 where
   pub within : station_of i p.window < length p.held
   pub is : option_map waiter_in (slice_get p.held (station_of i p.window)) ≡ Some (waiter_of (before_at p.window i) e)
 
+-- an entry that waits has its station
 abbrev pub HasStation : Type 0
 HasStation = (p : Parts) (i : ℕ) (e : Entry) → Stand p → slice_get p.window i ≡ Some e → is_waiting e.state ≡ true → StationFor p i e
 
--- so a walk from the oldest entry on counts them
+-- a walk from the oldest entry on counts the stations
 abbrev pub CountsStations : Type 0
 CountsStations = (window : List Entry) (i : ℕ) (e : Entry) → slice_get window i ≡ Some e →
     station_of (i + 1) window ≡ (if is_waiting e.state then station_of i window + 1 else station_of i window)
 
--- it awaits nothing where the entry is ready
+-- what becomes of an entry changes no older one's station
+abbrev pub StationsOlder : Type 0
+StationsOlder = (window : List Entry) (i m : ℕ) (e : Entry) → i ≤ m → station_of i (slice_set window m e) ≡ station_of i window
+
+-- and one that no longer waits moves each younger one's station by one
+abbrev pub StationsYounger : Type 0
+StationsYounger = (window : List Entry) (i m : ℕ) (e e2 : Entry) → m < i → slice_get window m ≡ Some e → is_waiting e.state ≡ true → is_waiting e2.state ≡ false →
+    station_of i (slice_set window m e2) + 1 ≡ station_of i window
+
+-- a station awaits nothing exactly where its entry is ready
 abbrev pub TellsReady : Type 0
 TellsReady = (p : Parts) (i : ℕ) (e : Entry) → Stand p → slice_get p.window i ≡ Some e → is_waiting e.state ≡ true →
     option_map awaits_none (slice_get p.held (station_of i p.window)) ≡ Some (ready (before_at p.window i) e)
@@ -110,6 +122,7 @@ pub record OperandsTold (point : Point) (before : List Entry) (e : Entry) (roots
   pub any : list_any (is_hidden point.serial) roots ≡ any_tainted point.model before e
   pub base : list_any (is_hidden point.serial) (take 1 roots) ≡ address_tainted point.model before e
 
+-- the roots at an entry's position tell that, once the point has advanced
 abbrev pub TellsOperands : Type 0
 TellsOperands = (p : Parts) (point : Point) (i : ℕ) (e : Entry) (roots : List (Option ℕ)) → Stand p → HasAdvanced point p.window →
     slice_get p.window i ≡ Some e → slice_get p.roots i ≡ Some roots → OperandsTold point (before_at p.window i) e roots

@@ -9,7 +9,7 @@
 ghost use Rattle.parts_stand.specs.Steps.{
   ChangesUnseen,
   CompletesAt,
-  GoOn,
+  EntriesGoOn,
   IssuesAt,
   OpensEmpty,
   RenamesIn,
@@ -27,6 +27,8 @@ ghost use Rattle.parts_stand.specs.Telling.{
   NamesRoot,
   NamesWriter,
   PicksFirst,
+  StationsOlder,
+  StationsYounger,
   TellsIssue,
   TellsOperands,
   TellsReady,
@@ -62,7 +64,7 @@ pub fn parts_stay_with_window()
     ensures rename { RenamesIn }
     ensures retire { RetiresHead }
     ensures squash { SquashesFrom }
-    ensures shape { GoOn }
+    ensures goes_on { EntriesGoOn }
     ensures unseen { ChangesUnseen }
     ensures complete { CompletesAt }
     ensures issue { IssuesAt }
@@ -79,6 +81,8 @@ pub fn parts_tell_of_window()
     ensures awaits { FindsAwaited }
     ensures station { HasStation }
     ensures count { CountsStations }
+    ensures older_stations { StationsOlder }
+    ensures younger_stations { StationsYounger }
     ensures ready { TellsReady }
     ensures root { NamesRoot }
     ensures visible { TellsVisible }
@@ -110,6 +114,6 @@ pub fn stores_have_roots()
     ensures other { AddressesAddOther }
     ensures retire { AddressesRetire }
     ensures squash { AddressesSquash }
-    ensures shape { AddressesGoOn }
+    ensures goes_on { AddressesGoOn }
     ensures known { AddressesKnow }
 {}

@@ -1,4 +1,4 @@
-use Rattle.parts_stand.proofs.Answering.{counts_room, counts_stations, finds_awaited, finds_writer, has_station, holds_older, names_entry, names_root, names_writer, picks_first, tells_issue, tells_operands, tells_ready, tells_taint, tells_visible}
+use Rattle.parts_stand.proofs.Answering.{counts_room, counts_stations, finds_awaited, finds_writer, has_station, holds_older, names_entry, names_root, names_writer, picks_first, stations_older, stations_younger, tells_issue, tells_operands, tells_ready, tells_taint, tells_visible}
 use Rattle.parts_stand.proofs.parts_tell_of_window.Goals as goal
 
 pub returns : goal.returns
@@ -11,6 +11,8 @@ returns c = record {
   awaits = finds_awaited;
   station = has_station;
   count = counts_stations;
+  older_stations = stations_older;
+  younger_stations = stations_younger;
   ready = tells_ready;
   root = names_root;
   visible = tells_visible;

@@ -9,6 +9,6 @@ returns c = record {
   other = addresses_add_other;
   retire = addresses_retire;
   squash = addresses_squash;
-  shape = addresses_go_on;
+  goes_on = addresses_go_on;
   known = addresses_know;
 }
