@@ -17,7 +17,7 @@ use Rattle.window_model.specs.Shape.{SameShape}
 use Rattle.window_model.specs.State.{Machine, opening}
 use Rattle.window_model.proofs.Booleans.{both}
 use Rattle.window_model.proofs.Counts.{count, count_is}
-use Rattle.window_model.proofs.Lists.{each_then}
+use Rattle.window_model.proofs.Lists.{each_then, each_push}
 use Rattle.window_model.proofs.Memory.{same_fault}
 use Rattle.rob_ring.specs.Ring.{Ring}
 use Rattle.rename_taint.specs.declared.Write.{Write}
@@ -27,7 +27,7 @@ use Rattle.cache_tags.specs.Sets.{Cache}
 use Rattle.retire.specs.declared.turn.Turn.TheVariants.{Waits, Traps, Leaves}
 use Rattle.retire.specs.Parts.{calls, CallAlone, TakesStore, with_effects, with_parts, counted, retires}
 use Rattle.retire.specs.Turn.{turn_at}
-use Rattle.retire.specs.Gone.{gone, without_each, without, popped}
+use Rattle.retire.specs.Gone.{gone, MayRetire, without_each, without, popped}
 use Rattle.retire.proofs.Quiet.{quiet}
 use Rattle.retire.proofs.Turns.{head_at, ended, waits, traps, leaves}
 
@@ -60,6 +60,7 @@ phase d s x = retires d s.rob s.tags s.ram s.regs s.pc x
 -- these entries have left
 pub record Left (s0 : Parts) (s : Parts) (went : List Entry) : Type 0 where
   pub window : s0.rob.entries ≡ went ++ s.rob.entries
+  pub may_retire : Each MayRetire went
   pub room : s.rob.room ≡ s0.rob.room
   pub names : s.writes ≡ without_each went s0.writes
   pub names_room : s.names_room ≡ s0.names_room
@@ -94,7 +95,7 @@ retires_start d s h =
     let none : (x : Machine) → standing s 0 None x ≡ with_parts s.rob s.tags s.ram s.regs s.pc None x = λ x. (let z : x.retired + 0 ≡ x.retired = omega arith in ap (λ n. record (with_parts s.rob s.tags s.ram s.regs s.pc None x) { retired = n }) z) in
     record {
       went = [];
-      left = record { window = refl; room = refl; names = refl; names_room = refl; queues = refl; desc = refl; cycle = refl };
+      left = record { window = refl; may_retire = tt; room = refl; names = refl; names_room = refl; queues = refl; desc = refl; cycle = refl };
       whole = λ x. ap (λ n. behind s (turns d n false (standing s 0 None x))) e ∙ ap (λ y. behind s (turns d d.core_retire_width false y)) (none x);
       few = omega arith;
       empty = λ one. h.piece;
@@ -130,11 +131,12 @@ pub record HeadLeft (d : Desc) (s : Parts) (e : Entry) (end : Option End) (s2 : 
 drop_head : (w rest : List Entry) (e : Entry) → w ≡ e ∷ rest → drop 1 w ≡ rest
 drop_head w rest e h = ap (drop 1) h
 
-left_more : (d : Desc) (s0 s s2 : Parts) (went rest : List Entry) (e : Entry) (end : Option End) → Left s0 s went → HeadLeft d s e end s2 → s.rob.entries ≡ e ∷ rest → Machine → Left s0 s2 (went ++ e ∷ [])
-left_more d s0 s s2 went rest e end h g w x =
+left_more : (d : Desc) (s0 s s2 : Parts) (went rest : List Entry) (e : Entry) (end : Option End) → Left s0 s went → HeadLeft d s e end s2 → s.rob.entries ≡ e ∷ rest → MayRetire e → Machine → Left s0 s2 (went ++ e ∷ [])
+left_more d s0 s s2 went rest e end h g w m x =
     let r : s2.rob.entries ≡ rest = ap (λ (r : Ring). r.entries) g.rob ∙ drop_head s.rob.entries rest e w in
     record {
       window = h.window ∙ ap (λ es. went ++ es) w ∙ sym (append_assoc went (e ∷ []) rest) ∙ ap (λ es. (went ++ e ∷ []) ++ es) (sym r);
+      may_retire = each_push MayRetire went e h.may_retire m;
       room = ap (λ (r : Ring). r.room) g.rob ∙ h.room;
       names = g.names ∙ ap (without_retired e.serial) h.names ∙ sym (without_more went e s0.writes);
       names_room = g.names_room ∙ h.names_room;
@@ -194,9 +196,9 @@ takes_over ram ram2 k e h st done f = same_fault _ _ ram ram2 _ _ k ∙ h st don
 retires_head : (d : Desc) (s0 : Parts) (i : ℕ) (stored : Bool) (s s2 : Parts) (e : Entry) → RetiresOn d s0 (d.core_retire_width - i) stored s → i < d.core_retire_width → turn_at stored s.rob.entries ≡ Leaves e → HeadLeft d s e None s2 →
     RetiresOn d s0 (d.core_retire_width - (i + 1)) (stored || is_store e.item.kind) s2
 retires_head d s0 i stored s s2 e h lt t g =
-    let first = (head_at stored s.rob.entries e t).first in
-    let rest = first.0 in
-    let w = first.1 in
+    let head = head_at stored s.rob.entries e t in
+    let rest = head.first.0 in
+    let w = head.first.1 in
     let n : d.core_retire_width - i ≡ suc (d.core_retire_width - (i + 1)) = omega (arith, lt) in
     let after : s2.rob.entries ≡ rest = ap (λ (r : Ring). r.entries) g.rob ∙ drop_head s.rob.entries rest e w in
     let p : s.piece ≡ [] = h.empty (let l = ap length w in omega (arith, l)) in
@@ -204,7 +206,7 @@ retires_head d s0 i stored s s2 e h lt t g =
     let stores : Each (TakesStore s.ram) (e ∷ rest) = subst (Each (TakesStore s.ram)) w h.stores in
     record {
       went = h.went ++ e ∷ [];
-      left = left_more d s0 s s2 h.went rest e None h.left g w (opening d 0 s.ram);
+      left = left_more d s0 s s2 h.went rest e None h.left g w (head.may, head.goes) (opening d 0 s.ram);
       whole = λ x. one_more d (d.core_retire_width - (i + 1)) stored s s2 h.went rest e None t w p g x ∙ sym (ap (λ n. behind s (turns d n stored (standing s (length h.went) None x))) n) ∙ h.whole x;
       few = omega (arith, g.few, h.few, n);
       empty = λ one.
@@ -255,6 +257,12 @@ over d s0 s went end r l h few =
       few = few;
     }
 
+-- the width is reached
+pub over_last : (d : Desc) (s0 : Parts) (i : ℕ) (stored : Bool) (s : Parts) → RetiresOn d s0 (d.core_retire_width - i) stored s → Ready d s0 → d.core_retire_width ≤ i → Over d s0 None s
+over_last d s0 i stored s h r le =
+    let e : d.core_retire_width - i ≡ 0 = omega (arith, le) in
+    over d s0 s h.went None r h.left (λ x. sym (ap (λ n. behind s (turns d n stored (standing s (length h.went) None x))) e) ∙ h.whole x) (omega (arith, h.few))
+
 -- the head waits
 pub over_waits : (d : Desc) (s0 : Parts) (n : ℕ) (stored : Bool) (s : Parts) → RetiresOn d s0 n stored s → Ready d s0 → turn_at stored s.rob.entries ≡ Waits → Over d s0 None s
 over_waits d s0 n stored s h r t =
@@ -273,14 +281,14 @@ over_traps d s0 i stored s cause pc h r lt t =
 pub over_ends : (d : Desc) (s0 : Parts) (i : ℕ) (stored : Bool) (s s2 : Parts) (e : Entry) (end : End) → RetiresOn d s0 (d.core_retire_width - i) stored s → Ready d s0 → i < d.core_retire_width → turn_at stored s.rob.entries ≡ Leaves e → HeadLeft d s e (Some end) s2 →
     Over d s0 (Some end) s2
 over_ends d s0 i stored s s2 e end h r lt t g =
-    let first = (head_at stored s.rob.entries e t).first in
-    let rest = first.0 in
-    let w = first.1 in
+    let head = head_at stored s.rob.entries e t in
+    let rest = head.first.0 in
+    let w = head.first.1 in
     let k = d.core_retire_width - (i + 1) in
     let n : d.core_retire_width - i ≡ suc k = omega (arith, lt) in
     let p : s.piece ≡ [] = h.empty (let l = ap length w in omega (arith, l)) in
     let went = h.went ++ e ∷ [] in
-    over d s0 s2 went (Some end) r (left_more d s0 s s2 h.went rest e (Some end) h.left g w (opening d 0 s.ram)) (λ x.
+    over d s0 s2 went (Some end) r (left_more d s0 s s2 h.went rest e (Some end) h.left g w (head.may, head.goes) (opening d 0 s.ram)) (λ x.
     sym (ap (behind s2) (ended d k (stored || is_store e.item.kind) (standing s2 (length went) (Some end) x) end refl))
     ∙ one_more d k stored s s2 h.went rest e (Some end) t w p g x
     ∙ sym (ap (λ n. behind s (turns d n stored (standing s (length h.went) None x))) n)

@@ -2,3 +2,4 @@ pub mod Quiet
 pub mod Turns
 pub mod Leaving
 pub mod Taken
+pub mod Going

@@ -1,7 +1,8 @@
 -- What goes with the entries that retire.
-use Rattle.std.specs.Prelude.{ℕ, ◌-◌, not, ◌==◌, List, [], ◌∷◌, length, take}
+use Rattle.std.specs.Prelude.{◌≡◌, ℕ, ◌-◌, true, not, ◌==◌, List, [], ◌∷◌, length, take, None}
 use Rattle.std.specs.List.{filter}
 use Rattle.window_model.specs.declared.Entry.{Entry}
+use Rattle.window_model.specs.Retire.{may_leave, trap_of}
 use Rattle.rob_ring.specs.Ring.{Ring}
 use Rattle.rename_taint.specs.declared.Write.{Write}
 use Rattle.rename_taint.specs.Writes.{without_retired}
@@ -10,6 +11,10 @@ use Rattle.lsq.specs.Queues.{Queues}
 -- the entries that left: the oldest that there were, as many as there are fewer now
 abbrev pub gone : Ring → Ring → List Entry
 gone old new = take (length old.entries - length new.entries) old.entries
+
+-- the entry may retire, and ends no run as a trap
+abbrev pub MayRetire : Entry → Type 0
+MayRetire e = (may_leave e ≡ true) × (trap_of e ≡ None)
 
 -- the writes that are held once these have retired, in this order
 abbrev pub without_each : List Entry → List Write → List Write

@@ -4,7 +4,7 @@ ghost use Rattle.std.specs.List.{AllByRecursion as Each};
 ghost use Rattle.window_model.specs.State.{Machine};
 ghost use Rattle.rename_taint.specs.Writes.{without_retired};
 ghost use Rattle.retire.specs.Parts.{CallAlone, TakesStore, with_parts, counted, retires};
-ghost use Rattle.retire.specs.Gone.{gone, without_each, without, popped};
+ghost use Rattle.retire.specs.Gone.{gone, MayRetire, without_each, without, popped};
 
 use crate::commit::commit;
 use crate::turn::{Turn, has_stored, turn_at};
@@ -44,6 +44,7 @@ pub fn retire<R: RenameTaint>(
     ensures row { (x : Machine) → row.new ≡ record row.old { events = row.old.events ++ (retires desc.now rob.old tags.old ram.old regs.old pc.old x).events } }
     ensures piece { (x : Machine) → piece.new ≡ (retires desc.now rob.old tags.old ram.old regs.old pc.old x).piece }
     ensures left { rob.old.entries ≡ gone rob.old rob.new ++ rob.new.entries }
+    ensures may_retire { Each MayRetire (gone rob.old rob.new) }
     ensures same_room { rob.new.room ≡ rob.old.room }
     ensures names { R.writes rename.new ≡ without_each (gone rob.old rob.new) (R.writes rename.old) }
     ensures same_names_room { R.room rename.new ≡ R.room rename.old }

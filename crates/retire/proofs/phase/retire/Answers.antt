@@ -1,6 +1,6 @@
 -- At each exit no turn is left, and each turn of the loop is one head more.
-use Rattle.std.proofs.Common.{sym, ◌∙◌, Some}
-use Rattle.retire.proofs.Leaving.{Over, ready, retires_start, retires_more, head_inside, over_waits, over_traps, over_ends}
+use Rattle.std.proofs.Common.{sym, ◌∙◌, Some, arith}
+use Rattle.retire.proofs.Leaving.{Over, ready, retires_start, retires_more, head_inside, over_last, over_waits, over_traps, over_ends}
 use Rattle.retire.proofs.phase.retire.Given as given
 use Rattle.retire.proofs.phase.retire.Goals as goal
 
@@ -21,6 +21,10 @@ pub returns-in-Waits-clause-piece : goal.returns-in-Waits-clause-piece
 returns-in-Waits-clause-piece g c =
     (over_waits _ _ _ _ _ c.loop.invariant (ready _ _ c.requires.empty c.requires.one_description c.requires.call_alone c.requires.stores_fit) (sym c.turn_at.ensures ∙ c.in-Waits.is)).piece
 
+pub returns-in-Waits-clause-may_retire : goal.returns-in-Waits-clause-may_retire
+returns-in-Waits-clause-may_retire g c =
+    (over_waits _ _ _ _ _ c.loop.invariant (ready _ _ c.requires.empty c.requires.one_description c.requires.call_alone c.requires.stores_fit) (sym c.turn_at.ensures ∙ c.in-Waits.is)).left.may_retire
+
 -- ---- it traps
 
 pub returns-in-Traps-clause-state : goal.returns-in-Traps-clause-state
@@ -34,6 +38,10 @@ returns-in-Traps-clause-row g c =
 pub returns-in-Traps-clause-piece : goal.returns-in-Traps-clause-piece
 returns-in-Traps-clause-piece g c =
     (over_traps _ _ _ _ _ _ _ c.loop.invariant (ready _ _ c.requires.empty c.requires.one_description c.requires.call_alone c.requires.stores_fit) c.loop-test.true (sym c.turn_at.ensures ∙ c.in-Traps.is)).piece
+
+pub returns-in-Traps-clause-may_retire : goal.returns-in-Traps-clause-may_retire
+returns-in-Traps-clause-may_retire g c =
+    (over_traps _ _ _ _ _ _ _ c.loop.invariant (ready _ _ c.requires.empty c.requires.one_description c.requires.call_alone c.requires.stores_fit) c.loop-test.true (sym c.turn_at.ensures ∙ c.in-Traps.is)).left.may_retire
 
 -- ---- it retires
 
@@ -72,6 +80,9 @@ returns-in-Some-clause-piece g c = (ends g c).piece
 pub returns-in-Some-clause-left : goal.returns-in-Some-clause-left
 returns-in-Some-clause-left g c = (ends g c).left.window
 
+pub returns-in-Some-clause-may_retire : goal.returns-in-Some-clause-may_retire
+returns-in-Some-clause-may_retire g c = (ends g c).left.may_retire
+
 pub returns-in-Some-clause-names : goal.returns-in-Some-clause-names
 returns-in-Some-clause-names g c = (ends g c).left.names
 
@@ -95,3 +106,8 @@ loop-preserved g c =
       few = c.in_default.ensures.few;
     })
     c.has_stored-stored.ensures
+
+-- ---- the width is reached
+
+pub returns-clause-may_retire : goal.returns-clause-may_retire
+returns-clause-may_retire g c = (over_last _ _ _ _ _ c.loop.invariant (ready _ _ c.requires.empty c.requires.one_description c.requires.call_alone c.requires.stores_fit) (omega arith)).left.may_retire
