@@ -6,3 +6,4 @@ pub mod Standing
 pub mod Answering
 pub mod Moving
 pub mod Addressing
+pub mod Writing

@@ -39,7 +39,7 @@ seat_is place awaits e held = by_wait (is_waiting e.state)
     by_wait false = sym (append-nil (map waiter_in held))
 
 -- the oldest serial, once an entry with the next one is there
-oldest_push : (next : ℕ) (es : List Entry) (e : Entry) → e.serial ≡ next → oldest_of (next + 1) (es ++ e ∷ []) ≡ oldest_of next es
+pub oldest_push : (next : ℕ) (es : List Entry) (e : Entry) → e.serial ≡ next → oldest_of (next + 1) (es ++ e ∷ []) ≡ oldest_of next es
 oldest_push next [] e h = h
 oldest_push next (x ∷ es) e h = refl
 
@@ -71,6 +71,10 @@ renames_in p e roots awaits place s is rs aw =
 
 -- ---- the oldest retires
 
+pub oldest_above : (next : ℕ) (x : Entry) (es : List Entry) → Rise (x ∷ es) → x.serial < next → x.serial < oldest_of next es
+oldest_above next x [] r lt = lt
+oldest_above next x (e ∷ es) r lt = All-head (λ d. x.serial < d.serial) e es (rise_head x (e ∷ es) r)
+
 retires : (next : ℕ) (es : List Entry) (roots : List (List (Option ℕ))) (ws : List Write) (held : List Station) (h : Entry) →
     Stand (record { next = next; window = es; roots = roots; writes = ws; held = held }) → slice_get es 0 ≡ Some h → is_done h.state ≡ true →
     Stand (record { next = next; window = drop 1 es; roots = drop 1 roots; writes = without_retired h.serial ws; held = held })
@@ -92,10 +96,6 @@ retires next (x ∷ es) (rs ∷ roots) ws held h s q d =
       held =
           s.held ∙ ap (λ b. if b then waiter_of [] x ∷ waiters_from (x ∷ []) es else waiters_from (x ∷ []) es) (done_waits x.state done) ∙ waiters_rest [] es x done;
     }
-  where
-    oldest_above : (next : ℕ) (x : Entry) (es : List Entry) → Rise (x ∷ es) → x.serial < next → x.serial < oldest_of next es
-    oldest_above next x [] r lt = lt
-    oldest_above next x (e ∷ es) r lt = All-head (λ d. x.serial < d.serial) e es (rise_head x (e ∷ es) r)
 
 pub retires_head : RetiresHead
 retires_head p h s q d = retires p.next p.window p.roots p.writes p.held h s q d

@@ -102,7 +102,7 @@ pub source_is : (f r : ℕ) (es : List Entry) (roots : List (List (Option ℕ)))
 source_is f r es roots s = ap (λ o. source_from o) (sym (or_none (last_write (writes_in es roots) r))) ∙ source_down f r [] es roots None s refl
 
 -- a writer stands among these entries, or before them
-stands_in : (r : ℕ) (w : Entry) (before es : List Entry) → writer (reverse_aux es before) r ≡ Some w → ((i : ℕ) × (slice_get es i ≡ Some w)) ⊎ (writer before r ≡ Some w)
+pub stands_in : (r : ℕ) (w : Entry) (before es : List Entry) → writer (reverse_aux es before) r ≡ Some w → ((i : ℕ) × (slice_get es i ≡ Some w)) ⊎ (writer before r ≡ Some w)
 stands_in r w before [] h = inr h
 stands_in r w before (e ∷ es) h = ⊎_elim (λ (k : (i : ℕ) × (slice_get es i ≡ Some w)). inl (suc k.0, k.1)) (λ (k : writer (e ∷ before) r ≡ Some w). by_writes (writes r e) k) (stands_in r w (e ∷ before) es h)
   where

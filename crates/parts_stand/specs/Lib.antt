@@ -4,3 +4,4 @@ pub mod Steps
 pub mod Telling
 pub mod Points
 pub mod Addresses
+pub mod Writers

@@ -4,7 +4,8 @@
 //! point are there so that the window needn't be searched: `specs/Parts.antt` says what each holds where it stands for the
 //! window, `specs/Telling.antt` what it then tells of the window, and `specs/Steps.antt` and `specs/Points.antt` that what
 //! each phase does keeps it so (`docs/machine.md`, "The parts stand for the machine"). `specs/Addresses.antt` says the same of the
-//! roots that stores in the queue have; that the queue's stores are the window's is `queue_laws`'s to say.
+//! roots that stores in the queue have; that the queue's stores are the window's is `queue_laws`'s to say. `specs/Writers.antt` says it
+//! of the sources' writers by position.
 #![tactic(auto)]
 
 ghost use Rattle.parts_stand.specs.Steps.{
@@ -45,6 +46,15 @@ ghost use Rattle.parts_stand.specs.Addresses.{
   AddressesRetire,
   AddressesSquash,
   TellsStores,
+};
+ghost use Rattle.parts_stand.specs.Writers.{
+  CountsWriters,
+  TellsWriters,
+  WritersGoOn,
+  WritersOpen,
+  WritersRename,
+  WritersRetire,
+  WritersSquash,
 };
 ghost use Rattle.parts_stand.specs.Points.{
   PointAdvances,
@@ -117,4 +127,16 @@ pub fn stores_have_roots()
     ensures squash { AddressesSquash }
     ensures goes_on { AddressesGoOn }
     ensures known { AddressesKnow }
+{}
+
+/// The serials of the sources' writers by position go on to stand for the window, and by them each source's writer is found
+/// (`docs/machine.md`, "Writers and roots").
+pub fn writers_stay_with_window()
+    ensures tells { TellsWriters }
+    ensures count { CountsWriters }
+    ensures opens { WritersOpen }
+    ensures rename { WritersRename }
+    ensures retire { WritersRetire }
+    ensures squash { WritersSquash }
+    ensures goes_on { WritersGoOn }
 {}
