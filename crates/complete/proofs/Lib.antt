@@ -1,0 +1,3 @@
+pub mod Widths
+pub mod Ties
+pub mod Turns
