@@ -1,6 +1,5 @@
 -- The entry that is picked is the definition's, and at each exit the parts are left as the definition leaves them.
-use Rattle.std.proofs.Common.{◌≡◌, ℕ, ◌<◌, ◌^◌, ◌-◌, List, length, take, Option, sym, ap, ◌∙◌, arith}
-use Rattle.circular_buffer.specs.Buffer.{Buffer, buffer}
+use Rattle.std.proofs.Common.{◌≡◌, ◌<◌, ◌^◌, ◌-◌, sym, ap, ◌∙◌, arith}
 use Rattle.window_model.specs.Resolve.{freed_from}
 use Rattle.rename_taint.specs.Writes.{before_serial}
 use Rattle.predictor.specs.Tables.{Tables}
