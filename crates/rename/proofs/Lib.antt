@@ -1,0 +1,4 @@
+mod Fitting
+mod Awaiting
+mod Standing
+mod Renaming

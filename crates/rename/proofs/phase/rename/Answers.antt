@@ -1,0 +1,37 @@
+-- At each exit no item is left, and each turn of the loop is one item more.
+use Rattle.std.proofs.Common.{refl, sym, ◌∙◌}
+use Rattle.rename.proofs.Standing.{counted}
+use Rattle.rename.proofs.Renaming.{enters, over_early, renames_start, renames_more}
+use Rattle.rename.proofs.phase.rename.Goals as goal
+
+pub loop-init : goal.loop-init
+loop-init g c = renames_start _ _ (record { stands = c.requires.stands; queues = c.requires.queues; addresses = c.requires.addresses; alone = c.requires.call_alone; rooms = c.requires.rooms })
+
+pub next_item-requires-clause-counted : goal.next_item-requires-clause-counted
+next_item-requires-clause-counted g c = counted _ _ c.loop.invariant.tied
+
+pub add_entry-requires-clause-room : goal.add_entry-requires-clause-room
+add_entry-requires-clause-room g c = enters _ _ _ _ c.in-Some.item _ c.loop.invariant (sym c.next_item.ensures ∙ c.in-Some.is) c.renamed-entry.ensures
+
+pub loop-preserved : goal.loop-preserved
+loop-preserved g c =
+    renames_more _ _ _ _ _ c.in-Some.item c.renamed-entry.result c.loop.invariant c.loop-test.true (sym c.next_item.ensures ∙ c.in-Some.is) c.renamed-entry.ensures
+    (record {
+      entered = record {
+        rob = c.add_entry.ensures.rob;
+        roots = c.add_entry.ensures.roots;
+        writes = c.add_entry.ensures.names;
+        names_room = c.add_entry.ensures.same_names_room;
+        stations = c.add_entry.ensures.stations;
+        queues = c.add_entry.ensures.lsq;
+        next = refl;
+      };
+      front = c.take.ensures.left;
+      row = c.push.ensures;
+    })
+
+pub returns-in_default-clause-state : goal.returns-in_default-clause-state
+returns-in_default-clause-state g c = (over_early _ _ _ _ c.loop.invariant (sym c.next_item.ensures ∙ c.in_default.is)).state
+
+pub returns-in_default-clause-row : goal.returns-in_default-clause-row
+returns-in_default-clause-row g c = (over_early _ _ _ _ c.loop.invariant (sym c.next_item.ensures ∙ c.in_default.is)).row

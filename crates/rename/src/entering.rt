@@ -1,0 +1,94 @@
+//! An entry comes into the parts (`docs/machine.md`, "Rename").
+ghost use Rattle.std.specs.Prelude.{◌≡◌, ◌<◌, ◌++◌, ◌∷◌, [], ℕ, List, true, length, map, reverse};
+ghost use Rattle.std.specs.List.{All};
+ghost use Rattle.std.specs.Option.{option_to_list};
+ghost use Rattle.circular_buffer.specs.Buffer.{buffer};
+ghost use Rattle.window_model.specs.Order.{is_load, is_store, is_waiting};
+ghost use Rattle.parts_stand.specs.Parts.{Stand, awaits_of, write_of};
+ghost use Rattle.parts_stand.specs.Steps.{seated};
+ghost use Rattle.rename.specs.Parts.{parts_of};
+ghost use Rattle.rename.specs.Entering.{HasRoomFor, roots_at, with_access};
+
+use crate::sources::awaits_of;
+use circular_buffer::HeapCircularBuffer;
+use lsq::Lsq;
+use rename_taint::{RenameTaint, root_written, roots_of};
+use rob_ring::RobRing;
+use rv_types::{Kind, writes_of};
+use stations::Stations;
+use window_model::{Entry, State};
+
+/// The entry comes into the reorder buffer, with the youngest roots of its sources beside it, and its write into the table.
+/// Where it waits it gets a station, and a load or a store its place in its queue. The sources are looked up before the entry's own
+/// write is held.
+pub(crate) fn add_entry<R: RenameTaint>(
+    entry: &Entry,
+    rob: &mut RobRing,
+    roots: &mut HeapCircularBuffer<[Option<u64>; 2]>,
+    names: &mut R,
+    stations: &mut Stations,
+    lsq: &mut Lsq,
+)
+    requires stands { Stand (parts_of entry.now.serial rob.old roots.old (R.writes names.old) stations.old) }
+    requires room { HasRoomFor entry.now rob.old roots.old (R.writes names.old) (R.room names.old) stations.old lsq.old }
+    ensures rob { rob.new ≡ record rob.old { entries = rob.old.entries ++ entry.now ∷ [] } }
+    ensures roots { roots.new ≡ buffer (roots.old.items ++ roots_at (R.writes names.old) entry.now ∷ []) roots.old.capacity }
+    ensures names { R.writes names.new ≡ R.writes names.old ++ option_to_list (write_of entry.now (roots_at (R.writes names.old) entry.now)) }
+    ensures same_names_room { R.room names.new ≡ R.room names.old }
+    ensures stations { (place : ℕ) × (stations.new ≡ record stations.old { held = seated place (awaits_of (reverse rob.old.entries) entry.now) entry.now stations.old.held }) }
+    ensures lsq { lsq.new ≡ with_access entry.now.item.kind entry.now.serial (roots_at (R.writes names.old) entry.now) lsq.old }
+{
+    let awaits = awaits_of(&entry.item.instr, rob, names);
+    let sources = roots_of(names, &entry.item.instr);
+    add_write(entry, sources, names);
+    add_station(entry, awaits, stations);
+    add_access(entry, sources, lsq);
+    push_within(roots, sources);
+    rob.push(*entry);
+}
+
+// The entry's write is held, if it writes a register.
+fn add_write<R: RenameTaint>(entry: &Entry, sources: [Option<u64>; 2], names: &mut R)
+    requires room { length (R.writes names.old) < R.room names.old }
+    requires youngest { All (λ w. w.serial < entry.now.serial) (R.writes names.old) }
+    ensures names { R.writes names.new ≡ R.writes names.old ++ option_to_list (write_of entry.now sources) }
+    ensures same_room { R.room names.new ≡ R.room names.old }
+{
+    if let Some(register) = writes_of(&entry.item.instr) {
+        let root = root_written(entry.item.kind, entry.serial, sources);
+        names.write(register, entry.serial, root);
+    }
+}
+
+// The entry gets a station, if it waits.
+fn add_station(entry: &Entry, awaits: [Option<u64>; 2], stations: &mut Stations)
+    requires room { is_waiting entry.now.state ≡ true → length stations.old.held < stations.old.room }
+    requires youngest { All (λ s. s.serial < entry.now.serial) stations.old.held }
+    ensures { (place : ℕ) × (stations.new ≡ record stations.old { held = seated place awaits entry.now stations.old.held }) }
+{
+    if let State::Waiting = entry.state {
+        stations.insert(entry.serial, awaits);
+    }
+}
+
+// A load comes into its queue, and a store into its own, with the youngest root of its address: of its first source.
+fn add_access(entry: &Entry, sources: [Option<u64>; 2], lsq: &mut Lsq)
+    requires load { is_load entry.now.item.kind ≡ true → length lsq.old.loads < lsq.old.max_loads }
+    requires store { is_store entry.now.item.kind ≡ true → length lsq.old.stores < lsq.old.max_stores }
+    ensures { lsq.new ≡ with_access entry.now.item.kind entry.now.serial sources lsq.old }
+{
+    let [base, _] = sources;
+    match entry.item.kind {
+        Kind::Load => lsq.add_load(entry.serial),
+        Kind::Store => lsq.add_store(entry.serial, base),
+        _ => {}
+    }
+}
+
+// Appends where there is room.
+fn push_within(roots: &mut HeapCircularBuffer<[Option<u64>; 2]>, sources: [Option<u64>; 2])
+    requires { length roots.old.items < roots.old.capacity }
+    ensures { roots.new ≡ buffer (roots.old.items ++ sources ∷ []) roots.old.capacity }
+{
+    let _ = roots.try_push_back(sources);
+}

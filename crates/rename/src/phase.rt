@@ -1,0 +1,108 @@
+//! The phase: item by item.
+ghost use Rattle.std.specs.Prelude.{◌≡◌, ◌≤◌, ◌<◌, ◌+◌, ◌++◌, ◌^◌, length, slice_get};
+ghost use Rattle.window_model.specs.Front.{renamed};
+ghost use Rattle.window_model.specs.State.{Machine};
+ghost use Rattle.queue_laws.specs.Window.{StandFor};
+ghost use Rattle.visibility.specs.Point.{Point};
+ghost use Rattle.parts_stand.specs.Parts.{Stand};
+ghost use Rattle.parts_stand.specs.Addresses.{AddressesStand};
+ghost use Rattle.parts_stand.specs.Points.{PointStands};
+ghost use Rattle.rename.specs.Parts.{CallAlone, Counted, HasRooms, fitting, parts_of, renames, with_parts};
+
+use crate::entering::add_entry;
+use crate::room::{fits, is_at_once};
+use circular_buffer::HeapCircularBuffer;
+use fetch_unit::Fetch;
+use lsq::Lsq;
+use machine_desc::Desc;
+use rename_taint::RenameTaint;
+use rob_ring::RobRing;
+use stations::Stations;
+use window_model::{Entry, Event, Item, Row, State};
+
+/// Phase Rename: up to the description's width of fetching, the oldest fetched items come into the window, each with the next
+/// serial and with its event in the row, as long as they fit.
+///
+/// What it leaves is what the definition leaves of every machine with this window, queue, fetch pc and next serial. The other
+/// parts have stood for the window, and do so again: the youngest roots of each entry's first and second source stand at the
+/// entry's position, the table holds its write, the stations hold it where it waits, and the queues hold it where it is a
+/// load or a store. The visibility point stays where it is, and can move on from there.
+pub fn rename<R: RenameTaint>(
+    rob: &mut RobRing,
+    roots: &mut HeapCircularBuffer<[Option<u64>; 2]>,
+    names: &mut R,
+    stations: &mut Stations,
+    lsq: &mut Lsq,
+    front: &mut Fetch,
+    next_serial: &mut u64,
+    desc: &Desc,
+    row: &mut Row,
+)
+    requires stands { Stand (parts_of next_serial.old rob.old roots.old (R.writes names.old) stations.old) }
+    requires queues { StandFor lsq.old rob.old.entries }
+    requires addresses { AddressesStand rob.old.entries roots.old.items lsq.old.stores }
+    requires call_alone { CallAlone rob.old.entries }
+    requires rooms { HasRooms desc.now rob.old roots.old (R.room names.old) stations.old lsq.old }
+    requires serials { next_serial.old + 4 < 2 ^ 64 }
+    requires room { length row.old.events + 4 ≤ 128 }
+    ensures state { (x : Machine) → with_parts rob.new front.new next_serial.new x ≡ (renames desc.now rob.old front.old next_serial.old x).machine }
+    ensures row { (x : Machine) → row.new ≡ record row.old { events = row.old.events ++ (renames desc.now rob.old front.old next_serial.old x).events } }
+    ensures stands { Stand (parts_of next_serial.new rob.new roots.new (R.writes names.new) stations.new) }
+    ensures queues { StandFor lsq.new rob.new.entries }
+    ensures addresses { AddressesStand rob.new.entries roots.new.items lsq.new.stores }
+    ensures call_alone { CallAlone rob.new.entries }
+    ensures rooms { HasRooms desc.now rob.new roots.new (R.room names.new) stations.new lsq.new }
+    ensures point { (p : Point) → PointStands p next_serial.old rob.old.entries → PointStands p next_serial.new rob.new.entries }
+    ensures front_desc { front.new.desc ≡ front.old.desc }
+    ensures serials { next_serial.new ≤ next_serial.old + 4 }
+    ensures few { length row.new.events ≤ length row.old.events + 4 }
+{
+    for _ in 0..desc.core_fetch_width {
+        let Some(item) = next_item(front, desc, rob, stations, lsq) else {
+            return;
+        };
+        let _ = front.take();
+        let entry = renamed(*next_serial, item);
+        add_entry(&entry, rob, roots, names, stations, lsq);
+        *next_serial += 1;
+        row.push(Event::Ren(entry.serial, item.pc));
+    }
+}
+
+// The oldest fetched item, None where there is none or it can't go into the window.
+fn next_item(
+    front: &Fetch,
+    desc: &Desc,
+    rob: &RobRing,
+    stations: &Stations,
+    lsq: &Lsq,
+) -> Option<Item>
+    requires call_alone { CallAlone rob.now.entries }
+    requires counted { Counted desc.now rob.now.entries stations.now lsq.now }
+    ensures { result ≡ fitting desc.now rob.now.entries (slice_get front.now.queue 0) }
+{
+    let item = front.front()?;
+    if fits(&item, desc, rob, stations, lsq) {
+        Some(item)
+    } else {
+        None
+    }
+}
+
+// The item as an entry.
+fn renamed(serial: u64, item: Item) -> Entry
+    ensures { result ≡ renamed serial item }
+{
+    let state = if is_at_once(item.kind) {
+        State::Done
+    } else {
+        State::Waiting
+    };
+    Entry {
+        serial,
+        item,
+        state,
+        outcome: None,
+        resolved: false,
+    }
+}
