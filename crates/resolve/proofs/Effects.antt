@@ -60,36 +60,36 @@ by_place d x o p b h q =
 
 -- ---- the entry is marked and teaches
 
-pub record Taught (rob : Ring) (t : Tables) (row : Row) (i : ℕ) (e : Entry) (rob2 : Ring) (t2 : Tables) (row2 : Row) : Type 0 where
+pub record Taught (rob : Ring) (t : Tables) (row : Row) (i : ℕ) (e : Entry) (rob2 : Ring) (t2 : Tables) (row_then : Row) : Type 0 where
   pub picked : Some i ≡ position (resolving rob t)
   pub entry : slice_get rob.entries i ≡ Some e
   pub marks : rob2 ≡ record rob { entries = slice_set rob.entries i (resolved_one e) }
   pub teaches : t2 ≡ taught t e
-  pub tells : row2 ≡ record row { events = row.events ++ told t e }
+  pub tells : row_then ≡ record row { events = row.events ++ told t e }
 
-abbrev pub it : (rob : Ring) (t : Tables) (row : Row) (i : ℕ) (e : Entry) (rob2 : Ring) (t2 : Tables) (row2 : Row) → Taught rob t row i e rob2 t2 row2 → Taken t.desc rob.entries i e
-it rob t row i e rob2 t2 row2 h = taken t.desc rob.entries i e h.picked h.entry
+abbrev pub it : (rob : Ring) (t : Tables) (row : Row) (i : ℕ) (e : Entry) (rob2 : Ring) (t2 : Tables) (row_then : Row) → Taught rob t row i e rob2 t2 row_then → Taken t.desc rob.entries i e
+it rob t row i e rob2 t2 row_then h = taken t.desc rob.entries i e h.picked h.entry
 
-module _ (rob : Ring) (t : Tables) (row : Row) (i : ℕ) (e : Entry) (rob2 : Ring) (t2 : Tables) (row2 : Row) (h : Taught rob t row i e rob2 t2 row2) where
-  window_is : (let k = it rob t row i e rob2 t2 row2 h in rob2.entries ≡ reverse k.before ++ resolved_one e ∷ k.younger)
-  window_is = ap (λ (r : Ring). r.entries) h.marks ∙ replaced t.desc rob.entries i e (resolved_one e) (it rob t row i e rob2 t2 row2 h)
+module _ (rob : Ring) (t : Tables) (row : Row) (i : ℕ) (e : Entry) (rob2 : Ring) (t2 : Tables) (row_then : Row) (h : Taught rob t row i e rob2 t2 row_then) where
+  window_is : (let k = it rob t row i e rob2 t2 row_then h in rob2.entries ≡ reverse k.before ++ resolved_one e ∷ k.younger)
+  window_is = ap (λ (r : Ring). r.entries) h.marks ∙ replaced t.desc rob.entries i e (resolved_one e) (it rob t row i e rob2 t2 row_then h)
 
   marked_is : marked (resolving rob t) rob.entries ≡ slice_set rob.entries i (resolved_one e)
   marked_is =
-      let k = it rob t row i e rob2 t2 row2 h in
+      let k = it rob t row i e rob2 t2 row_then h in
       ap (λ o. marked o rob.entries) k.is ∙ ap (λ n. slice_set rob.entries n (resolved_one e)) (sym (length-reverse k.before) ∙ k.at)
 
   pub drops : (b : Bool) → squashes e ≡ b → dropped_from rob t ≡ (if b then Some (e.serial + 1) else None)
-  drops b q = ap behind (it rob t row i e rob2 t2 row2 h).is ∙ ap (λ b. if b then Some (e.serial + 1) else None) q
+  drops b q = ap behind (it rob t row i e rob2 t2 row_then h).is ∙ ap (λ b. if b then Some (e.serial + 1) else None) q
 
   pub marked_rises : Rise rob.entries → Rise rob2.entries
   marked_rises r =
-      let k = it rob t row i e rob2 t2 row2 h in
+      let k = it rob t row i e rob2 t2 row_then h in
       subst Rise (sym window_is) (rise_with (reverse k.before) k.younger e (resolved_one e) refl (subst Rise k.whole r))
 
   pub as_long : length rob2.entries ≡ length rob.entries
   as_long =
-      let k = it rob t row i e rob2 t2 row2 h in
+      let k = it rob t row i e rob2 t2 row_then h in
       let a = ap length window_is in
       let b = ap length k.whole in
       let c = length-append (reverse k.before) (e ∷ k.younger) in
@@ -100,12 +100,12 @@ module _ (rob : Ring) (t : Tables) (row : Row) (i : ℕ) (e : Entry) (rob2 : Rin
 
   module _ (right : resolution_of e ≡ Right) where
     whole_right : (front : Front) (ports : Ports) (x : Machine) →
-        (let k = it rob t row i e rob2 t2 row2 h in
+        (let k = it rob t row i e rob2 t2 row_then h in
         let p : Place = record { before = k.before; entry = e; younger = k.younger } in
         let y = with_predictor (with_parts rob front t ports x) (taught t e).counters (taught t e).targets in
         resolves rob front t ports x ≡ record { machine = (keep p y).machine; events = told t e ++ [] })
     whole_right front ports x =
-        let k = it rob t row i e rob2 t2 row2 h in
+        let k = it rob t row i e rob2 t2 row_then h in
         by_place t.desc (with_parts rob front t ports x) (resolving rob t) (record { before = k.before; entry = e; younger = k.younger }) false k.is (right_keeps e right)
 
     pub right_state : (front : Front) (ports : Ports) (x : Machine) → with_parts rob2 front t2 ports x ≡ (resolves rob front t ports x).machine
@@ -114,7 +114,7 @@ module _ (rob : Ring) (t : Tables) (row : Row) (i : ℕ) (e : Entry) (rob2 : Rin
         ∙ ap (λ w. record (with_front front (taught t e) x) { window = w; divider = ports.divider }) window_is
         ∙ sym (ap (λ (a : After). a.machine) (whole_right front ports x))
 
-    pub right_row : (front : Front) (ports : Ports) (x : Machine) → row2 ≡ record row { events = row.events ++ (resolves rob front t ports x).events }
+    pub right_row : (front : Front) (ports : Ports) (x : Machine) → row_then ≡ record row { events = row.events ++ (resolves rob front t ports x).events }
     right_row front ports x =
         h.tells
         ∙ ap (λ es. record row { events = row.events ++ es }) (sym (append-nil (told t e)) ∙ sym (ap (λ (a : After). a.events) (whole_right front ports x)))
@@ -132,22 +132,22 @@ module _ (rob : Ring) (t : Tables) (row : Row) (i : ℕ) (e : Entry) (rob2 : Rin
 
   module _ (wrong : resolution_of e ≡ Right → ⊥) (rises : Rise rob.entries) where
     whole_wrong : (front : Front) (ports : Ports) (x : Machine) →
-        (let k = it rob t row i e rob2 t2 row2 h in
+        (let k = it rob t row i e rob2 t2 row_then h in
         let p : Place = record { before = k.before; entry = e; younger = k.younger } in
         let y = with_predictor (with_parts rob front t ports x) (taught t e).counters (taught t e).targets in
         resolves rob front t ports x ≡ record { machine = (squash p y).machine; events = told t e ++ (squash p y).events })
     whole_wrong front ports x =
-        let k = it rob t row i e rob2 t2 row2 h in
+        let k = it rob t row i e rob2 t2 row_then h in
         by_place t.desc (with_parts rob front t ports x) (resolving rob t) (record { before = k.before; entry = e; younger = k.younger }) true k.is (wrong_squashes e wrong).0
 
-    below_is : (let k = it rob t row i e rob2 t2 row2 h in below (e.serial + 1) rob2.entries ≡ reverse k.before ++ resolved_one e ∷ [])
+    below_is : (let k = it rob t row i e rob2 t2 row_then h in below (e.serial + 1) rob2.entries ≡ reverse k.before ++ resolved_one e ∷ [])
     below_is =
-        let k = it rob t row i e rob2 t2 row2 h in
+        let k = it rob t row i e rob2 t2 row_then h in
         ap (below (e.serial + 1)) window_is ∙ up_to (reverse k.before) (resolved_one e) k.younger (subst Rise window_is (marked_rises rises))
 
-    gone : (let k = it rob t row i e rob2 t2 row2 h in length rob2.entries - length (below (e.serial + 1) rob2.entries) ≡ length k.younger)
+    gone : (let k = it rob t row i e rob2 t2 row_then h in length rob2.entries - length (below (e.serial + 1) rob2.entries) ≡ length k.younger)
     gone =
-        let k = it rob t row i e rob2 t2 row2 h in
+        let k = it rob t row i e rob2 t2 row_then h in
         let a = ap length window_is in
         let b = ap length below_is in
         let c = length-append (reverse k.before) (resolved_one e ∷ k.younger) in
@@ -160,20 +160,20 @@ module _ (rob : Ring) (t : Tables) (row : Row) (i : ℕ) (e : Entry) (rob2 : Rin
     wrong_state rob3 front front3 ports ports3 next r f v n x =
         ap (λ t. with_parts rob3 front3 t ports3 x) h.teaches
         ∙ ap (λ w. record (with_front front3 (taught t e) x) { window = w; divider = ports3.divider }) (ap (λ (r : Ring). r.entries) r ∙ below_is)
-        ∙ ap (λ front. record (with_front front (taught t e) x) { window = reverse (it rob t row i e rob2 t2 row2 h).before ++ resolved_one e ∷ []; divider = ports3.divider })
+        ∙ ap (λ front. record (with_front front (taught t e) x) { window = reverse (it rob t row i e rob2 t2 row_then h).before ++ resolved_one e ∷ []; divider = ports3.divider })
         (f ∙ ap (λ pc. record front { queue = []; fetch_pc = pc }) (n ∙ (wrong_squashes e wrong).1))
         ∙ ap (λ (v : Ports).
-        record x { window = reverse (it rob t row i e rob2 t2 row2 h).before ++ resolved_one e ∷ []; divider = v.divider; queue = []; fetch_pc = if is_faulty e then None else Some (next_of e.outcome); counters = (taught t e).counters; targets = (taught t e).targets }) v
+        record x { window = reverse (it rob t row i e rob2 t2 row_then h).before ++ resolved_one e ∷ []; divider = v.divider; queue = []; fetch_pc = if is_faulty e then None else Some (next_of e.outcome); counters = (taught t e).counters; targets = (taught t e).targets }) v
         ∙ sym (ap (λ (a : After). a.machine) (whole_wrong front ports x))
 
-    pub wrong_row : (front : Front) (ports : Ports) (row3 : Row) →
-        row3 ≡ record row2 { events = row2.events ++ event.Sq (length rob2.entries - length (below (e.serial + 1) rob2.entries) + length front.queue) ∷ [] } → (x : Machine) →
-        row3 ≡ record row { events = row.events ++ (resolves rob front t ports x).events }
-    wrong_row front ports row3 r x =
+    pub wrong_row : (front : Front) (ports : Ports) (row_last : Row) →
+        row_last ≡ record row_then { events = row_then.events ++ event.Sq (length rob2.entries - length (below (e.serial + 1) rob2.entries) + length front.queue) ∷ [] } → (x : Machine) →
+        row_last ≡ record row { events = row.events ++ (resolves rob front t ports x).events }
+    wrong_row front ports row_last r x =
         r
-        ∙ ap (λ n. record row2 { events = row2.events ++ event.Sq (n + length front.queue) ∷ [] }) gone
-        ∙ ap (λ (r : Row). record r { events = r.events ++ event.Sq (length (it rob t row i e rob2 t2 row2 h).younger + length front.queue) ∷ [] }) h.tells
-        ∙ ap (λ es. record row { events = es }) (append_assoc row.events (told t e) (event.Sq (length (it rob t row i e rob2 t2 row2 h).younger + length front.queue) ∷ []))
+        ∙ ap (λ n. record row_then { events = row_then.events ++ event.Sq (n + length front.queue) ∷ [] }) gone
+        ∙ ap (λ (r : Row). record r { events = r.events ++ event.Sq (length (it rob t row i e rob2 t2 row_then h).younger + length front.queue) ∷ [] }) h.tells
+        ∙ ap (λ es. record row { events = es }) (append_assoc row.events (told t e) (event.Sq (length (it rob t row i e rob2 t2 row_then h).younger + length front.queue) ∷ []))
         ∙ sym (ap (λ (a : After). record row { events = row.events ++ a.events }) (whole_wrong front ports x))
 
     pub wrong_drops : dropped_from rob t ≡ Some (e.serial + 1)
