@@ -1,5 +1,5 @@
 //! What a load finds in the stores before it and in memory (`docs/machine.md`, "Loads"): one walk over the stores.
-ghost use Rattle.std.specs.Prelude.{◌≡◌, ◌≤◌, ◌<◌, ◌+◌, ◌-◌, ◌^◌, None, nat_lt, if◌then◌else◌, length, slice_index};
+ghost use Rattle.std.specs.Prelude.{◌≡◌, ◌≤◌, ◌<◌, ◌+◌, ◌-◌, ◌*◌, ◌^◌, None, nat_lt, if◌then◌else◌, length, slice_index};
 ghost use Rattle.rv_types.specs.Memory.{load_fault};
 ghost use Rattle.rv_types.specs.Value.{bytes_in};
 ghost use Rattle.rv_types.specs.Word.{from_le, to_le};
@@ -136,7 +136,8 @@ impl Gathered {
     // The number of the bytes from an address on: those that were gathered, else memory's.
     fn number(&self, addr: u64, width: Width, ram: &Ram) -> u32
         requires { load_fault ram.now addr (bytes_in width) ≡ None }
-        ensures { result ≡ number_in ram.now addr width self.now }
+        ensures value { result ≡ number_in ram.now addr width self.now }
+        ensures small { result < 2 ^ (8 * bytes_in width) }
     {
         let first = byte_or_memory(self.first, ram, addr) as u32;
         match width {
@@ -193,6 +194,7 @@ fn gather(stores: &[Store], serial: u64, addr: u64) -> Gathered
 pub(crate) fn merge(stores: &[Store], serial: u64, addr: u32, width: Width, ram: &Ram) -> Merged
     requires address { load_fault ram.now addr (bytes_in width) ≡ None }
     ensures value { result.value ≡ from_le (merged_bytes ram.now (older serial stores.now) addr (bytes_in width)) }
+    ensures small { result.value < 2 ^ (8 * bytes_in width) }
     ensures covered { result.covered ≡ all_forwarded (older serial stores.now) addr (bytes_in width) }
     ensures root { result.root ≡ youngest_root (older serial stores.now) }
 {

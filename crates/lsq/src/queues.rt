@@ -1,5 +1,5 @@
 //! The queue of loads and the queue of stores.
-ghost use Rattle.std.specs.Prelude.{◌≡◌, ◌<◌, ◌≤◌, not, ◌==◌, ◌||◌, nat_le, nat_lt, [], ◌∷◌, ◌++◌, length, map, None, IfOk, vec_len, vec_capacity};
+ghost use Rattle.std.specs.Prelude.{◌≡◌, ◌<◌, ◌≤◌, ◌*◌, ◌^◌, not, ◌==◌, ◌||◌, nat_le, nat_lt, [], ◌∷◌, ◌++◌, length, map, None, IfOk, vec_len, vec_capacity};
 ghost use Rattle.std.specs.List.{filter, list_all};
 ghost use Rattle.rv_types.specs.Memory.{load_fault};
 ghost use Rattle.rv_types.specs.Value.{bytes_in};
@@ -120,6 +120,7 @@ impl Lsq {
     pub fn merge(&self, serial: u64, addr: u32, width: Width, ram: &Ram) -> Merged
         requires address { load_fault ram.now addr (bytes_in width) ≡ None }
         ensures value { result.value ≡ from_le (merged_bytes ram.now (older serial self.now.stores) addr (bytes_in width)) }
+        ensures small { result.value < 2 ^ (8 * bytes_in width) }
         ensures covered { result.covered ≡ all_forwarded (older serial self.now.stores) addr (bytes_in width) }
         ensures root { result.root ≡ youngest_root (older serial self.now.stores) }
     {
