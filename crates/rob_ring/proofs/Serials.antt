@@ -1,6 +1,6 @@
 -- Where serials rise, the entries with a serial below another are the oldest ones.
-use Rattle.std.proofs.Common.{◌≡◌, ℕ, ◌+◌, ◌-◌, ◌<◌, ◌≤◌, true, false, cond, List, [], ◌∷◌, ◌++◌, length, take, get_or, Some, refl, ap, sym, ◌∙◌, arith, slice_get, ⊎_elim}
-use Rattle.std.specs.Prelude.{nat_lt}
+use Rattle.std.proofs.Common.{◌≡◌, ℕ, zero, suc, ◌+◌, ◌-◌, ◌<◌, ◌≤◌, true, false, cond, List, [], ◌∷◌, ◌++◌, length, take, get_or, Some, refl, ap, sym, ◌∙◌, arith, slice_get, ⊎_elim}
+use Rattle.std.specs.Prelude.{min, nat_lt}
 use Rattle.std.specs.List.{All, AllPairs}
 use Rattle.std.proofs.lemmas.Bool.{cases_lt}
 use Rattle.std.proofs.lemmas.Bool.Decides.{nat_tests}
@@ -58,6 +58,48 @@ pub older_at : (serial : ℕ) (es : List Entry) (j : ℕ) (e : Entry) → Rise e
 older_at serial es j e rise some le h lt walked =
     let q : j - 1 + 1 ≡ j = omega (arith, some) in
     ap (λ n. take n es) q ∙ sym (walked ∙ all_below serial (take j es) (up_to serial es j e rise some le h lt))
+
+-- ---- where the walk begins
+
+none_below : (serial lower : ℕ) (es : List Entry) → All (λ e. lower ≤ e.serial) es → serial ≤ lower → below serial es ≡ []
+none_below serial lower [] a l = refl
+none_below serial lower (e ∷ es) a l =
+    let h : lower ≤ e.serial = All-head (λ e. lower ≤ e.serial) e es a in
+    let f : nat_lt e.serial serial ≡ false = grind (arith, nat_tests) in
+    ap (λ b. cond b (e ∷ below serial es) (below serial es)) f ∙ none_below serial lower es (All-tail (λ e. lower ≤ e.serial) e es a) l
+
+-- serials rise by one at least
+next_lower : (lower : ℕ) (e : Entry) (es : List Entry) → Rise (e ∷ es) → lower ≤ e.serial → All (λ b. lower + 1 ≤ b.serial) es
+next_lower lower e es r l k d lt =
+    let m : suc k < length (e ∷ es) = omega (arith, lt) in
+    let s = r 0 (suc k) d (omega arith) m in
+    omega (arith, s, l)
+
+rise_on : (e : Entry) (es : List Entry) → Rise (e ∷ es) → Rise es
+rise_on e es r i j d lt l = r (suc i) (suc j) d (omega (arith, lt)) (omega (arith, l))
+
+reaches : (serial lower n : ℕ) (es : List Entry) → Rise es → All (λ e. lower ≤ e.serial) es → serial ≤ lower + n → below serial es ≡ below serial (take n es)
+reaches serial lower zero es r a l = none_below serial lower es a (omega (arith, l))
+reaches serial lower (suc n) [] r a l = refl
+reaches serial lower (suc n) (e ∷ es) r a l =
+    let h : lower ≤ e.serial = All-head (λ e. lower ≤ e.serial) e es a in
+    let m : serial ≤ lower + 1 + n = omega (arith, l) in
+    ap (λ older. cond (nat_lt e.serial serial) (e ∷ older) older) (reaches serial (lower + 1) n es (rise_on e es r) (next_lower lower e es r h) m)
+
+from_head : (e : Entry) (es : List Entry) → Rise (e ∷ es) → All (λ b. e.serial ≤ b.serial) (e ∷ es)
+from_head e es r zero d lt = omega arith
+from_head e es r (suc k) d lt = let s = r 0 (suc k) d (omega arith) lt in omega (arith, s)
+
+pub reach_is : (serial : ℕ) (es : List Entry) (head : Entry) (ahead n : ℕ) → Rise es → slice_get es 0 ≡ Some head → ahead ≡ serial - head.serial → n ≡ min ahead (length es) →
+    below serial es ≡ below serial (take n es)
+reach_is serial [] head ahead n r h a q = absurd (cc)
+reach_is serial (e ∷ es) head ahead n r h a q =
+    let same : e ≡ head = cc in
+    let b : ahead ≡ serial - e.serial = a ∙ ap (λ (e : Entry). serial - e.serial) (sym same) in
+    ⊎_elim
+    (λ (lt : ahead < length (e ∷ es)). let m : serial ≤ e.serial + n = omega (arith, lt, b, q) in reaches serial e.serial n (e ∷ es) r (from_head e es r) m)
+    (λ (le : length (e ∷ es) ≤ ahead). let m : n ≡ length (e ∷ es) = omega (arith, le, q) in below_start serial (e ∷ es) n m)
+    (cases_lt ahead (length (e ∷ es)))
 
 -- so many as are taken
 pub count_of : (serial : ℕ) (es : List Entry) (n : ℕ) → n ≤ length es → take n es ≡ below serial es → n ≡ length (below serial es)

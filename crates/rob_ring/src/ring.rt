@@ -1,5 +1,5 @@
 //! The ring itself.
-ghost use Rattle.std.specs.Prelude.{◌≡◌, ◌<◌, ◌≤◌, ◌++◌, ◌∷◌, [], length, take, drop, slice_get, slice_set, Some, IfOk};
+ghost use Rattle.std.specs.Prelude.{◌≡◌, ◌<◌, ◌≤◌, ◌++◌, ◌∷◌, [], length, take, drop, min, slice_get, slice_set, Some, IfOk};
 ghost use Rattle.std.specs.List.{AllPairs};
 ghost use Rattle.rob_ring.specs.Ring.{Ring, below};
 
@@ -94,19 +94,44 @@ impl RobRing {
     }
 
     /// The position of the entry with this serial, or the one at which it would stand: how many entries have a serial below
-    /// it. It walks from the youngest entry to there.
+    /// it. Serials rise by one, but for gaps that squashes leave, so the walk begins as far behind the oldest entry as the
+    /// serial is: where no entry before there was squashed it ends at once.
     pub fn position_of(&self, serial: u64) -> u32
         requires rise { AllPairs (λ a b. a.serial < b.serial) self.now.entries }
         ensures count { result ≡ length (below serial self.now.entries) }
         ensures older { take result self.now.entries ≡ below serial self.now.entries }
         ensures within { result ≤ length self.now.entries }
     {
-        for i in (0..self.len()).rev() {
+        for i in (0..self.reach(serial)).rev() {
             if self.at(i).serial < serial {
                 return i + 1;
             }
         }
         0
+    }
+
+    // How many of the oldest entries there are that can have a serial below this one.
+    fn reach(&self, serial: u64) -> u32
+        requires rise { AllPairs (λ a b. a.serial < b.serial) self.now.entries }
+        ensures older { below serial self.now.entries ≡ below serial (take result self.now.entries) }
+        ensures within { result ≤ length self.now.entries }
+    {
+        if self.len() == 0 {
+            return 0;
+        }
+        let ahead = serial.saturating_sub(self.at(0).serial);
+        up_to(ahead, self.len())
+    }
+}
+
+// The lesser of the two.
+fn up_to(ahead: u64, len: u32) -> u32
+    ensures { result ≡ min ahead len }
+{
+    if ahead < len as u64 {
+        ahead as u32
+    } else {
+        len
     }
 }
 
