@@ -1,4 +1,5 @@
-//! A load, a store behind it and a call are renamed; the expected values follow from `docs/machine.md`, "Rename".
+//! A load, a store behind it and a call are renamed; the expected values follow from the program below by `docs/machine.md`,
+//! "Rename" and "Writers and roots".
 use crate::rename;
 use byte_ram::Ram;
 use circular_buffer::HeapCircularBuffer;
@@ -20,19 +21,21 @@ use window_model::{Event, State, empty_row};
 const DESC: &str =
     "[core]\nfetch_width = 4\nretire_width = 2\nrob = 16\nstations = 8\nloads = 1\nstores = 1\nqueue = 8\n[units]\nalus = 2\nmul_latency = 3\n[predictor]\ncounters = 16\nbtb = 4\n[cache]\nsets = 2\nways = 2\nline = 16\nhit_latency = 2\nmiss_latency = 10\nmshrs = 2\n[ram]\nbase = 65536\nsize = 65536\n[stt]\nmodel = \"spectre\"\n";
 
-// An image of 16 bytes of code at address 65536: lw x5, 0(x6); sw x7, 0(x5); ecall; addi x5, x5, 7.
-const FILE: [u8; 100] = [
+// An image of 20 bytes of code at address 65536: lw x5, 0(x6); sub x7, x6, x5; sw x5, 0(x7); ecall; addi x5, x5, 7.
+const FILE: [u8; 104] = [
     0x7f, 0x45, 0x4c, 0x46, 1, 1, 1, 0, 0, 0, 0, 0, 0, 0, 0, 0, 2, 0, 0xf3, 0, 1, 0, 0, 0, 0, 0, 1,
     0, 0x34, 0, 0, 0, 0, 0, 0, 0, 0, 0, 0, 0, 0x34, 0, 0x20, 0, 1, 0, 0, 0, 0, 0, 0, 0, 1, 0, 0, 0,
-    0x54, 0, 0, 0, 0, 0, 1, 0, 0, 0, 1, 0, 16, 0, 0, 0, 16, 0, 0, 0, 5, 0, 0, 0, 4, 0, 0, 0, 0x83,
-    0x22, 3, 0, 0x23, 0xa0, 0x72, 0, 0x73, 0, 0, 0, 0x93, 0x82, 0x72, 0,
+    0x54, 0, 0, 0, 0, 0, 1, 0, 0, 0, 1, 0, 20, 0, 0, 0, 20, 0, 0, 0, 5, 0, 0, 0, 4, 0, 0, 0, 0x83,
+    0x22, 3, 0, 0xb3, 3, 0x53, 0x40, 0x23, 0xa0, 0x53, 0, 0x73, 0, 0, 0, 0x93, 0x82, 0x72, 0,
 ];
 
 const LOAD: u32 = 0x10000;
 
-const STORE: u32 = 0x10004;
+const SUB: u32 = 0x10004;
 
-const CALL: u32 = 0x10008;
+const STORE: u32 = 0x10008;
+
+const CALL: u32 = 0x1000c;
 
 // The code of the image, None where the image is refused.
 fn code(alloc: Global, desc: &Desc) -> Result<Option<Code>, Fail> {
@@ -57,7 +60,8 @@ fn fetched(rt: &impl Abort, alloc: Global, desc: &Desc, pc: u32) -> Result<Fetch
     Ok(front)
 }
 
-// The store awaits the load and has its root, and the call waits for both to retire.
+// The subtraction awaits the load, and the store both. What they read flows from the load, which is the one root. The call waits
+// for all of them to retire.
 fn loads_and_stores_come_in<R: RenameTaint + Drop>(
     rt: &impl Abort,
     alloc: Global,
@@ -65,6 +69,7 @@ fn loads_and_stores_come_in<R: RenameTaint + Drop>(
     let desc = read_desc(alloc, DESC.as_bytes())?;
     let mut rob = RobRing::new(alloc, &desc)?;
     let mut roots = HeapCircularBuffer::with_capacity(alloc, desc.core_rob as usize)?;
+    let mut writers = HeapCircularBuffer::with_capacity(alloc, desc.core_rob as usize)?;
     let mut names = R::new(alloc, &desc)?;
     let mut stations = Stations::new(alloc, &desc)?;
     let mut lsq = Lsq::new(alloc, &desc)?;
@@ -74,6 +79,7 @@ fn loads_and_stores_come_in<R: RenameTaint + Drop>(
     rename(
         &mut rob,
         &mut roots,
+        &mut writers,
         &mut names,
         &mut stations,
         &mut lsq,
@@ -82,21 +88,31 @@ fn loads_and_stores_come_in<R: RenameTaint + Drop>(
         &desc,
         &mut row,
     );
-    let events = [Event::Ren(0, LOAD), Event::Ren(1, STORE)];
+    let events = [
+        Event::Ren(0, LOAD),
+        Event::Ren(1, SUB),
+        Event::Ren(2, STORE),
+    ];
     assert_eq!(rt; row.events(), events.as_slice());
-    assert_eq!(rt; (next_serial, rob.len(), stations.len()), (2, 2, 2));
+    assert_eq!(rt; (next_serial, rob.len(), stations.len()), (3, 3, 3));
     assert_eq!(rt; (lsq.has_load_room(), lsq.has_store_room()), (false, false));
     assert_eq!(rt; names.source(Reg { number: 5 }), Source::Entry(0));
-    assert_eq!(rt; names.root(Reg { number: 5 }), Some(0));
+    assert_eq!(rt; names.source(Reg { number: 7 }), Source::Entry(1));
+    assert_eq!(rt; names.root(Reg { number: 7 }), Some(0));
     assert_eq!(rt;
         &*roots.make_contiguous(),
-        [[None, None], [Some(0), None]].as_slice()
+        [[None, None], [None, Some(0)], [Some(0), Some(0)]].as_slice()
+    );
+    assert_eq!(rt;
+        &*writers.make_contiguous(),
+        [[None, None], [None, Some(0)], [Some(1), Some(0)]].as_slice()
     );
     if let Some(item) = front.front() {
         assert_eq!(rt; item.pc, CALL);
     }
-    if stations.len() == 2 {
-        assert_eq!(rt; (stations.ready(0), stations.ready(1)), (true, false));
+    if stations.len() == 3 {
+        let ready = [stations.ready(0), stations.ready(1), stations.ready(2)];
+        assert_eq!(rt; ready, [true, false, false]);
     }
     Ok(())
 }
@@ -117,6 +133,7 @@ fn a_call_comes_in_alone(rt: HostRuntime) -> Result<(), Fail> {
     let desc = read_desc(alloc, DESC.as_bytes())?;
     let mut rob = RobRing::new(alloc, &desc)?;
     let mut roots = HeapCircularBuffer::with_capacity(alloc, desc.core_rob as usize)?;
+    let mut writers = HeapCircularBuffer::with_capacity(alloc, desc.core_rob as usize)?;
     let mut names = ByTable::new(alloc, &desc)?;
     let mut stations = Stations::new(alloc, &desc)?;
     let mut lsq = Lsq::new(alloc, &desc)?;
@@ -126,6 +143,7 @@ fn a_call_comes_in_alone(rt: HostRuntime) -> Result<(), Fail> {
     rename(
         &mut rob,
         &mut roots,
+        &mut writers,
         &mut names,
         &mut stations,
         &mut lsq,
@@ -136,6 +154,7 @@ fn a_call_comes_in_alone(rt: HostRuntime) -> Result<(), Fail> {
     );
     assert_eq!(rt; row.events(), [Event::Ren(6, CALL)].as_slice());
     assert_eq!(rt; (rob.len(), stations.len()), (1, 0));
+    assert_eq!(rt; &*writers.make_contiguous(), [[None, None]].as_slice());
     if let Some(head) = rob.head() {
         assert_eq!(rt; (head.serial, head.state), (6, State::Done));
     }
