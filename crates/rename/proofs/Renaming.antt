@@ -92,10 +92,10 @@ standing_more item s s2 x g =
 
 -- the room that its entry takes is there
 pub enters : (d : Desc) (s0 : Phase) (n : ℕ) (s : Phase) (item : Item) (e : Entry) → RenamesOn d s0 n s → fitting d s.held.rob.entries (slice_get s.front.queue 0) ≡ Some item → e ≡ renamed s.held.next item →
-    HasRoomFor e s.held.rob s.held.roots s.held.writes s.held.names_room s.held.stations s.held.queues
+    HasRoomFor e s.held.rob s.held.roots s.held.writers s.held.writes s.held.names_room s.held.stations s.held.queues
 enters d s0 n s item e h q r =
     let f = fits_all d s.held.rob.entries item (fitting_is d s.held.rob.entries (slice_get s.front.queue 0) item q).1 in
-    subst (λ e. HasRoomFor e s.held.rob s.held.roots s.held.writes s.held.names_room s.held.stations s.held.queues) (sym r) (room_for d s.held item h.tied f)
+    subst (λ e. HasRoomFor e s.held.rob s.held.roots s.held.writers s.held.writes s.held.names_room s.held.stations s.held.queues) (sym r) (room_for d s.held item h.tied f)
 
 point_more : (h0 h h2 : Held) (item : Item) → PointStays h0 h → Entered (renamed h.next item) h h2 → PointStays h0 h2
 point_more h0 h h2 item k g p s =

@@ -20,17 +20,20 @@ use Rattle.queue_laws.proofs.Renaming.{adds_load, adds_other, adds_store, room_i
 use Rattle.parts_stand.specs.Addresses.{AddressesStand}
 use Rattle.parts_stand.specs.Parts.{Parts, Stand, awaits_of, write_of}
 use Rattle.parts_stand.specs.Steps.{seated, with_entry}
+use Rattle.parts_stand.specs.Writers.{WritersOf}
 use Rattle.parts_stand.proofs.Addressing.{addresses_add, addresses_add_other}
 use Rattle.parts_stand.proofs.Answering.{counts_room}
 use Rattle.parts_stand.proofs.Standing.{renames_in}
+use Rattle.parts_stand.proofs.Writing.{counts_writers, writers_rename}
 use Rattle.rename.specs.Parts.{CallAlone, Counted, HasRooms, parts_of}
-use Rattle.rename.specs.Entering.{HasRoomFor, roots_at, with_access}
+use Rattle.rename.specs.Entering.{HasRoomFor, roots_at, with_access, writers_at}
 use Rattle.rename.proofs.Fitting.{Fits, alone_more, load_room, station_room, store_room}
 
 -- the parts that stand for the window, and the serial that the next entry gets
 pub record Held : Type 0 where
   pub rob : Ring
   pub roots : Buffer (List (Option ℕ))
+  pub writers : Buffer (List (Option ℕ))
   pub writes : List Write
   pub names_room : ℕ
   pub stations : Stations
@@ -40,10 +43,11 @@ pub record Held : Type 0 where
 -- they stand for it, and have the description's room
 pub record Tied (d : Desc) (h : Held) : Type 0 where
   pub stands : Stand (parts_of h.next h.rob h.roots h.writes h.stations)
+  pub writers : WritersOf h.next h.rob.entries h.writers.items
   pub queues : StandFor h.queues h.rob.entries
   pub addresses : AddressesStand h.rob.entries h.roots.items h.queues.stores
   pub alone : CallAlone h.rob.entries
-  pub rooms : HasRooms d h.rob h.roots h.names_room h.stations h.queues
+  pub rooms : HasRooms d h.rob h.roots h.writers h.names_room h.stations h.queues
 
 -- ---- what they tell of room
 
@@ -51,14 +55,16 @@ pub counted : (d : Desc) (h : Held) → Tied d h → Counted d h.rob.entries h.s
 counted d h t =
     record { waiting = (counts_room _ t.stands).held; places = t.rooms.places; accesses = t.queues; loads = t.rooms.loads; stores = t.rooms.stores }
 
-pub room_for : (d : Desc) (h : Held) (item : Item) → Tied d h → Fits d h.rob.entries item → HasRoomFor (renamed h.next item) h.rob h.roots h.writes h.names_room h.stations h.queues
+pub room_for : (d : Desc) (h : Held) (item : Item) → Tied d h → Fits d h.rob.entries item → HasRoomFor (renamed h.next item) h.rob h.roots h.writers h.writes h.names_room h.stations h.queues
 room_for d h item t f =
     let c = counts_room _ t.stands in
+    let n = counts_writers h.next h.rob.entries h.writers.items t.writers in
     let q = room_is h.queues h.rob.entries t.queues in
     let r = t.rooms in
     record {
       entry = omega (arith, f.entries, r.entries);
       pair = omega (arith, f.entries, c.roots, r.pairs);
+      writers = omega (arith, f.entries, n, r.writers);
       write = omega (arith, f.entries, c.writes, r.writes);
       station = λ w. let l = station_room (at_once item.kind) _ _ f.station w in omega (arith, l, c.held, r.places);
       load = λ k. let l = load_room item.kind d h.rob.entries f.kind k in omega (arith, l, q.0, r.loads);
@@ -71,6 +77,7 @@ room_for d h item t f =
 pub record Entered (e : Entry) (h h2 : Held) : Type 0 where
   pub rob : h2.rob ≡ record h.rob { entries = h.rob.entries ++ e ∷ [] }
   pub roots : h2.roots ≡ buffer (h.roots.items ++ roots_at h.writes e ∷ []) h.roots.capacity
+  pub writers : h2.writers ≡ buffer (h.writers.items ++ writers_at h.writes e ∷ []) h.writers.capacity
   pub writes : h2.writes ≡ h.writes ++ option_to_list (write_of e (roots_at h.writes e))
   pub names_room : h2.names_room ≡ h.names_room
   pub stations : (place : ℕ) × (h2.stations ≡ record h.stations { held = seated place (awaits_of (reverse h.rob.entries) e) e h.stations.held })
@@ -92,6 +99,16 @@ stands_more e h h2 g n s =
     ∙ ap (λ rs. record { next = h.next + 1; window = new.window; roots = rs; writes = new.writes; held = h2.stations.held }) b
     ∙ ap (λ hs. record { next = h.next + 1; window = new.window; roots = new.roots; writes = new.writes; held = hs }) c in
     subst Stand (sym same) (renames_in p e (roots_at h.writes e) (awaits_of (reverse h.rob.entries) e) place s n refl refl)
+
+writers_more : (e : Entry) (h h2 : Held) → Entered e h h2 → e.serial ≡ h.next → Stand (parts_of h.next h.rob h.roots h.writes h.stations) → WritersOf h.next h.rob.entries h.writers.items → WritersOf h2.next h2.rob.entries h2.writers.items
+writers_more e h h2 g n s k =
+    let ws = writers_at h.writes e in
+    let a = ap (λ (r : Ring). r.entries) g.rob in
+    let b = ap (λ (b : Buffer (List (Option ℕ))). b.items) g.writers in
+    subst (λ n. WritersOf n h2.rob.entries h2.writers.items) (sym g.next)
+    (subst (λ es. WritersOf (h.next + 1) es h2.writers.items) (sym a)
+    (subst (λ writers. WritersOf (h.next + 1) (h.rob.entries ++ e ∷ []) writers) (sym b)
+    (writers_rename (parts_of h.next h.rob h.roots h.writes h.stations) h.writers.items e ws s k n refl)))
 
 -- a store waits for its operands
 waits : (k : Kind) → is_store k ≡ true → is_done (if at_once k then Done else Waiting) ≡ false
@@ -130,6 +147,7 @@ tied_more d h h2 item t f g =
     let q : with_access k h.next roots h.queues ≡ h2.queues = sym g.queues in
     record {
       stands = stands_more e h h2 g refl t.stands;
+      writers = writers_more e h h2 g refl t.stands t.writers;
       queues = subst (λ w. StandFor h2.queues w) w (subst (λ q. StandFor q (h.rob.entries ++ e ∷ [])) q (queues_by k h.queues h.rob.entries e roots refl (waits k) t.queues));
       addresses =
           subst (λ w. AddressesStand w h2.roots.items h2.queues.stores) w
@@ -139,6 +157,7 @@ tied_more d h h2 item t f g =
       rooms = record {
         entries = ap (λ (r : Ring). r.room) g.rob ∙ t.rooms.entries;
         pairs = ap (λ (b : Buffer (List (Option ℕ))). b.capacity) g.roots ∙ t.rooms.pairs;
+        writers = ap (λ (b : Buffer (List (Option ℕ))). b.capacity) g.writers ∙ t.rooms.writers;
         writes = g.names_room ∙ t.rooms.writes;
         places = ap (λ (s : Stations). s.room) g.stations.1 ∙ t.rooms.places;
         loads = ap (λ (q : Queues). q.max_loads) g.queues ∙ keeps_loads k h.next roots h.queues ∙ t.rooms.loads;

@@ -43,9 +43,10 @@ abbrev pub CallAlone : List Entry → Type 0
 CallAlone entries = 1 ≤ count_by calls entries → length entries ≤ 1
 
 -- each part has the description's room
-pub record HasRooms (d : Desc) (rob : Ring) (roots : Buffer (List (Option ℕ))) (names_room : ℕ) (stations : Stations) (queues : Queues) : Type 0 where
+pub record HasRooms (d : Desc) (rob : Ring) (roots source_writers : Buffer (List (Option ℕ))) (names_room : ℕ) (stations : Stations) (queues : Queues) : Type 0 where
   pub entries : rob.room ≡ d.core_rob
   pub pairs : roots.capacity ≡ d.core_rob
+  pub writers : source_writers.capacity ≡ d.core_rob
   pub writes : names_room ≡ d.core_rob
   pub places : stations.room ≡ d.core_stations
   pub loads : queues.max_loads ≡ d.core_loads

@@ -7,9 +7,9 @@ ghost use Rattle.window_model.specs.Order.{is_load, is_store, is_waiting};
 ghost use Rattle.parts_stand.specs.Parts.{Stand, awaits_of, write_of};
 ghost use Rattle.parts_stand.specs.Steps.{seated};
 ghost use Rattle.rename.specs.Parts.{parts_of};
-ghost use Rattle.rename.specs.Entering.{HasRoomFor, roots_at, with_access};
+ghost use Rattle.rename.specs.Entering.{HasRoomFor, roots_at, with_access, writers_at};
 
-use crate::sources::awaits_of;
+use crate::sources::{awaits_of, writers_of};
 use circular_buffer::HeapCircularBuffer;
 use lsq::Lsq;
 use rename_taint::{RenameTaint, root_written, roots_of};
@@ -18,32 +18,36 @@ use rv_types::{Kind, writes_of};
 use stations::Stations;
 use window_model::{Entry, State};
 
-/// The entry comes into the reorder buffer, with the youngest roots of its sources beside it, and its write into the table.
-/// Where it waits it gets a station, and a load or a store its place in its queue. The sources are looked up before the entry's own
-/// write is held.
+/// The entry comes into the reorder buffer, with the youngest roots and the writers of its sources beside it, and its write into
+/// the table. Where it waits it gets a station, and a load or a store its place in its queue. The sources are looked up before the
+/// entry's own write is held.
 pub(crate) fn add_entry<R: RenameTaint>(
     entry: &Entry,
     rob: &mut RobRing,
     roots: &mut HeapCircularBuffer<[Option<u64>; 2]>,
+    writers: &mut HeapCircularBuffer<[Option<u64>; 2]>,
     names: &mut R,
     stations: &mut Stations,
     lsq: &mut Lsq,
 )
     requires stands { Stand (parts_of entry.now.serial rob.old roots.old (R.writes names.old) stations.old) }
-    requires room { HasRoomFor entry.now rob.old roots.old (R.writes names.old) (R.room names.old) stations.old lsq.old }
+    requires room { HasRoomFor entry.now rob.old roots.old writers.old (R.writes names.old) (R.room names.old) stations.old lsq.old }
     ensures rob { rob.new ≡ record rob.old { entries = rob.old.entries ++ entry.now ∷ [] } }
     ensures roots { roots.new ≡ buffer (roots.old.items ++ roots_at (R.writes names.old) entry.now ∷ []) roots.old.capacity }
+    ensures writers { writers.new ≡ buffer (writers.old.items ++ writers_at (R.writes names.old) entry.now ∷ []) writers.old.capacity }
     ensures names { R.writes names.new ≡ R.writes names.old ++ option_to_list (write_of entry.now (roots_at (R.writes names.old) entry.now)) }
     ensures same_names_room { R.room names.new ≡ R.room names.old }
     ensures stations { (place : ℕ) × (stations.new ≡ record stations.old { held = seated place (awaits_of (reverse rob.old.entries) entry.now) entry.now stations.old.held }) }
     ensures lsq { lsq.new ≡ with_access entry.now.item.kind entry.now.serial (roots_at (R.writes names.old) entry.now) lsq.old }
 {
-    let awaits = awaits_of(&entry.item.instr, rob, names);
+    let source_writers = writers_of(names, &entry.item.instr);
+    let awaits = awaits_of(source_writers, rob);
     let sources = roots_of(names, &entry.item.instr);
     add_write(entry, sources, names);
     add_station(entry, awaits, stations);
     add_access(entry, sources, lsq);
     push_within(roots, sources);
+    push_within(writers, source_writers);
     rob.push(*entry);
 }
 
@@ -86,9 +90,9 @@ fn add_access(entry: &Entry, sources: [Option<u64>; 2], lsq: &mut Lsq)
 }
 
 // Appends where there is room.
-fn push_within(roots: &mut HeapCircularBuffer<[Option<u64>; 2]>, sources: [Option<u64>; 2])
-    requires { length roots.old.items < roots.old.capacity }
-    ensures { roots.new ≡ buffer (roots.old.items ++ sources ∷ []) roots.old.capacity }
+fn push_within(pairs: &mut HeapCircularBuffer<[Option<u64>; 2]>, pair: [Option<u64>; 2])
+    requires { length pairs.old.items < pairs.old.capacity }
+    ensures { pairs.new ≡ buffer (pairs.old.items ++ pair ∷ []) pairs.old.capacity }
 {
-    let _ = roots.try_push_back(sources);
+    let _ = pairs.try_push_back(pair);
 }

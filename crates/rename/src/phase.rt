@@ -7,6 +7,7 @@ ghost use Rattle.visibility.specs.Point.{Point};
 ghost use Rattle.parts_stand.specs.Parts.{Stand};
 ghost use Rattle.parts_stand.specs.Addresses.{AddressesStand};
 ghost use Rattle.parts_stand.specs.Points.{PointStands};
+ghost use Rattle.parts_stand.specs.Writers.{WritersOf};
 ghost use Rattle.rename.specs.Parts.{CallAlone, Counted, HasRooms, fitting, parts_of, renames, with_parts};
 
 use crate::entering::add_entry;
@@ -24,12 +25,13 @@ use window_model::{Entry, Event, Item, Row, State};
 /// serial and with its event in the row, as long as they fit.
 ///
 /// What it leaves is what the definition leaves of every machine with this window, queue, fetch pc and next serial. The other
-/// parts have stood for the window, and do so again: the youngest roots of each entry's first and second source stand at the
-/// entry's position, the table holds its write, the stations hold it where it waits, and the queues hold it where it is a
-/// load or a store. The visibility point stays where it is, and can move on from there.
+/// parts have stood for the window, and do so again: the youngest roots and the writers of each entry's first and second source
+/// stand at the entry's position, the table holds its write, the stations hold it where it waits, and the queues hold it where
+/// it is a load or a store. The visibility point stays where it is, and can move on from there.
 pub fn rename<R: RenameTaint>(
     rob: &mut RobRing,
     roots: &mut HeapCircularBuffer<[Option<u64>; 2]>,
+    writers: &mut HeapCircularBuffer<[Option<u64>; 2]>,
     names: &mut R,
     stations: &mut Stations,
     lsq: &mut Lsq,
@@ -39,19 +41,21 @@ pub fn rename<R: RenameTaint>(
     row: &mut Row,
 )
     requires stands { Stand (parts_of next_serial.old rob.old roots.old (R.writes names.old) stations.old) }
+    requires writers { WritersOf next_serial.old rob.old.entries writers.old.items }
     requires queues { StandFor lsq.old rob.old.entries }
     requires addresses { AddressesStand rob.old.entries roots.old.items lsq.old.stores }
     requires call_alone { CallAlone rob.old.entries }
-    requires rooms { HasRooms desc.now rob.old roots.old (R.room names.old) stations.old lsq.old }
+    requires rooms { HasRooms desc.now rob.old roots.old writers.old (R.room names.old) stations.old lsq.old }
     requires serials { next_serial.old + 4 < 2 ^ 64 }
     requires room { length row.old.events + 4 ≤ 128 }
     ensures state { (x : Machine) → with_parts rob.new front.new next_serial.new x ≡ (renames desc.now rob.old front.old next_serial.old x).machine }
     ensures row { (x : Machine) → row.new ≡ record row.old { events = row.old.events ++ (renames desc.now rob.old front.old next_serial.old x).events } }
     ensures stands { Stand (parts_of next_serial.new rob.new roots.new (R.writes names.new) stations.new) }
+    ensures writers { WritersOf next_serial.new rob.new.entries writers.new.items }
     ensures queues { StandFor lsq.new rob.new.entries }
     ensures addresses { AddressesStand rob.new.entries roots.new.items lsq.new.stores }
     ensures call_alone { CallAlone rob.new.entries }
-    ensures rooms { HasRooms desc.now rob.new roots.new (R.room names.new) stations.new lsq.new }
+    ensures rooms { HasRooms desc.now rob.new roots.new writers.new (R.room names.new) stations.new lsq.new }
     ensures point { (p : Point) → PointStands p next_serial.old rob.old.entries → PointStands p next_serial.new rob.new.entries }
     ensures front_desc { front.new.desc ≡ front.old.desc }
     ensures serials { next_serial.new ≤ next_serial.old + 4 }
@@ -63,7 +67,7 @@ pub fn rename<R: RenameTaint>(
         };
         let _ = front.take();
         let entry = renamed(*next_serial, item);
-        add_entry(&entry, rob, roots, names, stations, lsq);
+        add_entry(&entry, rob, roots, writers, names, stations, lsq);
         *next_serial += 1;
         row.push(Event::Ren(entry.serial, item.pc));
     }

@@ -5,7 +5,7 @@ use Rattle.rename.proofs.Renaming.{enters, over_early, renames_start, renames_mo
 use Rattle.rename.proofs.phase.rename.Goals as goal
 
 pub loop-init : goal.loop-init
-loop-init g c = renames_start _ _ (record { stands = c.requires.stands; queues = c.requires.queues; addresses = c.requires.addresses; alone = c.requires.call_alone; rooms = c.requires.rooms })
+loop-init g c = renames_start _ _ (record { stands = c.requires.stands; writers = c.requires.writers; queues = c.requires.queues; addresses = c.requires.addresses; alone = c.requires.call_alone; rooms = c.requires.rooms })
 
 pub next_item-requires-clause-counted : goal.next_item-requires-clause-counted
 next_item-requires-clause-counted g c = counted _ _ c.loop.invariant.tied
@@ -20,6 +20,7 @@ loop-preserved g c =
       entered = record {
         rob = c.add_entry.ensures.rob;
         roots = c.add_entry.ensures.roots;
+        writers = c.add_entry.ensures.writers;
         writes = c.add_entry.ensures.names;
         names_room = c.add_entry.ensures.same_names_room;
         stations = c.add_entry.ensures.stations;
