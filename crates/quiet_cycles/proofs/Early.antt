@@ -1,7 +1,6 @@
 -- Fill, Complete and Resolve where nothing happens in them.
-use Rattle.std.proofs.Common.{◌≡◌, ℕ, ◌+◌, ◌<◌, ◌≤◌, Bool, true, false, not, List, [], ◌∷◌, ◌++◌, Option, Some, None, refl, ap, ◌∙◌, arith}
+use Rattle.std.proofs.Common.{◌≡◌, ℕ, ◌<◌, Bool, true, false, not, List, [], ◌∷◌, Option, Some, None, refl, ap, ◌∙◌, arith}
 use Rattle.std.proofs.lemmas.Bool.Decides.{nat_tests}
-use Rattle.std.proofs.lemmas.List.Elements.{recursion_from_All}
 use Rattle.std.specs.Prelude.{if◌then◌else◌, ◌==◌, map}
 use Rattle.std.specs.List.{filter, fold, AllByRecursion as Each}
 use Rattle.rv_types.specs.declared.Kind.{Kind}
@@ -20,7 +19,7 @@ use Rattle.window_model.specs.Fill.{fill, is_due, with_line, complete, completed
 use Rattle.window_model.specs.Resolve.{resolve, resolve_at, may_resolve, learn, learn_as, learn_target, next_of}
 use Rattle.window_model.specs.Front.{nothing}
 use Rattle.window_model.proofs.Lists.{each_then}
-use Rattle.quiet_cycles.specs.Still.{NotDueBefore, NotDoneBefore, NothingDueBefore, at_cycle}
+use Rattle.quiet_cycles.specs.Still.{NotDueBefore, NotDoneBefore}
 use Rattle.quiet_cycles.proofs.Nothing.{both_empty, map_empty, Lacks, none_left, none_kept, all_kept}
 
 -- ---- fill

@@ -6,3 +6,5 @@ pub mod Waiting
 pub mod Later
 pub mod Silent
 pub mod Repeats
+pub mod Sooner
+mod Worked

@@ -1,15 +1,14 @@
 -- The laws: an empty cycle changes nothing, those after it neither, and they may be passed over.
-use Rattle.std.proofs.Common.{◌≡◌, ℕ, zero, suc, ◌+◌, ◌<◌, ◌≤◌, List, [], ◌∷◌, Option, Some, None, refl, ap, sym, ◌∙◌, subst, arith}
+use Rattle.std.proofs.Common.{◌≡◌, ℕ, zero, suc, ◌+◌, ◌<◌, ◌≤◌, [], ◌∷◌, Option, Some, None, refl, ap, sym, ◌∙◌, subst, arith}
 use Rattle.rv_types.specs.Isa.{with_piece}
 use Rattle.rv_types.specs.Memory.{Code}
 use Rattle.rv_types.specs.declared.End.{End}
 use Rattle.machine_desc.specs.declared.Desc.{Desc}
-use Rattle.window_model.specs.Row.{Row}
 use Rattle.window_model.specs.State.{Machine}
 use Rattle.window_model.specs.Retire.{retire, unless_ended}
-use Rattle.window_model.specs.Cycle.{Cycled, cycle, back, after_cycles, rows, pieces}
+use Rattle.window_model.specs.Cycle.{Cycled, cycle, after_cycles, rows, pieces}
 use Rattle.window_model.proofs.Quiet.{before_retire, back_quiet, cycle_is, front_quiet}
-use Rattle.quiet_cycles.specs.Still.{NothingDueBefore, Still, StillUntil, at_cycle, empty_row, empty_rows}
+use Rattle.quiet_cycles.specs.Still.{NothingDueBefore, StillUntil, at_cycle, empty_row, empty_rows}
 use Rattle.quiet_cycles.specs.Laws.{EmptyRowStands, PassesOver, StandsAfterEmptyRow, StandsUntilDue, StillGoesOn}
 use Rattle.quiet_cycles.proofs.Silent.{silent_if, silent_later, still_if}
 use Rattle.quiet_cycles.proofs.Turns.{retire_ended}
@@ -45,6 +44,16 @@ stands_after_empty_row n d code x h k due =
     let s = empty_row_stands d code x h k in
     let e : (cycle d code x).machine ≡ at_cycle (x.cycle + 1) x = ap (λ (t : Cycled). t.machine) s in
     subst (StillUntil n d code) (sym e) (stands_until_due n d code x s (subst (NothingDueBefore n) e due))
+
+-- the same of what one cycle is known to leave
+pub stands_after_cycle : (n : ℕ) (d : Desc) (code : Code) (x : Machine) (t : Cycled) → t ≡ cycle d code x → t.row.events ≡ [] → t.machine.end ≡ None → NothingDueBefore n t.machine → StillUntil n d code t.machine
+stands_after_cycle n d code x t q h k due =
+    let P : Cycled → Type 0 = λ t. t.row.events ≡ [] → t.machine.end ≡ None → NothingDueBefore n t.machine → StillUntil n d code t.machine in
+    subst P (sym q) (stands_after_empty_row n d code x) h k due
+
+-- of no cycle, where the next is cycle n already
+pub none_stand : (n : ℕ) (d : Desc) (code : Code) (x : Machine) → n ≤ x.cycle + 1 → StillUntil n d code x
+none_stand n d code x h = λ c l m. absurd (omega arith)
 
 pub still_goes_on : StillGoesOn
 still_goes_on n d code x h l = (h x.cycle (omega arith) l, λ c k m. h c (omega arith) m)

@@ -1,5 +1,5 @@
 -- A cycle in which every phase does nothing.
-use Rattle.std.proofs.Common.{◌≡◌, ℕ, ◌+◌, ◌<◌, ◌≤◌, List, [], ◌++◌, Option, Some, None, refl, ap, sym, ◌∙◌, subst, arith}
+use Rattle.std.proofs.Common.{◌≡◌, ℕ, ◌+◌, ◌<◌, List, [], ◌++◌, Option, Some, None, refl, ap, sym, ◌∙◌, subst}
 use Rattle.std.proofs.lemmas.List.Elements.{recursion_from_All}
 use Rattle.rv_types.specs.Memory.{Code}
 use Rattle.rv_types.specs.declared.End.{End}
@@ -14,7 +14,7 @@ use Rattle.window_model.specs.Issue.{issue}
 use Rattle.window_model.specs.Front.{rename, fetch, then_does, nothing}
 use Rattle.window_model.specs.Cycle.{Cycled, cycle, back}
 use Rattle.window_model.proofs.Quiet.{back_quiet}
-use Rattle.quiet_cycles.specs.Still.{NotDueBefore, NotDoneBefore, NothingDueBefore, Still, at_cycle, empty_row}
+use Rattle.quiet_cycles.specs.Still.{NothingDueBefore, Still, at_cycle}
 use Rattle.quiet_cycles.proofs.Nothing.{both_empty, nothing_first, nothing_then}
 use Rattle.quiet_cycles.proofs.Early.{NoLine, no_line, fill_nothing, no_line_later, NoneDone, none_done, complete_nothing, none_done_later, none_resolves, resolve_nothing}
 use Rattle.quiet_cycles.proofs.Turns.{retire_nothing}
@@ -78,9 +78,6 @@ module _ (d : Desc) (code : Code) where
       ap (begins_as c) (front_nothing y s) ∙ ap (retires_as c []) (s.retires c) ∙ ap (ends_as c [] (stays y)) (back_nothing y s)
 
   -- ---- from the cycle to the facts
-
-  abbrev Events : After → Type 0
-  Events a = a.events ≡ []
 
   back_silent : (x : Machine) → (back d code x).events ≡ [] → x.end ≡ None → SilentBack d code x
   back_silent x h q =

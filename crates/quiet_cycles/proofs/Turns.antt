@@ -1,5 +1,5 @@
 -- Retire where nothing happens in it: no head leaves and none traps.
-use Rattle.std.proofs.Common.{◌≡◌, ℕ, zero, suc, Bool, true, false, ◌&&◌, ◌||◌, List, [], ◌∷◌, Option, Some, None, refl}
+use Rattle.std.proofs.Common.{◌≡◌, ℕ, zero, suc, Bool, true, false, List, [], ◌∷◌, Option, Some, None, refl}
 use Rattle.std.specs.Prelude.{if◌then◌else◌}
 use Rattle.rv_types.specs.Isa.{Step, Goes, Exits, Traps, call}
 use Rattle.rv_types.specs.declared.Cause.{Cause}
@@ -9,8 +9,7 @@ use Rattle.rv_types.specs.declared.Kind.TheVariants.{Store, Call}
 use Rattle.machine_desc.specs.declared.Desc.{Desc}
 use Rattle.window_model.specs.declared.Entry.{Entry}
 use Rattle.window_model.specs.State.{Machine}
-use Rattle.window_model.specs.Order.{is_store}
-use Rattle.window_model.specs.Retire.{hart_of, stays, may_leave, trap_of, head_leaves, call_leaves, then_retires, unless_ended, turn, head_turn, turns, retire}
+use Rattle.window_model.specs.Retire.{hart_of, stays, may_leave, trap_of, head_leaves, call_leaves, unless_ended, turn, head_turn, turns, retire}
 use Rattle.window_model.proofs.Calls.{CallDoes, call_does}
 use Rattle.window_model.proofs.Walks.{retire_by}
 use Rattle.quiet_cycles.specs.Still.{at_cycle}

@@ -1,5 +1,5 @@
 -- Issue where nothing happens in it: no entry begins, and the load that is tried, if there is one, finds no miss register.
-use Rattle.std.proofs.Common.{◌≡◌, ℕ, ◌+◌, Bool, true, false, not, ◌&&◌, List, [], ◌∷◌, ◌++◌, Option, Some, None, refl, ap, sym, ◌∙◌, subst, arith}
+use Rattle.std.proofs.Common.{◌≡◌, ℕ, ◌+◌, Bool, true, false, ◌&&◌, List, [], ◌∷◌, ◌++◌, Option, Some, None, refl, ap, ◌∙◌, subst, arith}
 use Rattle.std.specs.Prelude.{if◌then◌else◌, nat_lt, map}
 use Rattle.std.specs.List.{flat_map}
 use Rattle.rv_types.specs.Isa.{Effect}
@@ -7,7 +7,6 @@ use Rattle.rv_types.specs.Value.{one_if}
 use Rattle.rv_types.specs.declared.Kind.{Kind}
 use Rattle.rv_types.specs.declared.Kind.TheVariants.{Mul, Div, Load, Store}
 use Rattle.machine_desc.specs.declared.Desc.{Desc}
-use Rattle.window_model.specs.declared.Divider.{Divider}
 use Rattle.window_model.specs.declared.Entry.{Entry}
 use Rattle.window_model.specs.declared.Event.{Event}
 use Rattle.window_model.specs.Along.{Along, Fact}
