@@ -27,7 +27,7 @@ empty_rows c (suc k) = empty_row c ∷ empty_rows (c + 1) k
 abbrev pub Still : Desc → Code → Machine → Type 0
 Still d code x = cycle d code x ≡ record { machine = at_cycle (x.cycle + 1) x; row = empty_row (x.cycle + 1); piece = [] }
 
--- so does each cycle after this one, up to and without cycle n
+-- so does each cycle after this one and before cycle n
 abbrev pub StillUntil : ℕ → Desc → Code → Machine → Type 0
 StillUntil n d code x = (c : ℕ) → x.cycle ≤ c → c + 1 < n → Still d code (at_cycle c x)
 
