@@ -3,3 +3,8 @@ pub mod Writers
 pub mod Bytes
 pub mod Testing
 pub mod Choosing
+pub mod Slots
+pub mod Dividers
+pub mod Turning
+pub mod Noting
+pub mod Walking

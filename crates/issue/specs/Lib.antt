@@ -4,3 +4,4 @@ pub mod Accesses
 pub mod Begins
 pub mod Ports
 pub mod Puts
+pub mod Deciding
