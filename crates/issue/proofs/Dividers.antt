@@ -1,6 +1,6 @@
 -- What an entry comes to doesn't ask for the machine's divider.
-use Rattle.std.proofs.Common.{◌≡◌, ℕ, List, Option, None, Some, refl, ap, ◌∙◌, cond}
-use Rattle.std.specs.Prelude.{Bool, true, false, ◌&&◌, not, ◌==◌, if◌then◌else◌}
+use Rattle.std.proofs.Common.{◌≡◌, ℕ, List, Option, None, Some, refl, ap, ◌∙◌}
+use Rattle.std.specs.Prelude.{◌&&◌, not, ◌==◌, if◌then◌else◌}
 use Rattle.std.specs.List.{find}
 use Rattle.rv_types.specs.Isa.{Effect}
 use Rattle.rv_types.specs.Memory.{load_fault}
@@ -14,7 +14,7 @@ use Rattle.window_model.specs.declared.Miss.{Miss}
 use Rattle.window_model.specs.State.{Machine, line_of}
 use Rattle.window_model.specs.Retire.{has_line, width_of}
 use Rattle.window_model.specs.Access.{Access, Faults, Forwards, Hits, Joins, Misses, Waits, access_at, all_covered, any_store_hidden, look}
-use Rattle.window_model.specs.Issue.{Begun, access_of, begin_as, effect_at, load_as, value_loaded}
+use Rattle.window_model.specs.Issue.{access_of, begin_as, effect_at, load_as, value_loaded}
 
 module _ (d : Desc) (x : Machine) (v : Divider) where
   -- the machine with this divider
@@ -27,9 +27,9 @@ module _ (d : Desc) (x : Machine) (v : Divider) where
 
   at_same : (before : List Entry) (a n : ℕ) (o : Option Cause) → access_at d with_divider before a n o ≡ access_at d x before a n o
   at_same before a n None =
-      ap (λ found. if all_covered before a n && not (any_store_hidden d.stt_model before) then Forwards
-          else if has_line d x.cache (line_of d a) then Hits (line_of d a) else found)
-      (look_same (line_of d a) (find (λ m. m.line == line_of d a) x.misses))
+      let forwarded = all_covered before a n && not (any_store_hidden d.stt_model before) in
+      let found : Access → Access = λ missed. if forwarded then Forwards else (if has_line d x.cache (line_of d a) then Hits (line_of d a) else missed) in
+      ap found (look_same (line_of d a) (find (λ m. m.line == line_of d a) x.misses))
   at_same before a n (Some cause) = refl
 
   pub access_same : (before : List Entry) (e : Entry) → access_of d with_divider before e ≡ access_of d x before e

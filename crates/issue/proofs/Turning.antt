@@ -1,10 +1,9 @@
 -- What an entry's turn comes to: it waits on, or it begins with one event.
-use Rattle.std.proofs.Common.{◌≡◌, ℕ, ◌+◌, ◌<◌, ◌≤◌, Bool, true, false, ◌&&◌, List, [], ◌∷◌, ◌++◌, length, Option, Some, None, refl, ap, sym, subst, ◌∙◌, inl, inr, arith, append-nil, slice_get}
+use Rattle.std.proofs.Common.{◌≡◌, ℕ, ◌+◌, ◌<◌, ◌≤◌, Bool, true, false, ◌&&◌, List, [], ◌∷◌, ◌++◌, length, Some, refl, ap, sym, subst, ◌∙◌, inl, inr, arith, append-nil, slice_get}
 use Rattle.std.specs.Prelude.{if◌then◌else◌, ◌⊎◌, slice_set}
 use Rattle.std.specs.List.{All, AllPairs}
-use Rattle.std.specs.Option.{option_map}
 use Rattle.std.proofs.lemmas.List.{set_at}
-use Rattle.std.proofs.lemmas.List.Elements.{All-push, All-weaker}
+use Rattle.std.proofs.lemmas.List.Elements.{All-push}
 use Rattle.std.proofs.lemmas.List.Quantifiers.{all_pairs_push}
 use Rattle.rv_types.specs.Isa.{Effect}
 use Rattle.rv_types.specs.Value.{one_if}

@@ -1,9 +1,9 @@
 -- The walk, an entry at a time.
-use Rattle.std.proofs.Common.{◌≡◌, ℕ, ◌+◌, ◌<◌, ◌≤◌, Bool, true, false, ◌&&◌, List, [], ◌∷◌, ◌++◌, length, map, take, Option, Some, None, refl, ap, ap₂, sym, subst, ◌∙◌, arith, append-nil, append_assoc, slice_get}
+use Rattle.std.proofs.Common.{◌≡◌, ℕ, ◌+◌, ◌<◌, ◌≤◌, Bool, true, false, List, [], ◌∷◌, ◌++◌, length, map, take, Option, Some, None, refl, ap, sym, subst, ◌∙◌, arith, append-nil, append_assoc, slice_get}
 use Rattle.std.specs.Prelude.{if◌then◌else◌}
 use Rattle.std.specs.List.{AllPairs, flat_map}
 use Rattle.std.specs.Option.{option_map}
-use Rattle.std.proofs.lemmas.List.{length-append, length-map, length-take-le, take_all}
+use Rattle.std.proofs.lemmas.List.{length-take-le, take_all}
 use Rattle.std.proofs.lemmas.List.Elements.{All-nil}
 use Rattle.std.proofs.lemmas.List.Sums.{count_by_more_no, count_by_more_yes}
 use Rattle.std.proofs.lemmas.Option.{get_or_from_slice_get, slice_get_within}
@@ -11,9 +11,8 @@ use Rattle.window_model.specs.declared.Divider.{Divider}
 use Rattle.window_model.specs.declared.Entry.{Entry}
 use Rattle.window_model.specs.declared.Event.{Event}
 use Rattle.window_model.specs.Access.{Access}
-use Rattle.window_model.specs.Row.{Row}
 use Rattle.window_model.specs.State.{Machine}
-use Rattle.window_model.specs.Order.{before_at, each, first, is_waiting}
+use Rattle.window_model.specs.Order.{before_at, each, is_waiting}
 use Rattle.window_model.specs.Issue.{Begun, DivPort, LoadPort, access_of, begin_as, divides, is_free, is_granted, issue_entry, may_issue, tried, waits}
 use Rattle.window_model.proofs.Before.{before_more, each_push}
 use Rattle.unit_ports.specs.Ports.{Ports}
@@ -23,7 +22,7 @@ use Rattle.issue.specs.declared.decide.Put.{Put}
 use Rattle.issue.specs.declared.seen.Seen.{Seen}
 use Rattle.issue.specs.Begins.{division_of}
 use Rattle.issue.specs.Deciding.{puts_of, turn_of}
-use Rattle.issue.specs.Ports.{OnlyPorts, gets}
+use Rattle.issue.specs.Ports.{gets}
 use Rattle.issue.specs.Puts.{ArePuts, IsPut, placed}
 use Rattle.issue.specs.State.{StandsAt, machine_of, machine_with, window_of}
 use Rattle.issue.proofs.Choosing.{gets_none, the_other}
@@ -69,11 +68,11 @@ module _ (s : Seen) (free : Bool) (i : ℕ) (e : Entry) (h : StandsAt s i e) whe
       let within : i < length (window_of s) = slice_get_within (window_of s) i e h in
       let l : length (take i (window_of s)) ≡ i = length-take-le i (window_of s) (omega (arith, within)) in
       let older : take (i + 1) (window_of s) ++ younger ≡ take i (window_of s) ++ e ∷ younger = ap (λ es. es ++ younger) (one_more (window_of s) i e h) ∙ append_assoc (take i (window_of s)) (e ∷ []) younger in
-      let turned : map (λ b. b.entry) (each (turn_of s free) (take (i + 1) (window_of s))) ++ younger ≡ map (λ b. b.entry) older_turns ++ turn.entry ∷ younger =
-          ap (λ es. es ++ younger) (ap (map (λ b. b.entry)) turns_more ∙ entries_push older_turns turn) ∙ append_assoc (map (λ b. b.entry) older_turns) (turn.entry ∷ []) younger in
+      let turned : map (λ b. b.entry) (each (turn_of s free) (take (i + 1) (window_of s))) ≡ map (λ b. b.entry) older_turns ++ turn.entry ∷ [] = ap (map (λ b. b.entry)) turns_more ∙ entries_push older_turns turn in
+      let whole : map (λ b. b.entry) (each (turn_of s free) (take (i + 1) (window_of s))) ++ younger ≡ map (λ b. b.entry) older_turns ++ turn.entry ∷ younger = ap (λ es. es ++ younger) turned ∙ append_assoc (map (λ b. b.entry) older_turns) (turn.entry ∷ []) younger in
       ap (placed (puts ++ puts_of i station turn)) older
       ∙ placed_more puts i station e (is_granted s.desc.now free before e) turn (take i (window_of s)) younger l (turn_acts s free before e)
-      ∙ w (turn.entry ∷ younger) ∙ sym turned
+      ∙ w (turn.entry ∷ younger) ∙ sym whole
 
   events_more : (earlier events more : List Event) → more ≡ events ++ turn.events → events ≡ earlier ++ flat_map (λ b. b.events) older_turns →
       more ≡ earlier ++ flat_map (λ b. b.events) (each (turn_of s free) (take (i + 1) (window_of s)))
@@ -141,14 +140,6 @@ here window i b w = by_entry window i b (slice_get window i) refl w
 pub waits_here : (window : List Entry) (i : ℕ) (b : Bool) (e : Entry) → slice_get window i ≡ Some e → option_map (λ e. is_waiting e.state) (slice_get window i) ≡ Some b → is_waiting e.state ≡ b
 waits_here window i b e h w = let k : Some (is_waiting e.state) ≡ Some b = ap (option_map (λ e. is_waiting e.state)) (sym h) ∙ w in cc
 
--- ---- how many there are
-
-pub as_many_puts : (puts new_puts : List Put) (i station : ℕ) (b : Begun) → new_puts ≡ puts ++ puts_of i station b → length new_puts ≡ length puts + length b.events
-as_many_puts puts new_puts i station b p = ap length p ∙ length-append puts (puts_of i station b) ∙ ap (λ n. length puts + n) (length-map b.events _)
-
-pub as_many_events : (events more : List Event) (b : Begun) → more ≡ events ++ b.events → length more ≡ length events + length b.events
-as_many_events events more b m = ap length m ∙ length-append events b.events
-
 -- ---- at the end
 
 -- one is the other where they are everywhere
@@ -199,12 +190,3 @@ decided_none s free puts load division earlier p l v =
       load_is = l;
       division_is = v;
     }
-
--- the ports that are left have changed, and nothing else, in both
-pub only_both : (a b c : Ports) → OnlyPorts a b → OnlyPorts b c → OnlyPorts a c
-only_both a b c p q = record { alus = q.alus ∙ p.alus; cycle = q.cycle ∙ p.cycle; divider = q.divider ∙ p.divider }
-
-pub row_is : (row new : Row) (events : List Event) → new.cycle ≡ row.cycle → new.events ≡ events → new ≡ record row { events = events }
-row_is row new events c e =
-    let row_of : ℕ → List Event → Row = λ cycle events. record { cycle = cycle; events = events } in
-    ap₂ row_of c e

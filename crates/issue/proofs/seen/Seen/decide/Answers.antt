@@ -1,12 +1,12 @@
-use Rattle.std.proofs.Common.{◌≡◌, ◌≤◌, ◌+◌, ◌++◌, length, ap, sym, ◌∙◌, arith, List, false, true}
+use Rattle.std.proofs.Common.{◌≡◌, ◌≤◌, ◌+◌, ◌++◌, length, ap, sym, ◌∙◌, arith, false, true}
 use Rattle.std.specs.Prelude.{nat_le}
-use Rattle.window_model.specs.declared.Event.{Event}
 use Rattle.window_model.specs.Order.{before_at, is_waiting}
 use Rattle.window_model.specs.Issue.{is_free}
 use Rattle.window_model.specs.Row.{Row}
 use Rattle.issue.specs.Deciding.{turn_of}
 use Rattle.issue.specs.State.{machine_with, window_of}
-use Rattle.issue.proofs.Walking.{as_many_events, as_many_puts, decided_all, decided_more, decided_past, here, left_on, left_past, only_both, row_is, station_more, station_past, waits_here}
+use Rattle.issue.proofs.Noting.{as_many_events, as_many_puts, only_both, row_is}
+use Rattle.issue.proofs.Walking.{decided_all, decided_more, decided_past, here, left_on, left_past, station_more, station_past, waits_here}
 use Rattle.issue.proofs.seen.Seen.decide.Goals as goal
 
 pub loop-position-preserved-then-not-waits_at : goal.loop-position-preserved-then-not-waits_at

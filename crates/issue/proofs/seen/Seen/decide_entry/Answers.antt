@@ -1,16 +1,10 @@
-use Rattle.std.proofs.Common.{◌≡◌, ◌+◌, ◌≤◌, length, ap, ◌∙◌, arith}
-use Rattle.rv_types.specs.Value.{one_if}
+use Rattle.std.proofs.Common.{arith}
 use Rattle.window_model.specs.Order.{before_at}
-use Rattle.window_model.specs.Issue.{access_of, is_granted}
 use Rattle.issue.specs.Accesses.{as_access}
-use Rattle.issue.specs.Begins.{division_of}
-use Rattle.issue.specs.Deciding.{turn_of}
-use Rattle.issue.specs.State.{machine_of, window_of}
+use Rattle.issue.specs.State.{window_of}
 use Rattle.issue.proofs.Turning.{few_events, turn_acts}
 use Rattle.issue.proofs.Noting.{noted, noted_as}
 use Rattle.issue.proofs.seen.Seen.decide_entry.Goals as goal
-
-
 
 pub returns-clause-load : goal.returns-clause-load
 returns-clause-load c = noted_as as_access _ _ _ _ _ c.note.ensures.load c.issue_entry-turn.ensures.access
