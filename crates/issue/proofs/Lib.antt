@@ -1,0 +1,10 @@
+pub mod Options
+pub mod Writers
+pub mod Bytes
+pub mod Testing
+pub mod Choosing
+pub mod Slots
+pub mod Dividers
+pub mod Turning
+pub mod Noting
+pub mod Walking

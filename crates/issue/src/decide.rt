@@ -1,0 +1,156 @@
+//! What the phase decides as it goes over the window, oldest first (`docs/machine.md`, "Issue"). Every test is made on the state
+//! before the phase.
+use crate::access::Access;
+use crate::entry::Turn;
+use crate::seen::Seen;
+use arrayvec::ArrayVec;
+use unit_ports::Ports;
+use window_model::{Divider, Entry, Row, State};
+
+/// At most so many entries begin in a cycle: four arithmetic units, and one port of each other kind.
+pub(crate) const PUTS_MAX: usize = 8;
+
+/// An entry that has begun, before it is put in its place.
+#[derive(Clone, Copy, Debug, Default, PartialEq, Eq)]
+pub(crate) struct Put {
+    /// Its position, counted from the oldest entry.
+    pub(crate) position: u32,
+    /// The position of its station, as the stations are before the phase.
+    pub(crate) station: u32,
+    /// The entry, as it is after the phase.
+    pub(crate) entry: Entry,
+}
+
+/// What is decided.
+#[derive(Drop)]
+pub(crate) struct Decided {
+    /// The entries that begin, oldest first.
+    pub(crate) puts: ArrayVec<Put, PUTS_MAX>,
+    /// What the access of the load that was tried came to.
+    pub(crate) load: Option<Access>,
+    /// The divider with the division that begins.
+    pub(crate) division: Option<Divider>,
+}
+
+impl Decided {
+    ghost use Rattle.std.specs.Prelude.{◌≡◌, ◌≤◌, ◌+◌, ◌++◌, [], length, None};
+    ghost use Rattle.std.specs.Option.{option_or};
+    ghost use Rattle.issue.specs.Begins.{as_begun};
+    ghost use Rattle.issue.specs.Deciding.{puts_of};
+
+    // Nothing as yet.
+    fn nothing() -> Decided
+        ensures puts { result.puts.items ≡ [] }
+        ensures load { result.load ≡ None }
+        ensures division { result.division ≡ None }
+    {
+        Decided {
+            puts: ArrayVec::new(),
+            load: None,
+            division: None,
+        }
+    }
+
+    // Notes the turn of the entry at a position, and its event, if it has begun.
+    fn note(&mut self, position: u32, station: u32, turn: &Turn, row: &mut Row)
+        requires few { length self.old.puts.items + length (as_begun turn.now.begun).events ≤ 8 }
+        requires room { length row.old.events + length (as_begun turn.now.begun).events ≤ 128 }
+        ensures puts { self.new.puts.items ≡ self.old.puts.items ++ puts_of position station (as_begun turn.now.begun) }
+        ensures row { row.new ≡ record row.old { events = row.old.events ++ (as_begun turn.now.begun).events } }
+        ensures load { self.new.load ≡ option_or turn.now.access self.old.load }
+        ensures division { self.new.division ≡ option_or turn.now.division self.old.division }
+    {
+        self.load = turn.access.or(self.load);
+        self.division = turn.division.or(self.division);
+        if let Some(event) = turn.begun.event {
+            self.puts.push(Put {
+                position,
+                station,
+                entry: turn.begun.entry,
+            });
+            row.push(event);
+        }
+    }
+}
+
+impl<'a> Seen<'a> {
+    ghost use Rattle.std.specs.Prelude.{◌≡◌, ◌≤◌, ◌<◌, ◌+◌, ◌++◌, [], ◌∷◌, length, map, slice_get, Some, if◌then◌else◌, true};
+    ghost use Rattle.std.specs.List.{flat_map};
+    ghost use Rattle.std.specs.Option.{option_map};
+    ghost use Rattle.window_model.specs.Order.{before_at, each, first, is_waiting};
+    ghost use Rattle.window_model.specs.Issue.{DivPort, LoadPort, access_of, divides, issue_entry, is_free, tried};
+    ghost use Rattle.unit_ports.specs.Laws.{LeftAfter};
+    ghost use Rattle.parts_stand.specs.Steps.{station_of};
+    ghost use Rattle.issue.specs.Accesses.{as_access};
+    ghost use Rattle.issue.specs.Begins.{division_of};
+    ghost use Rattle.issue.specs.Deciding.{puts_of, turn_of};
+    ghost use Rattle.issue.specs.Ports.{OnlyPorts, gets, left_in_all};
+    ghost use Rattle.issue.specs.Puts.{ArePuts, placed};
+    ghost use Rattle.issue.specs.State.{Stands, StandsAt, machine_of, machine_with, window_of};
+
+    // Whether the entry at a position waits.
+    fn waits_at(&self, position: u32) -> bool
+        requires { position < length (window_of self.now) }
+        ensures { option_map (λ e. is_waiting e.state) (slice_get (window_of self.now) position) ≡ Some result }
+    {
+        self.rob.at(position).state == State::Waiting
+    }
+
+    // The turn of the entry at a position, which waits at a station. `free` says that the divider is free in this cycle.
+    fn decide_entry(
+        &self,
+        position: u32,
+        entry: &Entry,
+        station: u32,
+        free: bool,
+        ports: &mut Ports,
+        decided: &mut Decided,
+        row: &mut Row,
+    )
+        requires stands { Stands self.now }
+        requires at { StandsAt self.now position entry.now }
+        requires station { station ≡ station_of position (window_of self.now) }
+        requires left { LeftAfter self.now.desc.now free (before_at (window_of self.now) position) ports.old }
+        requires few { length decided.old.puts.items + left_in_all ports.old ≤ 8 }
+        requires room { length row.old.events + left_in_all ports.old ≤ 128 }
+        ensures puts { decided.new.puts.items ≡ decided.old.puts.items ++ puts_of position station (turn_of self.now free (before_at (window_of self.now) position) entry.now) }
+        ensures row { row.new ≡ record row.old { events = row.old.events ++ (turn_of self.now free (before_at (window_of self.now) position) entry.now).events } }
+        ensures load { option_map as_access decided.new.load ≡ (if gets self.now.desc.now free LoadPort (before_at (window_of self.now) position) entry.now then Some (access_of self.now.desc.now (machine_of self.now) (before_at (window_of self.now) position) entry.now) else option_map as_access decided.old.load) }
+        ensures division { decided.new.division ≡ (if gets self.now.desc.now free DivPort (before_at (window_of self.now) position) entry.now then Some (division_of (machine_of self.now) (before_at (window_of self.now) position) entry.now) else decided.old.division) }
+        ensures left { LeftAfter self.now.desc.now free (entry.now ∷ before_at (window_of self.now) position) ports.new }
+        ensures fewer { length (turn_of self.now free (before_at (window_of self.now) position) entry.now).events + left_in_all ports.new ≤ left_in_all ports.old }
+        ensures only { OnlyPorts ports.old ports.new }
+    {
+        let turn = self.issue_entry(position, entry, station, free, ports);
+        decided.note(position, station, &turn, row);
+    }
+
+    /// Goes over the window. All ports of the cycle are left, and `ports` knows the divider.
+    pub(crate) fn decide(&self, ports: &mut Ports, row: &mut Row) -> Decided
+        requires stands { Stands self.now }
+        requires cycle { ports.old.cycle ≡ self.now.cycle }
+        requires left { LeftAfter self.now.desc.now (is_free (machine_with ports.old self.now)) [] ports.old }
+        requires few { left_in_all ports.old ≤ 8 }
+        requires room { length row.old.events + 8 ≤ 128 }
+        ensures puts { ArePuts (window_of self.now) result.puts.items }
+        ensures window { placed result.puts.items (window_of self.now) ≡ map (λ b. b.entry) (each (issue_entry self.now.desc.now (machine_with ports.old self.now)) (window_of self.now)) }
+        ensures row { row.new ≡ record row.old { events = row.old.events ++ flat_map (λ b. b.events) (each (issue_entry self.now.desc.now (machine_with ports.old self.now)) (window_of self.now)) } }
+        ensures load { option_map as_access result.load ≡ option_map (λ p. access_of self.now.desc.now (machine_with ports.old self.now) p.before p.entry) (first (tried self.now.desc.now (is_free (machine_with ports.old self.now))) (window_of self.now)) }
+        ensures division { result.division ≡ option_map (λ p. division_of (machine_with ports.old self.now) p.before p.entry) (first (divides self.now.desc.now (is_free (machine_with ports.old self.now))) (window_of self.now)) }
+        ensures only { OnlyPorts ports.old ports.new }
+        ensures few { length row.new.events ≤ length row.old.events + 8 }
+    {
+        let free = ports.free_div();
+        let mut decided = Decided::nothing();
+        let mut station = 0u32;
+        for position in 0..self.rob.len() {
+            if !self.waits_at(position) {
+                continue;
+            }
+            let entry = self.rob.at(position);
+            self.decide_entry(position, &entry, station, free, ports, &mut decided, row);
+            station += 1;
+        }
+        decided
+    }
+}
