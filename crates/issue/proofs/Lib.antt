@@ -1,0 +1,5 @@
+pub mod Options
+pub mod Writers
+pub mod Bytes
+pub mod Testing
+pub mod Choosing

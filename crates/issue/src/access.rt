@@ -1,0 +1,107 @@
+//! What a load finds (`docs/machine.md`, "Loads"): bytes of older stores, the cache, or a miss.
+ghost use Rattle.std.specs.Prelude.{◌≡◌, ◌<◌, ◌==◌, None, Some};
+ghost use Rattle.rv_types.specs.Memory.{load_fault, store_fault};
+ghost use Rattle.window_model.specs.State.{line_of};
+
+use crate::seen::Seen;
+use byte_ram::Ram;
+use machine_desc::Desc;
+use rv_types::Cause;
+
+/// What the access of a load comes to.
+#[derive(Clone, Copy, Debug, PartialEq, Eq)]
+pub(crate) enum Access {
+    /// It faults.
+    Faults(Cause),
+    /// All its bytes come from older stores.
+    Forwards,
+    /// The cache has its line.
+    Hits(u32),
+    /// A miss register waits for its line, until this cycle.
+    Joins(u32, u64),
+    /// A miss register is free for its line.
+    Misses(u32),
+    /// No miss register is free.
+    Waits,
+}
+
+/// The fault of a load of so many bytes.
+pub(crate) fn load_fault(ram: &Ram, addr: u32, size: u32) -> Option<Cause>
+    requires { 0 < size }
+    ensures { result ≡ load_fault ram.now addr size }
+{
+    if addr % size != 0 {
+        return Some(Cause::load_misaligned());
+    }
+    if ram.holds(addr, size) {
+        return None;
+    }
+    Some(Cause::load_outside())
+}
+
+/// The fault of a store of so many bytes.
+pub(crate) fn store_fault(ram: &Ram, addr: u32, size: u32) -> Option<Cause>
+    requires { 0 < size }
+    ensures { result ≡ store_fault ram.now addr size }
+{
+    if addr % size != 0 {
+        return Some(Cause::store_misaligned());
+    }
+    if ram.holds(addr, size) {
+        return None;
+    }
+    Some(Cause::store_outside())
+}
+
+// The first address of an address's line.
+fn line_of(desc: &Desc, addr: u32) -> u32
+    ensures { result ≡ line_of desc.now addr }
+{
+    addr / desc.cache_line * desc.cache_line
+}
+
+impl<'a> Seen<'a> {
+    ghost use Rattle.std.specs.Prelude.{◌≡◌, ◌==◌, None};
+    ghost use Rattle.std.specs.List.{find};
+    ghost use Rattle.window_model.specs.Access.{look};
+    ghost use Rattle.issue.specs.Accesses.{as_access, found};
+    ghost use Rattle.issue.specs.State.{Stands, machine_of};
+
+    // What becomes of a line that the cache lacks.
+    fn look(&self, line: u32) -> Access
+        requires stands { Stands self.now }
+        ensures { as_access result ≡ look self.now.desc.now (machine_of self.now) line (find (λ m. m.line == line) self.now.mshrs.now.misses) }
+    {
+        match self.mshrs.find(line) {
+            Some(due) => Access::Joins(line, due),
+            None => self.take(line),
+        }
+    }
+
+    // What becomes of a line for which no miss register waits.
+    fn take(&self, line: u32) -> Access
+        requires stands { Stands self.now }
+        ensures { as_access result ≡ look self.now.desc.now (machine_of self.now) line None }
+    {
+        if self.mshrs.full() {
+            return Access::Waits;
+        }
+        Access::Misses(line)
+    }
+
+    /// What an access without fault comes to. `forwarded` says that older stores have all its bytes, and that none of them
+    /// hides its address.
+    pub(crate) fn find(&self, forwarded: bool, addr: u32) -> Access
+        requires stands { Stands self.now }
+        ensures { as_access result ≡ found self.now.desc.now (machine_of self.now) forwarded addr }
+    {
+        if forwarded {
+            return Access::Forwards;
+        }
+        let line = line_of(self.desc, addr);
+        if self.tags.holds(line) {
+            return Access::Hits(line);
+        }
+        self.look(line)
+    }
+}

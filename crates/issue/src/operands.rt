@@ -1,0 +1,112 @@
+//! The values of an entry's sources (`docs/machine.md`, "Writers and roots"): a writer's that is in flight, else the retired
+//! one.
+ghost use Rattle.std.specs.Prelude.{◌≡◌, ◌<◌, Some, length, map, slice_get};
+ghost use Rattle.std.specs.List.{AllPairs};
+ghost use Rattle.std.specs.Option.{option_map};
+ghost use Rattle.rv_types.specs.Regs.{reads_of, two};
+ghost use Rattle.rob_ring.specs.Ring.{below};
+ghost use Rattle.issue.specs.Operands.{if_serial, in_flight, value_by};
+
+use crate::seen::Seen;
+use rob_ring::RobRing;
+use rv_types::{REGISTERS, Reg, reads_of};
+use window_model::Entry;
+use window_walk::value_of;
+
+// The entry, if it has this serial.
+fn if_serial(serial: u64, entry: Entry) -> Option<Entry>
+    ensures { result ≡ if_serial serial (Some entry) }
+{
+    if entry.serial == serial {
+        return Some(entry);
+    }
+    None
+}
+
+// The entry with this serial, if it is in flight.
+fn find(rob: &RobRing, serial: u64) -> Option<Entry>
+    requires rise { AllPairs (λ a b. a.serial < b.serial) rob.now.entries }
+    ensures { result ≡ in_flight rob.now.entries (Some serial) }
+{
+    let position = rob.position_of(serial);
+    if position == rob.len() {
+        return None;
+    }
+    if_serial(serial, rob.at(position))
+}
+
+// The entry of a writer's serial, if there is a writer and it is in flight.
+fn in_flight(rob: &RobRing, writer: Option<u64>) -> Option<Entry>
+    requires rise { AllPairs (λ a b. a.serial < b.serial) rob.now.entries }
+    ensures { result ≡ in_flight rob.now.entries writer }
+{
+    match writer {
+        Some(serial) => find(rob, serial),
+        None => None,
+    }
+}
+
+// The value of a register whose writer has this serial.
+fn register_value(rob: &RobRing, regs: &[u32; REGISTERS], register: Reg, writer: Option<u64>) -> u32
+    requires rise { AllPairs (λ a b. a.serial < b.serial) rob.now.entries }
+    ensures { result ≡ value_by regs.now rob.now.entries (Some register.number) writer }
+{
+    match in_flight(rob, writer) {
+        Some(entry) => value_of(&entry),
+        None => regs[register.number as usize],
+    }
+}
+
+/// The value of a source whose writer has this serial, 0 where there is no source.
+pub(crate) fn source_value(
+    rob: &RobRing,
+    regs: &[u32; REGISTERS],
+    source: Option<Reg>,
+    writer: Option<u64>,
+) -> u32
+    requires rise { AllPairs (λ a b. a.serial < b.serial) rob.now.entries }
+    ensures { result ≡ value_by regs.now rob.now.entries (option_map (λ r. r.number) source) writer }
+{
+    match source {
+        Some(register) => register_value(rob, regs, register, writer),
+        None => 0,
+    }
+}
+
+/// The values of an entry's first and second source, 0 where it has none.
+#[derive(Clone, Copy, Debug, PartialEq, Eq)]
+pub(crate) struct Operands {
+    pub(crate) first: u32,
+    pub(crate) second: u32,
+}
+
+impl<'a> Seen<'a> {
+    ghost use Rattle.std.specs.Prelude.{◌≡◌, Some, slice_get};
+    ghost use Rattle.window_model.specs.Order.{before_at, sources};
+    ghost use Rattle.window_model.specs.Issue.{first_operand, second_operand};
+    ghost use Rattle.issue.specs.State.{Stands, StandsAt, window_of};
+
+    // The serials of the writers of the entry's sources, as they stand at its position.
+    fn writers_at(&self, position: u32, entry: &Entry) -> [Option<u64>; 2]
+        requires stands { Stands self.now }
+        requires at { StandsAt self.now position entry.now }
+        ensures { slice_get self.now.writers.now position ≡ Some result }
+    {
+        self.writers[position as usize]
+    }
+
+    /// The values of the sources of the entry at a position.
+    pub(crate) fn operands(&self, position: u32, entry: &Entry) -> Operands
+        requires stands { Stands self.now }
+        requires at { StandsAt self.now position entry.now }
+        ensures first { result.first ≡ first_operand self.now.regs.now (before_at (window_of self.now) position) (sources entry.now) }
+        ensures second { result.second ≡ second_operand self.now.regs.now (before_at (window_of self.now) position) (sources entry.now) }
+    {
+        let [first, second] = reads_of(&entry.item.instr);
+        let writers = self.writers_at(position, entry);
+        Operands {
+            first: source_value(self.rob, self.regs, first, writers[0]),
+            second: source_value(self.rob, self.regs, second, writers[1]),
+        }
+    }
+}

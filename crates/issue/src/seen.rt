@@ -1,0 +1,39 @@
+//! What the phase looks at.
+use byte_ram::Ram;
+use cache_tags::Tags;
+use lsq::Lsq;
+use machine_desc::Desc;
+use mshr_file::Mshrs;
+use rob_ring::RobRing;
+use rv_types::REGISTERS;
+use stations::Stations;
+use visibility::VisPoint;
+
+/// The state before the phase, on which all its tests are made.
+#[derive(Drop)]
+pub(crate) struct Seen<'a> {
+    /// The entries in flight.
+    pub(crate) rob: &'a RobRing,
+    /// The entries that wait.
+    pub(crate) stations: &'a Stations,
+    /// The loads and stores in flight.
+    pub(crate) lsq: &'a Lsq,
+    /// The visibility point.
+    pub(crate) point: &'a VisPoint,
+    /// At each entry's position the youngest roots of its first and second source.
+    pub(crate) roots: &'a [[Option<u64>; 2]],
+    /// At each entry's position the serials of the writers of its first and second source, as it was renamed.
+    pub(crate) writers: &'a [[Option<u64>; 2]],
+    /// The cache.
+    pub(crate) tags: &'a Tags,
+    /// The miss registers.
+    pub(crate) mshrs: &'a Mshrs,
+    /// Memory.
+    pub(crate) ram: &'a Ram,
+    /// The registers, as retired.
+    pub(crate) regs: &'a [u32; REGISTERS],
+    /// The machine's description.
+    pub(crate) desc: &'a Desc,
+    /// The cycle.
+    pub(crate) cycle: u32,
+}
