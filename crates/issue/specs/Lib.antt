@@ -4,3 +4,6 @@ pub mod Accesses
 pub mod Begins
 pub mod Ports
 pub mod Puts
+pub mod Shared
+pub mod Parts
+pub mod Decisions

