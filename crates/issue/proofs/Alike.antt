@@ -1,6 +1,6 @@
 -- What comes of an entry depends on no other part of the machine than those that the phase looks at.
 use Rattle.std.proofs.Common.{◌≡◌, ℕ, Bool, true, false, List, [], ◌∷◌, Option, Some, None, refl, ap, ap₂, ◌∙◌}
-use Rattle.std.specs.Prelude.{if◌then◌else◌, not, ◌&&◌, ◌==◌}
+use Rattle.std.specs.Prelude.{if◌then◌else◌, map, not, ◌&&◌, ◌==◌}
 use Rattle.std.specs.List.{find}
 use Rattle.std.specs.Option.{option_map}
 use Rattle.rv_types.specs.Isa.{Effect}
@@ -13,10 +13,12 @@ use Rattle.window_model.specs.declared.Divider.{Divider}
 use Rattle.window_model.specs.declared.Entry.{Entry}
 use Rattle.window_model.specs.declared.Miss.{Miss}
 use Rattle.window_model.specs.State.{Machine, line_of}
-use Rattle.window_model.specs.Order.{Place, each_from}
+use Rattle.window_model.specs.Order.{Place, each, each_from, first}
 use Rattle.window_model.specs.Retire.{has_line, width_of}
 use Rattle.window_model.specs.Access.{Access, Faults, Forwards, Hits, Joins, Misses, Waits, access_at, all_covered, any_store_hidden, look}
-use Rattle.window_model.specs.Issue.{Begun, access_of, begin_as, effect_at, is_free, is_granted, issue_entry, load_as, value_loaded, waits}
+use Rattle.window_model.specs.Issue.{Begun, access_of, begin_as, effect_at, is_free, is_granted, issue_entry, load_as, tried, value_loaded, waits}
+use Rattle.issue.specs.declared.decide.Decided.{Decided}
+use Rattle.issue.specs.Decisions.{Decides}
 
 -- one function for another, entry by entry
 pub each_same : {A : Type 0} (f g : List Entry → Entry → A) → ((before : List Entry) (e : Entry) → f before e ≡ g before e) → (before es : List Entry) → each_from f before es ≡ each_from g before es
@@ -67,3 +69,15 @@ module _ (d : Desc) (cycle : ℕ) (regs : List ℕ) (ram : Ram) (window : List E
 
   pub issue_same : (before : List Entry) (e : Entry) → issue_entry d (having x) before e ≡ issue_entry d (having y) before e
   issue_same before e = ap (λ b. if is_granted d (is_free (having x)) before e then b else waits e) (begin_same e.item.kind before e)
+
+  -- the entries as they are after the phase
+  pub all_same : each (issue_entry d (having x)) window ≡ each (issue_entry d (having y)) window
+  all_same = each_same (issue_entry d (having x)) (issue_entry d (having y)) issue_same [] window
+
+  -- what is decided for the one is decided for the other
+  pub decides_same : (decided : Decided) → Decides d (having x) decided → Decides d (having y) decided
+  decides_same decided h = record {
+    window = h.window ∙ ap (map (λ b. b.entry)) all_same;
+    load = h.load ∙ place_same (access_of d (having x)) (access_of d (having y)) access_same (first (tried d (is_free (having x))) window);
+    division = h.division;
+  }

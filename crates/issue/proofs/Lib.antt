@@ -3,6 +3,6 @@ pub mod Writers
 pub mod Bytes
 pub mod Testing
 pub mod Choosing
-pub mod Placing
+pub mod InPlace
 pub mod Alike
 pub mod Leaving

@@ -43,11 +43,11 @@ abbrev pub parts_of : ℕ → List Write → Ring → Buffer (List (Option ℕ))
 parts_of next writes rob roots stations = record { next = next; window = rob.entries; roots = roots.items; writes = writes; held = stations.held }
 
 -- the parts stand for the window, with some next serial and some rename table
-pub record Standing (rob : Ring) (roots writers : Buffer (List (Option ℕ))) (stations : Stations) (lsq : Queues) : Type 0 where
+pub record Standing (rob : Ring) (roots serials : Buffer (List (Option ℕ))) (stations : Stations) (lsq : Queues) : Type 0 where
   pub next : ℕ
   pub writes : List Write
   pub parts : Stand (parts_of next writes rob roots stations)
-  pub writers : WritersOf next rob.entries writers.items
+  pub writers : WritersOf next rob.entries serials.items
   pub queues : StandFor lsq rob.entries
   pub addresses : AddressesStand rob.entries roots.items lsq.stores
 

@@ -13,7 +13,7 @@ use Rattle.parts_stand.specs.Writers.{WritersOf}
 use Rattle.issue.specs.declared.seen.Seen.{Seen}
 
 -- a machine of which nothing is known
-abbrev nothing : Machine
+abbrev pub nothing : Machine
 nothing = record {
   cycle = 0;
   regs = [];

@@ -176,9 +176,9 @@ pub record PlacesOn (puts : List Put) (rob : Ring) (stations : Stations) (left :
 pub places_start : (puts : List Put) (rob : Ring) (stations : Stations) → ArePuts rob.entries puts → PlacesOn puts rob stations puts rob stations
 places_start puts rob stations a = record { whole = refl; rest = a; same_room = refl; same_places = refl; ties = ties_start rob.entries stations.held }
 
-module _ (puts : List Put) (rob : Ring) (stations : Stations) (left rest : List Put) (r : Ring) (s : Stations) (put : Put) (o : Option Put) (t : PlacesOn puts rob stations left r s) (is : Some put ≡ o) (popped : left ≡ rest ++ option_to_list o) where
+module _ (puts : List Put) (rob : Ring) (stations : Stations) (left rest : List Put) (r : Ring) (s : Stations) (put : Put) (o : Option Put) (t : PlacesOn puts rob stations left r s) (is : o ≡ Some put) (popped : left ≡ rest ++ option_to_list o) where
   split : left ≡ rest ++ put ∷ []
-  split = popped ∙ ap (λ o. rest ++ option_to_list o) (sym is)
+  split = popped ∙ ap (λ o. rest ++ option_to_list o) is
 
   here : IsPut r.entries put × ArePuts (slice_set r.entries put.position put.entry) rest
   here = youngest r.entries rest put (subst (ArePuts r.entries) split t.rest)
