@@ -51,7 +51,6 @@ impl<'a> Seen<'a> {
         requires left { LeftAfter self.now.desc.now (is_free (machine_with ports.old self.now)) [] ports.old }
         requires few { left_in_all ports.old ≤ 8 }
         requires room { length row.old.events + 8 ≤ 128 }
-        requires stub { ⊥ }
         ensures puts { ArePuts (window_of self.now) result.puts.items }
         ensures window { placed result.puts.items (window_of self.now) ≡ map (λ b. b.entry) (each (issue_entry self.now.desc.now (machine_with ports.old self.now)) (window_of self.now)) }
         ensures row { row.new ≡ record row.old { events = row.old.events ++ flat_map (λ b. b.events) (each (issue_entry self.now.desc.now (machine_with ports.old self.now)) (window_of self.now)) } }
