@@ -19,3 +19,6 @@ mod seen;
 mod shared;
 
 pub use phase::issue;
+
+#[cfg(test)]
+mod tests;
