@@ -6,3 +6,4 @@ pub mod Choosing
 pub mod InPlace
 pub mod Alike
 pub mod Leaving
+pub mod Tested
