@@ -8,3 +8,7 @@ pub mod Dividers
 pub mod Turning
 pub mod Noting
 pub mod Walking
+pub mod InPlace
+pub mod Alike
+pub mod Leaving
+pub mod Tested

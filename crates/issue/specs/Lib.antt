@@ -5,3 +5,6 @@ pub mod Begins
 pub mod Ports
 pub mod Puts
 pub mod Deciding
+pub mod Shared
+pub mod Parts
+pub mod Decisions

@@ -7,13 +7,13 @@ use Rattle.rename_taint.specs.declared.Write.{Write}
 use Rattle.unit_ports.specs.Ports.{Ports}
 use Rattle.visibility.specs.Point.{HasAdvanced}
 use Rattle.queue_laws.specs.Window.{StandFor}
-use Rattle.parts_stand.specs.Parts.{Parts, Stand, oldest_of}
+use Rattle.parts_stand.specs.Parts.{Parts, Stand}
 use Rattle.parts_stand.specs.Addresses.{AddressesStand}
+use Rattle.parts_stand.specs.Writers.{WritersOf}
 use Rattle.issue.specs.declared.seen.Seen.{Seen}
-use Rattle.issue.specs.Operands.{WritersStand}
 
 -- a machine of which nothing is known
-abbrev nothing : Machine
+abbrev pub nothing : Machine
 nothing = record {
   cycle = 0;
   regs = [];
@@ -57,7 +57,7 @@ pub record Stands (s : Seen) : Type 0 where
   pub next : ℕ
   pub writes : List Write
   pub parts : Stand (parts_of next writes s)
-  pub writers : WritersStand (oldest_of next s.rob.now.entries) [] s.rob.now.entries s.writers.now
+  pub writers : WritersOf next s.rob.now.entries s.writers.now
   pub queues : StandFor s.lsq.now s.rob.now.entries
   pub addresses : AddressesStand s.rob.now.entries s.roots.now s.lsq.now.stores
   pub advanced : HasAdvanced s.point.now s.rob.now.entries

@@ -1,8 +1,9 @@
 //! Phase Issue over the parts of a core: the oldest entries whose operands are there begin to execute, as far as there are
 //! ports.
 //!
-//! `docs/machine.md`, "Issue" and "Loads", has the rules in words; the contracts cite them from `window_model/specs`, `Issue`
-//! and `Access`.
+//! `docs/machine.md`, "Issue" and "Loads", has the rules in words; the contract of [`issue`] cites them from
+//! `window_model/specs`, `Issue` and `Access`, whatever else the machine holds. `specs/Parts.antt` says of which machines it
+//! speaks, and what the parts stand for before it.
 #![tactic(auto)]
 
 mod access;
@@ -12,4 +13,12 @@ mod entry;
 mod gate;
 mod loads;
 mod operands;
+mod phase;
+mod placing;
 mod seen;
+mod shared;
+
+pub use phase::issue;
+
+#[cfg(test)]
+mod tests;

@@ -5,7 +5,8 @@ ghost use Rattle.std.specs.List.{AllPairs};
 ghost use Rattle.std.specs.Option.{option_map};
 ghost use Rattle.rv_types.specs.Regs.{reads_of, two};
 ghost use Rattle.rob_ring.specs.Ring.{below};
-ghost use Rattle.issue.specs.Operands.{if_serial, in_flight, value_by};
+ghost use Rattle.parts_stand.specs.Writers.{if_serial, in_flight};
+ghost use Rattle.issue.specs.Operands.{value_by};
 
 use crate::seen::Seen;
 use rob_ring::RobRing;

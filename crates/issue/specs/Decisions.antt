@@ -1,0 +1,17 @@
+-- What the phase decides, before anything is changed (docs/machine.md, "Issue").
+use Rattle.std.specs.Prelude.{◌≡◌, map}
+use Rattle.std.specs.Option.{option_map}
+use Rattle.machine_desc.specs.declared.Desc.{Desc}
+use Rattle.window_model.specs.Order.{each, first}
+use Rattle.window_model.specs.Issue.{access_of, divides, is_free, issue_entry, tried}
+use Rattle.window_model.specs.State.{Machine}
+use Rattle.issue.specs.declared.decide.Decided.{Decided}
+use Rattle.issue.specs.Accesses.{as_access}
+use Rattle.issue.specs.Begins.{division_of}
+use Rattle.issue.specs.Puts.{placed}
+
+-- which entries begin, what the access of the load that is tried comes to, and the divider with the division that begins
+pub record Decides (d : Desc) (x : Machine) (decided : Decided) : Type 0 where
+  pub window : placed decided.puts.items x.window ≡ map (λ b. b.entry) (each (issue_entry d x) x.window)
+  pub load : option_map as_access decided.load ≡ option_map (λ p. access_of d x p.before p.entry) (first (tried d (is_free x)) x.window)
+  pub division : decided.division ≡ option_map (λ p. division_of x p.before p.entry) (first (divides d (is_free x)) x.window)

@@ -1,0 +1,506 @@
+//! Windows that are filled by hand; the expected values follow from `docs/machine.md`, "Issue" and "Loads".
+ghost use Rattle.std.specs.Prelude.{◌≡◌, ◌≤◌, ◌<◌, ◌+◌, ◌++◌, ◌∷◌, [], ℕ, None, Some, false, length, if◌then◌else◌, IfOk};
+ghost use Rattle.std.specs.List.{All};
+ghost use Rattle.window_model.specs.declared.State.TheVariants.{Done, Waiting};
+ghost use Rattle.window_model.specs.Order.{is_load, is_store};
+ghost use Rattle.issue.specs.Parts.{Standing};
+
+use crate::issue;
+use byte_ram::Ram;
+use cache_tags::Tags;
+use circular_buffer::HeapCircularBuffer;
+use lsq::Lsq;
+use machine_desc::{Desc, read_desc};
+use mshr_file::Mshrs;
+use rob_ring::RobRing;
+use rv_types::{Instr, Kind, Op, Reg, Width};
+use stations::Stations;
+use std::alloc::Global;
+use std::process::Abort;
+use std::test::Fail;
+use unit_ports::Ports;
+use visibility::VisPoint;
+use window_model::{Entry, Event, Item, Look, Outcome, Row, State, empty_row};
+use window_walk::{is_load, value_of};
+
+const BASE: u32 = 0x10000;
+
+// The line that loads access.
+const LINE: u32 = 0x10020;
+
+// The cycle of each test.
+const CYCLE: u32 = 20;
+
+// The example of `docs/formats.md`, "Machine descriptions": two arithmetic units, a multiplication takes 3 cycles, a hit 2, a
+// miss 10, there are two miss registers, and a line has 16 bytes.
+const EXAMPLE: &str =
+    "[core]\nfetch_width = 2\nretire_width = 2\nrob = 16\nstations = 8\nloads = 4\nstores = 4\nqueue = 8\n[units]\nalus = 2\nmul_latency = 3\n[predictor]\ncounters = 16\nbtb = 4\n[cache]\nsets = 2\nways = 2\nline = 16\nhit_latency = 2\nmiss_latency = 10\nmshrs = 2\n[ram]\nbase = 65536\nsize = 65536\n[stt]\nmodel = \"spectre\"\n";
+
+// An entry that waits.
+fn waiting(serial: u64, instr: Instr, kind: Kind) -> Entry
+    ensures { result ≡ record { serial = serial; item = record { pc = 65536; instr = instr; kind = kind; predicted = Some 65540 }; state = Waiting; outcome = None; resolved = false } }
+{
+    Entry {
+        serial,
+        item: Item {
+            pc: BASE,
+            instr,
+            kind,
+            predicted: Some(BASE + 4),
+        },
+        state: State::Waiting,
+        outcome: None,
+        resolved: false,
+    }
+}
+
+// ---- parts
+
+// The parts that stand for a window.
+#[derive(Drop)]
+struct Parts {
+    rob: RobRing,
+    roots: HeapCircularBuffer<[Option<u64>; 2]>,
+    writers: HeapCircularBuffer<[Option<u64>; 2]>,
+    stations: Stations,
+    lsq: Lsq,
+}
+
+// Those of an empty window.
+fn no_parts(alloc: Global, desc: &Desc) -> Result<Parts, Fail>
+    ensures entries { IfOk result (λ p. p.rob.entries ≡ []) }
+    ensures room { IfOk result (λ p. p.rob.room ≡ desc.now.core_rob) }
+    ensures roots { IfOk result (λ p. p.roots.items ≡ []) }
+    ensures writers { IfOk result (λ p. p.writers.items ≡ []) }
+    ensures held { IfOk result (λ p. p.stations.held ≡ []) }
+    ensures loads { IfOk result (λ p. p.lsq.loads ≡ []) }
+    ensures stores { IfOk result (λ p. p.lsq.stores ≡ []) }
+{
+    let count = desc.core_rob as usize;
+    Ok(Parts {
+        rob: RobRing::new(alloc, desc)?,
+        roots: HeapCircularBuffer::with_capacity(alloc, count)?,
+        writers: HeapCircularBuffer::with_capacity(alloc, count)?,
+        stations: Stations::new(alloc, desc)?,
+        lsq: Lsq::new(alloc, desc)?,
+    })
+}
+
+// An entry comes in, with the youngest roots and the writers of its sources.
+fn add(
+    rt: &impl Abort,
+    parts: &mut Parts,
+    entry: Entry,
+    roots: [Option<u64>; 2],
+    writers: [Option<u64>; 2],
+)
+    requires room { length parts.old.rob.entries < parts.old.rob.room }
+    ensures entries { parts.new.rob.entries ≡ parts.old.rob.entries ++ entry ∷ [] }
+    ensures room { parts.new.rob.room ≡ parts.old.rob.room }
+    ensures roots { parts.new.roots.items ≡ parts.old.roots.items ++ roots ∷ [] }
+    ensures writers { parts.new.writers.items ≡ parts.old.writers.items ++ writers ∷ [] }
+    ensures stations { parts.new.stations ≡ parts.old.stations }
+    ensures lsq { parts.new.lsq ≡ parts.old.lsq }
+{
+    parts.rob.push(entry);
+    if parts.roots.try_push_back(roots).is_err() {
+        panic!(rt; "no place for roots");
+    }
+    if parts.writers.try_push_back(writers).is_err() {
+        panic!(rt; "no place for writers");
+    }
+}
+
+// An entry that waits comes in. Its first source has this load as its root and its writer, if there is one; nothing else has.
+fn add_waiting(
+    rt: &impl Abort,
+    parts: &mut Parts,
+    serial: u64,
+    instr: Instr,
+    kind: Kind,
+    load: Option<u64>,
+)
+    requires room { length parts.old.rob.entries < parts.old.rob.room }
+    ensures entries { parts.new.rob.entries ≡ parts.old.rob.entries ++ record { serial = serial; item = record { pc = 65536; instr = instr; kind = kind; predicted = Some 65540 }; state = Waiting; outcome = None; resolved = false } ∷ [] }
+    ensures room { parts.new.rob.room ≡ parts.old.rob.room }
+    ensures roots { parts.new.roots.items ≡ parts.old.roots.items ++ (load ∷ None ∷ []) ∷ [] }
+    ensures writers { parts.new.writers.items ≡ parts.old.writers.items ++ (load ∷ None ∷ []) ∷ [] }
+    ensures stations { parts.new.stations ≡ parts.old.stations }
+    ensures lsq { parts.new.lsq ≡ parts.old.lsq }
+{
+    let entry = waiting(serial, instr, kind);
+    add(rt, parts, entry, [load, None], [load, None]);
+}
+
+// An entry that is Done with a value comes in, whose sources have neither roots nor writers.
+fn add_done(
+    rt: &impl Abort,
+    parts: &mut Parts,
+    serial: u64,
+    instr: Instr,
+    kind: Kind,
+    value: u32,
+    resolved: bool,
+)
+    requires room { length parts.old.rob.entries < parts.old.rob.room }
+    ensures entries { parts.new.rob.entries ≡ parts.old.rob.entries ++ record { serial = serial; item = record { pc = 65536; instr = instr; kind = kind; predicted = Some 65540 }; state = Done; outcome = Some (record { value = value; next = 65540; addr = 0; stored = 0; fault = None }); resolved = resolved } ∷ [] }
+    ensures room { parts.new.rob.room ≡ parts.old.rob.room }
+    ensures roots { parts.new.roots.items ≡ parts.old.roots.items ++ (None ∷ None ∷ []) ∷ [] }
+    ensures writers { parts.new.writers.items ≡ parts.old.writers.items ++ (None ∷ None ∷ []) ∷ [] }
+    ensures stations { parts.new.stations ≡ parts.old.stations }
+    ensures lsq { parts.new.lsq ≡ parts.old.lsq }
+{
+    let entry = Entry {
+        state: State::Done,
+        outcome: Some(Outcome {
+            value,
+            next: BASE + 4,
+            addr: 0,
+            stored: 0,
+            fault: None,
+        }),
+        resolved,
+        ..waiting(serial, instr, kind)
+    };
+    add(rt, parts, entry, [None, None], [None, None]);
+}
+
+// A station is given to an entry that awaits nothing.
+fn seat(rt: &impl Abort, stations: &mut Stations, serial: u64)
+    requires youngest { All (λ s. s.serial < serial) stations.old.held }
+    ensures { (place : ℕ) × (stations.new.held ≡ stations.old.held ++ record { serial = serial; awaits = None ∷ None ∷ []; place = place } ∷ []) }
+{
+    if stations.free() == 0 {
+        panic!(rt; "no station");
+    }
+    stations.insert(serial, [None, None]);
+}
+
+// A load is queued.
+fn queue_load(rt: &impl Abort, lsq: &mut Lsq, serial: u64)
+    ensures { lsq.new ≡ record lsq.old { loads = lsq.old.loads ++ serial ∷ [] } }
+{
+    if !lsq.has_load_room() {
+        panic!(rt; "no place for a load");
+    }
+    lsq.add_load(serial);
+}
+
+// An entry is queued if it is a load.
+fn queue_if_load(rt: &impl Abort, lsq: &mut Lsq, entry: &Entry)
+    ensures { lsq.new ≡ record lsq.old { loads = if is_load entry.now.item.kind then lsq.old.loads ++ entry.now.serial ∷ [] else lsq.old.loads } }
+{
+    if is_load(entry) {
+        queue_load(rt, lsq, entry.serial);
+    }
+}
+
+// A store is queued, whose address has no root.
+fn queue_store(rt: &impl Abort, lsq: &mut Lsq, serial: u64)
+    ensures { lsq.new ≡ record lsq.old { stores = lsq.old.stores ++ record { serial = serial; root = None; known = None } ∷ [] } }
+{
+    if !lsq.has_store_room() {
+        panic!(rt; "no place for a store");
+    }
+    lsq.add_store(serial, None);
+}
+
+// ---- what all entries share
+
+#[derive(Drop)]
+struct Shared {
+    tags: Tags,
+    mshrs: Mshrs,
+    ports: Ports,
+}
+
+// Nothing of it is used.
+fn unused(alloc: Global, desc: &Desc) -> Result<Shared, Fail>
+    ensures cache { IfOk result (λ s. s.tags.desc ≡ desc.now) }
+    ensures registers { IfOk result (λ s. s.mshrs.room ≡ desc.now.cache_mshrs) }
+    ensures alus { IfOk result (λ s. s.ports.alus ≡ desc.now.units_alus) }
+{
+    Ok(Shared {
+        tags: Tags::new(alloc, desc)?,
+        mshrs: Mshrs::new(alloc, desc)?,
+        ports: Ports::new(desc),
+    })
+}
+
+// A miss register is taken for a line that comes in cycle 24. None is for line 0.
+fn take(rt: &impl Abort, mshrs: &mut Mshrs, line: u32)
+    ensures { mshrs.new.room ≡ mshrs.old.room }
+{
+    if line == 0 {
+        return;
+    }
+    if mshrs.full() {
+        panic!(rt; "no register");
+    }
+    mshrs.take(line, 24);
+}
+
+// The cache has a line, and two others are on their way.
+fn used(
+    rt: &impl Abort,
+    alloc: Global,
+    desc: &Desc,
+    line: u32,
+    coming: [u32; 2],
+) -> Result<Shared, Fail>
+    ensures cache { IfOk result (λ s. s.tags.desc ≡ desc.now) }
+    ensures registers { IfOk result (λ s. s.mshrs.room ≡ desc.now.cache_mshrs) }
+    ensures alus { IfOk result (λ s. s.ports.alus ≡ desc.now.units_alus) }
+{
+    let mut shared = unused(alloc, desc)?;
+    shared.tags.fill(line);
+    take(rt, &mut shared.mshrs, coming[0]);
+    take(rt, &mut shared.mshrs, coming[1]);
+    Ok(shared)
+}
+
+// ---- the phase
+
+// The visibility point moves over the window, and the phase is run.
+fn run(
+    parts: &mut Parts,
+    shared: &mut Shared,
+    ram: &Ram,
+    regs: &[u32; 32],
+    desc: &Desc,
+    row: &mut Row,
+)
+    requires stands { Standing parts.old.rob parts.old.roots parts.old.writers parts.old.stations parts.old.lsq }
+    requires serials { All (λ e. e.serial < 100) parts.old.rob.entries }
+    requires cache { shared.old.tags.desc ≡ desc.now }
+    requires registers { shared.old.mshrs.room ≡ desc.now.cache_mshrs }
+    requires alus { shared.old.ports.alus ≡ desc.now.units_alus }
+    requires room { length row.old.events + 8 ≤ 128 }
+    ensures { length parts.new.rob.entries ≡ length parts.old.rob.entries }
+{
+    let mut point = VisPoint::new(desc);
+    point.advance(&parts.rob);
+    issue(
+        &mut parts.rob,
+        &mut parts.roots,
+        &mut parts.writers,
+        &mut parts.stations,
+        &parts.lsq,
+        &mut shared.tags,
+        &mut shared.mshrs,
+        &mut shared.ports,
+        &point,
+        ram,
+        regs,
+        desc,
+        CYCLE,
+        row,
+    );
+}
+
+// How the phase leaves the only entry, which waits and is no store, with its event.
+fn alone(
+    rt: &impl Abort,
+    alloc: Global,
+    desc: &Desc,
+    entry: Entry,
+    shared: &mut Shared,
+    regs: &[u32; 32],
+) -> Result<(Option<Event>, Entry), Fail>
+    requires waits { entry.state ≡ Waiting }
+    requires no_store { is_store entry.item.kind ≡ false }
+    requires serial { entry.serial < 100 }
+    requires cache { shared.old.tags.desc ≡ desc.now }
+    requires registers { shared.old.mshrs.room ≡ desc.now.cache_mshrs }
+    requires alus { shared.old.ports.alus ≡ desc.now.units_alus }
+{
+    let mut parts = no_parts(alloc, desc)?;
+    let mut ram = Ram::new(alloc, BASE, 64)?;
+    let mut row = empty_row();
+    let _ = ram.put(BASE + 40, Width::W, 0x1234);
+    add(rt, &mut parts, entry, [None, None], [None, None]);
+    seat(rt, &mut parts.stations, entry.serial);
+    queue_if_load(rt, &mut parts.lsq, &entry);
+    run(&mut parts, shared, &ram, regs, desc, &mut row);
+    Ok((row.events().first().copied(), parts.rob.at(0)))
+}
+
+#[test]
+fn loads_find_their_lines(rt: HostRuntime) -> Result<(), Fail> {
+    let alloc = rt.alloc();
+    let desc = read_desc(alloc, EXAMPLE.as_bytes())?;
+    let lw = Instr::Load {
+        op: Op::Lw,
+        rd: Reg { number: 6 },
+        rs1: Reg { number: 5 },
+        imm: 8,
+    };
+    let ld = |look| Some(Event::Ld(7, LINE, look));
+    // The load's base, the line in the cache, those on their way; its event, and how far it is then.
+    let rows: [(u32, u32, [u32; 2], Option<Event>, State); 5] = [
+        (BASE + 1, LINE, [0, 0], Some(Event::LdFault(7)), State::Busy(21)),
+        (LINE, LINE, [0, 0], ld(Look::Hit), State::Busy(22)),
+        (LINE, LINE + 32, [LINE, 0], ld(Look::Join), State::Busy(24)),
+        (LINE, LINE + 32, [LINE + 64, 0], ld(Look::Miss), State::Busy(30)),
+        (LINE, LINE + 32, [LINE + 64, LINE + 96], None, State::Waiting),
+    ];
+    for (base, line, coming, event, state) in rows {
+        let mut shared = used(&rt, alloc, &desc, line, coming)?;
+        let load = waiting(7, lw, Kind::Load);
+        let (told, entry) = alone(&rt, alloc, &desc, load, &mut shared, &[base; 32])?;
+        assert_eq!(rt; told, event);
+        assert_eq!(rt; entry.state, state);
+        if event == ld(Look::Miss) {
+            assert_eq!(rt; (value_of(&entry), shared.mshrs.find(LINE)), (0x1234, Some(30)));
+        }
+    }
+    Ok(())
+}
+
+#[test]
+fn a_division_waits_for_the_divider(rt: HostRuntime) -> Result<(), Fail> {
+    let alloc = rt.alloc();
+    let desc = read_desc(alloc, EXAMPLE.as_bytes())?;
+    let x5 = Reg { number: 5 };
+    let div = Instr::OpReg {
+        op: Op::Div,
+        rd: x5,
+        rs1: x5,
+        rs2: x5,
+    };
+    // From when on the divider is free. A dividend of three digits takes 6 cycles.
+    let rows = [
+        (20, Some(Event::Div(7, 6)), State::Busy(26)),
+        (21, None, State::Waiting),
+    ];
+    for (free_from, event, state) in rows {
+        let mut shared = unused(alloc, &desc)?;
+        shared.ports.divide(free_from, 3);
+        let division = waiting(7, div, Kind::Div);
+        let (told, entry) = alone(&rt, alloc, &desc, division, &mut shared, &[7; 32])?;
+        assert_eq!(rt; (told, entry.state), (event, state));
+        assert_eq!(rt; shared.ports.free_div(), false);
+    }
+    Ok(())
+}
+
+#[test]
+fn the_oldest_begin(rt: HostRuntime) -> Result<(), Fail> {
+    let alloc = rt.alloc();
+    let desc = read_desc(alloc, EXAMPLE.as_bytes())?;
+    let mut parts = no_parts(alloc, &desc)?;
+    let mut shared = unused(alloc, &desc)?;
+    let ram = Ram::new(alloc, BASE, 64)?;
+    let mut row = empty_row();
+    let addi = Instr::OpImm {
+        op: Op::Add,
+        rd: Reg { number: 5 },
+        rs1: Reg { number: 5 },
+        imm: 2,
+    };
+    let mul = Instr::OpReg {
+        op: Op::Mul,
+        rd: Reg { number: 6 },
+        rs1: Reg { number: 7 },
+        rs2: Reg { number: 7 },
+    };
+    add_waiting(&rt, &mut parts, 3, addi, Kind::Alu, None);
+    add_waiting(&rt, &mut parts, 4, mul, Kind::Mul, None);
+    add_waiting(&rt, &mut parts, 6, mul, Kind::Mul, None);
+    seat(&rt, &mut parts.stations, 3);
+    seat(&rt, &mut parts.stations, 4);
+    seat(&rt, &mut parts.stations, 6);
+    run(&mut parts, &mut shared, &ram, &[7; 32], &desc, &mut row);
+    // There is one multiplier.
+    assert_eq!(rt; row.events(), [Event::Alu(3), Event::Mul(4)].as_slice());
+    let (first, second, third) = (parts.rob.at(0), parts.rob.at(1), parts.rob.at(2));
+    assert_eq!(rt; (first.state, value_of(&first)), (State::Busy(21), 9));
+    assert_eq!(rt; (second.state, value_of(&second)), (State::Busy(23), 49));
+    assert_eq!(rt; (third.state, parts.stations.len()), (State::Waiting, 1));
+    Ok(())
+}
+
+#[test]
+fn a_load_waits_for_an_older_store(rt: HostRuntime) -> Result<(), Fail> {
+    let alloc = rt.alloc();
+    let desc = read_desc(alloc, EXAMPLE.as_bytes())?;
+    let mut parts = no_parts(alloc, &desc)?;
+    let mut shared = unused(alloc, &desc)?;
+    let ram = Ram::new(alloc, BASE, 64)?;
+    let mut row = empty_row();
+    let sw = Instr::Store {
+        op: Op::Sw,
+        rs1: Reg { number: 5 },
+        rs2: Reg { number: 5 },
+        imm: 0,
+    };
+    let lw = Instr::Load {
+        op: Op::Lw,
+        rd: Reg { number: 6 },
+        rs1: Reg { number: 5 },
+        imm: 8,
+    };
+    add_waiting(&rt, &mut parts, 3, sw, Kind::Store, None);
+    add_waiting(&rt, &mut parts, 4, lw, Kind::Load, None);
+    seat(&rt, &mut parts.stations, 3);
+    seat(&rt, &mut parts.stations, 4);
+    queue_store(&rt, &mut parts.lsq, 3);
+    queue_load(&rt, &mut parts.lsq, 4);
+    run(&mut parts, &mut shared, &ram, &[LINE; 32], &desc, &mut row);
+    assert_eq!(rt; row.events(), [Event::Agu(3)].as_slice());
+    assert_eq!(rt; parts.rob.at(0).state, State::Busy(21));
+    assert_eq!(rt; parts.rob.at(1).state, State::Waiting);
+    Ok(())
+}
+
+// The events of a load whose base is what a load behind a branch has read.
+fn load_by_load(
+    rt: &impl Abort,
+    alloc: Global,
+    resolved: bool,
+    events: &[Event],
+) -> Result<(), Fail> {
+    let desc = read_desc(alloc, EXAMPLE.as_bytes())?;
+    let mut parts = no_parts(alloc, &desc)?;
+    let mut shared = unused(alloc, &desc)?;
+    let ram = Ram::new(alloc, BASE, 64)?;
+    let mut row = empty_row();
+    let beq = Instr::Branch {
+        op: Op::Beq,
+        rs1: Reg { number: 0 },
+        rs2: Reg { number: 0 },
+        imm: 16,
+    };
+    let first = Instr::Load {
+        op: Op::Lw,
+        rd: Reg { number: 6 },
+        rs1: Reg { number: 5 },
+        imm: 0,
+    };
+    let second = Instr::Load {
+        op: Op::Lw,
+        rd: Reg { number: 5 },
+        rs1: Reg { number: 6 },
+        imm: 0,
+    };
+    add_done(rt, &mut parts, 3, beq, Kind::Branch, 1, resolved);
+    add_done(rt, &mut parts, 4, first, Kind::Load, LINE, false);
+    add_waiting(rt, &mut parts, 6, second, Kind::Load, Some(4));
+    seat(rt, &mut parts.stations, 6);
+    queue_load(rt, &mut parts.lsq, 4);
+    queue_load(rt, &mut parts.lsq, 6);
+    run(&mut parts, &mut shared, &ram, &[0; 32], &desc, &mut row);
+    assert_eq!(rt; row.events(), events);
+    Ok(())
+}
+
+#[test]
+fn a_tainted_base_waits(rt: HostRuntime) -> Result<(), Fail> {
+    load_by_load(&rt, rt.alloc(), false, &[])
+}
+
+#[test]
+fn an_untainted_base_begins(rt: HostRuntime) -> Result<(), Fail> {
+    let events = [Event::Ld(6, LINE, Look::Miss)];
+    load_by_load(&rt, rt.alloc(), true, events.as_slice())
+}
