@@ -5,3 +5,6 @@ pub mod Retiring
 pub mod Resolving
 pub mod Opening
 pub mod Lending
+pub mod Issuing
+pub mod Renaming
+pub mod Cycling

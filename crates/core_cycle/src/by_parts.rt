@@ -11,11 +11,12 @@ use lsq::Lsq;
 use machine_desc::Desc;
 use rename_taint::RenameTaint;
 use rob_ring::RobRing;
-use rv_types::{End, NoMemory, REGISTERS};
+use rv_types::{End, NoMemory, Piece, REGISTERS};
 use stations::Stations;
 use std::alloc::Global;
 use std::marker::Model;
 use visibility::VisPoint;
+use window_model::{Clocked, Row};
 
 /// The written machine by its parts: seen as the machine (`docs/machine.md`, "State"), its description, and the words that it
 /// may fetch. Between two cycles the parts that it lends stand for the machine.
@@ -52,48 +53,6 @@ impl<R: RenameTaint> Core<R> {
         Ok(Core { state, code })
     }
 
-    /// How the run ended, None while it goes on.
-    pub fn end(&self) -> Option<End>
-        ensures { result ≡ self.now.machine.end }
-    {
-        self.state.end
-    }
-
-    /// The cycles so far.
-    pub fn cycles(&self) -> u32
-        ensures { result ≡ self.now.machine.cycle }
-    {
-        self.state.cycle
-    }
-
-    /// The instructions that have retired.
-    pub fn retired(&self) -> u64
-        ensures { result ≡ self.now.machine.retired }
-    {
-        self.state.retired
-    }
-
-    /// The registers, as retired.
-    pub fn regs(&self) -> &[u32; REGISTERS]
-        ensures { result.now ≡ self.now.machine.regs }
-    {
-        &self.state.regs
-    }
-
-    /// The address of the instruction that retires next.
-    pub fn pc(&self) -> u32
-        ensures { result ≡ self.now.machine.pc }
-    {
-        self.state.pc
-    }
-
-    /// Memory, as retired.
-    pub fn ram(&self) -> &Ram
-        ensures { result.now ≡ self.now.machine.ram }
-    {
-        &self.state.ram
-    }
-
     /// The reorder buffer: it has the window.
     pub fn rob(&self) -> &RobRing
         ensures { result.now.entries ≡ self.now.machine.window }
@@ -105,7 +64,7 @@ impl<R: RenameTaint> Core<R> {
     pub fn rename(&self) -> &R
         ensures { NamesWriters (R.writes result.now) self.now.machine.window }
     {
-        self.state.rename()
+        self.state.names()
     }
 
     /// The stations: they hold the entries that wait, and tell which are ready.
@@ -138,5 +97,50 @@ impl<R: RenameTaint> Core<R> {
         ensures { HasRoots self.now.machine.next_serial self.now.machine.window i result }
     {
         self.state.roots_at(i)
+    }
+}
+
+impl<R: RenameTaint> Clocked for Core<R> {
+    ghost use Rattle.elf_loader.specs.Code.{word_at};
+
+    ghost desc = { λ c. c.desc };
+
+    ghost code = { λ c. word_at c.code };
+
+    ghost machine = { λ c. c.machine };
+
+    #[tactic(auto, unfolding(window_model::specs::Cycle::cycle))]
+    fn cycle(&mut self, row: &mut Row, piece: &mut Piece) {
+        self.state.begin();
+        row.begin(self.state.cycle);
+        piece.clear();
+        self.state.front(row);
+        self.state.retire(row, piece);
+        self.state.advance();
+        self.state.back(&self.code, row);
+    }
+
+    fn end(&self) -> Option<End> {
+        self.state.end
+    }
+
+    fn cycles(&self) -> u32 {
+        self.state.cycle
+    }
+
+    fn retired(&self) -> u64 {
+        self.state.retired
+    }
+
+    fn regs(&self) -> &[u32; REGISTERS] {
+        &self.state.regs
+    }
+
+    fn pc(&self) -> u32 {
+        self.state.pc
+    }
+
+    fn ram(&self) -> &Ram {
+        &self.state.ram
     }
 }

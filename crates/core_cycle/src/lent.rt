@@ -20,7 +20,7 @@ impl<R: RenameTaint> State<R> {
     }
 
     /// The rename table: it names each register's writer.
-    pub(crate) fn rename(&self) -> &R
+    pub(crate) fn names(&self) -> &R
         ensures { NamesWriters (R.writes result.now) self.now.machine.window }
     {
         &self.names

@@ -12,3 +12,6 @@ mod start;
 mod state;
 
 pub use by_parts::Core;
+
+#[cfg(test)]
+mod tests;

@@ -3,7 +3,8 @@ ghost use Rattle.std.specs.Prelude.{◌≡◌, ◌≤◌, ◌<◌, ◌+◌, ◌-
 ghost use Rattle.elf_loader.specs.Code.{word_at};
 ghost use Rattle.visibility.specs.Point.{HasAdvanced, moved_over};
 ghost use Rattle.window_model.specs.Fill.{fill, complete};
-ghost use Rattle.window_model.specs.Front.{fetch};
+ghost use Rattle.window_model.specs.Front.{fetch, rename};
+ghost use Rattle.window_model.specs.Issue.{issue};
 ghost use Rattle.window_model.specs.Resolve.{resolve};
 ghost use Rattle.window_model.specs.Retire.{retire};
 
@@ -107,6 +108,54 @@ impl<R: RenameTaint> State<R> {
         self.retired += before.saturating_sub(left) as u64;
         self.roots.truncate_front(left as usize);
         self.writers.truncate_front(left as usize);
+    }
+
+    /// Phase Issue, once the visibility point has moved over the window.
+    pub(crate) fn issue(&mut self, row: &mut Row)
+        requires advanced { HasAdvanced self.old.point self.old.machine.window }
+        requires room { length row.old.events + 8 ≤ 128 }
+        ensures state { self.new ≡ record self.old { machine = (issue self.old.desc self.old.machine).machine } }
+        ensures row { row.new ≡ record row.old { events = row.old.events ++ (issue self.old.desc self.old.machine).events } }
+        ensures few { length row.new.events ≤ length row.old.events + 8 }
+    {
+        issue::issue(
+            &mut self.rob,
+            &mut self.roots,
+            &mut self.writers,
+            &mut self.stations,
+            &self.lsq,
+            &mut self.tags,
+            &mut self.mshrs,
+            &mut self.ports,
+            &self.point,
+            &self.ram,
+            &self.regs,
+            &self.desc,
+            self.cycle,
+            row,
+        );
+    }
+
+    /// Phase Rename. The visibility point doesn't yet say whether what comes in is visible.
+    pub(crate) fn rename(&mut self, row: &mut Row)
+        requires serials { self.old.machine.next_serial + 4 < 2 ^ 64 }
+        requires room { length row.old.events + 4 ≤ 128 }
+        ensures state { self.new ≡ record self.old { machine = (rename self.old.desc self.old.machine).machine } }
+        ensures row { row.new ≡ record row.old { events = row.old.events ++ (rename self.old.desc self.old.machine).events } }
+        ensures few { length row.new.events ≤ length row.old.events + 4 }
+    {
+        rename::rename(
+            &mut self.rob,
+            &mut self.roots,
+            &mut self.writers,
+            &mut self.names,
+            &mut self.stations,
+            &mut self.lsq,
+            &mut self.front,
+            &mut self.next_serial,
+            &self.desc,
+            row,
+        );
     }
 
     /// Phase Fetch.
