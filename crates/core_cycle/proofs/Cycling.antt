@@ -6,12 +6,10 @@ use Rattle.elf_loader.specs.Code.{CodeText, word_at}
 use Rattle.elf_loader.proofs.Images.{code_aligned}
 use Rattle.machine_desc.specs.declared.Desc.{Desc}
 use Rattle.machine_desc.proofs.EveryDesc.{every_desc}
-use Rattle.window_model.specs.declared.Event.{Event}
 use Rattle.window_model.specs.State.{Machine, After}
 use Rattle.window_model.specs.Fill.{fill, complete}
 use Rattle.window_model.specs.Resolve.{resolve}
 use Rattle.window_model.specs.Retire.{Retired, retire}
-use Rattle.window_model.specs.Row.{Row}
 use Rattle.window_model.specs.Front.{fetch, then_does}
 use Rattle.window_model.specs.Cycle.{Cycled, cycle, back}
 use Rattle.window_model.specs.Committed.{Aligned, Commits}
@@ -22,7 +20,7 @@ use Rattle.machine_facts.proofs.Adds.{fill_adds, complete_adds, resolve_adds, re
 use Rattle.machine_facts.proofs.FewEvents.{counts_cycle}
 use Rattle.committed_state.specs.Consistent.{Consistent}
 use Rattle.committed_state.proofs.Cycle.{cycle_commits, consistent_cycle}
-use Rattle.visibility.specs.Point.{Point, HasAdvanced}
+use Rattle.visibility.specs.Point.{HasAdvanced, moved_over}
 use Rattle.core_cycle.specs.Described.{Described}
 use Rattle.core_cycle.specs.Kept.{Kept}
 
@@ -52,15 +50,7 @@ pub record Fronts (s s1 s2 : Described) : Type 0 where
 -- Retire goes, and the point moves
 pub record Leaves (s2 s3 s4 : Described) : Type 0 where
   pub retires : s3 ≡ record s2 { machine = (retire s2.desc s2.machine).machine }
-  pub point : Point
-  pub advances : s4 ≡ record s3 { point = point }
-
--- and the row goes with them
-pub record Fills (code : Code) (s1 s2 s4 : Described) (row1 row2 row3 row4 : Row) : Type 0 where
-  pub begins : row1 ≡ record { cycle = s1.machine.cycle; events = [] }
-  pub fronts : row2 ≡ record row1 { events = row1.events ++ (front s1.desc s1.machine).events }
-  pub retires : row3 ≡ record row2 { events = row2.events ++ (retire s2.desc s2.machine).events }
-  pub backs : row4 ≡ record row3 { events = row3.events ++ (back s4.desc code s4.machine).events }
+  pub advances : s4 ≡ record s3 { point = moved_over s3.machine.window s3.point }
 
 -- all of them are the written cycle
 abbrev all : Desc → Code → Machine → Cycled
@@ -125,25 +115,6 @@ module _ (s s1 s2 : Described) (p : Fronts s s1 s2) where
 
       piece_is : (retire s2.desc s2.machine).piece ≡ (cycle s.desc code s.machine).piece
       piece_is = ap (λ (r : Retired). r.piece) retired ∙ ap (λ (c : Cycled). c.piece) (whole s.desc code s.machine)
-
-      row_is : (row1 row2 row3 row4 : Row) → Fills code s1 s2 s4 row1 row2 row3 row4 → row4 ≡ (cycle s.desc code s.machine).row
-      row_is row1 row2 row3 row4 r =
-          let more : Row → List Event → Row = λ row es. record row { events = row.events ++ es } in
-          let first : ℕ → Row = λ n. record { cycle = n; events = [] } in
-          let number = ap (λ (s : Described). s.machine.cycle) p.begins in
-          let begins = r.begins ∙ ap first number in
-          let fronts = r.fronts ∙ ap₂ more begins (ap (λ (a : After). a.events) fronted) in
-          let retires = r.retires ∙ ap₂ more fronts (ap (λ (r : Retired). r.events) retired) in
-          let backs = r.backs ∙ ap₂ more retires (ap (λ (a : After). a.events) backed) in
-          backs ∙ ap (λ (c : Cycled). c.row) (whole s.desc code s.machine)
-
-      -- it is the written cycle
-      pub cycle_is : (row1 row2 row3 row4 : Row) (piece : List ℕ) → Fills code s1 s2 s4 row1 row2 row3 row4 → piece ≡ (retire s2.desc s2.machine).piece →
-          record { machine = s5.machine; row = row4; piece = piece } ≡ cycle s.desc code s.machine
-      cycle_is row1 row2 row3 row4 piece r e =
-          let m = machine_is in
-          let w = row_is row1 row2 row3 row4 r in
-          let p = e ∙ piece_is in cc
 
       module _ (aligned : Aligned code) (h : Kept code s) (n : s.machine.end ≡ None) where
         -- what holds in every state is kept

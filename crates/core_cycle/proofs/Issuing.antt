@@ -34,8 +34,8 @@ standing h w = record { next = h.next_serial; writes = h.writes; parts = w.tied.
 pub made_for : (h : Held) → Whole h → issuing.MadeFor h.desc h.tags h.mshrs h.ports h.point
 made_for h w = record { cache = w.made.tags; registers = w.made.registers; alus = w.made.alus; model = w.made.model }
 
-pub advanced : (h : Held) (v : Described) → described h ≡ v → HasAdvanced v.point v.machine.window → HasAdvanced h.point h.rob.entries
-advanced h v s a = subst (λ (v : Described). HasAdvanced v.point v.machine.window) (sym s) a
+pub advanced : (h : Held) (v : Described) → Whole h → described h ≡ v → HasAdvanced v.point v.machine.window → HasAdvanced h.point h.rob.entries
+advanced h v w s a = subst (λ (v : Described). HasAdvanced v.point v.machine.window) (sym s) a
 
 -- ---- what it leaves
 
@@ -93,15 +93,15 @@ issue_whole h rob roots writers stations tags mshrs ports w f l = record {
   };
 }
 
-pub issue_shown : (h : Held) (rob : Ring) (tags : Cache) (mshrs : Registers) (ports : Ports) (v : Described) →
+pub issue_shown : (h : Held) (rob : Ring) (tags : Cache) (mshrs : Registers) (ports : Ports) (v : Described) → Whole h →
     ((x : Machine) → issuing.with_parts rob tags mshrs ports h.ram h.regs h.cycle x ≡ (issuing.issues h.desc h.rob h.tags h.mshrs h.ports h.ram h.regs h.cycle x).machine) → described h ≡ v →
     described (record h { rob = rob; tags = tags; mshrs = mshrs; ports = ports }) ≡ record v { machine = (issue v.desc v.machine).machine }
-issue_shown h rob tags mshrs ports v f s =
+issue_shown h rob tags mshrs ports v w f s =
     by_phase (λ d x. (issue d x).machine) h (machine_of (record h { rob = rob; tags = tags; mshrs = mshrs; ports = ports })) v (f (machine_of h)) s
 
-pub issue_row : (h : Held) (v : Described) (old new : Row) →
+pub issue_row : (h : Held) (v : Described) (old new : Row) → Whole h →
     ((x : Machine) → new ≡ record old { events = old.events ++ (issuing.issues h.desc h.rob h.tags h.mshrs h.ports h.ram h.regs h.cycle x).events }) → described h ≡ v →
     new ≡ record old { events = old.events ++ (issue v.desc v.machine).events }
-issue_row h v old new f s =
+issue_row h v old new w f s =
     let by_state : Described → Row = λ v. record old { events = old.events ++ (issue v.desc v.machine).events } in
     f (machine_of h) ∙ ap by_state s

@@ -49,15 +49,15 @@ rename_whole h rob roots writers writes room stations q front next w f t r e = r
   };
 }
 
-pub rename_shown : (h : Held) (rob : Ring) (front : Front) (next : ℕ) (v : Described) →
+pub rename_shown : (h : Held) (rob : Ring) (front : Front) (next : ℕ) (v : Described) → Whole h →
     ((x : Machine) → renaming.with_parts rob front next x ≡ (renaming.renames h.desc h.rob h.front h.next_serial x).machine) → described h ≡ v →
     described (record h { rob = rob; front = front; next_serial = next }) ≡ record v { machine = (rename v.desc v.machine).machine }
-rename_shown h rob front next v f s =
+rename_shown h rob front next v w f s =
     by_phase (λ d x. (rename d x).machine) h (machine_of (record h { rob = rob; front = front; next_serial = next })) v (f (machine_of h)) s
 
-pub rename_row : (h : Held) (v : Described) (old new : Row) →
+pub rename_row : (h : Held) (v : Described) (old new : Row) → Whole h →
     ((x : Machine) → new ≡ record old { events = old.events ++ (renaming.renames h.desc h.rob h.front h.next_serial x).events }) → described h ≡ v →
     new ≡ record old { events = old.events ++ (rename v.desc v.machine).events }
-rename_row h v old new f s =
+rename_row h v old new w f s =
     let by_state : Described → Row = λ v. record old { events = old.events ++ (rename v.desc v.machine).events } in
     f (machine_of h) ∙ ap by_state s

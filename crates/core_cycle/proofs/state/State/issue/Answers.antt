@@ -5,7 +5,7 @@ pub issue-requires-clause-stands : goal.issue-requires-clause-stands
 issue-requires-clause-stands g c = standing _ c.self.invariant
 
 pub issue-requires-clause-advanced : goal.issue-requires-clause-advanced
-issue-requires-clause-advanced g c = advanced _ _ c.self.view_is c.requires.advanced
+issue-requires-clause-advanced g c = advanced _ _ c.self.invariant c.self.view_is c.requires.advanced
 
 pub issue-requires-clause-made : goal.issue-requires-clause-made
 issue-requires-clause-made g c = made_for _ c.self.invariant
@@ -29,7 +29,7 @@ invariant_of-self g c =
     })
 
 pub returns-clause-state : goal.returns-clause-state
-returns-clause-state g c = issue_shown _ c.issue.new.rob c.issue.new.tags c.issue.new.mshrs c.issue.new.ports _ c.issue.ensures.state c.self.view_is
+returns-clause-state g c = issue_shown _ c.issue.new.rob c.issue.new.tags c.issue.new.mshrs c.issue.new.ports _ c.self.invariant c.issue.ensures.state c.self.view_is
 
 pub returns-clause-row : goal.returns-clause-row
-returns-clause-row g c = issue_row _ _ _ _ c.issue.ensures.row c.self.view_is
+returns-clause-row g c = issue_row _ _ _ _ c.self.invariant c.issue.ensures.row c.self.view_is

@@ -1,4 +1,4 @@
-use Rattle.std.proofs.Common.{ap, subst, arith}
+use Rattle.std.proofs.Common.{ap, arith}
 use Rattle.core_cycle.specs.Described.{Described}
 use Rattle.core_cycle.proofs.Renaming.{has_rooms, rename_row, rename_shown, rename_whole}
 use Rattle.core_cycle.proofs.state.State.rename.Goals as goal
@@ -37,7 +37,7 @@ invariant_of-self g c =
     c.rename.ensures.rooms c.rename.ensures.front_desc
 
 pub returns-clause-state : goal.returns-clause-state
-returns-clause-state g c = rename_shown _ c.rename.new.rob c.rename.new.front c.rename.new.next_serial _ c.rename.ensures.state c.self.view_is
+returns-clause-state g c = rename_shown _ c.rename.new.rob c.rename.new.front c.rename.new.next_serial _ c.self.invariant c.rename.ensures.state c.self.view_is
 
 pub returns-clause-row : goal.returns-clause-row
-returns-clause-row g c = rename_row _ _ _ _ c.rename.ensures.row c.self.view_is
+returns-clause-row g c = rename_row _ _ _ _ c.self.invariant c.rename.ensures.row c.self.view_is
