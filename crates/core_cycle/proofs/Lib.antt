@@ -1,0 +1,10 @@
+pub mod Viewed
+pub mod Wholes
+pub mod Leaving
+pub mod Retiring
+pub mod Resolving
+pub mod Opening
+pub mod Lending
+pub mod Issuing
+pub mod Renaming
+pub mod Cycling

@@ -1,0 +1,147 @@
+-- Phase Retire leaves parts that hold what the machine then holds, and stand for it.
+use Rattle.std.proofs.Common.{◌≡◌, ℕ, ◌+◌, ◌-◌, ◌≤◌, true, false, List, [], ◌∷◌, ◌++◌, length, take, drop, Option, Some, None, refl, ap, sym, ◌∙◌, subst, arith}
+use Rattle.std.specs.Prelude.{is_some}
+use Rattle.std.specs.List.{AllByRecursion as Each}
+use Rattle.circular_buffer.specs.Buffer.{Buffer, buffer, keep_last}
+use Rattle.rv_types.specs.Memory.{Ram, store_fault}
+use Rattle.rv_types.specs.declared.End.{End}
+use Rattle.machine_desc.proofs.EveryDesc.{every_desc}
+use Rattle.window_model.specs.declared.Entry.{Entry}
+use Rattle.window_model.specs.declared.Outcome.{Outcome}
+use Rattle.window_model.specs.declared.State.{State}
+use Rattle.window_model.specs.declared.State.TheVariants.{Waiting, Busy, Done}
+use Rattle.window_model.specs.Order.{is_done, is_waiting, fault_of}
+use Rattle.window_model.specs.Retire.{retire, addr_of, width_of}
+use Rattle.window_model.specs.Row.{Row}
+use Rattle.window_model.specs.State.{Machine}
+use Rattle.machine_facts.specs.Sized.{Sized, FaultIs, FitsMemory, HasOutcome}
+use Rattle.machine_facts.proofs.SizedRetire.{sized_retire}
+use Rattle.rob_ring.specs.Ring.{Ring}
+use Rattle.rename_taint.specs.declared.Write.{Write}
+use Rattle.lsq.specs.Queues.{Queues}
+use Rattle.cache_tags.specs.Sets.{Cache}
+use Rattle.parts_stand.proofs.Answering.{counts_room}
+use Rattle.parts_stand.proofs.Standing.{take_length}
+use Rattle.parts_stand.proofs.Writing.{counts_writers}
+use Rattle.retire.specs.Parts as retiring
+use Rattle.retire.specs.Parts.{TakesStore}
+use Rattle.retire.specs.Gone.{gone, MayRetire, without_each, without, popped}
+use Rattle.core_cycle.specs.Described.{Described}
+use Rattle.core_cycle.specs.Held.{Held, Tied, Whole, described, machine_of}
+use Rattle.core_cycle.proofs.Leaving.{Pairs, all_gone}
+use Rattle.core_cycle.proofs.Viewed.{by_phase}
+
+-- ---- memory takes what a Done store writes
+
+takes_by : (ram : Ram) (width : ℕ) (o : Option Outcome) → FaultIs ram width o → is_some o ≡ true → fault_of o ≡ None → store_fault ram (addr_of o) width ≡ None
+takes_by ram width None f s n = absurd (cc)
+takes_by ram width (Some o) f s n = sym f ∙ n
+
+done_waits : (s : State) → is_done s ≡ true → is_waiting s ≡ false
+done_waits Waiting d = absurd (cc)
+done_waits (Busy due) d = refl
+done_waits Done d = refl
+
+pub each_takes : (ram : Ram) (es : List Entry) → Each (FitsMemory ram) es → Each HasOutcome es → Each (TakesStore ram) es
+each_takes ram [] m o = tt
+each_takes ram (e ∷ es) m o =
+    (λ s d n. takes_by ram (width_of e) e.outcome (m.0 s) (o.0 s (done_waits e.state d)) n, each_takes ram es m.1 o.1)
+
+-- ---- the queues' room stays
+
+popped_loads : (es : List Entry) (q : Queues) → (popped es q).max_loads ≡ q.max_loads
+popped_loads [] q = refl
+popped_loads (e ∷ es) q = popped_loads es (without e.serial q)
+
+popped_stores : (es : List Entry) (q : Queues) → (popped es q).max_stores ≡ q.max_stores
+popped_stores [] q = refl
+popped_stores (e ∷ es) q = popped_stores es (without e.serial q)
+
+-- ---- the pairs of those that stay
+
+stays : (old new : List Entry) (pairs : Pairs) → length pairs ≡ length old → drop (length (take (length old - length new) old)) pairs ≡ keep_last (length new) pairs
+stays old new pairs e =
+    let less : length old - length new ≤ length old = omega arith in
+    ap (λ n. drop n pairs) (take_length (length old - length new) old less ∙ ap (λ n. n - length new) (sym e))
+
+-- what Retire left of the parts
+pub record Left (h : Held) (rob : Ring) (roots writers : Buffer (List (Option ℕ))) (writes : List Write) (names_room : ℕ) (queues : Queues) (tags : Cache) (retired : ℕ) : Type 0 where
+  pub entries : h.rob.entries ≡ gone h.rob rob ++ rob.entries
+  pub may_retire : Each MayRetire (gone h.rob rob)
+  pub same_room : rob.room ≡ h.rob.room
+  pub pairs : roots ≡ buffer (keep_last (length rob.entries) h.roots.items) h.roots.capacity
+  pub sources : writers ≡ buffer (keep_last (length rob.entries) h.writers.items) h.writers.capacity
+  pub names : writes ≡ without_each (gone h.rob rob) h.writes
+  pub same_names_room : names_room ≡ h.names_room
+  pub lsq : queues ≡ popped (gone h.rob rob) h.queues
+  pub cache : tags.desc ≡ h.tags.desc
+  pub count : retired ≡ h.retired + (length h.rob.entries - length rob.entries)
+
+-- what stands beside the window stands for what is left of it
+left_tied : (h : Held) (rob : Ring) (roots writers : Buffer (List (Option ℕ))) (writes : List Write) (room : ℕ) (queues : Queues) (tags : Cache) (retired : ℕ) → Whole h →
+    Left h rob roots writers writes room queues tags retired → Tied h.next_serial rob.entries roots.items writers.items writes h.stations.held queues h.point
+left_tied h rob roots writers writes room queues tags retired w l =
+    let here : Tied h.next_serial (gone h.rob rob ++ rob.entries) h.roots.items h.writers.items h.writes h.stations.held h.queues h.point =
+    subst (λ es. Tied h.next_serial es h.roots.items h.writers.items h.writes h.stations.held h.queues h.point) l.entries w.tied in
+    let all = all_gone h.next_serial (gone h.rob rob) rob.entries h.roots.items h.writers.items h.writes h.stations.held h.queues h.point l.may_retire here in
+    let roots_are = stays h.rob.entries rob.entries h.roots.items (counts_room _ w.tied.stand).roots ∙ sym (ap (λ (b : Buffer (List (Option ℕ))). b.items) l.pairs) in
+    let writers_are = stays h.rob.entries rob.entries h.writers.items (counts_writers h.next_serial h.rob.entries h.writers.items w.tied.writers_stand) ∙ sym (ap (λ (b : Buffer (List (Option ℕ))). b.items) l.sources) in
+    subst (λ rs. Tied h.next_serial rob.entries rs writers.items writes h.stations.held queues h.point) roots_are
+    (subst (λ ws. Tied h.next_serial rob.entries (drop (length (gone h.rob rob)) h.roots.items) ws writes h.stations.held queues h.point) writers_are
+    (subst (λ ns. Tied h.next_serial rob.entries (drop (length (gone h.rob rob)) h.roots.items) (drop (length (gone h.rob rob)) h.writers.items) ns h.stations.held queues h.point) (sym l.names)
+    (subst (λ q. Tied h.next_serial rob.entries (drop (length (gone h.rob rob)) h.roots.items) (drop (length (gone h.rob rob)) h.writers.items) (without_each (gone h.rob rob) h.writes) h.stations.held q h.point) (sym l.lsq) all)))
+
+-- the machine that they then hold
+left_machine : (h : Held) (rob : Ring) (tags : Cache) (ram : Ram) (regs : List ℕ) (pc : ℕ) (end : Option End) (retired : ℕ) → h.end ≡ None →
+    ((x : Machine) → retiring.counted (length h.rob.entries - length rob.entries) (retiring.with_parts rob tags ram regs pc end x) ≡ (retiring.retires h.desc h.rob h.tags h.ram h.regs h.pc x).machine) →
+    retired ≡ h.retired + (length h.rob.entries - length rob.entries) →
+    machine_of (record h { rob = rob; tags = tags; ram = ram; regs = regs; pc = pc; end = end; retired = retired }) ≡ (retire h.desc (machine_of h)).machine
+left_machine h rob tags ram regs pc end retired n f e =
+    ap (λ r. machine_of (record h { rob = rob; tags = tags; ram = ram; regs = regs; pc = pc; end = end; retired = r })) e
+    ∙ f (machine_of h)
+    ∙ ap (λ e. (retire h.desc (record (machine_of h) { end = e })).machine) (sym n)
+
+pub retire_whole : (h : Held) (rob : Ring) (roots writers : Buffer (List (Option ℕ))) (writes : List Write) (room : ℕ) (queues : Queues) (tags : Cache) (ram : Ram) (regs : List ℕ) (pc : ℕ) (end : Option End) (retired : ℕ) →
+    Whole h → h.end ≡ None →
+    ((x : Machine) → retiring.counted (length h.rob.entries - length rob.entries) (retiring.with_parts rob tags ram regs pc end x) ≡ (retiring.retires h.desc h.rob h.tags h.ram h.regs h.pc x).machine) →
+    Left h rob roots writers writes room queues tags retired →
+    Whole (record h { rob = rob; roots = roots; writers = writers; writes = writes; names_room = room; queues = queues; tags = tags; ram = ram; regs = regs; pc = pc; end = end; retired = retired })
+retire_whole h rob roots writers writes room queues tags ram regs pc end retired w n f l = record {
+  sized = subst (Sized h.desc) (sym (left_machine h rob tags ram regs pc end retired n f l.count)) (sized_retire h.desc (machine_of h) (every_desc h.desc) w.sized);
+  tied = left_tied h rob roots writers writes room queues tags retired w l;
+  made = record {
+    entries = l.same_room ∙ w.made.entries;
+    pairs = ap (λ (b : Buffer (List (Option ℕ))). b.capacity) l.pairs ∙ w.made.pairs;
+    writers = ap (λ (b : Buffer (List (Option ℕ))). b.capacity) l.sources ∙ w.made.writers;
+    writes = l.same_names_room ∙ w.made.writes;
+    places = w.made.places;
+    loads = ap (λ (q : Queues). q.max_loads) l.lsq ∙ popped_loads (gone h.rob rob) h.queues ∙ w.made.loads;
+    stores = ap (λ (q : Queues). q.max_stores) l.lsq ∙ popped_stores (gone h.rob rob) h.queues ∙ w.made.stores;
+    registers = w.made.registers;
+    tags = l.cache ∙ w.made.tags;
+    tables = w.made.tables;
+    front = w.made.front;
+    alus = w.made.alus;
+    model = w.made.model;
+  };
+}
+
+pub retire_shown : (h : Held) (rob : Ring) (tags : Cache) (ram : Ram) (regs : List ℕ) (pc : ℕ) (end : Option End) (retired : ℕ) (v : Described) → Whole h → h.end ≡ None →
+    ((x : Machine) → retiring.counted (length h.rob.entries - length rob.entries) (retiring.with_parts rob tags ram regs pc end x) ≡ (retiring.retires h.desc h.rob h.tags h.ram h.regs h.pc x).machine) →
+    retired ≡ h.retired + (length h.rob.entries - length rob.entries) → described h ≡ v →
+    described (record h { rob = rob; tags = tags; ram = ram; regs = regs; pc = pc; end = end; retired = retired }) ≡ record v { machine = (retire v.desc v.machine).machine }
+retire_shown h rob tags ram regs pc end retired v w n f e s =
+    by_phase (λ d x. (retire d x).machine) h (machine_of (record h { rob = rob; tags = tags; ram = ram; regs = regs; pc = pc; end = end; retired = retired })) v (left_machine h rob tags ram regs pc end retired n f e) s
+
+pub retire_row : (h : Held) (v : Described) (old new : Row) → Whole h → h.end ≡ None →
+    ((x : Machine) → new ≡ record old { events = old.events ++ (retiring.retires h.desc h.rob h.tags h.ram h.regs h.pc x).events }) → described h ≡ v →
+    new ≡ record old { events = old.events ++ (retire v.desc v.machine).events }
+retire_row h v old new w n f s =
+    let by_end : Option End → Row = λ e. record old { events = old.events ++ (retire h.desc (record (machine_of h) { end = e })).events } in
+    let by_state : Described → Row = λ v. record old { events = old.events ++ (retire v.desc v.machine).events } in
+    f (machine_of h) ∙ ap by_end (sym n) ∙ ap by_state s
+
+pub retire_piece : (h : Held) (v : Described) (new : List ℕ) → Whole h → h.end ≡ None →
+    ((x : Machine) → new ≡ (retiring.retires h.desc h.rob h.tags h.ram h.regs h.pc x).piece) → described h ≡ v → new ≡ (retire v.desc v.machine).piece
+retire_piece h v new w n f s =
+    f (machine_of h) ∙ ap (λ e. (retire h.desc (record (machine_of h) { end = e })).piece) (sym n) ∙ ap (λ (v : Described). (retire v.desc v.machine).piece) s

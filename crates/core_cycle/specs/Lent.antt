@@ -1,0 +1,41 @@
+-- What the parts that a core lends tell of its machine (docs/machine.md, "The parts stand for the machine").
+use Rattle.std.specs.Prelude.{◌≡◌, ℕ, ◌<◌, ◌≤◌, nat_le, true, List, [], length, map, reverse, slice_get, Option, Some}
+use Rattle.std.specs.List.{All}
+use Rattle.std.specs.Option.{option_map}
+use Rattle.machine_desc.specs.declared.SttModel.{SttModel}
+use Rattle.window_model.specs.declared.Entry.{Entry}
+use Rattle.window_model.specs.Order.{before_at, is_waiting, ready, writer}
+use Rattle.window_model.specs.Taint.{visible}
+use Rattle.rename_taint.specs.declared.Write.{Write}
+use Rattle.rename_taint.specs.Writes.{source_of}
+use Rattle.stations.specs.Stations.{Stations, awaits_none}
+use Rattle.visibility.specs.Point.{Point}
+use Rattle.parts_stand.specs.Roots.{source_roots, unretired}
+use Rattle.parts_stand.specs.Parts.{oldest_of, waiter_in, waiters_from}
+use Rattle.parts_stand.specs.Steps.{station_of}
+use Rattle.parts_stand.specs.Telling.{source_by}
+
+-- the table names the writer that each register has for an entry behind the window
+abbrev pub NamesWriters : List Write → List Entry → Type 0
+NamesWriters writes window = (r : ℕ) → source_of writes r ≡ source_by (writer (reverse window) r)
+
+-- the stations hold the entries that wait, and what their sources await
+abbrev pub HoldsWaiting : Stations → List Entry → Type 0
+HoldsWaiting s window = map waiter_in s.held ≡ waiters_from [] window
+
+-- and one awaits nothing exactly where its entry is ready
+abbrev pub TellsReady : Stations → List Entry → Type 0
+TellsReady s window = (i : ℕ) (e : Entry) → slice_get window i ≡ Some e → is_waiting e.state ≡ true →
+    option_map awaits_none (slice_get s.held (station_of i window)) ≡ Some (ready (before_at window i) e)
+
+-- entries up to the point are visible, and no others
+abbrev pub TellsVisible : SttModel → Point → List Entry → Type 0
+TellsVisible model p window = (i : ℕ) (e : Entry) → slice_get window i ≡ Some e → nat_le e.serial p.serial ≡ visible model (before_at window i)
+
+-- and serials below those of the window are
+abbrev pub ShowsOlder : Point → List Entry → Type 0
+ShowsOlder p window = (s : ℕ) → 1 ≤ length window → All (λ e. s < e.serial) window → s ≤ p.serial
+
+-- the pair has for each source of the entry at a position its youngest root; for one without maybe one that has retired
+abbrev pub HasRoots : ℕ → List Entry → ℕ → List (Option ℕ) → Type 0
+HasRoots next window i pair = (e : Entry) → slice_get window i ≡ Some e → map (unretired (oldest_of next window)) pair ≡ source_roots (before_at window i) e

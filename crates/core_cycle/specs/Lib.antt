@@ -1,0 +1,5 @@
+pub mod Described
+pub mod Held
+pub mod Programmed
+pub mod Kept
+pub mod Lent

@@ -1,0 +1,146 @@
+//! The core.
+ghost use Rattle.std.specs.Prelude.{◌≡◌, ◌<◌, length, IfOk};
+ghost use Rattle.queue_laws.specs.Window.{StandFor};
+ghost use Rattle.window_model.specs.State.{opening};
+ghost use Rattle.core_cycle.specs.Lent.{HasRoots, HoldsWaiting, NamesWriters, ShowsOlder, TellsReady, TellsVisible};
+
+use crate::state::State;
+use byte_ram::Ram;
+use elf_loader::{Code, Image};
+use lsq::Lsq;
+use machine_desc::Desc;
+use rename_taint::RenameTaint;
+use rob_ring::RobRing;
+use rv_types::{End, NoMemory, Piece, REGISTERS};
+use stations::Stations;
+use std::alloc::Global;
+use std::marker::Model;
+use visibility::VisPoint;
+use window_model::{Clocked, Row};
+
+/// The written machine by its parts: seen as the machine (`docs/machine.md`, "State"), its description, and the words that it
+/// may fetch. Between two cycles the parts that it lends stand for the machine.
+#[derive(Drop)]
+pub struct Core<R: RenameTaint> {
+    state: State<R>,
+    code: Code,
+}
+
+impl<R: RenameTaint> Model for Core<R> {
+    ghost use Rattle.core_cycle.specs.Programmed.{Programmed, programmed_code};
+    ghost use Rattle.core_cycle.specs.Kept.{Kept};
+    ghost use Rattle.elf_loader.specs.Code.{word_at};
+
+    ghost Value = { Programmed };
+
+    ghost coded = { programmed_code };
+
+    ghost view = { λ c. record { desc = c.state.desc; code = c.code; machine = c.state.machine } };
+
+    ghost invariant = { λ c. Kept (word_at c.code) c.state };
+}
+
+impl<R: RenameTaint> Core<R> {
+    /// The core before its first cycle, with the image in a memory of the description's base and size. It takes all the
+    /// memory that a run takes; the one error is want of it.
+    pub fn new(alloc: Global, desc: &Desc, image: Image) -> Result<Core<R>, NoMemory>
+        requires base { image.ram.base ≡ desc.now.ram_base }
+        requires size { length image.ram.bytes ≡ desc.now.ram_size }
+        ensures { IfOk result (λ c. c ≡ record { desc = desc.now; code = image.code; machine = opening desc.now image.entry image.ram }) }
+    {
+        let Image { ram, code, entry } = image;
+        let state = State::new(alloc, desc, entry, ram)?;
+        Ok(Core { state, code })
+    }
+
+    /// The reorder buffer: it has the window.
+    pub fn rob(&self) -> &RobRing
+        ensures { result.now.entries ≡ self.now.machine.window }
+    {
+        self.state.rob()
+    }
+
+    /// The rename table: it names the writer that each register has for an entry behind the window.
+    pub fn rename(&self) -> &R
+        ensures { NamesWriters (R.writes result.now) self.now.machine.window }
+    {
+        self.state.names()
+    }
+
+    /// The stations: they hold the entries that wait, and tell which are ready.
+    pub fn stations(&self) -> &Stations
+        ensures waiting { HoldsWaiting result.now self.now.machine.window }
+        ensures ready { TellsReady result.now self.now.machine.window }
+    {
+        self.state.stations()
+    }
+
+    /// The queues: they hold the window's loads and stores by age.
+    pub fn lsq(&self) -> &Lsq
+        ensures { StandFor result.now self.now.machine.window }
+    {
+        self.state.lsq()
+    }
+
+    /// The visibility point: entries up to it are visible, and no others.
+    pub fn point(&self) -> &VisPoint
+        ensures visible { TellsVisible self.now.desc.stt_model result.now self.now.machine.window }
+        ensures older { ShowsOlder result.now self.now.machine.window }
+    {
+        self.state.point()
+    }
+
+    /// The serials of the youngest roots of the first and second source of the entry at a position, counted from the oldest.
+    /// For a source without a root in flight it may be one that has retired.
+    pub fn roots(&self, i: u32) -> [Option<u64>; 2]
+        requires { i < length self.now.machine.window }
+        ensures { HasRoots self.now.machine.next_serial self.now.machine.window i result }
+    {
+        self.state.roots_at(i)
+    }
+}
+
+impl<R: RenameTaint> Clocked for Core<R> {
+    ghost use Rattle.elf_loader.specs.Code.{word_at};
+
+    ghost desc = { λ c. c.desc };
+
+    ghost code = { λ c. word_at c.code };
+
+    ghost machine = { λ c. c.machine };
+
+    #[tactic(auto, unfolding(window_model::specs::Cycle::cycle))]
+    fn cycle(&mut self, row: &mut Row, piece: &mut Piece) {
+        self.state.begin();
+        row.begin(self.state.cycle);
+        piece.clear();
+        self.state.front(row);
+        self.state.retire(row, piece);
+        self.state.advance();
+        self.state.back(&self.code, row);
+    }
+
+    fn end(&self) -> Option<End> {
+        self.state.end
+    }
+
+    fn cycles(&self) -> u32 {
+        self.state.cycle
+    }
+
+    fn retired(&self) -> u64 {
+        self.state.retired
+    }
+
+    fn regs(&self) -> &[u32; REGISTERS] {
+        &self.state.regs
+    }
+
+    fn pc(&self) -> u32 {
+        self.state.pc
+    }
+
+    fn ram(&self) -> &Ram {
+        &self.state.ram
+    }
+}

@@ -1,0 +1,67 @@
+//! The parts that are lent: what each tells of the machine.
+ghost use Rattle.std.specs.Prelude.{◌≡◌, ◌<◌, length, slice_get, Some};
+ghost use Rattle.queue_laws.specs.Window.{StandFor};
+ghost use Rattle.core_cycle.specs.Lent.{HasRoots, HoldsWaiting, NamesWriters, TellsReady};
+
+use crate::state::State;
+use circular_buffer::HeapCircularBuffer;
+use lsq::Lsq;
+use rename_taint::RenameTaint;
+use rob_ring::RobRing;
+use stations::Stations;
+use visibility::VisPoint;
+
+impl<R: RenameTaint> State<R> {
+    /// The reorder buffer: it has the window.
+    pub(crate) fn rob(&self) -> &RobRing
+        ensures { result.now.entries ≡ self.now.machine.window }
+    {
+        &self.rob
+    }
+
+    /// The rename table: it names each register's writer.
+    pub(crate) fn names(&self) -> &R
+        ensures { NamesWriters (R.writes result.now) self.now.machine.window }
+    {
+        &self.names
+    }
+
+    /// The stations: they hold the entries that wait, and tell which are ready.
+    pub(crate) fn stations(&self) -> &Stations
+        ensures waiting { HoldsWaiting result.now self.now.machine.window }
+        ensures ready { TellsReady result.now self.now.machine.window }
+    {
+        &self.stations
+    }
+
+    /// The queues: they hold the window's loads and stores by age.
+    pub(crate) fn lsq(&self) -> &Lsq
+        ensures { StandFor result.now self.now.machine.window }
+    {
+        &self.lsq
+    }
+
+    /// The visibility point.
+    pub(crate) fn point(&self) -> &VisPoint
+        ensures same { result.now ≡ self.now.point }
+        ensures model { result.now.model ≡ self.now.desc.stt_model }
+    {
+        &self.point
+    }
+
+    /// The pair at a position.
+    pub(crate) fn roots_at(&self, i: u32) -> [Option<u64>; 2]
+        requires { i < length self.now.machine.window }
+        ensures { HasRoots self.now.machine.next_serial self.now.machine.window i result }
+    {
+        pair_at(&self.roots, i)
+    }
+}
+
+// The pair at a position.
+fn pair_at(pairs: &HeapCircularBuffer<[Option<u64>; 2]>, i: u32) -> [Option<u64>; 2]
+    requires { i < length pairs.now.items }
+    ensures { slice_get pairs.now.items i ≡ Some result }
+{
+    *pairs.get(i as usize).unwrap()
+}

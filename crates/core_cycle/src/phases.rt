@@ -1,0 +1,170 @@
+//! The phases, each a call of its crate on the parts that it moves.
+ghost use Rattle.std.specs.Prelude.{◌≡◌, ◌≤◌, ◌<◌, ◌+◌, ◌-◌, ◌++◌, ◌^◌, [], None, length};
+ghost use Rattle.elf_loader.specs.Code.{word_at};
+ghost use Rattle.visibility.specs.Point.{HasAdvanced, moved_over};
+ghost use Rattle.window_model.specs.Fill.{fill, complete};
+ghost use Rattle.window_model.specs.Front.{fetch, rename};
+ghost use Rattle.window_model.specs.Issue.{issue};
+ghost use Rattle.window_model.specs.Resolve.{resolve};
+ghost use Rattle.window_model.specs.Retire.{retire};
+
+use crate::state::State;
+use elf_loader::Code;
+use rename_taint::RenameTaint;
+use rv_types::Piece;
+use window_model::Row;
+
+impl<R: RenameTaint> State<R> {
+    /// The next cycle begins.
+    pub(crate) fn begin(&mut self)
+        requires few { self.old.machine.cycle < 2 ^ 32 - 1 }
+        ensures { self.new ≡ record self.old { machine = record self.old.machine { cycle = self.old.machine.cycle + 1 } } }
+    {
+        self.cycle += 1;
+    }
+
+    /// The visibility point moves over the window: then it says which entries are visible.
+    pub(crate) fn advance(&mut self)
+        ensures moved { self.new ≡ record self.old { point = moved_over self.old.machine.window self.old.point } }
+        ensures advanced { HasAdvanced self.new.point self.new.machine.window }
+    {
+        self.point.advance(&self.rob);
+    }
+
+    /// Phase Fill.
+    pub(crate) fn fill(&mut self, row: &mut Row)
+        requires room { length row.old.events + 8 ≤ 128 }
+        ensures state { self.new ≡ record self.old { machine = (fill self.old.desc self.old.machine).machine } }
+        ensures row { row.new ≡ record row.old { events = row.old.events ++ (fill self.old.desc self.old.machine).events } }
+        ensures few { length row.new.events ≤ length row.old.events + 8 }
+    {
+        fill::fill(&mut self.mshrs, &mut self.tags, self.cycle as u64, row);
+    }
+
+    /// Phase Complete.
+    pub(crate) fn complete(&mut self, row: &mut Row)
+        requires room { length row.old.events + 64 ≤ 128 }
+        ensures state { self.new ≡ record self.old { machine = (complete self.old.machine).machine } }
+        ensures row { row.new ≡ record row.old { events = row.old.events ++ (complete self.old.machine).events } }
+        ensures few { length row.new.events ≤ length row.old.events + 64 }
+    {
+        complete::complete(
+            &mut self.rob,
+            &mut self.stations,
+            &mut self.lsq,
+            self.cycle as u64,
+            row,
+        );
+    }
+
+    /// Phase Resolve, once the visibility point has moved over the window.
+    pub(crate) fn resolve(&mut self, row: &mut Row)
+        requires advanced { HasAdvanced self.old.point self.old.machine.window }
+        requires room { length row.old.events + 3 ≤ 128 }
+        ensures state { self.new ≡ record self.old { machine = (resolve self.old.desc self.old.machine).machine } }
+        ensures row { row.new ≡ record row.old { events = row.old.events ++ (resolve self.old.desc self.old.machine).events } }
+        ensures few { length row.new.events ≤ length row.old.events + 3 }
+    {
+        resolve::resolve(
+            &mut self.rob,
+            &mut self.roots,
+            &mut self.writers,
+            &mut self.names,
+            &mut self.stations,
+            &mut self.lsq,
+            &mut self.ports,
+            &mut self.predictor,
+            &mut self.front,
+            &self.point,
+            row,
+        );
+    }
+
+    /// Phase Retire. The pairs by position go with the entries that retire.
+    pub(crate) fn retire(&mut self, row: &mut Row, piece: &mut Piece)
+        requires room { length row.old.events + 8 ≤ 128 }
+        requires running { self.old.machine.end ≡ None }
+        requires empty { piece.old ≡ [] }
+        requires counts { self.old.machine.retired + 64 < 2 ^ 64 }
+        ensures state { self.new ≡ record self.old { machine = (retire self.old.desc self.old.machine).machine } }
+        ensures row { row.new ≡ record row.old { events = row.old.events ++ (retire self.old.desc self.old.machine).events } }
+        ensures piece { piece.new ≡ (retire self.old.desc self.old.machine).piece }
+        ensures few { length row.new.events ≤ length row.old.events + 8 }
+    {
+        let before = self.rob.len();
+        self.end = retire::retire(
+            &mut self.rob,
+            &mut self.names,
+            &mut self.lsq,
+            &mut self.tags,
+            &mut self.ram,
+            &mut self.regs,
+            &mut self.pc,
+            &self.desc,
+            row,
+            piece,
+        );
+        let left = self.rob.len();
+        self.retired += before.saturating_sub(left) as u64;
+        self.roots.truncate_front(left as usize);
+        self.writers.truncate_front(left as usize);
+    }
+
+    /// Phase Issue, once the visibility point has moved over the window.
+    pub(crate) fn issue(&mut self, row: &mut Row)
+        requires advanced { HasAdvanced self.old.point self.old.machine.window }
+        requires room { length row.old.events + 8 ≤ 128 }
+        ensures state { self.new ≡ record self.old { machine = (issue self.old.desc self.old.machine).machine } }
+        ensures row { row.new ≡ record row.old { events = row.old.events ++ (issue self.old.desc self.old.machine).events } }
+        ensures few { length row.new.events ≤ length row.old.events + 8 }
+    {
+        issue::issue(
+            &mut self.rob,
+            &mut self.roots,
+            &mut self.writers,
+            &mut self.stations,
+            &self.lsq,
+            &mut self.tags,
+            &mut self.mshrs,
+            &mut self.ports,
+            &self.point,
+            &self.ram,
+            &self.regs,
+            &self.desc,
+            self.cycle,
+            row,
+        );
+    }
+
+    /// Phase Rename. The visibility point doesn't yet say whether what comes in is visible.
+    pub(crate) fn rename(&mut self, row: &mut Row)
+        requires serials { self.old.machine.next_serial + 4 < 2 ^ 64 }
+        requires room { length row.old.events + 4 ≤ 128 }
+        ensures state { self.new ≡ record self.old { machine = (rename self.old.desc self.old.machine).machine } }
+        ensures row { row.new ≡ record row.old { events = row.old.events ++ (rename self.old.desc self.old.machine).events } }
+        ensures few { length row.new.events ≤ length row.old.events + 4 }
+    {
+        rename::rename(
+            &mut self.rob,
+            &mut self.roots,
+            &mut self.writers,
+            &mut self.names,
+            &mut self.stations,
+            &mut self.lsq,
+            &mut self.front,
+            &mut self.next_serial,
+            &self.desc,
+            row,
+        );
+    }
+
+    /// Phase Fetch.
+    pub(crate) fn fetch(&mut self, code: &Code, row: &mut Row)
+        requires room { length row.old.events + 4 ≤ 128 }
+        ensures state { self.new ≡ record self.old { machine = (fetch self.old.desc (word_at code.now) self.old.machine).machine } }
+        ensures row { row.new ≡ record row.old { events = row.old.events ++ (fetch self.old.desc (word_at code.now) self.old.machine).events } }
+        ensures few { length row.new.events ≤ length row.old.events + 4 }
+    {
+        self.front.fetch(code, &self.predictor, row);
+    }
+}
