@@ -3,9 +3,11 @@ ghost use Rattle.std.specs.Prelude.{◌≡◌, length, IfOk};
 ghost use Rattle.stt_cli.specs.Input.{loaded};
 ghost use Rattle.stt_cli.specs.Running.{Starts};
 
+use core_cycle::Core;
 use core_reference::ReferenceCore;
 use elf_loader::Image;
 use machine_desc::Desc;
+use rename_taint::RenameTaint;
 use rv_types::NoMemory;
 use std::alloc::Global;
 use window_model::Clocked;
@@ -22,5 +24,11 @@ pub trait Built: Clocked {
 impl Built for ReferenceCore {
     fn build(alloc: Global, desc: &Desc, image: Image) -> Result<Self, NoMemory> {
         ReferenceCore::new(alloc, desc, image)
+    }
+}
+
+impl<R: RenameTaint> Built for Core<R> {
+    fn build(alloc: Global, desc: &Desc, image: Image) -> Result<Self, NoMemory> {
+        Core::new(alloc, desc, image)
     }
 }

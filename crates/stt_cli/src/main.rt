@@ -16,7 +16,8 @@ mod running;
 mod tests;
 mod top;
 
-use core_reference::ReferenceCore;
+use core_cycle::Core;
+use rename_taint::ByTable;
 use std::alloc::Global;
 use std::io::ErrorKind;
 use std::process::ExitCode;
@@ -56,7 +57,7 @@ fn main(rt: HostRuntime) -> ExitCode {
     let mut files = RealFiles::new(&rt);
     let mut out = RealSink::new(rt.stdout());
     let mut note = RealSink::new(rt.stderr());
-    let status = stt_top::<ReferenceCore, _, _, _>(
+    let status = stt_top::<Core<ByTable>, _, _, _>(
         alloc,
         words.as_slice(),
         &mut files,
