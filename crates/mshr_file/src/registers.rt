@@ -53,6 +53,13 @@ impl Mshrs {
             .map(|miss| miss.due)
     }
 
+    /// The registers that are taken, in the order of taking.
+    pub fn misses(&self) -> &[Miss]
+        ensures { result.now ≡ self.now.misses }
+    {
+        self.misses.as_slice()
+    }
+
     /// How many registers are taken.
     pub fn len(&self) -> usize
         ensures value { result ≡ length self.now.misses }

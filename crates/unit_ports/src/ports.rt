@@ -85,6 +85,13 @@ impl Ports {
         };
     }
 
+    /// The divider.
+    pub fn divider(&self) -> Divider
+        ensures { result ≡ self.now.divider }
+    {
+        self.divider
+    }
+
     /// Whether the divider is free in this cycle.
     pub fn free_div(&self) -> bool
         ensures { result ≡ nat_le self.now.divider.free_from self.now.cycle }
