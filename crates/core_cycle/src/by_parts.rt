@@ -24,11 +24,13 @@ use window_model::{Clocked, Row};
 pub struct Core<R: RenameTaint> {
     state: State<R>,
     code: Code,
+    /// Nothing happens in the cycles below this number. 0 where that is known of none.
+    still_until: u32,
 }
 
 impl<R: RenameTaint> Model for Core<R> {
     ghost use Rattle.core_cycle.specs.Programmed.{Programmed, programmed_code};
-    ghost use Rattle.core_cycle.specs.Kept.{Kept};
+    ghost use Rattle.core_cycle.specs.Kept.{KeptUntil};
     ghost use Rattle.elf_loader.specs.Code.{word_at};
 
     ghost Value = { Programmed };
@@ -37,7 +39,7 @@ impl<R: RenameTaint> Model for Core<R> {
 
     ghost view = { λ c. record { desc = c.state.desc; code = c.code; machine = c.state.machine } };
 
-    ghost invariant = { λ c. Kept (word_at c.code) c.state };
+    ghost invariant = { λ c. KeptUntil c.still_until (word_at c.code) c.state };
 }
 
 impl<R: RenameTaint> Core<R> {
@@ -50,7 +52,11 @@ impl<R: RenameTaint> Core<R> {
     {
         let Image { ram, code, entry } = image;
         let state = State::new(alloc, desc, entry, ram)?;
-        Ok(Core { state, code })
+        Ok(Core {
+            state,
+            code,
+            still_until: 0,
+        })
     }
 
     /// The reorder buffer: it has the window.
@@ -114,10 +120,14 @@ impl<R: RenameTaint> Clocked for Core<R> {
         self.state.begin();
         row.begin(self.state.cycle);
         piece.clear();
+        if self.state.cycle < self.still_until {
+            return;
+        }
         self.state.front(row);
         self.state.retire(row, piece);
         self.state.advance();
         self.state.back(&self.code, row);
+        self.still_until = self.state.still_until(row);
     }
 
     fn end(&self) -> Option<End> {
