@@ -159,8 +159,8 @@ module _ (s s1 s2 : Described) (p : Fronts s s1 s2) where
         cycle_kept r1 r2 r3 r4 w same a until empty running due = record {
           kept = kept_after code s s5 machine_is aligned h n a;
           still =
-            subst (λ d. StillUntil until d code s5.machine) (sym (same ∙ desc_left))
-            (still_after until s.desc code s.machine _ (cycle_is r1 r2 r3 r4 _ w refl) empty running due);
+              subst (λ d. StillUntil until d code s5.machine) (sym (same ∙ desc_left))
+              (still_after until s.desc code s.machine _ (cycle_is r1 r2 r3 r4 _ w refl) empty running due);
         }
 
 -- a core's code stands at multiples of 4

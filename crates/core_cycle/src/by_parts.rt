@@ -19,7 +19,8 @@ use visibility::VisPoint;
 use window_model::{Clocked, Row};
 
 /// The written machine by its parts: seen as the machine (`docs/machine.md`, "State"), its description, and the words that it
-/// may fetch. Between two cycles the parts that it lends stand for the machine.
+/// may fetch. Between two cycles the parts that it lends stand for the machine. In a cycle of which it knows that nothing happens
+/// no phase goes (`docs/machine.md`, "Cycles in which nothing happens").
 #[derive(Drop)]
 pub struct Core<R: RenameTaint> {
     state: State<R>,
@@ -115,7 +116,6 @@ impl<R: RenameTaint> Clocked for Core<R> {
 
     ghost machine = { λ c. c.machine };
 
-    #[tactic(auto, unfolding(window_model::specs::Cycle::cycle))]
     fn cycle(&mut self, row: &mut Row, piece: &mut Piece) {
         self.state.begin();
         row.begin(self.state.cycle);

@@ -193,7 +193,10 @@ fn lends_its_parts(rt: HostRuntime) -> Result<(), Fail> {
     assert!(rt; core.lsq().has_load_room());
     assert!(rt; core.point().visible(1));
     if core.stations().len() == 2 {
-        assert_eq!(rt; (core.stations().ready(0), core.stations().ready(1)), (true, false));
+        assert_eq!(rt;
+            (core.stations().ready(0), core.stations().ready(1)),
+            (true, false)
+        );
     }
     if core.rob().len() == 2 {
         assert_eq!(rt; core.roots(1), [None, Some(0)]);

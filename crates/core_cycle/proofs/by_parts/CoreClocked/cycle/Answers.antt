@@ -5,7 +5,7 @@ use Rattle.window_model.specs.Cycle.{cycle}
 use Rattle.quiet_cycles.specs.Still.{empty_row}
 use Rattle.core_cycle.specs.Described.{Described}
 use Rattle.core_cycle.specs.Programmed.{Programmed}
-use Rattle.core_cycle.proofs.Cycling.{count_stays, cycle_kept, cycle_retires, end_stays, serial_stays, text_aligned}
+use Rattle.core_cycle.proofs.Cycling.{count_stays, cycle_is, cycle_kept, cycle_retires, end_stays, serial_stays, text_aligned}
 use Rattle.core_cycle.proofs.Passing.{passed, passed_commits, passed_kept}
 use Rattle.core_cycle.proofs.by_parts.CoreClocked.cycle.Goals as goal
 
@@ -67,6 +67,14 @@ invariant_of-self-2 g c =
     (record { begins = c.begin-2.ensures ∙ ap empty_row number; fronts = c.front.ensures.row; retires = c.retire.ensures.row; backs = c.back.ensures.row })
     c.back.ensures.desc c.back.ensures.advanced c.still_until-self-inside.result
     c.still_until-self-inside.ensures.empty c.still_until-self-inside.ensures.running c.still_until-self-inside.ensures.due
+
+pub returns-clause-cycled : goal.returns-clause-cycled
+returns-clause-cycled g c =
+    let number = ap (λ i. i.state.machine.cycle) c.self-inside.view_is ∙ ap (λ (s : Described). s.machine.cycle) c.begin.ensures in
+    subst (λ (p : Programmed). record { machine = c.back.new.self.machine; row = c.back.new.row; piece = c.retire.new.piece } ≡ cycle p.desc (word_at p.code) p.machine) c.self.view_is
+    (cycle_is _ _ c.front.new.self (record { begins = c.begin.ensures; desc = c.front.ensures.desc; machine = c.front.ensures.machine }) _ c.advance.new.self
+    (record { retires = c.retire.ensures.state; advances = c.advance.ensures.moved }) (word_at c.self.inside.code) c.back.new.self c.back.ensures.machine _ _ _ _ c.retire.new.piece
+    (record { begins = c.begin-2.ensures ∙ ap empty_row number; fronts = c.front.ensures.row; retires = c.retire.ensures.row; backs = c.back.ensures.row }) c.retire.ensures.piece)
 
 pub returns-clause-commits : goal.returns-clause-commits
 returns-clause-commits g c =
