@@ -1,12 +1,13 @@
 -- A whole cycle of the core, phase by phase: what it comes to, what it keeps and what it retires.
-use Rattle.std.proofs.Common.{◌≡◌, ℕ, ◌+◌, List, [], Option, None, IsSome, refl, ap, ap₂, sym, ◌∙◌, subst}
+use Rattle.std.proofs.Common.{◌≡◌, ℕ, ◌+◌, ◌<◌, List, [], Option, None, IsSome, refl, ap, ap₂, sym, ◌∙◌, subst}
 use Rattle.std.specs.Prelude.{◌++◌}
 use Rattle.rv_types.specs.Memory.{Code}
 use Rattle.elf_loader.specs.Code.{CodeText, word_at}
 use Rattle.elf_loader.proofs.Images.{code_aligned}
 use Rattle.machine_desc.specs.declared.Desc.{Desc}
-use Rattle.machine_desc.proofs.EveryDesc.{every_desc}
+use Rattle.window_model.specs.declared.Event.{Event}
 use Rattle.window_model.specs.State.{Machine, After}
+use Rattle.window_model.specs.Row.{Row}
 use Rattle.window_model.specs.Fill.{fill, complete}
 use Rattle.window_model.specs.Resolve.{resolve}
 use Rattle.window_model.specs.Retire.{Retired, retire}
@@ -15,14 +16,12 @@ use Rattle.window_model.specs.Cycle.{Cycled, cycle, back}
 use Rattle.window_model.specs.Committed.{Aligned, Commits}
 use Rattle.window_model.proofs.Quiet.{before_retire, front_quiet}
 use Rattle.window_model.proofs.Walks.{fetch_keep}
-use Rattle.machine_facts.specs.Timely.{Counted}
 use Rattle.machine_facts.proofs.Adds.{fill_adds, complete_adds, resolve_adds, retire_turns}
-use Rattle.machine_facts.proofs.FewEvents.{counts_cycle}
-use Rattle.committed_state.specs.Consistent.{Consistent}
-use Rattle.committed_state.proofs.Cycle.{cycle_commits, consistent_cycle}
+use Rattle.quiet_cycles.specs.Still.{NothingDueBefore, StillUntil, empty_row}
 use Rattle.visibility.specs.Point.{HasAdvanced, moved_over}
 use Rattle.core_cycle.specs.Described.{Described}
-use Rattle.core_cycle.specs.Kept.{Kept}
+use Rattle.core_cycle.specs.Kept.{Kept, KeptUntil}
+use Rattle.core_cycle.proofs.Passing.{commits_after, kept_after, still_after}
 
 -- ---- once the point has moved over the window, fetching leaves it where it is
 
@@ -52,13 +51,27 @@ pub record Leaves (s2 s3 s4 : Described) : Type 0 where
   pub retires : s3 ≡ record s2 { machine = (retire s2.desc s2.machine).machine }
   pub advances : s4 ≡ record s3 { point = moved_over s3.machine.window s3.point }
 
+-- a row without events, and what each of these adds to it
+pub record Writes (code : Code) (s s1 s2 s4 : Described) (r1 r2 r3 r4 : Row) : Type 0 where
+  pub begins : r1 ≡ empty_row (s.machine.cycle + 1)
+  pub fronts : r2 ≡ record r1 { events = r1.events ++ (front s1.desc s1.machine).events }
+  pub retires : r3 ≡ record r2 { events = r2.events ++ (retire s2.desc s2.machine).events }
+  pub backs : r4 ≡ record r3 { events = r3.events ++ (back s4.desc code s4.machine).events }
+
+abbrev written : ℕ → List Event → List Event → List Event → Row
+written number f r b = record { cycle = number; events = f ++ r ++ b }
+
+joined : (number : ℕ) (f r b : List Event) (r1 r2 r3 r4 : Row) → r1 ≡ empty_row number → r2 ≡ record r1 { events = r1.events ++ f } → r3 ≡ record r2 { events = r2.events ++ r } → r4 ≡ record r3 { events = r3.events ++ b } →
+    r4 ≡ written number f r b
+joined number f r b r1 r2 r3 r4 e1 e2 e3 e4 = cc
+
 -- all of them are the written cycle
 abbrev all : Desc → Code → Machine → Cycled
 all d code x =
     let f = front d (begun x) in
     let r = retire d f.machine in
     let b = back d code r.machine in
-    record { machine = b.machine; row = record { cycle = x.cycle + 1; events = f.events ++ r.events ++ b.events }; piece = r.piece }
+    record { machine = b.machine; row = written (x.cycle + 1) f.events r.events b.events; piece = r.piece }
 
 whole : (d : Desc) (code : Code) (x : Machine) → all d code x ≡ cycle d code x
 unfolding cycle
@@ -116,20 +129,39 @@ module _ (s s1 s2 : Described) (p : Fronts s s1 s2) where
       piece_is : (retire s2.desc s2.machine).piece ≡ (cycle s.desc code s.machine).piece
       piece_is = ap (λ (r : Retired). r.piece) retired ∙ ap (λ (c : Cycled). c.piece) (whole s.desc code s.machine)
 
-      module _ (aligned : Aligned code) (h : Kept code s) (n : s.machine.end ≡ None) where
-        -- what holds in every state is kept
-        pub cycle_kept : HasAdvanced s5.point s5.machine.window → Kept code s5
-        cycle_kept a = record {
-          counted = subst Counted (sym machine_is) (counts_cycle s.desc code s.machine (every_desc s.desc) h.counted);
-          consistent = subst (Consistent code) (sym machine_is) (consistent_cycle s.desc code s.machine aligned h.consistent n);
-          advanced = a;
-        }
+      row_is : (r1 r2 r3 r4 : Row) → Writes code s s1 s2 s4 r1 r2 r3 r4 → r4 ≡ (cycle s.desc code s.machine).row
+      row_is r1 r2 r3 r4 w =
+          let number = s.machine.cycle + 1 in
+          let f = front s.desc (begun s.machine) in
+          let r = retire s.desc (before_retire s.desc s.machine) in
+          joined number (front s1.desc s1.machine).events (retire s2.desc s2.machine).events (back s4.desc code s4.machine).events r1 r2 r3 r4 w.begins w.fronts w.retires w.backs
+          ∙ ap (λ (f : After). written number f.events (retire s2.desc s2.machine).events (back s4.desc code s4.machine).events) fronted
+          ∙ ap (λ (r : Retired). written number f.events r.events (back s4.desc code s4.machine).events) retired
+          ∙ ap (λ (b : After). written number f.events r.events b.events) backed
+          ∙ ap (λ (c : Cycled). c.row) (whole s.desc code s.machine)
 
-        -- and what retires are steps of the instruction set
+      -- the written cycle
+      pub cycle_is : (r1 r2 r3 r4 : Row) (piece : List ℕ) → Writes code s s1 s2 s4 r1 r2 r3 r4 → piece ≡ (retire s2.desc s2.machine).piece →
+          record { machine = s5.machine; row = r4; piece = piece } ≡ cycle s.desc code s.machine
+      cycle_is r1 r2 r3 r4 piece w p =
+          let c = cycle s.desc code s.machine in
+          let whole : Machine → Row → List ℕ → Cycled = λ m r p. record { machine = m; row = r; piece = p } in
+          ap (λ m. whole m r4 piece) machine_is ∙ ap (λ r. whole c.machine r piece) (row_is r1 r2 r3 r4 w) ∙ ap (whole c.machine c.row) (p ∙ piece_is)
+
+      module _ (aligned : Aligned code) (h : Kept code s) (n : s.machine.end ≡ None) where
+        -- what retires are steps of the instruction set
         pub cycle_retires : (piece : List ℕ) → piece ≡ (retire s2.desc s2.machine).piece → Commits code s.machine s5.machine piece
-        cycle_retires piece e =
-            subst (Commits code s.machine s5.machine) (sym (e ∙ piece_is))
-            (subst (λ x. Commits code s.machine x (cycle s.desc code s.machine).piece) (sym machine_is) (cycle_commits s.desc code s.machine aligned h.consistent n))
+        cycle_retires piece e = commits_after code s s5 machine_is aligned h n piece (e ∙ piece_is)
+
+        -- what holds in every state is kept, and what is known of the next cycles holds
+        pub cycle_kept : (r1 r2 r3 r4 : Row) → Writes code s s1 s2 s4 r1 r2 r3 r4 → s5.desc ≡ s4.desc → HasAdvanced s5.point s5.machine.window →
+            (until : ℕ) → (0 < until → r4.events ≡ []) → (0 < until → s5.machine.end ≡ None) → NothingDueBefore until s5.machine → KeptUntil until code s5
+        cycle_kept r1 r2 r3 r4 w same a until empty running due = record {
+          kept = kept_after code s s5 machine_is aligned h n a;
+          still =
+              subst (λ d. StillUntil until d code s5.machine) (sym (same ∙ desc_left))
+              (still_after until s.desc code s.machine _ (cycle_is r1 r2 r3 r4 _ w refl) empty running due);
+        }
 
 -- a core's code stands at multiples of 4
 pub text_aligned : (code : CodeText) → Aligned (word_at code)

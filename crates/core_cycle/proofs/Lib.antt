@@ -7,4 +7,5 @@ pub mod Opening
 pub mod Lending
 pub mod Issuing
 pub mod Renaming
+pub mod Passing
 pub mod Cycling

@@ -1,7 +1,9 @@
 -- What holds between two cycles of a core.
+use Rattle.std.specs.Prelude.{ℕ}
 use Rattle.rv_types.specs.Memory.{Code}
 use Rattle.machine_facts.specs.Timely.{Counted}
 use Rattle.committed_state.specs.Consistent.{Consistent}
+use Rattle.quiet_cycles.specs.Still.{StillUntil}
 use Rattle.visibility.specs.Point.{HasAdvanced}
 use Rattle.core_cycle.specs.Described.{Described}
 
@@ -12,3 +14,8 @@ pub record Kept (code : Code) (s : Described) : Type 0 where
   -- each entry is an instruction of the program, and has the outcome that the instruction set gives it in its place
   pub consistent : Consistent code s.machine
   pub advanced : HasAdvanced s.point s.machine.window
+
+-- and nothing happens in the cycles before the one with this number
+pub record KeptUntil (n : ℕ) (code : Code) (s : Described) : Type 0 where
+  pub kept : Kept code s
+  pub still : StillUntil n s.desc code s.machine

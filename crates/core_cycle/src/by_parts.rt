@@ -19,16 +19,19 @@ use visibility::VisPoint;
 use window_model::{Clocked, Row};
 
 /// The written machine by its parts: seen as the machine (`docs/machine.md`, "State"), its description, and the words that it
-/// may fetch. Between two cycles the parts that it lends stand for the machine.
+/// may fetch. Between two cycles the parts that it lends stand for the machine. In a cycle of which it knows that nothing happens
+/// no phase goes (`docs/machine.md`, "Cycles in which nothing happens").
 #[derive(Drop)]
 pub struct Core<R: RenameTaint> {
     state: State<R>,
     code: Code,
+    /// Nothing happens in the cycles below this number. 0 where that is known of none.
+    still_until: u32,
 }
 
 impl<R: RenameTaint> Model for Core<R> {
     ghost use Rattle.core_cycle.specs.Programmed.{Programmed, programmed_code};
-    ghost use Rattle.core_cycle.specs.Kept.{Kept};
+    ghost use Rattle.core_cycle.specs.Kept.{KeptUntil};
     ghost use Rattle.elf_loader.specs.Code.{word_at};
 
     ghost Value = { Programmed };
@@ -37,7 +40,7 @@ impl<R: RenameTaint> Model for Core<R> {
 
     ghost view = { λ c. record { desc = c.state.desc; code = c.code; machine = c.state.machine } };
 
-    ghost invariant = { λ c. Kept (word_at c.code) c.state };
+    ghost invariant = { λ c. KeptUntil c.still_until (word_at c.code) c.state };
 }
 
 impl<R: RenameTaint> Core<R> {
@@ -50,7 +53,11 @@ impl<R: RenameTaint> Core<R> {
     {
         let Image { ram, code, entry } = image;
         let state = State::new(alloc, desc, entry, ram)?;
-        Ok(Core { state, code })
+        Ok(Core {
+            state,
+            code,
+            still_until: 0,
+        })
     }
 
     /// The reorder buffer: it has the window.
@@ -109,15 +116,18 @@ impl<R: RenameTaint> Clocked for Core<R> {
 
     ghost machine = { λ c. c.machine };
 
-    #[tactic(auto, unfolding(window_model::specs::Cycle::cycle))]
     fn cycle(&mut self, row: &mut Row, piece: &mut Piece) {
         self.state.begin();
         row.begin(self.state.cycle);
         piece.clear();
+        if self.state.cycle < self.still_until {
+            return;
+        }
         self.state.front(row);
         self.state.retire(row, piece);
         self.state.advance();
         self.state.back(&self.code, row);
+        self.still_until = self.state.still_until(row);
     }
 
     fn end(&self) -> Option<End> {

@@ -6,6 +6,7 @@
 
 mod by_parts;
 mod cycle;
+mod due;
 mod lent;
 mod phases;
 mod start;

@@ -7,8 +7,8 @@ use Rattle.core_cycle.proofs.by_parts.Core.point.Goals as goal
 pub returns-clause-visible : goal.returns-clause-visible
 returns-clause-visible g c =
     subst (λ (p : Programmed). TellsVisible p.desc.stt_model c.point.result.now p.machine.window) c.self.view_is
-    (point_visible _ _ _ _ c.point.ensures.same c.point.ensures.model c.self.invariant.advanced)
+    (point_visible _ _ _ _ c.point.ensures.same c.point.ensures.model c.self.invariant.kept.advanced)
 
 pub returns-clause-older : goal.returns-clause-older
 returns-clause-older g c =
-    subst (λ (p : Programmed). ShowsOlder c.point.result.now p.machine.window) c.self.view_is (point_older _ _ _ c.point.ensures.same c.self.invariant.advanced)
+    subst (λ (p : Programmed). ShowsOlder c.point.result.now p.machine.window) c.self.view_is (point_older _ _ _ c.point.ensures.same c.self.invariant.kept.advanced)

@@ -1,0 +1,81 @@
+//! What is due later, and from when on something may happen again (`docs/machine.md`, "Cycles in which nothing happens").
+ghost use Rattle.std.specs.Prelude.{◌≡◌, ◌<◌, ◌≤◌, All, [], None};
+ghost use Rattle.quiet_cycles.specs.Still.{NotDoneBefore, NotDueBefore, NothingDueBefore};
+
+use crate::state::State;
+use rename_taint::RenameTaint;
+use rob_ring::RobRing;
+use window_model::{Miss, Row, State as EntryState};
+
+impl<R: RenameTaint> State<R> {
+    /// After a cycle with this row: the number of a cycle before which nothing happens. 0, of which nothing is claimed, where
+    /// the row has an event or the run has ended.
+    pub(crate) fn still_until(&self, row: &Row) -> u32
+        ensures empty { 0 < result → row.now.events ≡ [] }
+        ensures running { 0 < result → self.now.machine.end ≡ None }
+        ensures due { NothingDueBefore result self.now.machine }
+    {
+        if self.end.is_some() || !row.events().is_empty() {
+            return 0;
+        }
+        self.next_due()
+    }
+
+    // The first cycle after this one in which something is due: an entry becomes Done, a line comes, or the divider is free
+    // again. The last number of a cycle where nothing is.
+    fn next_due(&self) -> u32
+        ensures { NothingDueBefore result self.now.machine }
+    {
+        let cycle = self.cycle as u64;
+        let free = sooner(self.ports.divider().free_from, cycle, u32::MAX as u64);
+        let comes = lines_due(self.mshrs.misses(), cycle, free);
+        entries_due(&self.rob, cycle, comes) as u32
+    }
+}
+
+// The sooner of the two, where the first is due after this cycle.
+fn sooner(due: u64, cycle: u64, least: u64) -> u64
+    ensures due { NotDueBefore result cycle due }
+    ensures sooner { result ≤ least }
+{
+    if cycle < due && due < least {
+        due
+    } else {
+        least
+    }
+}
+
+// The same of what an entry is busy with.
+fn done_sooner(state: EntryState, cycle: u64, least: u64) -> u64
+    ensures done { NotDoneBefore result cycle state }
+    ensures sooner { result ≤ least }
+{
+    match state {
+        EntryState::Busy(due) => sooner(due, cycle, least),
+        _ => least,
+    }
+}
+
+// The soonest in which a line comes.
+fn lines_due(misses: &[Miss], cycle: u64, most: u64) -> u64
+    ensures lines { All (λ m. NotDueBefore result cycle m.due) misses.now }
+    ensures sooner { result ≤ most }
+{
+    let mut least = most;
+    for miss in misses {
+        least = sooner(miss.due, cycle, least);
+    }
+    least
+}
+
+// The soonest in which an entry becomes Done.
+fn entries_due(rob: &RobRing, cycle: u64, most: u64) -> u64
+    ensures entries { All (λ e. NotDoneBefore result cycle e.state) rob.now.entries }
+    ensures sooner { result ≤ most }
+{
+    let mut least = most;
+    for i in 0..rob.len() {
+        least = done_sooner(rob.at(i).state, cycle, least);
+    }
+    least
+}
