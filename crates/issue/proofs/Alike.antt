@@ -1,5 +1,5 @@
 -- What comes of an entry depends on no other part of the machine than those that the phase looks at.
-use Rattle.std.proofs.Common.{◌≡◌, ℕ, Bool, true, false, List, [], ◌∷◌, Option, Some, None, refl, ap, ap₂, ◌∙◌}
+use Rattle.std.proofs.Common.{◌≡◌, ℕ, List, [], ◌∷◌, Option, Some, None, refl, ap, ap₂, ◌∙◌}
 use Rattle.std.specs.Prelude.{if◌then◌else◌, map, not, ◌&&◌, ◌==◌}
 use Rattle.std.specs.List.{find}
 use Rattle.std.specs.Option.{option_map}
@@ -16,7 +16,7 @@ use Rattle.window_model.specs.State.{Machine, line_of}
 use Rattle.window_model.specs.Order.{Place, each, each_from, first}
 use Rattle.window_model.specs.Retire.{has_line, width_of}
 use Rattle.window_model.specs.Access.{Access, Faults, Forwards, Hits, Joins, Misses, Waits, access_at, all_covered, any_store_hidden, look}
-use Rattle.window_model.specs.Issue.{Begun, access_of, begin_as, effect_at, is_free, is_granted, issue_entry, load_as, tried, value_loaded, waits}
+use Rattle.window_model.specs.Issue.{access_of, begin_as, effect_at, is_free, is_granted, issue_entry, load_as, tried, value_loaded, waits}
 use Rattle.issue.specs.declared.decide.Decided.{Decided}
 use Rattle.issue.specs.Decisions.{Decides}
 
