@@ -1,9 +1,9 @@
 -- Parts that stand for the window go on to do so as the entries that have begun come in their places, the youngest first.
-use Rattle.std.proofs.Common.{◌≡◌, ℕ, zero, suc, ◌<◌, ◌≤◌, Bool, true, false, List, [], ◌∷◌, ◌++◌, length, Option, Some, None, refl, ap, sym, ◌∙◌, subst, arith, slice_get}
+use Rattle.std.proofs.Common.{◌≡◌, ℕ, zero, suc, ◌<◌, true, false, List, [], ◌∷◌, ◌++◌, length, Option, Some, None, refl, ap, sym, ◌∙◌, subst, arith, slice_get}
 use Rattle.std.specs.Prelude.{if◌then◌else◌, map, slice_set}
 use Rattle.std.specs.List.{All, AllPairs, AllZip, remove}
 use Rattle.std.specs.Option.{option_to_list}
-use Rattle.std.proofs.lemmas.List.Elements.{All-head, All-nil, All-cons, All-tail, All-weaker}
+use Rattle.std.proofs.lemmas.List.Elements.{All-head, All-nil, All-cons, All-tail}
 use Rattle.std.proofs.lemmas.Option.{slice_get_within}
 use Rattle.window_model.specs.declared.Entry.{Entry}
 use Rattle.window_model.specs.declared.Outcome.{Outcome}
@@ -148,8 +148,7 @@ age_left : (puts : List Put) (put : Put) → ByAge (puts ++ put ∷ []) → ByAg
 age_left [] put r = (age_none, All-nil (λ p. p.position < put.position))
 age_left (p ∷ puts) put r =
     let h = age_head p (puts ++ put ∷ []) r in
-    let k = age_left puts put (age_tail p (puts ++ put ∷ []) r) in
-    (
+    let k = age_left puts put (age_tail p (puts ++ put ∷ []) r) in (
       age_cons p puts (all_left (λ q. p.position < q.position) puts (put ∷ []) h) k.0,
       All-cons (λ q. q.position < put.position) p puts (All-head (λ q. p.position < q.position) put [] (all_right (λ q. p.position < q.position) puts (put ∷ []) h)) k.1,
     )
@@ -157,8 +156,7 @@ age_left (p ∷ puts) put r =
 -- the youngest is one, and the others are still to be put in their places once it is in its own
 youngest : (window : List Entry) (puts : List Put) (put : Put) → ArePuts window (puts ++ put ∷ []) → IsPut window put × ArePuts (slice_set window put.position put.entry) puts
 youngest window puts put a =
-    let k = age_left puts put a.by_age in
-    (
+    let k = age_left puts put a.by_age in (
       All-head (IsPut window) put [] (all_right (IsPut window) puts (put ∷ []) a.each_put),
       record { each_put = all_still window puts put.position put.entry k.1 (all_left (IsPut window) puts (put ∷ []) a.each_put); by_age = k.0 },
     )

@@ -1,9 +1,9 @@
 -- Parts that are filled by hand stand for their window where their lists do.
-use Rattle.std.proofs.Common.{◌≡◌, ℕ, ◌<◌, Bool, true, false, cond, List, [], ◌∷◌, ◌++◌, length, map, Option, Some, None, refl, ap, sym, ◌∙◌, subst, arith}
+use Rattle.std.proofs.Common.{◌≡◌, ℕ, ◌<◌, Bool, true, false, cond, List, [], ◌∷◌, length, map, Option, None, refl, ap, sym, ◌∙◌, subst, arith}
 use Rattle.std.specs.Prelude.{if◌then◌else◌}
 use Rattle.std.specs.List.{AllZip}
 use Rattle.std.proofs.lemmas.List.Elements.{All-nil, All-cons}
-use Rattle.circular_buffer.specs.Buffer.{Buffer, buffer}
+use Rattle.circular_buffer.specs.Buffer.{Buffer}
 use Rattle.rv_types.specs.Regs.{two}
 use Rattle.window_model.specs.declared.Entry.{Entry}
 use Rattle.window_model.specs.declared.State.TheVariants.{Waiting}
@@ -12,8 +12,8 @@ use Rattle.rob_ring.specs.Ring.{Ring}
 use Rattle.stations.specs.Stations.{Station, Stations}
 use Rattle.lsq.specs.declared.store.Store.{Store}
 use Rattle.lsq.specs.Queues.{Queues}
-use Rattle.queue_laws.specs.Window.{StoresStandFor, loads_in, shown_entry, stores_in}
-use Rattle.parts_stand.specs.Parts.{Parts, Stand, awaited, waiter_in, waiters_from, writes_in}
+use Rattle.queue_laws.specs.Window.{StoresStandFor, loads_in, shown_entry}
+use Rattle.parts_stand.specs.Parts.{Stand, awaited, writes_in}
 use Rattle.parts_stand.specs.Roots.{root_of_source}
 use Rattle.parts_stand.specs.Steps.{GoesOn}
 use Rattle.parts_stand.specs.Addresses.{AddressesStand}

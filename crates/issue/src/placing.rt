@@ -18,11 +18,7 @@ use stations::Stations;
 
 /// Each entry comes in its place, and its station is freed. The youngest comes first, so that the others' stations stay where
 /// they are.
-pub(crate) fn place(
-    mut puts: ArrayVec<Put, PUTS_MAX>,
-    rob: &mut RobRing,
-    stations: &mut Stations,
-)
+pub(crate) fn place(mut puts: ArrayVec<Put, PUTS_MAX>, rob: &mut RobRing, stations: &mut Stations)
     requires puts { ArePuts rob.old.entries puts.items }
     requires stands { (p : Parts) × Stand (holding rob.old stations.old p) }
     ensures window { rob.new ≡ record rob.old { entries = placed puts.items rob.old.entries } }

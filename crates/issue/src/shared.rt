@@ -35,11 +35,10 @@ pub(crate) fn take_divider(ports: &mut Ports, division: Option<Divider>)
     requires used { HasUser division }
     ensures { ports.new ≡ record ports.old { divider = divider_left division ports.old.divider } }
 {
-    if let Some(Divider {
-        free_from,
-        user: Some(serial),
-    }) = division
-    {
-        ports.divide(free_from, serial);
+    let Some(taken) = division else {
+        return;
+    };
+    if let Some(serial) = taken.user {
+        ports.divide(taken.free_from, serial);
     }
 }

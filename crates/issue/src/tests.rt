@@ -338,11 +338,29 @@ fn loads_find_their_lines(rt: HostRuntime) -> Result<(), Fail> {
     let ld = |look| Some(Event::Ld(7, LINE, look));
     // The load's base, the line in the cache, those on their way; its event, and how far it is then.
     let rows: [(u32, u32, [u32; 2], Option<Event>, State); 5] = [
-        (BASE + 1, LINE, [0, 0], Some(Event::LdFault(7)), State::Busy(21)),
+        (
+            BASE + 1,
+            LINE,
+            [0, 0],
+            Some(Event::LdFault(7)),
+            State::Busy(21),
+        ),
         (LINE, LINE, [0, 0], ld(Look::Hit), State::Busy(22)),
         (LINE, LINE + 32, [LINE, 0], ld(Look::Join), State::Busy(24)),
-        (LINE, LINE + 32, [LINE + 64, 0], ld(Look::Miss), State::Busy(30)),
-        (LINE, LINE + 32, [LINE + 64, LINE + 96], None, State::Waiting),
+        (
+            LINE,
+            LINE + 32,
+            [LINE + 64, 0],
+            ld(Look::Miss),
+            State::Busy(30),
+        ),
+        (
+            LINE,
+            LINE + 32,
+            [LINE + 64, LINE + 96],
+            None,
+            State::Waiting,
+        ),
     ];
     for (base, line, coming, event, state) in rows {
         let mut shared = used(&rt, alloc, &desc, line, coming)?;
@@ -351,7 +369,10 @@ fn loads_find_their_lines(rt: HostRuntime) -> Result<(), Fail> {
         assert_eq!(rt; told, event);
         assert_eq!(rt; entry.state, state);
         if event == ld(Look::Miss) {
-            assert_eq!(rt; (value_of(&entry), shared.mshrs.find(LINE)), (0x1234, Some(30)));
+            assert_eq!(rt;
+                (value_of(&entry), shared.mshrs.find(LINE)),
+                (0x1234, Some(30))
+            );
         }
     }
     Ok(())
