@@ -1,5 +1,5 @@
 -- A whole cycle of the core, phase by phase: what it comes to, what it keeps and what it retires.
-use Rattle.std.proofs.Common.{◌≡◌, ℕ, ◌+◌, List, [], Option, None, IsSome, refl, ap, ap₂, sym, ◌∙◌, subst}
+use Rattle.std.proofs.Common.{◌≡◌, ℕ, ◌+◌, List, Option, None, IsSome, refl, ap, ap₂, sym, ◌∙◌, subst}
 use Rattle.std.specs.Prelude.{◌++◌}
 use Rattle.rv_types.specs.Memory.{Code}
 use Rattle.elf_loader.specs.Code.{CodeText, word_at}
