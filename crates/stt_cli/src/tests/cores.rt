@@ -22,7 +22,7 @@ fn sink(alloc: Global) -> Result<MemSink, Fail> {
 }
 
 // What the program writes over this core, with p.elf and d.toml.
-fn run_by<C: Built>(
+fn run_by<C: Built + Drop>(
     alloc: Global,
     command: &str,
     image: &[u8],
@@ -32,8 +32,9 @@ fn run_by<C: Built>(
     let mut out = sink(alloc)?;
     let mut note = sink(alloc)?;
     let words = [command, "d.toml", "p.elf", "--cycles", "600"];
-    let status =
-        stt_top::<C, MemFiles, MemSink, MemSink>(alloc, &words, &mut files, &mut out, &mut note);
+    let status = stt_top::<C, MemFiles, MemSink, MemSink>(
+        alloc, &words, &mut files, &mut out, &mut note,
+    );
     Ok(Left { status, out, note })
 }
 
