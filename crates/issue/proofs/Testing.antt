@@ -48,7 +48,7 @@ module _ (s : Seen) (i : ℕ) (e : Entry) (t : Stands s) (h : StandsAt s i e) wh
   stores_known = known_is (older e.serial s.lsq.now.stores) before (stores_before s.lsq.now s.rob.now.entries i e t.queues t.parts.rise h)
 
   -- untainted operands, and what is asked for besides
-  pub issue_is : (free m b : Bool) (roots : List (Option ℕ)) → slice_get s.roots.now i ≡ Some roots → m ≡ may_transmit e.item.kind s.point.now.serial roots → b ≡ asks_besides e.item.kind free before →
+  pub issue_is : (free m b : Bool) (roots : List (Option ℕ)) → slice_get s.roots.now.items i ≡ Some roots → m ≡ may_transmit e.item.kind s.point.now.serial roots → b ≡ asks_besides e.item.kind free before →
       (m && b) ≡ may_issue_as e.item.kind s.desc.now free before e
   issue_is free m b roots r p q = ap₂ (λ m b. m && b) p q ∙ sym (tells_issue s.desc.now (parts_of t.next t.writes s) s.point.now i e roots free t.parts t.advanced t.model h r)
 

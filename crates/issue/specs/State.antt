@@ -50,16 +50,16 @@ window_of s = s.rob.now.entries
 
 -- what stands for the window, with the next serial and the writes of the rename table
 abbrev pub parts_of : ℕ → List Write → Seen → Parts
-parts_of next writes s = record { next = next; window = s.rob.now.entries; roots = s.roots.now; writes = writes; held = s.stations.now.held }
+parts_of next writes s = record { next = next; window = s.rob.now.entries; roots = s.roots.now.items; writes = writes; held = s.stations.now.held }
 
 -- the parts stand for the window, the point has just moved, and the cache and the registers are of the description
 pub record Stands (s : Seen) : Type 0 where
   pub next : ℕ
   pub writes : List Write
   pub parts : Stand (parts_of next writes s)
-  pub writers : WritersOf next s.rob.now.entries s.writers.now
+  pub writers : WritersOf next s.rob.now.entries s.writers.now.items
   pub queues : StandFor s.lsq.now s.rob.now.entries
-  pub addresses : AddressesStand s.rob.now.entries s.roots.now s.lsq.now.stores
+  pub addresses : AddressesStand s.rob.now.entries s.roots.now.items s.lsq.now.stores
   pub advanced : HasAdvanced s.point.now s.rob.now.entries
   pub model : s.point.now.model ≡ s.desc.now.stt_model
   pub cache : s.tags.now.desc ≡ s.desc.now

@@ -1,5 +1,5 @@
 //! Which entries may issue, and which are granted a port (`docs/machine.md`, "Issue").
-use crate::seen::Seen;
+use crate::seen::{Seen, pair_at};
 use rv_types::Kind;
 use transmit_gate::may_issue;
 use unit_ports::Ports;
@@ -31,9 +31,9 @@ impl<'a> Seen<'a> {
     fn roots_at(&self, position: u32, entry: &Entry) -> [Option<u64>; 2]
         requires stands { Stands self.now }
         requires at { StandsAt self.now position entry.now }
-        ensures { slice_get self.now.roots.now position ≡ Some result }
+        ensures { slice_get self.now.roots.now.items position ≡ Some result }
     {
-        self.roots[position as usize]
+        pair_at(self.roots, position)
     }
 
     // What loads and divisions ask for beside untainted operands: older stores that are Done, a divider that is free.

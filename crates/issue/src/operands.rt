@@ -8,7 +8,7 @@ ghost use Rattle.rob_ring.specs.Ring.{below};
 ghost use Rattle.parts_stand.specs.Writers.{if_serial, in_flight};
 ghost use Rattle.issue.specs.Operands.{value_by};
 
-use crate::seen::Seen;
+use crate::seen::{Seen, pair_at};
 use rob_ring::RobRing;
 use rv_types::{REGISTERS, Reg, reads_of};
 use window_model::Entry;
@@ -91,9 +91,9 @@ impl<'a> Seen<'a> {
     fn writers_at(&self, position: u32, entry: &Entry) -> [Option<u64>; 2]
         requires stands { Stands self.now }
         requires at { StandsAt self.now position entry.now }
-        ensures { slice_get self.now.writers.now position ≡ Some result }
+        ensures { slice_get self.now.writers.now.items position ≡ Some result }
     {
-        self.writers[position as usize]
+        pair_at(self.writers, position)
     }
 
     /// The values of the sources of the entry at a position.

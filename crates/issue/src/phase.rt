@@ -39,8 +39,8 @@ use window_model::Row;
 /// first and second source stand at the entry's position.
 pub fn issue(
     rob: &mut RobRing,
-    roots: &mut HeapCircularBuffer<[Option<u64>; 2]>,
-    writers: &mut HeapCircularBuffer<[Option<u64>; 2]>,
+    roots: &HeapCircularBuffer<[Option<u64>; 2]>,
+    writers: &HeapCircularBuffer<[Option<u64>; 2]>,
     stations: &mut Stations,
     lsq: &Lsq,
     tags: &mut Tags,
@@ -53,20 +53,18 @@ pub fn issue(
     cycle: u32,
     row: &mut Row,
 )
-    requires stands { Standing rob.old roots.old writers.old stations.old lsq.now }
+    requires stands { Standing rob.old roots.now writers.now stations.old lsq.now }
     requires advanced { HasAdvanced point.now rob.old.entries }
     requires made { MadeFor desc.now tags.old mshrs.old ports.old point.now }
     requires room { length row.old.events + 8 ≤ 128 }
     ensures state { (x : Machine) → with_parts rob.new tags.new mshrs.new ports.new ram.now regs.now cycle x ≡ (issues desc.now rob.old tags.old mshrs.old ports.old ram.now regs.now cycle x).machine }
     ensures row { (x : Machine) → row.new ≡ record row.old { events = row.old.events ++ (issues desc.now rob.old tags.old mshrs.old ports.old ram.now regs.now cycle x).events } }
     ensures same_room { rob.new.room ≡ rob.old.room }
-    ensures roots { roots.new ≡ roots.old }
-    ensures writers { writers.new ≡ writers.old }
     ensures same_places { stations.new.room ≡ stations.old.room }
     ensures goes_on { AllZip GoesOn rob.old.entries rob.new.entries }
     ensures stand { (p : Parts) → Stand (holding rob.old stations.old p) → Stand (holding rob.new stations.new p) }
     ensures queues_stand { StandFor lsq.now rob.old.entries → StandFor lsq.now rob.new.entries }
-    ensures addresses_stand { AddressesStand rob.old.entries roots.old.items lsq.now.stores → AddressesStand rob.new.entries roots.old.items lsq.now.stores }
+    ensures addresses_stand { AddressesStand rob.old.entries roots.now.items lsq.now.stores → AddressesStand rob.new.entries roots.now.items lsq.now.stores }
     ensures point_stands { (p : Point) (next : ℕ) → PointStands p next rob.old.entries → PointStands p next rob.new.entries }
     ensures cache { tags.new.desc ≡ tags.old.desc }
     ensures registers { mshrs.new.room ≡ mshrs.old.room }
@@ -86,11 +84,11 @@ pub fn issue(
     take_divider(ports, division);
 }
 
-// Begins the cycle of the ports, and decides. The roots and the writers stay, each in one slice.
+// Begins the cycle of the ports, and decides.
 fn decide(
     rob: &RobRing,
-    roots: &mut HeapCircularBuffer<[Option<u64>; 2]>,
-    writers: &mut HeapCircularBuffer<[Option<u64>; 2]>,
+    roots: &HeapCircularBuffer<[Option<u64>; 2]>,
+    writers: &HeapCircularBuffer<[Option<u64>; 2]>,
     stations: &Stations,
     lsq: &Lsq,
     tags: &Tags,
@@ -103,15 +101,13 @@ fn decide(
     cycle: u32,
     row: &mut Row,
 ) -> Decided
-    requires stands { Standing rob.now roots.old writers.old stations.now lsq.now }
+    requires stands { Standing rob.now roots.now writers.now stations.now lsq.now }
     requires advanced { HasAdvanced point.now rob.now.entries }
     requires made { MadeFor desc.now tags.now mshrs.now ports.old point.now }
     requires room { length row.old.events + 8 ≤ 128 }
     ensures puts { ArePuts rob.now.entries result.puts.items }
     ensures decided { (x : Machine) → Decides desc.now (with_parts rob.now tags.now mshrs.now ports.old ram.now regs.now cycle x) result }
     ensures row { (x : Machine) → row.new ≡ record row.old { events = row.old.events ++ (issues desc.now rob.now tags.now mshrs.now ports.old ram.now regs.now cycle x).events } }
-    ensures roots { roots.new ≡ roots.old }
-    ensures writers { writers.new ≡ writers.old }
     ensures divider { ports.new.divider ≡ ports.old.divider }
     ensures alus { ports.new.alus ≡ ports.old.alus }
     ensures few { length row.new.events ≤ length row.old.events + 8 }
@@ -122,8 +118,8 @@ fn decide(
         stations,
         lsq,
         point,
-        roots: roots.make_contiguous(),
-        writers: writers.make_contiguous(),
+        roots,
+        writers,
         tags,
         mshrs,
         ram,

@@ -1,6 +1,9 @@
 //! What the phase looks at.
+ghost use Rattle.std.specs.Prelude.{◌≡◌, ◌<◌, length, slice_get, Some};
+
 use byte_ram::Ram;
 use cache_tags::Tags;
+use circular_buffer::HeapCircularBuffer;
 use lsq::Lsq;
 use machine_desc::Desc;
 use mshr_file::Mshrs;
@@ -21,9 +24,9 @@ pub(crate) struct Seen<'a> {
     /// The visibility point.
     pub(crate) point: &'a VisPoint,
     /// At each entry's position the youngest roots of its first and second source.
-    pub(crate) roots: &'a [[Option<u64>; 2]],
+    pub(crate) roots: &'a HeapCircularBuffer<[Option<u64>; 2]>,
     /// At each entry's position the serials of the writers of its first and second source, as it was renamed.
-    pub(crate) writers: &'a [[Option<u64>; 2]],
+    pub(crate) writers: &'a HeapCircularBuffer<[Option<u64>; 2]>,
     /// The cache.
     pub(crate) tags: &'a Tags,
     /// The miss registers.
@@ -36,4 +39,12 @@ pub(crate) struct Seen<'a> {
     pub(crate) desc: &'a Desc,
     /// The cycle.
     pub(crate) cycle: u32,
+}
+
+/// The pair of an entry's sources at its position.
+pub(crate) fn pair_at(pairs: &HeapCircularBuffer<[Option<u64>; 2]>, position: u32) -> [Option<u64>; 2]
+    requires { position < length pairs.now.items }
+    ensures { slice_get pairs.now.items position ≡ Some result }
+{
+    *pairs.get(position as usize).unwrap()
 }

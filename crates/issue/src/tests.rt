@@ -56,8 +56,8 @@ fn run(
     point.advance(&parts.rob);
     issue(
         &mut parts.rob,
-        &mut parts.roots,
-        &mut parts.writers,
+        &parts.roots,
+        &parts.writers,
         &mut parts.stations,
         &parts.lsq,
         &mut shared.tags,
