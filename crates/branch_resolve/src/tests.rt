@@ -1,10 +1,14 @@
 //! Branches and JALRs over a window of two, with serial 0 alone visible; the expected values follow from `docs/machine.md`,
 //! "Resolve".
+ghost use Rattle.std.specs.Prelude.{◌≡◌, length, IfOk};
+
 use crate::{Resolution, pick, resolve};
+use circular_buffer::HeapCircularBuffer;
 use machine_desc::{Desc, read_desc};
 use predictor::Predictor;
 use rv_types::{Cause, Instr, Op, Reg, kind_of};
 use std::alloc::Global;
+use std::process::Abort;
 use std::test::Fail;
 use visibility::VisPoint;
 use window_model::{Entry, Event, Item, Outcome, State, Way, Window, empty_row};
@@ -89,20 +93,40 @@ fn sum() -> Instr {
     }
 }
 
+// The youngest roots of an older and of a younger entry's sources, by position.
+fn by_position(
+    rt: &impl Abort,
+    alloc: Global,
+    pairs: [[Option<u64>; 2]; 2],
+) -> Result<HeapCircularBuffer<[Option<u64>; 2]>, Fail>
+    ensures { IfOk result (λ b. length b.items ≡ 2) }
+{
+    let [older, younger] = pairs;
+    let mut roots = HeapCircularBuffer::with_capacity(alloc, 2)?;
+    if roots.try_push_back(older).is_err() {
+        panic!(rt; "no place");
+    }
+    if roots.try_push_back(younger).is_err() {
+        panic!(rt; "no place");
+    }
+    Ok(roots)
+}
+
 #[test]
 fn the_oldest_without_a_tainted_operand_is_picked(rt: HostRuntime) -> Result<(), Fail> {
-    let point = VisPoint::new(&desc(rt.alloc())?);
+    let alloc = rt.alloc();
+    let point = VisPoint::new(&desc(alloc)?);
     let taken = done(branch(), 1, 0x10014, None);
     let both = Two {
         older: taken,
         younger: done(jump(), 0x10008, 0x20000, None),
     };
-    let clean = [[None, Some(0)], [Some(0), None]];
-    assert_eq!(rt; pick(&both, &point, clean.as_slice()), Some(0));
-    let hidden = [[None, Some(7)], [Some(0), None]];
-    assert_eq!(rt; pick(&both, &point, hidden.as_slice()), Some(1));
-    let all_hidden = [[Some(7), None], [Some(7), None]];
-    assert_eq!(rt; pick(&both, &point, all_hidden.as_slice()), None);
+    let clean = by_position(&rt, alloc, [[None, Some(0)], [Some(0), None]])?;
+    assert_eq!(rt; pick(&both, &point, &clean), Some(0));
+    let hidden = by_position(&rt, alloc, [[None, Some(7)], [Some(0), None]])?;
+    assert_eq!(rt; pick(&both, &point, &hidden), Some(1));
+    let all_hidden = by_position(&rt, alloc, [[Some(7), None], [Some(7), None]])?;
+    assert_eq!(rt; pick(&both, &point, &all_hidden), None);
     let neither = Two {
         older: done(sum(), 1, 0x10008, None),
         younger: Entry {
@@ -110,7 +134,7 @@ fn the_oldest_without_a_tainted_operand_is_picked(rt: HostRuntime) -> Result<(),
             ..taken
         },
     };
-    assert_eq!(rt; pick(&neither, &point, clean.as_slice()), None);
+    assert_eq!(rt; pick(&neither, &point, &clean), None);
     Ok(())
 }
 

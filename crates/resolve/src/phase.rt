@@ -74,25 +74,12 @@ pub fn resolve<R: RenameTaint>(
     ensures front_desc { front.new.desc ≡ front.old.desc }
     ensures few { length row.new.events ≤ length row.old.events + 3 }
 {
-    let Some(position) = pick_at(rob, roots, point) else {
+    let Some(position) = pick(rob, point, roots) else {
         return;
     };
     resolve_at(
         position, rob, roots, writers, rename, stations, lsq, ports, predictor, front, row,
     );
-}
-
-// The position of the entry that resolves, if there is one. The roots stay, in one slice.
-fn pick_at(
-    rob: &RobRing,
-    roots: &mut HeapCircularBuffer<[Option<u64>; 2]>,
-    point: &VisPoint,
-) -> Option<u32>
-    requires { length roots.old.items ≡ length rob.now.entries }
-    ensures picked { result ≡ pick_from point.now.serial 0 rob.now.entries roots.old.items }
-    ensures same { roots.new ≡ roots.old }
-{
-    pick(rob, point, roots.make_contiguous())
 }
 
 // The entry at this position is resolved.

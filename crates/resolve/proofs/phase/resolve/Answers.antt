@@ -6,13 +6,13 @@ use Rattle.resolve.proofs.phase.resolve.Given as given
 use Rattle.resolve.proofs.phase.resolve.Goals as goal
 
 pub resolve_at-requires-clause-picked : goal.resolve_at-requires-clause-picked
-resolve_at-requires-clause-picked g c = c.in-Some.ensures.picked ∙ c.requires.picked
+resolve_at-requires-clause-picked g c = c.in-Some.ensures ∙ c.requires.picked
 
 kept : (g : given.Over) (c : goal.After-resolve_at g) →
     Left c.args.rob.now c.args.predictor.now c.args.roots.now (g.R.RenameTaint.writes c.args.rename.now) c.args.stations.now c.resolve_at.new.rob c.resolve_at.new.roots (g.R.RenameTaint.writes c.resolve_at.new.rename) c.resolve_at.new.stations
 kept g c = record {
   window = c.resolve_at.ensures.rob;
-  pairs = c.resolve_at.ensures.roots ∙ ap (λ (b : Buffer (List (Option ℕ))). buffer (take (length c.resolve_at.new.rob.entries) b.items) b.capacity) c.pick_at.ensures.same;
+  pairs = c.resolve_at.ensures.roots;
   names = c.resolve_at.ensures.names;
   places = c.resolve_at.ensures.stations;
 }
