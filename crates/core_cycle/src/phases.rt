@@ -120,8 +120,8 @@ impl<R: RenameTaint> State<R> {
     {
         issue::issue(
             &mut self.rob,
-            &mut self.roots,
-            &mut self.writers,
+            &self.roots,
+            &self.writers,
             &mut self.stations,
             &self.lsq,
             &mut self.tags,

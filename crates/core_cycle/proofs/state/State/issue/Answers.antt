@@ -1,3 +1,4 @@
+use Rattle.std.proofs.Common.{refl}
 use Rattle.core_cycle.proofs.Issuing.{advanced, issue_row, issue_shown, issue_whole, made_for, standing}
 use Rattle.core_cycle.proofs.state.State.issue.Goals as goal
 
@@ -15,8 +16,8 @@ invariant_of-self g c =
     issue_whole _ _ _ _ _ _ _ _ c.self.invariant c.issue.ensures.state
     (record {
       same_room = c.issue.ensures.same_room;
-      pairs = c.issue.ensures.roots;
-      sources = c.issue.ensures.writers;
+      pairs = refl;
+      sources = refl;
       same_places = c.issue.ensures.same_places;
       goes_on = c.issue.ensures.goes_on;
       stand = c.issue.ensures.stand;
