@@ -3,6 +3,7 @@ ghost use Rattle.std.specs.Prelude.{◌≡◌, ◌<◌, length, slice_get, Some}
 ghost use Rattle.branch_resolve.specs.Pick.{can_resolve, pick_from};
 
 use circular_buffer::HeapCircularBuffer;
+use rob_ring::pair_at;
 use visibility::VisPoint;
 use window_model::{Entry, Window};
 use window_walk::{is_control, is_done};
@@ -24,14 +25,6 @@ pub fn pick<W: Window>(
         }
     }
     None
-}
-
-// The pair at a position.
-fn pair_at(pairs: &HeapCircularBuffer<[Option<u64>; 2]>, position: u32) -> [Option<u64>; 2]
-    requires { position < length pairs.now.items }
-    ensures { slice_get pairs.now.items position ≡ Some result }
-{
-    *pairs.get(position as usize).unwrap()
 }
 
 // Whether an entry whose sources have these youngest roots may be resolved.

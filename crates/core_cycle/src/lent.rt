@@ -1,13 +1,12 @@
 //! The parts that are lent: what each tells of the machine.
-ghost use Rattle.std.specs.Prelude.{◌≡◌, ◌<◌, length, slice_get, Some};
+ghost use Rattle.std.specs.Prelude.{◌≡◌, ◌<◌, length};
 ghost use Rattle.queue_laws.specs.Window.{StandFor};
 ghost use Rattle.core_cycle.specs.Lent.{HasRoots, HoldsWaiting, NamesWriters, TellsReady};
 
 use crate::state::State;
-use circular_buffer::HeapCircularBuffer;
 use lsq::Lsq;
 use rename_taint::RenameTaint;
-use rob_ring::RobRing;
+use rob_ring::{RobRing, pair_at};
 use stations::Stations;
 use visibility::VisPoint;
 
@@ -56,12 +55,4 @@ impl<R: RenameTaint> State<R> {
     {
         pair_at(&self.roots, i)
     }
-}
-
-// The pair at a position.
-fn pair_at(pairs: &HeapCircularBuffer<[Option<u64>; 2]>, i: u32) -> [Option<u64>; 2]
-    requires { i < length pairs.now.items }
-    ensures { slice_get pairs.now.items i ≡ Some result }
-{
-    *pairs.get(i as usize).unwrap()
 }

@@ -1,5 +1,6 @@
 //! Which entries may issue, and which are granted a port (`docs/machine.md`, "Issue").
-use crate::seen::{Seen, pair_at};
+use crate::seen::Seen;
+use rob_ring::pair_at;
 use rv_types::Kind;
 use transmit_gate::may_issue;
 use unit_ports::Ports;

@@ -8,8 +8,8 @@ ghost use Rattle.rob_ring.specs.Ring.{below};
 ghost use Rattle.parts_stand.specs.Writers.{if_serial, in_flight};
 ghost use Rattle.issue.specs.Operands.{value_by};
 
-use crate::seen::{Seen, pair_at};
-use rob_ring::RobRing;
+use crate::seen::Seen;
+use rob_ring::{RobRing, pair_at};
 use rv_types::{REGISTERS, Reg, reads_of};
 use window_model::Entry;
 use window_walk::value_of;

@@ -1,6 +1,4 @@
 //! What the phase looks at.
-ghost use Rattle.std.specs.Prelude.{◌≡◌, ◌<◌, length, slice_get, Some};
-
 use byte_ram::Ram;
 use cache_tags::Tags;
 use circular_buffer::HeapCircularBuffer;
@@ -39,12 +37,4 @@ pub(crate) struct Seen<'a> {
     pub(crate) desc: &'a Desc,
     /// The cycle.
     pub(crate) cycle: u32,
-}
-
-/// The pair of an entry's sources at its position.
-pub(crate) fn pair_at(pairs: &HeapCircularBuffer<[Option<u64>; 2]>, position: u32) -> [Option<u64>; 2]
-    requires { position < length pairs.now.items }
-    ensures { slice_get pairs.now.items position ≡ Some result }
-{
-    *pairs.get(position as usize).unwrap()
 }

@@ -5,7 +5,7 @@ ghost use Rattle.std.specs.Option.{option_map};
 ghost use Rattle.stations.specs.Stations.{Station, Stations, struck, awaits_none};
 
 use crate::occupant::Occupant;
-use crate::places::{free_places, is_ready_at, put_in, strike_all, take_out, take_out_from};
+use crate::places::{free_places, is_ready_at, put_in, strike_all, serial_in, take_out, take_out_from};
 use machine_desc::Desc;
 use rv_types::NoMemory;
 use std::alloc::Global;
@@ -84,6 +84,14 @@ impl Stations {
         ensures { option_map awaits_none (slice_get self.now.held i) ≡ Some result }
     {
         is_ready_at(&self.places, &self.order, i as usize)
+    }
+
+    /// The serial of the entry at a position.
+    pub fn serial(&self, i: u32) -> u64
+        requires { i < length self.now.held }
+        ensures { option_map (λ s. s.serial) (slice_get self.now.held i) ≡ Some result }
+    {
+        serial_in(&self.places, &self.order, i as usize)
     }
 
     /// The place of the entry at a position. No two entries have the same.

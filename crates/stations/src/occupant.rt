@@ -27,14 +27,11 @@ impl Occupant {
     ghost use Rattle.std.specs.Prelude.{◌≡◌};
     ghost use Rattle.stations.specs.Places.{freed};
 
-    /// The entry once it awaits a serial no longer.
-    pub fn freed(self, serial: u64) -> Occupant
-        ensures { result ≡ freed serial self }
+    /// The entry awaits a serial no longer.
+    pub fn free(&mut self, serial: u64)
+        ensures { self.new ≡ freed serial self.old }
     {
-        Occupant {
-            serial: self.serial,
-            first: strike(self.first, serial),
-            second: strike(self.second, serial),
-        }
+        self.first = strike(self.first, serial);
+        self.second = strike(self.second, serial);
     }
 }

@@ -60,13 +60,12 @@ pub fn put_in(places: &mut Vec<Option<Occupant>>, order: &mut Vec<u32>, entry: O
     }
 }
 
-// A place whose entry awaits a serial no longer.
-fn freed_in(place: Option<Occupant>, serial: u64) -> Option<Occupant>
-    ensures { result ≡ freed_in serial place }
+// The place's entry, if there is one, awaits a serial no longer.
+fn free(place: &mut Option<Occupant>, serial: u64)
+    ensures { place.new ≡ freed_in serial place.old }
 {
-    match place {
-        Some(entry) => Some(entry.freed(serial)),
-        None => None,
+    if let Some(entry) = place {
+        entry.free(serial);
     }
 }
 
@@ -74,7 +73,7 @@ fn free_each(places: &mut [Option<Occupant>], serial: u64)
     ensures { places.new ≡ map (freed_in serial) places.old }
 {
     for place in places.iter_mut() {
-        *place = freed_in(*place, serial);
+        free(place, serial);
     }
 }
 
@@ -112,6 +111,14 @@ pub fn is_ready_at(places: &[Option<Occupant>], order: &[u32], i: usize) -> bool
     ensures { option_map awaits_none (slice_get (held_of places.now order.now) i) ≡ Some result }
 {
     is_ready(places, order[i])
+}
+
+/// The serial of the entry at a position by age.
+pub fn serial_in(places: &[Option<Occupant>], order: &[u32], i: usize) -> u64
+    requires { i < length order.now }
+    ensures { option_map (λ s. s.serial) (slice_get (held_of places.now order.now) i) ≡ Some result }
+{
+    serial_at(places, order[i])
 }
 
 /// Frees the place at a position by age.

@@ -33,6 +33,7 @@ fn an_entry_stays_in_its_place(rt: HostRuntime) -> Result<(), Fail> {
     let place = stations.place(1);
     stations.remove(0);
     assert_eq!(rt; stations.place(0), place);
+    assert_eq!(rt; stations.serial(0), 6);
     assert_eq!(rt; stations.free(), 1);
     stations.drop_from(6);
     assert_eq!(rt; stations.len(), 0);

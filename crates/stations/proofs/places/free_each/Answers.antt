@@ -11,5 +11,5 @@ loop-place-preserved c =
     let x = get_or c.loop-place.places c.loop-place.place-index None in
     let lt : i < length c.args.places.now = omega arith in
     let step = map_over_more (freed_in c.args.serial) c.args.places.now ps i x lt c.loop-place.invariant (any_default ps i None x (omega (arith, c.loop-place.auto.places))) in
-    let e = c.freed_in.ensures in
+    let e = c.free.ensures in
     cc
