@@ -52,6 +52,10 @@ module _ (s : Seen) (i : ℕ) (e : Entry) (t : Stands s) (h : StandsAt s i e) wh
       (m && b) ≡ may_issue_as e.item.kind s.desc.now free before e
   issue_is free m b roots r p q = ap₂ (λ m b. m && b) p q ∙ sym (tells_issue s.desc.now (parts_of t.next t.writes s) s.point.now i e roots free t.parts t.advanced t.model h r)
 
+-- an entry that waits and is ready may issue by what its kind asks for
+pub asks_by_kind : (d : Desc) (free : Bool) (before : List Entry) (e : Entry) → is_waiting e.state ≡ true → ready before e ≡ true → may_issue d free before e ≡ may_issue_as e.item.kind d free before e
+asks_by_kind d free before e w r = ap₂ (λ a b. a && b && may_issue_as e.item.kind d free before e) w r
+
 -- an entry that doesn't wait
 pub not_waiting : (x : State) → (x ≡ Waiting → ⊥) → is_waiting x ≡ false
 not_waiting Waiting h = absurd (h refl)
