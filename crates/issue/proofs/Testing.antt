@@ -7,8 +7,6 @@ use Rattle.std.proofs.lemmas.Bool.Decides.{nat_tests}
 use Rattle.rv_types.specs.Value.{one_if}
 use Rattle.machine_desc.specs.declared.Desc.{Desc}
 use Rattle.window_model.specs.declared.Entry.{Entry}
-use Rattle.window_model.specs.declared.State.TheVariants.{Waiting}
-use Rattle.window_model.specs.declared.State.{State}
 use Rattle.window_model.specs.Issue.{Port, AluPort, MulPort, DivPort, StorePort, LoadPort, is_granted, may_issue, may_issue_as, port_of, stores_done}
 use Rattle.window_model.specs.Order.{before_at, is_waiting, ready}
 use Rattle.stations.specs.Stations.{awaits_none}
@@ -52,10 +50,9 @@ module _ (s : Seen) (i : ℕ) (e : Entry) (t : Stands s) (h : StandsAt s i e) wh
       (m && b) ≡ may_issue_as e.item.kind s.desc.now free before e
   issue_is free m b roots r p q = ap₂ (λ m b. m && b) p q ∙ sym (tells_issue s.desc.now (parts_of t.next t.writes s) s.point.now i e roots free t.parts t.advanced t.model h r)
 
--- an entry that doesn't wait
-pub not_waiting : (x : State) → (x ≡ Waiting → ⊥) → is_waiting x ≡ false
-not_waiting Waiting h = absurd (h refl)
-not_waiting _ h = refl
+-- an entry that waits and is ready may issue by what its kind asks for
+pub asks_by_kind : (d : Desc) (free : Bool) (before : List Entry) (e : Entry) → is_waiting e.state ≡ true → ready before e ≡ true → may_issue d free before e ≡ may_issue_as e.item.kind d free before e
+asks_by_kind d free before e w r = ap₂ (λ a b. a && b && may_issue_as e.item.kind d free before e) w r
 
 -- ---- ports
 

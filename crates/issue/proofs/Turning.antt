@@ -73,9 +73,12 @@ first_true false b c n h = absurd (cc)
 pub granted_waits : (d : Desc) (free : Bool) (before : List Entry) (e : Entry) → is_granted d free before e ≡ true → is_waiting e.state ≡ true
 granted_waits d free before e h = first_true (is_waiting e.state) (ready before e) (may_issue_as e.item.kind d free before e) _ h
 
--- an entry that doesn't wait is not granted a port
-pub not_granted : (d : Desc) (free : Bool) (before : List Entry) (e : Entry) → is_waiting e.state ≡ false → is_granted d free before e ≡ false
-not_granted d free before e h = cc
+-- one that is granted no port waits on, and one that is granted a port begins
+pub turn_waits : (s : Seen) (free : Bool) (before : List Entry) (e : Entry) → is_granted s.desc.now free before e ≡ false → turn_of s free before e ≡ waits e
+turn_waits s free before e h = ap (λ b. if b then begin_as e.item.kind s.desc.now (machine_of s) before e else waits e) h
+
+pub turn_begins : (s : Seen) (free : Bool) (before : List Entry) (e : Entry) → is_granted s.desc.now free before e ≡ true → turn_of s free before e ≡ begin_as e.item.kind s.desc.now (machine_of s) before e
+turn_begins s free before e h = ap (λ b. if b then begin_as e.item.kind s.desc.now (machine_of s) before e else waits e) h
 
 -- ---- the puts
 

@@ -12,7 +12,7 @@ use Rattle.window_model.specs.declared.Entry.{Entry}
 use Rattle.window_model.specs.declared.Event.{Event}
 use Rattle.window_model.specs.Access.{Access}
 use Rattle.window_model.specs.State.{Machine}
-use Rattle.window_model.specs.Order.{before_at, each, is_waiting}
+use Rattle.window_model.specs.Order.{before_at, each, is_waiting, ready}
 use Rattle.window_model.specs.Issue.{Begun, DivPort, LoadPort, access_of, begin_as, divides, is_free, is_granted, issue_entry, may_issue, tried, waits}
 use Rattle.window_model.proofs.Before.{before_more, each_push}
 use Rattle.unit_ports.specs.Ports.{Ports}
@@ -28,8 +28,8 @@ use Rattle.issue.specs.State.{StandsAt, machine_of, machine_with, window_of}
 use Rattle.issue.proofs.Choosing.{gets_none, the_other}
 use Rattle.issue.proofs.Dividers.{access_same, begin_same}
 use Rattle.issue.proofs.Slots.{asks, division_asks, load_asks, of_first, one_more, slot_more}
-use Rattle.issue.proofs.Testing.{left_none}
-use Rattle.issue.proofs.Turning.{PutsTo, granted_waits, not_granted, placed_more, puts_more, turn_acts}
+use Rattle.issue.proofs.Testing.{grants_none, left_none}
+use Rattle.issue.proofs.Turning.{PutsTo, granted_waits, placed_more, puts_more, turn_acts, turn_waits}
 
 -- what is decided once the entries before a position have had their turns
 pub record DecidedTo (s : Seen) (free : Bool) (i : ℕ) (puts : List Put) (load : Option Access) (division : Option Divider) (earlier events : List Event) : Type 0 where
@@ -96,12 +96,19 @@ module _ (s : Seen) (free : Bool) (i : ℕ) (e : Entry) (h : StandsAt s i e) whe
         division_is = slot_more (division_of (machine_of s)) s.desc.now free DivPort (window_of s) i e division new_division h refl v t.division_is;
       }
 
-  -- one that doesn't wait leaves all as it is
-  pub decided_past : (puts : List Put) (load : Option Access) (division : Option Divider) (earlier events : List Event) → is_waiting e.state ≡ false →
+  -- one that doesn't wait, and one that isn't ready, may not issue
+  pub not_waiting : is_waiting e.state ≡ false → may_issue s.desc.now free before e ≡ false
+  not_waiting w = cc
+
+  pub not_ready : is_waiting e.state ≡ true → ready before e ≡ false → may_issue s.desc.now free before e ≡ false
+  not_ready w r = cc
+
+  -- one that may not issue leaves all as it is
+  pub decided_past : (puts : List Put) (load : Option Access) (division : Option Divider) (earlier events : List Event) → may_issue s.desc.now free before e ≡ false →
       DecidedTo s free i puts load division earlier events → DecidedTo s free (i + 1) puts load division earlier events
-  decided_past puts load division earlier events w t =
-      let none : is_granted s.desc.now free before e ≡ false = not_granted s.desc.now free before e w in
-      let stays : turn ≡ waits e = ap (λ b. if b then begin_as e.item.kind s.desc.now (machine_of s) before e else waits e) none in
+  decided_past puts load division earlier events m t =
+      let none : is_granted s.desc.now free before e ≡ false = sym (grants_none s.desc.now free before e m) in
+      let stays : turn ≡ waits e = turn_waits s free before e none in
       decided_more (station_of i (window_of s)) puts puts load load division division earlier events events refl
       (sym (ap (λ b. puts ++ puts_of i (station_of i (window_of s)) b) stays ∙ append-nil puts))
       (sym (ap (λ b. events ++ b.events) stays ∙ append-nil events))
@@ -117,11 +124,8 @@ module _ (s : Seen) (free : Bool) (i : ℕ) (e : Entry) (h : StandsAt s i e) whe
   pub left_on : (p : Ports) → LeftAfter s.desc.now free (e ∷ before) p → LeftAfter s.desc.now free (before_at (window_of s) (i + 1)) p
   left_on p l = subst (λ before. LeftAfter s.desc.now free before p) (sym (before_more (window_of s) i e (slice_get_within (window_of s) i e h) ∙ ap (λ e. e ∷ before) (get_or_from_slice_get (window_of s) i e e h))) l
 
-  not_asking : is_waiting e.state ≡ false → may_issue s.desc.now free before e ≡ false
-  not_asking w = cc
-
-  pub left_past : (p : Ports) → is_waiting e.state ≡ false → LeftAfter s.desc.now free before p → LeftAfter s.desc.now free (before_at (window_of s) (i + 1)) p
-  left_past p w l = left_on p (left_none s.desc.now free before e p (not_asking w) l)
+  pub left_past : (p : Ports) → may_issue s.desc.now free before e ≡ false → LeftAfter s.desc.now free before p → LeftAfter s.desc.now free (before_at (window_of s) (i + 1)) p
+  left_past p m l = left_on p (left_none s.desc.now free before e p m l)
 
 -- ---- an entry, by whether it waits
 

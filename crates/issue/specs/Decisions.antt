@@ -1,5 +1,5 @@
 -- What the phase decides, before anything is changed (docs/machine.md, "Issue").
-use Rattle.std.specs.Prelude.{◌≡◌, map}
+use Rattle.std.specs.Prelude.{◌≡◌, [], map, None}
 use Rattle.std.specs.Option.{option_map}
 use Rattle.machine_desc.specs.declared.Desc.{Desc}
 use Rattle.window_model.specs.Order.{each, first}
@@ -15,3 +15,9 @@ pub record Decides (d : Desc) (x : Machine) (decided : Decided) : Type 0 where
   pub window : placed decided.puts.items x.window ≡ map (λ b. b.entry) (each (issue_entry d x) x.window)
   pub load : option_map as_access decided.load ≡ option_map (λ p. access_of d x p.before p.entry) (first (tried d (is_free x)) x.window)
   pub division : decided.division ≡ option_map (λ p. division_of x p.before p.entry) (first (divides d (is_free x)) x.window)
+
+-- nothing, as the phase begins
+pub record IsNothing (decided : Decided) : Type 0 where
+  pub puts : decided.puts.items ≡ []
+  pub load : decided.load ≡ None
+  pub division : decided.division ≡ None

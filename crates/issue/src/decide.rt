@@ -33,16 +33,15 @@ pub(crate) struct Decided {
 }
 
 impl Decided {
-    ghost use Rattle.std.specs.Prelude.{◌≡◌, ◌≤◌, ◌+◌, ◌++◌, [], length, None};
+    ghost use Rattle.std.specs.Prelude.{◌≡◌, ◌≤◌, ◌+◌, ◌++◌, length};
     ghost use Rattle.std.specs.Option.{option_or};
     ghost use Rattle.issue.specs.Begins.{as_begun};
     ghost use Rattle.issue.specs.Deciding.{puts_of};
+    ghost use Rattle.issue.specs.Decisions.{IsNothing};
 
-    // Nothing as yet.
-    fn nothing() -> Decided
-        ensures puts { result.puts.items ≡ [] }
-        ensures load { result.load ≡ None }
-        ensures division { result.division ≡ None }
+    /// Nothing as yet.
+    pub(crate) fn nothing() -> Decided
+        ensures { IsNothing result }
     {
         Decided {
             puts: ArrayVec::new(),
@@ -77,13 +76,13 @@ impl<'a> Seen<'a> {
     ghost use Rattle.std.specs.Prelude.{◌≡◌, ◌≤◌, ◌<◌, ◌+◌, ◌++◌, [], ◌∷◌, length, map, slice_get, Some, if◌then◌else◌, true};
     ghost use Rattle.std.specs.List.{flat_map};
     ghost use Rattle.std.specs.Option.{option_map};
-    ghost use Rattle.window_model.specs.Order.{before_at, each, first, is_waiting};
+    ghost use Rattle.window_model.specs.Order.{before_at, each, first, is_waiting, ready};
     ghost use Rattle.window_model.specs.Issue.{DivPort, LoadPort, access_of, divides, issue_entry, is_free, tried};
     ghost use Rattle.unit_ports.specs.Laws.{LeftAfter};
-    ghost use Rattle.parts_stand.specs.Steps.{station_of};
     ghost use Rattle.issue.specs.Accesses.{as_access};
     ghost use Rattle.issue.specs.Begins.{division_of};
     ghost use Rattle.issue.specs.Deciding.{puts_of, turn_of};
+    ghost use Rattle.issue.specs.Decisions.{IsNothing};
     ghost use Rattle.issue.specs.Ports.{OnlyPorts, gets, left_in_all};
     ghost use Rattle.issue.specs.Puts.{ArePuts, placed};
     ghost use Rattle.issue.specs.State.{Stands, StandsAt, machine_of, machine_with, window_of};
@@ -96,7 +95,8 @@ impl<'a> Seen<'a> {
         self.rob.at(position).state == State::Waiting
     }
 
-    // The turn of the entry at a position, which waits at a station. `free` says that the divider is free in this cycle.
+    // The turn of the entry at a position, which waits at a station and is ready. `free` says that the divider is free in this
+    // cycle.
     fn decide_entry(
         &self,
         position: u32,
@@ -109,7 +109,8 @@ impl<'a> Seen<'a> {
     )
         requires stands { Stands self.now }
         requires at { StandsAt self.now position entry.now }
-        requires station { station ≡ station_of position (window_of self.now) }
+        requires waits { is_waiting entry.now.state ≡ true }
+        requires ready { ready (before_at (window_of self.now) position) entry.now ≡ true }
         requires left { LeftAfter self.now.desc.now free (before_at (window_of self.now) position) ports.old }
         requires few { length decided.old.puts.items + left_in_all ports.old ≤ 8 }
         requires room { length row.old.events + left_in_all ports.old ≤ 128 }
@@ -121,36 +122,42 @@ impl<'a> Seen<'a> {
         ensures fewer { length (turn_of self.now free (before_at (window_of self.now) position) entry.now).events + left_in_all ports.new ≤ left_in_all ports.old }
         ensures only { OnlyPorts ports.old ports.new }
     {
-        let turn = self.issue_entry(position, entry, station, free, ports);
+        if !self.grant(position, entry, free, ports) {
+            return;
+        }
+        let turn = self.begin(position, entry);
         decided.note(position, station, &turn, row);
     }
 
-    /// Goes over the window. All ports of the cycle are left, and `ports` knows the divider.
-    pub(crate) fn decide(&self, ports: &mut Ports, row: &mut Row) -> Decided
+    /// Goes over the window. All ports of the cycle are left, `ports` knows the divider, and nothing is decided as yet.
+    pub(crate) fn decide(&self, ports: &mut Ports, decided: &mut Decided, row: &mut Row)
         requires stands { Stands self.now }
         requires cycle { ports.old.cycle ≡ self.now.cycle }
         requires left { LeftAfter self.now.desc.now (is_free (machine_with ports.old self.now)) [] ports.old }
         requires few { left_in_all ports.old ≤ 8 }
+        requires nothing { IsNothing decided.old }
         requires room { length row.old.events + 8 ≤ 128 }
-        ensures puts { ArePuts (window_of self.now) result.puts.items }
-        ensures window { placed result.puts.items (window_of self.now) ≡ map (λ b. b.entry) (each (issue_entry self.now.desc.now (machine_with ports.old self.now)) (window_of self.now)) }
+        ensures puts { ArePuts (window_of self.now) decided.new.puts.items }
+        ensures window { placed decided.new.puts.items (window_of self.now) ≡ map (λ b. b.entry) (each (issue_entry self.now.desc.now (machine_with ports.old self.now)) (window_of self.now)) }
         ensures row { row.new ≡ record row.old { events = row.old.events ++ flat_map (λ b. b.events) (each (issue_entry self.now.desc.now (machine_with ports.old self.now)) (window_of self.now)) } }
-        ensures load { option_map as_access result.load ≡ option_map (λ p. access_of self.now.desc.now (machine_with ports.old self.now) p.before p.entry) (first (tried self.now.desc.now (is_free (machine_with ports.old self.now))) (window_of self.now)) }
-        ensures division { result.division ≡ option_map (λ p. division_of (machine_with ports.old self.now) p.before p.entry) (first (divides self.now.desc.now (is_free (machine_with ports.old self.now))) (window_of self.now)) }
+        ensures load { option_map as_access decided.new.load ≡ option_map (λ p. access_of self.now.desc.now (machine_with ports.old self.now) p.before p.entry) (first (tried self.now.desc.now (is_free (machine_with ports.old self.now))) (window_of self.now)) }
+        ensures division { decided.new.division ≡ option_map (λ p. division_of (machine_with ports.old self.now) p.before p.entry) (first (divides self.now.desc.now (is_free (machine_with ports.old self.now))) (window_of self.now)) }
         ensures only { OnlyPorts ports.old ports.new }
         ensures few { length row.new.events ≤ length row.old.events + 8 }
     {
         let free = ports.free_div();
-        let mut decided = Decided::nothing();
-        let mut station = 0u32;
+        let mut next_station = 0u32;
         for position in 0..self.rob.len() {
             if !self.waits_at(position) {
                 continue;
             }
+            let station = next_station;
+            next_station += 1;
+            if !self.stations.ready(station) {
+                continue;
+            }
             let entry = self.rob.at(position);
-            self.decide_entry(position, &entry, station, free, ports, &mut decided, row);
-            station += 1;
+            self.decide_entry(position, &entry, station, free, ports, decided, row);
         }
-        decided
     }
 }

@@ -1,12 +1,11 @@
-//! One entry: it begins where it may and a port is left for it, else it stays as it is (`docs/machine.md`, "Issue").
+//! An entry that is granted a port, by its kind (`docs/machine.md`, "Issue").
 use crate::access::Access;
 use crate::begin::Begun;
 use crate::seen::Seen;
 use rv_types::Kind;
-use unit_ports::Ports;
 use window_model::{Divider, Entry};
 
-/// An entry after its turn, and what it leaves of what all entries share.
+/// An entry after a turn at which it was granted a port, and what it leaves of what all entries share.
 #[derive(Clone, Copy, Debug, PartialEq, Eq)]
 pub(crate) struct Turn {
     /// The entry, and its event if it has begun.
@@ -18,20 +17,16 @@ pub(crate) struct Turn {
 }
 
 impl<'a> Seen<'a> {
-    ghost use Rattle.std.specs.Prelude.{◌≡◌, ◌+◌, ◌∷◌, None, Some, if◌then◌else◌, true};
+    ghost use Rattle.std.specs.Prelude.{◌≡◌, None, Some, if◌then◌else◌, true};
     ghost use Rattle.std.specs.Option.{option_map};
-    ghost use Rattle.rv_types.specs.Value.{one_if};
-    ghost use Rattle.window_model.specs.Issue.{DivPort, LoadPort, access_of, begin_as, is_division, is_granted, stores_done, waits};
+    ghost use Rattle.window_model.specs.Issue.{access_of, begin_as, is_division, stores_done};
     ghost use Rattle.window_model.specs.Order.{before_at, is_load};
-    ghost use Rattle.unit_ports.specs.Laws.{LeftAfter};
-    ghost use Rattle.parts_stand.specs.Steps.{station_of};
     ghost use Rattle.issue.specs.Accesses.{as_access};
     ghost use Rattle.issue.specs.Begins.{as_begun, division_of};
-    ghost use Rattle.issue.specs.Ports.{OnlyPorts, gets, left_in_all};
     ghost use Rattle.issue.specs.State.{Stands, StandsAt, machine_of, window_of};
 
-    // An entry that is granted a port begins. A load that finds no miss register stays as it is.
-    fn begin(&self, position: u32, entry: &Entry) -> Turn
+    /// An entry that is granted a port begins. A load that finds no miss register stays as it is.
+    pub(crate) fn begin(&self, position: u32, entry: &Entry) -> Turn
         requires stands { Stands self.now }
         requires at { StandsAt self.now position entry.now }
         requires done { is_load entry.now.item.kind ≡ true → stores_done (before_at (window_of self.now) position) ≡ true }
@@ -62,39 +57,5 @@ impl<'a> Seen<'a> {
                 division: None,
             },
         }
-    }
-
-    /// The turn of the entry at a position, where its station, if it has one, would be this one, and `free` says that the
-    /// divider is free in this cycle.
-    pub(crate) fn issue_entry(
-        &self,
-        position: u32,
-        entry: &Entry,
-        station: u32,
-        free: bool,
-        ports: &mut Ports,
-    ) -> Turn
-        requires stands { Stands self.now }
-        requires at { StandsAt self.now position entry.now }
-        requires station { station ≡ station_of position (window_of self.now) }
-        requires left { LeftAfter self.now.desc.now free (before_at (window_of self.now) position) ports.old }
-        ensures begun { as_begun result.begun ≡ (if is_granted self.now.desc.now free (before_at (window_of self.now) position) entry.now then begin_as entry.now.item.kind self.now.desc.now (machine_of self.now) (before_at (window_of self.now) position) entry.now else waits entry.now) }
-        ensures access { option_map as_access result.access ≡ (if gets self.now.desc.now free LoadPort (before_at (window_of self.now) position) entry.now then Some (access_of self.now.desc.now (machine_of self.now) (before_at (window_of self.now) position) entry.now) else None) }
-        ensures division { result.division ≡ (if gets self.now.desc.now free DivPort (before_at (window_of self.now) position) entry.now then Some (division_of (machine_of self.now) (before_at (window_of self.now) position) entry.now) else None) }
-        ensures left { LeftAfter self.now.desc.now free (entry.now ∷ before_at (window_of self.now) position) ports.new }
-        ensures fewer { left_in_all ports.new + one_if (is_granted self.now.desc.now free (before_at (window_of self.now) position) entry.now) ≡ left_in_all ports.old }
-        ensures only { OnlyPorts ports.old ports.new }
-    {
-        if !self.grant(position, entry, station, free, ports) {
-            return Turn {
-                begun: Begun {
-                    entry: *entry,
-                    event: None,
-                },
-                access: None,
-                division: None,
-            };
-        }
-        self.begin(position, entry)
     }
 }

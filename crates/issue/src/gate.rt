@@ -4,29 +4,17 @@ use rob_ring::pair_at;
 use rv_types::Kind;
 use transmit_gate::may_issue;
 use unit_ports::Ports;
-use window_model::{Entry, State};
+use window_model::Entry;
 
 impl<'a> Seen<'a> {
     ghost use Rattle.std.specs.Prelude.{◌≡◌, ◌+◌, ◌∷◌, Some, true, slice_get};
     ghost use Rattle.rv_types.specs.Value.{one_if};
-    ghost use Rattle.window_model.specs.Issue.{is_granted, may_issue, may_issue_as};
+    ghost use Rattle.window_model.specs.Issue.{is_granted, may_issue};
     ghost use Rattle.window_model.specs.Order.{before_at, is_waiting, ready};
     ghost use Rattle.unit_ports.specs.Laws.{LeftAfter};
-    ghost use Rattle.parts_stand.specs.Steps.{station_of};
     ghost use Rattle.parts_stand.specs.Telling.{asks_besides};
     ghost use Rattle.issue.specs.Ports.{OnlyPorts, left_in_all};
     ghost use Rattle.issue.specs.State.{Stands, StandsAt, window_of};
-
-    // Whether the writer of each source of the entry, which waits, is Done or there is none. Its station knows it.
-    fn is_ready(&self, position: u32, entry: &Entry, station: u32) -> bool
-        requires stands { Stands self.now }
-        requires at { StandsAt self.now position entry.now }
-        requires waits { is_waiting entry.now.state ≡ true }
-        requires station { station ≡ station_of position (window_of self.now) }
-        ensures { result ≡ ready (before_at (window_of self.now) position) entry.now }
-    {
-        self.stations.ready(station)
-    }
 
     // The youngest roots of the entry's sources, as they stand at its position.
     fn roots_at(&self, position: u32, entry: &Entry) -> [Option<u64>; 2]
@@ -50,11 +38,13 @@ impl<'a> Seen<'a> {
         }
     }
 
-    // What loads and divisions ask for. `free` says that the divider is free in this cycle.
-    fn may_issue_as(&self, position: u32, entry: &Entry, free: bool) -> bool
+    // Whether the entry, which waits and is ready, may issue. `free` says that the divider is free in this cycle.
+    fn may_issue(&self, position: u32, entry: &Entry, free: bool) -> bool
         requires stands { Stands self.now }
         requires at { StandsAt self.now position entry.now }
-        ensures { result ≡ may_issue_as entry.now.item.kind self.now.desc.now free (before_at (window_of self.now) position) entry.now }
+        requires waits { is_waiting entry.now.state ≡ true }
+        requires ready { ready (before_at (window_of self.now) position) entry.now ≡ true }
+        ensures { result ≡ may_issue self.now.desc.now free (before_at (window_of self.now) position) entry.now }
     {
         let roots = self.roots_at(position, entry);
         if !may_issue(entry.item.kind, roots, self.point) {
@@ -63,41 +53,19 @@ impl<'a> Seen<'a> {
         self.has_besides(position, entry, free)
     }
 
-    // Whether the entry may issue, where its station, if it has one, would be this one.
-    fn may_issue(&self, position: u32, entry: &Entry, station: u32, free: bool) -> bool
+    /// Whether the entry, which waits and is ready, may issue and a port is left for it, which it then takes.
+    pub(crate) fn grant(&self, position: u32, entry: &Entry, free: bool, ports: &mut Ports) -> bool
         requires stands { Stands self.now }
         requires at { StandsAt self.now position entry.now }
-        requires station { station ≡ station_of position (window_of self.now) }
-        ensures { result ≡ may_issue self.now.desc.now free (before_at (window_of self.now) position) entry.now }
-    {
-        if entry.state != State::Waiting {
-            return false;
-        }
-        if !self.is_ready(position, entry, station) {
-            return false;
-        }
-        self.may_issue_as(position, entry, free)
-    }
-
-    /// Whether the entry may issue and a port is left for it, which it then takes.
-    pub(crate) fn grant(
-        &self,
-        position: u32,
-        entry: &Entry,
-        station: u32,
-        free: bool,
-        ports: &mut Ports,
-    ) -> bool
-        requires stands { Stands self.now }
-        requires at { StandsAt self.now position entry.now }
-        requires station { station ≡ station_of position (window_of self.now) }
+        requires waits { is_waiting entry.now.state ≡ true }
+        requires ready { ready (before_at (window_of self.now) position) entry.now ≡ true }
         requires left { LeftAfter self.now.desc.now free (before_at (window_of self.now) position) ports.old }
         ensures granted { result ≡ is_granted self.now.desc.now free (before_at (window_of self.now) position) entry.now }
         ensures left { LeftAfter self.now.desc.now free (entry.now ∷ before_at (window_of self.now) position) ports.new }
         ensures fewer { left_in_all ports.new + one_if result ≡ left_in_all ports.old }
         ensures only { OnlyPorts ports.old ports.new }
     {
-        if !self.may_issue(position, entry, station, free) {
+        if !self.may_issue(position, entry, free) {
             return false;
         }
         ports.grant(entry.item.kind)

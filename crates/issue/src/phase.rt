@@ -8,7 +8,7 @@ ghost use Rattle.parts_stand.specs.Addresses.{AddressesStand};
 ghost use Rattle.parts_stand.specs.Parts.{Parts, Stand};
 ghost use Rattle.parts_stand.specs.Points.{PointStands};
 ghost use Rattle.parts_stand.specs.Steps.{GoesOn};
-ghost use Rattle.issue.specs.Decisions.{Decides};
+ghost use Rattle.issue.specs.Decisions.{Decides, IsNothing};
 ghost use Rattle.issue.specs.Parts.{MadeFor, Standing, holding, issues, with_parts};
 ghost use Rattle.issue.specs.Puts.{ArePuts};
 
@@ -71,20 +71,31 @@ pub fn issue(
     ensures alus { ports.new.alus ≡ ports.old.alus }
     ensures few { length row.new.events ≤ length row.old.events + 8 }
 {
-    let Decided {
-        puts,
-        load,
-        division,
-    } = decide(
-        rob, roots, writers, stations, lsq, tags, mshrs, ports, point, ram, regs, desc, cycle, row,
+    let mut decided = Decided::nothing();
+    decide(
+        rob,
+        roots,
+        writers,
+        stations,
+        lsq,
+        tags,
+        mshrs,
+        ports,
+        point,
+        ram,
+        regs,
+        desc,
+        cycle,
+        &mut decided,
+        row,
     );
-    place(puts, rob, stations);
-    touch(tags, load);
-    take_register(mshrs, load, cycle, desc);
-    take_divider(ports, division);
+    place(&mut decided.puts, rob, stations);
+    touch(tags, decided.load);
+    take_register(mshrs, decided.load, cycle, desc);
+    take_divider(ports, decided.division);
 }
 
-// Begins the cycle of the ports, and decides.
+// Begins the cycle of the ports, and decides. Nothing is decided as yet.
 fn decide(
     rob: &RobRing,
     roots: &HeapCircularBuffer<[Option<u64>; 2]>,
@@ -99,14 +110,16 @@ fn decide(
     regs: &[u32; REGISTERS],
     desc: &Desc,
     cycle: u32,
+    decided: &mut Decided,
     row: &mut Row,
-) -> Decided
+)
     requires stands { Standing rob.now roots.now writers.now stations.now lsq.now }
     requires advanced { HasAdvanced point.now rob.now.entries }
     requires made { MadeFor desc.now tags.now mshrs.now ports.old point.now }
     requires room { length row.old.events + 8 ≤ 128 }
-    ensures puts { ArePuts rob.now.entries result.puts.items }
-    ensures decided { (x : Machine) → Decides desc.now (with_parts rob.now tags.now mshrs.now ports.old ram.now regs.now cycle x) result }
+    requires nothing { IsNothing decided.old }
+    ensures puts { ArePuts rob.now.entries decided.new.puts.items }
+    ensures decided { (x : Machine) → Decides desc.now (with_parts rob.now tags.now mshrs.now ports.old ram.now regs.now cycle x) decided.new }
     ensures row { (x : Machine) → row.new ≡ record row.old { events = row.old.events ++ (issues desc.now rob.now tags.now mshrs.now ports.old ram.now regs.now cycle x).events } }
     ensures divider { ports.new.divider ≡ ports.old.divider }
     ensures alus { ports.new.alus ≡ ports.old.alus }
@@ -127,5 +140,5 @@ fn decide(
         desc,
         cycle,
     };
-    seen.decide(ports, row)
+    seen.decide(ports, decided, row);
 }

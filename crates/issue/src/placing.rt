@@ -18,10 +18,10 @@ use stations::Stations;
 
 /// Each entry comes in its place, and its station is freed. The youngest comes first, so that the others' stations stay where
 /// they are.
-pub(crate) fn place(mut puts: ArrayVec<Put, PUTS_MAX>, rob: &mut RobRing, stations: &mut Stations)
-    requires puts { ArePuts rob.old.entries puts.items }
+pub(crate) fn place(puts: &mut ArrayVec<Put, PUTS_MAX>, rob: &mut RobRing, stations: &mut Stations)
+    requires puts { ArePuts rob.old.entries puts.old.items }
     requires stands { (p : Parts) × Stand (holding rob.old stations.old p) }
-    ensures window { rob.new ≡ record rob.old { entries = placed puts.items rob.old.entries } }
+    ensures window { rob.new ≡ record rob.old { entries = placed puts.old.items rob.old.entries } }
     ensures same_places { stations.new.room ≡ stations.old.room }
     ensures goes_on { AllZip GoesOn rob.old.entries rob.new.entries }
     ensures stand { (p : Parts) → Stand (holding rob.old stations.old p) → Stand (holding rob.new stations.new p) }

@@ -13,8 +13,8 @@ pub returns-clause-decided : goal.returns-clause-decided
 returns-clause-decided c = λ x.
     let a = c.args in
     let same = ap (λ (p : Ports). p.divider) c.begin.ensures in
-    decides_same a.desc.now a.cycle a.regs.now a.ram.now a.rob.now.entries a.tags.now.sets a.mshrs.now.misses a.ports.now.divider nothing x c.decide.result
-    (subst (λ v. Decides a.desc.now (record nothing { cycle = a.cycle; regs = a.regs.now; ram = a.ram.now; window = a.rob.now.entries; cache = a.tags.now.sets; misses = a.mshrs.now.misses; divider = v }) c.decide.result) same
+    decides_same a.desc.now a.cycle a.regs.now a.ram.now a.rob.now.entries a.tags.now.sets a.mshrs.now.misses a.ports.now.divider nothing x c.decide.new.decided
+    (subst (λ v. Decides a.desc.now (record nothing { cycle = a.cycle; regs = a.regs.now; ram = a.ram.now; window = a.rob.now.entries; cache = a.tags.now.sets; misses = a.mshrs.now.misses; divider = v }) c.decide.new.decided) same
     (record { window = c.decide.ensures.window; load = c.decide.ensures.load; division = c.decide.ensures.division }))
 
 pub returns-clause-row : goal.returns-clause-row

@@ -12,7 +12,7 @@ use Rattle.issue.proofs.seen.Seen.decide.Given as goal
 abbrev pub invariant-loop-position : goal.invariant-loop-position
 invariant-loop-position l = record {
   decided : DecidedTo l.self l.free l.position l.decided.puts.items (option_map as_access l.decided.load) l.decided.division l.initial.row.events l.row.events;
-  station : l.station ≡ station_of l.position (window_of l.self);
+  station : l.next_station ≡ station_of l.position (window_of l.self);
   left : LeftAfter l.self.desc.now l.free (before_at (window_of l.self) l.position) l.ports;
   only : OnlyPorts l.initial.ports l.ports;
   few : length l.decided.puts.items + left_in_all l.ports ≤ 8;
