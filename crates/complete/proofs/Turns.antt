@@ -1,7 +1,8 @@
 -- Completing entry by entry: what is left to complete makes the whole.
-use Rattle.std.proofs.Common.{◌≡◌, ℕ, zero, suc, ◌+◌, ◌≤◌, Bool, true, false, cond, List, [], ◌∷◌, ◌++◌, length, take, drop, Some, refl, ap, ap₂, sym, ◌∙◌, subst, arith, slice_get}
+use Rattle.std.proofs.Common.{◌≡◌, ℕ, zero, suc, ◌+◌, ◌≤◌, Bool, true, false, cond, List, [], ◌∷◌, ◌++◌, length, take, drop, Option, Some, None, refl, ap, ap₂, sym, ◌∙◌, subst, arith, slice_get}
 use Rattle.std.specs.Prelude.{if◌then◌else◌, map, slice_set}
 use Rattle.std.specs.List.{filter, fold}
+use Rattle.std.specs.Option.{option_map}
 use Rattle.std.proofs.lemmas.List.{append-nil, append_assoc, drop_all}
 use Rattle.window_model.specs.declared.Entry.{Entry}
 use Rattle.window_model.specs.declared.Event.{Event}
@@ -96,14 +97,15 @@ entries_more cycle es now i e true n h c =
     ap₂ (λ ys y. slice_set ys i y) n (sym (ap (λ b. if b then done e else e) c)) ∙ map_set (completed cycle) es i e h
 entries_more cycle es now i e false n h c = n ∙ map_stays (completed cycle) es i e h (ap (λ b. if b then done e else e) c)
 
-pub completes_more : (cycle : ℕ) (rob : Ring) (stations : Stations) (q : Queues) (row : Row) (i : ℕ) (r : Ring) (s : Stations) (t : Queues) (now : Row) (e : Entry) (r2 : Ring) (s2 : Stations) (t2 : Queues) (now2 : Row) →
+-- an entry becomes Done, or stays as it is
+turn : (cycle : ℕ) (rob : Ring) (stations : Stations) (q : Queues) (row : Row) (i : ℕ) (r : Ring) (s : Stations) (t : Queues) (now : Row) (e : Entry) (r2 : Ring) (s2 : Stations) (t2 : Queues) (now2 : Row) →
     CompletesOn cycle rob stations q row i r s t now → slice_get r.entries i ≡ Some e →
     r2 ≡ record r { entries = if completes cycle e then slice_set r.entries i (done e) else r.entries } →
     s2 ≡ record s { held = if completes cycle e then map (struck e.serial) s.held else s.held } →
     t2 ≡ record t { stores = if completes cycle e then known_with t.stores e else t.stores } →
     now2 ≡ record now { events = if completes cycle e then with_done now.events e else now.events } → length now2.events ≤ length now.events + 1 →
     CompletesOn cycle rob stations q row (i + 1) r2 s2 t2 now2
-completes_more cycle rob stations q row i r s t now e r2 s2 t2 now2 c g set woke told pushed few =
+turn cycle rob stations q row i r s t now e r2 s2 t2 now2 c g set woke told pushed few =
     let es = rob.entries in
     let b = completes cycle e in
     let next : suc i ≡ i + 1 = omega arith in
@@ -129,6 +131,46 @@ completes_more cycle rob stations q row i r s t now e r2 s2 t2 now2 c g set woke
           (subst (λ t. Ties es stations.held q (if b then slice_set r.entries i (done e) else r.entries) (if b then map (struck e.serial) s.held else s.held) t) (sym told)
           (ties_more cycle es stations.held q r.entries s.held t i e b c.ties g refl)));
     }
+
+-- what is told of the entry at a position
+told_of : (p : Entry → Bool) (o : Option Entry) (e : Entry) (b : Bool) → option_map p o ≡ Some b → o ≡ Some e → b ≡ p e
+told_of p o e b h g = let k : Some b ≡ Some (p e) = sym h ∙ ap (option_map p) g in cc
+
+-- the entry at a position is due, and becomes Done
+pub completes_more : (cycle : ℕ) (rob : Ring) (stations : Stations) (q : Queues) (row : Row) (i : ℕ) (r : Ring) (s : Stations) (t : Queues) (now : Row) (e : Entry) (r2 : Ring) (s2 : Stations) (t2 : Queues) (now2 : Row) →
+    CompletesOn cycle rob stations q row i r s t now → option_map (completes cycle) (slice_get r.entries i) ≡ Some true → slice_get r.entries i ≡ Some e →
+    r2 ≡ record r { entries = slice_set r.entries i (done e) } →
+    s2 ≡ record s { held = map (struck e.serial) s.held } →
+    t2 ≡ record t { stores = known_with t.stores e } →
+    now2 ≡ record now { events = with_done now.events e } → length now2.events ≤ length now.events + 1 →
+    CompletesOn cycle rob stations q row (i + 1) r2 s2 t2 now2
+completes_more cycle rob stations q row i r s t now e r2 s2 t2 now2 c due g set woke told pushed few =
+    let d = told_of (completes cycle) (slice_get r.entries i) e true due g in
+    turn cycle rob stations q row i r s t now e r2 s2 t2 now2 c g
+    (set ∙ ap (λ b. record r { entries = if b then slice_set r.entries i (done e) else r.entries }) d)
+    (woke ∙ ap (λ b. record s { held = if b then map (struck e.serial) s.held else s.held }) d)
+    (told ∙ ap (λ b. record t { stores = if b then known_with t.stores e else t.stores }) d)
+    (pushed ∙ ap (λ b. record now { events = if b then with_done now.events e else now.events }) d)
+    few
+
+past_by : (cycle : ℕ) (rob : Ring) (stations : Stations) (q : Queues) (row : Row) (i : ℕ) (r : Ring) (s : Stations) (t : Queues) (now : Row) (o : Option Entry) →
+    CompletesOn cycle rob stations q row i r s t now → slice_get r.entries i ≡ o → option_map (completes cycle) o ≡ Some false →
+    CompletesOn cycle rob stations q row (i + 1) r s t now
+past_by cycle rob stations q row i r s t now None c g due = absurd (cc)
+past_by cycle rob stations q row i r s t now (Some e) c g due =
+    let d = told_of (completes cycle) (Some e) e false due refl in
+    turn cycle rob stations q row i r s t now e r s t now c g
+    (ap (λ b. record r { entries = if b then slice_set r.entries i (done e) else r.entries }) d)
+    (ap (λ b. record s { held = if b then map (struck e.serial) s.held else s.held }) d)
+    (ap (λ b. record t { stores = if b then known_with t.stores e else t.stores }) d)
+    (ap (λ b. record now { events = if b then with_done now.events e else now.events }) d)
+    (omega arith)
+
+-- it is not, and all stays
+pub completes_past : (cycle : ℕ) (rob : Ring) (stations : Stations) (q : Queues) (row : Row) (i : ℕ) (r : Ring) (s : Stations) (t : Queues) (now : Row) →
+    CompletesOn cycle rob stations q row i r s t now → option_map (completes cycle) (slice_get r.entries i) ≡ Some false →
+    CompletesOn cycle rob stations q row (i + 1) r s t now
+completes_past cycle rob stations q row i r s t now c due = past_by cycle rob stations q row i r s t now (slice_get r.entries i) c refl due
 
 -- ---- all entries
 

@@ -1,9 +1,10 @@
 //! The phase: entry by entry, from the oldest on.
-ghost use Rattle.std.specs.Prelude.{◌≡◌, ◌≤◌, ◌<◌, ◌+◌, ◌++◌, ◌∷◌, [], ℕ, List, Option, length, map, slice_set, if◌then◌else◌};
+ghost use Rattle.std.specs.Prelude.{◌≡◌, ◌≤◌, ◌<◌, ◌+◌, ◌++◌, ◌∷◌, [], ℕ, List, Option, Some, length, map, slice_get, slice_set};
 ghost use Rattle.std.specs.List.{AllPairs, AllZip};
+ghost use Rattle.std.specs.Option.{option_map};
 ghost use Rattle.window_model.specs.declared.Event.TheVariants as event;
 ghost use Rattle.window_model.specs.declared.State.TheVariants.{Done};
-ghost use Rattle.window_model.specs.Fill.{completes};
+ghost use Rattle.window_model.specs.Fill.{completes, completes_at};
 ghost use Rattle.window_model.specs.Retire.{width_of};
 ghost use Rattle.window_model.specs.State.{Machine};
 ghost use Rattle.stations.specs.Stations.{struck};
@@ -49,46 +50,53 @@ pub fn complete(
     ensures few { length row.new.events ≤ length row.old.events + rob.old.room }
 {
     for i in 0..rob.len() {
+        if !is_due_at(rob, i, cycle) {
+            continue;
+        }
         let entry = rob.at(i);
-        complete_entry(i, &entry, rob, stations, lsq, cycle, row);
+        complete_entry(i, &entry, rob, stations, lsq, row);
     }
 }
 
-// The entry at a position becomes Done, if it is Busy until this cycle.
+// Whether the entry at a position is Busy until this cycle. Only its state is read: few entries are due in a cycle.
+fn is_due_at(rob: &RobRing, i: u32, cycle: u64) -> bool
+    requires { i < length rob.now.entries }
+    ensures { option_map (completes cycle) (slice_get rob.now.entries i) ≡ Some result }
+{
+    is_due(rob.at(i).state, cycle)
+}
+
+// Whether an entry in this state is.
+fn is_due(state: State, cycle: u64) -> bool
+    ensures { result ≡ completes_at cycle state }
+{
+    match state {
+        State::Busy(due) => due == cycle,
+        _ => false,
+    }
+}
+
+// The entry at a position becomes Done.
 fn complete_entry(
     i: u32,
     entry: &Entry,
     rob: &mut RobRing,
     stations: &mut Stations,
     lsq: &mut Lsq,
-    cycle: u64,
     row: &mut Row,
 )
     requires here { i < length rob.old.entries }
     requires room { length row.old.events < 128 }
-    ensures rob { rob.new ≡ record rob.old { entries = if completes cycle entry.now then slice_set rob.old.entries i (record entry.now { state = Done }) else rob.old.entries } }
-    ensures stations { stations.new ≡ record stations.old { held = if completes cycle entry.now then map (struck entry.now.serial) stations.old.held else stations.old.held } }
-    ensures lsq { lsq.new ≡ record lsq.old { stores = if completes cycle entry.now then known_with lsq.old.stores entry.now else lsq.old.stores } }
-    ensures row { row.new ≡ record row.old { events = if completes cycle entry.now then row.old.events ++ event.Done entry.now.serial ∷ [] else row.old.events } }
+    ensures rob { rob.new ≡ record rob.old { entries = slice_set rob.old.entries i (record entry.now { state = Done }) } }
+    ensures stations { stations.new ≡ record stations.old { held = map (struck entry.now.serial) stations.old.held } }
+    ensures lsq { lsq.new ≡ record lsq.old { stores = known_with lsq.old.stores entry.now } }
+    ensures row { row.new ≡ record row.old { events = row.old.events ++ event.Done entry.now.serial ∷ [] } }
     ensures few { length row.new.events ≤ length row.old.events + 1 }
 {
-    if !completes(entry, cycle) {
-        return;
-    }
     rob.set(i, done(entry));
     stations.wake(entry.serial);
     note_store(entry, lsq);
     row.push(Event::Done(entry.serial));
-}
-
-// Whether the entry is Busy until this cycle.
-fn completes(entry: &Entry, cycle: u64) -> bool
-    ensures { result ≡ completes cycle entry.now }
-{
-    match entry.state {
-        State::Busy(due) => due == cycle,
-        _ => false,
-    }
 }
 
 // The entry, once it is Done.

@@ -1,6 +1,6 @@
 -- Slots and undo list, oldest first: each change keeps the table.
 use Rattle.std.proofs.Common.{◌≡◌, ℕ, zero, suc, ◌+◌, ◌-◌, ◌<◌, ◌≤◌, Bool, true, false, ◌||◌, cond, List, [], ◌∷◌, ◌++◌, length, get_or, set, take, drop, replicate, Option, Some, None, refl, ap, sym, ◌∙◌, arith, subst, slice_get}
-use Rattle.std.specs.Prelude.{◌==◌, nat_le, nat_lt, reverse}
+use Rattle.std.specs.Prelude.{◌==◌, nat_le, nat_lt, reverse, if◌then◌else◌}
 use Rattle.std.specs.List.{find, filter, All, list_any}
 use Rattle.std.proofs.lemmas.List.{drop_more, length-take-le, reverse-append, reverse-reverse, map-append, append-nil, length_push, take_at, take_all, take_more, get_or-replicate, length-set}
 use Rattle.std.proofs.lemmas.List.Elements.{All-nil, All-cons, All-head, All-tail, All-weaker, All-push, filter-append}
@@ -9,7 +9,7 @@ use Rattle.std.proofs.lemmas.Bool.Decides.{nat_tests}
 use Rattle.rename_taint.specs.declared.Write.{Write}
 use Rattle.rename_taint.specs.declared.slots.Slot.{Slot}
 use Rattle.rename_taint.specs.declared.slots.Undo.{Undo}
-use Rattle.rename_taint.specs.Writes.{last_write, source_of, root_of, source_from, root_from}
+use Rattle.rename_taint.specs.Writes.{last_write, source_of, root_of, source_from, root_from, without_retired}
 use Rattle.rename_taint.specs.Table.{writes_of, slot_of, last_of, held, oldest_of, oldest_in, source_in, root_in, is_first, is_last, Linked, IsTable, Table}
 use Rattle.rename_taint.proofs.UndoList.{LeadsBack, Falls, leads_back, falls_from, linked_from, oldest_push, held_last, leads_drop, falls_drop, falls_front, undo_keeps, write_keeps, retire_keeps}
 
@@ -260,6 +260,23 @@ held_at serial i us u l h le r =
     or_false : (b : Bool) → (b || false) ≡ b
     or_false true = refl
     or_false false = refl
+
+-- the entry of the oldest write retires: that write goes, and all others stay
+pub front_retires : (slots : List (Option Slot)) (serial : ℕ) (us us2 : List Undo) → Table slots us → is_first (λ u. u.write.serial == serial) us ≡ true → us2 ≡ drop 1 us → writes_of us2 ≡ without_retired serial (writes_of us)
+front_retires slots serial [] us2 t h e = absurd (cc)
+front_retires slots serial (u ∷ us) us2 t h e =
+    let q = λ (w : Write). nat_lt serial w.serial in
+    let p : u.write.serial ≡ serial = grind (arith, nat_tests) in
+    let le : nat_le u.write.serial serial ≡ true = grind (arith, nat_tests) in
+    let y : All (λ v. u.write.serial < v.write.serial) us = younger (u ∷ us) 0 u (falls_from (reverse (u ∷ us)) t.linked) refl in
+    let stay : filter q (writes_of us) ≡ writes_of us =
+    filter_all q (writes_of us)
+    (all_map (λ w. nat_lt serial w.serial ≡ true) us
+    (All-weaker (λ v. u.write.serial < v.write.serial) (λ v. nat_lt serial v.write.serial ≡ true) (λ v k. let m : serial < v.write.serial = omega (arith, k, p) in grind (arith, nat_tests)) us y)) in
+    ap writes_of e
+    ∙ sym stay
+    ∙ kept_on serial (u ∷ us) us le refl
+    ∙ ap (λ b. if b || list_any (λ w. w.serial == serial) (writes_of us) then filter q (writes_of (u ∷ us)) else writes_of (u ∷ us)) (sym h)
 
 -- ---- the last of the list
 

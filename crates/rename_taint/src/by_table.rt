@@ -58,6 +58,10 @@ impl RenameTaint for ByTable {
     }
 
     fn retired(&mut self, serial: u64) {
+        if is_front(&self.undo, serial) {
+            pop_oldest(&mut self.slots, &mut self.undo);
+            return;
+        }
         if is_held(&self.undo, serial) {
             retire_to(&mut self.slots, &mut self.undo, serial);
         }
@@ -169,6 +173,16 @@ fn pop_youngest(slots: &mut [Option<Slot>], undo: &mut HeapCircularBuffer<Undo>)
 {
     if let Some(youngest) = undo.pop_back() {
         slots[youngest.write.register as usize] = restored(undo, &youngest);
+    }
+}
+
+// Whether the oldest write has this serial: that of a head that retires and wrote a register.
+fn is_front(undo: &HeapCircularBuffer<Undo>, serial: u64) -> bool
+    ensures { result ≡ is_first (λ u. u.write.serial == serial) undo.now.items }
+{
+    match undo.front().copied() {
+        Some(oldest) => oldest.write.serial == serial,
+        None => false,
     }
 }
 

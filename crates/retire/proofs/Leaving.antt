@@ -24,9 +24,9 @@ use Rattle.rename_taint.specs.declared.Write.{Write}
 use Rattle.rename_taint.specs.Writes.{without_retired}
 use Rattle.lsq.specs.Queues.{Queues}
 use Rattle.cache_tags.specs.Sets.{Cache}
-use Rattle.retire.specs.declared.turn.Turn.TheVariants.{Waits, Traps, Leaves}
+use Rattle.retire.specs.declared.turn.Turn.TheVariants.{Waits, Traps}
 use Rattle.retire.specs.Parts.{calls, CallAlone, TakesStore, with_effects, with_parts, counted, retires}
-use Rattle.retire.specs.Turn.{turn_at}
+use Rattle.retire.specs.Turn.{Goes, turn_at}
 use Rattle.retire.specs.Gone.{gone, MayRetire, without_each, without, popped}
 use Rattle.retire.proofs.Quiet.{quiet}
 use Rattle.retire.proofs.Turns.{head_at, ended, waits, traps, leaves}
@@ -153,7 +153,7 @@ counted_more s2 went rest e end x r =
     ap (λ w. record (with_effects s2.tags s2.ram s2.regs s2.pc end x) { window = w; retired = (x.retired + length went) + 1 }) (sym r)
     ∙ ap (λ n. record (with_effects s2.tags s2.ram s2.regs s2.pc end x) { window = s2.rob.entries; retired = n }) n
 
-one_more : (d : Desc) (n : ℕ) (stored : Bool) (s s2 : Parts) (went rest : List Entry) (e : Entry) (end : Option End) → turn_at stored s.rob.entries ≡ Leaves e → s.rob.entries ≡ e ∷ rest → s.piece ≡ [] → HeadLeft d s e end s2 → (x : Machine) →
+one_more : (d : Desc) (n : ℕ) (stored : Bool) (s s2 : Parts) (went rest : List Entry) (e : Entry) (end : Option End) → Goes stored s.rob.entries e → s.rob.entries ≡ e ∷ rest → s.piece ≡ [] → HeadLeft d s e end s2 → (x : Machine) →
     behind s2 (turns d n (stored || is_store e.item.kind) (standing s2 (length (went ++ e ∷ [])) end x)) ≡ behind s (turns d (suc n) stored (standing s (length went) None x))
 one_more d n stored s s2 went rest e end t w p g x =
     let y : Machine = record x { window = s.rob.entries; retired = x.retired + length went } in
@@ -166,7 +166,7 @@ one_more d n stored s s2 went rest e end t w p g x =
     ap (λ y. behind s2 (turns d n (stored || is_store e.item.kind) y)) m
     ∙ ap (λ es. record { machine = more.machine; events = es; piece = s2.piece ++ more.piece }) (ap (λ es. es ++ more.events) es ∙ append_assoc s.row.events r.events more.events)
     ∙ ap (λ ps. record { machine = more.machine; events = s.row.events ++ (r.events ++ more.events); piece = ps }) ps
-    ∙ sym (ap (behind s) (leaves d n stored (standing s (length went) None x) e rest refl t w))
+    ∙ sym (ap (behind s) (leaves d n stored (standing s (length went) None x) e rest refl t.turn w))
 
 -- ---- what is asked stays so
 
@@ -193,7 +193,7 @@ quiet_if false e rest p c h q one = q (λ k. let v : is_call e.item.kind ≡ tru
 takes_over : (ram ram2 : Ram) → SameShape ram ram2 → (e : Entry) → TakesStore ram e → TakesStore ram2 e
 takes_over ram ram2 k e h st done f = same_fault _ _ ram ram2 _ _ k ∙ h st done f
 
-retires_head : (d : Desc) (s0 : Parts) (i : ℕ) (stored : Bool) (s s2 : Parts) (e : Entry) → RetiresOn d s0 (d.core_retire_width - i) stored s → i < d.core_retire_width → turn_at stored s.rob.entries ≡ Leaves e → HeadLeft d s e None s2 →
+retires_head : (d : Desc) (s0 : Parts) (i : ℕ) (stored : Bool) (s s2 : Parts) (e : Entry) → RetiresOn d s0 (d.core_retire_width - i) stored s → i < d.core_retire_width → Goes stored s.rob.entries e → HeadLeft d s e None s2 →
     RetiresOn d s0 (d.core_retire_width - (i + 1)) (stored || is_store e.item.kind) s2
 retires_head d s0 i stored s s2 e h lt t g =
     let head = head_at stored s.rob.entries e t in
@@ -215,12 +215,12 @@ retires_head d s0 i stored s s2 e h lt t g =
       stores = subst (Each (TakesStore s2.ram)) (sym after) (each_then (TakesStore s.ram) (TakesStore s2.ram) (takes_over s.ram s2.ram g.shape) rest stores.1);
     }
 
-pub retires_more : (d : Desc) (s0 : Parts) (i : ℕ) (stored : Bool) (s s2 : Parts) (e : Entry) (stored2 : Bool) → RetiresOn d s0 (d.core_retire_width - i) stored s → i < d.core_retire_width → turn_at stored s.rob.entries ≡ Leaves e → HeadLeft d s e None s2 →
+pub retires_more : (d : Desc) (s0 : Parts) (i : ℕ) (stored : Bool) (s s2 : Parts) (e : Entry) (stored2 : Bool) → RetiresOn d s0 (d.core_retire_width - i) stored s → i < d.core_retire_width → Goes stored s.rob.entries e → HeadLeft d s e None s2 →
     stored2 ≡ (stored || is_store e.item.kind) → RetiresOn d s0 (d.core_retire_width - (i + 1)) stored2 s2
 retires_more d s0 i stored s s2 e stored2 h lt t g b = subst (λ b. RetiresOn d s0 (d.core_retire_width - (i + 1)) b s2) (sym b) (retires_head d s0 i stored s s2 e h lt t g)
 
 -- a store that retires has its place in memory
-pub head_inside : (ram : Ram) (stored : Bool) (w : List Entry) (e : Entry) → Each (TakesStore ram) w → turn_at stored w ≡ Leaves e → e.item.kind ≡ Store → store_fault ram (addr_of e.outcome) (width_of e) ≡ None
+pub head_inside : (ram : Ram) (stored : Bool) (w : List Entry) (e : Entry) → Each (TakesStore ram) w → Goes stored w e → e.item.kind ≡ Store → store_fault ram (addr_of e.outcome) (width_of e) ≡ None
 head_inside ram stored w e h t k =
     let head = head_at stored w e t in
     let own : Each (TakesStore ram) (e ∷ head.first.0) = subst (Each (TakesStore ram)) head.first.1 h in
@@ -278,7 +278,7 @@ over_traps d s0 i stored s cause pc h r lt t =
     ∙ h.whole x) (omega (arith, h.few))
 
 -- it retires and ends the run
-pub over_ends : (d : Desc) (s0 : Parts) (i : ℕ) (stored : Bool) (s s2 : Parts) (e : Entry) (end : End) → RetiresOn d s0 (d.core_retire_width - i) stored s → Ready d s0 → i < d.core_retire_width → turn_at stored s.rob.entries ≡ Leaves e → HeadLeft d s e (Some end) s2 →
+pub over_ends : (d : Desc) (s0 : Parts) (i : ℕ) (stored : Bool) (s s2 : Parts) (e : Entry) (end : End) → RetiresOn d s0 (d.core_retire_width - i) stored s → Ready d s0 → i < d.core_retire_width → Goes stored s.rob.entries e → HeadLeft d s e (Some end) s2 →
     Over d s0 (Some end) s2
 over_ends d s0 i stored s s2 e end h r lt t g =
     let head = head_at stored s.rob.entries e t in

@@ -10,7 +10,7 @@ use Rattle.window_model.specs.State.{Machine}
 use Rattle.window_model.specs.Order.{is_store}
 use Rattle.window_model.specs.Retire.{Retired, turns, turn, head_turn, head_leaves, then_retires, stays, unless_ended, may_leave, trap_of}
 use Rattle.retire.specs.declared.turn.Turn.TheVariants.{Waits, Traps, Leaves}
-use Rattle.retire.specs.Turn.{turn_at, turn_by}
+use Rattle.retire.specs.Turn.{Goes, turn_at, turn_by}
 
 -- after an end no turn follows
 pub ended : (d : Desc) (n : ℕ) (stored : Bool) (x : Machine) (e : End) → x.end ≡ Some e → turns d n stored x ≡ stays x
@@ -24,7 +24,7 @@ running d n stored x h = ap (λ o. unless_ended o (stays x) (head_turn d stored 
 module _ (d : Desc) (stored : Bool) (x : Machine) (more : Bool → Machine → Retired) where
   -- ---- the head waits
 
-  waits_if : (e : Entry) (rest : List Entry) (b : Bool) → (if b then Waits else Leaves e) ≡ Waits →
+  waits_if : (e : Entry) (rest : List Entry) (b : Bool) → (if b then Waits else Leaves) ≡ Waits →
       (if b then stays x else then_retires (head_leaves e.item.kind d e rest x) (more (stored || is_store e.item.kind))) ≡ stays x
   waits_if e rest true h = refl
   waits_if e rest false h = absurd (cc)
@@ -44,7 +44,7 @@ module _ (d : Desc) (stored : Bool) (x : Machine) (more : Bool → Machine → R
 
   -- ---- it traps
 
-  traps_if : (e : Entry) (b : Bool) (cause : Cause) (pc : ℕ) → (if b then Waits else Leaves e) ≡ Traps cause pc → ⊥
+  traps_if : (e : Entry) (b : Bool) (cause : Cause) (pc : ℕ) → (if b then Waits else Leaves) ≡ Traps cause pc → ⊥
   traps_if e true cause pc h = cc
   traps_if e false cause pc h = cc
 
@@ -67,21 +67,21 @@ module _ (d : Desc) (stored : Bool) (x : Machine) (more : Bool → Machine → R
 
   -- ---- it retires
 
-  leaves_if : (e head : Entry) (rest : List Entry) (b : Bool) → (if b then Waits else Leaves e) ≡ Leaves head →
+  leaves_if : (e : Entry) (rest : List Entry) (b : Bool) → (if b then Waits else Leaves) ≡ Leaves →
       (if b then stays x else then_retires (head_leaves e.item.kind d e rest x) (more (stored || is_store e.item.kind)))
-      ≡ then_retires (head_leaves head.item.kind d head rest x) (more (stored || is_store head.item.kind))
-  leaves_if e head rest true h = absurd (cc)
-  leaves_if e head rest false h = let p : e ≡ head = cc in ap (λ (e : Entry). then_retires (head_leaves e.item.kind d e rest x) (more (stored || is_store e.item.kind))) p
+      ≡ then_retires (head_leaves e.item.kind d e rest x) (more (stored || is_store e.item.kind))
+  leaves_if e rest true h = absurd (cc)
+  leaves_if e rest false h = refl
 
-  leaves_by : (e head : Entry) (rest : List Entry) (o : Option Cause) → turn_by stored o e ≡ Leaves head →
-      turn d stored o e rest x more ≡ then_retires (head_leaves head.item.kind d head rest x) (more (stored || is_store head.item.kind))
-  leaves_by e head rest (Some c) h = absurd (cc)
-  leaves_by e head rest None h = leaves_if e head rest (stored && is_store e.item.kind) h
+  leaves_by : (e : Entry) (rest : List Entry) (o : Option Cause) → turn_by stored o e ≡ Leaves →
+      turn d stored o e rest x more ≡ then_retires (head_leaves e.item.kind d e rest x) (more (stored || is_store e.item.kind))
+  leaves_by e rest (Some c) h = absurd (cc)
+  leaves_by e rest None h = leaves_if e rest (stored && is_store e.item.kind) h
 
-  leaves_head : (e head : Entry) (rest : List Entry) (b : Bool) → (if b then turn_by stored (trap_of e) e else Waits) ≡ Leaves head →
-      (if b then turn d stored (trap_of e) e rest x more else stays x) ≡ then_retires (head_leaves head.item.kind d head rest x) (more (stored || is_store head.item.kind))
-  leaves_head e head rest true h = leaves_by e head rest (trap_of e) h
-  leaves_head e head rest false h = absurd (cc)
+  leaves_head : (e : Entry) (rest : List Entry) (b : Bool) → (if b then turn_by stored (trap_of e) e else Waits) ≡ Leaves →
+      (if b then turn d stored (trap_of e) e rest x more else stays x) ≡ then_retires (head_leaves e.item.kind d e rest x) (more (stored || is_store e.item.kind))
+  leaves_head e rest true h = leaves_by e rest (trap_of e) h
+  leaves_head e rest false h = absurd (cc)
 
 -- ---- whole turns
 
@@ -92,12 +92,12 @@ waits d (suc n) stored x h t = running d n stored x h ∙ waits_in d stored x (t
 pub traps : (d : Desc) (n : ℕ) (stored : Bool) (x : Machine) (cause : Cause) (pc : ℕ) → x.end ≡ None → turn_at stored x.window ≡ Traps cause pc → turns d (suc n) stored x ≡ stays (record x { end = Some (Trap cause pc) })
 traps d n stored x cause pc h t = running d n stored x h ∙ traps_in d stored x (turns d n) x.window cause pc t
 
-pub leaves : (d : Desc) (n : ℕ) (stored : Bool) (x : Machine) (head : Entry) (rest : List Entry) → x.end ≡ None → turn_at stored x.window ≡ Leaves head → x.window ≡ head ∷ rest →
+pub leaves : (d : Desc) (n : ℕ) (stored : Bool) (x : Machine) (head : Entry) (rest : List Entry) → x.end ≡ None → turn_at stored x.window ≡ Leaves → x.window ≡ head ∷ rest →
     turns d (suc n) stored x ≡ then_retires (head_leaves head.item.kind d head rest x) (turns d n (stored || is_store head.item.kind))
 leaves d n stored x head rest h t w =
     running d n stored x h
     ∙ ap (λ w. head_turn d stored w x (turns d n)) w
-    ∙ leaves_head d stored x (turns d n) head head rest (may_leave head) (sym (ap (turn_at stored) w) ∙ t)
+    ∙ leaves_head d stored x (turns d n) head rest (may_leave head) (sym (ap (turn_at stored) w) ∙ t)
 
 -- ---- the head that retires
 
@@ -107,20 +107,17 @@ pub record Head (head : Entry) (w : List Entry) : Type 0 where
   pub may : may_leave head ≡ true
   pub goes : trap_of head ≡ None
 
-head_if : (e head : Entry) (b : Bool) → (if b then Waits else Leaves e) ≡ Leaves head → e ≡ head
-head_if e head true h = absurd (cc)
-head_if e head false h = cc
+no_trap : (stored : Bool) (e : Entry) (o : Option Cause) → turn_by stored o e ≡ Leaves → o ≡ None
+no_trap stored e (Some c) h = absurd (cc)
+no_trap stored e None h = refl
 
-head_by : (stored : Bool) (e head : Entry) (o : Option Cause) → turn_by stored o e ≡ Leaves head → (e ≡ head) × (o ≡ None)
-head_by stored e head (Some c) h = absurd (cc)
-head_by stored e head None h = (head_if e head (stored && is_store e.item.kind) h, refl)
+head_of : (stored : Bool) (e : Entry) (rest : List Entry) (b : Bool) → may_leave e ≡ b → (if b then turn_by stored (trap_of e) e else Waits) ≡ Leaves → Head e (e ∷ rest)
+head_of stored e rest false l h = absurd (cc)
+head_of stored e rest true l h = record { first = (rest, refl); may = l; goes = no_trap stored e (trap_of e) h }
 
-head_of : (stored : Bool) (e head : Entry) (rest : List Entry) (b : Bool) → may_leave e ≡ b → (if b then turn_by stored (trap_of e) e else Waits) ≡ Leaves head → Head head (e ∷ rest)
-head_of stored e head rest false l h = absurd (cc)
-head_of stored e head rest true l h =
-    let p = head_by stored e head (trap_of e) h in
-    record { first = (rest, ap (λ e. e ∷ rest) p.0); may = subst (λ e. may_leave e ≡ true) p.0 l; goes = subst (λ e. trap_of e ≡ None) p.0 p.1 }
-
-pub head_at : (stored : Bool) (w : List Entry) (head : Entry) → turn_at stored w ≡ Leaves head → Head head w
-head_at stored [] head h = absurd (cc)
-head_at stored (e ∷ rest) head h = head_of stored e head rest (may_leave e) refl h
+pub head_at : (stored : Bool) (w : List Entry) (head : Entry) → Goes stored w head → Head head w
+head_at stored [] head g = let h = g.head in absurd (cc)
+head_at stored (e ∷ rest) head g =
+    let h = g.head in
+    let p : e ≡ head = cc in
+    subst (λ head. Head head (e ∷ rest)) p (head_of stored e rest (may_leave e) refl g.turn)

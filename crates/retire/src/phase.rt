@@ -55,7 +55,7 @@ pub fn retire<R: RenameTaint>(
     let mut stored = false;
     for _ in 0..desc.core_retire_width {
         let head = match turn_at(rob, stored) {
-            Turn::Leaves(head) => head,
+            Turn::Leaves => rob.at(0),
             Turn::Waits => return None,
             Turn::Traps(cause, at) => return Some(End::Trap(cause, at)),
         };

@@ -1,7 +1,8 @@
 //! What the next turn of retiring finds at the head of the reorder buffer (`docs/machine.md`, "Retire").
-ghost use Rattle.std.specs.Prelude.{◌≡◌, ◌||◌};
+ghost use Rattle.std.specs.Prelude.{◌≡◌, ◌<◌, ◌||◌, length};
 ghost use Rattle.window_model.specs.Order.{is_store};
-ghost use Rattle.retire.specs.Turn.{turn_at};
+ghost use Rattle.retire.specs.Turn.{turn_at, turn_of};
+ghost use Rattle.retire.specs.declared.turn.Turn.TheVariants.{Leaves};
 
 use rob_ring::RobRing;
 use rv_types::Cause;
@@ -16,26 +17,34 @@ pub(crate) enum Turn {
     /// It ends the run as a trap, with this cause and at this address, and doesn't retire.
     Traps(Cause, u32),
     /// It retires.
-    Leaves(Entry),
+    Leaves,
 }
 
-/// The next turn, where a store has retired in this cycle or not.
+/// The next turn, where a store has retired in this cycle or not. The head is only looked at where it stands.
 pub(crate) fn turn_at(rob: &RobRing, stored: bool) -> Turn
-    ensures { result ≡ turn_at stored rob.now.entries }
+    ensures turn { result ≡ turn_at stored rob.now.entries }
+    ensures head { result ≡ Leaves → 0 < length rob.now.entries }
 {
-    let Some(head) = rob.head() else {
-        return Turn::Waits;
-    };
-    if !may_leave(&head) {
+    if rob.len() == 0 {
         return Turn::Waits;
     }
-    if let Some(cause) = trap_of(&head) {
+    turn_of(&rob.at(0), stored)
+}
+
+// The turn of this head.
+fn turn_of(head: &Entry, stored: bool) -> Turn
+    ensures { result ≡ turn_of stored head.now }
+{
+    if !may_leave(head) {
+        return Turn::Waits;
+    }
+    if let Some(cause) = trap_of(head) {
         return Turn::Traps(cause, head.item.pc);
     }
-    if stored && is_store(&head) {
+    if stored && is_store(head) {
         return Turn::Waits;
     }
-    Turn::Leaves(head)
+    Turn::Leaves
 }
 
 /// Whether a store has retired in this cycle, once this entry has.

@@ -11,42 +11,42 @@ loop-init g c = retires_start _ _ (ready _ _ c.requires.empty c.requires.one_des
 
 pub returns-in-Waits-clause-state : goal.returns-in-Waits-clause-state
 returns-in-Waits-clause-state g c =
-    (over_waits _ _ _ _ _ c.loop.invariant (ready _ _ c.requires.empty c.requires.one_description c.requires.call_alone c.requires.stores_fit) (sym c.turn_at.ensures ∙ c.in-Waits.is)).state
+    (over_waits _ _ _ _ _ c.loop.invariant (ready _ _ c.requires.empty c.requires.one_description c.requires.call_alone c.requires.stores_fit) (sym c.turn_at.ensures.turn ∙ c.in-Waits.is)).state
 
 pub returns-in-Waits-clause-row : goal.returns-in-Waits-clause-row
 returns-in-Waits-clause-row g c =
-    (over_waits _ _ _ _ _ c.loop.invariant (ready _ _ c.requires.empty c.requires.one_description c.requires.call_alone c.requires.stores_fit) (sym c.turn_at.ensures ∙ c.in-Waits.is)).row
+    (over_waits _ _ _ _ _ c.loop.invariant (ready _ _ c.requires.empty c.requires.one_description c.requires.call_alone c.requires.stores_fit) (sym c.turn_at.ensures.turn ∙ c.in-Waits.is)).row
 
 pub returns-in-Waits-clause-piece : goal.returns-in-Waits-clause-piece
 returns-in-Waits-clause-piece g c =
-    (over_waits _ _ _ _ _ c.loop.invariant (ready _ _ c.requires.empty c.requires.one_description c.requires.call_alone c.requires.stores_fit) (sym c.turn_at.ensures ∙ c.in-Waits.is)).piece
+    (over_waits _ _ _ _ _ c.loop.invariant (ready _ _ c.requires.empty c.requires.one_description c.requires.call_alone c.requires.stores_fit) (sym c.turn_at.ensures.turn ∙ c.in-Waits.is)).piece
 
 pub returns-in-Waits-clause-may_retire : goal.returns-in-Waits-clause-may_retire
 returns-in-Waits-clause-may_retire g c =
-    (over_waits _ _ _ _ _ c.loop.invariant (ready _ _ c.requires.empty c.requires.one_description c.requires.call_alone c.requires.stores_fit) (sym c.turn_at.ensures ∙ c.in-Waits.is)).left.may_retire
+    (over_waits _ _ _ _ _ c.loop.invariant (ready _ _ c.requires.empty c.requires.one_description c.requires.call_alone c.requires.stores_fit) (sym c.turn_at.ensures.turn ∙ c.in-Waits.is)).left.may_retire
 
 -- ---- it traps
 
 pub returns-in-Traps-clause-state : goal.returns-in-Traps-clause-state
 returns-in-Traps-clause-state g c =
-    (over_traps _ _ _ _ _ _ _ c.loop.invariant (ready _ _ c.requires.empty c.requires.one_description c.requires.call_alone c.requires.stores_fit) c.loop-test.true (sym c.turn_at.ensures ∙ c.in-Traps.is)).state
+    (over_traps _ _ _ _ _ _ _ c.loop.invariant (ready _ _ c.requires.empty c.requires.one_description c.requires.call_alone c.requires.stores_fit) c.loop-test.true (sym c.turn_at.ensures.turn ∙ c.in-Traps.is)).state
 
 pub returns-in-Traps-clause-row : goal.returns-in-Traps-clause-row
 returns-in-Traps-clause-row g c =
-    (over_traps _ _ _ _ _ _ _ c.loop.invariant (ready _ _ c.requires.empty c.requires.one_description c.requires.call_alone c.requires.stores_fit) c.loop-test.true (sym c.turn_at.ensures ∙ c.in-Traps.is)).row
+    (over_traps _ _ _ _ _ _ _ c.loop.invariant (ready _ _ c.requires.empty c.requires.one_description c.requires.call_alone c.requires.stores_fit) c.loop-test.true (sym c.turn_at.ensures.turn ∙ c.in-Traps.is)).row
 
 pub returns-in-Traps-clause-piece : goal.returns-in-Traps-clause-piece
 returns-in-Traps-clause-piece g c =
-    (over_traps _ _ _ _ _ _ _ c.loop.invariant (ready _ _ c.requires.empty c.requires.one_description c.requires.call_alone c.requires.stores_fit) c.loop-test.true (sym c.turn_at.ensures ∙ c.in-Traps.is)).piece
+    (over_traps _ _ _ _ _ _ _ c.loop.invariant (ready _ _ c.requires.empty c.requires.one_description c.requires.call_alone c.requires.stores_fit) c.loop-test.true (sym c.turn_at.ensures.turn ∙ c.in-Traps.is)).piece
 
 pub returns-in-Traps-clause-may_retire : goal.returns-in-Traps-clause-may_retire
 returns-in-Traps-clause-may_retire g c =
-    (over_traps _ _ _ _ _ _ _ c.loop.invariant (ready _ _ c.requires.empty c.requires.one_description c.requires.call_alone c.requires.stores_fit) c.loop-test.true (sym c.turn_at.ensures ∙ c.in-Traps.is)).left.may_retire
+    (over_traps _ _ _ _ _ _ _ c.loop.invariant (ready _ _ c.requires.empty c.requires.one_description c.requires.call_alone c.requires.stores_fit) c.loop-test.true (sym c.turn_at.ensures.turn ∙ c.in-Traps.is)).left.may_retire
 
 -- ---- it retires
 
 pub commit-requires-clause-inside : goal.commit-requires-clause-inside
-commit-requires-clause-inside g c = head_inside _ _ _ _ c.loop.invariant.stores (sym c.turn_at.ensures ∙ c.in-Leaves.is)
+commit-requires-clause-inside g c = head_inside _ _ _ _ c.loop.invariant.stores (record { turn = sym c.turn_at.ensures.turn ∙ c.in-Leaves.is; head = c.at-head.ensures })
 
 -- and ends the run
 ends : (g : given.Over) (c : goal.In-Some g) → Over c.args.desc.now
@@ -54,7 +54,7 @@ ends : (g : given.Over) (c : goal.In-Some g) → Over c.args.desc.now
     (Some c.in-Some.end)
     (record { rob = c.take_out.new.rob; writes = g.R.RenameTaint.writes c.take_out.new.rename; names_room = g.R.RenameTaint.room c.take_out.new.rename; queues = c.take_out.new.lsq; tags = c.commit.new.tags; ram = c.commit.new.ram; regs = c.commit.new.regs; pc = c.commit.new.pc; row = c.commit.new.row; piece = c.commit.new.piece })
 ends g c =
-    over_ends _ _ _ _ _ _ c.in-Leaves.head _ c.loop.invariant (ready _ _ c.requires.empty c.requires.one_description c.requires.call_alone c.requires.stores_fit) c.loop-test.true (sym c.turn_at.ensures ∙ c.in-Leaves.is)
+    over_ends _ _ _ _ _ _ c.at-head.result _ c.loop.invariant (ready _ _ c.requires.empty c.requires.one_description c.requires.call_alone c.requires.stores_fit) c.loop-test.true (record { turn = sym c.turn_at.ensures.turn ∙ c.in-Leaves.is; head = c.at-head.ensures })
     (record {
       rob = c.take_out.ensures.rob;
       names = c.take_out.ensures.names;
@@ -92,7 +92,7 @@ returns-in-Some-clause-lsq g c = (ends g c).left.queues
 -- and the run goes on
 pub loop-preserved : goal.loop-preserved
 loop-preserved g c =
-    retires_more _ _ _ _ _ _ c.in-Leaves.head _ c.loop.invariant c.loop-test.true (sym c.turn_at.ensures ∙ c.in-Leaves.is)
+    retires_more _ _ _ _ _ _ c.at-head.result _ c.loop.invariant c.loop-test.true (record { turn = sym c.turn_at.ensures.turn ∙ c.in-Leaves.is; head = c.at-head.ensures })
     (record {
       rob = c.take_out.ensures.rob;
       names = c.take_out.ensures.names;
