@@ -1,5 +1,5 @@
-//! Branches and JALRs over a window of two, with serial 0 alone visible; the expected values follow from `docs/machine.md`,
-//! "Resolve".
+//! Branches and JALRs over a window of two, with serial 0 alone visible or with the point moved on; the expected values follow
+//! from `docs/machine.md`, "Resolve".
 ghost use Rattle.std.specs.Prelude.{◌≡◌, length, IfOk};
 
 use crate::{Resolution, pick, resolve};
@@ -42,7 +42,9 @@ impl Window for Two {
 }
 
 // One at 0x10004 that is Done, predicted to go on at 0x10008.
-fn done(instr: Instr, value: u32, next: u32, fault: Option<Cause>) -> Entry {
+fn done(instr: Instr, value: u32, next: u32, fault: Option<Cause>) -> Entry
+    ensures { result.serial ≡ 3 }
+{
     let outcome = Outcome {
         value,
         next,
@@ -93,6 +95,16 @@ fn sum() -> Instr {
     }
 }
 
+// Another, with serial 5.
+fn younger(instr: Instr, value: u32, next: u32) -> Entry
+    ensures { result.serial ≡ 5 }
+{
+    Entry {
+        serial: 5,
+        ..done(instr, value, next, None)
+    }
+}
+
 // The youngest roots of an older and of a younger entry's sources, by position.
 fn by_position(
     rt: &impl Abort,
@@ -119,7 +131,7 @@ fn the_oldest_without_a_tainted_operand_is_picked(rt: HostRuntime) -> Result<(),
     let taken = done(branch(), 1, 0x10014, None);
     let both = Two {
         older: taken,
-        younger: done(jump(), 0x10008, 0x20000, None),
+        younger: younger(jump(), 0x10008, 0x20000),
     };
     let clean = by_position(&rt, alloc, [[None, Some(0)], [Some(0), None]])?;
     assert_eq!(rt; pick(&both, &point, &clean), Some(0));
@@ -131,10 +143,29 @@ fn the_oldest_without_a_tainted_operand_is_picked(rt: HostRuntime) -> Result<(),
         older: done(sum(), 1, 0x10008, None),
         younger: Entry {
             resolved: true,
-            ..taken
+            ..younger(branch(), 1, 0x10014)
         },
     };
     assert_eq!(rt; pick(&neither, &point, &clean), None);
+    Ok(())
+}
+
+#[test]
+fn what_is_behind_the_point_is_passed_over(rt: HostRuntime) -> Result<(), Fail> {
+    let alloc = rt.alloc();
+    let mut point = VisPoint::new(&desc(alloc)?);
+    let window = Two {
+        older: Entry {
+            resolved: true,
+            ..done(branch(), 1, 0x10014, None)
+        },
+        younger: younger(jump(), 0x10008, 0x20000),
+    };
+    point.advance(&window);
+    let of_the_older = by_position(&rt, alloc, [[None, None], [Some(3), None]])?;
+    assert_eq!(rt; pick(&window, &point, &of_the_older), Some(1));
+    let hidden = by_position(&rt, alloc, [[None, None], [Some(6), None]])?;
+    assert_eq!(rt; pick(&window, &point, &hidden), None);
     Ok(())
 }
 

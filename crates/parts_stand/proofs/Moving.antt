@@ -1,5 +1,5 @@
 -- The point can move on, whatever changes in the window.
-use Rattle.std.proofs.Common.{◌≡◌, ℕ, zero, suc, ◌+◌, ◌<◌, ◌≤◌, Bool, true, false, not, ◌&&◌, ◌||◌, cond, List, [], ◌∷◌, ◌++◌, Some, refl, ap, ap₂, sym, ◌∙◌, arith, subst, slice_get}
+use Rattle.std.proofs.Common.{◌≡◌, ℕ, zero, suc, ◌+◌, ◌<◌, ◌≤◌, Bool, true, false, not, ◌||◌, cond, List, [], ◌∷◌, ◌++◌, Some, refl, ap, sym, ◌∙◌, arith, subst, slice_get}
 use Rattle.std.specs.Prelude.{nat_le, nat_lt, slice_set}
 use Rattle.std.specs.List.{All}
 use Rattle.std.proofs.lemmas.Bool.Decides.{nat_tests}
@@ -18,6 +18,7 @@ use Rattle.window_model.proofs.Booleans.{both, waiting_done}
 use Rattle.rob_ring.specs.Ring.{below}
 use Rattle.visibility.specs.Point.{Point, HasMoved, moved_over, next_after, passes}
 use Rattle.visibility.proofs.Moving.{has_advanced}
+use Rattle.visibility.proofs.Stopping.{unresolved_fails}
 use Rattle.parts_stand.specs.Points.{Below, PointAdvances, PointCompletes, PointIssues, PointOpens, PointRenames, PointResolves, PointRetires, PointSquashes, PointStands, PointStops}
 use Rattle.parts_stand.proofs.Serials.{Rise, all_at, all_left, none_below, rise_head, rise_tail, splits}
 
@@ -178,15 +179,6 @@ point_resolves point next window i e s h w = sets point next window i e (record 
 
 -- ---- a branch or JALR that is not resolved
 
-unsafe_as : (k : Kind) (e : Entry) → is_control k ≡ true → e.resolved ≡ false → safe_as k e ≡ false
-unsafe_as Branch e c u = ap (λ b. b && not (is_faulty e)) u
-unsafe_as Jalr e c u = ap (λ b. b && not (is_faulty e)) u
-unsafe_as _ e c u = absurd (cc)
-
-fails : (m : SttModel) (e : Entry) → is_control e.item.kind ≡ true → e.resolved ≡ false → passes m e ≡ false
-fails Spectre e c u = ap₂ (λ a b. not a || b) c u
-fails Futuristic e c u = unsafe_as e.item.kind e c u
-
 pub point_stops : PointStops
 point_stops point next window i e s h c u = by_test (nat_le point.serial e.serial) refl
   where
@@ -195,7 +187,7 @@ point_stops point next window i e s h c u = by_test (nat_le point.serial e.seria
     by_test false q =
         let lt : e.serial < point.serial = grind (arith, nat_tests) in
         let p = all_at (Passes point) window i e s.can.passed h lt in
-        let f = fails point.model e c u in
+        let f = unresolved_fails point.model e c u in
         absurd (cc)
 
 pub point_squashes : PointSquashes

@@ -6,6 +6,7 @@ ghost use Rattle.window_model.specs.Resolve.{freed_from};
 ghost use Rattle.window_model.specs.State.{Machine};
 ghost use Rattle.rob_ring.specs.Ring.{below};
 ghost use Rattle.rename_taint.specs.Writes.{before_serial};
+ghost use Rattle.visibility.specs.Point.{Passed};
 ghost use Rattle.branch_resolve.specs.Pick.{pick_from};
 ghost use Rattle.queue_laws.specs.Window.{StandFor};
 ghost use Rattle.parts_stand.specs.Addresses.{AddressesStand};
@@ -53,6 +54,7 @@ pub fn resolve<R: RenameTaint>(
     requires few_items { length rob.old.entries + length front.old.queue < 2 ^ 32 }
     requires each_has_roots { length roots.old.items ≡ length rob.old.entries }
     requires each_has_writers { length writers.old.items ≡ length rob.old.entries }
+    requires passed { Passed point.now rob.old.entries }
     requires picked { IsPicked rob.old roots.old.items point.now predictor.old }
     requires room { length row.old.events + 3 ≤ 128 }
     ensures state { (x : Machine) → with_parts rob.new front.new predictor.new ports.new x ≡ (resolves rob.old front.old predictor.old ports.old x).machine }

@@ -1,2 +1,4 @@
 pub mod Walking
+pub mod Rising
 pub mod Moving
+pub mod Stopping

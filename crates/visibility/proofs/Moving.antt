@@ -1,42 +1,17 @@
 -- Where the point is to stand over a window whose serials rise.
-use Rattle.std.proofs.Common.{◌≡◌, ℕ, zero, suc, ◌+◌, ◌<◌, ◌≤◌, Bool, true, false, not, ◌&&◌, List, [], ◌∷◌, length, take, get_or, Option, Some, None, refl, ap, ap₂, sym, ◌∙◌, subst, arith, slice_get}
+use Rattle.std.proofs.Common.{◌≡◌, ℕ, zero, suc, ◌+◌, ◌<◌, ◌≤◌, Bool, true, false, not, ◌&&◌, List, [], ◌∷◌, length, Option, Some, None, refl, ap, ap₂, sym, ◌∙◌, subst, arith, slice_get}
 use Rattle.std.specs.Prelude.{reverse, nat_le}
-use Rattle.std.specs.List.{find, list_all, All, AllPairs}
+use Rattle.std.specs.List.{find, list_all, All}
 use Rattle.std.proofs.lemmas.Bool.Decides.{nat_tests}
-use Rattle.std.proofs.lemmas.List.{get_or-take, length-take-le}
-use Rattle.std.proofs.lemmas.List.Elements.{All-nil, All-cons, All-head, All-tail, All-weaker, All-more}
-use Rattle.std.proofs.lemmas.Option.{slice_get_within, get_or_from_slice_get}
+use Rattle.std.proofs.lemmas.List.Elements.{All-nil, All-cons, All-head, All-tail, All-weaker}
 use Rattle.machine_desc.specs.declared.SttModel.{SttModel}
 use Rattle.machine_desc.specs.declared.SttModel.TheVariants.{Spectre, Futuristic}
 use Rattle.window_model.specs.declared.Entry.{Entry}
 use Rattle.window_model.specs.Along.{Along}
 use Rattle.window_model.specs.Taint.{visible}
 use Rattle.window_model.proofs.Before.{all_reverse}
+use Rattle.visibility.proofs.Rising.{Rise, rise_head, rise_tail}
 use Rattle.visibility.specs.Point.{Point, passes, next_after, serial_of, moved_over, Passed, IsPoint, CanAdvance, HasMoved, HasAdvanced}
-
--- the serials rise
-abbrev pub Rise : List Entry → Type 0
-Rise window = AllPairs (λ (a b : Entry). a.serial < b.serial) window
-
-rise_head : (e : Entry) (es : List Entry) → Rise (e ∷ es) → All (λ b. e.serial < b.serial) es
-rise_head e es r = λ k d lt. r 0 (suc k) d (omega arith) (let l : suc k < suc (length es) = omega arith in l)
-
-rise_tail : (e : Entry) (es : List Entry) → Rise (e ∷ es) → Rise es
-rise_tail e es r = λ i j d lt l. r (suc i) (suc j) d (omega arith) (let m : suc j < suc (length es) = omega arith in m)
-
--- the entries up to one that is below a serial are, too
-pub all_below : (window : List Entry) (i n : ℕ) (e : Entry) → Rise window → slice_get window i ≡ Some e → e.serial < n → All (λ b. b.serial < n) (take (i + 1) window)
-all_below window i n e r h lt =
-    let within = slice_get_within window i e h in
-    All-more (λ b. b.serial < n) window i e within (older within) (subst (λ (b : Entry). b.serial < n) (sym (get_or_from_slice_get window i e e h)) lt)
-  where
-    older : i < length window → All (λ b. b.serial < n) (take i window)
-    older within k d l =
-        let w = length-take-le i window (omega arith) in
-        let before : k < i = omega (arith, w) in
-        let s = r k i d before within in
-        let t : (get_or window k d).serial < e.serial = subst (λ (b : Entry). (get_or window k d).serial < b.serial) (get_or_from_slice_get window i e d h) s in
-        subst (λ (b : Entry). b.serial < n) (sym (get_or-take i window k d before)) (omega arith)
 
 -- ---- visible, entry by entry
 

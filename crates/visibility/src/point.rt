@@ -52,6 +52,23 @@ impl VisPoint {
         }
     }
 
+    /// The point's position in a window: the entries before it have serials below the point's, and the others don't.
+    /// Serials rise, by one but for gaps that squashes leave, so it is looked for as far behind the oldest entry as the
+    /// point is.
+    pub fn position<W: Window>(&self, window: &W) -> u32
+        requires { AllPairs (λ a b. a.serial < b.serial) (W.entries window.now) }
+        ensures below { All (λ e. e.serial < self.now.serial) (take result (W.entries window.now)) }
+        ensures above { All (λ e. self.now.serial ≤ e.serial) (drop result (W.entries window.now)) }
+        ensures within { result ≤ length (W.entries window.now) }
+    {
+        for i in (0..reach(self.serial, window)).rev() {
+            if window.at(i).serial < self.serial {
+                return i + 1;
+            }
+        }
+        0
+    }
+
     /// Moves the point on: to the oldest entry that keeps younger ones from being visible, or to the serial after the
     /// youngest where none does. It begins at the point, so it looks at no entry that is behind it but for gaps of serials.
     pub fn advance<W: Window>(&mut self, window: &W)
@@ -62,30 +79,18 @@ impl VisPoint {
         ensures advanced { HasAdvanced self.new (W.entries window.now) }
         ensures on { self.old.serial ≤ self.new.serial }
     {
-        let start = first_from(self.serial, window);
+        let start = self.position(window);
         let stop = find_stop(self.model, window, start);
         self.serial = serial_of(stop, after_youngest(self.serial, window));
     }
 }
 
-// A position before which all entries have serials below this one. Serials rise, by one but for gaps that squashes leave,
-// so the search begins as far behind the oldest entry as the serial is.
-fn first_from<W: Window>(serial: u64, window: &W) -> u32
-    requires { AllPairs (λ a b. a.serial < b.serial) (W.entries window.now) }
-    ensures below { All (λ e. e.serial < serial) (take result (W.entries window.now)) }
-    ensures within { result ≤ length (W.entries window.now) }
-{
-    for i in (0..reach(serial, window)).rev() {
-        if window.at(i).serial < serial {
-            return i + 1;
-        }
-    }
-    0
-}
-
-// How many entries there can be with serials below this one.
+// How many entries there can be with serials below this one: serials rise, so each entry's is as far above the oldest's as
+// the entry is behind it, or farther.
 fn reach<W: Window>(serial: u64, window: &W) -> u32
-    ensures { result ≤ length (W.entries window.now) }
+    requires { AllPairs (λ a b. a.serial < b.serial) (W.entries window.now) }
+    ensures above { All (λ e. serial ≤ e.serial) (drop result (W.entries window.now)) }
+    ensures within { result ≤ length (W.entries window.now) }
 {
     let len = window.len();
     if len == 0 {

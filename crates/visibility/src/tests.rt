@@ -117,6 +117,28 @@ fn the_point_stands_at_what_keeps_younger_ones_hidden(rt: HostRuntime) -> Result
     Ok(())
 }
 
+// The position in the window of the point that has moved over it.
+fn reached(desc: &Desc, window: &Two) -> u32
+    requires older { window.now.older.serial ≡ 2 }
+    requires younger { window.now.younger.serial ≡ 5 }
+{
+    let mut point = VisPoint::new(desc);
+    point.advance(window);
+    point.position(window)
+}
+
+#[test]
+fn the_entries_before_its_position_are_below_it(rt: HostRuntime) -> Result<(), Fail> {
+    let alloc = rt.alloc();
+    let spectre = desc(alloc, "\"spectre\"\n")?;
+    let futuristic = desc(alloc, "\"futuristic\"\n")?;
+    assert_eq!(rt; reached(&spectre, &window(false, State::Done, None)), 0);
+    let waiting = window(true, State::Waiting, None);
+    assert_eq!(rt; reached(&futuristic, &waiting), 1);
+    assert_eq!(rt; reached(&spectre, &waiting), 2);
+    Ok(())
+}
+
 #[test]
 fn before_anything_serial_0_alone_is_visible(rt: HostRuntime) -> Result<(), Fail> {
     let point = VisPoint::new(&desc(rt.alloc(), "\"spectre\"\n")?);

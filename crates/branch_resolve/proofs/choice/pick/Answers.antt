@@ -1,19 +1,16 @@
-use Rattle.std.proofs.Common.{◌<◌, length, ap, arith, sym, ◌∙◌, []}
-use Rattle.std.proofs.lemmas.Option.{get_or_from_slice_get}
-use Rattle.branch_resolve.specs.Pick.{can_resolve}
-use Rattle.branch_resolve.proofs.Picking.{pick_here, pick_on}
+use Rattle.branch_resolve.proofs.Picking.{pick_here, pick_on, pick_start}
 use Rattle.branch_resolve.proofs.choice.pick.Goals as goal
+
+pub loop-i-init : goal.loop-i-init
+loop-i-init g c =
+    pick_start c.args.point.now c.position-start.result (g.W.Window.entries c.args.window.now) c.args.roots.now.items c.requires.each_has_roots c.requires.passed c.position-start.ensures.below
 
 pub returns-then-may_resolve : goal.returns-then-may_resolve
 returns-then-may_resolve g c =
-    let lt : c.loop-i.i < length c.args.roots.now.items = omega (arith, c.requires) in
-    let there = get_or_from_slice_get c.args.roots.now.items c.loop-i.i c.pair_at.result [] c.pair_at.ensures in
-    pick_here c.args.point.now.serial c.loop-i.i (g.W.Window.entries c.args.window.now) c.args.roots.now.items c.at-entry.result _ c.at-entry.ensures lt
-    (sym c.if-may_resolve.true ∙ c.may_resolve.ensures ∙ ap (can_resolve c.args.point.now.serial c.at-entry.result) (sym there)) c.loop-i.invariant
+    pick_here c.args.point.now.serial c.loop-i.i (g.W.Window.entries c.args.window.now) c.args.roots.now.items c.at-entry.result c.pair_at.result _ c.may_resolve.result
+    c.at-entry.ensures c.pair_at.ensures c.may_resolve.ensures c.loop-i.invariant c.if-may_resolve.true
 
 pub loop-i-preserved : goal.loop-i-preserved
 loop-i-preserved g c =
-    let lt : c.loop-i.i < length c.args.roots.now.items = omega (arith, c.requires) in
-    let there = get_or_from_slice_get c.args.roots.now.items c.loop-i.i c.pair_at.result [] c.pair_at.ensures in
-    pick_on c.args.point.now.serial c.loop-i.i (g.W.Window.entries c.args.window.now) c.args.roots.now.items c.at-entry.result _ c.at-entry.ensures lt
-    (sym c.if-may_resolve.false ∙ c.may_resolve.ensures ∙ ap (can_resolve c.args.point.now.serial c.at-entry.result) (sym there)) c.loop-i.invariant
+    pick_on c.args.point.now.serial c.loop-i.i (g.W.Window.entries c.args.window.now) c.args.roots.now.items c.at-entry.result c.pair_at.result _ c.may_resolve.result
+    c.at-entry.ensures c.pair_at.ensures c.may_resolve.ensures c.loop-i.invariant c.if-may_resolve.false

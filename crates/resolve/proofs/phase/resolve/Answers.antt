@@ -1,6 +1,5 @@
 -- The entry that is picked is the definition's, and what stands for the window goes on to do so.
-use Rattle.std.proofs.Common.{ℕ, List, length, take, Option, ap, ◌∙◌}
-use Rattle.circular_buffer.specs.Buffer.{Buffer, buffer}
+use Rattle.std.proofs.Common.{◌∙◌}
 use Rattle.resolve.proofs.Keeping.{Left, left_addresses, left_point, left_queues, left_stands, left_writers}
 use Rattle.resolve.proofs.phase.resolve.Given as given
 use Rattle.resolve.proofs.phase.resolve.Goals as goal
