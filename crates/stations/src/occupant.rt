@@ -13,13 +13,12 @@ pub struct Occupant {
     pub second: Option<u64>,
 }
 
-/// What is awaited, but for a serial.
-pub fn strike(awaited: Option<u64>, serial: u64) -> Option<u64>
-    ensures { result ≡ strike serial awaited }
+// This serial is awaited no longer.
+fn strike(awaited: &mut Option<u64>, serial: u64)
+    ensures { awaited.new ≡ strike serial awaited.old }
 {
-    match awaited {
-        Some(found) if found == serial => None,
-        _ => awaited,
+    if *awaited == Some(serial) {
+        *awaited = None;
     }
 }
 
@@ -31,7 +30,7 @@ impl Occupant {
     pub fn free(&mut self, serial: u64)
         ensures { self.new ≡ freed serial self.old }
     {
-        self.first = strike(self.first, serial);
-        self.second = strike(self.second, serial);
+        strike(&mut self.first, serial);
+        strike(&mut self.second, serial);
     }
 }
