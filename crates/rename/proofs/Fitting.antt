@@ -49,9 +49,9 @@ call_is_oldest (x ∷ y ∷ rest) e a h =
     let n : list_any calls (x ∷ y ∷ rest) ≡ false = no_call (x ∷ y ∷ rest) (list_any calls (x ∷ y ∷ rest)) refl a (omega arith) in
     ap calls p ∙ (neither (calls x) (list_any calls (y ∷ rest)) n).0 ∙ sym n
 
-pub none_is_oldest : (w : List Entry) → slice_get w 0 ≡ None → false ≡ list_any calls w
+pub none_is_oldest : (w : List Entry) → length w ≡ 0 → false ≡ list_any calls w
 none_is_oldest [] h = refl
-none_is_oldest (x ∷ w) h = absurd (cc)
+none_is_oldest (x ∷ w) h = absurd (omega (arith, h))
 
 -- ---- what the queues count
 

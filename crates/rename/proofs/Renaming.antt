@@ -91,21 +91,18 @@ standing_more item s s2 x g =
     ∙ ap (λ w. record (standing s x) { window = w; queue = drop 1 s.front.queue; next_serial = s.held.next + 1 }) a
 
 -- the room that its entry takes is there
-pub enters : (d : Desc) (s0 : Phase) (n : ℕ) (s : Phase) (item : Item) (e : Entry) → RenamesOn d s0 n s → fitting d s.held.rob.entries (slice_get s.front.queue 0) ≡ Some item → e ≡ renamed s.held.next item →
-    HasRoomFor e s.held.rob s.held.roots s.held.writers s.held.writes s.held.names_room s.held.stations s.held.queues
-enters d s0 n s item e h q r =
-    let f = fits_all d s.held.rob.entries item (fitting_is d s.held.rob.entries (slice_get s.front.queue 0) item q).1 in
-    subst (λ e. HasRoomFor e s.held.rob s.held.roots s.held.writers s.held.writes s.held.names_room s.held.stations s.held.queues) (sym r) (room_for d s.held item h.tied f)
+pub enters : (d : Desc) (s0 : Phase) (n : ℕ) (s : Phase) (item : Item) → RenamesOn d s0 n s → fitting d s.held.rob.entries (slice_get s.front.queue 0) ≡ Some item →
+    HasRoomFor (renamed s.held.next item) s.held.rob s.held.roots s.held.writers s.held.writes s.held.names_room s.held.stations s.held.queues
+enters d s0 n s item h q = room_for d s.held item h.tied (fits_all d s.held.rob.entries item (fitting_is d s.held.rob.entries (slice_get s.front.queue 0) item q).1)
 
 point_more : (h0 h h2 : Held) (item : Item) → PointStays h0 h → Entered (renamed h.next item) h h2 → PointStays h0 h2
 point_more h0 h h2 item k g p s =
     let a : h.rob.entries ++ renamed h.next item ∷ [] ≡ h2.rob.entries = sym (ap (λ (r : Ring). r.entries) g.rob) in
     subst (λ n. PointStands p n h2.rob.entries) (sym g.next) (subst (PointStands p (h.next + 1)) a (point_renames p h.next h.rob.entries (renamed h.next item) (k p s) refl refl))
 
-pub renames_more : (d : Desc) (s0 : Phase) (i : ℕ) (s s2 : Phase) (item : Item) (e : Entry) → RenamesOn d s0 (d.core_fetch_width - i) s → i < d.core_fetch_width →
-    fitting d s.held.rob.entries (slice_get s.front.queue 0) ≡ Some item → e ≡ renamed s.held.next item → Came item e s s2 → RenamesOn d s0 (d.core_fetch_width - (i + 1)) s2
-renames_more d s0 i s s2 item e h lt q r c =
-    let g : Came item (renamed s.held.next item) s s2 = subst (λ e. Came item e s s2) r c in
+pub renames_more : (d : Desc) (s0 : Phase) (i : ℕ) (s s2 : Phase) (item : Item) → RenamesOn d s0 (d.core_fetch_width - i) s → i < d.core_fetch_width →
+    fitting d s.held.rob.entries (slice_get s.front.queue 0) ≡ Some item → Came item (renamed s.held.next item) s s2 → RenamesOn d s0 (d.core_fetch_width - (i + 1)) s2
+renames_more d s0 i s s2 item h lt q g =
     let k = d.core_fetch_width - (i + 1) in
     let n : d.core_fetch_width - i ≡ suc k = omega (arith, lt) in
     let found = fitting_is d s.held.rob.entries (slice_get s.front.queue 0) item q in

@@ -1,5 +1,6 @@
 -- What an entry brings into the parts (docs/machine.md, "Rename", "The parts stand for the machine").
 use Rattle.std.specs.Prelude.{◌≡◌, ℕ, ◌<◌, true, List, [], ◌∷◌, ◌++◌, length, map, slice_get, Option, Some, None}
+use Rattle.std.specs.Option.{option_map}
 use Rattle.circular_buffer.specs.Buffer.{Buffer}
 use Rattle.rv_types.specs.Regs.{two}
 use Rattle.rv_types.specs.declared.Kind.{Kind}
@@ -33,10 +34,10 @@ roots_at writes e = map (root_at writes) (two (sources e))
 abbrev pub writers_at : List Write → Entry → List (Option ℕ)
 writers_at writes e = map (named writes) (two (sources e))
 
--- the serial of a source's writer, if it has one, has its position in the window
+-- a source's writer, if it has one, is in the window: the entry at its serial's position has that serial
 abbrev pub HasPlace : List Entry → Option ℕ → Type 0
 HasPlace window None = Unit {0}
-HasPlace window (Some serial) = length (below serial window) < length window
+HasPlace window (Some serial) = option_map (λ e. e.serial) (slice_get window (length (below serial window))) ≡ Some serial
 
 -- the serial that a source with this writer awaits, by the entry at that position
 abbrev pub awaited_of_writer : List Entry → Option ℕ → Option ℕ

@@ -1,6 +1,5 @@
 //! The phase: item by item.
-ghost use Rattle.std.specs.Prelude.{◌≡◌, ◌≤◌, ◌<◌, ◌+◌, ◌++◌, ◌^◌, length, slice_get};
-ghost use Rattle.window_model.specs.Front.{renamed};
+ghost use Rattle.std.specs.Prelude.{◌≡◌, ◌≤◌, ◌<◌, ◌+◌, ◌++◌, ◌^◌, None, IfSome, is_some, drop, length, slice_get};
 ghost use Rattle.window_model.specs.State.{Machine};
 ghost use Rattle.queue_laws.specs.Window.{StandFor};
 ghost use Rattle.visibility.specs.Point.{Point};
@@ -11,7 +10,7 @@ ghost use Rattle.parts_stand.specs.Writers.{WritersOf};
 ghost use Rattle.rename.specs.Parts.{CallAlone, Counted, HasRooms, fitting, parts_of, renames, with_parts};
 
 use crate::entering::add_entry;
-use crate::room::{fits, is_at_once};
+use crate::room::fits;
 use circular_buffer::HeapCircularBuffer;
 use fetch_unit::Fetch;
 use lsq::Lsq;
@@ -19,7 +18,7 @@ use machine_desc::Desc;
 use rename_taint::RenameTaint;
 use rob_ring::RobRing;
 use stations::Stations;
-use window_model::{Entry, Event, Item, Row, State};
+use window_model::{Event, Item, Row};
 
 /// Phase Rename: up to the description's width of fetching, the oldest fetched items come into the window, each with the next
 /// serial and with its event in the row, as long as they fit.
@@ -62,20 +61,20 @@ pub fn rename<R: RenameTaint>(
     ensures few { length row.new.events ≤ length row.old.events + 4 }
 {
     for _ in 0..desc.core_fetch_width {
-        let Some(item) = next_item(front, desc, rob, stations, lsq) else {
+        let Some(item) = take_fitting(front, desc, rob, stations, lsq) else {
             return;
         };
-        let _ = front.take();
-        let entry = renamed(*next_serial, item);
-        add_entry(&entry, rob, roots, writers, names, stations, lsq);
+        let serial = *next_serial;
+        add_entry(serial, &item, rob, roots, writers, names, stations, lsq);
         *next_serial += 1;
-        row.push(Event::Ren(entry.serial, item.pc));
+        row.push(Event::Ren(serial, item.pc));
     }
 }
 
-// The oldest fetched item, None where there is none or it can't go into the window.
-fn next_item(
-    front: &Fetch,
+// Takes the oldest fetched item out of the queue and answers it. None where there is none or it can't go into the window; nothing
+// changes then.
+fn take_fitting(
+    front: &mut Fetch,
     desc: &Desc,
     rob: &RobRing,
     stations: &Stations,
@@ -83,30 +82,30 @@ fn next_item(
 ) -> Option<Item>
     requires call_alone { CallAlone rob.now.entries }
     requires counted { Counted desc.now rob.now.entries stations.now lsq.now }
-    ensures { result ≡ fitting desc.now rob.now.entries (slice_get front.now.queue 0) }
+    ensures item { result ≡ fitting desc.now rob.now.entries (slice_get front.old.queue 0) }
+    ensures taken { IfSome result (λ item. front.new ≡ record front.old { queue = drop 1 front.old.queue }) }
+    ensures stays { result ≡ None → front.new ≡ front.old }
 {
-    let item = front.front()?;
-    if fits(&item, desc, rob, stations, lsq) {
-        Some(item)
-    } else {
-        None
+    if !is_next_fitting(front, desc, rob, stations, lsq) {
+        return None;
     }
+    front.take()
 }
 
-// The item as an entry.
-fn renamed(serial: u64, item: Item) -> Entry
-    ensures { result ≡ renamed serial item }
+// Whether there is a fetched item and the oldest can go into the window. It is looked at where it stands.
+fn is_next_fitting(
+    front: &Fetch,
+    desc: &Desc,
+    rob: &RobRing,
+    stations: &Stations,
+    lsq: &Lsq,
+) -> bool
+    requires call_alone { CallAlone rob.now.entries }
+    requires counted { Counted desc.now rob.now.entries stations.now lsq.now }
+    ensures { result ≡ is_some (fitting desc.now rob.now.entries (slice_get front.now.queue 0)) }
 {
-    let state = if is_at_once(item.kind) {
-        State::Done
-    } else {
-        State::Waiting
-    };
-    Entry {
-        serial,
-        item,
-        state,
-        outcome: None,
-        resolved: false,
+    match front.front() {
+        Some(item) => fits(&item, desc, rob, stations, lsq),
+        None => false,
     }
 }

@@ -2,7 +2,7 @@
 ghost use Rattle.std.specs.Prelude.{◌≡◌};
 ghost use Rattle.std.specs.List.{list_any};
 ghost use Rattle.machine_desc.specs.declared.Desc.{Desc};
-ghost use Rattle.window_model.specs.Front.{at_once, fits, fits_as};
+ghost use Rattle.window_model.specs.Front.{at_once, fits, fits_as, is_call};
 ghost use Rattle.queue_laws.specs.Window.{StandFor};
 ghost use Rattle.rename.specs.Parts.{CallAlone, Counted, calls};
 
@@ -11,7 +11,7 @@ use machine_desc::Desc;
 use rob_ring::RobRing;
 use rv_types::Kind;
 use stations::Stations;
-use window_model::{Entry, Item};
+use window_model::Item;
 
 /// Whether the item can go into the window. Nothing is counted: stations and queues know how many they hold, and a call, which
 /// stands alone, is the oldest entry.
@@ -42,22 +42,22 @@ pub(crate) fn is_at_once(kind: Kind) -> bool
     }
 }
 
-// Whether there is a call in the window: then it is the oldest entry.
+// Whether there is a call in the window: then it is the oldest entry, of which only the kind is looked at.
 fn has_call(rob: &RobRing) -> bool
     requires { CallAlone rob.now.entries }
     ensures { result ≡ list_any calls rob.now.entries }
 {
-    match rob.head() {
-        Some(head) => is_call(&head),
-        None => false,
+    if rob.len() == 0 {
+        return false;
     }
+    is_call(rob.at(0).item.kind)
 }
 
-// Whether the entry is a call.
-fn is_call(entry: &Entry) -> bool
-    ensures { result ≡ calls entry.now }
+// Whether an entry of this kind is a call.
+fn is_call(kind: Kind) -> bool
+    ensures { result ≡ is_call kind }
 {
-    entry.item.kind == Kind::Call
+    kind == Kind::Call
 }
 
 // Room for a load among the loads, for a store among the stores, as every description with the queues' rooms has it. A call

@@ -2,8 +2,8 @@ use Rattle.std.proofs.Common.{sym, ◌∙◌}
 use Rattle.rename.proofs.Fitting.{call_is_oldest, none_is_oldest}
 use Rattle.rename.proofs.room.has_call.Goals as goal
 
-pub returns-in-Some : goal.returns-in-Some
-returns-in-Some c = c.is_call.ensures ∙ call_is_oldest _ c.in-Some.head c.requires (sym c.head.ensures ∙ c.in-Some.is)
+pub returns-then-len-eq0 : goal.returns-then-len-eq0
+returns-then-len-eq0 c = none_is_oldest _ (sym c.len.ensures.len ∙ c.if-len-eq0.true)
 
-pub returns-in-None : goal.returns-in-None
-returns-in-None c = none_is_oldest _ (sym c.head.ensures ∙ c.in-None.is)
+pub returns : goal.returns
+returns c = c.is_call.ensures ∙ call_is_oldest _ c.at.result c.requires c.at.ensures
