@@ -1,6 +1,7 @@
 pub mod Options
 pub mod Writers
 pub mod Bytes
+pub mod Waiting
 pub mod Testing
 pub mod Choosing
 pub mod Slots

@@ -1,5 +1,5 @@
 -- What the parts tell of an entry at its position is what the machine's definitions find there.
-use Rattle.std.proofs.Common.{◌≡◌, ℕ, ◌+◌, ◌-◌, ◌<◌, Bool, true, false, ◌&&◌, List, ◌∷◌, length, Option, Some, refl, ap, ap₂, sym, subst, ◌∙◌, slice_get, arith}
+use Rattle.std.proofs.Common.{◌≡◌, ℕ, ◌+◌, ◌-◌, ◌<◌, Bool, true, false, ◌&&◌, List, ◌∷◌, Option, Some, refl, ap, ap₂, sym, subst, ◌∙◌, slice_get, arith}
 use Rattle.std.specs.Prelude.{nat_lt}
 use Rattle.std.specs.List.{list_all}
 use Rattle.std.specs.Option.{option_map}
@@ -18,7 +18,7 @@ use Rattle.unit_ports.specs.Laws.{LeftAfter, asked}
 use Rattle.unit_ports.proofs.Granting.{granted_is, left_more}
 use Rattle.parts_stand.specs.Steps.{station_of}
 use Rattle.parts_stand.specs.Telling.{asks_besides}
-use Rattle.parts_stand.proofs.Answering.{has_station, tells_issue, tells_ready}
+use Rattle.parts_stand.proofs.Answering.{tells_issue, tells_ready}
 use Rattle.issue.specs.declared.seen.Seen.{Seen}
 use Rattle.issue.specs.Ports.{OnlyPorts, left_in_all}
 use Rattle.issue.specs.State.{Stands, StandsAt, parts_of}
@@ -31,9 +31,6 @@ module _ (s : Seen) (i : ℕ) (e : Entry) (t : Stands s) (h : StandsAt s i e) wh
   before = before_at s.rob.now.entries i
 
   -- an entry that waits has a station, which tells whether it is ready
-  pub station_within : (n : ℕ) → is_waiting e.state ≡ true → n ≡ station_of i s.rob.now.entries → n < length s.stations.now.held
-  station_within n w q = subst (λ n. n < length s.stations.now.held) (sym q) ((has_station (parts_of t.next t.writes s) i e t.parts h w).within)
-
   pub ready_is : (n : ℕ) (b : Bool) → is_waiting e.state ≡ true → n ≡ station_of i s.rob.now.entries → option_map awaits_none (slice_get s.stations.now.held n) ≡ Some b → b ≡ ready before e
   ready_is n b w q k =
       let told = tells_ready (parts_of t.next t.writes s) i e t.parts h w in

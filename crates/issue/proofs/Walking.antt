@@ -5,7 +5,6 @@ use Rattle.std.specs.List.{AllPairs, flat_map}
 use Rattle.std.specs.Option.{option_map}
 use Rattle.std.proofs.lemmas.List.{length-take-le, take_all}
 use Rattle.std.proofs.lemmas.List.Elements.{All-nil}
-use Rattle.std.proofs.lemmas.List.Sums.{count_by_more_no, count_by_more_yes}
 use Rattle.std.proofs.lemmas.Option.{get_or_from_slice_get, slice_get_within}
 use Rattle.window_model.specs.declared.Divider.{Divider}
 use Rattle.window_model.specs.declared.Entry.{Entry}
@@ -29,6 +28,7 @@ use Rattle.issue.proofs.Choosing.{gets_none, the_other}
 use Rattle.issue.proofs.Dividers.{access_same, begin_same}
 use Rattle.issue.proofs.Slots.{asks, division_asks, load_asks, of_first, one_more, slot_more}
 use Rattle.issue.proofs.Testing.{grants_none, left_none}
+use Rattle.issue.proofs.Waiting.{Keeps, Reaches}
 use Rattle.issue.proofs.Turning.{PutsTo, granted_waits, placed_more, puts_more, turn_acts, turn_waits}
 
 -- what is decided once the entries before a position have had their turns
@@ -114,18 +114,29 @@ module _ (s : Seen) (free : Bool) (i : ℕ) (e : Entry) (h : StandsAt s i e) whe
       (sym (ap (λ b. events ++ b.events) stays ∙ append-nil events))
       (the_other _ _ load load (gets_none s.desc.now free before e _ none) refl) (the_other _ _ division division (gets_none s.desc.now free before e _ none) refl) t
 
-  pub station_more : is_waiting e.state ≡ true → station_of (i + 1) (window_of s) ≡ station_of i (window_of s) + 1
-  station_more w = count_by_more_yes (λ e. is_waiting e.state) (window_of s) i e (slice_get_within (window_of s) i e h) (ap (λ e. is_waiting e.state) (get_or_from_slice_get (window_of s) i e e h) ∙ w)
-
-  pub station_past : is_waiting e.state ≡ false → station_of (i + 1) (window_of s) ≡ station_of i (window_of s)
-  station_past w = count_by_more_no (λ e. is_waiting e.state) (window_of s) i e (slice_get_within (window_of s) i e h) (ap (λ e. is_waiting e.state) (get_or_from_slice_get (window_of s) i e e h) ∙ w)
-
   -- what older entries have left is left to the next
   pub left_on : (p : Ports) → LeftAfter s.desc.now free (e ∷ before) p → LeftAfter s.desc.now free (before_at (window_of s) (i + 1)) p
   left_on p l = subst (λ before. LeftAfter s.desc.now free before p) (sym (before_more (window_of s) i e (slice_get_within (window_of s) i e h) ∙ ap (λ e. e ∷ before) (get_or_from_slice_get (window_of s) i e e h))) l
 
   pub left_past : (p : Ports) → may_issue s.desc.now free before e ≡ false → LeftAfter s.desc.now free before p → LeftAfter s.desc.now free (before_at (window_of s) (i + 1)) p
   left_past p m l = left_on p (left_none s.desc.now free before e p m l)
+
+-- ---- the walk
+
+-- what is decided before a position, and the ports that are left there
+pub record Walked (s : Seen) (free : Bool) (ports : Ports) (puts : List Put) (load : Option Access) (division : Option Divider) (earlier events : List Event) (i : ℕ) : Type 0 where
+  pub decided : DecidedTo s free i puts load division earlier events
+  pub left : LeftAfter s.desc.now free (before_at (window_of s) i) ports
+
+module _ (s : Seen) (free : Bool) (ports : Ports) (puts : List Put) (load : Option Access) (division : Option Divider) (earlier events : List Event) where
+  -- one that may not issue leaves all as it is
+  pub walked_past : (i : ℕ) (e : Entry) (h : StandsAt s i e) → may_issue s.desc.now free (before_at (window_of s) i) e ≡ false →
+      Walked s free ports puts load division earlier events i → Walked s free ports puts load division earlier events (i + 1)
+  walked_past i e h m t = record { decided = decided_past s free i e h puts load division earlier events m t.decided; left = left_past s free i e h ports m t.left }
+
+  -- so does one that doesn't wait
+  pub keeps : Keeps (Walked s free ports puts load division earlier events) (window_of s)
+  keeps i e h w t = walked_past i e h (not_waiting s free i e h w) t
 
 -- ---- an entry, by whether it waits
 
@@ -194,3 +205,8 @@ decided_none s free puts load division earlier p l v =
       load_is = l;
       division_is = v;
     }
+
+pub walked_none : (s : Seen) (free : Bool) (ports : Ports) (puts : List Put) (load : Option Access) (division : Option Divider) (earlier : List Event) → puts ≡ [] → load ≡ None → division ≡ None → LeftAfter s.desc.now free [] ports →
+    Reaches (Walked s free ports puts load division earlier earlier) (window_of s) 0
+walked_none s free ports puts load division earlier p l v left =
+    record { position = 0; within = omega arith; station = refl; holds = record { decided = decided_none s free puts load division earlier p l v; left = left } }

@@ -1,11 +1,11 @@
-//! What the phase decides as it goes over the window, oldest first (`docs/machine.md`, "Issue"). Every test is made on the state
-//! before the phase.
+//! What the phase decides as it goes over the entries that wait, oldest first (`docs/machine.md`, "Issue"). Every test is made on
+//! the state before the phase.
 use crate::access::Access;
 use crate::entry::Turn;
 use crate::seen::Seen;
 use arrayvec::ArrayVec;
 use unit_ports::Ports;
-use window_model::{Divider, Entry, Row, State};
+use window_model::{Divider, Entry, Row};
 
 /// At most so many entries begin in a cycle: four arithmetic units, and one port of each other kind.
 pub(crate) const PUTS_MAX: usize = 8;
@@ -79,6 +79,7 @@ impl<'a> Seen<'a> {
     ghost use Rattle.window_model.specs.Order.{before_at, each, first, is_waiting, ready};
     ghost use Rattle.window_model.specs.Issue.{DivPort, LoadPort, access_of, divides, issue_entry, is_free, tried};
     ghost use Rattle.unit_ports.specs.Laws.{LeftAfter};
+    ghost use Rattle.parts_stand.specs.Steps.{station_of};
     ghost use Rattle.issue.specs.Accesses.{as_access};
     ghost use Rattle.issue.specs.Begins.{division_of};
     ghost use Rattle.issue.specs.Deciding.{puts_of, turn_of};
@@ -87,12 +88,14 @@ impl<'a> Seen<'a> {
     ghost use Rattle.issue.specs.Puts.{ArePuts, placed};
     ghost use Rattle.issue.specs.State.{Stands, StandsAt, machine_of, machine_with, window_of};
 
-    // Whether the entry at a position waits.
-    fn waits_at(&self, position: u32) -> bool
-        requires { position < length (window_of self.now) }
-        ensures { option_map (λ e. is_waiting e.state) (slice_get (window_of self.now) position) ≡ Some result }
+    // The position of the entry that waits at a station.
+    fn position_at(&self, station: u32) -> u32
+        requires stands { Stands self.now }
+        requires within { station < length self.now.stations.now.held }
+        ensures waits { option_map (λ e. is_waiting e.state) (slice_get (window_of self.now) result) ≡ Some true }
+        ensures station { station_of result (window_of self.now) ≡ station }
     {
-        self.rob.at(position).state == State::Waiting
+        self.rob.position_of(self.stations.serial(station))
     }
 
     // The turn of the entry at a position, which waits at a station and is ready. `free` says that the divider is free in this
@@ -129,7 +132,8 @@ impl<'a> Seen<'a> {
         decided.note(position, station, &turn, row);
     }
 
-    /// Goes over the window. All ports of the cycle are left, `ports` knows the divider, and nothing is decided as yet.
+    /// Goes over the stations, oldest first: entries that don't wait, or aren't ready, stay as they are. All ports of the cycle
+    /// are left, `ports` knows the divider, and nothing is decided as yet.
     pub(crate) fn decide(&self, ports: &mut Ports, decided: &mut Decided, row: &mut Row)
         requires stands { Stands self.now }
         requires cycle { ports.old.cycle ≡ self.now.cycle }
@@ -146,16 +150,11 @@ impl<'a> Seen<'a> {
         ensures few { length row.new.events ≤ length row.old.events + 8 }
     {
         let free = ports.free_div();
-        let mut next_station = 0u32;
-        for position in 0..self.rob.len() {
-            if !self.waits_at(position) {
-                continue;
-            }
-            let station = next_station;
-            next_station += 1;
+        for station in 0..self.stations.len() {
             if !self.stations.ready(station) {
                 continue;
             }
+            let position = self.position_at(station);
             let entry = self.rob.at(position);
             self.decide_entry(position, &entry, station, free, ports, decided, row);
         }
