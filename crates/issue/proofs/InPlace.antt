@@ -29,7 +29,8 @@ use Rattle.parts_stand.proofs.Standing.{issues_at}
 use Rattle.parts_stand.proofs.Addressing.{addresses_go_on}
 use Rattle.parts_stand.proofs.Moving.{point_issues}
 use Rattle.issue.specs.declared.decide.Put.{Put}
-use Rattle.issue.specs.Puts.{ArePuts, IsPut, placed}
+use Rattle.issue.specs.Puts.{ArePuts, IsPut, begun_at, placed}
+use Rattle.issue.proofs.Turning.{placed_push}
 
 -- ---- what stands
 
@@ -78,27 +79,21 @@ as_parts entries roots = record { next = 0; window = entries; roots = roots; wri
 
 -- an entry that has begun comes in its place, and its station is freed
 ties_more : (entries : List Entry) (held : List Station) (now : List Entry) (held_now : List Station) (put : Put) →
-    Ties entries held now held_now → IsPut now put → Ties entries held (slice_set now put.position put.entry) (remove held_now put.station)
+    Ties entries held now held_now → (k : IsPut now put) → Ties entries held (slice_set now put.position (begun k.old put.due put.outcome)) (remove held_now put.station)
 ties_more entries held now held_now put t k =
     let e = k.old in
-    let b = begun e k.due k.outcome in
+    let b = begun e put.due put.outcome in
     let on : AllZip GoesOn now (slice_set now put.position b) = zip_set GoesOn goes_same now put.position e b k.here (record { serial = refl; item = refl }) in
     let made : Ties entries held (slice_set now put.position b) (remove held_now (station_of put.position now)) = record {
-      stand = λ p s. issues_at (record p { window = now; held = held_now }) put.position k.due e k.outcome (t.stand p s) k.here k.waits;
+      stand = λ p s. issues_at (record p { window = now; held = held_now }) put.position put.due e put.outcome (t.stand p s) k.here k.waits;
       goes_on = zip_then entries now (slice_set now put.position b) t.goes_on on;
-      queues = λ q s. unseen_stands q now (slice_set now put.position b) (t.queues q s) (map_set seen now put.position e b k.here (same_seen e k.due k.outcome (waits_undone e.state k.waits)));
+      queues = λ q s. unseen_stands q now (slice_set now put.position b) (t.queues q s) (map_set seen now put.position e b k.here (same_seen e put.due put.outcome (waits_undone e.state k.waits)));
       addresses = λ roots q s. addresses_go_on (as_parts now roots) q.stores (slice_set now put.position b) (t.addresses roots q s) on;
-      point = λ point next s. point_issues point next now put.position k.due e k.outcome (t.point point next s) k.here k.waits;
+      point = λ point next s. point_issues point next now put.position put.due e put.outcome (t.point point next s) k.here k.waits;
     } in
-    subst (λ b. Ties entries held (slice_set now put.position b) (remove held_now put.station)) (sym k.begins)
-    (subst (λ n. Ties entries held (slice_set now put.position b) (remove held_now n)) (sym k.station) made)
+    subst (λ n. Ties entries held (slice_set now put.position b) (remove held_now n)) (sym k.station) made
 
 -- ---- the puts
-
--- the youngest is put in its place first
-placed_last : (puts : List Put) (put : Put) (window : List Entry) → placed (puts ++ put ∷ []) window ≡ placed puts (slice_set window put.position put.entry)
-placed_last [] put window = refl
-placed_last (p ∷ puts) put window = ap (λ w. slice_set w p.position p.entry) (placed_last puts put window)
 
 -- an entry in another place stays
 get_other : (es : List Entry) (i m : ℕ) (e : Entry) → i < m → slice_get (slice_set es m e) i ≡ slice_get es i
@@ -111,11 +106,8 @@ get_other (x ∷ es) (suc i) (suc m) e lt = get_other es i m e (omega (arith, lt
 still_put : (window : List Entry) (put : Put) (m : ℕ) (e : Entry) → put.position < m → IsPut window put → IsPut (slice_set window m e) put
 still_put window put m e lt k = record {
   old = k.old;
-  due = k.due;
-  outcome = k.outcome;
   here = get_other window put.position m e lt ∙ k.here;
   waits = k.waits;
-  begins = k.begins;
   station = k.station ∙ sym (stations_older window put.position m e (omega (arith, lt)));
 }
 
@@ -153,13 +145,11 @@ age_left (p ∷ puts) put r =
       All-cons (λ q. q.position < put.position) p puts (All-head (λ q. p.position < q.position) put [] (all_right (λ q. p.position < q.position) puts (put ∷ []) h)) k.1,
     )
 
--- the youngest is one, and the others are still to be put in their places once it is in its own
-youngest : (window : List Entry) (puts : List Put) (put : Put) → ArePuts window (puts ++ put ∷ []) → IsPut window put × ArePuts (slice_set window put.position put.entry) puts
-youngest window puts put a =
-    let k = age_left puts put a.by_age in (
-      All-head (IsPut window) put [] (all_right (IsPut window) puts (put ∷ []) a.each_put),
-      record { each_put = all_still window puts put.position put.entry k.1 (all_left (IsPut window) puts (put ∷ []) a.each_put); by_age = k.0 },
-    )
+-- the others are still to be put in their places, whatever comes in the youngest one's
+still_left : (window : List Entry) (puts : List Put) (put : Put) (e : Entry) → ArePuts window (puts ++ put ∷ []) → ArePuts (slice_set window put.position e) puts
+still_left window puts put e a =
+    let k = age_left puts put a.by_age in
+    record { each_put = all_still window puts put.position e k.1 (all_left (IsPut window) puts (put ∷ []) a.each_put); by_age = k.0 }
 
 -- ---- the loop
 
@@ -178,29 +168,36 @@ module _ (puts : List Put) (rob : Ring) (stations : Stations) (left rest : List 
   split : left ≡ rest ++ put ∷ []
   split = popped ∙ ap (λ o. rest ++ option_to_list o) is
 
-  here : IsPut r.entries put × ArePuts (slice_set r.entries put.position put.entry) rest
-  here = youngest r.entries rest put (subst (ArePuts r.entries) split t.rest)
+  are : ArePuts r.entries (rest ++ put ∷ [])
+  are = subst (ArePuts r.entries) split t.rest
+
+  here : IsPut r.entries put
+  here = All-head (IsPut r.entries) put [] (all_right (IsPut r.entries) rest (put ∷ []) are.each_put)
+
+  -- the entry, as it begins
+  abbrev begins : Entry
+  begins = begun here.old put.due put.outcome
 
   -- its place is in the window, and its station among the stations
   pub place_within : put.position < length r.entries
-  place_within = slice_get_within r.entries put.position here.0.old here.0.here
+  place_within = slice_get_within r.entries put.position here.old here.here
 
   pub station_within : (p : Parts) × Stand (record p { window = rob.entries; held = stations.held }) → put.station < length s.held
   station_within k =
-      subst (λ n. n < length s.held) (sym here.0.station)
-      ((has_station (record k.0 { window = r.entries; held = s.held }) put.position here.0.old (t.ties.stand k.0 k.1) here.0.here here.0.waits).within)
+      subst (λ n. n < length s.held) (sym here.station)
+      ((has_station (record k.0 { window = r.entries; held = s.held }) put.position here.old (t.ties.stand k.0 k.1) here.here here.waits).within)
 
-  pub places_more : (r2 : Ring) (s2 : Stations) → r2 ≡ record r { entries = slice_set r.entries put.position put.entry } → s2 ≡ record s { held = remove s.held put.station } →
-      PlacesOn puts rob stations rest r2 s2
+  pub places_more : (r2 : Ring) (s2 : Stations) → ((e : Entry) → slice_get r.entries put.position ≡ Some e → r2 ≡ record r { entries = slice_set r.entries put.position (begun e put.due put.outcome) }) →
+      s2 ≡ record s { held = remove s.held put.station } → PlacesOn puts rob stations rest r2 s2
   places_more r2 s2 h k =
-      subst (λ r2. PlacesOn puts rob stations rest r2 s2) (sym h)
-      (subst (λ s2. PlacesOn puts rob stations rest (record r { entries = slice_set r.entries put.position put.entry }) s2) (sym k)
+      subst (λ r2. PlacesOn puts rob stations rest r2 s2) (sym (h here.old here.here))
+      (subst (λ s2. PlacesOn puts rob stations rest (record r { entries = slice_set r.entries put.position begins }) s2) (sym k)
       (record {
-        whole = sym (placed_last rest put r.entries) ∙ ap (λ ps. placed ps r.entries) (sym split) ∙ t.whole;
-        rest = here.1;
+        whole = sym (placed_push rest put r.entries ∙ ap (λ o. placed rest (begun_at put r.entries o)) here.here) ∙ ap (λ ps. placed ps r.entries) (sym split) ∙ t.whole;
+        rest = still_left r.entries rest put begins are;
         same_room = t.same_room;
         same_places = t.same_places;
-        ties = ties_more rob.entries stations.held r.entries s.held put t.ties here.0;
+        ties = ties_more rob.entries stations.held r.entries s.held put t.ties here;
       }))
 
 -- none is left

@@ -3,12 +3,15 @@ use Rattle.std.proofs.Common.{◌≡◌, ℕ, ◌+◌, Bool, true, false, List, 
 use Rattle.std.specs.Prelude.{if◌then◌else◌}
 use Rattle.std.specs.Option.{option_map, option_or}
 use Rattle.std.proofs.lemmas.List.{length-append, length-map}
+use Rattle.window_model.specs.declared.Entry.{Entry}
 use Rattle.window_model.specs.declared.Event.{Event}
 use Rattle.window_model.specs.Issue.{Begun}
 use Rattle.window_model.specs.Row.{Row}
 use Rattle.unit_ports.specs.Ports.{Ports}
+use Rattle.issue.specs.declared.begin.Begun as begin
 use Rattle.issue.specs.declared.decide.Put.{Put}
-use Rattle.issue.specs.Deciding.{puts_of}
+use Rattle.issue.specs.Begins.{as_tried}
+use Rattle.issue.specs.Deciding.{events_by, puts_by, puts_of}
 use Rattle.issue.specs.Ports.{OnlyPorts}
 
 -- ---- the load and the division
@@ -27,6 +30,16 @@ or_map f (Some x) b = refl
 
 pub noted_as : {X Y : Type 0} (f : X → Y) (b : Bool) (v : Y) (turn old new : Option X) → new ≡ option_or turn old → option_map f turn ≡ (if b then Some v else None) → option_map f new ≡ (if b then Some v else option_map f old)
 noted_as f b v turn old new n t = noted b v (option_map f turn) (option_map f old) (option_map f new) (ap (option_map f) n ∙ or_map f turn old) t
+
+-- ---- what one that begins, or waits on, adds
+
+pub puts_are : (i station : ℕ) (e : Entry) (b : Option begin.Begun) → puts_by i station b ≡ puts_of i station (as_tried e b)
+puts_are i station e None = refl
+puts_are i station e (Some b) = refl
+
+pub events_are : (e : Entry) (b : Option begin.Begun) → events_by b ≡ (as_tried e b).events
+events_are e None = refl
+events_are e (Some b) = refl
 
 -- ---- how many there are
 

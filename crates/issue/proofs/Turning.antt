@@ -1,6 +1,6 @@
 -- What an entry's turn comes to: it waits on, or it begins with one event.
 use Rattle.std.proofs.Common.{◌≡◌, ℕ, ◌+◌, ◌<◌, ◌≤◌, Bool, true, false, ◌&&◌, List, [], ◌∷◌, ◌++◌, length, Some, refl, ap, sym, subst, ◌∙◌, inl, inr, arith, append-nil, slice_get}
-use Rattle.std.specs.Prelude.{if◌then◌else◌, ◌⊎◌, slice_set}
+use Rattle.std.specs.Prelude.{if◌then◌else◌, ◌⊎◌}
 use Rattle.std.specs.List.{All, AllPairs}
 use Rattle.std.proofs.lemmas.List.{set_at}
 use Rattle.std.proofs.lemmas.List.Elements.{All-push}
@@ -21,7 +21,7 @@ use Rattle.parts_stand.specs.Steps.{station_of}
 use Rattle.issue.specs.declared.decide.Put.{Put}
 use Rattle.issue.specs.declared.seen.Seen.{Seen}
 use Rattle.issue.specs.Deciding.{puts_of, turn_of}
-use Rattle.issue.specs.Puts.{IsPut, placed}
+use Rattle.issue.specs.Puts.{IsPut, begun_at, placed}
 use Rattle.issue.specs.State.{machine_of}
 
 -- it is granted a port, and begins with one event
@@ -73,12 +73,9 @@ first_true false b c n h = absurd (cc)
 pub granted_waits : (d : Desc) (free : Bool) (before : List Entry) (e : Entry) → is_granted d free before e ≡ true → is_waiting e.state ≡ true
 granted_waits d free before e h = first_true (is_waiting e.state) (ready before e) (may_issue_as e.item.kind d free before e) _ h
 
--- one that is granted no port waits on, and one that is granted a port begins
+-- one that is granted no port waits on
 pub turn_waits : (s : Seen) (free : Bool) (before : List Entry) (e : Entry) → is_granted s.desc.now free before e ≡ false → turn_of s free before e ≡ waits e
 turn_waits s free before e h = ap (λ b. if b then begin_as e.item.kind s.desc.now (machine_of s) before e else waits e) h
-
-pub turn_begins : (s : Seen) (free : Bool) (before : List Entry) (e : Entry) → is_granted s.desc.now free before e ≡ true → turn_of s free before e ≡ begin_as e.item.kind s.desc.now (machine_of s) before e
-turn_begins s free before e h = ap (λ b. if b then begin_as e.item.kind s.desc.now (machine_of s) before e else waits e) h
 
 -- ---- the puts
 
@@ -97,8 +94,8 @@ puts_more window i station e puts granted b h n w (inl q) t =
     subst (PutsTo window (i + 1)) (sym (ap (λ b. puts ++ puts_of i station b) q ∙ append-nil puts))
     (record { each_put = t.each_put; older = later i puts t.older; by_age = t.by_age })
 puts_more window i station e puts granted b h n w (inr a) t =
-    let p : Put = record { position = i; station = station; entry = begun e a.due a.outcome } in
-    let put : IsPut window p = record { old = e; due = a.due; outcome = a.outcome; here = h; waits = w a.has_port; begins = refl; station = n } in
+    let p : Put = record { position = i; station = station; due = a.due; outcome = a.outcome } in
+    let put : IsPut window p = record { old = e; here = h; waits = w a.has_port; station = n } in
     subst (PutsTo window (i + 1)) (sym (ap (λ b. puts ++ puts_of i station b) a.is))
     (record {
       each_put = All-push (IsPut window) puts p t.each_put put;
@@ -106,9 +103,17 @@ puts_more window i station e puts granted b h n w (inr a) t =
       by_age = all_pairs_push (λ p q. p.position < q.position) puts p t.by_age t.older;
     })
 
-placed_push : (puts : List Put) (p : Put) (window : List Entry) → placed (puts ++ p ∷ []) window ≡ placed puts (slice_set window p.position p.entry)
+-- the youngest is put in its place first
+pub placed_push : (puts : List Put) (p : Put) (window : List Entry) → placed (puts ++ p ∷ []) window ≡ placed puts (begun_at p window (slice_get window p.position))
 placed_push [] p window = refl
-placed_push (q ∷ ps) p window = ap (λ window. slice_set window q.position q.entry) (placed_push ps p window)
+placed_push (q ∷ ps) p window = ap (λ window. begun_at q window (slice_get window q.position)) (placed_push ps p window)
+
+get_at : (older : List Entry) (e : Entry) (younger : List Entry) (i : ℕ) → length older ≡ i → slice_get (older ++ e ∷ younger) i ≡ Some e
+get_at older e younger i l = subst (λ i. slice_get (older ++ e ∷ younger) i ≡ Some e) l (here older)
+  where
+    here : (older : List Entry) → slice_get (older ++ e ∷ younger) (length older) ≡ Some e
+    here [] = refl
+    here (x ∷ older) = here older
 
 pub placed_more : (puts : List Put) (i station : ℕ) (e : Entry) (granted : Bool) (b : Begun) (older younger : List Entry) → length older ≡ i → Acts granted e b →
     placed (puts ++ puts_of i station b) (older ++ e ∷ younger) ≡ placed puts (older ++ b.entry ∷ younger)
@@ -117,5 +122,6 @@ placed_more puts i station e granted b older younger l (inl q) =
     subst P (sym q) (ap (λ ps. placed ps (older ++ e ∷ younger)) (append-nil puts))
 placed_more puts i station e granted b older younger l (inr a) =
     let P : Begun → Type 0 = λ b. placed (puts ++ puts_of i station b) (older ++ e ∷ younger) ≡ placed puts (older ++ b.entry ∷ younger) in
-    let p : Put = record { position = i; station = station; entry = begun e a.due a.outcome } in
-    subst P (sym a.is) (placed_push puts p (older ++ e ∷ younger) ∙ ap (placed puts) (set_at older e younger p.entry i l))
+    let p : Put = record { position = i; station = station; due = a.due; outcome = a.outcome } in
+    let window = older ++ e ∷ younger in
+    subst P (sym a.is) (placed_push puts p window ∙ ap (λ o. placed puts (begun_at p window o)) (get_at older e younger i l) ∙ ap (placed puts) (set_at older e younger (begun e a.due a.outcome) i l))

@@ -1,32 +1,35 @@
 //! What an entry does as it issues, by its kind (`docs/machine.md`, "Issue").
 ghost use Rattle.std.specs.Prelude.{◌≡◌, ◌+◌, None, Some, false};
 ghost use Rattle.rv_effect.specs.Seen.{seen};
-ghost use Rattle.window_model.specs.Issue.{begins, fault_if, outcome};
-ghost use Rattle.issue.specs.Begins.{as_begun};
+ghost use Rattle.window_model.specs.Issue.{fault_if, outcome};
 
 use crate::access::{Access, load_fault, store_fault};
 use crate::seen::Seen;
 use rv_alu::{div_time, extend};
 use rv_effect::{Effect, effect};
 use rv_types::{Cause, Kind};
-use window_model::{Divider, Entry, Event, Look, Outcome, State as Progress};
+use window_model::{Divider, Entry, Event, Look, Outcome};
 use window_walk::{op_of, width_of};
 
-/// An entry after it was tried, and its event if it has begun.
+/// How an entry begins.
 #[derive(Clone, Copy, Debug, PartialEq, Eq)]
 pub(crate) struct Begun {
-    pub(crate) entry: Entry,
-    pub(crate) event: Option<Event>,
+    /// The cycle in which it is done.
+    pub(crate) due: u64,
+    /// What it comes to.
+    pub(crate) outcome: Outcome,
+    /// Its event.
+    pub(crate) event: Event,
 }
 
-/// A load after it was tried, and what its access came to.
+/// What the access of a load came to, and how the load begins, if it doesn't wait on.
 #[derive(Clone, Copy, Debug, PartialEq, Eq)]
 pub(crate) struct BegunLoad {
     pub(crate) access: Access,
-    pub(crate) begun: Begun,
+    pub(crate) begun: Option<Begun>,
 }
 
-/// A division that has begun, and the divider with it.
+/// How a division begins, and the divider with it.
 #[derive(Clone, Copy, Debug, PartialEq, Eq)]
 pub(crate) struct BegunDivision {
     pub(crate) divider: Divider,
@@ -56,17 +59,14 @@ fn fault_if(misaligned: bool) -> Option<Cause>
     None
 }
 
-// The entry executes until a cycle.
-fn begins(entry: &Entry, due: u64, outcome: Outcome, event: Event) -> Begun
-    ensures { as_begun result ≡ begins entry.now due outcome event }
+// It executes until this cycle.
+fn begins(due: u64, outcome: Outcome, event: Event) -> Begun
+    ensures { result ≡ record { due = due; outcome = outcome; event = event } }
 {
     Begun {
-        entry: Entry {
-            state: Progress::Busy(due),
-            outcome: Some(outcome),
-            ..*entry
-        },
-        event: Some(event),
+        due,
+        outcome,
+        event,
     }
 }
 
@@ -81,7 +81,7 @@ impl<'a> Seen<'a> {
     ghost use Rattle.window_model.specs.Order.{before_at, is_load};
     ghost use Rattle.window_model.specs.Retire.{width_of};
     ghost use Rattle.issue.specs.Accesses.{as_access};
-    ghost use Rattle.issue.specs.Begins.{as_begun, division_of};
+    ghost use Rattle.issue.specs.Begins.{as_begun, as_tried, division_of};
     ghost use Rattle.issue.specs.State.{Stands, StandsAt, window_of, machine_of};
 
     // What the instruction of the entry at a position makes of its operands.
@@ -100,8 +100,8 @@ impl<'a> Seen<'a> {
     }
 
     // A load by what its access comes to.
-    fn load_as(&self, access: Access, entry: &Entry, effect: &Effect, value: u32) -> Begun
-        ensures { as_begun result ≡ load_as (as_access access) self.now.desc.now (machine_of self.now) entry.now (seen effect.now) value }
+    fn load_as(&self, access: Access, entry: &Entry, effect: &Effect, value: u32) -> Option<Begun>
+        ensures { as_tried entry.now result ≡ load_as (as_access access) self.now.desc.now (machine_of self.now) entry.now (seen effect.now) value }
     {
         let cycle = self.cycle as u64;
         let serial = entry.serial;
@@ -109,24 +109,21 @@ impl<'a> Seen<'a> {
         match access {
             Access::Faults(cause) => {
                 let fault = outcome(effect, 0, Some(cause));
-                begins(entry, cycle + 1, fault, Event::LdFault(serial))
+                Some(begins(cycle + 1, fault, Event::LdFault(serial)))
             }
-            Access::Forwards => begins(entry, cycle + 1, value, Event::LdForward(serial)),
+            Access::Forwards => Some(begins(cycle + 1, value, Event::LdForward(serial))),
             Access::Hits(line) => {
                 let due = cycle + self.desc.cache_hit_latency as u64;
-                begins(entry, due, value, Event::Ld(serial, line, Look::Hit))
+                Some(begins(due, value, Event::Ld(serial, line, Look::Hit)))
             }
             Access::Joins(line, due) => {
-                begins(entry, due, value, Event::Ld(serial, line, Look::Join))
+                Some(begins(due, value, Event::Ld(serial, line, Look::Join)))
             }
             Access::Misses(line) => {
                 let due = cycle + self.desc.cache_miss_latency as u64;
-                begins(entry, due, value, Event::Ld(serial, line, Look::Miss))
+                Some(begins(due, value, Event::Ld(serial, line, Look::Miss)))
             }
-            Access::Waits => Begun {
-                entry: *entry,
-                event: None,
-            },
+            Access::Waits => None,
         }
     }
 
@@ -137,7 +134,7 @@ impl<'a> Seen<'a> {
         requires done { stores_done (before_at (window_of self.now) position) ≡ true }
         requires sound { load_fault self.now.ram.now effect.now.addr (width_of entry.now) ≡ None }
         ensures access { as_access result.access ≡ access_at self.now.desc.now (machine_of self.now) (before_at (window_of self.now) position) effect.now.addr (width_of entry.now) None }
-        ensures begun { as_begun result.begun ≡ load_as (as_access result.access) self.now.desc.now (machine_of self.now) entry.now (seen effect.now) (value_loaded (machine_of self.now) (before_at (window_of self.now) position) entry.now effect.now.addr) }
+        ensures begun { as_tried entry.now result.begun ≡ load_as (as_access result.access) self.now.desc.now (machine_of self.now) entry.now (seen effect.now) (value_loaded (machine_of self.now) (before_at (window_of self.now) position) entry.now effect.now.addr) }
     {
         let loaded = self.load(position, entry, effect.addr);
         let access = self.find(loaded.forwarded, effect.addr);
@@ -154,7 +151,7 @@ impl<'a> Seen<'a> {
         requires at { StandsAt self.now position entry.now }
         requires done { stores_done (before_at (window_of self.now) position) ≡ true }
         ensures access { as_access result.access ≡ access_of self.now.desc.now (machine_of self.now) (before_at (window_of self.now) position) entry.now }
-        ensures begun { as_begun result.begun ≡ begin_as kind.Load self.now.desc.now (machine_of self.now) (before_at (window_of self.now) position) entry.now }
+        ensures begun { as_tried entry.now result.begun ≡ begin_as kind.Load self.now.desc.now (machine_of self.now) (before_at (window_of self.now) position) entry.now }
     {
         let made = self.effect(position, entry);
         match load_fault(self.ram, made.addr, width_of(entry)) {
@@ -171,7 +168,7 @@ impl<'a> Seen<'a> {
         requires stands { Stands self.now }
         requires at { StandsAt self.now position entry.now }
         ensures divider { result.divider ≡ division_of (machine_of self.now) (before_at (window_of self.now) position) entry.now }
-        ensures begun { as_begun result.begun ≡ begin_as kind.Div self.now.desc.now (machine_of self.now) (before_at (window_of self.now) position) entry.now }
+        ensures begun { as_begun entry.now result.begun ≡ begin_as kind.Div self.now.desc.now (machine_of self.now) (before_at (window_of self.now) position) entry.now }
     {
         let made = self.effect(position, entry);
         let first = self.operands(position, entry).first;
@@ -183,17 +180,16 @@ impl<'a> Seen<'a> {
                 free_from: due,
                 user: Some(entry.serial),
             },
-            begun: begins(entry, due, outcome(&made, made.value, None), event),
+            begun: begins(due, outcome(&made, made.value, None), event),
         }
     }
 
     // A multiplication.
     fn begin_product(&self, entry: &Entry, made: &Effect) -> Begun
-        ensures { as_begun result ≡ begins entry.now (self.now.cycle + self.now.desc.now.units_mul_latency) (outcome (seen made.now) made.now.value None) (event.Mul entry.now.serial) }
+        ensures { as_begun entry.now result ≡ begins entry.now (self.now.cycle + self.now.desc.now.units_mul_latency) (outcome (seen made.now) made.now.value None) (event.Mul entry.now.serial) }
     {
         let due = self.cycle as u64 + self.desc.units_mul_latency as u64;
         begins(
-            entry,
             due,
             outcome(made, made.value, None),
             Event::Mul(entry.serial),
@@ -202,25 +198,20 @@ impl<'a> Seen<'a> {
 
     // A store: its address and value are there, and its fault.
     fn begin_store(&self, entry: &Entry, made: &Effect) -> Begun
-        ensures { as_begun result ≡ begins entry.now (self.now.cycle + 1) (outcome (seen made.now) 0 (store_fault self.now.ram.now made.now.addr (width_of entry.now))) (event.Agu entry.now.serial) }
+        ensures { as_begun entry.now result ≡ begins entry.now (self.now.cycle + 1) (outcome (seen made.now) 0 (store_fault self.now.ram.now made.now.addr (width_of entry.now))) (event.Agu entry.now.serial) }
     {
         let fault = store_fault(self.ram, made.addr, width_of(entry));
         let due = self.cycle as u64 + 1;
-        begins(
-            entry,
-            due,
-            outcome(made, 0, fault),
-            Event::Agu(entry.serial),
-        )
+        begins(due, outcome(made, 0, fault), Event::Agu(entry.serial))
     }
 
     // What takes one cycle of an arithmetic unit.
     fn begin_simple(&self, entry: &Entry, made: &Effect) -> Begun
-        ensures { as_begun result ≡ begins entry.now (self.now.cycle + 1) (outcome (seen made.now) made.now.value (fault_if made.now.misaligned)) (event.Alu entry.now.serial) }
+        ensures { as_begun entry.now result ≡ begins entry.now (self.now.cycle + 1) (outcome (seen made.now) made.now.value (fault_if made.now.misaligned)) (event.Alu entry.now.serial) }
     {
         let due = self.cycle as u64 + 1;
         let outcome = outcome(made, made.value, fault_if(made.misaligned));
-        begins(entry, due, outcome, Event::Alu(entry.serial))
+        begins(due, outcome, Event::Alu(entry.serial))
     }
 
     /// Any other entry.
@@ -229,7 +220,7 @@ impl<'a> Seen<'a> {
         requires at { StandsAt self.now position entry.now }
         requires no_load { is_load entry.now.item.kind ≡ false }
         requires no_division { is_division entry.now.item.kind ≡ false }
-        ensures { as_begun result ≡ begin_as entry.now.item.kind self.now.desc.now (machine_of self.now) (before_at (window_of self.now) position) entry.now }
+        ensures { as_begun entry.now result ≡ begin_as entry.now.item.kind self.now.desc.now (machine_of self.now) (before_at (window_of self.now) position) entry.now }
     {
         let made = self.effect(position, entry);
         match entry.item.kind {

@@ -5,20 +5,45 @@ use crate::entry::Turn;
 use crate::seen::Seen;
 use arrayvec::ArrayVec;
 use unit_ports::Ports;
-use window_model::{Divider, Entry, Row};
+use window_model::{Divider, Entry, Outcome, Row};
 
 /// At most so many entries begin in a cycle: four arithmetic units, and one port of each other kind.
 pub(crate) const PUTS_MAX: usize = 8;
 
-/// An entry that has begun, before it is put in its place.
-#[derive(Clone, Copy, Debug, Default, PartialEq, Eq)]
+/// An entry that begins, before it does in its place.
+#[derive(Clone, Copy, Debug, PartialEq, Eq)]
 pub(crate) struct Put {
     /// Its position, counted from the oldest entry.
     pub(crate) position: u32,
     /// The position of its station, as the stations are before the phase.
     pub(crate) station: u32,
-    /// The entry, as it is after the phase.
-    pub(crate) entry: Entry,
+    /// The cycle in which it is done.
+    pub(crate) due: u64,
+    /// What it comes to.
+    pub(crate) outcome: Outcome,
+}
+
+impl Default for Put {
+    ghost use Rattle.std.specs.Prelude.{◌≡◌};
+    ghost use Rattle.issue.specs.Deciding.{blank};
+
+    /// To fill free places with.
+    fn default() -> Self
+        ensures { result ≡ record { position = 0; station = 0; due = 0; outcome = blank } }
+    {
+        Put {
+            position: 0,
+            station: 0,
+            due: 0,
+            outcome: Outcome {
+                value: 0,
+                next: 0,
+                addr: 0,
+                stored: 0,
+                fault: None,
+            },
+        }
+    }
 }
 
 /// What is decided.
@@ -35,8 +60,7 @@ pub(crate) struct Decided {
 impl Decided {
     ghost use Rattle.std.specs.Prelude.{◌≡◌, ◌≤◌, ◌+◌, ◌++◌, length};
     ghost use Rattle.std.specs.Option.{option_or};
-    ghost use Rattle.issue.specs.Begins.{as_begun};
-    ghost use Rattle.issue.specs.Deciding.{puts_of};
+    ghost use Rattle.issue.specs.Deciding.{events_by, puts_by};
     ghost use Rattle.issue.specs.Decisions.{IsNothing};
 
     /// Nothing as yet.
@@ -52,22 +76,23 @@ impl Decided {
 
     // Notes the turn of the entry at a position, and its event, if it has begun.
     fn note(&mut self, position: u32, station: u32, turn: &Turn, row: &mut Row)
-        requires few { length self.old.puts.items + length (as_begun turn.now.begun).events ≤ 8 }
-        requires room { length row.old.events + length (as_begun turn.now.begun).events ≤ 128 }
-        ensures puts { self.new.puts.items ≡ self.old.puts.items ++ puts_of position station (as_begun turn.now.begun) }
-        ensures row { row.new ≡ record row.old { events = row.old.events ++ (as_begun turn.now.begun).events } }
+        requires few { length self.old.puts.items + length (events_by turn.now.begun) ≤ 8 }
+        requires room { length row.old.events + length (events_by turn.now.begun) ≤ 128 }
+        ensures puts { self.new.puts.items ≡ self.old.puts.items ++ puts_by position station turn.now.begun }
+        ensures row { row.new ≡ record row.old { events = row.old.events ++ events_by turn.now.begun } }
         ensures load { self.new.load ≡ option_or turn.now.access self.old.load }
         ensures division { self.new.division ≡ option_or turn.now.division self.old.division }
     {
         self.load = turn.access.or(self.load);
         self.division = turn.division.or(self.division);
-        if let Some(event) = turn.begun.event {
+        if let Some(begun) = turn.begun {
             self.puts.push(Put {
                 position,
                 station,
-                entry: turn.begun.entry,
+                due: begun.due,
+                outcome: begun.outcome,
             });
-            row.push(event);
+            row.push(begun.event);
         }
     }
 }

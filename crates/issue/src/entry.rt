@@ -5,11 +5,11 @@ use crate::seen::Seen;
 use rv_types::Kind;
 use window_model::{Divider, Entry};
 
-/// An entry after a turn at which it was granted a port, and what it leaves of what all entries share.
+/// What an entry comes to that was granted a port, and what it leaves of what all entries share.
 #[derive(Clone, Copy, Debug, PartialEq, Eq)]
 pub(crate) struct Turn {
-    /// The entry, and its event if it has begun.
-    pub(crate) begun: Begun,
+    /// How it begins, if it doesn't wait on.
+    pub(crate) begun: Option<Begun>,
     /// What the access of a load that was tried came to.
     pub(crate) access: Option<Access>,
     /// The divider with the division that begins.
@@ -22,7 +22,7 @@ impl<'a> Seen<'a> {
     ghost use Rattle.window_model.specs.Issue.{access_of, begin_as, is_division, stores_done};
     ghost use Rattle.window_model.specs.Order.{before_at, is_load};
     ghost use Rattle.issue.specs.Accesses.{as_access};
-    ghost use Rattle.issue.specs.Begins.{as_begun, division_of};
+    ghost use Rattle.issue.specs.Begins.{as_tried, division_of};
     ghost use Rattle.issue.specs.State.{Stands, StandsAt, machine_of, window_of};
 
     /// An entry that is granted a port begins. A load that finds no miss register stays as it is.
@@ -30,7 +30,7 @@ impl<'a> Seen<'a> {
         requires stands { Stands self.now }
         requires at { StandsAt self.now position entry.now }
         requires done { is_load entry.now.item.kind ≡ true → stores_done (before_at (window_of self.now) position) ≡ true }
-        ensures begun { as_begun result.begun ≡ begin_as entry.now.item.kind self.now.desc.now (machine_of self.now) (before_at (window_of self.now) position) entry.now }
+        ensures begun { as_tried entry.now result.begun ≡ begin_as entry.now.item.kind self.now.desc.now (machine_of self.now) (before_at (window_of self.now) position) entry.now }
         ensures access { option_map as_access result.access ≡ (if is_load entry.now.item.kind then Some (access_of self.now.desc.now (machine_of self.now) (before_at (window_of self.now) position) entry.now) else None) }
         ensures division { result.division ≡ (if is_division entry.now.item.kind then Some (division_of (machine_of self.now) (before_at (window_of self.now) position) entry.now) else None) }
     {
@@ -46,13 +46,13 @@ impl<'a> Seen<'a> {
             Kind::Div => {
                 let taken = self.begin_division(position, entry);
                 Turn {
-                    begun: taken.begun,
+                    begun: Some(taken.begun),
                     access: None,
                     division: Some(taken.divider),
                 }
             }
             _ => Turn {
-                begun: self.begin_other(position, entry),
+                begun: Some(self.begin_other(position, entry)),
                 access: None,
                 division: None,
             },

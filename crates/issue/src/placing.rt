@@ -1,4 +1,4 @@
-//! The entries that have begun, in their places (`docs/machine.md`, "The parts stand for the machine").
+//! The entries that begin, in their places (`docs/machine.md`, "The parts stand for the machine").
 ghost use Rattle.std.specs.Prelude.{◌≡◌, ℕ, List, Option};
 ghost use Rattle.std.specs.List.{AllZip};
 ghost use Rattle.lsq.specs.Queues.{Queues};
@@ -16,7 +16,7 @@ use arrayvec::ArrayVec;
 use rob_ring::RobRing;
 use stations::Stations;
 
-/// Each entry comes in its place, and its station is freed. The youngest comes first, so that the others' stations stay where
+/// Each entry begins in its place, and its station is freed. The youngest comes first, so that the others' stations stay where
 /// they are.
 pub(crate) fn place(puts: &mut ArrayVec<Put, PUTS_MAX>, rob: &mut RobRing, stations: &mut Stations)
     requires puts { ArePuts rob.old.entries puts.old.items }
@@ -30,7 +30,7 @@ pub(crate) fn place(puts: &mut ArrayVec<Put, PUTS_MAX>, rob: &mut RobRing, stati
     ensures point_stands { (p : Point) (next : ℕ) → PointStands p next rob.old.entries → PointStands p next rob.new.entries }
 {
     while let Some(put) = puts.pop() {
-        rob.set(put.position, put.entry);
+        rob.begin(put.position, put.due, put.outcome);
         stations.remove(put.station);
     }
 }

@@ -1,6 +1,8 @@
 //! The ring itself.
 ghost use Rattle.std.specs.Prelude.{◌≡◌, ◌<◌, ◌≤◌, ◌++◌, ◌∷◌, [], length, take, drop, min, slice_get, slice_set, Some, IfOk};
 ghost use Rattle.std.specs.List.{AllPairs};
+ghost use Rattle.window_model.specs.declared.Entry.{Entry};
+ghost use Rattle.window_model.specs.Issue.{begun};
 ghost use Rattle.rob_ring.specs.Ring.{Ring, below};
 
 use circular_buffer::HeapCircularBuffer;
@@ -8,7 +10,7 @@ use machine_desc::Desc;
 use rv_types::NoMemory;
 use std::alloc::Global;
 use std::marker::Model;
-use window_model::{Entry, Window};
+use window_model::{Entry, Outcome, State, Window};
 
 /// The entries in flight, oldest first, and room for `core.rob` of them. Positions count from the oldest, which has 0.
 #[derive(Drop)]
@@ -74,6 +76,17 @@ impl RobRing {
     {
         if let Some(place) = self.items.get_mut(i as usize) {
             *place = entry;
+        }
+    }
+
+    /// The entry at a position begins to execute, until a cycle and with an outcome.
+    pub fn begin(&mut self, i: u32, due: u64, outcome: Outcome)
+        requires { i < length self.old.entries }
+        ensures { (e : Entry) → slice_get self.old.entries i ≡ Some e → self.new ≡ record self.old { entries = slice_set self.old.entries i (begun e due outcome) } }
+    {
+        if let Some(entry) = self.items.get_mut(i as usize) {
+            entry.state = State::Busy(due);
+            entry.outcome = Some(outcome);
         }
     }
 

@@ -5,7 +5,7 @@ use crate::RobRing;
 use machine_desc::{Desc, read_desc};
 use std::alloc::Global;
 use std::test::Fail;
-use window_model::{Entry, Window};
+use window_model::{Entry, Outcome, State, Window};
 
 const DESC: &str =
     "[core]\nfetch_width = 2\nretire_width = 2\nrob = 4\nstations = 8\nloads = 4\nstores = 4\nqueue = 8\n[units]\nalus = 2\nmul_latency = 3\n[predictor]\ncounters = 16\nbtb = 4\n[cache]\nsets = 2\nways = 2\nline = 16\nhit_latency = 2\nmiss_latency = 10\nmshrs = 2\n[ram]\nbase = 65536\nsize = 65536\n[stt]\nmodel = \"spectre\"\n";
@@ -52,6 +52,28 @@ fn a_ring_is_a_list(rt: HostRuntime) -> Result<(), Fail> {
     assert_eq!(rt; ring.len(), 2);
     assert_eq!(rt; ring.head(), Some(entry(4)));
     assert_eq!(rt; youngest(&ring), Some(entry(6)));
+    Ok(())
+}
+
+#[test]
+fn an_entry_begins_in_its_place(rt: HostRuntime) -> Result<(), Fail> {
+    let alloc = rt.alloc();
+    let mut ring = RobRing::new(alloc, &desc(alloc)?)?;
+    ring.push(entry(3));
+    ring.push(entry(4));
+    let outcome = Outcome {
+        value: 5,
+        next: 4,
+        addr: 0,
+        stored: 0,
+        fault: None,
+    };
+    ring.begin(1, 9, outcome);
+    let mut begun = entry(4);
+    begun.state = State::Busy(9);
+    begun.outcome = Some(outcome);
+    assert_eq!(rt; ring.head(), Some(entry(3)));
+    assert_eq!(rt; youngest(&ring), Some(begun));
     Ok(())
 }
 
