@@ -1,15 +1,14 @@
 -- The entries from a serial on go, youngest first.
-use Rattle.std.proofs.Common.{◌≡◌, ℕ, suc, ◌+◌, ◌-◌, ◌<◌, ◌≤◌, Bool, true, false, cond, List, [], ◌∷◌, ◌++◌, length, get_or, take, Option, refl, ap, sym, ◌∙◌, arith, ⊎_elim}
+use Rattle.std.proofs.Common.{◌≡◌, ℕ, suc, ◌+◌, ◌-◌, ◌<◌, ◌≤◌, Bool, true, false, cond, List, [], ◌∷◌, ◌++◌, length, get_or, take, refl, ap, sym, ◌∙◌, arith, ⊎_elim}
 use Rattle.std.specs.Prelude.{nat_le, nat_lt}
-use Rattle.std.specs.List.{filter, All, remove}
+use Rattle.std.specs.List.{filter, All, AllPairs, remove}
 use Rattle.std.proofs.lemmas.Bool.{cases_lt}
 use Rattle.std.proofs.lemmas.Bool.Decides.{nat_tests}
 use Rattle.std.proofs.lemmas.List.{append-nil, take_more, take_all, drop_all}
 use Rattle.std.proofs.lemmas.List.Elements.{All-head, All-tail, filter-append}
 use Rattle.std.proofs.lemmas.Option.{slice_get-get_or}
-use Rattle.stations.specs.declared.occupant.Occupant.{Occupant}
 use Rattle.stations.specs.Stations.{Station}
-use Rattle.stations.specs.Places.{held_of, passes, is_youngest, Placed}
+use Rattle.stations.specs.Places.{passes, is_youngest}
 
 filter_all : (p : Station → Bool) (xs : List Station) → All (λ x. p x ≡ true) xs → filter p xs ≡ xs
 filter_all p [] a = refl
@@ -19,19 +18,18 @@ filter_all p (x ∷ xs) a =
 youngest_is : (p : Station → Bool) (s : Station) (hs : List Station) → 0 < length hs → is_youngest p hs ≡ p (get_or hs (length hs - 1) s)
 youngest_is p s hs lt = ap (passes p) (slice_get-get_or hs (length hs - 1) s (omega arith))
 
-pub drop_end : (serial : ℕ) (ps : List (Option Occupant)) (order : List ℕ) → Placed ps order → is_youngest (λ s. nat_le serial s.serial) (held_of ps order) ≡ false → filter (λ s. nat_lt s.serial serial) (held_of ps order) ≡ held_of ps order
-drop_end serial ps order s h = filter_all (λ s. nat_lt s.serial serial) (held_of ps order) older
+pub drop_end : (serial : ℕ) (hs : List Station) → AllPairs (λ a b. a.serial < b.serial) hs → is_youngest (λ s. nat_le serial s.serial) hs ≡ false → filter (λ s. nat_lt s.serial serial) hs ≡ hs
+drop_end serial hs rise h = filter_all (λ s. nat_lt s.serial serial) hs older
   where
-    older : All (λ s. nat_lt s.serial serial ≡ true) (held_of ps order)
+    older : All (λ s. nat_lt s.serial serial ≡ true) hs
     older k d lt =
-        let hs = held_of ps order in
-        let l = youngest_is (λ s. nat_le serial s.serial) d (held_of ps order) (omega arith) in
-        let f : nat_le serial (get_or (held_of ps order) (length (held_of ps order) - 1) d).serial ≡ false = sym l ∙ h in
-        let m : (get_or (held_of ps order) (length (held_of ps order) - 1) d).serial < serial = grind (arith, nat_tests) in
+        let l = youngest_is (λ s. nat_le serial s.serial) d hs (omega arith) in
+        let f : nat_le serial (get_or hs (length hs - 1) d).serial ≡ false = sym l ∙ h in
+        let m : (get_or hs (length hs - 1) d).serial < serial = grind (arith, nat_tests) in
         ⊎_elim
-        (λ (kl : k < length (held_of ps order) - 1). let r = s.rise k (length (held_of ps order) - 1) d kl (omega arith) in let t : (get_or (held_of ps order) k d).serial < serial = omega (arith, r, m) in grind (arith, nat_tests))
-        (λ (kl : length (held_of ps order) - 1 ≤ k). let e : k ≡ length (held_of ps order) - 1 = omega arith in let t : (get_or (held_of ps order) k d).serial < serial = rw e m in grind (arith, nat_tests))
-        (cases_lt k (length (held_of ps order) - 1))
+        (λ (kl : k < length hs - 1). let r = rise k (length hs - 1) d kl (omega arith) in let t : (get_or hs k d).serial < serial = omega (arith, r, m) in grind (arith, nat_tests))
+        (λ (kl : length hs - 1 ≤ k). let e : k ≡ length hs - 1 = omega arith in let t : (get_or hs k d).serial < serial = rw e m in grind (arith, nat_tests))
+        (cases_lt k (length hs - 1))
 
 pub drop_on : (serial : ℕ) (hs hs2 : List Station) → is_youngest (λ s. nat_le serial s.serial) hs ≡ true → hs2 ≡ remove hs (length hs - 1) → filter (λ s. nat_lt s.serial serial) hs2 ≡ filter (λ s. nat_lt s.serial serial) hs
 drop_on serial [] hs2 h e = absurd (cc)

@@ -1,36 +1,25 @@
--- How the entries that wait lie in their places.
-use Rattle.std.specs.Prelude.{◌≡◌, ◌≢◌, ℕ, suc, ◌-◌, ◌<◌, Bool, true, false, List, [], ◌∷◌, map, length, Option, Some, None, is_some, slice_get, slice_index_or}
-use Rattle.std.specs.List.{All, AllPairs}
+-- The entries that wait, the places that they have and the places that are free.
+use Rattle.std.specs.Prelude.{ℕ, ◌-◌, ◌<◌, Bool, false, List, [], ◌∷◌, ◌++◌, map, length, Option, Some, None, slice_get, IsPermutation}
+use Rattle.std.specs.List.{AllPairs, range_with_len}
 use Rattle.stations.specs.declared.occupant.Occupant.{Occupant}
 use Rattle.stations.specs.Stations.{Station, strike}
 
--- an entry in its place
-abbrev pub in_place : ℕ → Option Occupant → Station
-in_place place None = record { serial = 0; awaits = None ∷ None ∷ []; place = place }
-in_place place (Some o) = record { serial = o.serial; awaits = o.first ∷ o.second ∷ []; place = place }
-
--- the entry in a place
-abbrev pub station_at : List (Option Occupant) → ℕ → Station
-station_at places place = in_place place (slice_index_or places place None)
-
--- the entries in these places, in this order
-abbrev pub held_of : List (Option Occupant) → List ℕ → List Station
-held_of places order = map (station_at places) order
+-- an entry that waits, as it is seen
+abbrev pub station : Occupant → Station
+station o = record { serial = o.serial; awaits = o.first ∷ o.second ∷ []; place = o.place }
 
 -- an entry that awaits a serial no longer
-abbrev pub freed : ℕ → Occupant → Occupant
-freed serial o = record o { first = strike serial o.first; second = strike serial o.second }
+abbrev pub woken : ℕ → Occupant → Occupant
+woken serial o = record o { first = strike serial o.first; second = strike serial o.second }
 
--- a place whose entry awaits a serial no longer
-abbrev pub freed_in : ℕ → Option Occupant → Option Occupant
-freed_in serial None = None
-freed_in serial (Some o) = Some (freed serial o)
+-- the numbers of the places that these entries have
+abbrev pub places_of : List Occupant → List ℕ
+places_of waiting = map (λ o. o.place) waiting
 
--- how many places are taken
-abbrev pub taken : List (Option Occupant) → ℕ
-taken [] = 0
-taken (None ∷ places) = taken places
-taken (Some o ∷ places) = suc (taken places)
+-- each place below the room is named once, by an entry that has it or as free, and no other is; serials rise with age
+pub record Placed (room : ℕ) (waiting : List Occupant) (free : List ℕ) : Type 0 where
+  pub once : IsPermutation (range_with_len 0 room) (places_of waiting ++ free)
+  pub rise : AllPairs (λ a b. a.serial < b.serial) (map station waiting)
 
 -- there is an entry, and it passes the test
 abbrev pub passes : (Station → Bool) → Option Station → Bool
@@ -40,10 +29,3 @@ passes test (Some s) = test s
 -- the youngest entry passes the test
 abbrev pub is_youngest : (Station → Bool) → List Station → Bool
 is_youngest test held = passes test (slice_get held (length held - 1))
-
--- the order names each place that is taken once and no other, and serials rise with age
-pub record Placed (places : List (Option Occupant)) (order : List ℕ) : Type 0 where
-  pub distinct : AllPairs (λ p q. p ≢ q) order
-  pub named : All (λ p. is_some (slice_index_or places p None) ≡ true) order
-  pub all : taken places ≡ length order
-  pub rise : AllPairs (λ a b. a.serial < b.serial) (held_of places order)

@@ -1,11 +1,12 @@
 //! The stations by age.
-ghost use Rattle.std.specs.Prelude.{◌≡◌, ◌≢◌, ◌-◌, ◌<◌, ◌≤◌, ℕ, [], ◌∷◌, ◌++◌, length, map, IfOk, Some, slice_get, nat_lt};
+ghost use Rattle.std.specs.Prelude.{◌≡◌, ◌≢◌, ◌-◌, ◌<◌, ◌≤◌, ℕ, [], ◌∷◌, ◌++◌, length, map, IfOk, Some, slice_get, nat_lt, nat_le};
 ghost use Rattle.std.specs.List.{filter, remove, All, AllPairs};
 ghost use Rattle.std.specs.Option.{option_map};
 ghost use Rattle.stations.specs.Stations.{Station, Stations, struck, awaits_none};
+ghost use Rattle.stations.specs.Places.{is_youngest};
 
 use crate::occupant::Occupant;
-use crate::places::{free_places, is_ready_at, put_in, strike_all, serial_in, take_out, take_out_from};
+use crate::places::{all_places, push_within, take_free, wake_all};
 use machine_desc::Desc;
 use rv_types::NoMemory;
 use std::alloc::Global;
@@ -14,20 +15,21 @@ use std::marker::Model;
 /// The entries that wait, in `core.stations` places. Positions count them by age, from the oldest, which has 0.
 #[derive(Drop)]
 pub struct Stations {
-    places: Vec<Option<Occupant>>,
-    order: Vec<u32>,
+    waiting: Vec<Occupant>,
+    free: Vec<u32>,
+    room: u32,
 }
 
 impl Model for Stations {
-    ghost use Rattle.std.specs.Prelude.{◌<◌, ◌≤◌, ◌^◌, vec_len, vec_capacity};
+    ghost use Rattle.std.specs.Prelude.{◌≡◌, ◌+◌, ◌<◌, ◌≤◌, ◌^◌, map, vec_len, vec_capacity};
     ghost use Rattle.stations.specs.Stations.{Stations};
-    ghost use Rattle.stations.specs.Places.{held_of, Placed};
+    ghost use Rattle.stations.specs.Places.{station, Placed};
 
     ghost Value = { Stations };
 
-    ghost view = { λ s. record { held = held_of s.places.items s.order.items; room = vec_len s.places } };
+    ghost view = { λ s. record { held = map station s.waiting.items; room = s.room } };
 
-    ghost invariant = { λ s. Placed s.places.items s.order.items × (vec_len s.places ≤ vec_capacity s.order) × (vec_len s.places < 2 ^ 32) };
+    ghost invariant = { λ s. Placed s.room s.waiting.items s.free.items × (vec_len s.waiting + vec_len s.free ≡ s.room) × (s.room ≤ vec_capacity s.waiting) × (s.room ≤ vec_capacity s.free) × (s.room < 2 ^ 32) };
 }
 
 impl Stations {
@@ -35,10 +37,14 @@ impl Stations {
     pub fn new(alloc: Global, desc: &Desc) -> Result<Stations, NoMemory>
         ensures { IfOk result (λ s. s ≡ record { held = []; room = desc.now.core_stations }) }
     {
-        let count = desc.core_stations as usize;
-        let order = Vec::with_capacity(alloc, count)?;
-        let places = free_places(alloc, count)?;
-        Ok(Stations { places, order })
+        let room = desc.core_stations;
+        let waiting = Vec::with_capacity(alloc, room as usize)?;
+        let free = all_places(alloc, room)?;
+        Ok(Stations {
+            waiting,
+            free,
+            room,
+        })
     }
 
     /// How many entries wait.
@@ -46,14 +52,14 @@ impl Stations {
         ensures len { result ≡ length self.now.held }
         ensures within { result ≤ self.now.room }
     {
-        self.order.len() as u32
+        self.waiting.len() as u32
     }
 
     /// How many places are free.
     pub fn free(&self) -> u32
         ensures { result ≡ self.now.room - length self.now.held }
     {
-        (self.places.len() - self.order.len()) as u32
+        self.free.len() as u32
     }
 
     /// Gives a free place to an entry, which is the youngest then, with the serials that it awaits.
@@ -63,19 +69,21 @@ impl Stations {
         ensures { (place : ℕ) × (self.new ≡ record self.old { held = self.old.held ++ record { serial = serial; awaits = awaits; place = place } ∷ [] }) }
     {
         let [first, second] = awaits;
+        let place = take_free(&mut self.free);
         let entry = Occupant {
             serial,
             first,
             second,
+            place,
         };
-        put_in(&mut self.places, &mut self.order, entry);
+        push_within(&mut self.waiting, entry);
     }
 
     /// Tells all that the entry with a serial is Done: none awaits it any more.
     pub fn wake(&mut self, serial: u64)
         ensures { self.new ≡ record self.old { held = map (struck serial) self.old.held } }
     {
-        strike_all(&mut self.places, serial);
+        wake_all(&mut self.waiting, serial);
     }
 
     /// Whether the entry at a position awaits nothing.
@@ -83,7 +91,7 @@ impl Stations {
         requires { i < length self.now.held }
         ensures { option_map awaits_none (slice_get self.now.held i) ≡ Some result }
     {
-        is_ready_at(&self.places, &self.order, i as usize)
+        self.waiting[i as usize].is_ready()
     }
 
     /// The serial of the entry at a position.
@@ -91,7 +99,7 @@ impl Stations {
         requires { i < length self.now.held }
         ensures { option_map (λ s. s.serial) (slice_get self.now.held i) ≡ Some result }
     {
-        serial_in(&self.places, &self.order, i as usize)
+        self.waiting[i as usize].serial
     }
 
     /// The place of the entry at a position. No two entries have the same.
@@ -101,7 +109,7 @@ impl Stations {
         ensures below { result < self.now.room }
         ensures differ { AllPairs (λ a b. a.place ≢ b.place) self.now.held }
     {
-        self.order[i as usize]
+        self.waiting[i as usize].place
     }
 
     /// Frees the place of the entry at a position.
@@ -109,13 +117,31 @@ impl Stations {
         requires { i < length self.old.held }
         ensures { self.new ≡ record self.old { held = remove self.old.held i } }
     {
-        take_out(&mut self.places, &mut self.order, i as usize);
+        let entry = self.waiting.remove(i as usize);
+        push_within(&mut self.free, entry.place);
     }
 
     /// Frees the places of the entries from a serial on.
     pub fn drop_from(&mut self, serial: u64)
         ensures { self.new ≡ record self.old { held = filter (λ s. nat_lt s.serial serial) self.old.held } }
     {
-        take_out_from(&mut self.places, &mut self.order, serial);
+        for turn in 0..self.len() {
+            if !self.is_youngest_from(serial) {
+                return;
+            }
+            let youngest = self.len() - 1;
+            self.remove(youngest);
+        }
+    }
+
+    // Whether there is an entry and the youngest one's serial is this one or a later one.
+    fn is_youngest_from(&self, serial: u64) -> bool
+        ensures value { result ≡ is_youngest (λ s. nat_le serial s.serial) self.now.held }
+        ensures rise { AllPairs (λ a b. a.serial < b.serial) self.now.held }
+    {
+        match self.waiting.last() {
+            Some(entry) => serial <= entry.serial,
+            None => false,
+        }
     }
 }

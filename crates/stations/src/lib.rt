@@ -2,7 +2,8 @@
 //!
 //! They stand for the Waiting entries of the window (`docs/machine.md`, "Entries"), each with the serials of the writers
 //! that it awaits, so that whether an entry is ready is known without a search. An entry stays in the place that it was
-//! given; a list has the places by age. What is seen of them stands in `specs/Stations.antt`.
+//! given: the place's number doesn't change while it waits. One list has the entries by age, another the numbers of the
+//! free places. What is seen of them stands in `specs/Stations.antt`.
 #![tactic(auto)]
 
 mod by_age;
