@@ -16,6 +16,9 @@ resolve-requires-clause-each_has_roots g c = each_roots _ c.self.invariant
 pub resolve-requires-clause-each_has_writers : goal.resolve-requires-clause-each_has_writers
 resolve-requires-clause-each_has_writers g c = each_writers _ c.self.invariant
 
+pub resolve-requires-clause-passed : goal.resolve-requires-clause-passed
+resolve-requires-clause-passed g c = c.self.invariant.tied.point_stands.can.passed
+
 pub resolve-requires-clause-picked : goal.resolve-requires-clause-picked
 resolve-requires-clause-picked g c = picked _ _ c.self.invariant c.self.view_is c.requires.advanced
 
