@@ -18,12 +18,12 @@ use Rattle.window_model.proofs.Quiet.{before_retire, front_quiet}
 use Rattle.window_model.proofs.Walks.{fetch_keep}
 use Rattle.machine_facts.proofs.Adds.{fill_adds, complete_adds, resolve_adds, retire_turns}
 use Rattle.quiet_cycles.specs.Still.{NothingDueBefore, StillUntil, empty_row}
-use Rattle.visibility.specs.Point.{HasAdvanced, moved_over}
+use Rattle.visibility.specs.Point.{HasAdvanced}
 use Rattle.core_cycle.specs.Described.{Described}
 use Rattle.core_cycle.specs.Kept.{Kept, KeptUntil}
 use Rattle.core_cycle.proofs.Passing.{commits_after, kept_after, still_after}
 
--- ---- once the point has moved over the window, fetching leaves it where it is
+-- ---- fetching leaves the window as it is
 
 fetched_window : (d : Desc) (code : Code) (x : Machine) → (fetch d code x).machine.window ≡ x.window
 fetched_window d code x = fetch_keep d (λ y. y.window ≡ x.window) code (λ y pc q r k. k) x refl
@@ -46,17 +46,16 @@ pub record Fronts (s s1 s2 : Described) : Type 0 where
   pub desc : s2.desc ≡ s1.desc
   pub machine : s2.machine ≡ (front s1.desc s1.machine).machine
 
--- Retire goes, and the point moves
-pub record Leaves (s2 s3 s4 : Described) : Type 0 where
-  pub retires : s3 ≡ record s2 { machine = (retire s2.desc s2.machine).machine }
-  pub advances : s4 ≡ record s3 { point = moved_over s3.machine.window s3.point }
+-- Retire goes
+abbrev Leaves : Described → Described → Type 0
+Leaves s2 s3 = s3 ≡ record s2 { machine = (retire s2.desc s2.machine).machine }
 
 -- a row without events, and what each of these adds to it
-pub record Writes (code : Code) (s s1 s2 s4 : Described) (r1 r2 r3 r4 : Row) : Type 0 where
+pub record Writes (code : Code) (s s1 s2 s3 : Described) (r1 r2 r3 r4 : Row) : Type 0 where
   pub begins : r1 ≡ empty_row (s.machine.cycle + 1)
   pub fronts : r2 ≡ record r1 { events = r1.events ++ (front s1.desc s1.machine).events }
   pub retires : r3 ≡ record r2 { events = r2.events ++ (retire s2.desc s2.machine).events }
-  pub backs : r4 ≡ record r3 { events = r3.events ++ (back s4.desc code s4.machine).events }
+  pub backs : r4 ≡ record r3 { events = r3.events ++ (back s3.desc code s3.machine).events }
 
 abbrev written : ℕ → List Event → List Event → List Event → Row
 written number f r b = record { cycle = number; events = f ++ r ++ b }
@@ -99,14 +98,14 @@ module _ (s s1 s2 : Described) (p : Fronts s s1 s2) where
   retired = ap₂ retire desc_fronted machine_fronted
 
   -- and so is the next serial until Rename
-  module _ (s3 s4 : Described) (q : Leaves s2 s3 s4) where
-    desc_left : s4.desc ≡ s.desc
-    desc_left = ap (λ (s : Described). s.desc) q.advances ∙ ap (λ (s : Described). s.desc) q.retires ∙ desc_fronted
+  module _ (s3 : Described) (q : Leaves s2 s3) where
+    desc_left : s3.desc ≡ s.desc
+    desc_left = ap (λ (s : Described). s.desc) q ∙ desc_fronted
 
-    machine_left : s4.machine ≡ (retire s.desc (before_retire s.desc s.machine)).machine
-    machine_left = ap (λ (s : Described). s.machine) q.advances ∙ ap (λ (s : Described). s.machine) q.retires ∙ ap (λ (r : Retired). r.machine) retired
+    machine_left : s3.machine ≡ (retire s.desc (before_retire s.desc s.machine)).machine
+    machine_left = ap (λ (s : Described). s.machine) q ∙ ap (λ (r : Retired). r.machine) retired
 
-    pub serial_stays : s4.machine.next_serial ≡ s.machine.next_serial
+    pub serial_stays : s3.machine.next_serial ≡ s.machine.next_serial
     serial_stays =
         let x = begun s.machine in
         let y = (fill s.desc x).machine in
@@ -119,30 +118,30 @@ module _ (s s1 s2 : Described) (p : Fronts s s1 s2) where
 
     -- ---- what a cycle comes to, what it keeps, and what it retires
 
-    module _ (code : Code) (s5 : Described) (k : s5.machine ≡ (back s4.desc code s4.machine).machine) where
-      backed : back s4.desc code s4.machine ≡ back s.desc code (retire s.desc (before_retire s.desc s.machine)).machine
+    module _ (code : Code) (s4 : Described) (k : s4.machine ≡ (back s3.desc code s3.machine).machine) where
+      backed : back s3.desc code s3.machine ≡ back s.desc code (retire s.desc (before_retire s.desc s.machine)).machine
       backed = ap₂ (λ d x. back d code x) desc_left machine_left
 
-      machine_is : s5.machine ≡ (cycle s.desc code s.machine).machine
+      machine_is : s4.machine ≡ (cycle s.desc code s.machine).machine
       machine_is = k ∙ ap (λ (a : After). a.machine) backed ∙ ap (λ (c : Cycled). c.machine) (whole s.desc code s.machine)
 
       piece_is : (retire s2.desc s2.machine).piece ≡ (cycle s.desc code s.machine).piece
       piece_is = ap (λ (r : Retired). r.piece) retired ∙ ap (λ (c : Cycled). c.piece) (whole s.desc code s.machine)
 
-      row_is : (r1 r2 r3 r4 : Row) → Writes code s s1 s2 s4 r1 r2 r3 r4 → r4 ≡ (cycle s.desc code s.machine).row
+      row_is : (r1 r2 r3 r4 : Row) → Writes code s s1 s2 s3 r1 r2 r3 r4 → r4 ≡ (cycle s.desc code s.machine).row
       row_is r1 r2 r3 r4 w =
           let number = s.machine.cycle + 1 in
           let f = front s.desc (begun s.machine) in
           let r = retire s.desc (before_retire s.desc s.machine) in
-          joined number (front s1.desc s1.machine).events (retire s2.desc s2.machine).events (back s4.desc code s4.machine).events r1 r2 r3 r4 w.begins w.fronts w.retires w.backs
-          ∙ ap (λ (f : After). written number f.events (retire s2.desc s2.machine).events (back s4.desc code s4.machine).events) fronted
-          ∙ ap (λ (r : Retired). written number f.events r.events (back s4.desc code s4.machine).events) retired
+          joined number (front s1.desc s1.machine).events (retire s2.desc s2.machine).events (back s3.desc code s3.machine).events r1 r2 r3 r4 w.begins w.fronts w.retires w.backs
+          ∙ ap (λ (f : After). written number f.events (retire s2.desc s2.machine).events (back s3.desc code s3.machine).events) fronted
+          ∙ ap (λ (r : Retired). written number f.events r.events (back s3.desc code s3.machine).events) retired
           ∙ ap (λ (b : After). written number f.events r.events b.events) backed
           ∙ ap (λ (c : Cycled). c.row) (whole s.desc code s.machine)
 
       -- the written cycle
-      pub cycle_is : (r1 r2 r3 r4 : Row) (piece : List ℕ) → Writes code s s1 s2 s4 r1 r2 r3 r4 → piece ≡ (retire s2.desc s2.machine).piece →
-          record { machine = s5.machine; row = r4; piece = piece } ≡ cycle s.desc code s.machine
+      pub cycle_is : (r1 r2 r3 r4 : Row) (piece : List ℕ) → Writes code s s1 s2 s3 r1 r2 r3 r4 → piece ≡ (retire s2.desc s2.machine).piece →
+          record { machine = s4.machine; row = r4; piece = piece } ≡ cycle s.desc code s.machine
       cycle_is r1 r2 r3 r4 piece w p =
           let c = cycle s.desc code s.machine in
           let whole : Machine → Row → List ℕ → Cycled = λ m r p. record { machine = m; row = r; piece = p } in
@@ -150,16 +149,16 @@ module _ (s s1 s2 : Described) (p : Fronts s s1 s2) where
 
       module _ (aligned : Aligned code) (h : Kept code s) (n : s.machine.end ≡ None) where
         -- what retires are steps of the instruction set
-        pub cycle_retires : (piece : List ℕ) → piece ≡ (retire s2.desc s2.machine).piece → Commits code s.machine s5.machine piece
-        cycle_retires piece e = commits_after code s s5 machine_is aligned h n piece (e ∙ piece_is)
+        pub cycle_retires : (piece : List ℕ) → piece ≡ (retire s2.desc s2.machine).piece → Commits code s.machine s4.machine piece
+        cycle_retires piece e = commits_after code s s4 machine_is aligned h n piece (e ∙ piece_is)
 
         -- what holds in every state is kept, and what is known of the next cycles holds
-        pub cycle_kept : (r1 r2 r3 r4 : Row) → Writes code s s1 s2 s4 r1 r2 r3 r4 → s5.desc ≡ s4.desc → HasAdvanced s5.point s5.machine.window →
-            (until : ℕ) → (0 < until → r4.events ≡ []) → (0 < until → s5.machine.end ≡ None) → NothingDueBefore until s5.machine → KeptUntil until code s5
+        pub cycle_kept : (r1 r2 r3 r4 : Row) → Writes code s s1 s2 s3 r1 r2 r3 r4 → s4.desc ≡ s3.desc → HasAdvanced s4.point s4.machine.window →
+            (until : ℕ) → (0 < until → r4.events ≡ []) → (0 < until → s4.machine.end ≡ None) → NothingDueBefore until s4.machine → KeptUntil until code s4
         cycle_kept r1 r2 r3 r4 w same a until empty running due = record {
-          kept = kept_after code s s5 machine_is aligned h n a;
+          kept = kept_after code s s4 machine_is aligned h n a;
           still =
-              subst (λ d. StillUntil until d code s5.machine) (sym (same ∙ desc_left))
+              subst (λ d. StillUntil until d code s4.machine) (sym (same ∙ desc_left))
               (still_after until s.desc code s.machine _ (cycle_is r1 r2 r3 r4 _ w refl) empty running due);
         }
 

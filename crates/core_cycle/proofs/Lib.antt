@@ -7,5 +7,7 @@ pub mod Opening
 pub mod Lending
 pub mod Issuing
 pub mod Renaming
+pub mod Advanced
+pub mod Moving
 pub mod Passing
 pub mod Cycling

@@ -125,7 +125,6 @@ impl<R: RenameTaint> Clocked for Core<R> {
         }
         self.state.front(row);
         self.state.retire(row, piece);
-        self.state.advance();
         self.state.back(&self.code, row);
         self.still_until = self.state.still_until(row);
     }

@@ -13,22 +13,28 @@ use rename_taint::RenameTaint;
 use window_model::Row;
 
 impl<R: RenameTaint> State<R> {
-    /// The phases before Retire. The visibility point moves before Resolve asks for it.
+    /// The phases before Retire. The visibility point says which entries are visible as they begin, as Resolve asks for it, and
+    /// once they are through.
     pub(crate) fn front(&mut self, row: &mut Row)
+        requires advanced { HasAdvanced self.old.point self.old.machine.window }
         requires room { length row.old.events + 75 ≤ 128 }
         ensures desc { self.new.desc ≡ self.old.desc }
         ensures machine { self.new.machine ≡ (then_does (fill self.old.desc self.old.machine) (λ y. then_does (complete y) (resolve self.old.desc))).machine }
         ensures row { row.new ≡ record row.old { events = row.old.events ++ (then_does (fill self.old.desc self.old.machine) (λ y. then_does (complete y) (resolve self.old.desc))).events } }
+        ensures advanced { HasAdvanced self.new.point self.new.machine.window }
         ensures few { length row.new.events ≤ length row.old.events + 75 }
     {
         self.fill(row);
+        let filled = row.events().len();
         self.complete(row);
-        self.advance();
+        self.advance_after_complete(filled, row);
+        let completed = row.events().len();
         self.resolve(row);
+        self.advance_after(completed, row);
     }
 
-    /// The phases after Retire, unless the run has ended. The visibility point has moved for Issue, and moves again over what
-    /// Rename brought in.
+    /// The phases after Retire, unless the run has ended. The visibility point says which entries are visible as Issue asks for
+    /// it, and once Rename has brought in others.
     pub(crate) fn back(&mut self, code: &Code, row: &mut Row)
         requires advanced { HasAdvanced self.old.point self.old.machine.window }
         requires serials { self.old.machine.next_serial + 4 < 2 ^ 64 }
@@ -43,8 +49,9 @@ impl<R: RenameTaint> State<R> {
             return;
         }
         self.issue(row);
+        let issued = row.events().len();
         self.rename(row);
-        self.advance();
+        self.advance_after(issued, row);
         self.fetch(code, row);
     }
 }

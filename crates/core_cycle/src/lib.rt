@@ -8,6 +8,7 @@ mod by_parts;
 mod cycle;
 mod due;
 mod lent;
+mod moves;
 mod phases;
 mod start;
 mod state;

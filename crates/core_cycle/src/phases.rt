@@ -1,7 +1,8 @@
 //! The phases, each a call of its crate on the parts that it moves.
 ghost use Rattle.std.specs.Prelude.{◌≡◌, ◌≤◌, ◌<◌, ◌+◌, ◌-◌, ◌++◌, ◌^◌, [], None, length};
 ghost use Rattle.elf_loader.specs.Code.{word_at};
-ghost use Rattle.visibility.specs.Point.{HasAdvanced, moved_over};
+ghost use Rattle.machine_desc.specs.declared.SttModel.TheVariants.{Spectre};
+ghost use Rattle.visibility.specs.Point.{HasAdvanced};
 ghost use Rattle.window_model.specs.Fill.{fill, complete};
 ghost use Rattle.window_model.specs.Front.{fetch, rename};
 ghost use Rattle.window_model.specs.Issue.{issue};
@@ -23,14 +24,6 @@ impl<R: RenameTaint> State<R> {
         self.cycle += 1;
     }
 
-    /// The visibility point moves over the window: then it says which entries are visible.
-    pub(crate) fn advance(&mut self)
-        ensures moved { self.new ≡ record self.old { point = moved_over self.old.machine.window self.old.point } }
-        ensures advanced { HasAdvanced self.new.point self.new.machine.window }
-    {
-        self.point.advance(&self.rob);
-    }
-
     /// Phase Fill.
     pub(crate) fn fill(&mut self, row: &mut Row)
         requires room { length row.old.events + 8 ≤ 128 }
@@ -41,11 +34,12 @@ impl<R: RenameTaint> State<R> {
         fill::fill(&mut self.mshrs, &mut self.tags, self.cycle as u64, row);
     }
 
-    /// Phase Complete.
+    /// Phase Complete. Under Spectre a visibility point that has moved over the window says the same of what Complete leaves.
     pub(crate) fn complete(&mut self, row: &mut Row)
         requires room { length row.old.events + 64 ≤ 128 }
         ensures state { self.new ≡ record self.old { machine = (complete self.old.machine).machine } }
         ensures row { row.new ≡ record row.old { events = row.old.events ++ (complete self.old.machine).events } }
+        ensures spectre { self.old.desc.stt_model ≡ Spectre → HasAdvanced self.old.point self.old.machine.window → HasAdvanced self.new.point self.new.machine.window }
         ensures few { length row.new.events ≤ length row.old.events + 64 }
     {
         complete::complete(
@@ -80,7 +74,8 @@ impl<R: RenameTaint> State<R> {
         );
     }
 
-    /// Phase Retire. The pairs by position go with the entries that retire.
+    /// Phase Retire. The pairs by position go with the entries that retire. A visibility point that has moved over the window
+    /// says the same of those that stay.
     pub(crate) fn retire(&mut self, row: &mut Row, piece: &mut Piece)
         requires room { length row.old.events + 8 ≤ 128 }
         requires running { self.old.machine.end ≡ None }
@@ -89,6 +84,7 @@ impl<R: RenameTaint> State<R> {
         ensures state { self.new ≡ record self.old { machine = (retire self.old.desc self.old.machine).machine } }
         ensures row { row.new ≡ record row.old { events = row.old.events ++ (retire self.old.desc self.old.machine).events } }
         ensures piece { piece.new ≡ (retire self.old.desc self.old.machine).piece }
+        ensures advanced { HasAdvanced self.old.point self.old.machine.window → HasAdvanced self.new.point self.new.machine.window }
         ensures few { length row.new.events ≤ length row.old.events + 8 }
     {
         let before = self.rob.len();
@@ -110,12 +106,13 @@ impl<R: RenameTaint> State<R> {
         self.writers.truncate_front(left as usize);
     }
 
-    /// Phase Issue, once the visibility point has moved over the window.
+    /// Phase Issue, once the visibility point has moved over the window. It says the same of what Issue leaves.
     pub(crate) fn issue(&mut self, row: &mut Row)
         requires advanced { HasAdvanced self.old.point self.old.machine.window }
         requires room { length row.old.events + 8 ≤ 128 }
         ensures state { self.new ≡ record self.old { machine = (issue self.old.desc self.old.machine).machine } }
         ensures row { row.new ≡ record row.old { events = row.old.events ++ (issue self.old.desc self.old.machine).events } }
+        ensures advanced { HasAdvanced self.new.point self.new.machine.window }
         ensures few { length row.new.events ≤ length row.old.events + 8 }
     {
         issue::issue(

@@ -3,6 +3,7 @@ use Rattle.window_model.specs.Fill.{complete}
 use Rattle.stations.specs.Stations.{Stations}
 use Rattle.lsq.specs.Queues.{Queues}
 use Rattle.core_cycle.specs.Described.{Described}
+use Rattle.core_cycle.proofs.Moving.{spectre_goes_on}
 use Rattle.core_cycle.proofs.Wholes.{complete_whole, complete_shown}
 use Rattle.core_cycle.proofs.state.State.complete.Goals as goal
 
@@ -19,3 +20,6 @@ pub returns-clause-row : goal.returns-clause-row
 returns-clause-row g c =
     c.complete.ensures.row c.args.self.now.machine
     ∙ ap (λ (s : Described). record c.args.row.now { events = c.args.row.now.events ++ (complete s.machine).events }) c.self.view_is
+
+pub returns-clause-spectre : goal.returns-clause-spectre
+returns-clause-spectre g c = λ spectre a. spectre_goes_on _ c.complete.new.rob _ c.self.invariant c.complete.ensures.state c.self.view_is spectre a

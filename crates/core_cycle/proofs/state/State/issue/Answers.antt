@@ -1,4 +1,5 @@
 use Rattle.std.proofs.Common.{refl}
+use Rattle.core_cycle.proofs.Moving.{issue_goes_on}
 use Rattle.core_cycle.proofs.Issuing.{advanced, issue_row, issue_shown, issue_whole, made_for, standing}
 use Rattle.core_cycle.proofs.state.State.issue.Goals as goal
 
@@ -34,3 +35,6 @@ returns-clause-state g c = issue_shown _ c.issue.new.rob c.issue.new.tags c.issu
 
 pub returns-clause-row : goal.returns-clause-row
 returns-clause-row g c = issue_row _ _ _ _ c.self.invariant c.issue.ensures.row c.self.view_is
+
+pub returns-clause-advanced : goal.returns-clause-advanced
+returns-clause-advanced g c = issue_goes_on _ c.issue.new.rob c.issue.new.tags c.issue.new.mshrs c.issue.new.ports _ c.self.invariant c.issue.ensures.state c.self.view_is c.requires.advanced

@@ -1,6 +1,7 @@
 use Rattle.std.proofs.Common.{ap, ◌∙◌, arith}
 use Rattle.circular_buffer.specs.Buffer.{buffer, keep_last}
 use Rattle.core_cycle.specs.Described.{Described}
+use Rattle.core_cycle.proofs.Moving.{retire_goes_on}
 use Rattle.core_cycle.proofs.Retiring.{each_takes, retire_whole, retire_shown, retire_row, retire_piece}
 use Rattle.core_cycle.proofs.state.State.retire.Goals as goal
 
@@ -33,3 +34,6 @@ returns-clause-row g c = retire_row _ _ _ _ c.self.invariant (ap (λ (s : Descri
 
 pub returns-clause-piece : goal.returns-clause-piece
 returns-clause-piece g c = retire_piece _ _ _ c.self.invariant (ap (λ (s : Described). s.machine.end) c.self.view_is ∙ c.requires.running) c.retire-self-inside.ensures.piece c.self.view_is
+
+pub returns-clause-advanced : goal.returns-clause-advanced
+returns-clause-advanced g c = λ a. retire_goes_on _ c.retire-self-inside.new.rob _ c.self.invariant c.retire-self-inside.ensures.left c.retire-self-inside.ensures.may_retire c.self.view_is a
