@@ -22,7 +22,7 @@ use Rattle.parts_stand.specs.Steps.{GoesOn}
 use Rattle.parts_stand.specs.Addresses.{AddressesStand}
 use Rattle.parts_stand.specs.Points.{PointStands}
 use Rattle.parts_stand.proofs.Serials.{Rise, all_right, rise_head, rise_tail}
-use Rattle.parts_stand.proofs.Keeping.{goes_same, rise_on, zip_set}
+use Rattle.parts_stand.proofs.Keeping.{goes_on_then, goes_same, rise_on, zip_set}
 use Rattle.parts_stand.proofs.Standing as standing
 use Rattle.parts_stand.proofs.Addressing.{addresses_go_on, addresses_know}
 use Rattle.parts_stand.proofs.Moving.{point_completes}
@@ -43,16 +43,6 @@ pub record Ties (entries : List Entry) (held : List Station) (q : Queues) (entri
 
 pub ties_start : (entries : List Entry) (held : List Station) (q : Queues) → Ties entries held q entries held q
 ties_start entries held q = record { stand = λ p s. s; goes_on = zip_same GoesOn goes_same entries; queues = λ r s. s; addresses = λ roots s. s; point = λ point next s. s }
-
--- ---- entries go on
-
-zip_then : (es es2 es3 : List Entry) → AllZip GoesOn es es2 → AllZip GoesOn es2 es3 → AllZip GoesOn es es3
-zip_then [] [] es3 v w = w
-zip_then [] (e2 ∷ es2) es3 v w = absurd v
-zip_then (e ∷ es) [] es3 v w = absurd v
-zip_then (e ∷ es) (e2 ∷ es2) [] v w = absurd w
-zip_then (e ∷ es) (e2 ∷ es2) (e3 ∷ es3) v w =
-    (record { serial = w.0.serial ∙ v.0.serial; item = w.0.item ∙ v.0.item }, zip_then es es2 es3 v.1 w.1)
 
 -- ---- the queues
 
@@ -112,7 +102,7 @@ ties_more cycle entries held q now held_now q_now i e true t h c =
     let on = zip_set GoesOn goes_same now i e (done e) h (record { serial = refl; item = refl }) in
     record {
       stand = λ p s. standing.completes_at (record p { window = now; held = held_now }) i e (t.stand p s) h (not_waiting cycle e.state c);
-      goes_on = zip_then entries now (slice_set now i (done e)) t.goes_on on;
+      goes_on = goes_on_then entries now (slice_set now i (done e)) t.goes_on on;
       queues = λ r s. queues_done q_now now i e h (rise_on entries now t.goes_on r) (t.queues r s);
       addresses = λ roots s.
           addresses_go_on (as_parts now roots) (known_with q_now.stores e) (slice_set now i (done e))

@@ -23,7 +23,7 @@ use Rattle.parts_stand.specs.Steps.{GoesOn, station_of}
 use Rattle.parts_stand.specs.Addresses.{AddressesStand}
 use Rattle.parts_stand.specs.Points.{PointStands}
 use Rattle.parts_stand.proofs.Answering.{has_station, stations_older}
-use Rattle.parts_stand.proofs.Keeping.{goes_same, zip_set}
+use Rattle.parts_stand.proofs.Keeping.{goes_on_then, goes_same, zip_set}
 use Rattle.parts_stand.proofs.Serials.{all_left, all_right}
 use Rattle.parts_stand.proofs.Standing.{issues_at}
 use Rattle.parts_stand.proofs.Addressing.{addresses_go_on}
@@ -44,15 +44,6 @@ pub record Ties (entries : List Entry) (held : List Station) (now : List Entry) 
 
 ties_start : (entries : List Entry) (held : List Station) → Ties entries held entries held
 ties_start entries held = record { stand = λ p s. s; goes_on = zip_same GoesOn goes_same entries; queues = λ q s. s; addresses = λ roots q s. s; point = λ point next s. s }
-
--- entries that go on twice go on
-zip_then : (es es2 es3 : List Entry) → AllZip GoesOn es es2 → AllZip GoesOn es2 es3 → AllZip GoesOn es es3
-zip_then [] [] es3 v w = w
-zip_then [] (e2 ∷ es2) es3 v w = absurd v
-zip_then (e ∷ es) [] es3 v w = absurd v
-zip_then (e ∷ es) (e2 ∷ es2) [] v w = absurd w
-zip_then (e ∷ es) (e2 ∷ es2) (e3 ∷ es3) v w =
-    (record { serial = w.0.serial ∙ v.0.serial; item = w.0.item ∙ v.0.item }, zip_then es es2 es3 v.1 w.1)
 
 -- an entry that waits isn't Done
 waits_undone : (s : State) → is_waiting s ≡ true → is_done s ≡ false
@@ -86,7 +77,7 @@ ties_more entries held now held_now put t k =
     let on : AllZip GoesOn now (slice_set now put.position b) = zip_set GoesOn goes_same now put.position e b k.here (record { serial = refl; item = refl }) in
     let made : Ties entries held (slice_set now put.position b) (remove held_now (station_of put.position now)) = record {
       stand = λ p s. issues_at (record p { window = now; held = held_now }) put.position put.due e put.outcome (t.stand p s) k.here k.waits;
-      goes_on = zip_then entries now (slice_set now put.position b) t.goes_on on;
+      goes_on = goes_on_then entries now (slice_set now put.position b) t.goes_on on;
       queues = λ q s. unseen_stands q now (slice_set now put.position b) (t.queues q s) (map_set seen now put.position e b k.here (same_seen e put.due put.outcome (waits_undone e.state k.waits)));
       addresses = λ roots q s. addresses_go_on (as_parts now roots) q.stores (slice_set now put.position b) (t.addresses roots q s) on;
       point = λ point next s. point_issues point next now put.position put.due e put.outcome (t.point point next s) k.here k.waits;
