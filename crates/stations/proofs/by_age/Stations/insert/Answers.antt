@@ -8,7 +8,7 @@ pub invariant_of-self : goal.invariant_of-self
 invariant_of-self c =
     let inside = c.self.invariant in
     let youngest = subst (λ (v : Stations). All (λ s. s.serial < c.args.serial) v.held) (sym c.self.view_is) c.requires.youngest in (
-      placed_push c.self.inside.room c.self.inside.waiting.items _ c.self.inside.free.items _ _ inside.0 c.push_within.ensures.items c.take_free-place.ensures.items youngest,
+      placed_push _ _ _ _ _ _ inside.0 c.push_within.ensures.items c.take_free-place.ensures.items youngest,
       omega (arith, inside.1, c.take_free-place.ensures.len, c.push_within.ensures.len),
       omega (arith, inside.2, c.push_within.ensures.capacity),
       omega (arith, inside.3, c.take_free-place.ensures.capacity),

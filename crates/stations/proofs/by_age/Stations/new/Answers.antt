@@ -4,7 +4,7 @@ use Rattle.stations.proofs.by_age.Stations.new.Goals as goal
 
 pub invariant_of-result : goal.invariant_of-result
 invariant_of-result c = (
-  placed_new c.args.desc.now.core_stations c.in_ok-waiting.waiting.items c.in_ok-free.free.items c.in_ok-waiting.ensures.items c.in_ok-free.ensures.items,
+  placed_new _ _ _ c.in_ok-waiting.ensures.items c.in_ok-free.ensures.items,
   omega (arith, c.in_ok-waiting.ensures.len, c.in_ok-free.ensures.len),
   c.in_ok-waiting.ensures.capacity,
   c.in_ok-free.ensures.capacity,

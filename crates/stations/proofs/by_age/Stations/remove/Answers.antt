@@ -1,4 +1,4 @@
-use Rattle.std.proofs.Common.{◌<◌, length, ap, ap₂, ◌∙◌, arith}
+use Rattle.std.proofs.Common.{length, ap, ap₂, ◌∙◌, arith}
 use Rattle.std.specs.Prelude.{map}
 use Rattle.std.specs.List.{remove}
 use Rattle.std.proofs.lemmas.List.{length-map}
@@ -11,9 +11,8 @@ pub invariant_of-self : goal.invariant_of-self
 invariant_of-self c =
     let inside = c.self.invariant in
     let held = ap (λ (v : Stations). length v.held) c.self.view_is in
-    let long = length-map c.self.inside.waiting.items station in
-    let lt : c.args.i < length c.self.inside.waiting.items = omega (arith, c.requires, held, long) in (
-      placed_remove c.self.inside.room c.self.inside.waiting.items _ c.self.inside.free.items _ c.args.i c.remove-entry.result inside.0 lt c.remove-entry.ensures.value c.remove-entry.ensures.items c.push_within.ensures.items,
+    let long = length-map c.self.inside.waiting.items station in (
+      placed_remove _ _ _ _ _ _ _ inside.0 (omega (arith, c.requires, held, long)) c.remove-entry.ensures.value c.remove-entry.ensures.items c.push_within.ensures.items,
       omega (arith, inside.1, c.remove-entry.ensures.len, c.push_within.ensures.len),
       omega (arith, inside.2, c.remove-entry.ensures.capacity),
       omega (arith, inside.3, c.push_within.ensures.capacity),

@@ -8,7 +8,7 @@ use Rattle.stations.proofs.by_age.Stations.wake.Goals as goal
 pub invariant_of-self : goal.invariant_of-self
 invariant_of-self c =
     let inside = c.self.invariant in (
-      placed_woken c.args.serial c.self.inside.room c.self.inside.waiting.items _ c.self.inside.free.items inside.0 c.wake_all.ensures.items,
+      placed_woken _ _ _ _ _ inside.0 c.wake_all.ensures.items,
       omega (arith, inside.1, c.wake_all.ensures.len),
       omega (arith, inside.2, c.wake_all.ensures.capacity),
       inside.3,
