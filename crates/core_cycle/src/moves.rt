@@ -17,8 +17,8 @@ impl<R: RenameTaint> State<R> {
         self.point.advance(&self.rob);
     }
 
-    /// After a phase that began with so many events in the row: the point moves where it had one. The others left the window as
-    /// it was.
+    /// After a phase that began with so many events in the row: the point moves where the phase had one. A phase without events
+    /// left the window as it was.
     pub(crate) fn advance_after(&mut self, events: usize, row: &Row)
         requires advanced { length row.now.events ≡ events → HasAdvanced self.old.point self.old.machine.window }
         ensures others { self.new ≡ record self.old { point = self.new.point } }
