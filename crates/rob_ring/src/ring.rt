@@ -66,7 +66,15 @@ impl RobRing {
         requires { i < length self.now.entries }
         ensures { slice_get self.now.entries i ≡ Some result }
     {
-        *self.items.get(i as usize).unwrap()
+        *self.lend(i)
+    }
+
+    /// Lends the entry at a position, where a copy isn't needed.
+    pub fn lend(&self, i: u32) -> &Entry
+        requires { i < length self.now.entries }
+        ensures { slice_get self.now.entries i ≡ Some result.now }
+    {
+        self.items.get(i as usize).unwrap()
     }
 
     /// Puts an entry in the place of the one at a position.
