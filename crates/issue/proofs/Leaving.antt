@@ -57,7 +57,7 @@ divider_is : (x : Machine) (o : Option Place) → divider_after x o ≡ divider_
 divider_is x None = refl
 divider_is x (Some p) = refl
 
-leaves : (d : Desc) (x : Machine) (window : List Entry) (load : Option model.Access) (division : Option Divider) (cache : List (List ℕ)) (misses : List Miss) (divider : Divider) →
+pub leaves : (d : Desc) (x : Machine) (window : List Entry) (load : Option model.Access) (division : Option Divider) (cache : List (List ℕ)) (misses : List Miss) (divider : Divider) →
     window ≡ map (λ b. b.entry) (each (issue_entry d x) x.window) →
     load ≡ loaded d x (first (tried d (is_free x)) x.window) → division ≡ divided x (first (divides d (is_free x)) x.window) →
     cache ≡ cache_left d load x.cache → misses ≡ misses_left d x.cycle load x.misses → divider ≡ divider_left division x.divider →

@@ -12,4 +12,5 @@ pub mod Walking
 pub mod InPlace
 pub mod Alike
 pub mod Leaving
+pub mod Idle
 pub mod Tested

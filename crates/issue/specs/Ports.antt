@@ -3,7 +3,11 @@ use Rattle.std.specs.Prelude.{◌≡◌, ℕ, ◌+◌, Bool, ◌&&◌, List}
 use Rattle.machine_desc.specs.declared.Desc.{Desc}
 use Rattle.window_model.specs.declared.Entry.{Entry}
 use Rattle.window_model.specs.Issue.{Port, is_granted, port_of, same_port}
-use Rattle.unit_ports.specs.Ports.{Ports}
+use Rattle.unit_ports.specs.Ports.{Ports, begun_at}
+
+-- all ports of this cycle are left
+abbrev pub HasBegun : ℕ → Ports → Type 0
+HasBegun cycle p = p ≡ begun_at cycle p
 
 -- how many are left in all
 abbrev pub left_in_all : Ports → ℕ

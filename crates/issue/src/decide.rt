@@ -180,8 +180,8 @@ impl<'a> Seen<'a> {
                 continue;
             }
             let position = self.position_at(station);
-            let entry = self.rob.at(position);
-            self.decide_entry(position, &entry, station, free, ports, decided, row);
+            let entry = self.rob.lend(position);
+            self.decide_entry(position, entry, station, free, ports, decided, row);
         }
     }
 }

@@ -66,7 +66,15 @@ impl RobRing {
         requires { i < length self.now.entries }
         ensures { slice_get self.now.entries i ≡ Some result }
     {
-        *self.items.get(i as usize).unwrap()
+        *self.lend(i)
+    }
+
+    /// Lends the entry at a position, where a copy isn't needed.
+    pub fn lend(&self, i: u32) -> &Entry
+        requires { i < length self.now.entries }
+        ensures { slice_get self.now.entries i ≡ Some result.now }
+    {
+        self.items.get(i as usize).unwrap()
     }
 
     /// Puts an entry in the place of the one at a position.
@@ -115,12 +123,11 @@ impl RobRing {
         ensures older { take result self.now.entries ≡ below serial self.now.entries }
         ensures within { result ≤ length self.now.entries }
     {
-        for i in (0..self.reach(serial)).rev() {
-            if self.at(i).serial < serial {
-                return i + 1;
-            }
+        let mut position = self.reach(serial);
+        while position > 0 && self.lend(position - 1).serial >= serial {
+            position -= 1;
         }
-        0
+        position
     }
 
     // How many of the oldest entries there are that can have a serial below this one.
@@ -132,7 +139,7 @@ impl RobRing {
         if self.len() == 0 {
             return 0;
         }
-        let ahead = serial.saturating_sub(self.at(0).serial);
+        let ahead = serial.saturating_sub(self.lend(0).serial);
         up_to(ahead, self.len())
     }
 }

@@ -1,12 +1,12 @@
 //! The stations by age.
 ghost use Rattle.std.specs.Prelude.{◌≡◌, ◌≢◌, ◌-◌, ◌<◌, ◌≤◌, ℕ, [], ◌∷◌, ◌++◌, length, map, IfOk, Some, slice_get, nat_lt, nat_le};
-ghost use Rattle.std.specs.List.{filter, remove, All, AllPairs};
+ghost use Rattle.std.specs.List.{filter, list_any, remove, All, AllPairs};
 ghost use Rattle.std.specs.Option.{option_map};
 ghost use Rattle.stations.specs.Stations.{Station, Stations, struck, awaits_none};
 ghost use Rattle.stations.specs.Places.{is_youngest};
 
 use crate::occupant::Occupant;
-use crate::places::{all_places, push_within, take_free, wake_all};
+use crate::places::{all_places, is_any_ready, push_within, take_free, wake_all};
 use machine_desc::Desc;
 use rv_types::NoMemory;
 use std::alloc::Global;
@@ -92,6 +92,13 @@ impl Stations {
         ensures { option_map awaits_none (slice_get self.now.held i) ≡ Some result }
     {
         self.waiting[i as usize].is_ready()
+    }
+
+    /// Whether there is an entry that awaits nothing.
+    pub fn any_ready(&self) -> bool
+        ensures { result ≡ list_any awaits_none self.now.held }
+    {
+        is_any_ready(self.waiting.as_slice())
     }
 
     /// The serial of the entry at a position.

@@ -1,7 +1,8 @@
 //! The entries that wait and the numbers of the free places, as lists.
 ghost use Rattle.std.specs.Prelude.{◌≡◌, ◌+◌, ◌<◌, ◌≤◌, [], ◌∷◌, ◌++◌, map, IfOk, vec_len, vec_capacity};
-ghost use Rattle.std.specs.List.{range_with_len};
-ghost use Rattle.stations.specs.Places.{woken};
+ghost use Rattle.std.specs.List.{list_any, range_with_len};
+ghost use Rattle.stations.specs.Stations.{awaits_none};
+ghost use Rattle.stations.specs.Places.{station, woken};
 
 use crate::occupant::Occupant;
 use rv_types::NoMemory;
@@ -44,6 +45,18 @@ pub fn push_within<T: Drop>(items: &mut Vec<T>, item: T)
         Ok(()) => (),
         Err(_) => unreachable!(),
     }
+}
+
+/// Whether one of the entries awaits nothing.
+pub fn is_any_ready(waiting: &[Occupant]) -> bool
+    ensures { result ≡ list_any awaits_none (map station waiting.now) }
+{
+    for entry in waiting {
+        if entry.is_ready() {
+            return true;
+        }
+    }
+    false
 }
 
 fn wake_each(waiting: &mut [Occupant], serial: u64)

@@ -18,8 +18,10 @@ fn an_entry_is_ready_once_both_writers_are_done(rt: HostRuntime) -> Result<(), F
     stations.insert(5, [Some(3), Some(4)]);
     stations.wake(4);
     assert_eq!(rt; stations.ready(0), false);
+    assert_eq!(rt; stations.any_ready(), false);
     stations.wake(3);
     assert_eq!(rt; stations.ready(0), true);
+    assert_eq!(rt; stations.any_ready(), true);
     Ok(())
 }
 

@@ -1,29 +1,33 @@
--- What is written comes to what the definition leaves.
-use Rattle.std.proofs.Common.{sym, subst, ◌<◌, length}
-use Rattle.issue.specs.Parts.{with_parts}
-use Rattle.issue.specs.State.{nothing}
-use Rattle.issue.proofs.Leaving.{has_room, has_user, written}
+-- Where no station is ready the phase leaves all as it is.
+use Rattle.std.proofs.Common.{◌≡◌, ◌++◌, ap, sym, ◌∙◌, append-nil, false}
+use Rattle.std.specs.List.{list_any}
+use Rattle.stations.specs.Stations.{awaits_none}
+use Rattle.window_model.specs.Issue.{is_free}
+use Rattle.window_model.proofs.EntryByEntry.{zip_same}
+use Rattle.unit_ports.specs.Ports.{Ports}
+use Rattle.parts_stand.specs.Steps.{GoesOn}
+use Rattle.parts_stand.proofs.Keeping.{goes_same}
+use Rattle.issue.specs.Parts.{parts_of, with_parts}
+use Rattle.issue.proofs.Idle.{all_stay, idle_events, idle_machine}
 use Rattle.issue.proofs.phase.issue.Goals as goal
 
-pub place-requires-clause-stands : goal.place-requires-clause-stands
-place-requires-clause-stands c =
+pub returns-then-not-any_ready-clause-state : goal.returns-then-not-any_ready-clause-state
+returns-then-not-any_ready-clause-state c = λ x.
+    let a = c.args in
     let s = c.requires.stands in
-    (record { next = s.next; window = c.args.rob.now.entries; roots = c.args.roots.now.items; writes = s.writes; held = c.args.stations.now.held }, s.parts)
+    let none : list_any awaits_none a.stations.now.held ≡ false = sym c.any_ready.ensures ∙ c.if-not-any_ready.true in
+    let y = with_parts a.rob.now a.tags.now a.mshrs.now a.ports.now a.ram.now a.regs.now a.cycle x in
+    let same = ap (λ (p : Ports). with_parts a.rob.now a.tags.now a.mshrs.now p a.ram.now a.regs.now a.cycle x) c.begin.ensures in
+    same ∙ idle_machine a.desc.now y (all_stay a.desc.now (is_free y) (parts_of s.next s.writes a.rob.now a.roots.now a.stations.now) s.parts none)
 
-pub take_register-requires : goal.take_register-requires
-take_register-requires c =
+pub returns-then-not-any_ready-clause-row : goal.returns-then-not-any_ready-clause-row
+returns-then-not-any_ready-clause-row c = λ x.
     let a = c.args in
-    let x = with_parts a.rob.now a.tags.now a.mshrs.now a.ports.now a.ram.now a.regs.now a.cycle nothing in
-    record { room = λ m. subst (λ n. length a.mshrs.now.misses < n) (sym c.requires.made.registers) (has_room a.desc.now x c.decide.new.decided (c.decide.ensures.decided nothing) m) }
+    let s = c.requires.stands in
+    let none : list_any awaits_none a.stations.now.held ≡ false = sym c.any_ready.ensures ∙ c.if-not-any_ready.true in
+    let y = with_parts a.rob.now a.tags.now a.mshrs.now a.ports.now a.ram.now a.regs.now a.cycle x in
+    let no_event = idle_events a.desc.now y (all_stay a.desc.now (is_free y) (parts_of s.next s.writes a.rob.now a.roots.now a.stations.now) s.parts none) in
+    ap (λ es. record a.row.now { events = es }) (sym (ap (λ es. a.row.now.events ++ es) no_event ∙ append-nil a.row.now.events))
 
-pub take_divider-requires : goal.take_divider-requires
-take_divider-requires c =
-    let a = c.args in
-    let x = with_parts a.rob.now a.tags.now a.mshrs.now a.ports.now a.ram.now a.regs.now a.cycle nothing in
-    record { used = has_user a.desc.now x c.decide.new.decided (c.decide.ensures.decided nothing) }
-
-pub returns-clause-state : goal.returns-clause-state
-returns-clause-state c =
-    written c.args.desc.now c.args.rob.now c.args.tags.now c.args.mshrs.now c.args.ports.now c.args.ram.now c.args.regs.now c.args.cycle c.decide.new.decided
-    c.place.new.rob c.touch.new.tags c.take_register.new.mshrs c.decide.new.ports c.take_divider.new.ports c.requires.made.cache c.decide.ensures.decided
-    c.place.ensures.window c.touch.ensures c.take_register.ensures c.decide.ensures.divider c.take_divider.ensures
+pub returns-then-not-any_ready-clause-goes_on : goal.returns-then-not-any_ready-clause-goes_on
+returns-then-not-any_ready-clause-goes_on c = zip_same GoesOn goes_same c.args.rob.now.entries

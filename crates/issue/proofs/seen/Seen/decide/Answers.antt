@@ -55,8 +55,8 @@ loop-station-preserved-then-not-ready c =
       cycle = t.cycle;
     }
 
-pub at-entry-requires : goal.at-entry-requires
-at-entry-requires c =
+pub lend-entry-requires : goal.lend-entry-requires
+lend-entry-requires c =
     let s = c.args.self.now in
     let entry = here (window_of s) c.position_at-position.result _ c.position_at-position.ensures.waits in
     slice_get_within (window_of s) c.position_at-position.result entry.entry entry.is
@@ -65,17 +65,17 @@ pub decide_entry-requires-clause-ready : goal.decide_entry-requires-clause-ready
 decide_entry-requires-clause-ready c =
     let s = c.args.self.now in
     let i = c.position_at-position.result in
-    let e = c.at-entry.result in
-    let waits : is_waiting e.state ≡ true = waits_here (window_of s) i _ e c.at-entry.ensures c.position_at-position.ensures.waits in
-    sym (ready_is s i e c.requires.stands c.at-entry.ensures c.loop-station.station c.ready.result waits (sym c.position_at-position.ensures.station) c.ready.ensures) ∙ c.if-not-ready.false
+    let e = c.lend-entry.result.now in
+    let waits : is_waiting e.state ≡ true = waits_here (window_of s) i _ e c.lend-entry.ensures c.position_at-position.ensures.waits in
+    sym (ready_is s i e c.requires.stands c.lend-entry.ensures c.loop-station.station c.ready.result waits (sym c.position_at-position.ensures.station) c.ready.ensures) ∙ c.if-not-ready.false
 
 pub decide_entry-requires-clause-left : goal.decide_entry-requires-clause-left
 decide_entry-requires-clause-left c =
     let s = c.args.self.now in
     let i = c.position_at-position.result in
-    let e = c.at-entry.result in
-    let waits : is_waiting e.state ≡ true = waits_here (window_of s) i _ e c.at-entry.ensures c.position_at-position.ensures.waits in
-    (at_next _ (window_of s) c.loop-station.station i e (keeps s c.free_div-free.result c.loop-station.ports _ _ _ _ _) c.loop-station.invariant.walked c.at-entry.ensures waits c.position_at-position.ensures.station).left
+    let e = c.lend-entry.result.now in
+    let waits : is_waiting e.state ≡ true = waits_here (window_of s) i _ e c.lend-entry.ensures c.position_at-position.ensures.waits in
+    (at_next _ (window_of s) c.loop-station.station i e (keeps s c.free_div-free.result c.loop-station.ports _ _ _ _ _) c.loop-station.invariant.walked c.lend-entry.ensures waits c.position_at-position.ensures.station).left
 
 pub loop-station-preserved : goal.loop-station-preserved
 loop-station-preserved c =
@@ -84,8 +84,8 @@ loop-station-preserved c =
     let i = c.position_at-position.result in
     let station = c.position_at-position.ensures.station in
     let t = c.loop-station.invariant in
-    let e = c.at-entry.result in
-    let h = c.at-entry.ensures in
+    let e = c.lend-entry.result.now in
+    let h = c.lend-entry.ensures in
     let waits : is_waiting e.state ≡ true = waits_here (window_of s) i _ e h c.position_at-position.ensures.waits in
     let walked = at_next _ (window_of s) c.loop-station.station i e (keeps s free c.loop-station.ports _ _ _ _ _) t.walked h waits station in
     let events : c.decide_entry.new.row.events ≡ c.loop-station.row.events ++ (turn_of s free (before_at (window_of s) i) e).events = ap (λ (r : Row). r.events) c.decide_entry.ensures.row in
