@@ -5,6 +5,7 @@ ghost use Rattle.std.specs.List.{AllPairs};
 ghost use Rattle.std.specs.Option.{option_map};
 ghost use Rattle.rv_types.specs.Regs.{reads_of, two};
 ghost use Rattle.rob_ring.specs.Ring.{below};
+ghost use Rattle.window_model.specs.Order.{from_writer};
 ghost use Rattle.parts_stand.specs.Writers.{if_serial, in_flight};
 ghost use Rattle.issue.specs.Operands.{value_by};
 
@@ -14,47 +15,37 @@ use rv_types::{REGISTERS, Reg, reads_of};
 use window_model::Entry;
 use window_walk::value_of;
 
-// The entry, if it has this serial.
-fn if_serial(serial: u64, entry: Entry) -> Option<Entry>
-    ensures { result ≡ if_serial serial (Some entry) }
+// The value of the entry, if it has this serial; else this one.
+fn value_if_serial(serial: u64, entry: &Entry, retired: u32) -> u32
+    ensures { result ≡ from_writer (if_serial serial (Some entry.now)) retired }
 {
     if entry.serial == serial {
-        return Some(entry);
+        return value_of(entry);
     }
-    None
+    retired
 }
 
-// The entry with this serial, if it is in flight.
-fn find(rob: &RobRing, serial: u64) -> Option<Entry>
+// The value of the entry with this serial, if it is in flight; else this one.
+fn value_in_flight(rob: &RobRing, serial: u64, retired: u32) -> u32
     requires rise { AllPairs (λ a b. a.serial < b.serial) rob.now.entries }
-    ensures { result ≡ in_flight rob.now.entries (Some serial) }
+    ensures { result ≡ from_writer (in_flight rob.now.entries (Some serial)) retired }
 {
     let position = rob.position_of(serial);
     if position == rob.len() {
-        return None;
+        return retired;
     }
-    if_serial(serial, rob.at(position))
+    value_if_serial(serial, rob.lend(position), retired)
 }
 
-// The entry of a writer's serial, if there is a writer and it is in flight.
-fn in_flight(rob: &RobRing, writer: Option<u64>) -> Option<Entry>
-    requires rise { AllPairs (λ a b. a.serial < b.serial) rob.now.entries }
-    ensures { result ≡ in_flight rob.now.entries writer }
-{
-    match writer {
-        Some(serial) => find(rob, serial),
-        None => None,
-    }
-}
-
-// The value of a register whose writer has this serial.
+// The value of a register whose writer has this serial: the retired one where the writer isn't in flight.
 fn register_value(rob: &RobRing, regs: &[u32; REGISTERS], register: Reg, writer: Option<u64>) -> u32
     requires rise { AllPairs (λ a b. a.serial < b.serial) rob.now.entries }
     ensures { result ≡ value_by regs.now rob.now.entries (Some register.number) writer }
 {
-    match in_flight(rob, writer) {
-        Some(entry) => value_of(&entry),
-        None => regs[register.number as usize],
+    let retired = regs[register.number as usize];
+    match writer {
+        Some(serial) => value_in_flight(rob, serial, retired),
+        None => retired,
     }
 }
 
