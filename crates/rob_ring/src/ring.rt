@@ -165,4 +165,8 @@ impl Window for RobRing {
     fn at(&self, i: u32) -> Entry {
         RobRing::at(self, i)
     }
+
+    fn lend(&self, i: u32) -> &Entry {
+        RobRing::lend(self, i)
+    }
 }

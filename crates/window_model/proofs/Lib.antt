@@ -8,6 +8,8 @@ pub mod Before
 pub mod Taints
 pub mod Booleans
 pub mod Lists
+pub mod Serials
+pub mod Positions
 pub mod Places
 pub mod EntryByEntry
 pub mod Counts
