@@ -8,7 +8,6 @@ use circular_buffer::HeapCircularBuffer;
 use rob_ring::pair_at;
 use visibility::VisPoint;
 use window_model::{Entry, Window};
-use window_walk::{is_control, is_done};
 
 /// The position of the oldest entry that may be resolved, counted from the oldest in the window. None exactly where there
 /// is no such entry. The youngest roots of each entry's first and second source stand at the entry's position.
@@ -40,8 +39,8 @@ fn may_resolve(entry: &Entry, point: &VisPoint, roots: [Option<u64>; 2]) -> bool
     ensures { result ≡ can_resolve point.now.serial entry.now roots }
 {
     let [first, second] = roots;
-    is_control(entry)
-        && is_done(entry)
+    entry.is_control()
+        && entry.is_done()
         && !entry.resolved
         && !point.tainted(first)
         && !point.tainted(second)

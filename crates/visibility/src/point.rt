@@ -6,7 +6,6 @@ ghost use Rattle.visibility.specs.Point.{passes, is_hidden, next_after, serial_o
 use machine_desc::{Desc, SttModel};
 use std::marker::Model;
 use window_model::{Entry, Window};
-use window_walk::{is_safe, is_settled};
 
 /// The visibility point of a model: entries up to its serial are visible, and younger ones are not.
 #[derive(Drop)]
@@ -124,8 +123,8 @@ fn does_pass(model: SttModel, entry: &Entry) -> bool
     ensures { result ≡ passes model entry.now }
 {
     match model {
-        SttModel::Spectre => is_settled(entry),
-        SttModel::Futuristic => is_safe(entry),
+        SttModel::Spectre => entry.is_settled(),
+        SttModel::Futuristic => entry.is_safe(),
     }
 }
 
