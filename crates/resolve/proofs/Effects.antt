@@ -58,6 +58,16 @@ by_place d x o p b h q =
     ap (λ o. resolve_at d o x) h
     ∙ ap (λ b. let after = (if b then squash p y else keep p y) in record { machine = after.machine; events = learnt.events ++ after.events }) q
 
+-- ---- no entry is resolved
+
+module _ (rob : Ring) (t : Tables) (none : resolving rob t ≡ None) (front : Front) (ports : Ports) where
+  pub none_state : (x : Machine) → with_parts rob front t ports x ≡ (resolves rob front t ports x).machine
+  none_state x = sym (ap (λ o. (resolve_at t.desc o (with_parts rob front t ports x)).machine) none)
+
+  pub none_row : (row : Row) (x : Machine) → row ≡ record row { events = row.events ++ (resolves rob front t ports x).events }
+  none_row row x =
+      sym (ap (λ o. record row { events = row.events ++ (resolve_at t.desc o (with_parts rob front t ports x)).events }) none ∙ ap (λ es. record row { events = es }) (append-nil row.events))
+
 -- ---- the entry is marked and teaches
 
 pub record Taught (rob : Ring) (t : Tables) (row : Row) (i : ℕ) (e : Entry) (rob2 : Ring) (t2 : Tables) (row_then : Row) : Type 0 where
