@@ -100,7 +100,6 @@ impl RobRing {
 
     /// Keeps the oldest `len` entries and drops the younger ones.
     pub fn cut(&mut self, len: u32)
-        requires { len ≤ length self.old.entries }
         ensures { self.new ≡ record self.old { entries = take len self.old.entries } }
     {
         self.items.truncate_back(len as usize);
