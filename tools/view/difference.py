@@ -1,5 +1,5 @@
 """`diff`: the first unequal cycle of two traces, and the events that only one of them has in it."""
-from collections import Counter
+from collections import Counter, deque
 from itertools import zip_longest
 
 OF_AN_ENTRY = {"done", "res", "ret", "st", "call", "alu", "mul", "div", "agu", "ld", "ren"}
@@ -18,6 +18,7 @@ class Difference:
         for rows in zip_longest(*traces):
             for replay, row in zip(replays, rows):
                 if row:
+                    deque(replay.gone(), maxlen=0)
                     replay.step(row)
             if None in rows or rows[0].events != rows[1].events:
                 self.cycle, self.rows = next(row.cycle for row in rows if row), list(rows)

@@ -33,13 +33,13 @@ class Item:
     """
 
     __slots__ = ("number", "pc", "code", "serial", "fetched", "renamed", "ready", "issued", "unit", "line", "due", "done",
-                 "resolved", "outcome", "mispredicted", "retired", "squashed", "store", "output", "sources", "awaits",
-                 "consumers", "roots", "waits", "producers")
+                 "resolved", "outcome", "mispredicted", "retired", "squashed", "trapped", "store", "output", "sources",
+                 "awaits", "consumers", "roots", "waits", "producers")
 
     def __init__(self, number, pc, code, cycle):
         self.number, self.pc, self.code, self.fetched = number, pc, code, cycle
         self.serial = self.renamed = self.ready = self.issued = self.unit = self.line = self.due = self.done = None
-        self.resolved = self.outcome = self.retired = self.squashed = self.store = self.output = None
+        self.resolved = self.outcome = self.retired = self.squashed = self.trapped = self.store = self.output = None
         self.mispredicted = False
         self.sources, self.roots, self.consumers, self.awaits = (), (), [], 0
         self.waits, self.producers = [], ()

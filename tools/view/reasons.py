@@ -53,11 +53,11 @@ class Reasons:
 
     # ---- Resolve
 
-    def resolve(self, resolved):
+    def resolve(self, resolved, squashes):
         """The oldest branch or JALR that is Done, with no tainted operand, is resolved: at most one a cycle."""
         first = None
         for item in list(self.pipeline.controls):
-            if item.done is None:
+            if item.done is None or squashes and item.serial > resolved:
                 continue
             root = self.tainted_root(item)
             if root is None and first is None and item.serial != resolved and self.presume_fault(item.youngest_root):

@@ -21,22 +21,39 @@ class Replay:
 
         Those that are in flight at the end come last. With `until` only the cycles up to that one are read.
         """
-        flight = self.pipeline.flight
         for row in self.trace:
             if until is not None and row.cycle > until:
                 break
             self.step(row)
-            while flight and flight[0].gone is not None:
-                item = flight.popleft()
-                item.forget()
-                yield item
-        self.checks.end(self.trace.end, self.retired)
-        yield from flight
+            yield from self.gone()
+        self.end(self.trace.end)
+        yield from self.pipeline.flight
+
+    def end(self, end):
+        """What the last line says: the counts, and that the oldest entry traps."""
+        self.checks.end(end, self.retired)
+        if end and end.how.startswith("trap") and self.pipeline.window:
+            self.pipeline.window[0].trapped = self.pipeline.cycle
+
+    def gone(self):
+        """Lets go of the instructions that have retired or were squashed, as all before them, and gives them."""
+        flight = self.pipeline.flight
+        while flight and flight[0].gone is not None:
+            item = flight.popleft()
+            item.forget()
+            yield item
 
     def step(self, row):
-        """One cycle: its seven phases. After an end in Retire no later phase acts."""
+        """One cycle."""
         phases = row.phases()
         self.pipeline.cycle = row.cycle
+        try:
+            self.take(row, phases)
+        except ValueError:
+            raise Fault(f"cycle {row.cycle}: a number is none in `{' '.join(row.events)}`") from None
+
+    def take(self, row, phases):
+        """The seven phases. After an end in Retire no later phase acts."""
         self.fill([int(words[1], 16) for words in phases[FILL]])
         self.complete([self.pipeline.entry(words) for words in phases[COMPLETE]])
         squashed = self.resolve(phases[RESOLVE])
@@ -61,16 +78,18 @@ class Replay:
         """Answers whether there was a squash."""
         if not events and not self.pipeline.controls:
             return False
+        if events and events[0][0] != "res":
+            raise Fault(f"cycle {self.pipeline.cycle}: `{':'.join(events[0])}` doesn't follow a res")
         resolved = self.pipeline.entry(events[0]) if events else None
-        self.reasons.resolve(resolved.serial if resolved else None)
+        squashes = bool(events) and events[-1][0] == "sq"
+        self.reasons.resolve(resolved.serial if resolved else None, squashes)
         if not events:
             return False
         self.checks.resolve(resolved, [words[0] for words in events])
         self.pipeline.resolve(resolved, events[0][2])
-        if events[-1][0] != "sq":
-            return False
-        self.checks.squash(int(events[-1][1]), self.pipeline.squash(resolved))
-        return True
+        if squashes:
+            self.checks.squash(int(events[-1][1]), self.pipeline.squash(resolved))
+        return squashes
 
     def retire(self, events, ends):
         self.reasons.retire([int(words[1]) for words in events if words[0] == "ret"], ends)

@@ -9,11 +9,13 @@ from . import Fault
 
 FILL, COMPLETE, RESOLVE, RETIRE, ISSUE, RENAME, FETCH = range(7)
 
-PHASE_OF = {
-    "fill": FILL, "done": COMPLETE, "res": RESOLVE, "bp": RESOLVE, "bt": RESOLVE, "sq": RESOLVE,
-    "ret": RETIRE, "st": RETIRE, "call": RETIRE,
-    "alu": ISSUE, "mul": ISSUE, "div": ISSUE, "agu": ISSUE, "ld": ISSUE, "ren": RENAME, "fet": FETCH,
+# the phase of each event, and how many words its text has: the name, and what stands behind colons
+EVENTS = {
+    "fill": (FILL, 2), "done": (COMPLETE, 2), "res": (RESOLVE, 3), "bp": (RESOLVE, 3), "bt": (RESOLVE, 3), "sq": (RESOLVE, 2),
+    "ret": (RETIRE, 2), "st": (RETIRE, 4), "call": (RETIRE, 3), "alu": (ISSUE, 2), "mul": (ISSUE, 2), "div": (ISSUE, 3),
+    "agu": (ISSUE, 2), "ld": (ISSUE, 4), "ren": (RENAME, 3), "fet": (FETCH, 2),
 }
+WITHOUT_LINE = ("f", "x")
 
 END = re.compile(r"end (exit \d+|trap [0-7] [0-9a-f]{8}|budget) retired (\d+) cycles (\d+)")
 
@@ -28,12 +30,12 @@ class Row(NamedTuple):
     def phases(self):
         """The events of each phase, as lists of their words: `["ld", "3", "0001fff0", "m"]`."""
         phases = [[], [], [], [], [], [], []]
-        try:
-            for text in self.events:
-                words = text.split(":")
-                phases[PHASE_OF[words[0]]].append(words)
-        except KeyError:
-            raise Fault(f"cycle {self.cycle}: `{text}` is no event of a trace") from None
+        for text in self.events:
+            words = text.split(":")
+            phase, length = EVENTS.get(words[0], (None, 0))
+            if len(words) != length and not (words[0] == "ld" and len(words) == 3 and words[2] in WITHOUT_LINE):
+                raise Fault(f"cycle {self.cycle}: `{text}` is no event of a trace")
+            phases[phase].append(words)
         return phases
 
 
@@ -75,7 +77,7 @@ class Trace:
 
 def read_row(line, number):
     """The row of a line, which has to be the one of this cycle."""
-    first, *events = line.split()
+    first, *events = line[:-1].split(" ")
     if first != str(number):
         raise Fault(f"line {number} is no line of cycle {number}: `{line.strip()[:60]}`")
     return Row(number, events, False)
