@@ -8,7 +8,7 @@ held on an operand made of the differing bytes, and by taint alone; else it is v
 from typing import NamedTuple
 
 from view.instruction import BRANCH, CALL, DIVISION, JALR, LOAD, STORE
-from view.reasons import TAINT, TAINTED_OUTCOME, Reasons
+from view.reasons import TAINT, TAINTED_OUTCOME
 from view.replay import Replay
 
 from .values import Valued
@@ -38,10 +38,7 @@ class Telling(Replay):
     """`held` and `shown`, by an instruction's address and what of it shows; `loads` are the loads of differing bytes."""
 
     def __init__(self, trace, image, description, differing):
-        super().__init__(trace, image, description)
-        self.pipeline = Valued(image, description, differing)
-        self.reasons = Reasons(self.pipeline)
-        self.checks.pipeline, self.checks.tell = self.pipeline, self.reasons.tell
+        super().__init__(trace, image, description, Valued(image, description, differing))
         self.held, self.shown, self.loads = {}, {}, []
         for _ in self.items():
             pass

@@ -66,42 +66,6 @@ def programs():
     return found
 
 
-def generated(seed, blocks):
-    """The words of a generated image (docs/formats.md, "Generated images")."""
-    state = seed % (1 << 31)
-
-    def draw(count):
-        nonlocal state
-        state = (1103515245 * state + 12345) % (1 << 31)
-        return state // 65536 % count
-
-    def i_form(opcode, funct3, rd, rs1, imm):
-        return (imm & 0xfff) << 20 | rs1 << 15 | funct3 << 12 | rd << 7 | opcode
-
-    def r_form(funct3, funct7, rd, rs1, rs2):
-        return funct7 << 25 | rs2 << 20 | rs1 << 15 | funct3 << 12 | rd << 7 | 0x33
-
-    def s_form(rs1, rs2, imm):
-        return (imm >> 5) << 25 | rs2 << 20 | rs1 << 15 | 2 << 12 | (imm & 31) << 7 | 0x23
-
-    def block():
-        form, o, d, e = draw(6), 4 * draw(256), 5 + draw(3), 5 + draw(3)
-        return [
-            (i_form(0x13, 0, d, e, o), r_form(4, 0, e, e, d)),
-            (s_form(8, d, o), i_form(0x03, 2, e, 8, o)),
-            (i_form(0x03, 2, d, 8, o), r_form(0, 0, e, e, d)),
-            (r_form(0, 1, d, d, e), i_form(0x13, 0, e, e, 1)),
-            (r_form(4, 1, d, d, e), i_form(0x13, 0, d, d, o)),
-            (0x00000463 | 4 << 12 | e << 20 | d << 15, i_form(0x13, 0, d, d, 1)),
-        ][form]
-
-    body = [word for _ in range(blocks) for word in block()]
-    back = -(8 * blocks + 8) & 0x1fffff
-    jal = (back >> 20 & 1) << 31 | (back >> 1 & 0x3ff) << 21 | (back >> 11 & 1) << 20 | (back >> 12 & 0xff) << 12 | 0x6f
-    return ([i_form(0x13, 0, 8, 2, -1024), i_form(0x13, 0, 9, 0, 4)] + body
-            + [i_form(0x13, 0, 9, 9, -1), 0x00048463, jal, 0x05d00893, 0x00000073])
-
-
 def command(name, *arguments):
     """What a command of this tool writes, and its status."""
     return subprocess.run(["/usr/bin/python3", os.path.join(TOOLS, "verdict", name), *arguments], capture_output=True, text=True,

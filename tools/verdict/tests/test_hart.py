@@ -1,12 +1,12 @@
 """The instruction set's run: by hand, and against the simulator's `isa` on every image that there is."""
 import glob
 import os
-import subprocess
 import tempfile
 import unittest
 
 import material
-from material import CODE, EXAMPLES, ISA_BASE, PROGRAM, ROOT, image_file, loaded, needs_program, programs
+from material import CODE, EXAMPLES, ISA_BASE, ROOT, image_file, loaded, needs_program, programs
+from generate.generated import generated_image
 from verdict.hart import Hart, report
 
 EXIT = [0x05d00893, 0x00000073]  # addi x17,x0,93; ecall
@@ -104,17 +104,10 @@ class AgainstIsa(unittest.TestCase):
     def test_generated_images(self):
         with tempfile.TemporaryDirectory() as folder:
             for seed, blocks in [(1, 1), (2, 7), (3, 100), (2 ** 63 + 5, 33)]:
-                path = image_file(folder, f"{seed}.elf", material.generated(seed, blocks))
+                path = os.path.join(folder, f"{seed}.elf")
+                with open(path, "wb") as file:
+                    file.write(generated_image(seed, blocks))
                 self.agrees(path, 100000, material.CORE)
-
-    def test_generated_image_is_that_of_bench(self):
-        """The simulator's `bench` and its `run` on this image write one report."""
-        with tempfile.TemporaryDirectory() as folder:
-            path = image_file(folder, "a.elf", material.generated(7, 20))
-            reports = [subprocess.run([PROGRAM, *words, "--cycles", "100000"], capture_output=True, text=True, check=False).stdout
-                       for words in (["run", material.CORE, path], ["bench", material.CORE, "--seed", "7", "--blocks", "20"])]
-            self.assertEqual(*reports)
-            self.assertIn("\nend exit 0 ", reports[0])
 
 
 if __name__ == "__main__":
