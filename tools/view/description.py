@@ -12,7 +12,7 @@ SPECTRE, FUTURISTIC = "spectre", "futuristic"
 KEYS = {
     "fetch_width": "core", "retire_width": "core", "rob": "core", "stations": "core", "loads": "core", "stores": "core",
     "queue": "core", "alus": "units", "mul_latency": "units", "sets": "cache", "ways": "cache", "line": "cache",
-    "hit_latency": "cache", "miss_latency": "cache", "mshrs": "cache", "model": "stt",
+    "hit_latency": "cache", "miss_latency": "cache", "mshrs": "cache", "base": "ram", "size": "ram", "model": "stt",
 }
 
 
@@ -34,6 +34,8 @@ class Description(NamedTuple):
     hit_latency: int
     miss_latency: int
     mshrs: int
+    base: int
+    size: int
     model: str
 
 

@@ -7,11 +7,14 @@ from .trace import COMPLETE, FETCH, FILL, ISSUE, RENAME, RESOLVE, RETIRE
 
 
 class Replay:
-    """The run that a trace tells. `items` gives what became of each fetched instruction; then `reasons` is complete."""
+    """The run that a trace tells. `items` gives what became of each fetched instruction; then `reasons` is complete.
 
-    def __init__(self, trace, image, description):
+    Another tool may give a pipeline that keeps more of the run.
+    """
+
+    def __init__(self, trace, image, description, pipeline=None):
         self.trace = trace
-        self.pipeline = Pipeline(image, description)
+        self.pipeline = pipeline or Pipeline(image, description)
         self.reasons = Reasons(self.pipeline)
         self.checks = Checks(self.pipeline, self.reasons.tell)
         self.retired = 0
