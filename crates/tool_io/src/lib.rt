@@ -14,6 +14,7 @@ mod mem_files;
 mod mem_sink;
 mod never_fails;
 mod real;
+mod streams;
 
 pub use mem_files::{MemFile, MemFiles};
 pub use mem_sink::{MemFail, MemSink};
