@@ -18,9 +18,7 @@ use Rattle.window_model.specs.Retire.{retire}
 use Rattle.window_model.specs.Front.{rename, fetch}
 use Rattle.window_model.specs.Committed.{Aligned}
 use Rattle.window_model.specs.Path.{path}
-use Rattle.window_model.proofs.Worked.{code_of, memory}
-use Rattle.window_model.proofs.BoundsCheck.{bounds_check}
-use Rattle.window_model.proofs.Shadows.{fault, store, branch, divisor, injection}
+use Rattle.window_model.proofs.Worked.{code_of, memory, bounds_check, fault, store, branch, divisor, injection}
 use Rattle.noninterference.specs.Gadgets.{loaded_by, HidesSecret, BoundsCheckBypass, TaintedStoreAddress, TaintedBranch, TaintedDivisor, TargetInjection, FaultShadow, FaultShadowSpectre}
 use Rattle.noninterference.proofs.Runs.{same_trace, fewer}
 

@@ -8,9 +8,7 @@ use Rattle.machine_desc.specs.declared.SttModel.TheVariants.{Futuristic}
 use Rattle.machine_desc.specs.Example.{example}
 use Rattle.window_model.specs.Cycle.{trace}
 use Rattle.window_model.specs.Path.{reads_of_trace}
-use Rattle.window_model.proofs.Worked.{code_of, memory}
-use Rattle.window_model.proofs.BoundsCheck.{bounds_check}
-use Rattle.window_model.proofs.Shadows.{fault, store, branch, divisor, injection}
+use Rattle.window_model.proofs.Worked.{code_of, memory, bounds_check, fault, store, branch, divisor, injection}
 
 -- with each secret byte the trace of these words, of any number of cycles, is that with 0
 abbrev pub HidesSecret : Desc → List ℕ → Type 0

@@ -1,9 +1,4 @@
 pub mod Worked
-pub mod BoundsCheck
-pub mod Shadows
-pub mod Accesses
-pub mod Flow
-pub mod Corners
 pub mod Before
 pub mod Taints
 pub mod Booleans
