@@ -10,7 +10,7 @@ use Rattle.window_model.specs.Resolve.{freed_from, is_next, keep, learn, next_of
 use Rattle.window_model.specs.Row.{Row}
 use Rattle.window_model.specs.State.{Machine, After}
 use Rattle.rob_ring.specs.Ring.{Ring, below}
-use Rattle.squash.proofs.Younger.{up_to}
+use Rattle.window_model.proofs.Serials.{below_next as up_to}
 use Rattle.predictor.specs.Tables.{Tables}
 use Rattle.unit_ports.specs.Ports.{Ports}
 use Rattle.fetch_unit.specs.Front.{Front, with_front}
