@@ -1,7 +1,7 @@
 use Rattle.std.proofs.Common.{ap, sym, ◌∙◌, length}
 use Rattle.core_cycle.specs.Described.{Described}
 use Rattle.core_cycle.proofs.Moving.{complete_silent, described_advanced, resolve_silent}
-use Rattle.core_cycle.proofs.state.State.front.Goals as goal
+use Rattle.core_cycle.proofs.state.State.before_retire.Goals as goal
 
 pub advance_after_complete-requires-clause-spectre : goal.advance_after_complete-requires-clause-spectre
 advance_after_complete-requires-clause-spectre g c = λ spectre.

@@ -2,7 +2,7 @@ use Rattle.std.proofs.Common.{ap, ◌∙◌, length}
 use Rattle.elf_loader.specs.Code.{word_at}
 use Rattle.core_cycle.proofs.Cycling.{fetched_advanced}
 use Rattle.core_cycle.proofs.Moving.{described_advanced, rename_silent}
-use Rattle.core_cycle.proofs.state.State.back.Goals as goal
+use Rattle.core_cycle.proofs.state.State.after_retire.Goals as goal
 
 pub advance_after-requires : goal.advance_after-requires
 advance_after-requires g c = record {

@@ -1,5 +1,5 @@
 use Rattle.core_cycle.proofs.Lending.{lent_count, lent_roots}
-use Rattle.core_cycle.proofs.state.State.roots_at.Goals as goal
+use Rattle.core_cycle.proofs.state.State.yrot_at.Goals as goal
 
 pub pair_at-requires : goal.pair_at-requires
 pair_at-requires g c = lent_count _ _ _ c.self.invariant c.self.view_is c.requires
