@@ -5,7 +5,7 @@ import sys
 
 from . import Fault, difference, drawing, konata, listing, o3, page, stats, why
 from .description import read_description
-from .disassembly import CALLERS, MANUAL, Disassembler
+from .disassembly import CALLERS, KINDS, MANUAL, Disassembler
 from .image import Image
 from .replay import Replay
 from .trace import Progress, Trace, open_trace
@@ -38,8 +38,8 @@ def parser():
         sub.add_argument("-D", "--description", action="append", required=True, metavar="DESCRIPTION",
                          help="the description of the run; given twice, those of two traces")
         sub.add_argument("-o", "--output", metavar="FILE", help="where to write; standard output if left out")
-        sub.add_argument("--notation", choices=(CALLERS, MANUAL), default=CALLERS,
-                         help="names of registers and aliases as compilers write them, or x-numbers as in docs/")
+        sub.add_argument("--notation", choices=(CALLERS, MANUAL, KINDS), default=CALLERS,
+                         help="names of registers and aliases as compilers write them, x-numbers as in docs/, or kinds alone")
         if name in WINDOWED:
             sub.add_argument("--from", dest="first", type=int, metavar="CYCLE", help="from this cycle on")
             sub.add_argument("--to", dest="last", type=int, metavar="CYCLE", help="up to this cycle")

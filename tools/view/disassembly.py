@@ -1,7 +1,7 @@
-"""Instructions as people write them: by capstone where it knows RISC-V, else by binutils' objdump.
+"""Instructions as people write them: by binutils' objdump, else by capstone where that knows RISC-V.
 
-Debian 12's capstone (4.0) doesn't know RISC-V; later ones do. Where neither is there, an instruction is told by its kind and
-its registers.
+Debian 12's capstone (4.0) doesn't know RISC-V; later ones do, and tell where a branch goes as a distance and not as an address.
+Where neither is there, an instruction is told by its kind and its registers.
 """
 import re
 import shutil
@@ -14,35 +14,36 @@ except ModuleNotFoundError:
     capstone = None
 
 OBJDUMPS = ("riscv64-unknown-elf-objdump", "riscv32-unknown-elf-objdump", "riscv64-linux-gnu-objdump")
-CALLERS, MANUAL = "abi", "manual"
+CALLERS, MANUAL, KINDS = "abi", "manual", "kinds"
 
 NAMES = ("zero ra sp gp tp t0 t1 t2 s0 s1 a0 a1 a2 a3 a4 a5 a6 a7 s2 s3 s4 s5 s6 s7 s8 s9 s10 s11 t3 t4 t5 t6").split()
 NUMBER_OF = {name: f"x{number}" for number, name in enumerate(NAMES)} | {"fp": "x8"}
 REGISTER = re.compile(r"\b(" + "|".join(NUMBER_OF) + r")\b")
 LINE = re.compile(r"\s*([0-9a-f]+):\s+[0-9a-f]{8}\s+(\S+)\s*([^<#]*)")
-CONTROL = re.compile(r"b|jal?$")
 
 
 class Disassembler:
     """The texts of an image's instructions.
 
     Notation `abi` has the names of registers and the aliases that compilers write (`li a7, 93`); `manual` has numbers of
-    registers and, where objdump is at hand, no aliases (`addi x17, x0, 93`).
+    registers and, with objdump, no aliases (`addi x17, x0, 93`); `kinds` asks no disassembler.
     """
 
     def __init__(self, image, notation=CALLERS):
         self.image, self.notation = image, notation
         self.objdump = next(filter(None, map(shutil.which, OBJDUMPS)), None)
-        self.engine = riscv_engine()
         self.by, self.texts = self.read_texts()
 
     def read_texts(self):
         """Who tells them, and the texts by address."""
-        if self.engine and not (self.notation == MANUAL and self.objdump):
-            return "capstone", self.by_capstone()
+        if self.notation == KINDS:
+            return KINDS, {}
         if self.objdump:
             return "objdump", self.by_objdump()
-        return "kinds", {}
+        engine = riscv_engine()
+        if engine:
+            return "capstone", self.by_capstone(engine)
+        return KINDS, {}
 
     def text(self, pc):
         """The instruction at an address."""
@@ -54,14 +55,6 @@ class Disassembler:
         """The address, the instruction, and the symbol if there is one: `00010018 lw x7, -2048(x6) <_start+0x18>`."""
         symbol = self.image.symbol(pc)
         return f"{pc:08x} {self.text(pc)}" + (f" <{symbol}>" if symbol else "")
-
-    def by_capstone(self):
-        found = {}
-        for start, data in self.image.pieces:
-            skip = -start % 4
-            for one in self.engine.disasm(data[skip:], start + skip):
-                found[one.address] = self.written(one.mnemonic, with_address(one))
-        return found
 
     def by_objdump(self):
         found = {}
@@ -79,6 +72,14 @@ class Disassembler:
                     found[int(line[1], 16)] = self.written(line[2], line[3])
         return found
 
+    def by_capstone(self, engine):
+        found = {}
+        for start, data in self.image.pieces:
+            skip = -start % 4
+            for one in engine.disasm(data[skip:], start + skip):
+                found[one.address] = self.written(one.mnemonic, one.op_str)
+        return found
+
     def written(self, mnemonic, operands):
         """One form for both: a blank behind each comma, and the registers as the notation has them."""
         operands = ", ".join(part.strip() for part in operands.split(","))
@@ -90,11 +91,11 @@ class Disassembler:
         """The kind, the register written and those read, where no disassembler tells more."""
         if pc not in self.image.words:
             return "(no code)"
-        if self.by != "kinds":
+        if self.by != KINDS:
             return f"(word {self.image.words[pc]:08x})"
         kind, sources, target = self.image.instruction(pc)
         registers = ([target] if target else []) + list(sources)
-        return f"{kind} " + ", ".join(f"x{number}" for number in registers)
+        return f"{kind} {', '.join(f'x{number}' for number in registers)}".strip()
 
 
 def riscv_engine():
@@ -104,11 +105,3 @@ def riscv_engine():
     engine = capstone.Cs(capstone.CS_ARCH_RISCV, capstone.CS_MODE_RISCV32)
     engine.skipdata = True
     return engine
-
-
-def with_address(one):
-    """Capstone's operands; where a branch or JAL goes stands as an address, as in objdump's text, and not as a distance."""
-    if not CONTROL.match(one.mnemonic):
-        return one.op_str
-    *registers, distance = one.op_str.split(",")
-    return ",".join([*registers, f"0x{one.address + int(distance, 0) & 0xFFFFFFFF:x}"])

@@ -11,7 +11,7 @@ sys.path.insert(0, os.path.join(ROOT, "tools"))
 
 from generate.generated import image
 from view.description import read_description
-from view.disassembly import MANUAL, Disassembler
+from view.disassembly import KINDS, Disassembler
 from view.image import Image
 from view.replay import Replay
 from view.trace import Trace
@@ -100,9 +100,9 @@ def bounds_check():
 
 
 def fresh(lines, image_file, description_file):
-    """A run that hasn't been taken through yet, and its disassembler."""
+    """A run that hasn't been taken through yet, and the texts of its instructions, which no disassembler changes."""
     loaded = Image(image_file)
-    return Replay(Trace(iter(lines)), loaded, read_description(description_file)), Disassembler(loaded, MANUAL)
+    return Replay(Trace(iter(lines)), loaded, read_description(description_file)), Disassembler(loaded, KINDS)
 
 
 def fresh_bounds_check():

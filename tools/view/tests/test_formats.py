@@ -39,8 +39,8 @@ class Statistics(unittest.TestCase):
 class Reasons(unittest.TestCase):
     def test_each_wait_has_its_line(self):
         text = lines(why, 1, None, False)
-        self.assertIn("       15..16  6 00010018 lw x7, -2048(x6) <_start+0x18>: taint of 3 0001000c lbu x6, 8(x2) <_start+0xc>", text)
-        self.assertIn("        6..16  rename stops short of 00010020 ecall <_start+0x20>: call waits to be alone", text)
+        self.assertIn("       15..16  6 00010018 load x7, x6 <_start+0x18>: taint of 3 0001000c load x6, x2 <_start+0xc>", text)
+        self.assertIn("        6..16  rename stops short of 00010020 call <_start+0x20>: call waits to be alone", text)
         self.assertEqual(text[-1], "unexplained: 0")
 
     def test_a_span_of_cycles(self):
@@ -57,7 +57,7 @@ class List(unittest.TestCase):
         text = lines(listing, 1, None)
         self.assertEqual(len(text), 1 + 13)
         self.assertEqual(text[3].split()[:8], ["2", "2", "3", "16", "16", "17", "17", "17"])
-        self.assertTrue(text[3].endswith("bgeu x0, x5, 0x1001c <_start+0x8>; taken, mispredicted"), text[3])
+        self.assertTrue(text[3].endswith("branch x0, x5 <_start+0x8>; taken, mispredicted"), text[3])
         self.assertTrue(text[7].endswith("<_start+0x18>; held by taint 15..16 of load 3; squashed 17"), text[7])
 
     def test_a_span_of_cycles(self):

@@ -46,7 +46,7 @@ class Pictures(unittest.TestCase):
         return [element.text for element in self.root.iter(SVG + "text")]
 
     def test_both_panels_have_all_their_instructions(self):
-        for name in ("00010000 div x9, x2, x2 <_start>", "00010014 lw x7, -2048(x6) <_start+0x14>"):
+        for name in ("00010000 division x9, x2, x2 <_start>", "00010014 load x7, x6 <_start+0x14>"):
             self.assertEqual(self.texts().count(name), 2, name)
 
     def test_the_first_unequal_cycle_is_framed_in_both(self):
@@ -69,7 +69,7 @@ class Pictures(unittest.TestCase):
         root = ElementTree.fromstring(drawing.picture([drawing.Panel("a", run, disassembler, 1, 21, None)]))
         struck = [element.text for element in root.iter(SVG + "text") if element.get("class") == "struck"]
         self.assertEqual(len(struck), 7)
-        self.assertIn("00010018 lw x7, -2048(x6) <_start+0x18>", struck)
+        self.assertIn("00010018 load x7, x6 <_start+0x18>", struck)
 
     def test_a_page_stands_alone(self):
         text = page.page(panels())
@@ -86,7 +86,7 @@ class Differences(unittest.TestCase):
     def test_the_last_load_issues_under_spectre_alone(self):
         self.assertEqual(self.lines(fault_shadow()), [
             "first unequal cycle: 16",
-            "  only A: ld:5:0001f900:m         5 00010014 lw x7, -2048(x6) <_start+0x14>"])
+            "  only A: ld:5:0001f900:m         5 00010014 load x7, x6 <_start+0x14>"])
 
     def test_equal_traces(self):
         self.assertEqual(self.lines([support.fresh_bounds_check(), support.fresh_bounds_check()]), ["equal: 21 cycles"])
