@@ -1,4 +1,5 @@
 """The victims of examples/c: the verdict of each is that of the table of examples/c/README.md, compiler by compiler."""
+import functools
 import glob
 import os
 import re
@@ -12,6 +13,7 @@ from material import EXAMPLES, PROGRAM, needs_program
 
 FOLDER = os.path.join(EXAMPLES, "c")
 COMPILERS = {"gcc": ("riscv64-unknown-elf-gcc",), "clang": ("clang", "ld.lld")}
+BUILT = []
 MODELS = {"spectre": "medium.toml", "futuristic": "medium_futuristic.toml"}
 
 
@@ -26,18 +28,20 @@ def missing(compiler):
     return f"no {names[0]}: the victims aren't built with {compiler}" if names else None
 
 
+@functools.cache
+def built(compiler):
+    """The folder with the victims that this compiler builds; it stays till the tests end."""
+    BUILT.append(tempfile.TemporaryDirectory())
+    subprocess.run(["make", "-C", FOLDER, compiler, f"BUILD={BUILT[-1].name}"], check=True, capture_output=True)
+    return os.path.join(BUILT[-1].name, compiler)
+
+
 @needs_program
 class Victims(unittest.TestCase):
-    def built(self, compiler):
+    def verdicts(self, compiler):
         if missing(compiler):
             self.skipTest(missing(compiler))
-        folder = tempfile.TemporaryDirectory()
-        self.addCleanup(folder.cleanup)
-        subprocess.run(["make", "-C", FOLDER, compiler, f"BUILD={folder.name}"], check=True, capture_output=True)
-        return os.path.join(folder.name, compiler)
-
-    def verdicts(self, compiler):
-        folder = self.built(compiler)
+        folder = built(compiler)
         cases = [(name, word) for name, by, word in table() if by == compiler]
         self.assertEqual(len(cases), 8)
         for name, word in cases:
@@ -59,7 +63,7 @@ class Victims(unittest.TestCase):
         description = os.path.join(EXAMPLES, "medium.toml")
         for compiler in COMPILERS:
             if missing(compiler) is None:
-                paths = glob.glob(os.path.join(self.built(compiler), "*.elf"))
+                paths = glob.glob(os.path.join(built(compiler), "*.elf"))
                 self.assertEqual(len(paths), 17)
                 for path in paths:
                     self.assertEqual(*(run(path, 100000, description) for run in (material.own_report, material.isa_report)), path)
@@ -67,7 +71,7 @@ class Victims(unittest.TestCase):
     def test_output(self):
         for compiler in COMPILERS:
             if missing(compiler) is None:
-                path = os.path.join(self.built(compiler), "hello.elf")
+                path = os.path.join(built(compiler), "hello.elf")
                 told = subprocess.run([PROGRAM, "isa", path, "--steps", "100000"], capture_output=True, text=True, check=False).stdout
                 self.assertTrue(told.startswith("out 68656c6c6f0a\n"), told[:40])
                 self.assertRegex(told, r"\nend exit 7 retired \d+\n$")
