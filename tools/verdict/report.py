@@ -102,7 +102,7 @@ def code(case):
 def path(case, texts):
     walked, shown = case.premises.path, case.premises.shown
     ended = "goes on" if walked.end is None else "ends by " + " ".join(str(part) for part in walked.end[:2])
-    differ = "none of them differs" if not shown else f"{plural(len(shown), 'byte')} of them differ{'s' if len(shown) == 1 else ''}:"
+    differ = "none of them differs" if not shown else f"{len(shown)} of them differ{'s' if len(shown) == 1 else ''}:"
     yield row("path", f"{plural(walked.steps, 'step')}, {ended}; {plural(len(walked.loads), 'byte')} loaded, {differ}")
     by_load = {}
     for address, pc in shown.items():
