@@ -7,7 +7,7 @@ from view.replay import Replay
 from view.trace import Trace
 
 WIDTH = 14
-MOST_LINES = 8
+MOST_LINES = 6
 
 STATUS = {"hidden": 0, "differs": 1, "vacuous": 3, "same": 4, "refuted": 5}
 MEANING = {
@@ -102,7 +102,7 @@ def code(case):
 def path(case, texts):
     walked, shown = case.premises.path, case.premises.shown
     ended = "goes on" if walked.end is None else "ends by " + " ".join(str(part) for part in walked.end[:2])
-    differ = "none of them differs" if not shown else f"{plural(len(shown), 'byte')} of them differ{'s' if len(shown) == 1 else ''}:"
+    differ = "none of them differs" if not shown else f"{len(shown)} of them differ{'s' if len(shown) == 1 else ''}:"
     yield row("path", f"{plural(walked.steps, 'step')}, {ended}; {plural(len(walked.loads), 'byte')} loaded, {differ}")
     by_load = {}
     for address, pc in shown.items():
@@ -118,9 +118,13 @@ def traces(case, texts):
         return
     both = [Trace(case.pair.one), Trace(case.pair.two)]
     replays = [Replay(trace, image, case.machine) for trace, image in zip(both, (case.one, case.two))]
-    first, *others = difference.lines_of(difference.Difference(both, replays), texts)
+    first, *others = (line.strip() for line in difference.lines_of(difference.Difference(both, replays), texts))
     yield row("traces", first)
-    yield from (row("", other.strip()) for other in others[:2 * MOST_LINES])
+    for side in "AB":
+        only = [other for other in others if other.startswith((f"only {side}", side))]
+        yield from (row("", other) for other in only[:MOST_LINES])
+        if len(only) > MOST_LINES:
+            yield row("", f"only {side}: and {plural(len(only) - MOST_LINES, 'more event')}")
 
 
 def transmitters(telling, texts):

@@ -11,10 +11,19 @@ from view.instruction import BRANCH, CALL, DIVISION, JALR, LOAD, STORE
 from view.reasons import TAINT, TAINTED_OUTCOME
 from view.replay import Replay
 
+from .hart import EXITS, WRITE
 from .values import Valued
 
 SHOWS = {LOAD: "access", DIVISION: "time", BRANCH: "direction", JALR: "target", STORE: "line", CALL: "registers"}
 BEFORE_A_LOAD = "address before a load"
+
+
+A0, A1, A2, A7 = 10, 11, 12, 17
+
+
+def arguments(number):
+    """The registers that a system call of this number looks at."""
+    return [A7, A0] if number in EXITS else [A7, A0, A1, A2] if number == WRITE else [A7]
 
 
 class Held:
@@ -69,7 +78,8 @@ class Telling(Replay):
         for words in events:
             item = self.pipeline.entry(words) if words[0] == "ret" else item
             if words[0] == "ret" and item.code.kind == CALL:
-                self.shows(item, any(self.pipeline.marked_registers[register] for register in (10, 11, 12, 17)))
+                registers = arguments(self.pipeline.registers[A7])
+                self.shows(item, any(self.pipeline.marked_registers[register] for register in registers))
             elif words[0] == "ret" and item.code.kind == STORE:
                 self.shows(item, self.marked(item)[0])
         super().retire(events, ends)

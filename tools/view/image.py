@@ -39,10 +39,15 @@ class Image:
         return self.known[address]
 
     def find_symbol(self, address):
+        """The nearest symbol whose bytes have the address, else the nearest one before it that has no size, in its segment."""
+        nearest = ""
         for start, size, name in reversed(self.symbols[:bisect.bisect_right(self.addresses, address)]):
-            if address < start + size or size == 0 and self.one_segment(start, address):
-                return name if address == start else f"{name}+0x{address - start:x}"
-        return ""
+            told = name if address == start else f"{name}+0x{address - start:x}"
+            if address < start + size:
+                return told
+            if size == 0 and not nearest and self.one_segment(start, address):
+                nearest = told
+        return nearest
 
     def one_segment(self, first, second):
         return any(low <= first < high and low <= second < high for low, high in self.ranges)

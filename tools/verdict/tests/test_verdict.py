@@ -58,7 +58,7 @@ class Words(unittest.TestCase):
         self.assertIn("path          5 steps, ends by exit 0; 4 bytes loaded, none of them differs", told)
         self.assertIn("premises      met", told)
         self.assertIn("traces        equal in 21 cycles", told)
-        self.assertRegex("\n".join(told), r"held          00010018 lw .*: its access, 1 time, 2 cycles, then dropped\n")
+        self.assertRegex("\n".join(told), r"held          00010018 (lw|load) .*: its access, 1 time, 2 cycles, then dropped\n")
 
 
 @needs_program
@@ -122,7 +122,7 @@ class PathCommand(unittest.TestCase):
     def test_log(self):
         told = command("path", "log", os.path.join(EXAMPLES, "bounds_check.elf"), "--desc", CORE).stdout.splitlines()
         self.assertEqual(len(told), 6)
-        self.assertRegex(told[0], r"^00010000 \(00012283\) x5  00000000 load  0001fff0 4  lw .* _start$")
+        self.assertRegex(told[0], r"^00010000 \(00012283\) x5  00000000 load  0001fff0 4  (lw|load) .* _start$")
         self.assertRegex(told[3], r"^0001001c \(05d00893\) x17 0000005d ")
         self.assertEqual(told[5], "end exit 0 retired 5")
 

@@ -1,4 +1,5 @@
 """The victims of examples/c: the verdict of each is that of the table of examples/c/README.md, compiler by compiler."""
+import functools
 import glob
 import os
 import re
@@ -8,11 +9,12 @@ import tempfile
 import unittest
 
 import material
-from material import EXAMPLES, PROGRAM, needs_program
+from material import EXAMPLES, needs_program
 
 FOLDER = os.path.join(EXAMPLES, "c")
 COMPILERS = {"gcc": ("riscv64-unknown-elf-gcc",), "clang": ("clang", "ld.lld")}
-MODELS = {"spectre": "medium.toml", "futuristic": "medium_futuristic.toml"}
+BUILT = []
+DESCRIPTIONS = ("medium.toml", "medium_futuristic.toml")
 
 
 def table():
@@ -26,51 +28,50 @@ def missing(compiler):
     return f"no {names[0]}: the victims aren't built with {compiler}" if names else None
 
 
+@functools.cache
+def built(compiler):
+    """The folder with the victims that this compiler builds; it stays till the tests end."""
+    BUILT.append(tempfile.TemporaryDirectory())
+    subprocess.run(["make", "-C", FOLDER, compiler, f"BUILD={BUILT[-1].name}"], check=True, capture_output=True)
+    return os.path.join(BUILT[-1].name, compiler)
+
+
 @needs_program
 class Victims(unittest.TestCase):
-    def built(self, compiler):
-        if missing(compiler):
-            self.skipTest(missing(compiler))
-        folder = tempfile.TemporaryDirectory()
-        self.addCleanup(folder.cleanup)
-        subprocess.run(["make", "-C", FOLDER, compiler, f"BUILD={folder.name}"], check=True, capture_output=True)
-        return os.path.join(folder.name, compiler)
+    def each_compiler(self):
+        """The folder of each compiler's victims; one that isn't there is skipped with a word."""
+        for compiler in COMPILERS:
+            with self.subTest(compiler=compiler):
+                if missing(compiler):
+                    self.skipTest(missing(compiler))
+                yield compiler, built(compiler)
 
-    def verdicts(self, compiler):
-        folder = self.built(compiler)
-        cases = [(name, word) for name, by, word in table() if by == compiler]
-        self.assertEqual(len(cases), 8)
-        for name, word in cases:
-            for model, description in MODELS.items():
-                with self.subTest(victim=name, compiler=compiler, model=model):
-                    images = [os.path.join(folder, f"{name}_{secret}.elf") for secret in "ab"]
-                    told = material.command("verdict", os.path.join(EXAMPLES, description), *images)
-                    self.assertEqual(told.stderr, "")
-                    self.assertIn(f"\nverdict       {word}: ", told.stdout)
-
-    def test_gcc(self):
-        self.verdicts("gcc")
-
-    def test_clang(self):
-        self.verdicts("clang")
+    def test_verdicts(self):
+        for compiler, folder in self.each_compiler():
+            cases = [(name, word) for name, by, word in table() if by == compiler]
+            self.assertEqual(len(cases), 8)
+            for name, word in cases:
+                images = [os.path.join(folder, f"{name}_{secret}.elf") for secret in "ab"]
+                for description in DESCRIPTIONS:
+                    with self.subTest(victim=name, description=description):
+                        told = material.command("verdict", os.path.join(EXAMPLES, description), *images)
+                        self.assertEqual(told.stderr, "")
+                        self.assertIn(f"\nverdict       {word}: ", told.stdout)
 
     def test_runs(self):
         """Each victim's run on the instruction set is the simulator's."""
-        description = os.path.join(EXAMPLES, "medium.toml")
-        for compiler in COMPILERS:
-            if missing(compiler) is None:
-                paths = glob.glob(os.path.join(self.built(compiler), "*.elf"))
-                self.assertEqual(len(paths), 17)
-                for path in paths:
-                    self.assertEqual(*(run(path, 100000, description) for run in (material.own_report, material.isa_report)), path)
+        for _, folder in self.each_compiler():
+            paths = glob.glob(os.path.join(folder, "*.elf"))
+            self.assertEqual(len(paths), 17)
+            for path in paths:
+                words = path, 100000, os.path.join(EXAMPLES, DESCRIPTIONS[0])
+                self.assertEqual(material.own_report(*words), material.isa_report(*words), path)
 
     def test_output(self):
-        for compiler in COMPILERS:
-            if missing(compiler) is None:
-                path = os.path.join(self.built(compiler), "hello.elf")
-                told = subprocess.run([PROGRAM, "isa", path, "--steps", "100000"], capture_output=True, text=True, check=False).stdout
-                self.assertTrue(told.startswith("out 68656c6c6f0a\n"), told[:40])
-                self.assertRegex(told, r"\nend exit 7 retired \d+\n$")
+        for _, folder in self.each_compiler():
+            told = material.isa_report(os.path.join(folder, "hello.elf"), 100000)
+            self.assertTrue(told.startswith("out 68656c6c6f0a\n"), told[:40])
+            self.assertRegex(told, r"\nend exit 7 retired \d+\n$")
 
 
 if __name__ == "__main__":

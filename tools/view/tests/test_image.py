@@ -39,6 +39,11 @@ class Code(unittest.TestCase):
         self.assertEqual(image.symbol(0x0FFFC), "")
         self.assertEqual(image.symbol(0x18000), "")
 
+    def test_a_symbol_with_a_size_comes_before_one_without(self):
+        image = Image(support.example("bounds_check.elf"))
+        image.symbols, image.addresses = [(0x10000, 0x18, "table"), (0x10008, 0, "label")], [0x10000, 0x10008]
+        self.assertEqual([image.symbol(0x10000 + at) for at in (4, 0xC, 0x18)], ["table+0x4", "table+0xc", "label+0x10"])
+
     def test_what_is_no_image_is_refused(self):
         for name, data in (("empty.elf", b""), ("text.elf", b"no image at all" * 10)):
             with self.assertRaises(Fault):
