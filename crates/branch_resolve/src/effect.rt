@@ -6,7 +6,6 @@ ghost use Rattle.branch_resolve.specs.Effect.{taught, told, resolution_of};
 use predictor::Predictor;
 use rv_types::Kind;
 use window_model::{Entry, Event, Row, Way};
-use window_walk::{is_faulty, next_of, value_of};
 
 /// How an entry's prediction turned out.
 #[derive(Clone, Copy, Debug, PartialEq, Eq)]
@@ -40,14 +39,14 @@ fn teach(entry: &Entry, predictor: &mut Predictor, row: &mut Row)
     ensures few { length row.new.events ≤ length row.old.events + 2 }
 {
     if entry.item.kind == Kind::Branch {
-        let taken = value_of(entry) == 1;
+        let taken = entry.value() == 1;
         row.push(Event::Res(entry.serial, way_of(taken)));
         row.push(predictor.learn_branch(entry.item.pc, taken));
         return;
     }
     row.push(Event::Res(entry.serial, Way::Jump));
-    if !is_faulty(entry) {
-        row.push(predictor.learn_target(entry.item.pc, next_of(entry)));
+    if !entry.is_faulty() {
+        row.push(predictor.learn_target(entry.item.pc, entry.next()));
     }
 }
 
@@ -62,10 +61,10 @@ fn way_of(taken: bool) -> Way
 fn resolution_of(entry: &Entry) -> Resolution
     ensures { result ≡ resolution_of entry.now }
 {
-    if is_faulty(entry) {
+    if entry.is_faulty() {
         return Resolution::Fault;
     }
-    let next = next_of(entry);
+    let next = entry.next();
     match entry.item.predicted {
         Some(predicted) if predicted == next => Resolution::Right,
         _ => Resolution::Wrong(next),

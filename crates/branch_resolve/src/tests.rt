@@ -39,6 +39,10 @@ impl Window for Two {
     fn at(&self, i: u32) -> Entry {
         if i == 0 { self.older } else { self.younger }
     }
+
+    fn lend(&self, i: u32) -> &Entry {
+        if i == 0 { &self.older } else { &self.younger }
+    }
 }
 
 // One at 0x10004 that is Done, predicted to go on at 0x10008.

@@ -110,14 +110,18 @@ impl Ram {
         None
     }
 
-    fn load_fault(&self, addr: u32, size: u32) -> Option<Cause>
+    /// The fault of a load of so many bytes, None exactly where there is none: cause 4 where the address is no multiple
+    /// of the size, else cause 5 where a byte is outside.
+    pub fn load_fault(&self, addr: u32, size: u32) -> Option<Cause>
         requires { 0 < size }
         ensures { result ≡ load_fault self.now addr size }
     {
         self.fault(addr, size, Cause::load_misaligned(), Cause::load_outside())
     }
 
-    fn store_fault(&self, addr: u32, size: u32) -> Option<Cause>
+    /// The fault of a store of so many bytes, None exactly where there is none: cause 6 where the address is no multiple
+    /// of the size, else cause 7 where a byte is outside.
+    pub fn store_fault(&self, addr: u32, size: u32) -> Option<Cause>
         requires { 0 < size }
         ensures { result ≡ store_fault self.now addr size }
     {

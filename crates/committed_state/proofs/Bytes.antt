@@ -11,9 +11,9 @@ use Rattle.rv_types.specs.declared.Kind.{Kind}
 use Rattle.rv_types.specs.declared.Kind.TheVariants.{Store}
 use Rattle.window_model.specs.declared.Entry.{Entry}
 use Rattle.window_model.specs.declared.Outcome.{Outcome}
-use Rattle.window_model.specs.Order.{is_store, is_faulty, fault_of}
+use Rattle.window_model.specs.Order.{is_store}
 use Rattle.window_model.specs.Retire.{addr_of, stored_of, width_of}
-use Rattle.window_model.specs.Access.{covers, byte_from, byte_of, load_bytes}
+use Rattle.window_model.specs.Access.{reaches, covers, byte_from, byte_of, load_bytes}
 use Rattle.committed_state.specs.Replay.{Bank, bank, replayed, replayed_as, Replayed, IsReplayed, ram_after, stored_unless}
 use Rattle.window_model.specs.Shape.{SameShape}
 use Rattle.window_model.proofs.Memory.{length_to_le, inside, read_before, read_within, read_after, same_shape, shape_then, store_keeps}
@@ -80,13 +80,13 @@ some_is None s e r h = absurd (cc)
 some_is (Some o) s e r h = ap Some r
 
 by_kind : (k : Kind) (s : Bank) (ram : Ram) (e : Entry) (b : ℕ) (o : Option Entry) → e.item.kind ≡ k → (is_store k ≡ true → is_some e.outcome ≡ true) → IsReplayed e.outcome s e → s.ram.base ≤ b →
-    byte_of ram b o ≡ Byte s.ram b → byte_of ram b (if is_store k && not (is_faulty e) && nat_le (addr_of e.outcome) b && nat_lt b (addr_of e.outcome + width_of e) then Some e else o) ≡ Byte (ram_after k s.ram e (replayed_as k s e)) b
+    byte_of ram b o ≡ Byte s.ram b → byte_of ram b (if is_store k && reaches b (width_of e) e.outcome then Some e else o) ≡ Byte (ram_after k s.ram e (replayed_as k s e)) b
 by_kind Store s ram e b o q st r le h =
     let done : e.outcome ≡ Some (replayed_as Store s e) = some_is e.outcome s e r (st refl) ∙ ap (λ k. Some (replayed_as k s e)) q in
     let F : Option Outcome → ℕ = λ c.
-    if not (is_some (fault_of c)) && nat_le (addr_of c) b && nat_lt b (addr_of c + width_of e) then slice_index (to_le (width_of e) (stored_of c)) (b - addr_of c) else byte_of ram b o in
+    if reaches b (width_of e) c then slice_index (to_le (width_of e) (stored_of c)) (b - addr_of c) else byte_of ram b o in
     let out = replayed_as Store s e in
-    pick (not (is_faulty e) && nat_le (addr_of e.outcome) b && nat_lt b (addr_of e.outcome + width_of e)) ram b e o
+    pick (reaches b (width_of e) e.outcome) ram b e o
     ∙ ap F done
     ∙ by_fault s.ram out.fault out.addr (width_of e) out.stored b (byte_of ram b o) refl le h
 by_kind _ s ram e b o q st r le h = h

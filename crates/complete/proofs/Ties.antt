@@ -62,18 +62,18 @@ split_at [] i e h = absurd (cc)
 split_at (x ∷ entries) zero e h = let q : x ≡ e = cc in ap (λ x. x ∷ entries) q
 split_at (x ∷ entries) (suc i) e h = ap (λ es. x ∷ es) (split_at entries i e h)
 
-by_kind : (q : Queues) (older younger : List Entry) (e : Entry) (b : Bool) → is_store e.item.kind ≡ b → Rise (older ++ e ∷ younger) → StandFor q (older ++ e ∷ younger) →
+by_kind : (q : Queues) (older younger : List Entry) (e : Entry) (b : Bool) → is_store e.item.kind ≡ b → is_waiting e.state ≡ false → Rise (older ++ e ∷ younger) → StandFor q (older ++ e ∷ younger) →
     StandFor (record q { stores = if b then map (known_at e.serial (known_of (width_for (width_of e)) e)) q.stores else q.stores }) (older ++ done e ∷ younger)
-by_kind q older younger e true k r s =
-    store_completes q older younger e (width_for (width_of e)) s k (size_is (op_of e.item.instr)) (others_older older e younger r) (others_younger older e younger r)
-by_kind q older younger e false k r s = other_completes q older younger e s k
+by_kind q older younger e true k u r s =
+    store_completes q older younger e (width_for (width_of e)) s k u (size_is (op_of e.item.instr)) (others_older older e younger r) (others_younger older e younger r)
+by_kind q older younger e false k u r s = other_completes q older younger e s k
 
-queues_done : (q : Queues) (entries : List Entry) (i : ℕ) (e : Entry) → slice_get entries i ≡ Some e → Rise entries → StandFor q entries →
+queues_done : (q : Queues) (entries : List Entry) (i : ℕ) (e : Entry) → slice_get entries i ≡ Some e → is_waiting e.state ≡ false → Rise entries → StandFor q entries →
     StandFor (record q { stores = known_with q.stores e }) (slice_set entries i (done e))
-queues_done q entries i e h r s =
+queues_done q entries i e h u r s =
     let whole = split_at entries i e h in
     subst (StandFor (record q { stores = known_with q.stores e })) (sym (set_split entries i (done e) (slice_get_within entries i e h)))
-    (by_kind q (take i entries) (drop (suc i) entries) e (is_store e.item.kind) refl (subst Rise whole r) (subst (StandFor q) whole s))
+    (by_kind q (take i entries) (drop (suc i) entries) e (is_store e.item.kind) refl u (subst Rise whole r) (subst (StandFor q) whole s))
 
 -- ---- the roots of the stores' addresses
 
@@ -103,7 +103,7 @@ ties_more cycle entries held q now held_now q_now i e true t h c =
     record {
       stand = λ p s. standing.completes_at (record p { window = now; held = held_now }) i e (t.stand p s) h (not_waiting cycle e.state c);
       goes_on = goes_on_then entries now (slice_set now i (done e)) t.goes_on on;
-      queues = λ r s. queues_done q_now now i e h (rise_on entries now t.goes_on r) (t.queues r s);
+      queues = λ r s. queues_done q_now now i e h (not_waiting cycle e.state c) (rise_on entries now t.goes_on r) (t.queues r s);
       addresses = λ roots s.
           addresses_go_on (as_parts now roots) (known_with q_now.stores e) (slice_set now i (done e))
           (addresses_known q_now now roots e (is_store e.item.kind) (t.addresses roots s)) on;

@@ -22,7 +22,6 @@ use rob_ring::RobRing;
 use rv_types::Width;
 use stations::Stations;
 use window_model::{Entry, Event, Row, State};
-use window_walk::{addr_of, fault_of, is_store, op_of, stored_of};
 
 /// Phase Complete of this cycle: each entry that is Busy until then becomes Done, oldest first, with its event. What it
 /// leaves is what the definition leaves of every machine with this window in this cycle.
@@ -113,13 +112,13 @@ fn done(entry: &Entry) -> Entry
 fn note_store(entry: &Entry, lsq: &mut Lsq)
     ensures { lsq.new ≡ record lsq.old { stores = known_with lsq.old.stores entry.now } }
 {
-    if is_store(entry) {
+    if entry.is_store() {
         lsq.store_known(
             entry.serial,
-            addr_of(entry),
+            entry.addr(),
             width_of(entry),
-            stored_of(entry),
-            fault_of(entry),
+            entry.stored(),
+            entry.fault(),
         );
     }
 }
@@ -129,5 +128,5 @@ fn note_store(entry: &Entry, lsq: &mut Lsq)
 fn width_of(entry: &Entry) -> Width
     ensures { result ≡ width_for (width_of entry.now) }
 {
-    rv_types::width_of(op_of(&entry.item.instr))
+    rv_types::width_of(entry.op())
 }

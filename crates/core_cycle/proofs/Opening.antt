@@ -38,7 +38,7 @@ opened d entry ram = record {
   roots = buffer [] d.core_rob;
   writers = buffer [] d.core_rob;
   writes = [];
-  names_room = d.core_rob;
+  table_room = d.core_rob;
   stations = record { held = []; room = d.core_stations };
   queues = queues.empty d;
   tags = record { desc = d; sets = replicate d.cache_sets [] };
@@ -64,7 +64,7 @@ pub opens_whole : (d : Desc) (entry : ℕ) (ram : Ram) (regs : List ℕ) (rob : 
     stations ≡ record { held = []; room = d.core_stations } → q ≡ queues.empty d → tags ≡ record { desc = d; sets = replicate d.cache_sets [] } → mshrs ≡ record { misses = []; room = d.cache_mshrs } →
     p ≡ ports.opening d → tables ≡ record { desc = d; counters = replicate d.predictor_counters 1; targets = replicate d.predictor_btb None } → front ≡ record { desc = d; queue = []; fetch_pc = Some entry } →
     point ≡ record { serial = 0; model = d.stt_model } →
-    Whole (record { desc = d; cycle = 0; regs = regs; pc = entry; ram = ram; rob = rob; roots = roots; writers = writers; writes = writes; names_room = room; stations = stations; queues = q; tags = tags; mshrs = mshrs; ports = p; tables = tables; front = front; point = point; retired = 0; next_serial = 0; end = None })
+    Whole (record { desc = d; cycle = 0; regs = regs; pc = entry; ram = ram; rob = rob; roots = roots; writers = writers; writes = writes; table_room = room; stations = stations; queues = q; tags = tags; mshrs = mshrs; ports = p; tables = tables; front = front; point = point; retired = 0; next_serial = 0; end = None })
 opens_whole d entry ram regs rob roots writers writes room stations q tags mshrs p tables front point e1 e2 e3 e4 e5 e6 e7 e8 e9 e10 e11 e12 e13 e14 =
-    let same : record { desc = d; cycle = 0; regs = regs; pc = entry; ram = ram; rob = rob; roots = roots; writers = writers; writes = writes; names_room = room; stations = stations; queues = q; tags = tags; mshrs = mshrs; ports = p; tables = tables; front = front; point = point; retired = 0; next_serial = 0; end = None } ≡ opened d entry ram = cc in
+    let same : record { desc = d; cycle = 0; regs = regs; pc = entry; ram = ram; rob = rob; roots = roots; writers = writers; writes = writes; table_room = room; stations = stations; queues = q; tags = tags; mshrs = mshrs; ports = p; tables = tables; front = front; point = point; retired = 0; next_serial = 0; end = None } ≡ opened d entry ram = cc in
     subst Whole (sym same) (opened_whole d entry ram)

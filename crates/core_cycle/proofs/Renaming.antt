@@ -20,7 +20,7 @@ use Rattle.core_cycle.proofs.Viewed.{by_phase}
 
 -- ---- what is asked of the parts
 
-pub has_rooms : (h : Held) → Whole h → renaming.HasRooms h.desc h.rob h.roots h.writers h.names_room h.stations h.queues
+pub has_rooms : (h : Held) → Whole h → renaming.HasRooms h.desc h.rob h.roots h.writers h.table_room h.stations h.queues
 has_rooms h w = record { entries = w.made.entries; pairs = w.made.pairs; writers = w.made.writers; writes = w.made.writes; places = w.made.places; loads = w.made.loads; stores = w.made.stores }
 
 -- ---- what it leaves
@@ -28,7 +28,7 @@ has_rooms h w = record { entries = w.made.entries; pairs = w.made.pairs; writers
 pub rename_whole : (h : Held) (rob : Ring) (roots writers : Buffer (List (Option ℕ))) (writes : List Write) (room : ℕ) (stations : Stations) (q : Queues) (front : Front) (next : ℕ) → Whole h →
     ((x : Machine) → renaming.with_parts rob front next x ≡ (renaming.renames h.desc h.rob h.front h.next_serial x).machine) →
     Tied next rob.entries roots.items writers.items writes stations.held q h.point → renaming.HasRooms h.desc rob roots writers room stations q → front.desc ≡ h.front.desc →
-    Whole (record h { rob = rob; roots = roots; writers = writers; writes = writes; names_room = room; stations = stations; queues = q; front = front; next_serial = next })
+    Whole (record h { rob = rob; roots = roots; writers = writers; writes = writes; table_room = room; stations = stations; queues = q; front = front; next_serial = next })
 rename_whole h rob roots writers writes room stations q front next w f t r e = record {
   sized = subst (Sized h.desc) (sym (f (machine_of h))) (sized_rename h.desc (machine_of h) (every_desc h.desc) w.sized);
   tied = t;

@@ -16,11 +16,7 @@ use Rattle.lsq.specs.Queues.{Queues}
 use Rattle.unit_ports.specs.Ports.{Ports}
 use Rattle.predictor.specs.Tables.{Tables}
 use Rattle.fetch_unit.specs.Front.{Front}
-use Rattle.visibility.specs.Point.{HasAdvanced}
-use Rattle.parts_stand.proofs.Answering.{counts_room, picks_first}
-use Rattle.parts_stand.proofs.Writing.{counts_writers}
 use Rattle.resolve.specs.Parts as resolving
-use Rattle.resolve.specs.Parts.{IsPicked}
 use Rattle.resolve.specs.Dropped.{left, queues_below}
 use Rattle.core_cycle.specs.Described.{Described}
 use Rattle.core_cycle.specs.Held.{Held, Tied, Whole, described, machine_of}
@@ -28,16 +24,11 @@ use Rattle.core_cycle.proofs.Viewed.{by_phase}
 
 -- ---- what is asked of the parts
 
-pub picked : (h : Held) (v : Described) → Whole h → described h ≡ v → HasAdvanced v.point v.machine.window → IsPicked h.rob h.roots.items h.point h.tables
-picked h v w s a =
-    let here : HasAdvanced h.point h.rob.entries = subst (λ (v : Described). HasAdvanced v.point v.machine.window) (sym s) a in
-    picks_first h.tables.desc _ h.point w.tied.stand here (w.made.model ∙ ap (λ (d : Desc). d.stt_model) (sym w.made.tables))
+pub standing : (h : Held) → h.next_serial < 2 ^ 64 → Whole h → resolving.Standing h.rob h.roots h.writers h.writes h.stations
+standing h n w = record { next = h.next_serial; fits = n; parts = w.tied.stand; writers = w.tied.writers_stand }
 
-pub each_roots : (h : Held) → Whole h → length h.roots.items ≡ length h.rob.entries
-each_roots h w = (counts_room _ w.tied.stand).roots
-
-pub each_writers : (h : Held) → Whole h → length h.writers.items ≡ length h.rob.entries
-each_writers h w = counts_writers h.next_serial h.rob.entries h.writers.items w.tied.writers_stand
+pub same_model : (h : Held) → Whole h → h.point.model ≡ h.tables.desc.stt_model
+same_model h w = w.made.model ∙ ap (λ (d : Desc). d.stt_model) (sym w.made.tables)
 
 pub few_items : (h : Held) → Whole h → length h.rob.entries + length h.front.queue < 2 ^ 32
 few_items h w =
@@ -73,9 +64,9 @@ left_machine h rob ports tables front w f = f (machine_of h) ∙ ap (λ d. (reso
 pub resolve_whole : (h : Held) (rob : Ring) (roots writers : Buffer (List (Option ℕ))) (writes : List Write) (room : ℕ) (stations : Stations) (q : Queues) (ports : Ports) (tables : Tables) (front : Front) → Whole h →
     ((x : Machine) → resolving.with_parts rob front tables ports x ≡ (resolving.resolves h.rob h.front h.tables h.ports x).machine) →
     Tied h.next_serial rob.entries roots.items writers.items writes stations.held q h.point →
-    rob.room ≡ h.rob.room → roots.capacity ≡ h.roots.capacity → writers.capacity ≡ h.writers.capacity → room ≡ h.names_room → stations.room ≡ h.stations.room →
+    rob.room ≡ h.rob.room → roots.capacity ≡ h.roots.capacity → writers.capacity ≡ h.writers.capacity → room ≡ h.table_room → stations.room ≡ h.stations.room →
     q.max_loads ≡ h.queues.max_loads → q.max_stores ≡ h.queues.max_stores → ports.alus ≡ h.ports.alus → tables.desc ≡ h.tables.desc → front.desc ≡ h.front.desc →
-    Whole (record h { rob = rob; roots = roots; writers = writers; writes = writes; names_room = room; stations = stations; queues = q; ports = ports; tables = tables; front = front })
+    Whole (record h { rob = rob; roots = roots; writers = writers; writes = writes; table_room = room; stations = stations; queues = q; ports = ports; tables = tables; front = front })
 resolve_whole h rob roots writers writes room stations q ports tables front w f t e1 e2 e3 e4 e5 e6 e7 e8 e9 e10 = record {
   sized = subst (Sized h.desc) (sym (left_machine h rob ports tables front w f)) (sized_resolve h.desc (machine_of h) (every_desc h.desc) w.sized);
   tied = t;

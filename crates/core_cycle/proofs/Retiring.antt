@@ -65,14 +65,14 @@ stays old new pairs e =
     ap (λ n. drop n pairs) (take_length (length old - length new) old less ∙ ap (λ n. n - length new) (sym e))
 
 -- what Retire left of the parts
-pub record Left (h : Held) (rob : Ring) (roots writers : Buffer (List (Option ℕ))) (writes : List Write) (names_room : ℕ) (queues : Queues) (tags : Cache) (retired : ℕ) : Type 0 where
+pub record Left (h : Held) (rob : Ring) (roots writers : Buffer (List (Option ℕ))) (writes : List Write) (table_room : ℕ) (queues : Queues) (tags : Cache) (retired : ℕ) : Type 0 where
   pub entries : h.rob.entries ≡ gone h.rob rob ++ rob.entries
   pub may_retire : Each MayRetire (gone h.rob rob)
   pub same_room : rob.room ≡ h.rob.room
   pub pairs : roots ≡ buffer (keep_last (length rob.entries) h.roots.items) h.roots.capacity
   pub sources : writers ≡ buffer (keep_last (length rob.entries) h.writers.items) h.writers.capacity
   pub names : writes ≡ without_each (gone h.rob rob) h.writes
-  pub same_names_room : names_room ≡ h.names_room
+  pub same_table_room : table_room ≡ h.table_room
   pub lsq : queues ≡ popped (gone h.rob rob) h.queues
   pub cache : tags.desc ≡ h.tags.desc
   pub count : retired ≡ h.retired + (length h.rob.entries - length rob.entries)
@@ -105,7 +105,7 @@ pub retire_whole : (h : Held) (rob : Ring) (roots writers : Buffer (List (Option
     Whole h → h.end ≡ None →
     ((x : Machine) → retiring.counted (length h.rob.entries - length rob.entries) (retiring.with_parts rob tags ram regs pc end x) ≡ (retiring.retires h.desc h.rob h.tags h.ram h.regs h.pc x).machine) →
     Left h rob roots writers writes room queues tags retired →
-    Whole (record h { rob = rob; roots = roots; writers = writers; writes = writes; names_room = room; queues = queues; tags = tags; ram = ram; regs = regs; pc = pc; end = end; retired = retired })
+    Whole (record h { rob = rob; roots = roots; writers = writers; writes = writes; table_room = room; queues = queues; tags = tags; ram = ram; regs = regs; pc = pc; end = end; retired = retired })
 retire_whole h rob roots writers writes room queues tags ram regs pc end retired w n f l = record {
   sized = subst (Sized h.desc) (sym (left_machine h rob tags ram regs pc end retired n f l.count)) (sized_retire h.desc (machine_of h) (every_desc h.desc) w.sized);
   tied = left_tied h rob roots writers writes room queues tags retired w l;
@@ -113,7 +113,7 @@ retire_whole h rob roots writers writes room queues tags ram regs pc end retired
     entries = l.same_room ∙ w.made.entries;
     pairs = ap (λ (b : Buffer (List (Option ℕ))). b.capacity) l.pairs ∙ w.made.pairs;
     writers = ap (λ (b : Buffer (List (Option ℕ))). b.capacity) l.sources ∙ w.made.writers;
-    writes = l.same_names_room ∙ w.made.writes;
+    writes = l.same_table_room ∙ w.made.writes;
     places = w.made.places;
     loads = ap (λ (q : Queues). q.max_loads) l.lsq ∙ popped_loads (gone h.rob rob) h.queues ∙ w.made.loads;
     stores = ap (λ (q : Queues). q.max_stores) l.lsq ∙ popped_stores (gone h.rob rob) h.queues ∙ w.made.stores;

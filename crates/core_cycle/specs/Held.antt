@@ -38,7 +38,7 @@ pub record Held : Type 0 where
   pub writers : Buffer (List (Option ℕ))
   -- the rename table's writes, and for how many it has room
   pub writes : List Write
-  pub names_room : ℕ
+  pub table_room : ℕ
   pub stations : Stations
   pub queues : Queues
   pub tags : Cache
@@ -88,7 +88,7 @@ pub record MadeFor (d : Desc) (h : Held) : Type 0 where
   pub entries : h.rob.room ≡ d.core_rob
   pub pairs : h.roots.capacity ≡ d.core_rob
   pub writers : h.writers.capacity ≡ d.core_rob
-  pub writes : h.names_room ≡ d.core_rob
+  pub writes : h.table_room ≡ d.core_rob
   pub places : h.stations.room ≡ d.core_stations
   pub loads : h.queues.max_loads ≡ d.core_loads
   pub stores : h.queues.max_stores ≡ d.core_stores

@@ -1,16 +1,18 @@
 -- What the parts that a core lends tell of its machine (docs/machine.md, "The parts stand for the machine").
-use Rattle.std.specs.Prelude.{◌≡◌, ℕ, ◌<◌, ◌≤◌, nat_le, true, List, [], length, map, reverse, slice_get, Option, Some}
+use Rattle.std.specs.Prelude.{◌≡◌, ℕ, ◌<◌, ◌≤◌, nat_le, true, List, [], ◌∷◌, length, map, reverse, slice_get, Option, Some, if◌then◌else◌}
 use Rattle.std.specs.List.{All}
 use Rattle.std.specs.Option.{option_map}
 use Rattle.machine_desc.specs.declared.SttModel.{SttModel}
 use Rattle.window_model.specs.declared.Entry.{Entry}
-use Rattle.window_model.specs.Order.{before_at, is_waiting, ready, writer}
+use Rattle.window_model.specs.Order.{before_at, is_store, is_waiting, ready, writer}
 use Rattle.window_model.specs.Taint.{visible}
 use Rattle.rename_taint.specs.declared.Write.{Write}
-use Rattle.rename_taint.specs.Writes.{source_of}
+use Rattle.rename_taint.specs.Writes.{root_of, source_of}
 use Rattle.stations.specs.Stations.{Stations, awaits_none}
+use Rattle.lsq.specs.declared.store.Store.{Store}
 use Rattle.visibility.specs.Point.{Point}
-use Rattle.parts_stand.specs.Roots.{source_roots, unretired}
+use Rattle.parts_stand.specs.Addresses.{base_root}
+use Rattle.parts_stand.specs.Roots.{source_roots, unretired, youngest_root}
 use Rattle.parts_stand.specs.Parts.{oldest_of, waiter_in, waiters_from}
 use Rattle.parts_stand.specs.Steps.{station_of}
 use Rattle.parts_stand.specs.Telling.{source_by}
@@ -18,6 +20,20 @@ use Rattle.parts_stand.specs.Telling.{source_by}
 -- the table names the writer that each register has for an entry behind the window
 abbrev pub NamesWriters : List Write → List Entry → Type 0
 NamesWriters writes window = (r : ℕ) → source_of writes r ≡ source_by (writer (reverse window) r)
+
+-- and the youngest root that each has; for one without maybe one that has retired
+abbrev pub NamesRoots : ℕ → List Write → List Entry → Type 0
+NamesRoots next writes window = (r : ℕ) → unretired (oldest_of next window) (root_of writes r) ≡ youngest_root (reverse window) r
+
+-- the youngest roots of the addresses of a window's stores, where the older entries are `before`
+abbrev pub address_roots : List Entry → List Entry → List (Option ℕ)
+address_roots before [] = []
+address_roots before (e ∷ es) =
+    if is_store e.item.kind then base_root (source_roots before e) ∷ address_roots (e ∷ before) es else address_roots (e ∷ before) es
+
+-- the queue's stores have these roots; one without maybe one that has retired
+abbrev pub HasAddressRoots : ℕ → List Store → List Entry → Type 0
+HasAddressRoots next stores window = map (λ s. unretired (oldest_of next window) s.root) stores ≡ address_roots [] window
 
 -- the stations hold the entries that wait, and what their sources await
 abbrev pub HoldsWaiting : Stations → List Entry → Type 0

@@ -2,7 +2,8 @@
 ghost use Rattle.std.specs.Prelude.{◌≡◌, ◌<◌, length, IfOk};
 ghost use Rattle.queue_laws.specs.Window.{StandFor};
 ghost use Rattle.window_model.specs.State.{opening};
-ghost use Rattle.core_cycle.specs.Lent.{HasRoots, HoldsWaiting, NamesWriters, ShowsOlder, TellsReady, TellsVisible};
+ghost use Rattle.core_cycle.specs.Lent.{HasAddressRoots, HasRoots, HoldsWaiting, NamesRoots, NamesWriters};
+ghost use Rattle.core_cycle.specs.Lent.{ShowsOlder, TellsReady, TellsVisible};
 
 use crate::state::State;
 use byte_ram::Ram;
@@ -67,11 +68,13 @@ impl<R: RenameTaint> Core<R> {
         self.state.rob()
     }
 
-    /// The rename table: it names the writer that each register has for an entry behind the window.
+    /// The rename table: it names the writer and the youngest root that each register has for an entry behind the window. For
+    /// a register without a root in flight the root may be one that has retired.
     pub fn rename(&self) -> &R
-        ensures { NamesWriters (R.writes result.now) self.now.machine.window }
+        ensures writers { NamesWriters (R.writes result.now) self.now.machine.window }
+        ensures roots { NamesRoots self.now.machine.next_serial (R.writes result.now) self.now.machine.window }
     {
-        self.state.names()
+        self.state.table()
     }
 
     /// The stations: they hold the entries that wait, and tell which are ready.
@@ -82,9 +85,11 @@ impl<R: RenameTaint> Core<R> {
         self.state.stations()
     }
 
-    /// The queues: they hold the window's loads and stores by age.
+    /// The queues: they hold the window's loads and stores by age. Each store has the youngest root of its address; one without
+    /// a root in flight may have one that has retired.
     pub fn lsq(&self) -> &Lsq
-        ensures { StandFor result.now self.now.machine.window }
+        ensures queues { StandFor result.now self.now.machine.window }
+        ensures roots { HasAddressRoots self.now.machine.next_serial result.now.stores self.now.machine.window }
     {
         self.state.lsq()
     }
@@ -97,13 +102,14 @@ impl<R: RenameTaint> Core<R> {
         self.state.point()
     }
 
-    /// The serials of the youngest roots of the first and second source of the entry at a position, counted from the oldest.
-    /// For a source without a root in flight it may be one that has retired.
-    pub fn roots(&self, i: u32) -> [Option<u64>; 2]
+    /// The youngest roots of taint (YRoT in the papers on speculative taint tracking) of the entry at a position, counted from
+    /// the oldest: for its first and second source the serial of the youngest load from which the source's value flows. The
+    /// value is tainted until that load is visible. For a source without a root in flight it may be one that has retired.
+    pub fn yrot(&self, i: u32) -> [Option<u64>; 2]
         requires { i < length self.now.machine.window }
         ensures { HasRoots self.now.machine.next_serial self.now.machine.window i result }
     {
-        self.state.roots_at(i)
+        self.state.yrot_at(i)
     }
 }
 
@@ -123,9 +129,9 @@ impl<R: RenameTaint> Clocked for Core<R> {
         if self.state.cycle < self.still_until {
             return;
         }
-        self.state.front(row);
+        self.state.before_retire(row);
         self.state.retire(row, piece);
-        self.state.back(&self.code, row);
+        self.state.after_retire(&self.code, row);
         self.still_until = self.state.still_until(row);
     }
 

@@ -15,7 +15,7 @@ use window_model::Row;
 impl<R: RenameTaint> State<R> {
     /// The phases before Retire. The visibility point says which entries are visible as they begin, as Resolve asks for it, and
     /// once they are through.
-    pub(crate) fn front(&mut self, row: &mut Row)
+    pub(crate) fn before_retire(&mut self, row: &mut Row)
         requires advanced { HasAdvanced self.old.point self.old.machine.window }
         requires room { length row.old.events + 75 ≤ 128 }
         ensures desc { self.new.desc ≡ self.old.desc }
@@ -35,7 +35,7 @@ impl<R: RenameTaint> State<R> {
 
     /// The phases after Retire, unless the run has ended. The visibility point says which entries are visible as Issue asks for
     /// it, and once Rename has brought in others.
-    pub(crate) fn back(&mut self, code: &Code, row: &mut Row)
+    pub(crate) fn after_retire(&mut self, code: &Code, row: &mut Row)
         requires advanced { HasAdvanced self.old.point self.old.machine.window }
         requires serials { self.old.machine.next_serial + 4 < 2 ^ 64 }
         requires room { length row.old.events + 16 ≤ 128 }

@@ -1,7 +1,7 @@
 //! The parts that are lent: what each tells of the machine.
 ghost use Rattle.std.specs.Prelude.{◌≡◌, ◌<◌, length};
 ghost use Rattle.queue_laws.specs.Window.{StandFor};
-ghost use Rattle.core_cycle.specs.Lent.{HasRoots, HoldsWaiting, NamesWriters, TellsReady};
+ghost use Rattle.core_cycle.specs.Lent.{HasAddressRoots, HasRoots, HoldsWaiting, NamesRoots, NamesWriters, TellsReady};
 
 use crate::state::State;
 use lsq::Lsq;
@@ -18,11 +18,12 @@ impl<R: RenameTaint> State<R> {
         &self.rob
     }
 
-    /// The rename table: it names each register's writer.
-    pub(crate) fn names(&self) -> &R
-        ensures { NamesWriters (R.writes result.now) self.now.machine.window }
+    /// The rename table: it names each register's writer, and its youngest root.
+    pub(crate) fn table(&self) -> &R
+        ensures writers { NamesWriters (R.writes result.now) self.now.machine.window }
+        ensures roots { NamesRoots self.now.machine.next_serial (R.writes result.now) self.now.machine.window }
     {
-        &self.names
+        &self.table
     }
 
     /// The stations: they hold the entries that wait, and tell which are ready.
@@ -33,9 +34,10 @@ impl<R: RenameTaint> State<R> {
         &self.stations
     }
 
-    /// The queues: they hold the window's loads and stores by age.
+    /// The queues: they hold the window's loads and stores by age, the stores with the youngest roots of their addresses.
     pub(crate) fn lsq(&self) -> &Lsq
-        ensures { StandFor result.now self.now.machine.window }
+        ensures queues { StandFor result.now self.now.machine.window }
+        ensures roots { HasAddressRoots self.now.machine.next_serial result.now.stores self.now.machine.window }
     {
         &self.lsq
     }
@@ -48,8 +50,8 @@ impl<R: RenameTaint> State<R> {
         &self.point
     }
 
-    /// The pair at a position.
-    pub(crate) fn roots_at(&self, i: u32) -> [Option<u64>; 2]
+    /// The pair of youngest roots at a position.
+    pub(crate) fn yrot_at(&self, i: u32) -> [Option<u64>; 2]
         requires { i < length self.now.machine.window }
         ensures { HasRoots self.now.machine.next_serial self.now.machine.window i result }
     {

@@ -63,7 +63,7 @@ impl<R: RenameTaint> State<R> {
             &mut self.rob,
             &mut self.roots,
             &mut self.writers,
-            &mut self.names,
+            &mut self.table,
             &mut self.stations,
             &mut self.lsq,
             &mut self.ports,
@@ -90,7 +90,7 @@ impl<R: RenameTaint> State<R> {
         let before = self.rob.len();
         self.end = retire::retire(
             &mut self.rob,
-            &mut self.names,
+            &mut self.table,
             &mut self.lsq,
             &mut self.tags,
             &mut self.ram,
@@ -145,7 +145,7 @@ impl<R: RenameTaint> State<R> {
             &mut self.rob,
             &mut self.roots,
             &mut self.writers,
-            &mut self.names,
+            &mut self.table,
             &mut self.stations,
             &mut self.lsq,
             &mut self.front,

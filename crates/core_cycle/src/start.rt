@@ -45,7 +45,7 @@ impl<R: RenameTaint> State<R> {
         let mshrs = Mshrs::new(alloc, desc)?;
         let predictor = Predictor::new(alloc, desc)?;
         let front = Fetch::new(alloc, desc, entry)?;
-        let names = R::new(alloc, desc)?;
+        let table = R::new(alloc, desc)?;
         Ok(State {
             desc: *desc,
             cycle: 0,
@@ -55,7 +55,7 @@ impl<R: RenameTaint> State<R> {
             rob,
             roots,
             writers,
-            names,
+            table,
             stations,
             lsq,
             tags,

@@ -36,7 +36,7 @@ pub(crate) struct State<R: RenameTaint> {
     /// At each entry's position the serials of its sources' writers.
     pub(crate) writers: HeapCircularBuffer<[Option<u64>; 2]>,
     /// Who wrote each register last, and its youngest root.
-    pub(crate) names: R,
+    pub(crate) table: R,
     /// The entries that wait.
     pub(crate) stations: Stations,
     /// The loads and stores in flight.
@@ -78,8 +78,8 @@ impl<R: RenameTaint> Model for State<R> {
       rob = s.rob;
       roots = s.roots;
       writers = s.writers;
-      writes = R.writes s.names;
-      names_room = R.room s.names;
+      writes = R.writes s.table;
+      table_room = R.room s.table;
       stations = s.stations;
       queues = s.lsq;
       tags = s.tags;
@@ -102,8 +102,8 @@ impl<R: RenameTaint> Model for State<R> {
       rob = s.rob;
       roots = s.roots;
       writers = s.writers;
-      writes = R.writes s.names;
-      names_room = R.room s.names;
+      writes = R.writes s.table;
+      table_room = R.room s.table;
       stations = s.stations;
       queues = s.lsq;
       tags = s.tags;

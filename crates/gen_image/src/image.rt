@@ -11,9 +11,6 @@ use rv_decode::encode;
 use rv_types::{Instr, NoMemory, Op};
 use std::alloc::Global;
 
-/// The most blocks of a program.
-pub const BLOCKS_MAX: u32 = 4096;
-
 /// The address of the first instruction.
 const START: u32 = 0x0001_0000;
 
@@ -145,12 +142,12 @@ fn ending(blocks: u32) -> [Instr; 5]
     ]
 }
 
-/// The ELF file of a seed and a number of blocks: the same bytes for the same numbers (`docs/formats.md`, "Generated
+/// The ELF file of a seed and a number of blocks, 1 to 4096: the same bytes for the same numbers (`docs/formats.md`, "Generated
 /// images"). The one error is want of memory.
 #[tactic(auto, unfolding(crate::specs::Generated::generated_image))]
 pub fn generate(alloc: Global, seed: u64, blocks: u32) -> Result<Vec<u8>, NoMemory>
     requires some { 1 ≤ blocks }
-    requires few { blocks ≤ BLOCKS_MAX }
+    requires few { blocks ≤ 4096 }
     ensures { IfOk result (λ file. file.items ≡ generated_image seed blocks) }
 {
     let mut file = Vec::new(alloc);

@@ -8,7 +8,7 @@ mod blocks;
 mod draws;
 mod image;
 
-pub use image::{BLOCKS_MAX, generate};
+pub use image::generate;
 
 #[cfg(test)]
 mod tests;

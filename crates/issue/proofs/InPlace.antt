@@ -1,16 +1,15 @@
 -- Parts that stand for the window go on to do so as the entries that have begun come in their places, the youngest first.
-use Rattle.std.proofs.Common.{◌≡◌, ℕ, zero, suc, ◌<◌, true, false, List, [], ◌∷◌, ◌++◌, length, Option, Some, None, refl, ap, sym, ◌∙◌, subst, arith, slice_get}
-use Rattle.std.specs.Prelude.{if◌then◌else◌, map, slice_set}
+use Rattle.std.proofs.Common.{◌≡◌, ℕ, zero, suc, ◌<◌, true, false, List, [], ◌∷◌, ◌++◌, length, Option, Some, None, refl, ap, ap₂, sym, ◌∙◌, subst, arith, slice_get}
+use Rattle.std.specs.Prelude.{◌||◌, if◌then◌else◌, is_some, map, slice_set}
 use Rattle.std.specs.List.{All, AllPairs, AllZip, remove}
 use Rattle.std.specs.Option.{option_to_list}
 use Rattle.std.proofs.lemmas.List.Elements.{All-head, All-nil, All-cons, All-tail}
 use Rattle.std.proofs.lemmas.Option.{slice_get_within}
 use Rattle.window_model.specs.declared.Entry.{Entry}
 use Rattle.window_model.specs.declared.Outcome.{Outcome}
-use Rattle.window_model.specs.declared.State.{State}
-use Rattle.window_model.specs.declared.State.TheVariants.{Waiting, Busy, Done}
-use Rattle.window_model.specs.Order.{is_done, is_load, is_store, is_waiting}
+use Rattle.window_model.specs.Order.{is_load, is_store, is_waiting}
 use Rattle.window_model.specs.Issue.{begun}
+use Rattle.window_model.proofs.Booleans.{waiting_done}
 use Rattle.window_model.proofs.EntryByEntry.{zip_same}
 use Rattle.rob_ring.specs.Ring.{Ring}
 use Rattle.stations.specs.Stations.{Station, Stations}
@@ -45,19 +44,13 @@ pub record Ties (entries : List Entry) (held : List Station) (now : List Entry) 
 ties_start : (entries : List Entry) (held : List Station) → Ties entries held entries held
 ties_start entries held = record { stand = λ p s. s; goes_on = zip_same GoesOn goes_same entries; queues = λ q s. s; addresses = λ roots q s. s; point = λ point next s. s }
 
--- an entry that waits isn't Done
-waits_undone : (s : State) → is_waiting s ≡ true → is_done s ≡ false
-waits_undone Waiting h = refl
-waits_undone (Busy due) h = refl
-waits_undone Done h = absurd (cc)
-
 -- the queues don't see that it begins
-same_seen : (e : Entry) (due : ℕ) (o : Outcome) → is_done e.state ≡ false → seen (begun e due o) ≡ seen e
+same_seen : (e : Entry) (due : ℕ) (o : Outcome) → is_waiting e.state ≡ true → seen (begun e due o) ≡ seen e
 same_seen e due o h =
-    ap (λ b. record {
+    ap₂ (λ b w. record {
       load = if is_load e.item.kind then Some e.serial else None;
-      store = if is_store e.item.kind then Some (record { serial = e.serial; write = if b then Some (write_in e) else None }) else None;
-    }) (sym h)
+      store = if is_store e.item.kind then Some (record { serial = e.serial; write = if b then Some (write_in e) else None; computed = w || is_some e.outcome }) else None;
+    }) (sym (waiting_done e.state h)) (sym h)
 
 map_set : {X : Type 0} (f : Entry → X) (es : List Entry) (i : ℕ) (e e2 : Entry) → slice_get es i ≡ Some e → f e2 ≡ f e → map f (slice_set es i e2) ≡ map f es
 map_set f [] i e e2 h q = absurd (cc)
@@ -78,7 +71,7 @@ ties_more entries held now held_now put t k =
     let made : Ties entries held (slice_set now put.position b) (remove held_now (station_of put.position now)) = record {
       stand = λ p s. issues_at (record p { window = now; held = held_now }) put.position put.due e put.outcome (t.stand p s) k.here k.waits;
       goes_on = goes_on_then entries now (slice_set now put.position b) t.goes_on on;
-      queues = λ q s. unseen_stands q now (slice_set now put.position b) (t.queues q s) (map_set seen now put.position e b k.here (same_seen e put.due put.outcome (waits_undone e.state k.waits)));
+      queues = λ q s. unseen_stands q now (slice_set now put.position b) (t.queues q s) (map_set seen now put.position e b k.here (same_seen e put.due put.outcome k.waits));
       addresses = λ roots q s. addresses_go_on (as_parts now roots) q.stores (slice_set now put.position b) (t.addresses roots q s) on;
       point = λ point next s. point_issues point next now put.position put.due e put.outcome (t.point point next s) k.here k.waits;
     } in

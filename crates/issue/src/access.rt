@@ -1,12 +1,11 @@
 //! What a load finds (`docs/machine.md`, "Loads"): bytes of older stores, the cache, or a miss.
 ghost use Rattle.std.specs.Prelude.{◌≡◌, ◌<◌, ◌==◌, None, Some};
 ghost use Rattle.rv_types.specs.Memory.{load_fault, store_fault};
-ghost use Rattle.window_model.specs.State.{line_of};
 
 use crate::seen::Seen;
 use byte_ram::Ram;
-use machine_desc::Desc;
 use rv_types::Cause;
+use window_model::line_of;
 
 /// What the access of a load comes to.
 #[derive(Clone, Copy, Debug, PartialEq, Eq)]
@@ -51,13 +50,6 @@ pub(crate) fn store_fault(ram: &Ram, addr: u32, size: u32) -> Option<Cause>
         return None;
     }
     Some(Cause::store_outside())
-}
-
-// The first address of an address's line.
-fn line_of(desc: &Desc, addr: u32) -> u32
-    ensures { result ≡ line_of desc.now addr }
-{
-    addr / desc.cache_line * desc.cache_line
 }
 
 impl<'a> Seen<'a> {

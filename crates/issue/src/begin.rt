@@ -9,7 +9,6 @@ use rv_alu::{div_time, extend};
 use rv_effect::{Effect, effect};
 use rv_types::{Cause, Kind};
 use window_model::{Divider, Entry, Event, Look, Outcome};
-use window_walk::{op_of, width_of};
 
 /// How an entry begins.
 #[derive(Clone, Copy, Debug, PartialEq, Eq)]
@@ -138,7 +137,7 @@ impl<'a> Seen<'a> {
     {
         let loaded = self.load(position, entry, effect.addr);
         let access = self.find(loaded.forwarded, effect.addr);
-        let value = extend(op_of(&entry.item.instr), loaded.number);
+        let value = extend(entry.op(), loaded.number);
         BegunLoad {
             access,
             begun: self.load_as(access, entry, effect, value),
@@ -154,7 +153,7 @@ impl<'a> Seen<'a> {
         ensures begun { as_tried entry.now result.begun ≡ begin_as kind.Load self.now.desc.now (machine_of self.now) (before_at (window_of self.now) position) entry.now }
     {
         let made = self.effect(position, entry);
-        match load_fault(self.ram, made.addr, width_of(entry)) {
+        match load_fault(self.ram, made.addr, entry.width()) {
             None => self.begin_sound(position, entry, &made),
             Some(cause) => BegunLoad {
                 access: Access::Faults(cause),
@@ -172,7 +171,7 @@ impl<'a> Seen<'a> {
     {
         let made = self.effect(position, entry);
         let first = self.operands(position, entry).first;
-        let time = div_time(op_of(&entry.item.instr), first);
+        let time = div_time(entry.op(), first);
         let due = self.cycle as u64 + time as u64;
         let event = Event::Div(entry.serial, time);
         BegunDivision {
@@ -200,7 +199,7 @@ impl<'a> Seen<'a> {
     fn begin_store(&self, entry: &Entry, made: &Effect) -> Begun
         ensures { as_begun entry.now result ≡ begins entry.now (self.now.cycle + 1) (outcome (seen made.now) 0 (store_fault self.now.ram.now made.now.addr (width_of entry.now))) (event.Agu entry.now.serial) }
     {
-        let fault = store_fault(self.ram, made.addr, width_of(entry));
+        let fault = store_fault(self.ram, made.addr, entry.width());
         let due = self.cycle as u64 + 1;
         begins(due, outcome(made, 0, fault), Event::Agu(entry.serial))
     }

@@ -2,7 +2,7 @@
 use crate::seen::Seen;
 use rob_ring::pair_at;
 use rv_types::Kind;
-use transmit_gate::may_issue;
+use transmit_gate::may_transmit;
 use unit_ports::Ports;
 use window_model::Entry;
 
@@ -47,7 +47,7 @@ impl<'a> Seen<'a> {
         ensures { result ≡ may_issue self.now.desc.now free (before_at (window_of self.now) position) entry.now }
     {
         let roots = self.roots_at(position, entry);
-        if !may_issue(entry.item.kind, roots, self.point) {
+        if !may_transmit(entry.item.kind, roots, self.point) {
             return false;
         }
         self.has_besides(position, entry, free)

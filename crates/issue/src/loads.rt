@@ -2,7 +2,6 @@
 use crate::seen::Seen;
 use lsq::Merged;
 use window_model::Entry;
-use window_walk::op_of;
 
 /// What a load finds behind older stores.
 #[derive(Clone, Copy, Debug, PartialEq, Eq)]
@@ -41,7 +40,7 @@ impl<'a> Seen<'a> {
         ensures small { result.number < 2 ^ (8 * width_of entry.now) }
         ensures forwarded { result.forwarded ≡ (all_covered (before_at (window_of self.now) position) addr (width_of entry.now) && not (any_store_hidden self.now.desc.now.stt_model (before_at (window_of self.now) position))) }
     {
-        let width = rv_types::width_of(op_of(&entry.item.instr));
+        let width = rv_types::width_of(entry.op());
         let merged = self.lsq.merge(entry.serial, addr, width, self.ram);
         Loaded {
             number: merged.value,

@@ -13,14 +13,13 @@ use crate::seen::Seen;
 use rob_ring::{RobRing, pair_at};
 use rv_types::{REGISTERS, Reg, reads_of};
 use window_model::Entry;
-use window_walk::value_of;
 
 // The value of the entry, if it has this serial; else this one.
 fn value_if_serial(serial: u64, entry: &Entry, retired: u32) -> u32
     ensures { result ≡ from_writer (if_serial serial (Some entry.now)) retired }
 {
     if entry.serial == serial {
-        return value_of(entry);
+        return entry.value();
     }
     retired
 }

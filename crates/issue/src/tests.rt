@@ -20,7 +20,6 @@ use std::process::Abort;
 use std::test::Fail;
 use visibility::VisPoint;
 use window_model::{Entry, Event, Look, Row, State, empty_row};
-use window_walk::value_of;
 
 const BASE: u32 = 0x10000;
 
@@ -144,7 +143,7 @@ fn loads_find_their_lines(rt: HostRuntime) -> Result<(), Fail> {
         assert_eq!(rt; entry.state, state);
         if event == ld(Look::Miss) {
             assert_eq!(rt;
-                (value_of(&entry), shared.mshrs.find(LINE)),
+                (entry.value(), shared.mshrs.find(LINE)),
                 (0x1234, Some(30))
             );
         }
@@ -209,8 +208,8 @@ fn the_oldest_begin(rt: HostRuntime) -> Result<(), Fail> {
     // There is one multiplier.
     assert_eq!(rt; row.events(), [Event::Alu(3), Event::Mul(4)].as_slice());
     let (first, second, third) = (parts.rob.at(0), parts.rob.at(1), parts.rob.at(2));
-    assert_eq!(rt; (first.state, value_of(&first)), (State::Busy(21), 9));
-    assert_eq!(rt; (second.state, value_of(&second)), (State::Busy(23), 49));
+    assert_eq!(rt; (first.state, first.value()), (State::Busy(21), 9));
+    assert_eq!(rt; (second.state, second.value()), (State::Busy(23), 49));
     assert_eq!(rt; (third.state, parts.stations.len()), (State::Waiting, 1));
     Ok(())
 }

@@ -6,3 +6,4 @@ pub mod Fitting
 pub mod EveryDesc
 pub mod SameDesc
 pub mod SomeDesc
+pub mod Described

@@ -1,6 +1,6 @@
 -- A text without a fault describes something: its numbers are all that is asked of a description.
-use Rattle.std.proofs.Common.{◌≡◌, ◌≤◌, ◌<◌, ℕ, List, Option, Some, None, Result, Ok, Err, Bool, true, false, IsTrue, if◌then◌else◌, refl, sym, ◌∙◌, arith, map}
-use Rattle.std.specs.Prelude.{ℤ, pos, negsuc, int_le, nat_abs, nat_le, ◌&&◌}
+use Rattle.std.proofs.Common.{◌≡◌, ℕ, List, Option, Some, None, Result, Ok, Err, Bool, true, false, if◌then◌else◌, refl, ◌∙◌, map}
+use Rattle.std.specs.Prelude.{pos, negsuc, nat_le, ◌&&◌}
 use borrow.Author.Tests.{leb-true}
 use Rattle.std.specs.Str.{is_utf8}
 use Rattle.toml.specs.Data.{Data, integer, Members}
@@ -15,7 +15,7 @@ use Rattle.machine_desc.specs.declared.keys.Values.TheVariants.{Numbers, Models}
 use Rattle.machine_desc.specs.declared.fault.DescFault.{DescFault}
 use Rattle.machine_desc.specs.declared.fault.DescFault.TheVariants.{Syntax}
 use Rattle.machine_desc.specs.Table.{row, number_keys}
-use Rattle.machine_desc.specs.Description.{has_shape, value_at, number_in, number_or_zero, number_of, number, fault_of, value_fault, key_fault, document_fault, model, Contents, contents, contents_or, document_contents, text_contents, description_of}
+use Rattle.machine_desc.specs.Description.{has_shape, value_at, number_in, number_or_zero, number_of, number, fault_of, value_fault, key_fault, document_fault, model, Contents, contents, contents_or, text_contents, description_of}
 use Rattle.machine_desc.specs.Clean.{Fits, PassesAs, IsClean}
 use Rattle.machine_desc.proofs.Fitting.{fits_from_test}
 use Rattle.machine_desc.proofs.Faultless.{is_clean}

@@ -3,6 +3,7 @@ ghost use Rattle.std.specs.Prelude.{◌≡◌};
 ghost use Rattle.machine_desc.specs.Table.{subject_text};
 
 use crate::{Key, Name, Section};
+use std::fmt;
 use thiserror::Error;
 
 /// What has the wrong kind.
@@ -24,29 +25,35 @@ impl Subject {
     }
 }
 
-/// Why a text is no description. `docs/formats.md` has the order in which faults are looked for.
+impl fmt::Display for Subject {
+    fn fmt<W: fmt::Write>(&self, f: &mut fmt::Formatter<W>) -> fmt::Result {
+        self.text().fmt(f)
+    }
+}
+
+/// Why a text is no description: each is shown by its number, its key or name, and in words. `docs/formats.md` has the order in which faults are looked for.
 #[derive(Debug, Drop, Error)]
 pub enum DescFault {
     /// The bytes aren't UTF-8, or aren't a TOML document.
-    #[error("K1")]
+    #[error("K1: the bytes aren't UTF-8, or aren't a TOML document")]
     Syntax,
     /// There is no table, or no key of its table, of this name.
-    #[error("K2")]
+    #[error("K2: there is no table or key of the name {0}")]
     Unknown(Name),
     /// The key isn't there, or its table isn't.
-    #[error("K3")]
+    #[error("K3: {0} isn't there")]
     Missing(Key),
     /// The table is no table; the key's value isn't a whole number, or isn't a model's name.
-    #[error("K4")]
+    #[error("K4: {0} is of another kind")]
     Kind(Subject),
     /// The number is outside the key's range.
-    #[error("K5 {1}")]
+    #[error("K5: {0} is {1}, outside its range")]
     Range(Key, i64),
     /// The number isn't a power of two or a multiple of 16 where the key asks for one; a miss doesn't take longer than a
     /// hit; or RAM ends above 2^32.
-    #[error("K6")]
+    #[error("K6: {0} isn't of the shape or size that is asked for")]
     Shape(Key),
     /// There was no memory to read the text.
-    #[error("K7")]
+    #[error("K7: there was no memory to read the text")]
     NoMemory,
 }

@@ -6,6 +6,7 @@ ghost use Rattle.std.specs.Prelude.{◌≡◌, ◌≤◌, ◌++◌, length, code
 ghost use Rattle.machine_desc.specs.Table.{section_name, row, whole, key_text, some_key, some_section, stands_at};
 
 use crate::Name;
+use std::fmt;
 
 /// A table of a description.
 #[derive(Clone, Copy, Debug, PartialEq, Eq)]
@@ -185,6 +186,12 @@ impl Key {
     {
         let row = self.row();
         Name::in_section(row.section, row.name.as_bytes())
+    }
+}
+
+impl fmt::Display for Key {
+    fn fmt<W: fmt::Write>(&self, f: &mut fmt::Formatter<W>) -> fmt::Result {
+        self.text().fmt(f)
     }
 }
 

@@ -1,6 +1,8 @@
 //! Laws on descriptions, each on a function that does nothing.
 ghost use Rattle.std.specs.Prelude.{◌≡◌, ℕ, List, Ok};
 ghost use Rattle.machine_desc.specs.declared.Desc.{Desc};
+ghost use Rattle.machine_desc.specs.declared.example.TheConstants.{EXAMPLE};
+ghost use Rattle.machine_desc.specs.Example.{example};
 ghost use Rattle.machine_desc.specs.Ranges.{IsDesc};
 ghost use Rattle.machine_desc.specs.Description.{Contents, contents, description_of, Describes};
 
@@ -20,4 +22,10 @@ pub fn one_description()
 /// A text without a fault has a description.
 pub fn some_description()
     ensures { (bytes : List ℕ) (c : Contents) → description_of bytes ≡ Ok c → (d : Desc) × (contents d ≡ c) }
+{}
+
+/// The text of the example describes the example.
+#[tactic(auto, using(crate::proofs::Described::described))]
+pub fn example_described()
+    ensures { Describes EXAMPLE.now example }
 {}

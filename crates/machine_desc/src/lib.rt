@@ -9,6 +9,7 @@ ghost use Rattle.std.specs.Int.{IsPowerOfTwo};
 ghost use Rattle.machine_desc.specs.Power.{power_prop};
 
 mod document;
+mod example;
 mod fault;
 mod keys;
 mod laws;
@@ -16,9 +17,10 @@ mod name;
 mod progress;
 mod read;
 
+pub use example::EXAMPLE;
 pub use fault::{DescFault, Subject};
 pub use keys::{Key, Section};
-pub use laws::{every_desc, one_description, some_description};
+pub use laws::{every_desc, example_described, one_description, some_description};
 pub use name::{NAME_MAX, Name};
 pub use progress::bound;
 pub use read::read_desc;

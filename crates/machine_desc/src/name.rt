@@ -4,6 +4,7 @@ ghost use Rattle.machine_desc.specs.Table.{section_name};
 
 use crate::Section;
 use arrayvec::ArrayVec;
+use std::fmt;
 
 /// The most bytes of an unknown name that are kept, its table and the dot not counted.
 pub const KEPT: usize = 64;
@@ -70,5 +71,16 @@ impl Name {
         ensures few { length result.now ≤ 80 }
     {
         self.bytes.as_slice()
+    }
+}
+
+/// The name, with a question mark for each byte that is no printable character of ASCII.
+impl fmt::Display for Name {
+    fn fmt<W: fmt::Write>(&self, f: &mut fmt::Formatter<W>) -> fmt::Result {
+        for byte in self.as_slice() {
+            let shown = if 32 <= *byte && *byte < 127 { *byte } else { b'?' };
+            write!(f, "{}", shown as char)?;
+        }
+        Ok(())
     }
 }

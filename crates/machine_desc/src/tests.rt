@@ -1,43 +1,13 @@
 //! Descriptions that are accepted, and each fault.
-use crate::{Desc, DescFault, SttModel, bound, read_desc};
+use crate::{Desc, DescFault, EXAMPLE, SttModel, bound, read_desc};
 use std::alloc::Global;
 use std::process::Abort;
 use std::test::Fail;
 
-// The example of `docs/formats.md`, line by line.
-const EXAMPLE: [&str; 26] = [
-    "[core]",
-    "fetch_width = 2",
-    "retire_width = 2",
-    "rob = 16",
-    "stations = 8",
-    "loads = 4",
-    "stores = 4",
-    "queue = 8",
-    "[units]",
-    "alus = 2",
-    "mul_latency = 3",
-    "[predictor]",
-    "counters = 16",
-    "btb = 4",
-    "[cache]",
-    "sets = 2",
-    "ways = 2",
-    "line = 16",
-    "hit_latency = 2",
-    "miss_latency = 10",
-    "mshrs = 2",
-    "[ram]",
-    "base = 65536",
-    "size = 65536",
-    "[stt]",
-    "model = \"spectre\"",
-];
-
 // The example with two of its lines replaced.
 fn text(alloc: Global, first: (&str, &str), second: (&str, &str)) -> Result<String, Fail> {
     let mut text = String::new(alloc);
-    for line in EXAMPLE {
+    for line in EXAMPLE.lines() {
         if line == first.0 {
             text.push_str(first.1)?;
         } else if line == second.0 {

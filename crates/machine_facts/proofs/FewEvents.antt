@@ -11,6 +11,7 @@ use Rattle.window_model.specs.Retire.{retire, unless_ended}
 use Rattle.window_model.specs.Issue.{issue}
 use Rattle.window_model.specs.Front.{rename, fetch, then_does, nothing}
 use Rattle.window_model.specs.Cycle.{cycle, back, at}
+use Rattle.window_model.specs.Row.{most_events}
 use Rattle.window_model.proofs.Walks.{run_keep}
 use Rattle.machine_facts.specs.Sized.{Sized}
 use Rattle.machine_facts.specs.Timely.{Counted}
@@ -59,7 +60,7 @@ back_adds d code None x =
 
 -- ---- a cycle
 
-pub few_events : (d : Desc) (code : Code) (x : Machine) → IsDesc d → Sized d x → length (cycle d code x).row.events ≤ 99
+pub few_events : (d : Desc) (code : Code) (x : Machine) → IsDesc d → Sized d x → length (cycle d code x).row.events ≤ most_events
 unfolding cycle
 few_events d code x i s =
     let x1 : Machine = record x { cycle = x.cycle + 1 } in
@@ -72,7 +73,7 @@ few_events d code x i s =
     small (length ((f.events ++ r.events) ++ k.events)) (length x.misses) (length x.window) d.core_retire_width d.units_alus d.core_fetch_width all
     (omega (arith, s.misses, i.mshrs.1)) (omega (arith, s.entries, i.rob.1)) i.retire_width.1 i.alus.1 i.fetch_width.1
   where
-    small : (n m w r u f : ℕ) → n ≤ m + (w + 3) + 2 * r + (u + 4 + (f + f)) → m ≤ 8 → w ≤ 64 → r ≤ 4 → u ≤ 4 → f ≤ 4 → n ≤ 99
+    small : (n m w r u f : ℕ) → n ≤ m + (w + 3) + 2 * r + (u + 4 + (f + f)) → m ≤ 8 → w ≤ 64 → r ≤ 4 → u ≤ 4 → f ≤ 4 → n ≤ most_events
     small n m w r u f h a b c e g = omega arith
 
 pub cycle_number : (d : Desc) (code : Code) (x : Machine) → (cycle d code x).machine.cycle ≡ x.cycle + 1

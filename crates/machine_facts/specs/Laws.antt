@@ -7,6 +7,7 @@ use Rattle.window_model.specs.Shape.{SameShape}
 use Rattle.window_model.specs.State.{Machine}
 use Rattle.window_model.specs.Retire.{retire}
 use Rattle.window_model.specs.Cycle.{at, cycle}
+use Rattle.window_model.specs.Row.{most_events}
 use Rattle.machine_facts.specs.Sized.{Sized}
 use Rattle.machine_facts.specs.Timely.{Timely, Counted}
 
@@ -22,11 +23,7 @@ StatesAreTimely = (d : Desc) (code : Code) (entry : ℕ) (ram : Ram) (k : ℕ) �
 abbrev pub StatesAreCounted : Type 0
 StatesAreCounted = (d : Desc) (code : Code) (entry : ℕ) (ram : Ram) (k : ℕ) → IsDesc d → Counted (at d code entry ram k)
 
--- the most events that a cycle has (docs/machine.md, "Events")
-abbrev pub most_events : ℕ
-most_events = 99
-
--- a cycle has no more events
+-- no cycle has more events (docs/machine.md, "Events")
 abbrev pub RowsAreShort : Type 0
 RowsAreShort = (d : Desc) (code : Code) (x : Machine) → IsDesc d → Sized d x → length (cycle d code x).row.events ≤ most_events
 

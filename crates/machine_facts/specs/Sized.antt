@@ -14,21 +14,20 @@ use Rattle.window_model.specs.declared.Outcome.{Outcome}
 use Rattle.window_model.specs.State.{Machine}
 use Rattle.window_model.specs.Order.{is_waiting, is_load, is_store}
 use Rattle.window_model.specs.Retire.{width_of}
-use Rattle.window_model.specs.Front.{is_call}
+use Rattle.window_model.specs.Front.{CallAlone}
+pub use Rattle.window_model.specs.Front.{calls}
 
 -- an entry that waits for its issue
 abbrev pub awaits : Entry → Bool
 awaits e = is_waiting e.state
 
--- a load, a store, a call
+-- a load
 abbrev pub loads : Entry → Bool
 loads e = is_load e.item.kind
 
+-- a store
 abbrev pub stores : Entry → Bool
 stores e = is_store e.item.kind
-
-abbrev pub calls : Entry → Bool
-calls e = is_call e.item.kind
 
 -- the kind is the instruction's, or a stop
 abbrev pub FitsKind : Kind → Item → Type 0
@@ -58,7 +57,7 @@ pub record Sized (d : Desc) (x : Machine) : Type 0 where
   pub stores_fit : count_by stores x.window ≤ d.core_stores
   pub waiting_fit : count_by awaits x.window ≤ d.core_stations
   -- a call stands alone
-  pub call_alone : 1 ≤ count_by calls x.window → length x.window ≤ 1
+  pub call_alone : CallAlone x.window
   pub queue : length x.queue ≤ d.core_queue
   pub counters : length x.counters ≡ d.predictor_counters
   pub targets : length x.targets ≡ d.predictor_btb

@@ -70,6 +70,7 @@ module _ (model : SttModel) (code : Code) (x x2 : Machine) (n : length x.regs �
       let of_x2 = effect_of code x2 n2 b2 e2 w2.stands.1 st2 in (
         record {
           but_outcome = h;
+          issued = a.0.issued;
           outcomes = entry_same e.item.kind model (at_x b) (at_x2 b2) b e e2 refl (sym (same_kind e e2 h)) h (same_place b b2) a.0.issued st.replayed st2.replayed a.0.reads
               (λ l i. load_untainted code model b e st.item l (w.guarded.0.load i l))
               (λ i i2 t. sym (of_x i) ∙ effects_alike model x x2 regs b b2 same e e2 h t ∙ of_x2 i2)

@@ -1,10 +1,9 @@
 -- The law at work: no secret byte shows in the trace of a program whose path doesn't load it.
-use Rattle.std.proofs.Common.{◌≡◌, ℕ, suc, ◌+◌, ◌<◌, ◌-◌, ◌%◌, ◌^◌, Bool, true, ◌&&◌, List, [], ◌∷◌, Option, Some, None, refl, ap, sym, ◌∙◌, subst, arith, lit<, false}
+use Rattle.std.proofs.Common.{◌≡◌, ℕ, suc, ◌+◌, ◌<◌, ◌-◌, ◌%◌, ◌^◌, Bool, true, ◌&&◌, List, [], ◌∷◌, Option, Some, None, refl, ap, ap₂, sym, ◌∙◌, subst, arith, lit<, false}
 use Rattle.std.specs.Prelude.{◌==◌, if◌then◌else◌, replicate, nat_le, slice_index}
 use Rattle.std.specs.List.{list_any, AllByRecursion as Each}
 use Rattle.std.proofs.lemmas.List.Elements.{All-from_recursion, recursion_from_All, All-append, All-replicate}
 use Rattle.std.proofs.lemmas.Bool.Decides.{nat_tests}
-use Rattle.std.specs.Int.Count.{count_leading_zeros}
 use Rattle.rv_types.specs.Decode.{decode}
 use Rattle.rv_types.specs.Memory.{Agree}
 use Rattle.rv_types.specs.Isa.{Hart, isa_step, start}
@@ -12,15 +11,10 @@ use Rattle.rv_types.specs.Path.{pass_step, reads}
 use Rattle.machine_desc.specs.declared.Desc.{Desc}
 use Rattle.machine_desc.specs.declared.SttModel.{SttModel}
 use Rattle.machine_desc.specs.declared.SttModel.TheVariants.{Spectre, Futuristic}
-use Rattle.machine_desc.specs.Example.{example}
-use Rattle.window_model.specs.Cycle.{cycle, trace}
-use Rattle.window_model.specs.Retire.{retire}
-use Rattle.window_model.specs.Front.{rename, fetch}
+use Rattle.window_model.specs.Cycle.{trace}
 use Rattle.window_model.specs.Committed.{Aligned}
 use Rattle.window_model.specs.Path.{path}
-use Rattle.window_model.proofs.Worked.{code_of, memory}
-use Rattle.window_model.proofs.BoundsCheck.{bounds_check}
-use Rattle.window_model.proofs.Shadows.{fault, store, branch, divisor, injection}
+use Rattle.window_model.proofs.Worked.{code_of, memory, bounds_check, fault, store, branch, divisor, injection}
 use Rattle.noninterference.specs.Gadgets.{loaded_by, HidesSecret, BoundsCheckBypass, TaintedStoreAddress, TaintedBranch, TaintedDivisor, TargetInjection, FaultShadow, FaultShadowSpectre}
 use Rattle.noninterference.proofs.Runs.{same_trace, fewer}
 
@@ -109,10 +103,18 @@ fault_loads_none : (steps : ℕ) → loads Futuristic fault (six_more steps) ≡
 unfolding memory code_of decode isa_step pass_step
 fault_loads_none steps = refl
 
--- the spectre path passes it over, loads the secret, and then at an address made of it
-fault_loads : loaded_by example fault ≡ 0x1fff8 ∷ 0x1f7f0 ∷ 0x1f7f1 ∷ 0x1f7f2 ∷ 0x1f7f3 ∷ []
-unfolding memory code_of decode cycle retire rename fetch count_leading_zeros isa_step pass_step
-fault_loads = refl
+-- the spectre path passes it over, and its third step loads the secret
+abbrev three_more : ℕ → ℕ
+three_more steps = suc (suc (suc steps))
+
+fault_passed : (steps : ℕ) → list_any (λ a. a == 0x1fff8) (loads Spectre fault (three_more steps)) ≡ true
+unfolding memory code_of decode isa_step pass_step
+fault_passed steps = refl
+
+-- so memories that agree on what it loads have one secret
+fault_shows : (steps secret : ℕ) → Each (SameAt secret) (loads Spectre fault (three_more steps)) → secret ≡ 0
+unfolding memory code_of decode isa_step pass_step
+fault_shows steps secret same = same.0
 
 -- ---- and so what they hide
 
@@ -134,10 +136,15 @@ injection_hides d = hides d injection bound (injection_loads d.stt_model) same_b
 pub fault_hides : FaultShadow
 fault_hides d futuristic = hides d fault [] (λ steps. ap (λ m. loads m fault (six_more steps)) futuristic ∙ fault_loads_none steps) (λ secret. tt)
 
+-- the path goes on for as many steps as the window has room, and that is four at least
 pub fault_loads_secret : FaultShadowSpectre
 unfolding memory
-fault_loads_secret =
-    let loaded : List ℕ = 0x1fff8 ∷ 0x1f7f0 ∷ 0x1f7f1 ∷ 0x1f7f2 ∷ 0x1f7f3 ∷ [] in (
-      ap (list_any (λ a. a == 0x1fff8)) fault_loads,
-      λ secret other agree. other (recursion_from_All (SameAt secret) loaded (subst (Agree (memory 0 0) (memory 0 secret)) fault_loads agree).same).0,
+fault_loads_secret d spectre n =
+    let retired = (trace d (code_of fault) 0x10000 (memory 0 0) n).retired in
+    let more = retired + d.core_rob - 3 in
+    let steps : retired + d.core_rob ≡ three_more more = omega (arith, d.some_entries) in
+    let loaded = loads Spectre fault (three_more more) in
+    let is : loaded_by d fault n ≡ loaded = ap₂ (λ m k. loads m fault k) spectre steps in (
+      ap (list_any (λ a. a == 0x1fff8)) is ∙ fault_passed more,
+      λ secret other agree. other (fault_shows more secret (recursion_from_All (SameAt secret) loaded (subst (Agree (memory 0 0) (memory 0 secret)) is agree).same)),
     )

@@ -4,13 +4,10 @@ use Rattle.std.specs.Prelude.{◌≡◌, ◌≢◌, ℕ, ◌<◌, ◌==◌, true
 use Rattle.std.specs.List.{list_any}
 use Rattle.rv_types.specs.Memory.{Agree}
 use Rattle.machine_desc.specs.declared.Desc.{Desc}
-use Rattle.machine_desc.specs.declared.SttModel.TheVariants.{Futuristic}
-use Rattle.machine_desc.specs.Example.{example}
+use Rattle.machine_desc.specs.declared.SttModel.TheVariants.{Spectre, Futuristic}
 use Rattle.window_model.specs.Cycle.{trace}
 use Rattle.window_model.specs.Path.{reads_of_trace}
-use Rattle.window_model.proofs.Worked.{code_of, memory}
-use Rattle.window_model.proofs.BoundsCheck.{bounds_check}
-use Rattle.window_model.proofs.Shadows.{fault, store, branch, divisor, injection}
+use Rattle.window_model.proofs.Worked.{code_of, memory, bounds_check, fault, store, branch, divisor, injection}
 
 -- with each secret byte the trace of these words, of any number of cycles, is that with 0
 abbrev pub HidesSecret : Desc → List ℕ → Type 0
@@ -40,16 +37,17 @@ TargetInjection = (d : Desc) → HidesSecret d injection
 abbrev pub FaultShadow : Type 0
 FaultShadow = (d : Desc) → d.stt_model ≡ Futuristic → HidesSecret d fault
 
--- the bytes that the path of these words loads in at most 100 cycles, where the secret is 0
-abbrev pub loaded_by : Desc → List ℕ → List ℕ
-loaded_by d words = reads_of_trace d (code_of words) 0x10000 (memory 0 0) 100
+-- the bytes that the path of these words loads for a trace of at most n cycles, where the secret is 0
+abbrev pub loaded_by : Desc → List ℕ → ℕ → List ℕ
+loaded_by d words n = reads_of_trace d (code_of words) 0x10000 (memory 0 0) n
 
--- the path of these words loads the secret, so no memory with another one agrees on what it loads: the law says nothing
+-- the path of these words loads the secret, so no memory with another one agrees on what it loads: of no trace of them, of any
+-- number of cycles, does the law say anything
 abbrev pub LoadsSecret : Desc → List ℕ → Type 0
-LoadsSecret d words =
-    (list_any (λ a. a == 0x1fff8) (loaded_by d words) ≡ true)
-    × ((secret : ℕ) → secret ≢ 0 → Agree (memory 0 0) (memory 0 secret) (loaded_by d words) → ⊥)
+LoadsSecret d words = (n : ℕ) →
+    (list_any (λ a. a == 0x1fff8) (loaded_by d words n) ≡ true)
+    × ((secret : ℕ) → secret ≢ 0 → Agree (memory 0 0) (memory 0 secret) (loaded_by d words n) → ⊥)
 
--- so it is behind a load that faults under the spectre model
+-- so it is behind a load that faults, where the model is the spectre one
 abbrev pub FaultShadowSpectre : Type 0
-FaultShadowSpectre = LoadsSecret example fault
+FaultShadowSpectre = (d : Desc) → d.stt_model ≡ Spectre → LoadsSecret d fault

@@ -28,7 +28,7 @@ pub fn phases_tell_nothing()
 
 /// Programs that would show a secret byte by what they do on a wrong path have one trace for all its 256 values, whatever the
 /// description and the model. Behind a load that faults this is so under the futuristic model; under the spectre model the path itself
-/// loads the secret, and the law says nothing of it.
+/// loads the secret, for every description and number of cycles, and the law says nothing of it.
 pub fn secrets_stay_hidden()
     ensures bounds_check_bypass { BoundsCheckBypass }
     ensures tainted_store_address { TaintedStoreAddress }

@@ -1,13 +1,13 @@
 -- An entry that becomes Done, with the store of the queue that stands for it.
 use Rattle.std.proofs.Common.{◌≡◌, ◌≢◌, ℕ, Bool, true, false, cond, List, [], ◌∷◌, ◌++◌, Some, refl, ap, ap₂, sym, ◌∙◌, arith}
-use Rattle.std.specs.Prelude.{map, ◌==◌, if◌then◌else◌}
+use Rattle.std.specs.Prelude.{◌||◌, is_some, map, ◌==◌, if◌then◌else◌}
 use Rattle.std.specs.List.{filter}
 use Rattle.std.proofs.lemmas.List.{map-append}
 use Rattle.std.proofs.lemmas.List.Elements.{filter-append, All-head, All-tail}
 use Rattle.std.proofs.lemmas.Bool.Decides.{nat_tests}
 use Rattle.window_model.specs.declared.Entry.{Entry}
 use Rattle.window_model.specs.declared.State.TheVariants.{Done}
-use Rattle.window_model.specs.Order.{fault_of, is_load, is_store}
+use Rattle.window_model.specs.Order.{fault_of, is_load, is_store, is_waiting}
 use Rattle.window_model.specs.Retire.{addr_of, stored_of}
 use Rattle.lsq.specs.declared.store.Known.{Known}
 use Rattle.lsq.specs.declared.store.Store.{Store}
@@ -83,26 +83,27 @@ others_same serial w (e ∷ es) h =
     other_one serial w (is_store e.item.kind) e (filter (λ e. is_store e.item.kind) es) b (others_same serial w es (All-tail (λ (e : Entry). e.serial ≢ serial) e es h))
 
 -- its own becomes known
-own_one : (e : Entry) (k : Known) (s : Bool) → write_of k ≡ write_in e →
+own_one : (e : Entry) (k : Known) (s : Bool) → write_of k ≡ write_in e → is_waiting e.state ≡ false →
     map (shown_at e.serial (write_of k)) (map shown_entry (cond s (e ∷ []) [])) ≡ map shown_entry (cond s (record e { state = Done } ∷ []) [])
-own_one e k true h =
+own_one e k true h w =
     let same : (e.serial == e.serial) ≡ true = grind (arith, nat_tests) in
-    ap (λ b. (if b then record (shown_entry e) { write = Some (write_of k) } else shown_entry e) ∷ []) same ∙ ap (λ w. record { serial = e.serial; write = Some w } ∷ []) h
-own_one e k false h = refl
+    ap (λ b. (if b then record (shown_entry e) { write = Some (write_of k) } else shown_entry e) ∷ []) same
+    ∙ ap₂ (λ v w. record { serial = e.serial; write = Some v; computed = w || is_some e.outcome } ∷ []) h w
+own_one e k false h w = refl
 
-known_stands : (ss : List Store) (k : Known) (old young : List Entry) (e : Entry) → write_of k ≡ write_in e → StoresStandFor ss (old ++ e ∷ young) →
+known_stands : (ss : List Store) (k : Known) (old young : List Entry) (e : Entry) → write_of k ≡ write_in e → is_waiting e.state ≡ false → StoresStandFor ss (old ++ e ∷ young) →
     Others e.serial old → Others e.serial young → StoresStandFor (map (known_at e.serial k) ss) (old ++ record e { state = Done } ∷ young)
-known_stands ss k old young e w h o y =
+known_stands ss k old young e w u h o y =
     let f : Shown → Shown = shown_at e.serial (write_of k) in
     known_shown e.serial k ss ∙ ap (map f) (h ∙ stores_around old e young)
     ∙ map-append f (stores_in old) (stores_in (e ∷ []) ++ stores_in young)
     ∙ ap₂ (λ a b. a ++ b) (others_same e.serial (write_of k) old o)
-    (map-append f (stores_in (e ∷ [])) (stores_in young) ∙ ap₂ (λ a b. a ++ b) (own_one e k (is_store e.item.kind) w) (others_same e.serial (write_of k) young y))
+    (map-append f (stores_in (e ∷ [])) (stores_in young) ∙ ap₂ (λ a b. a ++ b) (own_one e k (is_store e.item.kind) w u) (others_same e.serial (write_of k) young y))
     ∙ sym (stores_around old (record e { state = Done }) young)
 
 pub store_completes : CompletesStore
-store_completes q old young e w s h size o y = record {
+store_completes q old young e w s h u size o y = record {
   loads = s.loads ∙ loads_same old e young;
   stores = known_stands q.stores (known_of w e) old young e
-      (ap (λ n. record { addr = addr_of e.outcome; bytes = n; stored = stored_of e.outcome; fault = fault_of e.outcome }) size) s.stores o y;
+      (ap (λ n. record { addr = addr_of e.outcome; bytes = n; stored = stored_of e.outcome; fault = fault_of e.outcome }) size) u s.stores o y;
 }

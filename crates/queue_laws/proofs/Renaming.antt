@@ -1,6 +1,6 @@
 -- Entries that are renamed, that change unseen, and how many there are.
-use Rattle.std.proofs.Common.{◌≡◌, ℕ, Bool, true, false, cond, List, [], ◌∷◌, ◌++◌, length, Option, Some, None, refl, ap, sym, ◌∙◌, append-nil}
-use Rattle.std.specs.Prelude.{map, if◌then◌else◌}
+use Rattle.std.proofs.Common.{◌≡◌, ℕ, Bool, true, false, cond, List, [], ◌∷◌, ◌++◌, length, Option, Some, None, refl, ap, ap₂, sym, ◌∙◌, append-nil}
+use Rattle.std.specs.Prelude.{◌||◌, is_some, map, if◌then◌else◌}
 use Rattle.std.specs.List.{filter}
 use Rattle.std.proofs.lemmas.List.{map-append, length-map}
 use Rattle.std.proofs.lemmas.List.Elements.{filter-append}
@@ -9,6 +9,7 @@ use Rattle.rv_types.specs.declared.Kind.{Kind}
 use Rattle.rv_types.specs.declared.Kind.TheVariants.{Load, Store as StoreKind}
 use Rattle.window_model.specs.declared.Entry.{Entry}
 use Rattle.window_model.specs.Order.{is_load, is_store}
+use Rattle.window_model.proofs.Booleans.{waiting_done}
 use Rattle.queue_laws.specs.Window.{Seen, Shown, loads_in, seen, shown_entry, shown_store, stores_in, write_in}
 use Rattle.queue_laws.specs.Laws.{AddsLoad, AddsOther, AddsStore, ChangesUnseen, OpensEmpty, RoomAsCounted}
 
@@ -56,10 +57,10 @@ adds_load q window e s h = record {
 }
 
 pub adds_store : AddsStore
-adds_store q window e root s h d = record {
+adds_store q window e root s h w = let d = waiting_done e.state w in record {
   loads = s.loads ∙ sym (no_load window e (store_no_load e.item.kind h));
-  stores = map-append shown_store q.stores _ ∙ ap (λ ws. ws ++ record { serial = e.serial; write = None } ∷ []) s.stores
-      ∙ ap (λ d. stores_in window ++ record { serial = e.serial; write = if d then Some (write_in e) else None } ∷ []) (sym d)
+  stores = map-append shown_store q.stores _ ∙ ap (λ ws. ws ++ record { serial = e.serial; write = None; computed = true } ∷ []) s.stores
+      ∙ ap₂ (λ d w. stores_in window ++ record { serial = e.serial; write = if d then Some (write_in e) else None; computed = w || is_some e.outcome } ∷ []) (sym d) (sym w)
       ∙ sym (stores_push window e true h);
 }
 

@@ -6,10 +6,14 @@ use Rattle.std.specs.Option.{option_map, option_or}
 use Rattle.rv_types.specs.Word.{to_le}
 use Rattle.rv_types.specs.Memory.{Ram}
 use Rattle.window_model.specs.declared.Entry.{Entry}
-use Rattle.window_model.specs.Order.{is_done, is_faulty, is_store}
-use Rattle.window_model.specs.Access.{byte_from, byte_of, covers}
+use Rattle.window_model.specs.declared.Outcome.{Outcome}
+use Rattle.window_model.specs.declared.State.{State}
+use Rattle.window_model.specs.declared.State.TheVariants.{Waiting, Busy, Done}
+use Rattle.window_model.specs.Order.{fault_of, is_done, is_store, is_waiting}
+use Rattle.window_model.specs.Access.{byte_from, byte_of, covers, reaches}
 use Rattle.window_model.specs.Issue.{stores_done}
 use Rattle.window_model.specs.Retire.{addr_of, width_of}
+use Rattle.window_model.proofs.Booleans.{both}
 use Rattle.lsq.specs.declared.store.Known.{Known}
 use Rattle.lsq.specs.declared.store.Store.{Store}
 use Rattle.lsq.specs.Queues.{is_known}
@@ -62,46 +66,62 @@ known_entries : (before : List Entry) → all_known (stores_in before) ≡ store
 known_entries [] = refl
 known_entries (e ∷ before) = done_one (is_store e.item.kind) e (filter (λ e. is_store e.item.kind) before) (stores_done before) (known_entries before)
 
-abbrev reach : ℕ → Entry → Bool
-reach a e = not (is_faulty e) && nat_le (addr_of e.outcome) a && nat_lt a (addr_of e.outcome + width_of e)
+-- none of these stores is without its outcome but one that waits
+abbrev all_computed : List Shown → Bool
+all_computed ss = list_all (λ s. s.computed) ss
 
-covers_by : (a : ℕ) (e : Entry) (b : Bool) → is_store e.item.kind ≡ b → covers a e ≡ (b && not (is_faulty e) && nat_le (addr_of e.outcome) a && nat_lt a (addr_of e.outcome + width_of e))
-covers_by a e b h = ap (λ b. b && not (is_faulty e) && nat_le (addr_of e.outcome) a && nat_lt a (addr_of e.outcome + width_of e)) h
+queue_computed : (ss : List Store) → all_computed (map shown_store ss) ≡ true
+queue_computed [] = refl
+queue_computed (s ∷ ss) = queue_computed ss
+
+-- a Done one has its outcome
+has_outcome : (s : State) (o : Option Outcome) → is_done s ≡ true → (is_waiting s || is_some o) ≡ true → is_some o ≡ true
+has_outcome Done o d h = h
+has_outcome Waiting o d h = absurd (cc)
+has_outcome (Busy due) o d h = absurd (cc)
+
+-- and what it writes shows which bytes it reaches
+reach_shown : (a n : ℕ) (o : Option Outcome) → is_some o ≡ true → (not (is_some (fault_of o)) && nat_le (addr_of o) a && nat_lt a (addr_of o + n)) ≡ reaches a n o
+reach_shown a n (Some o) h = refl
+reach_shown a n None h = absurd (cc)
+
+covers_by : (a : ℕ) (e : Entry) (b : Bool) → is_store e.item.kind ≡ b → covers a e ≡ (b && reaches a (width_of e) e.outcome)
+covers_by a e b h = ap (λ b. b && reaches a (width_of e) e.outcome) h
 
 by_reach : (c : Bool) (a : ℕ) (e : Entry) (r : Option ℕ) (p : Option Entry) → r ≡ option_map (byte_from a) p →
     option_or (if c then Some (byte_from a e) else None) r ≡ option_map (byte_from a) (cond c (Some e) p)
 by_reach true a e r p h = refl
 by_reach false a e r p h = h
 
-found_one : (a : ℕ) (b d : Bool) (e : Entry) (f : List Entry) (p : Option Entry) → is_store e.item.kind ≡ b → is_done e.state ≡ d → (not b || d) ≡ true →
+-- the entry's own store is computed, and those behind it
+computed_one : (b : Bool) (e : Entry) (f : List Entry) → all_computed (map shown_entry (cond b (e ∷ f) f)) ≡ true → (b ≡ true → (shown_entry e).computed ≡ true) × (all_computed (map shown_entry f) ≡ true)
+computed_one true e f h = let p = both (shown_entry e).computed (all_computed (map shown_entry f)) h in (λ b. p.0, p.1)
+computed_one false e f h = (λ b. absurd (cc), h)
+
+found_one : (a : ℕ) (b d : Bool) (e : Entry) (f : List Entry) (p : Option Entry) → is_store e.item.kind ≡ b → is_done e.state ≡ d → (not b || d) ≡ true → (b ≡ true → (shown_entry e).computed ≡ true) →
     forwarded_shown (map shown_entry f) a ≡ option_map (byte_from a) p →
     forwarded_shown (map shown_entry (cond b (e ∷ f) f)) a ≡ option_map (byte_from a) (cond (covers a e) (Some e) p)
-found_one a true true e f p s d t h =
+found_one a true true e f p s d t u h =
     ap (λ d. option_or (byte_shown a (if d then Some (write_in e) else None)) (forwarded_shown (map shown_entry f) a)) d
-    ∙ by_reach (reach a e) a e (forwarded_shown (map shown_entry f) a) p h
+    ∙ ap (λ c. option_or (if c then Some (byte_from a e) else None) (forwarded_shown (map shown_entry f) a)) (reach_shown a (width_of e) e.outcome (has_outcome e.state e.outcome d (u refl)))
+    ∙ by_reach (reaches a (width_of e) e.outcome) a e (forwarded_shown (map shown_entry f) a) p h
     ∙ ap (λ c. option_map (byte_from a) (cond c (Some e) p)) (sym (covers_by a e true s))
-found_one a true false e f p s d t h = absurd (cc)
-found_one a false d e f p s k t h = h ∙ ap (λ c. option_map (byte_from a) (cond c (Some e) p)) (sym (covers_by a e false s))
+found_one a true false e f p s d t u h = absurd (cc)
+found_one a false d e f p s k t u h = h ∙ ap (λ c. option_map (byte_from a) (cond c (Some e) p)) (sym (covers_by a e false s))
 
-and_first : (a b : Bool) → (a && b) ≡ true → a ≡ true
-and_first true b h = refl
-and_first false b h = h
-
-and_second : (a b : Bool) → (a && b) ≡ true → b ≡ true
-and_second true b h = h
-and_second false b h = absurd (cc)
-
-found_entries : (a : ℕ) (before : List Entry) → stores_done before ≡ true → forwarded_shown (stores_in before) a ≡ option_map (byte_from a) (find (covers a) before)
-found_entries a [] t = refl
-found_entries a (e ∷ before) t =
-    let here = not (is_store e.item.kind) || is_done e.state in
+found_entries : (a : ℕ) (before : List Entry) → stores_done before ≡ true → all_computed (stores_in before) ≡ true → forwarded_shown (stores_in before) a ≡ option_map (byte_from a) (find (covers a) before)
+found_entries a [] t u = refl
+found_entries a (e ∷ before) t u =
+    let ts = both (not (is_store e.item.kind) || is_done e.state) (stores_done before) t in
+    let us = computed_one (is_store e.item.kind) e (filter (λ e. is_store e.item.kind) before) u in
     found_one a (is_store e.item.kind) (is_done e.state) e (filter (λ e. is_store e.item.kind) before) (find (covers a) before) refl refl
-    (and_first here (stores_done before) t) (found_entries a before (and_second here (stores_done before) t))
+    ts.0 us.0 (found_entries a before ts.1 us.1)
 
 -- ---- a byte
 
 forwarded_is : (a : ℕ) (ss : List Store) (before : List Entry) → StoresStandFor ss before → stores_done before ≡ true → forwarded ss a ≡ option_map (byte_from a) (find (covers a) before)
-forwarded_is a ss before h t = forwarded_known a ss ∙ ap (λ ws. forwarded_shown ws a) h ∙ found_entries a before t
+forwarded_is a ss before h t =
+    forwarded_known a ss ∙ ap (λ ws. forwarded_shown ws a) h ∙ found_entries a before t (ap all_computed (sym h) ∙ queue_computed ss)
 
 byte_of_found : (ram : Ram) (a : ℕ) (o : Option Entry) → byte_or_memory ram a (option_map (byte_from a) o) ≡ byte_of ram a o
 byte_of_found ram a None = refl

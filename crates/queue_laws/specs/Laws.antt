@@ -8,7 +8,7 @@ use Rattle.machine_desc.specs.declared.Desc.{Desc}
 use Rattle.machine_desc.specs.declared.SttModel.{SttModel}
 use Rattle.window_model.specs.declared.Entry.{Entry}
 use Rattle.window_model.specs.declared.State.TheVariants.{Done}
-use Rattle.window_model.specs.Order.{is_done, is_load, is_store}
+use Rattle.window_model.specs.Order.{is_load, is_store, is_waiting}
 use Rattle.window_model.specs.Access.{all_covered, any_store_hidden, load_bytes}
 use Rattle.window_model.specs.Issue.{stores_done}
 use Rattle.window_model.specs.Retire.{width_of}
@@ -61,9 +61,9 @@ abbrev pub AddsLoad : Type 0
 AddsLoad = (q : Queues) (window : List Entry) (e : Entry) → StandFor q window → is_load e.item.kind ≡ true →
     StandFor (record q { loads = q.loads ++ e.serial ∷ [] }) (window ++ e ∷ [])
 
--- a store is renamed, whatever its root
+-- a store is renamed, which waits, whatever its root
 abbrev pub AddsStore : Type 0
-AddsStore = (q : Queues) (window : List Entry) (e : Entry) (root : Option ℕ) → StandFor q window → is_store e.item.kind ≡ true → is_done e.state ≡ false →
+AddsStore = (q : Queues) (window : List Entry) (e : Entry) (root : Option ℕ) → StandFor q window → is_store e.item.kind ≡ true → is_waiting e.state ≡ true →
     StandFor (record q { stores = q.stores ++ record { serial = e.serial; root = root; known = None } ∷ [] }) (window ++ e ∷ [])
 
 -- any other entry is renamed
@@ -75,9 +75,10 @@ AddsOther = (q : Queues) (window : List Entry) (e : Entry) → StandFor q window
 abbrev pub ChangesUnseen : Type 0
 ChangesUnseen = (q : Queues) (window new : List Entry) → StandFor q window → map seen new ≡ map seen window → StandFor q new
 
--- a store becomes Done and is made known with the width of its access
+-- a store that executes becomes Done and is made known with the width of its access
 abbrev pub CompletesStore : Type 0
-CompletesStore = (q : Queues) (old young : List Entry) (e : Entry) (w : Width) → StandFor q (old ++ e ∷ young) → is_store e.item.kind ≡ true → bytes_in w ≡ width_of e →
+CompletesStore = (q : Queues) (old young : List Entry) (e : Entry) (w : Width) → StandFor q (old ++ e ∷ young) → is_store e.item.kind ≡ true →
+    is_waiting e.state ≡ false → bytes_in w ≡ width_of e →
     Others e.serial old → Others e.serial young →
     StandFor (record q { stores = map (known_at e.serial (known_of w e)) q.stores }) (old ++ record e { state = Done } ∷ young)
 

@@ -9,7 +9,7 @@ use Rattle.machine_desc.specs.declared.Desc.{Desc}
 use Rattle.window_model.specs.declared.Entry.{Entry}
 use Rattle.window_model.specs.declared.Item.{Item}
 use Rattle.window_model.specs.declared.State.TheVariants.{Waiting, Done}
-use Rattle.window_model.specs.Order.{is_load, is_store, is_done}
+use Rattle.window_model.specs.Order.{is_load, is_store, is_waiting}
 use Rattle.window_model.specs.Front.{at_once, renamed}
 use Rattle.rob_ring.specs.Ring.{Ring}
 use Rattle.rename_taint.specs.declared.Write.{Write}
@@ -111,11 +111,11 @@ writers_more e h h2 g n s k =
     (writers_rename (parts_of h.next h.rob h.roots h.writes h.stations) h.writers.items e ws s k n refl)))
 
 -- a store waits for its operands
-waits : (k : Kind) → is_store k ≡ true → is_done (if at_once k then Done else Waiting) ≡ false
+waits : (k : Kind) → is_store k ≡ true → is_waiting (if at_once k then Done else Waiting) ≡ true
 waits Store s = refl
 waits _ s = absurd (cc)
 
-queues_by : (k : Kind) (q : Queues) (w : List Entry) (e : Entry) (roots : List (Option ℕ)) → e.item.kind ≡ k → (is_store k ≡ true → is_done e.state ≡ false) → StandFor q w → StandFor (with_access k e.serial roots q) (w ++ e ∷ [])
+queues_by : (k : Kind) (q : Queues) (w : List Entry) (e : Entry) (roots : List (Option ℕ)) → e.item.kind ≡ k → (is_store k ≡ true → is_waiting e.state ≡ true) → StandFor q w → StandFor (with_access k e.serial roots q) (w ++ e ∷ [])
 queues_by Load q w e roots h d s = adds_load q w e s (ap is_load h)
 queues_by Store q w e roots h d s = adds_store q w e _ s (ap is_store h) (d refl)
 queues_by _ q w e roots h d s = adds_other q w e s (ap is_load h) (ap is_store h)

@@ -10,7 +10,7 @@ use Rattle.window_model.specs.Resolve.{freed_from, is_next, keep, learn, next_of
 use Rattle.window_model.specs.Row.{Row}
 use Rattle.window_model.specs.State.{Machine, After}
 use Rattle.rob_ring.specs.Ring.{Ring, below}
-use Rattle.squash.proofs.Younger.{up_to}
+use Rattle.window_model.proofs.Serials.{below_next as up_to}
 use Rattle.predictor.specs.Tables.{Tables}
 use Rattle.unit_ports.specs.Ports.{Ports}
 use Rattle.fetch_unit.specs.Front.{Front, with_front}
@@ -57,6 +57,16 @@ by_place d x o p b h q =
     let y = with_predictor x learnt.counters learnt.targets in
     ap (λ o. resolve_at d o x) h
     ∙ ap (λ b. let after = (if b then squash p y else keep p y) in record { machine = after.machine; events = learnt.events ++ after.events }) q
+
+-- ---- no entry is resolved
+
+module _ (rob : Ring) (t : Tables) (none : resolving rob t ≡ None) (front : Front) (ports : Ports) where
+  pub none_state : (x : Machine) → with_parts rob front t ports x ≡ (resolves rob front t ports x).machine
+  none_state x = sym (ap (λ o. (resolve_at t.desc o (with_parts rob front t ports x)).machine) none)
+
+  pub none_row : (row : Row) (x : Machine) → row ≡ record row { events = row.events ++ (resolves rob front t ports x).events }
+  none_row row x =
+      sym (ap (λ o. record row { events = row.events ++ (resolve_at t.desc o (with_parts rob front t ports x)).events }) none ∙ ap (λ es. record row { events = es }) (append-nil row.events))
 
 -- ---- the entry is marked and teaches
 

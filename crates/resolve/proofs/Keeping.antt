@@ -77,7 +77,7 @@ module _ (d : Desc) (w : List Entry) where
 -- ---- the entries from a serial on are dropped, or none
 
 -- nothing changes in so many pairs
-all_taken : (n : ℕ) (xs : List (List (Option ℕ))) → length xs ≡ n → xs ≡ take n xs
+pub all_taken : (n : ℕ) (xs : List (List (Option ℕ))) → length xs ≡ n → xs ≡ take n xs
 all_taken n xs h = sym (take_all n xs (omega (arith, h)))
 
 stand_left : (c : Option ℕ) (p : Parts) → Stand p →
@@ -104,7 +104,7 @@ queues_left (Some first) w q r s = let t = splits first w r in cut_stands q firs
 pub record Left (rob : Ring) (t : Tables) (roots : Buffer (List (Option ℕ))) (writes : List Write) (stations : Stations) (rob2 : Ring) (roots2 : Buffer (List (Option ℕ))) (writes2 : List Write) (stations2 : Stations) : Type 0 where
   pub window : rob2 ≡ record rob { entries = left below (dropped_from rob t) (marked (resolving rob t) rob.entries) }
   pub pairs : roots2 ≡ buffer (take (length rob2.entries) roots.items) roots.capacity
-  pub names : writes2 ≡ left before_serial (dropped_from rob t) writes
+  pub table : writes2 ≡ left before_serial (dropped_from rob t) writes
   pub places : stations2 ≡ record stations { held = left stations_below (dropped_from rob t) stations.held }
 
 module _ (rob : Ring) (t : Tables) (roots : Buffer (List (Option ℕ))) (writes : List Write) (stations : Stations) (rob2 : Ring) (roots2 : Buffer (List (Option ℕ))) (writes2 : List Write) (stations2 : Stations)
@@ -131,7 +131,7 @@ module _ (rob : Ring) (t : Tables) (roots : Buffer (List (Option ℕ))) (writes 
       let all : parts_of next rob2 roots2 writes2 stations2 ≡ record { next = next; window = w; roots = take (length w) roots.items; writes = left before_serial c writes; held = left stations_below c stations.held } =
       ap (λ es. record { next = next; window = es; roots = roots2.items; writes = writes2; held = stations2.held }) window_is
       ∙ ap (λ rs. record { next = next; window = w; roots = rs; writes = writes2; held = stations2.held }) roots_are
-      ∙ ap (λ ws. record { next = next; window = w; roots = take (length w) roots.items; writes = ws; held = stations2.held }) h.names
+      ∙ ap (λ ws. record { next = next; window = w; roots = take (length w) roots.items; writes = ws; held = stations2.held }) h.table
       ∙ ap (λ (s : Stations). record { next = next; window = w; roots = take (length w) roots.items; writes = left before_serial c writes; held = s.held }) h.places in
       subst Stand (sym all) (stand_left c parts_marked marked_stands)
 

@@ -1,3 +1,4 @@
+pub mod Told
 pub mod Picked
 pub mod Effects
 pub mod Keeping

@@ -1,5 +1,5 @@
--- Phase Resolve of a machine that stands in parts (docs/machine.md, "State", "Resolve").
-use Rattle.std.specs.Prelude.{◌≡◌, ℕ, List, length, Option}
+-- Phase Resolve of a machine that stands in parts (docs/machine.md, "State", "Resolve"), and what the parts stand for before it.
+use Rattle.std.specs.Prelude.{ℕ, ◌<◌, ◌^◌, List, length, Option}
 use Rattle.std.specs.Option.{option_map}
 use Rattle.circular_buffer.specs.Buffer.{Buffer}
 use Rattle.window_model.specs.Order.{Place, first}
@@ -11,9 +11,8 @@ use Rattle.stations.specs.Stations.{Stations}
 use Rattle.fetch_unit.specs.Front.{Front, with_front}
 use Rattle.predictor.specs.Tables.{Tables}
 use Rattle.unit_ports.specs.Ports.{Ports}
-use Rattle.branch_resolve.specs.Pick.{pick_from}
-use Rattle.visibility.specs.Point.{Point}
-use Rattle.parts_stand.specs.Parts.{Parts}
+use Rattle.parts_stand.specs.Parts.{Parts, Stand}
+use Rattle.parts_stand.specs.Writers.{WritersOf}
 
 -- a machine with this window, front, predictor and divider in the place of its own
 abbrev pub with_parts : Ring → Front → Tables → Ports → Machine → Machine
@@ -31,10 +30,13 @@ resolving rob t = first (may_resolve t.desc) rob.entries
 abbrev pub position : Option Place → Option ℕ
 position o = option_map (λ p. length p.before) o
 
--- the visibility point and the roots by position tell which one it is
-abbrev pub IsPicked : Ring → List (List (Option ℕ)) → Point → Tables → Type 0
-IsPicked rob roots point t = pick_from point.serial 0 rob.entries roots ≡ position (resolving rob t)
-
--- the parts that stand for the window, with the serial that the next entry gets
+-- what stands for the window, with the serial that the next entry gets
 abbrev pub parts_of : ℕ → Ring → Buffer (List (Option ℕ)) → List Write → Stations → Parts
 parts_of next rob roots writes stations = record { next = next; window = rob.entries; roots = roots.items; writes = writes; held = stations.held }
+
+-- the parts stand for the window, with some next serial, which fits into 64 bits
+pub record Standing (rob : Ring) (roots serials : Buffer (List (Option ℕ))) (writes : List Write) (stations : Stations) : Type 0 where
+  pub next : ℕ
+  pub fits : next < 2 ^ 64
+  pub parts : Stand (parts_of next rob roots writes stations)
+  pub writers : WritersOf next rob.entries serials.items

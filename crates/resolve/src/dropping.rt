@@ -27,7 +27,7 @@ pub(crate) fn drop_younger<R: RenameTaint>(
     rob: &mut RobRing,
     roots: &mut HeapCircularBuffer<[Option<u64>; 2]>,
     writers: &mut HeapCircularBuffer<[Option<u64>; 2]>,
-    rename: &mut R,
+    table: &mut R,
     stations: &mut Stations,
     lsq: &mut Lsq,
     ports: &mut Ports,
@@ -41,8 +41,8 @@ pub(crate) fn drop_younger<R: RenameTaint>(
     ensures rob { rob.new ≡ record rob.old { entries = below (serial + 1) rob.old.entries } }
     ensures roots { roots.new ≡ buffer (take (length rob.new.entries) roots.old.items) roots.old.capacity }
     ensures writers { writers.new ≡ buffer (take (length rob.new.entries) writers.old.items) writers.old.capacity }
-    ensures names { R.writes rename.new ≡ before_serial (serial + 1) (R.writes rename.old) }
-    ensures same_names_room { R.room rename.new ≡ R.room rename.old }
+    ensures table { R.writes table.new ≡ before_serial (serial + 1) (R.writes table.old) }
+    ensures same_table_room { R.room table.new ≡ R.room table.old }
     ensures stations { stations.new ≡ record stations.old { held = stations_below (serial + 1) stations.old.held } }
     ensures lsq { lsq.new ≡ queues_below (serial + 1) lsq.old }
     ensures ports { ports.new ≡ record ports.old { divider = freed_from (serial + 1) ports.old.divider } }
@@ -50,7 +50,7 @@ pub(crate) fn drop_younger<R: RenameTaint>(
     ensures row { row.new ≡ record row.old { events = row.old.events ++ event.Sq (length rob.old.entries - length (below (serial + 1) rob.old.entries) + length front.old.queue) ∷ [] } }
     ensures few { length row.new.events ≤ length row.old.events + 1 }
 {
-    let entries = squash_after(serial + 1, rob, rename, stations, lsq, ports);
+    let entries = squash_after(serial + 1, rob, table, stations, lsq, ports);
     roots.truncate_back(rob.len() as usize);
     writers.truncate_back(rob.len() as usize);
     let items = front.redirect(next);

@@ -6,14 +6,13 @@ ghost use Rattle.window_model.specs.Resolve.{freed_from};
 ghost use Rattle.window_model.specs.State.{Machine};
 ghost use Rattle.rob_ring.specs.Ring.{below};
 ghost use Rattle.rename_taint.specs.Writes.{before_serial};
-ghost use Rattle.visibility.specs.Point.{Passed};
-ghost use Rattle.branch_resolve.specs.Pick.{pick_from};
+ghost use Rattle.visibility.specs.Point.{HasAdvanced};
 ghost use Rattle.queue_laws.specs.Window.{StandFor};
 ghost use Rattle.parts_stand.specs.Addresses.{AddressesStand};
 ghost use Rattle.parts_stand.specs.Parts.{Stand};
 ghost use Rattle.parts_stand.specs.Points.{PointStands};
 ghost use Rattle.parts_stand.specs.Writers.{WritersOf};
-ghost use Rattle.resolve.specs.Parts.{IsPicked, parts_of, position, with_parts, resolves, resolving};
+ghost use Rattle.resolve.specs.Parts.{Standing, parts_of, position, with_parts, resolves, resolving};
 ghost use Rattle.resolve.specs.Dropped.{dropped_from, left, marked, queues_below, stations_below};
 
 use crate::dropping::{drop_younger, true_next};
@@ -34,13 +33,14 @@ use window_model::{Entry, Row};
 /// fetching goes on at its next address, or nowhere after a fault.
 ///
 /// What it leaves is what the definition leaves of every machine with this window, queue, fetch pc, predictor and divider.
-/// The other parts let go of the entries that are dropped, and go on to stand for the window. The youngest roots and the
-/// writers of each entry's first and second source stand at the entry's position.
+/// The parts have stood for the window, and the visibility point has moved over it; so the point and the youngest roots tell
+/// which entry may be resolved. All parts let go of the entries that are dropped, and go on to stand for the window. The
+/// youngest roots and the writers of each entry's first and second source stand at the entry's position.
 pub fn resolve<R: RenameTaint>(
     rob: &mut RobRing,
     roots: &mut HeapCircularBuffer<[Option<u64>; 2]>,
     writers: &mut HeapCircularBuffer<[Option<u64>; 2]>,
-    rename: &mut R,
+    table: &mut R,
     stations: &mut Stations,
     lsq: &mut Lsq,
     ports: &mut Ports,
@@ -49,28 +49,25 @@ pub fn resolve<R: RenameTaint>(
     point: &VisPoint,
     row: &mut Row,
 )
-    requires rise { AllPairs (λ a b. a.serial < b.serial) rob.old.entries }
-    requires serials { All (λ e. e.serial < 2 ^ 64 - 1) rob.old.entries }
+    requires stands { Standing rob.old roots.old writers.old (R.writes table.old) stations.old }
+    requires advanced { HasAdvanced point.now rob.old.entries }
+    requires model { point.now.model ≡ predictor.old.desc.stt_model }
     requires few_items { length rob.old.entries + length front.old.queue < 2 ^ 32 }
-    requires each_has_roots { length roots.old.items ≡ length rob.old.entries }
-    requires each_has_writers { length writers.old.items ≡ length rob.old.entries }
-    requires passed { Passed point.now rob.old.entries }
-    requires picked { IsPicked rob.old roots.old.items point.now predictor.old }
     requires room { length row.old.events + 3 ≤ 128 }
     ensures state { (x : Machine) → with_parts rob.new front.new predictor.new ports.new x ≡ (resolves rob.old front.old predictor.old ports.old x).machine }
     ensures row { (x : Machine) → row.new ≡ record row.old { events = row.old.events ++ (resolves rob.old front.old predictor.old ports.old x).events } }
     ensures rob { rob.new ≡ record rob.old { entries = left below (dropped_from rob.old predictor.old) (marked (resolving rob.old predictor.old) rob.old.entries) } }
     ensures roots { roots.new ≡ buffer (take (length rob.new.entries) roots.old.items) roots.old.capacity }
     ensures writers { writers.new ≡ buffer (take (length rob.new.entries) writers.old.items) writers.old.capacity }
-    ensures names { R.writes rename.new ≡ left before_serial (dropped_from rob.old predictor.old) (R.writes rename.old) }
-    ensures same_names_room { R.room rename.new ≡ R.room rename.old }
+    ensures table { R.writes table.new ≡ left before_serial (dropped_from rob.old predictor.old) (R.writes table.old) }
+    ensures same_table_room { R.room table.new ≡ R.room table.old }
     ensures stations { stations.new ≡ record stations.old { held = left stations_below (dropped_from rob.old predictor.old) stations.old.held } }
     ensures lsq { lsq.new ≡ left queues_below (dropped_from rob.old predictor.old) lsq.old }
     ensures ports { ports.new ≡ record ports.old { divider = left freed_from (dropped_from rob.old predictor.old) ports.old.divider } }
-    ensures stands { (next : ℕ) → Stand (parts_of next rob.old roots.old (R.writes rename.old) stations.old) → Stand (parts_of next rob.new roots.new (R.writes rename.new) stations.new) }
-    ensures writers_stand { (next : ℕ) → Stand (parts_of next rob.old roots.old (R.writes rename.old) stations.old) → WritersOf next rob.old.entries writers.old.items → WritersOf next rob.new.entries writers.new.items }
+    ensures stands { (next : ℕ) → Stand (parts_of next rob.old roots.old (R.writes table.old) stations.old) → Stand (parts_of next rob.new roots.new (R.writes table.new) stations.new) }
+    ensures writers_stand { (next : ℕ) → Stand (parts_of next rob.old roots.old (R.writes table.old) stations.old) → WritersOf next rob.old.entries writers.old.items → WritersOf next rob.new.entries writers.new.items }
     ensures queues_stand { StandFor lsq.old rob.old.entries → StandFor lsq.new rob.new.entries }
-    ensures addresses_stand { (next : ℕ) → Stand (parts_of next rob.old roots.old (R.writes rename.old) stations.old) → AddressesStand rob.old.entries roots.old.items lsq.old.stores → AddressesStand rob.new.entries roots.new.items lsq.new.stores }
+    ensures addresses_stand { (next : ℕ) → Stand (parts_of next rob.old roots.old (R.writes table.old) stations.old) → AddressesStand rob.old.entries roots.old.items lsq.old.stores → AddressesStand rob.new.entries roots.new.items lsq.new.stores }
     ensures point_stands { (next : ℕ) → PointStands point.now next rob.old.entries → PointStands point.now next rob.new.entries }
     ensures predictor_desc { predictor.new.desc ≡ predictor.old.desc }
     ensures front_desc { front.new.desc ≡ front.old.desc }
@@ -80,7 +77,7 @@ pub fn resolve<R: RenameTaint>(
         return;
     };
     resolve_at(
-        position, rob, roots, writers, rename, stations, lsq, ports, predictor, front, row,
+        position, rob, roots, writers, table, stations, lsq, ports, predictor, front, row,
     );
 }
 
@@ -90,7 +87,7 @@ fn resolve_at<R: RenameTaint>(
     rob: &mut RobRing,
     roots: &mut HeapCircularBuffer<[Option<u64>; 2]>,
     writers: &mut HeapCircularBuffer<[Option<u64>; 2]>,
-    rename: &mut R,
+    table: &mut R,
     stations: &mut Stations,
     lsq: &mut Lsq,
     ports: &mut Ports,
@@ -110,8 +107,8 @@ fn resolve_at<R: RenameTaint>(
     ensures rob { rob.new ≡ record rob.old { entries = left below (dropped_from rob.old predictor.old) (marked (resolving rob.old predictor.old) rob.old.entries) } }
     ensures roots { roots.new ≡ buffer (take (length rob.new.entries) roots.old.items) roots.old.capacity }
     ensures writers { writers.new ≡ buffer (take (length rob.new.entries) writers.old.items) writers.old.capacity }
-    ensures names { R.writes rename.new ≡ left before_serial (dropped_from rob.old predictor.old) (R.writes rename.old) }
-    ensures same_names_room { R.room rename.new ≡ R.room rename.old }
+    ensures table { R.writes table.new ≡ left before_serial (dropped_from rob.old predictor.old) (R.writes table.old) }
+    ensures same_table_room { R.room table.new ≡ R.room table.old }
     ensures stations { stations.new ≡ record stations.old { held = left stations_below (dropped_from rob.old predictor.old) stations.old.held } }
     ensures lsq { lsq.new ≡ left queues_below (dropped_from rob.old predictor.old) lsq.old }
     ensures ports { ports.new ≡ record ports.old { divider = left freed_from (dropped_from rob.old predictor.old) ports.old.divider } }
@@ -131,7 +128,7 @@ fn resolve_at<R: RenameTaint>(
         rob,
         roots,
         writers,
-        rename,
+        table,
         stations,
         lsq,
         ports,

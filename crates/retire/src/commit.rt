@@ -21,8 +21,7 @@ use cache_tags::Tags;
 use machine_desc::Desc;
 use rv_effect::call;
 use rv_types::{End, Kind, Piece, REGISTERS, width_of, writes_of};
-use window_model::{Entry, Event, Row};
-use window_walk::{addr_of, next_of, op_of, stored_of, value_of};
+use window_model::{Entry, Event, Row, line_of};
 
 /// The head takes effect, with its events, and a call with its bytes in the piece. Answers how it ends the run, None where
 /// the run goes on. What it leaves is what the definition leaves of every machine with this cache, memory, registers and pc.
@@ -67,9 +66,9 @@ fn commit_value(head: &Entry, regs: &mut [u32; REGISTERS], pc: &mut u32)
     ensures pc { pc.new ≡ next_of head.now.outcome }
 {
     if let Some(register) = writes_of(&head.item.instr) {
-        regs[register.number as usize] = value_of(head);
+        regs[register.number as usize] = head.value();
     }
-    *pc = next_of(head);
+    *pc = head.next();
 }
 
 // A store writes memory, and its line moves to the front where the cache has it.
@@ -90,7 +89,7 @@ fn commit_store(
     ensures pc { pc.new ≡ next_of head.now.outcome }
     ensures row { row.new ≡ record row.old { events = row.old.events ++ event.Ret head.now.serial ∷ event.St head.now.serial (line_of desc.now (addr_of head.now.outcome)) (has_line tags.old.desc tags.old.sets (line_of desc.now (addr_of head.now.outcome))) ∷ [] } }
 {
-    let line = line_of(desc, addr_of(head));
+    let line = line_of(desc, head.addr());
     write_store(ram, head);
     let hit = tags.touch(line);
     commit_value(head, regs, pc);
@@ -98,20 +97,13 @@ fn commit_store(
     row.push(Event::St(head.serial, line, hit));
 }
 
-// The first address of an address's line.
-fn line_of(desc: &Desc, addr: u32) -> u32
-    ensures { result ≡ line_of desc.now addr }
-{
-    addr / desc.cache_line * desc.cache_line
-}
-
 // A store's bytes are written.
 fn write_store(ram: &mut Ram, store: &Entry)
     requires inside { store_fault ram.old (addr_of store.now.outcome) (width_of store.now) ≡ None }
     ensures { ram.new ≡ with_bytes ram.old (addr_of store.now.outcome) (to_le (width_of store.now) (stored_of store.now.outcome)) }
 {
-    let width = width_of(op_of(&store.item.instr));
-    let _ = ram.put(addr_of(store), width, stored_of(store));
+    let width = width_of(store.op());
+    let _ = ram.put(store.addr(), width, store.stored());
 }
 
 // A call acts on the registers, the pc and memory. Answers the value with which it ends the run, if it does.

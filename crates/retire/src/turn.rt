@@ -7,7 +7,6 @@ ghost use Rattle.retire.specs.declared.turn.Turn.TheVariants.{Leaves};
 use rob_ring::RobRing;
 use rv_types::Cause;
 use window_model::Entry;
-use window_walk::{is_store, may_leave, trap_of};
 
 /// What a turn does with the head, the oldest entry.
 #[derive(Clone, Copy)]
@@ -35,13 +34,13 @@ pub(crate) fn turn_at(rob: &RobRing, stored: bool) -> Turn
 fn turn_of(head: &Entry, stored: bool) -> Turn
     ensures { result ≡ turn_of stored head.now }
 {
-    if !may_leave(head) {
+    if !head.may_leave() {
         return Turn::Waits;
     }
-    if let Some(cause) = trap_of(head) {
+    if let Some(cause) = head.trap() {
         return Turn::Traps(cause, head.item.pc);
     }
-    if stored && is_store(head) {
+    if stored && head.is_store() {
         return Turn::Waits;
     }
     Turn::Leaves
@@ -51,5 +50,5 @@ fn turn_of(head: &Entry, stored: bool) -> Turn
 pub(crate) fn has_stored(stored: bool, head: &Entry) -> bool
     ensures { result ≡ (stored || is_store head.now.item.kind) }
 {
-    stored || is_store(head)
+    stored || head.is_store()
 }

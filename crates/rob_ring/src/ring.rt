@@ -1,16 +1,16 @@
 //! The ring itself.
-ghost use Rattle.std.specs.Prelude.{◌≡◌, ◌<◌, ◌≤◌, ◌++◌, ◌∷◌, [], length, take, drop, min, slice_get, slice_set, Some, IfOk};
-ghost use Rattle.std.specs.List.{AllPairs};
+ghost use Rattle.std.specs.Prelude.{◌≡◌, ◌<◌, ◌≤◌, ◌++◌, ◌∷◌, [], length, take, drop, slice_get, slice_set, Some, IfOk};
 ghost use Rattle.window_model.specs.declared.Entry.{Entry};
 ghost use Rattle.window_model.specs.Issue.{begun};
-ghost use Rattle.rob_ring.specs.Ring.{Ring, below};
+ghost use Rattle.window_model.specs.Serials.{Rise, below};
+ghost use Rattle.rob_ring.specs.Ring.{Ring};
 
 use circular_buffer::HeapCircularBuffer;
 use machine_desc::Desc;
 use rv_types::NoMemory;
 use std::alloc::Global;
 use std::marker::Model;
-use window_model::{Entry, Outcome, State, Window};
+use window_model::{Entry, Outcome, State, Window, position_of};
 
 /// The entries in flight, oldest first, and room for `core.rob` of them. Positions count from the oldest, which has 0.
 #[derive(Drop)]
@@ -100,7 +100,6 @@ impl RobRing {
 
     /// Keeps the oldest `len` entries and drops the younger ones.
     pub fn cut(&mut self, len: u32)
-        requires { len ≤ length self.old.entries }
         ensures { self.new ≡ record self.old { entries = take len self.old.entries } }
     {
         self.items.truncate_back(len as usize);
@@ -115,43 +114,14 @@ impl RobRing {
     }
 
     /// The position of the entry with this serial, or the one at which it would stand: how many entries have a serial below
-    /// it. Serials rise by one, but for gaps that squashes leave, so the walk begins as far behind the oldest entry as the
-    /// serial is: where no entry before there was squashed it ends at once.
+    /// it.
     pub fn position_of(&self, serial: u64) -> u32
-        requires rise { AllPairs (λ a b. a.serial < b.serial) self.now.entries }
+        requires rise { Rise self.now.entries }
         ensures count { result ≡ length (below serial self.now.entries) }
         ensures older { take result self.now.entries ≡ below serial self.now.entries }
         ensures within { result ≤ length self.now.entries }
     {
-        let mut position = self.reach(serial);
-        while position > 0 && self.lend(position - 1).serial >= serial {
-            position -= 1;
-        }
-        position
-    }
-
-    // How many of the oldest entries there are that can have a serial below this one.
-    fn reach(&self, serial: u64) -> u32
-        requires rise { AllPairs (λ a b. a.serial < b.serial) self.now.entries }
-        ensures older { below serial self.now.entries ≡ below serial (take result self.now.entries) }
-        ensures within { result ≤ length self.now.entries }
-    {
-        if self.len() == 0 {
-            return 0;
-        }
-        let ahead = serial.saturating_sub(self.lend(0).serial);
-        up_to(ahead, self.len())
-    }
-}
-
-// The lesser of the two.
-fn up_to(ahead: u64, len: u32) -> u32
-    ensures { result ≡ min ahead len }
-{
-    if ahead < len as u64 {
-        ahead as u32
-    } else {
-        len
+        position_of(self, serial)
     }
 }
 
@@ -164,5 +134,9 @@ impl Window for RobRing {
 
     fn at(&self, i: u32) -> Entry {
         RobRing::at(self, i)
+    }
+
+    fn lend(&self, i: u32) -> &Entry {
+        RobRing::lend(self, i)
     }
 }

@@ -1,8 +1,8 @@
 //! The squash itself.
-ghost use Rattle.std.specs.Prelude.{◌≡◌, ◌-◌, ◌<◌, length, nat_lt};
-ghost use Rattle.std.specs.List.{filter, AllPairs};
+ghost use Rattle.std.specs.Prelude.{◌≡◌, ◌-◌, length, nat_lt};
+ghost use Rattle.std.specs.List.{filter};
 ghost use Rattle.window_model.specs.Resolve.{freed_from};
-ghost use Rattle.rob_ring.specs.Ring.{below};
+ghost use Rattle.window_model.specs.Serials.{Rise, below};
 ghost use Rattle.rename_taint.specs.Writes.{before_serial};
 
 use lsq::Lsq;
@@ -22,7 +22,7 @@ pub fn squash_after<R: RenameTaint>(
     lsq: &mut Lsq,
     ports: &mut Ports,
 ) -> u32
-    requires rise { AllPairs (λ a b. a.serial < b.serial) rob.old.entries }
+    requires rise { Rise rob.old.entries }
     ensures dropped { result ≡ length rob.old.entries - length (below first rob.old.entries) }
     ensures rob { rob.new ≡ record rob.old { entries = below first rob.old.entries } }
     ensures names { R.writes rename.new ≡ before_serial first (R.writes rename.old) }

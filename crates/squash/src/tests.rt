@@ -32,7 +32,7 @@ fn entry(serial: u64) -> Entry
 }
 
 // A load of a register with serial 3 stays. A division into the same register, which awaits it, and a store go.
-#[tactic(auto, using(rob_ring::proofs::Serials::rise_push))]
+#[tactic(auto, using(window_model::proofs::Serials::rise_push))]
 fn squash_keeps_the_load<R: RenameTaint + Drop>(
     rt: &impl Abort,
     alloc: Global,

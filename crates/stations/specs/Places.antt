@@ -1,25 +1,37 @@
 -- The entries that wait, the places that they have and the places that are free.
-use Rattle.std.specs.Prelude.{ℕ, ◌-◌, ◌<◌, Bool, false, List, [], ◌∷◌, ◌++◌, map, length, Option, Some, None, slice_get, IsPermutation}
+use Rattle.std.specs.Prelude.{ℕ, ◌-◌, ◌<◌, Bool, false, List, [], ◌∷◌, ◌++◌, map, length, Option, Some, None, slice_get, slice_index_or, IsPermutation}
 use Rattle.std.specs.List.{AllPairs, range_with_len}
 use Rattle.stations.specs.declared.occupant.Occupant.{Occupant}
 use Rattle.stations.specs.Stations.{Station, strike}
 
--- an entry that waits, as it is seen
-abbrev pub station : Occupant → Station
-station o = record { serial = o.serial; awaits = o.first ∷ o.second ∷ []; place = o.place }
+-- what an entry awaits
+abbrev pub awaited : Occupant → List (Option ℕ)
+awaited o = o.first ∷ o.second ∷ []
+
+-- an entry in a place, as it is seen
+abbrev pub station : ℕ → Occupant → Station
+station place o = record { serial = o.serial; awaits = awaited o; place = place }
+
+-- what stands in a place that no entry has had
+abbrev pub nobody : Occupant
+nobody = record { serial = 0; first = None; second = None }
+
+-- the entry in the place of this number
+abbrev pub station_in : List Occupant → ℕ → Station
+station_in places place = station place (slice_index_or places place nobody)
+
+-- the entries in the places of these numbers
+abbrev pub held_of : List Occupant → List ℕ → List Station
+held_of places ages = map (station_in places) ages
 
 -- an entry that awaits a serial no longer
 abbrev pub woken : ℕ → Occupant → Occupant
 woken serial o = record o { first = strike serial o.first; second = strike serial o.second }
 
--- the numbers of the places that these entries have
-abbrev pub places_of : List Occupant → List ℕ
-places_of waiting = map (λ o. o.place) waiting
-
--- each place below the room is named once, by an entry that has it or as free, and no other is; serials rise with age
-pub record Placed (room : ℕ) (waiting : List Occupant) (free : List ℕ) : Type 0 where
-  pub once : IsPermutation (range_with_len 0 room) (places_of waiting ++ free)
-  pub rise : AllPairs (λ a b. a.serial < b.serial) (map station waiting)
+-- each place is named once, as taken or as free, and no other is; serials rise with age
+pub record Placed (places : List Occupant) (ages free : List ℕ) : Type 0 where
+  pub once : IsPermutation (range_with_len 0 (length places)) (ages ++ free)
+  pub rise : AllPairs (λ a b. a.serial < b.serial) (held_of places ages)
 
 -- there is an entry, and it passes the test
 abbrev pub passes : (Station → Bool) → Option Station → Bool

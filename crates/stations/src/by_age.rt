@@ -3,33 +3,34 @@ ghost use Rattle.std.specs.Prelude.{◌≡◌, ◌≢◌, ◌-◌, ◌<◌, ◌�
 ghost use Rattle.std.specs.List.{filter, list_any, remove, All, AllPairs};
 ghost use Rattle.std.specs.Option.{option_map};
 ghost use Rattle.stations.specs.Stations.{Station, Stations, struck, awaits_none};
-ghost use Rattle.stations.specs.Places.{is_youngest};
+ghost use Rattle.stations.specs.Places.{station, is_youngest};
 
 use crate::occupant::Occupant;
-use crate::places::{all_places, is_any_ready, push_within, take_free, wake_all};
+use crate::places::{all_places, empty_places, push_within, take_free, wake_all};
 use machine_desc::Desc;
 use rv_types::NoMemory;
 use std::alloc::Global;
 use std::marker::Model;
 
-/// The entries that wait, in `core.stations` places. Positions count them by age, from the oldest, which has 0.
+/// The entries that wait, in `core.stations` places, in which they don't move. Beside the places stand the numbers of those that are
+/// taken, by age, and of those that are free. Positions count the entries by age, from the oldest, which has 0.
 #[derive(Drop)]
 pub struct Stations {
-    waiting: Vec<Occupant>,
+    places: Vec<Occupant>,
+    ages: Vec<u32>,
     free: Vec<u32>,
-    room: u32,
 }
 
 impl Model for Stations {
-    ghost use Rattle.std.specs.Prelude.{◌≡◌, ◌+◌, ◌<◌, ◌≤◌, ◌^◌, map, vec_len, vec_capacity};
+    ghost use Rattle.std.specs.Prelude.{◌≡◌, ◌+◌, ◌<◌, ◌≤◌, ◌^◌, vec_len, vec_capacity};
     ghost use Rattle.stations.specs.Stations.{Stations};
-    ghost use Rattle.stations.specs.Places.{station, Placed};
+    ghost use Rattle.stations.specs.Places.{held_of, Placed};
 
     ghost Value = { Stations };
 
-    ghost view = { λ s. record { held = map station s.waiting.items; room = s.room } };
+    ghost view = { λ s. record { held = held_of s.places.items s.ages.items; room = vec_len s.places } };
 
-    ghost invariant = { λ s. Placed s.room s.waiting.items s.free.items × (vec_len s.waiting + vec_len s.free ≡ s.room) × (s.room ≤ vec_capacity s.waiting) × (s.room ≤ vec_capacity s.free) × (s.room < 2 ^ 32) };
+    ghost invariant = { λ s. Placed s.places.items s.ages.items s.free.items × (vec_len s.ages + vec_len s.free ≡ vec_len s.places) × (vec_len s.places ≤ vec_capacity s.ages) × (vec_len s.places ≤ vec_capacity s.free) × (vec_len s.places < 2 ^ 32) };
 }
 
 impl Stations {
@@ -38,13 +39,10 @@ impl Stations {
         ensures { IfOk result (λ s. s ≡ record { held = []; room = desc.now.core_stations }) }
     {
         let room = desc.core_stations;
-        let waiting = Vec::with_capacity(alloc, room as usize)?;
+        let places = empty_places(alloc, room)?;
+        let ages = Vec::with_capacity(alloc, room as usize)?;
         let free = all_places(alloc, room)?;
-        Ok(Stations {
-            waiting,
-            free,
-            room,
-        })
+        Ok(Stations { places, ages, free })
     }
 
     /// How many entries wait.
@@ -52,7 +50,7 @@ impl Stations {
         ensures len { result ≡ length self.now.held }
         ensures within { result ≤ self.now.room }
     {
-        self.waiting.len() as u32
+        self.ages.len() as u32
     }
 
     /// How many places are free.
@@ -68,22 +66,16 @@ impl Stations {
         requires youngest { All (λ s. s.serial < serial) self.old.held }
         ensures { (place : ℕ) × (self.new ≡ record self.old { held = self.old.held ++ record { serial = serial; awaits = awaits; place = place } ∷ [] }) }
     {
-        let [first, second] = awaits;
         let place = take_free(&mut self.free);
-        let entry = Occupant {
-            serial,
-            first,
-            second,
-            place,
-        };
-        push_within(&mut self.waiting, entry);
+        self.places[place as usize] = Occupant::new(serial, awaits);
+        push_within(&mut self.ages, place);
     }
 
     /// Tells all that the entry with a serial is Done: none awaits it any more.
     pub fn wake(&mut self, serial: u64)
         ensures { self.new ≡ record self.old { held = map (struck serial) self.old.held } }
     {
-        wake_all(&mut self.waiting, serial);
+        wake_all(&mut self.places, serial);
     }
 
     /// Whether the entry at a position awaits nothing.
@@ -91,14 +83,19 @@ impl Stations {
         requires { i < length self.now.held }
         ensures { option_map awaits_none (slice_get self.now.held i) ≡ Some result }
     {
-        self.waiting[i as usize].is_ready()
+        self.occupant(i).is_ready()
     }
 
     /// Whether there is an entry that awaits nothing.
     pub fn any_ready(&self) -> bool
         ensures { result ≡ list_any awaits_none self.now.held }
     {
-        is_any_ready(self.waiting.as_slice())
+        for i in 0..self.len() {
+            if self.ready(i) {
+                return true;
+            }
+        }
+        false
     }
 
     /// The serial of the entry at a position.
@@ -106,7 +103,7 @@ impl Stations {
         requires { i < length self.now.held }
         ensures { option_map (λ s. s.serial) (slice_get self.now.held i) ≡ Some result }
     {
-        self.waiting[i as usize].serial
+        self.occupant(i).serial
     }
 
     /// The place of the entry at a position. No two entries have the same.
@@ -116,7 +113,7 @@ impl Stations {
         ensures below { result < self.now.room }
         ensures differ { AllPairs (λ a b. a.place ≢ b.place) self.now.held }
     {
-        self.waiting[i as usize].place
+        self.ages[i as usize]
     }
 
     /// Frees the place of the entry at a position.
@@ -124,8 +121,8 @@ impl Stations {
         requires { i < length self.old.held }
         ensures { self.new ≡ record self.old { held = remove self.old.held i } }
     {
-        let entry = self.waiting.remove(i as usize);
-        push_within(&mut self.free, entry.place);
+        let place = self.ages.remove(i as usize);
+        push_within(&mut self.free, place);
     }
 
     /// Frees the places of the entries from a serial on.
@@ -141,14 +138,23 @@ impl Stations {
         }
     }
 
+    // The entry at a position, in its place.
+    fn occupant(&self, i: u32) -> &Occupant
+        requires { i < length self.now.held }
+        ensures { (place : ℕ) × (slice_get self.now.held i ≡ Some (station place result.now)) }
+    {
+        let place = self.ages[i as usize];
+        &self.places[place as usize]
+    }
+
     // Whether there is an entry and the youngest one's serial is this one or a later one.
     fn is_youngest_from(&self, serial: u64) -> bool
         ensures value { result ≡ is_youngest (λ s. nat_le serial s.serial) self.now.held }
         ensures rise { AllPairs (λ a b. a.serial < b.serial) self.now.held }
     {
-        match self.waiting.last() {
-            Some(entry) => serial <= entry.serial,
-            None => false,
+        match self.ages.len() as u32 {
+            0 => false,
+            entries => serial <= self.occupant(entries - 1).serial,
         }
     }
 }

@@ -2,8 +2,8 @@
 //!
 //! They stand for the Waiting entries of the window (`docs/machine.md`, "Entries"), each with the serials of the writers
 //! that it awaits, so that whether an entry is ready is known without a search. An entry stays in the place that it was
-//! given: the place's number doesn't change while it waits. One list has the entries by age, another the numbers of the
-//! free places. What is seen of them stands in `specs/Stations.antt`.
+//! given, and doesn't move while it waits. One list has the numbers of the taken places by age, another those of the free
+//! places. What is seen of them stands in `specs/Stations.antt`, how they lie in their places in `specs/Places.antt`.
 #![tactic(auto)]
 
 mod by_age;

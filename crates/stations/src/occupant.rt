@@ -1,8 +1,8 @@
-//! An entry that waits.
+//! An entry in its place.
 ghost use Rattle.std.specs.Prelude.{◌≡◌};
 ghost use Rattle.stations.specs.Stations.{strike};
 
-/// An entry that waits, the serials that it awaits, and the number of its place.
+/// An entry that waits, and the serials that it awaits.
 #[derive(Clone, Copy, Debug, PartialEq, Eq)]
 pub struct Occupant {
     /// Its serial.
@@ -11,8 +11,6 @@ pub struct Occupant {
     pub first: Option<u64>,
     /// The writer of its second source, if it is awaited.
     pub second: Option<u64>,
-    /// The number of its place, which is the same as long as it waits.
-    pub place: u32,
 }
 
 // This serial is awaited no longer.
@@ -25,9 +23,33 @@ fn strike(awaited: &mut Option<u64>, serial: u64)
 }
 
 impl Occupant {
-    ghost use Rattle.std.specs.Prelude.{◌≡◌};
-    ghost use Rattle.stations.specs.Stations.{awaits_none};
-    ghost use Rattle.stations.specs.Places.{station, woken};
+    ghost use Rattle.std.specs.Prelude.{◌≡◌, is_none};
+    ghost use Rattle.std.specs.List.{list_all};
+    ghost use Rattle.stations.specs.Places.{nobody, awaited, woken};
+
+    /// An entry with the serials that it awaits.
+    pub fn new(serial: u64, awaits: [Option<u64>; 2]) -> Occupant
+        ensures serial { result.serial ≡ serial }
+        ensures awaits { awaited result ≡ awaits }
+    {
+        let [first, second] = awaits;
+        Occupant {
+            serial,
+            first,
+            second,
+        }
+    }
+
+    /// What stands in a place that no entry has had.
+    pub fn nobody() -> Occupant
+        ensures { result ≡ nobody }
+    {
+        Occupant {
+            serial: 0,
+            first: None,
+            second: None,
+        }
+    }
 
     /// The entry awaits a serial no longer.
     pub fn wake(&mut self, serial: u64)
@@ -39,7 +61,7 @@ impl Occupant {
 
     /// Whether the entry awaits nothing.
     pub fn is_ready(&self) -> bool
-        ensures { result ≡ awaits_none (station self.now) }
+        ensures { result ≡ list_all is_none (awaited self.now) }
     {
         self.first.is_none() && self.second.is_none()
     }

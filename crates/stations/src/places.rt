@@ -1,12 +1,23 @@
-//! The entries that wait and the numbers of the free places, as lists.
-ghost use Rattle.std.specs.Prelude.{◌≡◌, ◌+◌, ◌<◌, ◌≤◌, [], ◌∷◌, ◌++◌, map, IfOk, vec_len, vec_capacity};
-ghost use Rattle.std.specs.List.{list_any, range_with_len};
-ghost use Rattle.stations.specs.Stations.{awaits_none};
-ghost use Rattle.stations.specs.Places.{station, woken};
+//! The places, and lists of their numbers.
+ghost use Rattle.std.specs.Prelude.{◌≡◌, ◌+◌, ◌<◌, ◌≤◌, [], ◌∷◌, ◌++◌, map, replicate, IfOk, vec_len, vec_capacity};
+ghost use Rattle.std.specs.List.{range_with_len};
+ghost use Rattle.stations.specs.Places.{nobody, woken};
 
 use crate::occupant::Occupant;
 use rv_types::NoMemory;
 use std::alloc::Global;
+
+/// So many places, which no entry has had. The one error is want of memory.
+pub fn empty_places(alloc: Global, room: u32) -> Result<Vec<Occupant>, NoMemory>
+    ensures items { IfOk result (λ v. v.items ≡ replicate room nobody) }
+    ensures len { IfOk result (λ v. vec_len v ≡ room) }
+{
+    let mut places = Vec::with_capacity(alloc, room as usize)?;
+    for turn in 0..room {
+        places.push(Occupant::nobody())?;
+    }
+    Ok(places)
+}
 
 /// The numbers of so many places, which are all free. The one error is want of memory.
 pub fn all_places(alloc: Global, room: u32) -> Result<Vec<u32>, NoMemory>
@@ -47,31 +58,18 @@ pub fn push_within<T: Drop>(items: &mut Vec<T>, item: T)
     }
 }
 
-/// Whether one of the entries awaits nothing.
-pub fn is_any_ready(waiting: &[Occupant]) -> bool
-    ensures { result ≡ list_any awaits_none (map station waiting.now) }
+fn wake_each(places: &mut [Occupant], serial: u64)
+    ensures { places.new ≡ map (woken serial) places.old }
 {
-    for entry in waiting {
-        if entry.is_ready() {
-            return true;
-        }
-    }
-    false
-}
-
-fn wake_each(waiting: &mut [Occupant], serial: u64)
-    ensures { waiting.new ≡ map (woken serial) waiting.old }
-{
-    for entry in waiting.iter_mut() {
+    for entry in places.iter_mut() {
         entry.wake(serial);
     }
 }
 
-/// The entries await a serial no longer.
-pub fn wake_all(waiting: &mut Vec<Occupant>, serial: u64)
-    ensures items { waiting.new.items ≡ map (woken serial) waiting.old.items }
-    ensures len { vec_len waiting.new ≡ vec_len waiting.old }
-    ensures capacity { vec_capacity waiting.new ≡ vec_capacity waiting.old }
+/// The entries in all places await a serial no longer.
+pub fn wake_all(places: &mut Vec<Occupant>, serial: u64)
+    ensures items { places.new.items ≡ map (woken serial) places.old.items }
+    ensures len { vec_len places.new ≡ vec_len places.old }
 {
-    wake_each(waiting.as_mut_slice(), serial);
+    wake_each(places.as_mut_slice(), serial);
 }

@@ -16,8 +16,6 @@ mod running;
 mod tests;
 mod top;
 
-use core_cycle::Core;
-use rename_taint::ByTable;
 use std::alloc::Global;
 use std::io::ErrorKind;
 use std::process::ExitCode;
@@ -57,12 +55,6 @@ fn main(rt: HostRuntime) -> ExitCode {
     let mut files = RealFiles::new(&rt);
     let mut out = RealSink::new(rt.stdout());
     let mut note = RealSink::new(rt.stderr());
-    let status = stt_top::<Core<ByTable>, _, _, _>(
-        alloc,
-        words.as_slice(),
-        &mut files,
-        &mut out,
-        &mut note,
-    );
+    let status = stt_top(alloc, words.as_slice(), &mut files, &mut out, &mut note);
     ExitCode::from(status)
 }

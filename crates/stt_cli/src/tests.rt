@@ -1,13 +1,10 @@
 //! Worked runs and refusals over files and sinks in memory: each status, each note, and reads and puts that fail.
 use crate::top::stt_top;
-use core_cycle::Core;
-use rename_taint::ByTable;
 use std::alloc::Global;
 use std::test::Fail;
 use tool_io::{Content, MemFail, MemFile, MemFiles, MemSink};
 
 mod bench;
-mod cores;
 mod failing;
 mod hostile;
 mod images;
@@ -55,7 +52,7 @@ fn top(
     out: &mut MemSink,
     note: &mut MemSink,
 ) -> u8 {
-    stt_top::<Core<ByTable>, MemFiles, MemSink, MemSink>(alloc, words, files, out, note)
+    stt_top(alloc, words, files, out, note)
 }
 
 /// What a run of the program left.

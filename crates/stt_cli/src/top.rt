@@ -11,7 +11,7 @@ ghost use Rattle.stt_cli.specs.Running.{Reports};
 ghost use Rattle.stt_cli.specs.Top.{Performs, Ends, Statuses};
 ghost use Rattle.stt_cli.specs.Promises.{Promises, TracesAgree};
 
-use crate::building::Built;
+use crate::building::build;
 use crate::input::{CoreInput, generate_core_input, read_core_input, read_input};
 use crate::loading::{load_image, machine_of};
 use crate::note::note_line;
@@ -48,7 +48,7 @@ fn isa<F: Files, O: Sink>(
 }
 
 // The machine's run of an image, as a report.
-fn report<C: Built + Drop, O: Sink>(
+fn report<O: Sink>(
     alloc: Global,
     input: &CoreInput,
     cycles: u32,
@@ -64,7 +64,7 @@ fn report<C: Built + Drop, O: Sink>(
         Ok(before) => before,
         Err(_) => return Err(Refusal::Memory),
     };
-    let mut core = match C::build(alloc, &input.desc, image) {
+    let mut core = match build(alloc, &input.desc, image) {
         Ok(core) => core,
         Err(_) => return Err(Refusal::Memory),
     };
@@ -75,7 +75,7 @@ fn report<C: Built + Drop, O: Sink>(
 }
 
 // `run`: the machine's run, as a report.
-fn run<C: Built + Drop, F: Files, O: Sink>(
+fn run<F: Files, O: Sink>(
     alloc: Global,
     description: &str,
     image: &str,
@@ -90,11 +90,11 @@ fn run<C: Built + Drop, F: Files, O: Sink>(
         Ok(input) => input,
         Err(refusal) => return Err(refusal),
     };
-    report::<C, O>(alloc, &input, cycles, out)
+    report(alloc, &input, cycles, out)
 }
 
 // `bench`: the same run, of an image that is generated.
-fn bench<C: Built + Drop, F: Files, O: Sink>(
+fn bench<F: Files, O: Sink>(
     alloc: Global,
     description: &str,
     seed: u64,
@@ -110,11 +110,11 @@ fn bench<C: Built + Drop, F: Files, O: Sink>(
         Ok(input) => input,
         Err(refusal) => return Err(refusal),
     };
-    report::<C, O>(alloc, &input, cycles, out)
+    report(alloc, &input, cycles, out)
 }
 
 // `trace`: the run of `run`, cycle by cycle.
-fn trace<C: Built + Drop, F: Files, O: Sink>(
+fn trace<F: Files, O: Sink>(
     alloc: Global,
     description: &str,
     image: &str,
@@ -133,7 +133,7 @@ fn trace<C: Built + Drop, F: Files, O: Sink>(
         Ok(image) => image,
         Err(refusal) => return Err(refusal),
     };
-    let mut core = match C::build(alloc, &input.desc, image) {
+    let mut core = match build(alloc, &input.desc, image) {
         Ok(core) => core,
         Err(_) => return Err(Refusal::Memory),
     };
@@ -144,7 +144,7 @@ fn trace<C: Built + Drop, F: Files, O: Sink>(
 }
 
 // All but the note.
-fn answer<C: Built + Drop, F: Files, O: Sink>(
+fn answer<F: Files, O: Sink>(
     alloc: Global,
     words: &[&str],
     files: &mut F,
@@ -168,29 +168,28 @@ fn answer<C: Built + Drop, F: Files, O: Sink>(
             description,
             image,
             cycles,
-        } => run::<C, F, O>(alloc, description, image, cycles, files, out),
+        } => run(alloc, description, image, cycles, files, out),
         Command::Trace {
             description,
             image,
             cycles,
-        } => trace::<C, F, O>(alloc, description, image, cycles, files, out),
+        } => trace(alloc, description, image, cycles, files, out),
         Command::Bench {
             description,
             seed,
             blocks,
             cycles,
-        } => bench::<C, F, O>(alloc, description, seed, blocks, cycles, files, out),
+        } => bench(alloc, description, seed, blocks, cycles, files, out),
     }
 }
 
-/// Does all that the program does, and answers its status; `run`, `trace` and `bench` run the core `C`, which is the written
-/// machine whichever it is. `words` are those after the program's name. What is asked for is written to `out`, one put a line; a
-/// refusal writes its line to `note`, whose failure changes no status.
+/// Does all that the program does, and answers its status. `words` are those after the program's name. What is asked for is
+/// written to `out`, one put a line; a refusal writes its line to `note`, whose failure changes no status.
 ///
 /// Statuses: 0 the run ended by an exit, 1 by a trap, 3 not within its budget; 2 the words are no command; 4 the
 /// description, 5 the image is too long or at fault; 6 a file couldn't be read; 7 the output couldn't be written whole;
 /// 8 there was no memory, which comes only before the first byte of output.
-pub fn stt_top<C: Built + Drop, F: Files, O: Sink, N: Sink>(
+pub fn stt_top<F: Files, O: Sink, N: Sink>(
     alloc: Global,
     words: &[&str],
     files: &mut F,
@@ -204,7 +203,7 @@ pub fn stt_top<C: Built + Drop, F: Files, O: Sink, N: Sink>(
     ensures promises { Promises (map (λ w. w.now) words.now) (F.shelf files.old) (F.shelf files.new) (O.told out.old) (O.told out.new) result }
     ensures stays { SameContents (F.shelf files.old) (F.shelf files.new) }
 {
-    let outcome = answer::<C, F, O>(alloc, words, files, out);
+    let outcome = answer(alloc, words, files, out);
     if let Err(refusal) = &outcome {
         let _ = note.put(note_line(refusal).as_slice());
     }

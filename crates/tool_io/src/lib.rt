@@ -14,6 +14,7 @@ mod mem_files;
 mod mem_sink;
 mod never_fails;
 mod real;
+mod streams;
 
 pub use mem_files::{MemFile, MemFiles};
 pub use mem_sink::{MemFail, MemSink};
@@ -21,17 +22,21 @@ pub use never_fails::NeverFails;
 pub use real::{RealFiles, RealSink};
 use std::alloc::Global;
 use std::marker::Model;
+use thiserror::Error;
 
 /// A put that didn't take the whole piece.
-#[derive(Clone, Copy, Debug, PartialEq, Eq)]
+#[derive(Clone, Copy, Debug, PartialEq, Eq, Error)]
+#[error("the text could not be written whole")]
 pub struct Failed;
 
 /// Why a read gives nothing.
-#[derive(Clone, Copy, Debug, PartialEq, Eq)]
+#[derive(Clone, Copy, Debug, PartialEq, Eq, Error)]
 pub enum ReadFail {
     /// The file isn't there, or couldn't be read.
+    #[error("the file isn't there, or could not be read")]
     Failed,
     /// There was no memory for its bytes.
+    #[error("there is no memory for the bytes of the file")]
     NoMemory,
 }
 

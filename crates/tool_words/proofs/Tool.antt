@@ -12,7 +12,6 @@ use Rattle.std.proofs.Common.{codes}
 use Rattle.clap.proofs.OnLiterals.{clap_on_literals}
 use Rattle.clap.proofs.ValueTestLemmas.{accepts-Accepts, Accepts-accepts}
 use Rattle.clap.specs.declared.builder.value_parser.ValueParser.TheVariants as parser
-use Rattle.tool_words.specs.declared.blocks.TheConstants.{BLOCKS_MAX}
 use Rattle.tool_words.specs.Words.{isa_text, run_text, trace_text, bench_text, tool_app, faults, rows_in, number_between, number_of, word_of, blocks_of, CommandText, command_in, command_of, if_none}
 
 pub tool_is_free : is_simple_and_free tool_app ≡ true
@@ -102,18 +101,18 @@ pub word_not_read : {E : Type 0} (t : List ℕ) (r : Result ℕ E) (d : E) → P
 unfolding word_of
 word_not_read t r d h e = not_read_between 0 4294967295 t r d 32 (omega arith) h e
 
-pub blocks_read : {E : Type 0} (t : List ℕ) (r : Result ℕ E) (n : ℕ) → ParsesUnsigned 32 10 t r → r ≡ Ok n → 1 ≤ n → n ≤ BLOCKS_MAX → Some n ≡ blocks_of t
+pub blocks_read : {E : Type 0} (t : List ℕ) (r : Result ℕ E) (n : ℕ) → ParsesUnsigned 32 10 t r → r ≡ Ok n → 1 ≤ n → n ≤ 4096 → Some n ≡ blocks_of t
 unfolding blocks_of
-blocks_read t r n h e l m = read_between 1 BLOCKS_MAX t r n 32 (omega arith) h e l m
+blocks_read t r n h e l m = read_between 1 4096 t r n 32 (omega arith) h e l m
 
-pub blocks_outside : {E : Type 0} (t : List ℕ) (r : Result ℕ E) (n : ℕ) → ParsesUnsigned 32 10 t r → r ≡ Ok n → ((1 ≤ n) × (BLOCKS_MAX < n)) ⊎ (n < 1) → None ≡ blocks_of t
+pub blocks_outside : {E : Type 0} (t : List ℕ) (r : Result ℕ E) (n : ℕ) → ParsesUnsigned 32 10 t r → r ≡ Ok n → ((1 ≤ n) × (4096 < n)) ⊎ (n < 1) → None ≡ blocks_of t
 unfolding blocks_of
-blocks_outside t r n h e (inl x) = let above : BLOCKS_MAX < n = x.1 in read_outside 1 BLOCKS_MAX t r n 32 h e (λ l m. omega (arith, above, m))
-blocks_outside t r n h e (inr x) = read_outside 1 BLOCKS_MAX t r n 32 h e (λ l m. omega (arith, x, l))
+blocks_outside t r n h e (inl x) = let above : 4096 < n = x.1 in read_outside 1 4096 t r n 32 h e (λ l m. omega (arith, above, m))
+blocks_outside t r n h e (inr x) = read_outside 1 4096 t r n 32 h e (λ l m. omega (arith, x, l))
 
 pub blocks_not_read : {E : Type 0} (t : List ℕ) (r : Result ℕ E) (d : E) → ParsesUnsigned 32 10 t r → r ≡ Err d → None ≡ blocks_of t
 unfolding blocks_of
-blocks_not_read t r d h e = not_read_between 1 BLOCKS_MAX t r d 32 (omega arith) h e
+blocks_not_read t r d h e = not_read_between 1 4096 t r d 32 (omega arith) h e
 
 pub words_are : (ws : List Text) (m : ArgMatches) (o : Option CommandText) → faults ws ≡ [] → subcommand_rows_of m ≡ rows_in ws → o ≡ command_in (subcommand_rows_of m) → command_of ws ≡ o
 unfolding command_of

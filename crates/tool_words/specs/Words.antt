@@ -7,8 +7,6 @@ use Rattle.clap.specs.ValueTests.{accepts}
 use Rattle.clap.specs.declared.builder.value_parser.ValueParser.TheVariants as parser
 use Rattle.tool_words.specs.declared.Command.{Command}
 use Rattle.tool_words.specs.declared.Command.TheVariants.{Isa, Run, Trace, Bench}
-use Rattle.tool_words.specs.declared.TheConstants.{STEPS_MAX}
-use Rattle.tool_words.specs.declared.blocks.TheConstants.{BLOCKS_MAX}
 
 -- a required name at its place
 abbrev pub name_rule : Text → Rule
@@ -18,9 +16,9 @@ name_rule id = record (new_rule id) { required = true }
 abbrev pub number_rule : Text → ℕ → ℕ → Rule
 number_rule id least most = record (new_rule id) { long = Some id; required = true; parser = Some (parser.Unsigned least most) }
 
--- the number of cycles
+-- the number of cycles: what fits 32 bits, and not 0
 abbrev pub cycles_rule : Rule
-cycles_rule = number_rule (codes "cycles") 1 STEPS_MAX
+cycles_rule = number_rule (codes "cycles") 1 4294967295
 
 -- an option with a text, which may be left out
 abbrev pub text_rule : Text → Rule
@@ -29,7 +27,7 @@ text_rule id = record (new_rule id) { long = Some id }
 -- isa IMAGE --steps N [--desc D]
 abbrev pub isa_shape : Shape
 isa_shape =
-    (with_rule (with_rule (with_rule (new_app (codes "isa")) (name_rule (codes "image"))) (number_rule (codes "steps") 1 STEPS_MAX))
+    (with_rule (with_rule (with_rule (new_app (codes "isa")) (name_rule (codes "image"))) (number_rule (codes "steps") 1 4294967295))
     (text_rule (codes "desc"))).top
 
 -- run D IMAGE --cycles N, or the same with another name
@@ -42,7 +40,7 @@ cycles_shape name =
 abbrev pub bench_shape : Shape
 bench_shape =
     (with_rule (with_rule (with_rule (with_rule (new_app (codes "bench")) (name_rule (codes "description")))
-    (number_rule (codes "seed") 0 18446744073709551615)) (number_rule (codes "blocks") 1 BLOCKS_MAX)) cycles_rule).top
+    (number_rule (codes "seed") 0 18446744073709551615)) (number_rule (codes "blocks") 1 4096)) cycles_rule).top
 
 -- no help, no version, and the words begin with the command
 abbrev pub bare_app : App
@@ -95,9 +93,9 @@ word_of t = number_between 0 4294967295 t
 abbrev pub word_in : Text → List Row → Option ℕ
 word_in id rows = option_and_then word_of (first_of id rows)
 
--- a number of blocks
+-- a number of blocks, 1 to 4096
 unfoldable pub blocks_of : Text → Option ℕ
-blocks_of t = number_between 1 BLOCKS_MAX t
+blocks_of t = number_between 1 4096 t
 
 abbrev pub blocks_in : Text → List Row → Option ℕ
 blocks_in id rows = option_and_then blocks_of (first_of id rows)

@@ -1,6 +1,5 @@
 //! How many blocks a generated image has.
 ghost use Rattle.std.specs.Prelude.{◌≤◌};
-ghost use Rattle.tool_words.specs.declared.blocks.TheConstants.{BLOCKS_MAX};
 
 /// The most blocks that a generated image may be asked to have.
 pub const BLOCKS_MAX: u32 = 4096;
@@ -10,5 +9,5 @@ pub const BLOCKS_MAX: u32 = 4096;
 pub struct Blocks {
     pub count: u32,
     ghost some: { 1 ≤ count },
-    ghost few: { count ≤ BLOCKS_MAX },
+    ghost few: { count ≤ 4096 },
 }

@@ -16,6 +16,7 @@ use clap::builder::ValueParser;
 use clap::error::ErrorKind;
 use clap::{Arg, ArgMatches, Command as Parser};
 use std::alloc::{AllocError, Global};
+use thiserror::Error;
 
 /// The most steps, or cycles, that may be asked for: what fits 32 bits.
 pub const STEPS_MAX: u64 = 4294967295;
@@ -52,11 +53,13 @@ pub enum Command<'a> {
 }
 
 /// Why the words give no command.
-#[derive(Clone, Copy, Debug, PartialEq, Eq)]
+#[derive(Clone, Copy, Debug, PartialEq, Eq, Error)]
 pub enum Refused {
     /// They are no command.
+    #[error("the words are no command")]
     Words,
     /// There was no memory to read them.
+    #[error("there is no memory to read the words")]
     Memory,
 }
 

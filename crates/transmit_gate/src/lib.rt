@@ -12,7 +12,7 @@ use visibility::VisPoint;
 
 /// Whether taint lets an entry of this kind issue, by the youngest roots of its first and second source. It takes constant
 /// time.
-pub fn may_issue(kind: Kind, roots: [Option<u64>; 2], point: &VisPoint) -> bool
+pub fn may_transmit(kind: Kind, roots: [Option<u64>; 2], point: &VisPoint) -> bool
     ensures { result ≡ may_transmit kind point.now.serial roots }
 {
     let [first, second] = roots;

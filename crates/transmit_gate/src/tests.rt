@@ -1,5 +1,5 @@
 //! The gate over a window in which serial 0 alone is visible; the expected answers follow from `docs/machine.md`, "Issue".
-use crate::may_issue;
+use crate::may_transmit;
 use machine_desc::read_desc;
 use rv_types::Kind;
 use std::test::Fail;
@@ -24,7 +24,7 @@ fn loads_and_divisions_wait_for_their_roots(rt: HostRuntime) -> Result<(), Fail>
         (Kind::Mul, [Some(7), Some(7)], true),
     ];
     for (kind, roots, want) in rows {
-        assert_eq!(rt; may_issue(kind, roots, &point), want, "{kind:?} {roots:?}");
+        assert_eq!(rt; may_transmit(kind, roots, &point), want, "{kind:?} {roots:?}");
     }
     Ok(())
 }

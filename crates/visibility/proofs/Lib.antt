@@ -1,4 +1,3 @@
 pub mod Walking
-pub mod Rising
 pub mod Moving
 pub mod Stopping

@@ -2,6 +2,7 @@
 use Rattle.std.proofs.Common.{◌≡◌, ℕ, zero, suc, ◌+◌, ◌<◌, ◌≤◌, Bool, true, false, not, ◌&&◌, List, [], ◌∷◌, length, Option, Some, None, refl, ap, ap₂, sym, ◌∙◌, subst, arith, slice_get}
 use Rattle.std.specs.Prelude.{reverse, nat_le}
 use Rattle.std.specs.List.{find, list_all, All}
+use Rattle.std.specs.Option.{option_map, unwrap_or}
 use Rattle.std.proofs.lemmas.Bool.Decides.{nat_tests}
 use Rattle.std.proofs.lemmas.List.Elements.{All-nil, All-cons, All-head, All-tail, All-weaker}
 use Rattle.machine_desc.specs.declared.SttModel.{SttModel}
@@ -10,7 +11,8 @@ use Rattle.window_model.specs.declared.Entry.{Entry}
 use Rattle.window_model.specs.Along.{Along}
 use Rattle.window_model.specs.Taint.{visible}
 use Rattle.window_model.proofs.Before.{all_reverse}
-use Rattle.visibility.proofs.Rising.{Rise, rise_head, rise_tail}
+use Rattle.window_model.specs.Serials.{Rise}
+use Rattle.window_model.proofs.Serials.{rise_head, rise_tail}
 use Rattle.visibility.specs.Point.{Point, passes, next_after, serial_of, moved_over, Passed, IsPoint, CanAdvance, HasMoved, HasAdvanced}
 
 -- ---- visible, entry by entry
@@ -211,11 +213,16 @@ next_is zero s (x ∷ []) e l h = let i : Some x ≡ Some e = h in let j : x ≡
 next_is zero s (x ∷ y ∷ es) e l h = absurd (omega (arith, l))
 next_is (suc n) s (x ∷ es) e l h = let m : length es ≡ n + 1 = omega (arith, l) in next_is n (x.serial + 1) es e m h
 
+-- the serial of what is found, else another
+serial_is : (found : Option Entry) (next : ℕ) → unwrap_or (option_map (λ e. e.serial) found) next ≡ serial_of found next
+serial_is None next = refl
+serial_is (Some e) next = refl
+
 -- what the search and the youngest entry come to, at the point as it was
-module _ (p : Point) (window : List Entry) (n next : ℕ) (found : Option Entry)
-    (is : n ≡ serial_of found next) (stop_is : found ≡ stop p.model window) (next_is : next ≡ next_after p.serial window) (rise : Rise window) where
-  moved : n ≡ (moved_over window p).serial
-  moved = is ∙ ap₂ serial_of stop_is next_is
+module _ (p : Point) (window : List Entry) (n next : ℕ) (found : Option ℕ)
+    (is : n ≡ unwrap_or found next) (stop_is : found ≡ option_map (λ e. e.serial) (stop p.model window)) (next_is : next ≡ next_after p.serial window) (rise : Rise window) where
+  pub moved : n ≡ (moved_over window p).serial
+  moved = is ∙ ap₂ (λ next found. unwrap_or found next) next_is stop_is ∙ serial_is (stop p.model window) (next_after p.serial window)
 
   pub advanced_at : HasAdvanced (record p { serial = n }) window
   advanced_at = subst (λ n. HasAdvanced (record p { serial = n }) window) (sym moved) (has_advanced p window rise)

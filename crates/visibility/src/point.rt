@@ -1,12 +1,13 @@
 //! The point itself.
 ghost use Rattle.std.specs.Prelude.{◌≡◌, ◌+◌, ◌-◌, ◌<◌, ◌≤◌, ◌^◌, true, not, [], length, nat_le, slice_get, take, drop};
-ghost use Rattle.std.specs.List.{find, All, AllPairs};
-ghost use Rattle.visibility.specs.Point.{passes, is_hidden, next_after, serial_of, moved_over, CanAdvance, HasAdvanced};
+ghost use Rattle.std.specs.List.{find, All};
+ghost use Rattle.std.specs.Option.{option_map};
+ghost use Rattle.window_model.specs.Serials.{Rise};
+ghost use Rattle.visibility.specs.Point.{passes, is_hidden, next_after, moved_over, CanAdvance, HasAdvanced};
 
 use machine_desc::{Desc, SttModel};
 use std::marker::Model;
-use window_model::{Entry, Window};
-use window_walk::{is_safe, is_settled};
+use window_model::{Entry, Window, position_of};
 
 /// The visibility point of a model: entries up to its serial are visible, and younger ones are not.
 #[derive(Drop)]
@@ -53,26 +54,19 @@ impl VisPoint {
     }
 
     /// The point's position in a window: the entries before it have serials below the point's, and the others don't.
-    /// Serials rise, by one but for gaps that squashes leave, so it is looked for as far behind the oldest entry as the
-    /// point is.
     pub fn position<W: Window>(&self, window: &W) -> u32
-        requires { AllPairs (λ a b. a.serial < b.serial) (W.entries window.now) }
+        requires { Rise (W.entries window.now) }
         ensures below { All (λ e. e.serial < self.now.serial) (take result (W.entries window.now)) }
         ensures above { All (λ e. self.now.serial ≤ e.serial) (drop result (W.entries window.now)) }
         ensures within { result ≤ length (W.entries window.now) }
     {
-        for i in (0..reach(self.serial, window)).rev() {
-            if window.at(i).serial < self.serial {
-                return i + 1;
-            }
-        }
-        0
+        position_of(window, self.serial)
     }
 
     /// Moves the point on: to the oldest entry that keeps younger ones from being visible, or to the serial after the
     /// youngest where none does. It begins at the point, so it looks at no entry that is behind it but for gaps of serials.
     pub fn advance<W: Window>(&mut self, window: &W)
-        requires rise { AllPairs (λ a b. a.serial < b.serial) (W.entries window.now) }
+        requires rise { Rise (W.entries window.now) }
         requires few { All (λ e. e.serial < 2 ^ 64 - 1) (W.entries window.now) }
         requires can { CanAdvance self.old (W.entries window.now) }
         ensures moved { self.new ≡ moved_over (W.entries window.now) self.old }
@@ -81,39 +75,20 @@ impl VisPoint {
     {
         let start = self.position(window);
         let stop = find_stop(self.model, window, start);
-        self.serial = serial_of(stop, after_youngest(self.serial, window));
+        self.serial = stop.unwrap_or(after_youngest(self.serial, window));
     }
 }
 
-// How many entries there can be with serials below this one: serials rise, so each entry's is as far above the oldest's as
-// the entry is behind it, or farther.
-fn reach<W: Window>(serial: u64, window: &W) -> u32
-    requires { AllPairs (λ a b. a.serial < b.serial) (W.entries window.now) }
-    ensures above { All (λ e. serial ≤ e.serial) (drop result (W.entries window.now)) }
-    ensures within { result ≤ length (W.entries window.now) }
-{
-    let len = window.len();
-    if len == 0 {
-        return 0;
-    }
-    let ahead = serial.saturating_sub(window.at(0).serial);
-    if ahead < len as u64 {
-        ahead as u32
-    } else {
-        len
-    }
-}
-
-// The oldest entry that keeps younger ones from being visible, looked for from a position on.
-fn find_stop<W: Window>(model: SttModel, window: &W, start: u32) -> Option<Entry>
+// The serial of the oldest entry that keeps younger ones from being visible, looked for from a position on.
+fn find_stop<W: Window>(model: SttModel, window: &W, start: u32) -> Option<u64>
     requires passed { All (λ e. passes model e ≡ true) (take start (W.entries window.now)) }
     requires within { start ≤ length (W.entries window.now) }
-    ensures { result ≡ find (λ e. not (passes model e)) (W.entries window.now) }
+    ensures { result ≡ option_map (λ e. e.serial) (find (λ e. not (passes model e)) (W.entries window.now)) }
 {
     for i in start..window.len() {
-        let entry = window.at(i);
-        if !does_pass(model, &entry) {
-            return Some(entry);
+        let entry = window.lend(i);
+        if !does_pass(model, entry) {
+            return Some(entry.serial);
         }
     }
     None
@@ -124,8 +99,8 @@ fn does_pass(model: SttModel, entry: &Entry) -> bool
     ensures { result ≡ passes model entry.now }
 {
     match model {
-        SttModel::Spectre => is_settled(entry),
-        SttModel::Futuristic => is_safe(entry),
+        SttModel::Spectre => entry.is_settled(),
+        SttModel::Futuristic => entry.is_safe(),
     }
 }
 
@@ -139,15 +114,5 @@ fn after_youngest<W: Window>(serial: u64, window: &W) -> u64
     if len == 0 {
         return serial;
     }
-    window.at(len - 1).serial + 1
-}
-
-// The serial of the entry that was found, this one where there is none.
-fn serial_of(found: Option<Entry>, next: u64) -> u64
-    ensures { result ≡ serial_of found next }
-{
-    match found {
-        Some(entry) => entry.serial,
-        None => next,
-    }
+    window.lend(len - 1).serial + 1
 }

@@ -38,6 +38,10 @@ impl Window for Two {
     fn at(&self, i: u32) -> Entry {
         if i == 0 { self.older } else { self.younger }
     }
+
+    fn lend(&self, i: u32) -> &Entry {
+        if i == 0 { &self.older } else { &self.younger }
+    }
 }
 
 fn entry(serial: u64, instr: Instr, state: State, fault: Option<Cause>, resolved: bool) -> Entry

@@ -1,13 +1,10 @@
 pub mod Worked
-pub mod BoundsCheck
-pub mod Shadows
-pub mod Accesses
-pub mod Flow
-pub mod Corners
 pub mod Before
 pub mod Taints
 pub mod Booleans
 pub mod Lists
+pub mod Serials
+pub mod Positions
 pub mod Places
 pub mod EntryByEntry
 pub mod Counts

@@ -6,16 +6,22 @@ use Rattle.rv_types.specs.Memory.{Ram, load_fault, range}
 use Rattle.rv_types.specs.declared.Cause.{Cause}
 use Rattle.machine_desc.specs.declared.Desc.{Desc}
 use Rattle.window_model.specs.declared.Entry.{Entry}
+use Rattle.window_model.specs.declared.Outcome.{Outcome}
 use Rattle.machine_desc.specs.declared.SttModel.{SttModel}
 use Rattle.window_model.specs.State.{Machine, Miss, line_of}
-use Rattle.window_model.specs.Order.{is_store, is_faulty}
+use Rattle.window_model.specs.Order.{is_store}
 use Rattle.window_model.specs.Taint.{address_tainted}
 use Rattle.window_model.specs.Retire.{has_line, addr_of, stored_of, width_of}
 
--- the entry is a store without fault that writes the byte at this address. One that has no outcome yet counts as one at
--- address 0: nothing asks, since a load issues only behind stores that are Done
+-- an access of n bytes with this outcome reaches the byte at an address: it has no fault, and the byte is one of its own.
+-- Where there is no outcome yet there is no address, and it reaches none
+abbrev pub reaches : ℕ → ℕ → Option Outcome → Bool
+reaches a n None = false
+reaches a n (Some o) = not (is_some o.fault) && nat_le o.addr a && nat_lt a (o.addr + n)
+
+-- the entry is a store that writes the byte at this address
 abbrev pub covers : ℕ → Entry → Bool
-covers a e = is_store e.item.kind && not (is_faulty e) && nat_le (addr_of e.outcome) a && nat_lt a (addr_of e.outcome + width_of e)
+covers a e = is_store e.item.kind && reaches a (width_of e) e.outcome
 
 -- the byte that a store writes at an address that it covers
 abbrev pub byte_from : ℕ → Entry → ℕ

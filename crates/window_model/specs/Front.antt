@@ -1,5 +1,5 @@
 -- The last two phases: items are renamed into the window, and fetched (docs/machine.md, "Rename", "Fetch").
-use Rattle.std.specs.Prelude.{ℕ, zero, suc, ◌+◌, Bool, true, false, not, ◌&&◌, ◌||◌, ◌==◌, nat_lt, nat_le, List, [], ◌∷◌, ◌++◌, length, slice_index, slice_index_or, Option, Some, None, if◌then◌else◌}
+use Rattle.std.specs.Prelude.{ℕ, zero, suc, ◌+◌, ◌≤◌, Bool, true, false, not, ◌&&◌, ◌||◌, ◌==◌, nat_lt, nat_le, List, [], ◌∷◌, ◌++◌, length, slice_index, slice_index_or, Option, Some, None, if◌then◌else◌}
 use Rattle.std.specs.List.{list_any}
 use Rattle.std.specs.Prelude.{count_by}
 use Rattle.rv_types.specs.Word.{word_add, word}
@@ -35,6 +35,14 @@ abbrev pub is_call : Kind → Bool
 is_call Call = true
 is_call _ = false
 
+-- the entry is an ECALL
+abbrev pub calls : Entry → Bool
+calls e = is_call e.item.kind
+
+-- where there is a call, it is the only entry
+abbrev pub CallAlone : List Entry → Type 0
+CallAlone window = 1 ≤ count_by calls window → length window ≤ 1
+
 -- what can only trap
 abbrev pub is_stop : Kind → Bool
 is_stop (Stop cause) = true
@@ -56,7 +64,7 @@ fits_as _ d window = true
 abbrev pub fits : Desc → List Entry → Item → Bool
 fits d window item =
     nat_lt (length window) d.core_rob
-    && not (list_any (λ e. is_call e.item.kind) window)
+    && not (list_any calls window)
     && fits_as item.kind d window
     && (at_once item.kind || nat_lt (count_by (λ e. is_waiting e.state) window) d.core_stations)
 

@@ -1,5 +1,6 @@
 pub mod State
 pub mod Order
+pub mod Serials
 pub mod Taint
 pub mod Fill
 pub mod Resolve

@@ -1,8 +1,62 @@
--- The events of a cycle (docs/machine.md, "Events").
-use Rattle.std.specs.Prelude.{ℕ, List}
+-- The events of a cycle, and how many there can be (docs/machine.md, "Events").
+use Rattle.std.specs.Prelude.{ℕ, ◌+◌, ◌≤◌, List, ◌++◌, length}
 use Rattle.window_model.specs.declared.Event.{Event}
 
 -- a cycle's number, and what happened in it
 pub record Row : Type 0 where
   pub cycle : ℕ
   pub events : List Event
+
+-- for how many events a row has room
+abbrev pub row_room : ℕ
+row_room = 128
+
+-- the row has room for so many events more
+abbrev pub HasRoom : ℕ → Row → Type 0
+HasRoom n row = length row.events + n ≤ row_room
+
+-- the row with these events behind its own
+abbrev pub with_events : Row → List Event → Row
+with_events row events = record row { events = row.events ++ events }
+
+-- one row has at most so many events more than another
+abbrev pub IsLonger : ℕ → Row → Row → Type 0
+IsLonger n old new = length new.events ≤ length old.events + n
+
+-- ---- the most events of each phase, under every description
+
+-- the most entries that are in flight: core.rob is at most this
+abbrev pub most_entries : ℕ
+most_entries = 64
+
+-- of Fill: as many as there are miss registers
+abbrev pub most_filled : ℕ
+most_filled = 8
+
+-- of Complete: as many as there are entries
+abbrev pub most_done : ℕ
+most_done = most_entries
+
+-- of Resolve: what became of one branch or JALR, what the predictor learnt, and a squash
+abbrev pub most_resolved : ℕ
+most_resolved = 3
+
+-- of Retire: two for each of four entries
+abbrev pub most_retired : ℕ
+most_retired = 8
+
+-- of Issue: four arithmetic ones, a multiplication, a division, a store and a load
+abbrev pub most_issued : ℕ
+most_issued = 8
+
+-- of Rename, and of Fetch: as many as are fetched in a cycle
+abbrev pub most_fetched : ℕ
+most_fetched = 4
+
+-- of the phases before Retire
+abbrev pub most_before_retire : ℕ
+most_before_retire = most_filled + most_done + most_resolved
+
+-- of a cycle
+abbrev pub most_events : ℕ
+most_events = most_before_retire + most_retired + most_issued + most_fetched + most_fetched

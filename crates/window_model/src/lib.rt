@@ -11,9 +11,14 @@ use rv_types::{Cause, Instr, Kind};
 
 mod blank;
 mod clocked;
+mod entries;
+mod line;
+mod position;
 mod row;
 
 pub use clocked::Clocked;
+pub use line::line_of;
+pub use position::position_of;
 pub use row::{ROW_MAX, Row, empty_row};
 
 /// A fetched instruction (`docs/machine.md`, "State").
@@ -184,6 +189,11 @@ pub trait Window {
     fn at(&self, i: u32) -> Entry
         requires { i < length (entries self.now) }
         ensures { slice_get (entries self.now) i ≡ Some result };
+
+    /// Lends the entry at a position, where a copy isn't needed.
+    fn lend(&self, i: u32) -> &Entry
+        requires { i < length (entries self.now) }
+        ensures { slice_get (entries self.now) i ≡ Some result.now };
 }
 
 #[cfg(test)]

@@ -34,6 +34,8 @@ pub fn empty_row() -> Row
 }
 
 impl Row {
+    ghost use Rattle.window_model.specs.Row.{row_room, with_events};
+
     /// Starts the row of a cycle: its number, and no event.
     pub fn begin(&mut self, cycle: u32)
         ensures { self.new ≡ record { cycle = cycle; events = [] } }
@@ -44,8 +46,8 @@ impl Row {
 
     /// Adds an event behind the others.
     pub fn push(&mut self, event: Event)
-        requires { length self.old.events < 128 }
-        ensures { self.new ≡ record self.old { events = self.old.events ++ event ∷ [] } }
+        requires { length self.old.events < row_room }
+        ensures { self.new ≡ with_events self.old (event ∷ []) }
     {
         self.events.push(event);
     }
@@ -60,7 +62,7 @@ impl Row {
     /// The events, in their order.
     pub fn events(&self) -> &[Event]
         ensures value { result.now ≡ self.now.events }
-        ensures few { length result.now ≤ 128 }
+        ensures few { length result.now ≤ row_room }
     {
         self.events.as_slice()
     }

@@ -18,7 +18,6 @@ use std::process::Abort;
 use std::test::Fail;
 use unit_ports::Ports;
 use window_model::{Entry, Item, Outcome, State};
-use window_walk::is_load;
 
 /// An entry that waits.
 pub(super) fn waiting(serial: u64, instr: Instr, kind: Kind) -> Entry
@@ -172,7 +171,7 @@ pub(super) fn queue_load(rt: &impl Abort, lsq: &mut Lsq, serial: u64)
 pub(super) fn queue_if_load(rt: &impl Abort, lsq: &mut Lsq, entry: &Entry)
     ensures { lsq.new ≡ record lsq.old { loads = if is_load entry.now.item.kind then lsq.old.loads ++ entry.now.serial ∷ [] else lsq.old.loads } }
 {
-    if is_load(entry) {
+    if entry.is_load() {
         queue_load(rt, lsq, entry.serial);
     }
 }

@@ -7,10 +7,10 @@ loop-i-init g c =
 
 pub returns-then-may_resolve : goal.returns-then-may_resolve
 returns-then-may_resolve g c =
-    pick_here c.args.point.now.serial c.loop-i.i (g.W.Window.entries c.args.window.now) c.args.roots.now.items c.at-entry.result c.pair_at.result _ c.may_resolve.result
-    c.at-entry.ensures c.pair_at.ensures c.may_resolve.ensures c.loop-i.invariant c.if-may_resolve.true
+    pick_here c.args.point.now.serial c.loop-i.i (g.W.Window.entries c.args.window.now) c.args.roots.now.items c.lend-entry.result.now c.pair_at.result _ c.may_resolve.result
+    c.lend-entry.ensures c.pair_at.ensures c.may_resolve.ensures c.loop-i.invariant c.if-may_resolve.true
 
 pub loop-i-preserved : goal.loop-i-preserved
 loop-i-preserved g c =
-    pick_on c.args.point.now.serial c.loop-i.i (g.W.Window.entries c.args.window.now) c.args.roots.now.items c.at-entry.result c.pair_at.result _ c.may_resolve.result
-    c.at-entry.ensures c.pair_at.ensures c.may_resolve.ensures c.loop-i.invariant c.if-may_resolve.false
+    pick_on c.args.point.now.serial c.loop-i.i (g.W.Window.entries c.args.window.now) c.args.roots.now.items c.lend-entry.result.now c.pair_at.result _ c.may_resolve.result
+    c.lend-entry.ensures c.pair_at.ensures c.may_resolve.ensures c.loop-i.invariant c.if-may_resolve.false

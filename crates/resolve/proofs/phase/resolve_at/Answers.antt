@@ -39,8 +39,8 @@ returns-in-Right-clause-row g c = right_row _ _ _ _ _ _ _ _ (taught_right g c) (
 pub returns-in-Right-clause-rob : goal.returns-in-Right-clause-rob
 returns-in-Right-clause-rob g c = right_rob _ _ _ _ _ _ _ _ (taught_right g c) (right g c)
 
-pub returns-in-Right-clause-names : goal.returns-in-Right-clause-names
-returns-in-Right-clause-names g c = sym (ap (λ o. left before_serial o (g.R.RenameTaint.writes c.args.rename.now)) (right_drops _ _ _ _ _ _ _ _ (taught_right g c) (right g c)))
+pub returns-in-Right-clause-table : goal.returns-in-Right-clause-table
+returns-in-Right-clause-table g c = sym (ap (λ o. left before_serial o (g.R.RenameTaint.writes c.args.table.now)) (right_drops _ _ _ _ _ _ _ _ (taught_right g c) (right g c)))
 
 pub returns-in-Right-clause-stations : goal.returns-in-Right-clause-stations
 returns-in-Right-clause-stations g c =
@@ -95,8 +95,8 @@ returns g c =
       rob = wrong_rob _ _ _ _ _ _ _ _ h wrong c.requires.rise _ c.drop_younger.ensures.rob;
       roots = c.drop_younger.ensures.roots;
       writers = c.drop_younger.ensures.writers;
-      names = c.drop_younger.ensures.names ∙ sym (ap (λ o. left before_serial o (g.R.RenameTaint.writes c.args.rename.now)) drops);
-      same_names_room = c.drop_younger.ensures.same_names_room;
+      table = c.drop_younger.ensures.table ∙ sym (ap (λ o. left before_serial o (g.R.RenameTaint.writes c.args.table.now)) drops);
+      same_table_room = c.drop_younger.ensures.same_table_room;
       stations = c.drop_younger.ensures.stations ∙ sym (ap (λ o. record c.args.stations.now { held = left stations_below o c.args.stations.now.held }) drops);
       lsq = c.drop_younger.ensures.lsq ∙ sym (ap (λ o. left queues_below o c.args.lsq.now) drops);
       ports = c.drop_younger.ensures.ports ∙ sym (ap (λ o. record c.args.ports.now { divider = left freed_from o c.args.ports.now.divider }) drops);

@@ -39,28 +39,28 @@ returns-then-self-clause-commits g c =
 
 -- ---- one whose phases go
 
-pub front-requires-clause-advanced : goal.front-requires-clause-advanced
-front-requires-clause-advanced g c = described_advanced c.self.inside.state c.begin.new.self _ c.begin.ensures c.self.invariant.kept.advanced
+pub before_retire-requires-clause-advanced : goal.before_retire-requires-clause-advanced
+before_retire-requires-clause-advanced g c = described_advanced c.self.inside.state c.begin.new.self _ c.begin.ensures c.self.invariant.kept.advanced
 
 pub retire-requires-clause-running : goal.retire-requires-clause-running
 retire-requires-clause-running g c =
-    end_stays _ _ c.front.new.self (record { begins = c.begin.ensures; desc = c.front.ensures.desc; machine = c.front.ensures.machine })
+    end_stays _ _ c.before_retire.new.self (record { begins = c.begin.ensures; desc = c.before_retire.ensures.desc; machine = c.before_retire.ensures.machine })
     ∙ ap (λ (p : Programmed). p.machine.end) c.self.view_is
     ∙ c.requires.running
 
 pub retire-requires-clause-counts : goal.retire-requires-clause-counts
 retire-requires-clause-counts g c =
-    let same = count_stays _ _ c.front.new.self (record { begins = c.begin.ensures; desc = c.front.ensures.desc; machine = c.front.ensures.machine }) in
+    let same = count_stays _ _ c.before_retire.new.self (record { begins = c.begin.ensures; desc = c.before_retire.ensures.desc; machine = c.before_retire.ensures.machine }) in
     let number = ap (λ (p : Programmed). p.machine.cycle) c.self.view_is in
     omega (arith, same, number, c.requires.few, c.self.invariant.kept.counted.retired)
 
-pub back-requires-clause-advanced : goal.back-requires-clause-advanced
-back-requires-clause-advanced g c = c.retire.ensures.advanced c.front.ensures.advanced
+pub after_retire-requires-clause-advanced : goal.after_retire-requires-clause-advanced
+after_retire-requires-clause-advanced g c = c.retire.ensures.advanced c.before_retire.ensures.advanced
 
-pub back-requires-clause-serials : goal.back-requires-clause-serials
-back-requires-clause-serials g c =
+pub after_retire-requires-clause-serials : goal.after_retire-requires-clause-serials
+after_retire-requires-clause-serials g c =
     let same =
-    serial_stays _ _ c.front.new.self (record { begins = c.begin.ensures; desc = c.front.ensures.desc; machine = c.front.ensures.machine }) c.retire.new.self c.retire.ensures.state in
+    serial_stays _ _ c.before_retire.new.self (record { begins = c.begin.ensures; desc = c.before_retire.ensures.desc; machine = c.before_retire.ensures.machine }) c.retire.new.self c.retire.ensures.state in
     let number = ap (λ (p : Programmed). p.machine.cycle) c.self.view_is in
     omega (arith, same, number, c.requires.few, c.self.invariant.kept.counted.serials)
 
@@ -68,22 +68,22 @@ pub invariant_of-self-2 : goal.invariant_of-self-2
 invariant_of-self-2 g c =
     let running = ap (λ (p : Programmed). p.machine.end) c.self.view_is ∙ c.requires.running in
     let number = ap (λ i. i.state.machine.cycle) c.self-inside.view_is ∙ ap (λ (s : Described). s.machine.cycle) c.begin.ensures in
-    cycle_kept _ _ c.front.new.self (record { begins = c.begin.ensures; desc = c.front.ensures.desc; machine = c.front.ensures.machine }) c.retire.new.self c.retire.ensures.state (word_at c.self.inside.code) c.back.new.self c.back.ensures.machine
+    cycle_kept _ _ c.before_retire.new.self (record { begins = c.begin.ensures; desc = c.before_retire.ensures.desc; machine = c.before_retire.ensures.machine }) c.retire.new.self c.retire.ensures.state (word_at c.self.inside.code) c.after_retire.new.self c.after_retire.ensures.machine
     (text_aligned c.self.inside.code) c.self.invariant.kept running _ _ _ _
-    (record { begins = c.begin-2.ensures ∙ ap empty_row number; fronts = c.front.ensures.row; retires = c.retire.ensures.row; backs = c.back.ensures.row })
-    c.back.ensures.desc c.back.ensures.advanced c.still_until-self-inside.result
+    (record { begins = c.begin-2.ensures ∙ ap empty_row number; fronts = c.before_retire.ensures.row; retires = c.retire.ensures.row; backs = c.after_retire.ensures.row })
+    c.after_retire.ensures.desc c.after_retire.ensures.advanced c.still_until-self-inside.result
     c.still_until-self-inside.ensures.empty c.still_until-self-inside.ensures.running c.still_until-self-inside.ensures.due
 
 pub returns-clause-cycled : goal.returns-clause-cycled
 returns-clause-cycled g c =
     let number = ap (λ i. i.state.machine.cycle) c.self-inside.view_is ∙ ap (λ (s : Described). s.machine.cycle) c.begin.ensures in
-    subst (λ (p : Programmed). record { machine = c.back.new.self.machine; row = c.back.new.row; piece = c.retire.new.piece } ≡ cycle p.desc (word_at p.code) p.machine) c.self.view_is
-    (cycle_is _ _ c.front.new.self (record { begins = c.begin.ensures; desc = c.front.ensures.desc; machine = c.front.ensures.machine }) c.retire.new.self c.retire.ensures.state (word_at c.self.inside.code) c.back.new.self c.back.ensures.machine _ _ _ _ c.retire.new.piece
-    (record { begins = c.begin-2.ensures ∙ ap empty_row number; fronts = c.front.ensures.row; retires = c.retire.ensures.row; backs = c.back.ensures.row }) c.retire.ensures.piece)
+    subst (λ (p : Programmed). record { machine = c.after_retire.new.self.machine; row = c.after_retire.new.row; piece = c.retire.new.piece } ≡ cycle p.desc (word_at p.code) p.machine) c.self.view_is
+    (cycle_is _ _ c.before_retire.new.self (record { begins = c.begin.ensures; desc = c.before_retire.ensures.desc; machine = c.before_retire.ensures.machine }) c.retire.new.self c.retire.ensures.state (word_at c.self.inside.code) c.after_retire.new.self c.after_retire.ensures.machine _ _ _ _ c.retire.new.piece
+    (record { begins = c.begin-2.ensures ∙ ap empty_row number; fronts = c.before_retire.ensures.row; retires = c.retire.ensures.row; backs = c.after_retire.ensures.row }) c.retire.ensures.piece)
 
 pub returns-clause-commits : goal.returns-clause-commits
 returns-clause-commits g c =
     let running = ap (λ (p : Programmed). p.machine.end) c.self.view_is ∙ c.requires.running in
-    subst (λ (p : Programmed). Commits (word_at p.code) p.machine c.back.new.self.machine c.retire.new.piece) c.self.view_is
-    (cycle_retires _ _ c.front.new.self (record { begins = c.begin.ensures; desc = c.front.ensures.desc; machine = c.front.ensures.machine }) c.retire.new.self c.retire.ensures.state (word_at c.self.inside.code) c.back.new.self c.back.ensures.machine
+    subst (λ (p : Programmed). Commits (word_at p.code) p.machine c.after_retire.new.self.machine c.retire.new.piece) c.self.view_is
+    (cycle_retires _ _ c.before_retire.new.self (record { begins = c.begin.ensures; desc = c.before_retire.ensures.desc; machine = c.before_retire.ensures.machine }) c.retire.new.self c.retire.ensures.state (word_at c.self.inside.code) c.after_retire.new.self c.after_retire.ensures.machine
     (text_aligned c.self.inside.code) c.self.invariant.kept running _ c.retire.ensures.piece)

@@ -4,12 +4,12 @@ use Rattle.issue.specs.State.{window_of}
 use Rattle.issue.proofs.Testing.{asks_by_kind, issue_is}
 use Rattle.issue.proofs.seen.Seen.may_issue.Goals as goal
 
-pub returns-then-not-may_issue : goal.returns-then-not-may_issue
-returns-then-not-may_issue c =
-    issue_is c.args.self.now c.args.position c.args.entry.now c.requires.stands c.requires.at c.args.free false _ _ c.roots_at-roots.ensures (sym c.if-not-may_issue.true ∙ c.may_issue.ensures) refl
+pub returns-then-not-may_transmit : goal.returns-then-not-may_transmit
+returns-then-not-may_transmit c =
+    issue_is c.args.self.now c.args.position c.args.entry.now c.requires.stands c.requires.at c.args.free false _ _ c.roots_at-roots.ensures (sym c.if-not-may_transmit.true ∙ c.may_transmit.ensures) refl
     ∙ sym (asks_by_kind c.args.self.now.desc.now c.args.free (before_at (window_of c.args.self.now) c.args.position) c.args.entry.now c.requires.waits c.requires.ready)
 
 pub returns : goal.returns
 returns c =
-    issue_is c.args.self.now c.args.position c.args.entry.now c.requires.stands c.requires.at c.args.free true _ _ c.roots_at-roots.ensures (sym c.if-not-may_issue.false ∙ c.may_issue.ensures) c.has_besides.ensures
+    issue_is c.args.self.now c.args.position c.args.entry.now c.requires.stands c.requires.at c.args.free true _ _ c.roots_at-roots.ensures (sym c.if-not-may_transmit.false ∙ c.may_transmit.ensures) c.has_besides.ensures
     ∙ sym (asks_by_kind c.args.self.now.desc.now c.args.free (before_at (window_of c.args.self.now) c.args.position) c.args.entry.now c.requires.waits c.requires.ready)

@@ -1,0 +1,84 @@
+-- Made by tools/evaluate/write: change what it reads, in tools/evaluate/runs, and run it again.
+use Rattle.std.specs.Prelude.{List, [], ◌∷◌}
+use Rattle.worked_runs.specs.Agreement.{Run}
+use Rattle.worked_runs.specs.Run01.{run_01}
+use Rattle.worked_runs.specs.Run02.{run_02}
+use Rattle.worked_runs.specs.Run03.{run_03}
+use Rattle.worked_runs.specs.Run04.{run_04}
+use Rattle.worked_runs.specs.Run05.{run_05}
+use Rattle.worked_runs.specs.Run06.{run_06}
+use Rattle.worked_runs.specs.Run07.{run_07}
+use Rattle.worked_runs.specs.Run08.{run_08}
+use Rattle.worked_runs.specs.Run09.{run_09}
+use Rattle.worked_runs.specs.Run10.{run_10}
+use Rattle.worked_runs.specs.Run11.{run_11}
+use Rattle.worked_runs.specs.Run12.{run_12}
+use Rattle.worked_runs.specs.Run13.{run_13}
+use Rattle.worked_runs.specs.Run14.{run_14}
+use Rattle.worked_runs.specs.Run15.{run_15}
+use Rattle.worked_runs.specs.Run16.{run_16}
+use Rattle.worked_runs.specs.Run17.{run_17}
+use Rattle.worked_runs.specs.Run18.{run_18}
+use Rattle.worked_runs.specs.Run19.{run_19}
+use Rattle.worked_runs.specs.Run20.{run_20}
+use Rattle.worked_runs.specs.Run21.{run_21}
+use Rattle.worked_runs.specs.Run22.{run_22}
+use Rattle.worked_runs.specs.Run23.{run_23}
+use Rattle.worked_runs.specs.Run24.{run_24}
+use Rattle.worked_runs.specs.Run25.{run_25}
+use Rattle.worked_runs.specs.Run26.{run_26}
+use Rattle.worked_runs.specs.Run27.{run_27}
+use Rattle.worked_runs.specs.Run28.{run_28}
+use Rattle.worked_runs.specs.Run29.{run_29}
+use Rattle.worked_runs.specs.Run30.{run_30}
+use Rattle.worked_runs.specs.Run31.{run_31}
+use Rattle.worked_runs.specs.Run32.{run_32}
+use Rattle.worked_runs.specs.Run33.{run_33}
+use Rattle.worked_runs.specs.Run34.{run_34}
+use Rattle.worked_runs.specs.Run35.{run_35}
+use Rattle.worked_runs.specs.Run36.{run_36}
+use Rattle.worked_runs.specs.Run37.{run_37}
+use Rattle.worked_runs.specs.Run38.{run_38}
+
+-- the runs of the independent model
+abbrev pub runs : List Run
+runs =
+    run_01 ∷
+    run_02 ∷
+    run_03 ∷
+    run_04 ∷
+    run_05 ∷
+    run_06 ∷
+    run_07 ∷
+    run_08 ∷
+    run_09 ∷
+    run_10 ∷
+    run_11 ∷
+    run_12 ∷
+    run_13 ∷
+    run_14 ∷
+    run_15 ∷
+    run_16 ∷
+    run_17 ∷
+    run_18 ∷
+    run_19 ∷
+    run_20 ∷
+    run_21 ∷
+    run_22 ∷
+    run_23 ∷
+    run_24 ∷
+    run_25 ∷
+    run_26 ∷
+    run_27 ∷
+    run_28 ∷
+    run_29 ∷
+    run_30 ∷
+    run_31 ∷
+    run_32 ∷
+    run_33 ∷
+    run_34 ∷
+    run_35 ∷
+    run_36 ∷
+    run_37 ∷
+    run_38 ∷
+    []

@@ -1,0 +1,17 @@
+//! Worked runs of the written machine, evaluated: no code, and nothing stands on it.
+//!
+//! `specs/Runs.antt` lists runs whose traces an independent model wrote, in another language and from the machine's description
+//! alone (`tools/evaluate/runs/README.md`); `specs/Agreement.antt` says what it is to agree with one, from the description's
+//! text and the image's bytes to the trace's text. `proofs/` has further runs and corner cases, each worked out by hand from
+//! `docs/machine.md`. A wrong rule in the definitions of the machine is refused here.
+#![tactic(auto)]
+
+ghost use Rattle.std.specs.Prelude.{All};
+ghost use Rattle.worked_runs.specs.Agreement.{Agrees};
+ghost use Rattle.worked_runs.specs.Runs.{runs};
+
+/// The written machine agrees with the independent model: of each run the description describes a machine, the image loads, and
+/// the trace has the text that the model wrote, byte by byte (`docs/machine.md`, "Worked traces").
+pub fn model_is_met()
+    ensures { All Agrees runs }
+{}

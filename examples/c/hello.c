@@ -1,0 +1,7 @@
+/* Output and an exit value: no victim. */
+#include "io.h"
+
+int main(void) {
+  puts("hello");
+  return 7;
+}

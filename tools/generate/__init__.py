@@ -1,0 +1,1 @@
+"""Images that numbers generate, as those that `bench` runs."""

@@ -1,0 +1,116 @@
+"""The image that a seed and a number of blocks generate (docs/formats.md, "Generated images")."""
+import struct
+
+BASE = 0x00010000
+HEADERS = 52 + 32
+
+
+def draws(seed):
+    """The generator's numbers, one after another."""
+    state = seed % 2**31
+    while True:
+        state = (1103515245 * state + 12345) % 2**31
+        yield state // 65536
+
+
+# ---- words of the instruction set, by the forms of docs/instruction-set.md, "Decoding"
+
+
+def register_form(opcode, funct3, funct7, rd, rs1, rs2):
+    return funct7 << 25 | rs2 << 20 | rs1 << 15 | funct3 << 12 | rd << 7 | opcode
+
+
+def immediate_form(opcode, funct3, rd, rs1, immediate):
+    return (immediate & 0xFFF) << 20 | rs1 << 15 | funct3 << 12 | rd << 7 | opcode
+
+
+def addi(rd, rs1, immediate):
+    return immediate_form(0x13, 0, rd, rs1, immediate)
+
+
+def add(rd, rs1, rs2):
+    return register_form(0x33, 0, 0, rd, rs1, rs2)
+
+
+def xor(rd, rs1, rs2):
+    return register_form(0x33, 4, 0, rd, rs1, rs2)
+
+
+def mul(rd, rs1, rs2):
+    return register_form(0x33, 0, 1, rd, rs1, rs2)
+
+
+def div(rd, rs1, rs2):
+    return register_form(0x33, 4, 1, rd, rs1, rs2)
+
+
+def lw(rd, offset, rs1):
+    return immediate_form(0x03, 2, rd, rs1, offset)
+
+
+def store(funct3, rs2, offset, rs1):
+    return (offset >> 5 & 0x7F) << 25 | rs2 << 20 | rs1 << 15 | funct3 << 12 | (offset & 31) << 7 | 0x23
+
+
+def sw(rs2, offset, rs1):
+    return store(2, rs2, offset, rs1)
+
+
+def branch(funct3, rs1, rs2, offset):
+    return ((offset >> 12 & 1) << 31 | (offset >> 5 & 0x3F) << 25 | rs2 << 20 | rs1 << 15 | funct3 << 12
+            | (offset >> 1 & 15) << 8 | (offset >> 11 & 1) << 7 | 0x63)
+
+
+def beq(rs1, rs2, offset):
+    return branch(0, rs1, rs2, offset)
+
+
+def blt(rs1, rs2, offset):
+    return branch(4, rs1, rs2, offset)
+
+
+def jal(rd, offset):
+    return ((offset >> 20 & 1) << 31 | (offset >> 1 & 0x3FF) << 21 | (offset >> 11 & 1) << 20
+            | (offset >> 12 & 0xFF) << 12 | rd << 7 | 0x6F)
+
+
+ECALL = 0x00000073
+
+
+# ---- the program
+
+
+def block(numbers):
+    """A block: four draws make two instructions."""
+    form, offset = next(numbers) % 6, 4 * (next(numbers) % 256)
+    d, e = 5 + next(numbers) % 3, 5 + next(numbers) % 3
+    return [
+        [addi(d, e, offset), xor(e, e, d)],
+        [sw(d, offset, 8), lw(e, offset, 8)],
+        [lw(d, offset, 8), add(e, e, d)],
+        [mul(d, d, e), addi(e, e, 1)],
+        [div(d, d, e), addi(d, d, offset)],
+        [blt(d, e, 8), addi(d, d, 1)],
+    ][form]
+
+
+def program(seed, blocks):
+    """The words: the blocks four times, and then an exit."""
+    numbers = draws(seed)
+    body = [word for _ in range(blocks) for word in block(numbers)]
+    behind = [addi(9, 9, -1), beq(9, 0, 8), jal(0, -(8 * blocks + 8)), addi(17, 0, 93), ECALL]
+    return [addi(8, 2, -1024), addi(9, 0, 4), *body, *behind]
+
+
+def image(words):
+    """The file of an image whose only segment has these words, at the base."""
+    size = 4 * len(words)
+    identification = b"\x7fELF" + bytes([1, 1, 1]) + bytes(9)
+    header = identification + struct.pack("<HHIIIIIHHHHHH", 2, 243, 1, BASE, 52, 0, 0, 52, 32, 1, 0, 0, 0)
+    load = struct.pack("<8I", 1, HEADERS, BASE, BASE, size, size, 5, 4)
+    return header + load + struct.pack(f"<{len(words)}I", *words)
+
+
+def generated_image(seed, blocks):
+    """The image that `bench --seed SEED --blocks BLOCKS` runs."""
+    return image(program(seed, blocks))

@@ -1,0 +1,22 @@
+"""A case for a verdict: two images, run and looked at."""
+from view.description import read_description
+from view.trace import Trace
+
+from . import simulator
+from .loaded import Loaded
+from .premises import premises
+from .report import Case
+from .telling import Telling
+
+
+def case_of(program, description, one, two, cycles):
+    """Two images under a description, by the names of their files, for so many cycles at most."""
+    pair = simulator.compare(program, description, one, two, cycles)
+    machine = read_description(description)
+    return judged(description, machine, Loaded(one, machine.base, machine.size), Loaded(two, machine.base, machine.size), pair)
+
+
+def judged(description, machine, one, two, pair):
+    """What follows from a pair of traces."""
+    found = premises(one, two, machine, pair.ends[0].retired)
+    return Case(description, machine, one, two, pair, found, Telling(Trace(pair.one), one, machine, found.memory))

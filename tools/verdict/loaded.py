@@ -1,0 +1,32 @@
+"""An image as the simulator loads it: besides code and symbols its entry and all of memory (docs/formats.md, "Images")."""
+from elftools.elf.elffile import ELFFile
+
+from view import Fault
+from view.image import Image
+
+
+class Loaded(Image):
+    """`memory` is the bytes from `base` on after loading."""
+
+    def __init__(self, name, base, size):
+        super().__init__(name)
+        self.name, self.base, self.memory = name, base, bytearray(size)
+        with open(name, "rb") as file:
+            elf = ELFFile(file)
+            self.entry = elf["e_entry"]
+            for segment in elf.iter_segments("PT_LOAD"):
+                if segment["p_memsz"]:
+                    self.place(segment)
+
+    def place(self, segment):
+        """The segment's bytes of the file, and 0 past them; a later segment stands over an earlier one."""
+        start, size = segment["p_vaddr"] - self.base, segment["p_memsz"]
+        if start < 0 or start + size > len(self.memory):
+            raise Fault(f"{self.name}: a segment takes {start + self.base:08x} to {start + self.base + size - 1:08x}, "
+                        f"and memory is {self.base:08x} to {self.base + len(self.memory) - 1:08x}")
+        self.memory[start:start + size] = segment.data().ljust(size, b"\0")
+
+    def named(self, address):
+        """An address with its symbol: `00010018 <victim+0x8>`."""
+        symbol = self.symbol(address)
+        return f"{address:08x} <{symbol}>" if symbol else f"{address:08x}"

@@ -1,0 +1,31 @@
+"""The premises of noninterference, for two images under one description (docs/theorems.md, "Noninterference").
+
+The traces of two images are proved equal where they have one entry and one code, and their memories agree on each byte that the
+path loads."""
+from typing import NamedTuple
+
+from .path import Path, walk
+
+
+class Premises(NamedTuple):
+    """`code` has the addresses of the words that differ, `memory` those of the bytes, `shown` those of them that the path loads, each
+    with the pc of its first load."""
+    one_entry: bool
+    code: list
+    memory: list
+    shown: dict
+    path: Path
+
+    @property
+    def met(self):
+        return self.one_entry and not self.code and not self.shown
+
+
+def premises(one, two, description, retired):
+    """Of two images, where the machine retires so many instructions of the first: the path goes on for as many more as the window
+    may hold."""
+    path = walk(one, description.model, retired + description.rob)
+    memory = [one.base + at for at, (a, b) in enumerate(zip(one.memory, two.memory)) if a != b]
+    code = sorted(address for address in one.words.keys() | two.words.keys() if one.words.get(address) != two.words.get(address))
+    shown = {address: path.loads[address] for address in memory if address in path.loads}
+    return Premises(one.entry == two.entry, code, memory, shown, path)

@@ -1,0 +1,156 @@
+"""The verdict on two images, as text."""
+from typing import NamedTuple
+
+from view import difference
+from view.disassembly import Disassembler
+from view.replay import Replay
+from view.trace import Trace
+
+WIDTH = 14
+MOST_LINES = 6
+
+STATUS = {"hidden": 0, "differs": 1, "vacuous": 3, "same": 4, "refuted": 5}
+MEANING = {
+    "hidden": "the traces are equal, and proved to be for every two images of this code whose memories agree on what the path loads; "
+              "what would have told them apart was held",
+    "differs": "the traces aren't equal, and nothing promises that they are",
+    "vacuous": "the traces are equal, and proved to be; but this shows nothing of the defence: nothing that shows its operand ever had "
+               "one made of the bytes that differ",
+    "same": "the traces of these two images are equal; nothing promises that those of others are",
+    "refuted": "the premises are met and the traces aren't equal. This contradicts what is proved: please report it",
+}
+
+
+class Case(NamedTuple):
+    """Two images under a description: their comparison, their premises, and what the first one's trace tells."""
+    description: str
+    machine: object
+    one: object
+    two: object
+    pair: object
+    premises: object
+    telling: object
+
+    @property
+    def met(self):
+        """Whether the premises are met: by the simulator, if it says so, else by this tool."""
+        return self.premises.met if self.pair.premise is None else self.pair.premise
+
+    def word(self):
+        """The verdict in one word."""
+        if self.pair.unequal is not None:
+            return "refuted" if self.met else "differs"
+        if not self.met:
+            return "same"
+        return "hidden" if self.telling.held else "vacuous"
+
+
+def lines(case):
+    """The whole verdict, a line each."""
+    texts = [Disassembler(image) for image in (case.one, case.two)]
+    yield row("description", f"{case.description}, model {case.machine.model}")
+    yield row("A", f"{case.one.name}: {case.pair.ends[0].text}")
+    yield row("B", f"{case.two.name}: {case.pair.ends[1].text}")
+    yield row("memory", differing(case.one, case.premises.memory))
+    yield row("code", code(case))
+    yield from path(case, texts[0])
+    yield row("premises", "met" if case.met else "not met")
+    yield from traces(case, texts)
+    yield from transmitters(case.telling, texts[0])
+    yield row("verdict", f"{case.word()}: {MEANING[case.word()]}")
+
+
+def row(name, text):
+    return f"{name:{WIDTH}}{text}"
+
+
+def plural(number, noun):
+    return f"{number} {noun}" if number == 1 else f"{number} {noun}s"
+
+
+def groups(image, addresses):
+    """Sorted addresses as runs of bytes behind one another, each a first and a last one."""
+    runs = []
+    for address in addresses:
+        if runs and runs[-1][1] + 1 == address:
+            runs[-1][1] = address
+        else:
+            runs.append([address, address])
+    return [image.named(a) if a == b else f"{image.named(a)} to {image.named(b)}" for a, b in runs]
+
+
+def shortened(texts, most=4):
+    return ", ".join(texts[:most]) + (f" and {len(texts) - most} more" if len(texts) > most else "")
+
+
+def differing(image, addresses):
+    if not addresses:
+        return "equal"
+    return f"{plural(len(addresses), 'byte')} differ{'s' if len(addresses) == 1 else ''}: {shortened(groups(image, addresses))}"
+
+
+def code(case):
+    if not case.premises.one_entry:
+        return f"the entries differ: {case.one.entry:08x} and {case.two.entry:08x}"
+    words = [case.one.named(address) for address in case.premises.code]
+    if not words:
+        return "equal"
+    return (f"{plural(len(words), 'word')} differ{'s' if len(words) == 1 else ''}: {shortened(words)}. All of an executable segment is "
+            f"code, its constants too: the promise is about images of one code")
+
+
+def path(case, texts):
+    walked, shown = case.premises.path, case.premises.shown
+    ended = "goes on" if walked.end is None else "ends by " + " ".join(str(part) for part in walked.end[:2])
+    differ = "none of them differs" if not shown else f"{len(shown)} of them differ{'s' if len(shown) == 1 else ''}:"
+    yield row("path", f"{plural(walked.steps, 'step')}, {ended}; {plural(len(walked.loads), 'byte')} loaded, {differ}")
+    by_load = {}
+    for address, pc in shown.items():
+        by_load.setdefault(pc, []).append(address)
+    for pc, addresses in list(by_load.items())[:MOST_LINES]:
+        yield row("", f"{shortened(groups(case.one, addresses))} first by {texts.place(pc)}")
+
+
+def traces(case, texts):
+    """Whether the traces are equal, else their first unequal cycle."""
+    if case.pair.unequal is None:
+        yield row("traces", f"equal in {plural(case.pair.ends[0].cycles, 'cycle')}")
+        return
+    both = [Trace(case.pair.one), Trace(case.pair.two)]
+    replays = [Replay(trace, image, case.machine) for trace, image in zip(both, (case.one, case.two))]
+    first, *others = (line.strip() for line in difference.lines_of(difference.Difference(both, replays), texts))
+    yield row("traces", first)
+    for side in "AB":
+        only = [other for other in others if other.startswith((f"only {side}", side))]
+        yield from (row("", other) for other in only[:MOST_LINES])
+        if len(only) > MOST_LINES:
+            yield row("", f"only {side}: and {plural(len(only) - MOST_LINES, 'more event')}")
+
+
+def transmitters(telling, texts):
+    """What was held on the differing bytes, and what showed them."""
+    for (pc, what), held in list(telling.held.items())[:MOST_LINES]:
+        yield row("held", f"{texts.place(pc)}: its {what}, {plural(len(held.items), 'time')}, {plural(held.cycles, 'cycle')}, "
+                          f"{afterwards(held)}")
+    if not telling.held:
+        yield row("held", "nothing on an operand made of the bytes that differ" + wrong_loads(telling.wrong_loads))
+    for (pc, what), shown in list(telling.shown.items())[:MOST_LINES]:
+        yield row("shown", f"{texts.place(pc)}: its {what}, {plural(shown.times, 'time')}, first in cycle {shown.cycle}")
+
+
+def afterwards(held):
+    """What became of the entries that were held."""
+    items = held.items.values()
+    dropped = sum(item.squashed is not None for item in items)
+    retired = sum(item.retired is not None for item in items)
+    counts = [(dropped, "dropped"), (retired, "let go on"), (len(items) - dropped - retired, "in flight at the end")]
+    told = [(number, text) for number, text in counts if number]
+    return "then " + (told[0][1] if len(told) == 1 else ", ".join(f"{number} {text}" for number, text in told))
+
+
+def wrong_loads(loads):
+    """How far wrong paths came, where nothing was held."""
+    if not loads:
+        return "; no wrong path loaded them"
+    done = sum(item.done is not None for item in loads)
+    return f"; wrong paths loaded them {plural(len(loads), 'time')}, and {plural(done, 'time')} the value came before all was dropped"

@@ -1,0 +1,125 @@
+"""What a trace tells of the bytes that differ between two images: which instructions would have shown them and were held, and which
+showed them.
+
+What may show an operand is a load's access, a division's time, where a branch or JALR goes, the line that a store writes, and
+whether a load gets its bytes from a store. Where the operand is tainted the instruction waits; and a load behind a store of a tainted
+address goes to the cache whether the store covers it or not (docs/machine.md). An equal pair of traces is telling where something was
+held on an operand made of the differing bytes, and by taint alone; else it is vacuous."""
+from typing import NamedTuple
+
+from view.instruction import BRANCH, CALL, DIVISION, JALR, LOAD, STORE
+from view.reasons import TAINT, TAINTED_OUTCOME
+from view.replay import Replay
+
+from .hart import EXITS, WRITE
+from .values import Valued
+
+SHOWS = {LOAD: "access", DIVISION: "time", BRANCH: "direction", JALR: "target", STORE: "line", CALL: "registers"}
+BEFORE_A_LOAD = "address before a load"
+
+
+A0, A1, A2, A7 = 10, 11, 12, 17
+
+
+def arguments(number):
+    """The registers that a system call of this number looks at."""
+    return [A7, A0] if number in EXITS else [A7, A0, A1, A2] if number == WRITE else [A7]
+
+
+class Held:
+    """An instruction that was held by taint on the differing bytes: which entries, and for how many cycles in all."""
+
+    def __init__(self):
+        self.items, self.cycles = {}, 0
+
+    def add(self, item):
+        self.cycles += 1
+        self.items[item.serial] = item
+
+
+class Shown(NamedTuple):
+    """An instruction that took effect on an operand made of the differing bytes: how often, and first in which cycle."""
+    times: int
+    cycle: int
+
+
+class Telling(Replay):
+    """`held` and `shown`, by an instruction's address and what of it shows; `loads` are the loads of differing bytes."""
+
+    def __init__(self, trace, image, description, differing):
+        super().__init__(trace, image, description, Valued(image, description, differing))
+        self.held, self.shown, self.loads = {}, {}, []
+        for _ in self.items():
+            pass
+
+    @property
+    def wrong_loads(self):
+        """The loads of differing bytes on wrong paths."""
+        return [item for item in self.loads if item.squashed is not None]
+
+    def marked(self, item):
+        """For each source, whether its value comes from the differing bytes."""
+        return self.pipeline.values[item.serial].marked
+
+    # ---- Phases
+
+    def resolve(self, events):
+        controls = [(item, any(self.marked(item))) for item in self.pipeline.controls]
+        for words in events[:1]:
+            item = self.pipeline.entry(words)
+            self.shows(item, any(self.marked(item)))
+        squashed = super().resolve(events)
+        for item, marked in controls:
+            if marked and self.waited(item, TAINTED_OUTCOME):
+                self.holds(item, SHOWS[item.code.kind])
+        return squashed
+
+    def retire(self, events, ends):
+        for words in events:
+            item = self.pipeline.entry(words) if words[0] == "ret" else item
+            if words[0] == "ret" and item.code.kind == CALL:
+                registers = arguments(self.pipeline.registers[A7])
+                self.shows(item, any(self.pipeline.marked_registers[register] for register in registers))
+            elif words[0] == "ret" and item.code.kind == STORE:
+                self.shows(item, self.marked(item)[0])
+        super().retire(events, ends)
+
+    def issue(self, events):
+        waiting, stores = list(self.pipeline.waiting), list(self.pipeline.open_stores)
+        for words in events:
+            item = self.pipeline.entry(words)
+            if item.code.kind == LOAD:
+                self.load(item)
+            elif item.code.kind == DIVISION:
+                self.shows(item, any(self.marked(item)))
+        super().issue(events)
+        for item in waiting:
+            behind_store = item.code.kind == LOAD and stores and stores[0].serial < item.serial
+            if any(self.marked(item)) and self.waited(item, TAINT) and not behind_store:
+                self.holds(item, SHOWS[item.code.kind])
+
+    def load(self, item):
+        """A load that issues: what it shows, what it loads, and which stores it may not tell from others."""
+        self.shows(item, self.marked(item)[0])
+        if self.pipeline.values[item.serial].loads_marked:
+            self.loads.append(item)
+        for store in self.pipeline.window:
+            if store is item:
+                return
+            if store.code.kind == STORE and self.marked(store)[0] and self.pipeline.is_hidden(store.roots[0]):
+                self.holds(store, BEFORE_A_LOAD)
+
+    # ---- Counting
+
+    def waited(self, item, reason):
+        """Whether it waited in this cycle, for this reason."""
+        return bool(item.waits) and item.waits[-1].last == self.pipeline.cycle and item.waits[-1].reason == reason
+
+    def holds(self, item, what):
+        self.held.setdefault((item.pc, what), Held()).add(item)
+
+    def shows(self, item, marked):
+        if marked:
+            key = item.pc, SHOWS[item.code.kind]
+            times, first = self.shown.get(key, (0, self.pipeline.cycle))
+            self.shown[key] = Shown(times + 1, first)

@@ -1,0 +1,78 @@
+"""The victims of examples/c: the verdict of each is that of the table of examples/c/README.md, compiler by compiler."""
+import functools
+import glob
+import os
+import re
+import shutil
+import subprocess
+import tempfile
+import unittest
+
+import material
+from material import EXAMPLES, needs_program
+
+FOLDER = os.path.join(EXAMPLES, "c")
+COMPILERS = {"gcc": ("riscv64-unknown-elf-gcc",), "clang": ("clang", "ld.lld")}
+BUILT = []
+DESCRIPTIONS = ("medium.toml", "medium_futuristic.toml")
+
+
+def table():
+    """Victim, compiler and verdict of each row and column."""
+    rows = re.findall(r"^\| `(\w+)` \| (\w+) \| (\w+) \|", material.read("examples", "c", "README.md"), re.MULTILINE)
+    return [(name, compiler, word) for name, *words in rows for compiler, word in zip(COMPILERS, words)]
+
+
+def missing(compiler):
+    names = [name for name in ("make", *COMPILERS[compiler]) if shutil.which(name) is None]
+    return f"no {names[0]}: the victims aren't built with {compiler}" if names else None
+
+
+@functools.cache
+def built(compiler):
+    """The folder with the victims that this compiler builds; it stays till the tests end."""
+    BUILT.append(tempfile.TemporaryDirectory())
+    subprocess.run(["make", "-C", FOLDER, compiler, f"BUILD={BUILT[-1].name}"], check=True, capture_output=True)
+    return os.path.join(BUILT[-1].name, compiler)
+
+
+@needs_program
+class Victims(unittest.TestCase):
+    def each_compiler(self):
+        """The folder of each compiler's victims; one that isn't there is skipped with a word."""
+        for compiler in COMPILERS:
+            with self.subTest(compiler=compiler):
+                if missing(compiler):
+                    self.skipTest(missing(compiler))
+                yield compiler, built(compiler)
+
+    def test_verdicts(self):
+        for compiler, folder in self.each_compiler():
+            cases = [(name, word) for name, by, word in table() if by == compiler]
+            self.assertEqual(len(cases), 8)
+            for name, word in cases:
+                images = [os.path.join(folder, f"{name}_{secret}.elf") for secret in "ab"]
+                for description in DESCRIPTIONS:
+                    with self.subTest(victim=name, description=description):
+                        told = material.command("verdict", os.path.join(EXAMPLES, description), *images)
+                        self.assertEqual(told.stderr, "")
+                        self.assertIn(f"\nverdict       {word}: ", told.stdout)
+
+    def test_runs(self):
+        """Each victim's run on the instruction set is the simulator's."""
+        for _, folder in self.each_compiler():
+            paths = glob.glob(os.path.join(folder, "*.elf"))
+            self.assertEqual(len(paths), 17)
+            for path in paths:
+                words = path, 100000, os.path.join(EXAMPLES, DESCRIPTIONS[0])
+                self.assertEqual(material.own_report(*words), material.isa_report(*words), path)
+
+    def test_output(self):
+        for _, folder in self.each_compiler():
+            told = material.isa_report(os.path.join(folder, "hello.elf"), 100000)
+            self.assertTrue(told.startswith("out 68656c6c6f0a\n"), told[:40])
+            self.assertRegex(told, r"\nend exit 7 retired \d+\n$")
+
+
+if __name__ == "__main__":
+    unittest.main()

@@ -1,0 +1,130 @@
+"""The pipeline with values: what each instruction in flight computes, also on wrong paths, and from which bytes of memory.
+
+A trace has no values. But what an entry of the window computes is what the instructions of the window, one after another from the
+retired state, give at its place, where faulting loads and stores are passed over (docs/theorems.md, "Committed state"). So each entry
+is executed as it is renamed, and undone when it is dropped. The run checks itself: the lines, faults, times of divisions and
+directions of branches that are computed have to be those that the trace tells."""
+from view import Fault
+from view.instruction import CALL, DIVISION, JALR, LOAD, STORE
+from view.pipeline import Pipeline
+
+from .hart import JUMP_MISALIGNED, Memory, stored_bytes, system_call
+from .operation import SIZES, WORD, decode, division_time, effect, extend
+
+
+class Value:
+    """What an entry computed. `marked` says for each source whether its value comes from a marked byte; `loads_marked` whether the
+    entry itself loads one. `fault` is why it would trap, or none; `undo` has what it overwrote."""
+
+    __slots__ = ("operation", "operands", "effect", "marked", "loads_marked", "fault", "undo")
+
+    def __init__(self, operation, operands, marked):
+        self.operation, self.operands, self.marked = operation, operands, marked
+        self.effect, self.fault, self.loads_marked, self.undo = None, None, False, []
+
+    @property
+    def size(self):
+        return SIZES[self.operation.name]
+
+
+class Valued(Pipeline):
+    """A pipeline whose entries have values, by serial. `marks` are the addresses of the bytes that are followed; they move with what is
+    computed from them, through registers and memory. What is merely chosen by them, as by a branch, isn't marked."""
+
+    def __init__(self, image, description, marks):
+        super().__init__(image, description)
+        self.memory, self.registers = Memory(image.base, image.memory), [0] * 32
+        self.registers[2] = image.base + len(image.memory) - 16 & WORD
+        self.marked_bytes, self.marked_registers = dict.fromkeys(marks, True), [False] * 32
+        self.values = {}
+
+    # ---- Rename executes
+
+    def rename(self, serial, pc):
+        item = super().rename(serial, pc)
+        operation = decode(self.image.words.get(pc))
+        sources = item.code.sources
+        value = Value(operation, [self.registers[source] for source in sources], [self.marked_registers[source] for source in sources])
+        self.values[serial] = value
+        if not item.code.at_once:
+            self.execute(item, value)
+        return item
+
+    def execute(self, item, value):
+        value.effect = effect(value.operation, item.pc, *value.operands)
+        result, mark = value.effect.value, any(value.marked)
+        if value.effect.misaligned:
+            value.fault = JUMP_MISALIGNED
+        if item.code.kind in (LOAD, STORE):
+            value.fault = self.memory.fault(item.code.kind, value.effect.address, value.size)
+        if item.code.kind == LOAD and value.fault is None:
+            result = extend(value.operation.name, self.memory.get(value.effect.address, value.size))
+            value.loads_marked = any(self.marked_bytes.get(value.effect.address + at) for at in range(value.size))
+            mark = mark or value.loads_marked
+        if item.code.kind == STORE and value.fault is None:
+            self.store(value)
+        if item.code.destination:
+            self.overwrite(value, self.registers, item.code.destination, result)
+            self.overwrite(value, self.marked_registers, item.code.destination, mark)
+
+    def store(self, value):
+        for address, byte in enumerate(stored_bytes(value.effect.stored, value.size), value.effect.address):
+            self.overwrite(value, self.memory.data, address - self.memory.base, byte)
+            self.overwrite(value, self.marked_bytes, address, value.marked[1])
+
+    def overwrite(self, value, where, place, new):
+        old = where.get(place, False) if isinstance(where, dict) else where[place]
+        value.undo.append((where, place, old))
+        where[place] = new
+
+    # ---- Resolve, Retire, Issue, Complete
+
+    def squash(self, item):
+        while self.values and (youngest := next(reversed(self.values))) > item.serial:
+            for where, place, old in reversed(self.values.pop(youngest).undo):
+                where[place] = old
+        return super().squash(item)
+
+    def resolve(self, item, outcome):
+        value = self.values[item.serial]
+        computed = "J" if item.code.kind == JALR else "T" if value.effect.value else "N"
+        self.compare(item, f"is resolved as {outcome}", computed == outcome, computed)
+        super().resolve(item, outcome)
+
+    def retire(self, item):
+        super().retire(item)
+        if item.code.kind == CALL:
+            call = system_call(self.registers, self.memory)
+            if call.exit is None:
+                self.registers[10], self.marked_registers[10] = call.answer, False
+        del self.values[item.serial]
+
+    def issue(self, item, words):
+        told, computed = words[2:], self.told_by_issue(item, words)
+        self.compare(item, f"tells {words[0]}:{':'.join(told)}", told == computed, ":".join(computed))
+        super().issue(item, words)
+
+    def told_by_issue(self, item, words):
+        """What the event of its issue tells behind the serial: how a load finds its line is for others to say."""
+        value = self.values[item.serial]
+        if item.code.kind == DIVISION:
+            return [str(division_time(value.operation.name, value.operands[0]))]
+        if item.code.kind != LOAD:
+            return []
+        if value.fault is not None:
+            return ["x"]
+        address = value.effect.address
+        return ["f"] if words[-1] == "f" else [f"{address - address % self.description.line:08x}", words[-1]]
+
+    def complete(self, item):
+        """A store that faults isn't safe, which the trace alone doesn't tell."""
+        shadow = item in self.shadows
+        super().complete(item)
+        if item.code.kind == STORE and shadow and self.values[item.serial].fault is not None:
+            self.shadows.append(item)
+            self.shadows.sort(key=lambda entry: entry.serial)
+
+    def compare(self, item, told, equal, computed):
+        if not equal:
+            raise Fault(f"cycle {self.cycle}: entry {item.serial} at {self.image.named(item.pc)} {told}, and {computed} is computed: "
+                        f"the trace isn't one of this image under this description")

@@ -1,0 +1,141 @@
+"""The words of the command line, and what each subcommand does with them."""
+import argparse
+import os
+import sys
+
+from . import Fault, difference, drawing, konata, listing, o3, page, stats, why
+from .description import read_description
+from .disassembly import CALLERS, KINDS, MANUAL, Disassembler
+from .image import Image
+from .replay import Replay
+from .trace import Progress, Trace, open_trace
+
+SUBCOMMANDS = {
+    "stats": "the numbers of the run: cycles, what was fetched, retired, squashed, held by taint, and where time went",
+    "why": "the reason of each wait and of each cycle in which rename stops short; status 1 if anything is unexplained",
+    "list": "one line an instruction with all its times",
+    "diff": "the first unequal cycle of two traces and the events that only one has; status 1 if they differ",
+    "konata": "the log that the viewer Konata opens (Kanata 0004)",
+    "o3": "the text of gem5's O3PipeView, which o3-pipeview.py and Konata open",
+    "svg": "a picture, cycles against instructions; of two traces side by side, with the first unequal cycle framed",
+    "html": "the same as a page, with a text for each instruction under the pointer",
+}
+TWO = {"diff": 2, "svg": 2, "html": 2}
+WINDOWED = ("why", "list", "konata", "o3", "svg", "html")
+
+
+def parser():
+    """The words of all subcommands."""
+    whole = argparse.ArgumentParser(prog="view", description="Makes a trace of the simulator readable.",
+                                    epilog="docs/view.md has an example of each, and how to read a picture.")
+    subs = whole.add_subparsers(dest="what", required=True, metavar="SUBCOMMAND")
+    for name, text in SUBCOMMANDS.items():
+        sub = subs.add_parser(name, help=text, description=text)
+        sub.add_argument("trace", nargs="+" if name in ("svg", "html") else TWO.get(name, 1), metavar="TRACE",
+                         help="what `trace` wrote; - is standard input, a name in .gz is unpacked")
+        sub.add_argument("-e", "--image", action="append", required=True, metavar="IMAGE",
+                         help="the image of the run; given twice, the images of two traces")
+        sub.add_argument("-D", "--description", action="append", required=True, metavar="DESCRIPTION",
+                         help="the description of the run; given twice, those of two traces")
+        sub.add_argument("-o", "--output", metavar="FILE", help="where to write; standard output if left out")
+        sub.add_argument("--notation", choices=(CALLERS, MANUAL, KINDS), default=CALLERS,
+                         help="names of registers and aliases as compilers write them, x-numbers as in docs/, or kinds alone")
+        if name in WINDOWED:
+            sub.add_argument("--from", dest="first", type=int, metavar="CYCLE", help="from this cycle on")
+            sub.add_argument("--to", dest="last", type=int, metavar="CYCLE", help="up to this cycle")
+        if name == "why":
+            sub.add_argument("--summary", action="store_true", help="the sums alone")
+        if name in ("svg", "html"):
+            sub.add_argument("--title", action="append", metavar="TEXT", help="a title for each trace; its name if left out")
+    return whole
+
+
+class Inputs:
+    """Traces, images and descriptions, each by its side; where one is given for two traces it serves both."""
+
+    def __init__(self, words):
+        self.words = words
+        self.names = words.trace
+        if len(self.names) > TWO.get(words.what, 1):
+            raise Fault(f"{words.what} takes {TWO.get(words.what, 1)} traces at most")
+        self.images = [Image(name) for name in words.image]
+        self.disassemblers = [Disassembler(image, words.notation) for image in self.images]
+        self.descriptions = [read_description(name) for name in words.description]
+
+    def of(self, values, side):
+        return values[min(side, len(values) - 1)]
+
+    def trace(self, side):
+        return Trace(Progress(open_trace(self.names[side])))
+
+    def replay(self, side):
+        return Replay(self.trace(side), self.of(self.images, side), self.of(self.descriptions, side))
+
+    def disassembler(self, side):
+        return self.of(self.disassemblers, side)
+
+
+def lines_of(words, inputs):
+    """The lines that a subcommand writes, and then its status."""
+    if words.what == "diff":
+        return (yield from lines_of_diff(inputs))
+    if words.what in ("svg", "html"):
+        yield from lines_of_picture(words, inputs)
+        return 0
+    replay, disassembler = inputs.replay(0), inputs.disassembler(0)
+    if words.what == "stats":
+        yield from stats.lines_of(replay, disassembler)
+    elif words.what == "why":
+        yield from why.lines_of(replay, disassembler, words.first or 1, words.last, words.summary)
+        return 1 if replay.reasons.unexplained else 0
+    else:
+        write = {"list": listing, "konata": konata, "o3": o3}[words.what]
+        yield from write.lines_of(replay, disassembler, words.first or 1, words.last)
+    return 0
+
+
+def lines_of_diff(inputs):
+    replays = [inputs.replay(side) for side in (0, 1)]
+    found = difference.Difference([replay.trace for replay in replays], replays)
+    yield from difference.lines_of(found, [inputs.disassembler(side) for side in (0, 1)])
+    return 0 if found.cycle is None else 1
+
+
+def lines_of_picture(words, inputs):
+    """A panel for each trace, over one span of cycles: by default some before the first unequal cycle, or the first ones."""
+    sides = range(len(inputs.names))
+    mark = difference.first_unequal([inputs.trace(side) for side in sides]) if len(inputs.names) == 2 else None
+    first = words.first or (max(1, mark - drawing.BEFORE) if mark else 1)
+    last = words.last or first + drawing.SPAN - 1
+    panels = []
+    for side in sides:
+        title = words.title[side] if words.title and side < len(words.title) else os.path.basename(inputs.names[side])
+        panels.append(drawing.Panel(title, inputs.replay(side), inputs.disassembler(side), first, last, mark))
+    yield (page.page if words.what == "html" else drawing.picture)(panels)
+
+
+def main(arguments=None):
+    """The command: its status is 0, or 1 where traces differ or a wait is unexplained, or 2 with a word on what is wrong."""
+    words = parser().parse_args(arguments)
+    try:
+        lines = lines_of(words, Inputs(words))
+        if words.output:
+            with open(words.output, "w", encoding="utf-8") as file:
+                return write(lines, file)
+        return write(lines, sys.stdout)
+    except Fault as fault:
+        print(f"view: {fault}", file=sys.stderr)
+        return 2
+    except BrokenPipeError:
+        os.dup2(os.open(os.devnull, os.O_WRONLY), sys.stdout.fileno())
+        return 0
+
+
+def write(lines, file):
+    """Writes the lines, and answers the status that stands behind them."""
+    while True:
+        try:
+            file.write(next(lines) + "\n")
+        except StopIteration as stop:
+            file.flush()
+            return stop.value

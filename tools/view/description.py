@@ -1,0 +1,57 @@
+"""The sizes and latencies of the core (docs/formats.md, "Machine descriptions").
+
+The simulator refuses what is no description; here only what the reasons need is asked for.
+"""
+import tomllib
+from typing import NamedTuple
+
+from . import Fault
+
+SPECTRE, FUTURISTIC = "spectre", "futuristic"
+
+KEYS = {
+    "fetch_width": "core", "retire_width": "core", "rob": "core", "stations": "core", "loads": "core", "stores": "core",
+    "queue": "core", "alus": "units", "mul_latency": "units", "sets": "cache", "ways": "cache", "line": "cache",
+    "hit_latency": "cache", "miss_latency": "cache", "mshrs": "cache", "base": "ram", "size": "ram", "model": "stt",
+}
+
+
+class Description(NamedTuple):
+    """The values of a description, by their keys' names."""
+
+    fetch_width: int
+    retire_width: int
+    rob: int
+    stations: int
+    loads: int
+    stores: int
+    queue: int
+    alus: int
+    mul_latency: int
+    sets: int
+    ways: int
+    line: int
+    hit_latency: int
+    miss_latency: int
+    mshrs: int
+    base: int
+    size: int
+    model: str
+
+
+def read_description(name):
+    """The description of a file."""
+    try:
+        with open(name, "rb") as file:
+            tables = tomllib.load(file)
+    except OSError as error:
+        raise Fault(f"{name}: {error.strerror}") from None
+    except (tomllib.TOMLDecodeError, UnicodeDecodeError) as error:
+        raise Fault(f"{name}: no TOML text ({error})") from None
+    try:
+        values = {key: tables[table][key] for key, table in KEYS.items()}
+    except (KeyError, TypeError) as error:
+        raise Fault(f"{name}: the description has no {error}") from None
+    if values["model"] not in (SPECTRE, FUTURISTIC):
+        raise Fault(f"{name}: stt.model is neither {SPECTRE} nor {FUTURISTIC}")
+    return Description(**values)

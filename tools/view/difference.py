@@ -1,0 +1,81 @@
+"""`diff`: the first unequal cycle of two traces, and the events that only one of them has in it."""
+from collections import Counter, deque
+from itertools import zip_longest
+
+OF_AN_ENTRY = {"done", "res", "ret", "st", "call", "alu", "mul", "div", "agu", "ld", "ren"}
+OF_A_LINE = {"fill": 1, "ld": 2, "st": 2}
+
+
+class Difference:
+    """The first unequal row of two traces: its cycle, and the two rows, of which one is None where that trace has ended.
+
+    `cycle` is None where the traces are equal. Where only the last lines differ it is the last cycle.
+    """
+
+    def __init__(self, traces, replays):
+        self.traces, self.replays = traces, replays
+        self.cycle, self.rows = None, [None, None]
+        for rows in zip_longest(*traces):
+            for replay, row in zip(replays, rows):
+                if row:
+                    deque(replay.gone(), maxlen=0)
+                    replay.step(row)
+            if None in rows or rows[0].events != rows[1].events:
+                self.cycle, self.rows = next(row.cycle for row in rows if row), list(rows)
+                return
+        if texts(traces)[0] != texts(traces)[1]:
+            self.cycle = replays[0].pipeline.cycle
+            self.rows = [None, None]
+
+
+def texts(traces):
+    return [trace.end.text if trace.end else "(no last line)" for trace in traces]
+
+
+def first_unequal(traces):
+    """The first unequal cycle, from the texts alone, or None."""
+    cycle = 0
+    for rows in zip_longest(*traces):
+        if None in rows or rows[0].events != rows[1].events:
+            return next(row.cycle for row in rows if row)
+        cycle = rows[0].cycle
+    return cycle if texts(traces)[0] != texts(traces)[1] else None
+
+
+def lines_of(difference, disassemblers):
+    """The lines of `diff`."""
+    if difference.cycle is None:
+        yield f"equal: {difference.replays[0].pipeline.cycle} cycles"
+        return
+    yield f"first unequal cycle: {difference.cycle}"
+    for side, name in enumerate("AB"):
+        row, other = difference.rows[side], difference.rows[1 - side]
+        if row is None:
+            yield f"  {name} ends before: {texts(difference.traces)[side]}" if other else f"  {name}: {texts(difference.traces)[side]}"
+            continue
+        only = Counter(row.events) - Counter(other.events if other else [])
+        for event in row.events:
+            if only[event]:
+                only[event] -= 1
+                yield f"  only {name}: {told(event, difference.replays[side].pipeline, disassemblers[side])}"
+
+
+def told(event, pipeline, disassembler):
+    """An event with the instruction and the symbol that it is about, and the symbol of its line."""
+    words = event.split(":")
+    place = ""
+    if words[0] in OF_AN_ENTRY:
+        place = place_of(int(words[1]), pipeline, disassembler)
+    elif words[0] == "fet":
+        place = disassembler.place(int(words[1], 16))
+    elif words[0] == "bt":
+        place = "to " + disassembler.place(int(words[2], 16))
+    at = OF_A_LINE.get(words[0])
+    symbol = disassembler.image.symbol(int(words[at], 16)) if at and len(words) > at + 1 or words[0] == "fill" else ""
+    return f"{event:24}" + "  ".join(filter(None, [place, symbol and f"line of <{symbol}>"])).rstrip()
+
+
+def place_of(serial, pipeline, disassembler):
+    """The instruction of an entry, also of one that this very cycle retired or dropped."""
+    item = next((item for item in pipeline.flight if item.serial == serial), None)
+    return f"{serial} {disassembler.place(item.pc)}" if item else ""

@@ -1,0 +1,213 @@
+"""`svg`: a picture, a row for each instruction and a column for each cycle; colours and letters tell what it does.
+
+`spans_of` says what an instruction does in each cycle; all else is layout. Lengths are in pixels.
+"""
+from html import escape
+from itertools import islice
+
+from .listing import tip
+from .reasons import HELD
+
+BEFORE, SPAN = 30, 80
+MOST_ROWS = 1000
+CELL, ROW, CHARACTER = 13, 15, 6.1
+TOP, FOOT, MARGIN, GAP = 58, 48, 8, 24
+LONGEST_LABEL, SERIAL = 48, 34
+LEGEND_COLUMN, LEGEND_ROW = 208, 18
+
+# name: letter, colour, colour of the letter, what the legend says
+STATES = {
+    "queue": ("q", "#e6e6e6", "#555", "fetched, in the queue"),
+    "renamed": ("n", "#c6d6ea", "#234", "renamed"),
+    "operand": ("o", "#fdf3c4", "#765", "waits for an operand"),
+    "taint": ("t", "#d7301f", "#fff", "held by taint"),
+    "older store": ("s", "#d9c29b", "#432", "waits for an older store"),
+    "port": ("p", "#f4c7dc", "#524", "waits for a port"),
+    "miss register": ("r", "#e9a3c9", "#413", "waits for a miss register"),
+    "divider": ("v", "#cab2d6", "#324", "waits for the divider"),
+    "alu": ("+", "#6fa8dc", "#123", "executes: simple, jump"),
+    "mul": ("*", "#4f7fc4", "#fff", "executes: multiplication"),
+    "div": ("/", "#8e6bb8", "#fff", "executes: division"),
+    "agu": ("S", "#5ab4ac", "#033", "executes: store"),
+    "hit": ("H", "#4daf4a", "#fff", "load: hit"),
+    "miss": ("M", "#f08c2e", "#310", "load: miss"),
+    "join": ("J", "#f6c445", "#310", "load: joins a miss"),
+    "forward": ("F", "#7fd3ee", "#023", "load: forwarded"),
+    "fault": ("X", "#7a5230", "#fff", "load: faults"),
+    "done": ("d", "#d5e8d4", "#465", "done"),
+    "retired": ("R", "#222222", "#fff", "retires"),
+    "trapped": ("!", "#d4b106", "#000", "traps"),
+    "squashed": ("x", "none", "#c00", "is squashed"),
+}
+OUTCOMES = "T, N, J: resolved as taken, not taken, a jump; framed: mispredicted, and what is younger is squashed"
+WAITS = tuple(name for name, state in STATES.items() if state[3].startswith(("waits", "held")))
+
+
+def spans_of(item, end):
+    """What an instruction does: spans of cycles as (first, behind, name), by time. `end` is the cycle behind the last."""
+    last = item.trapped if item.gone is None else item.gone
+    behind = end if last is None else last
+    turns = [(item.fetched, "queue"), (item.renamed, "renamed")]
+    turns += [(wait.first, wait.reason) for wait in item.waits if wait.reason in WAITS]
+    turns += [(item.issued, item.unit), (item.renamed + 1 if item.code.at_once and item.renamed else item.done, "done")]
+    turns = [turn for turn in turns if turn[0] is not None] + [(behind, None)]
+    spans = [(first, min(after, behind), name) for (first, name), (after, _) in zip(turns, turns[1:]) if first < min(after, behind)]
+    if last is not None:
+        how = "trapped" if item.gone is None else "squashed" if item.retired is None else "retired"
+        spans.append((last, last + 1, how))
+    return spans
+
+
+def held_when_done(item):
+    """The cycles in which a branch or JALR was Done, and taint kept it from being resolved."""
+    return [(wait.first, wait.last + 1) for wait in item.waits if wait.reason == HELD[1]]
+
+
+class Panel:
+    """One trace's part of a picture: the rows of its instructions in the cycles from `first` to `last`."""
+
+    def __init__(self, title, replay, disassembler, first, last, mark):
+        self.title, self.disassembler, self.first, self.mark = title, disassembler, first, mark
+        there = (item for item in replay.items(last) if item.gone is None or item.gone >= first)
+        self.items = list(islice(there, MOST_ROWS))
+        end, pipeline = replay.trace.end, replay.pipeline
+        self.subtitle = end.text if end else f"shown up to cycle {min(last, pipeline.cycle)}"
+        self.last = min(last, pipeline.cycle)
+        self.fills = [(cycle, line) for cycle, line, _ in pipeline.fills if first <= cycle <= self.last]
+        self.labels = [self.label(item) for item in self.items]
+        widest = max([len(label) for label in self.labels] + [len(self.title), 30])
+        self.label_width = widest * CHARACTER + SERIAL + 2 * MARGIN
+        self.chart_width = (self.last - first + 1) * CELL + MARGIN
+        self.height = TOP + ROW * len(self.items) + FOOT
+
+    def label(self, item):
+        text = self.disassembler.place(item.pc)
+        return text if len(text) <= LONGEST_LABEL else text[:LONGEST_LABEL - 2] + ".."
+
+    def x(self, cycle):
+        return (cycle - self.first) * CELL
+
+    def y(self, row):
+        return TOP + row * ROW
+
+    def labels_drawn(self):
+        """The column of instructions, those that were squashed struck through."""
+        lines = [f'<text class="title" x="{MARGIN}" y="16">{escape(self.title)}</text>',
+                 f'<text class="faint" x="{MARGIN}" y="31">{escape(self.subtitle)}</text>']
+        for row, (item, label) in enumerate(zip(self.items, self.labels)):
+            struck, y = ' class="struck"' if item.squashed is not None else "", self.y(row) + 11
+            if item.serial is not None:
+                lines.append(f'<text class="serial" x="{MARGIN + SERIAL - 6}" y="{y}">{item.serial}</text>')
+            lines.append(f'<text{struck} x="{MARGIN + SERIAL}" y="{y}">{escape(label)}</text>')
+        lines.append(f'<text class="faint" x="{MARGIN}" y="{self.y(len(self.items)) + 14}">lines that come to the cache</text>')
+        return "\n".join(lines)
+
+    def chart_drawn(self):
+        """The grid, the rows, the lines that come, and the frame of the first unequal cycle."""
+        parts = [self.grid()]
+        parts += [self.row_drawn(row, item) for row, item in enumerate(self.items)]
+        y = self.y(len(self.items)) + 14
+        parts += [f'<text class="fill" x="{self.x(cycle) + CELL / 2}" y="{y}">L<title>line {line:08x} comes in cycle {cycle}'
+                  "</title></text>" for cycle, line in self.fills]
+        if self.mark is not None and self.first <= self.mark <= self.last:
+            parts.append(self.frame())
+        return "\n".join(parts)
+
+    def grid(self):
+        """Lines for every fifth cycle and row, and the numbers of these cycles above and below."""
+        bottom = self.y(len(self.items))
+        fifths = [cycle for cycle in range(self.first, self.last + 1) if cycle % 5 == 0]
+        lines = [f"M{self.x(cycle)} {TOP - 4}V{bottom + 4}" for cycle in fifths]
+        lines += [f"M0 {self.y(row)}H{self.chart_width - MARGIN}" for row in range(0, len(self.items) + 1, 5)]
+        numbers = [f'<text class="number" x="{self.x(cycle) + CELL / 2}" y="{y}">{cycle}</text>'
+                   for cycle in fifths for y in (TOP - 8, bottom + 30)]
+        return f'<path class="grid" d="{"".join(lines)}"/>' + "".join(numbers)
+
+    def row_drawn(self, row, item):
+        y = self.y(row)
+        parts = ["<g>", f"<title>{escape(tip(item, self.disassembler))}</title>"]
+        for first, behind, name in spans_of(item, self.last + 1):
+            parts.append(self.span(y, first, behind, name, item))
+        for first, behind in held_when_done(item):
+            parts.append(self.box(y + ROW - 5, first, behind, "taint", 3))
+        if item.resolved is not None and self.first <= item.resolved <= self.last:
+            parts.append(self.outcome(y, item))
+        return "".join(parts) + "</g>"
+
+    def span(self, y, first, behind, name, item):
+        """A box, and its letter in the first cell, unless the outcome of a branch stands there."""
+        text = self.box(y, first, behind, name, ROW - 2)
+        if max(first, self.first) <= self.last and behind > self.first and max(first, self.first) != item.resolved:
+            x = self.x(max(first, self.first)) + CELL / 2
+            text += f'<text class="letter" fill="{STATES[name][2]}" x="{x}" y="{y + 11}">{STATES[name][0]}</text>'
+        return text
+
+    def box(self, y, first, behind, name, height):
+        low, high = max(first, self.first), min(behind, self.last + 1)
+        if low >= high or STATES[name][1] == "none":
+            return ""
+        return (f'<rect x="{self.x(low)}" y="{y + 1}" width="{(high - low) * CELL - 1}" height="{height}" '
+                f'fill="{STATES[name][1]}"/>')
+
+    def outcome(self, y, item):
+        colour = STATES["retired" if item.resolved == item.retired else "done"][2]
+        x = self.x(item.resolved)
+        wrong = f'<rect class="wrong" x="{x}" y="{y + 1}" width="{CELL - 1}" height="{ROW - 2}"/>' if item.mispredicted else ""
+        return (f'{wrong}<text class="letter" font-weight="bold" fill="{colour}" x="{x + CELL / 2}" y="{y + 11}">'
+                f"{item.outcome}</text>")
+
+    def frame(self):
+        bottom = self.y(len(self.items)) + 18
+        x = self.x(self.mark)
+        beside = x > self.chart_width / 2
+        return (f'<rect class="frame" x="{x - 1}" y="{TOP - 4}" width="{CELL + 1}" height="{bottom - TOP + 4}"/>'
+                f'<text class="framed" text-anchor="{"end" if beside else "start"}" x="{x + (CELL if beside else 0)}" '
+                f'y="{bottom + 25}">first unequal cycle: {self.mark}</text>')
+
+
+STYLE = """text{font:10px "DejaVu Sans Mono",Menlo,Consolas,monospace;fill:#111}
+.title{font-weight:bold;font-size:12px}.faint{fill:#666}.struck{fill:#a33;text-decoration:line-through}
+.grid{stroke:#e2e2e2;fill:none}.number{fill:#666;text-anchor:middle}.fill{fill:#c96a12;text-anchor:middle}
+.letter{text-anchor:middle;font-size:9px}.serial{text-anchor:end;fill:#666}.wrong{fill:none;stroke:#f33;stroke-width:2}
+.frame{fill:none;stroke:#c00;stroke-width:1.5}.framed{fill:#c00;font-weight:bold}
+""" + "\n".join(f'.letter[fill="{colour}"]{{fill:{colour}}}' for colour in sorted({state[2] for state in STATES.values()}))
+
+
+def used(panels):
+    """The names of what the pictures show, in the legend's order."""
+    names = {name for panel in panels for item in panel.items for _, _, name in spans_of(item, panel.last + 1)}
+    return [name for name in STATES if name in names]
+
+
+def legend(panels, width):
+    """The legend's drawing and its height: the states that are there, and the letters of outcomes."""
+    columns = max(1, int(width // LEGEND_COLUMN))
+    parts = []
+    for place, name in enumerate(used(panels)):
+        x, y = MARGIN + place % columns * LEGEND_COLUMN, place // columns * LEGEND_ROW
+        letter, colour, dark, text = STATES[name]
+        parts.append(f'<rect x="{x}" y="{y}" width="{CELL}" height="{ROW - 2}" fill="{colour}" stroke="#999" stroke-width="0.5"/>'
+                     f'<text class="letter" fill="{dark}" x="{x + CELL / 2}" y="{y + 10}">{letter}</text>'
+                     f'<text x="{x + CELL + 6}" y="{y + 10}">{text}</text>')
+    rows = -(-len(used(panels)) // columns)
+    parts.append(f'<text class="faint" x="{MARGIN}" y="{rows * LEGEND_ROW + 12}">{OUTCOMES}</text>')
+    return "\n".join(parts), (rows + 1) * LEGEND_ROW + MARGIN
+
+
+def picture(panels):
+    """The panels side by side, and the legend below them."""
+    parts, x = [], 0
+    for panel in panels:
+        parts.append(f'<g transform="translate({x},0)">{panel.labels_drawn()}</g>')
+        parts.append(f'<g transform="translate({x + panel.label_width:.0f},0)">{panel.chart_drawn()}</g>')
+        x += round(panel.label_width + panel.chart_width) + GAP
+    width = max(x - GAP, 3 * LEGEND_COLUMN)
+    top = max(panel.height for panel in panels)
+    drawn, height = legend(panels, width)
+    return svg("\n".join([f"<style>{STYLE}</style>", '<rect width="100%" height="100%" fill="white"/>', *parts,
+                          f'<g transform="translate(0,{top})">{drawn}</g>']), width, top + height)
+
+
+def svg(inside, width, height, attributes=""):
+    return (f'<svg xmlns="http://www.w3.org/2000/svg" width="{width:.0f}" height="{height:.0f}" '
+            f'viewBox="0 0 {width:.0f} {height:.0f}"{attributes}>\n{inside}\n</svg>')

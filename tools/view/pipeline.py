@@ -1,0 +1,269 @@
+"""The window and the queue, as the events of a trace move them, and what became of each fetched instruction.
+
+This module does what the events say; whether they are what the machine's rules ask for is the matter of `reasons` and
+`checks`. The words are those of docs/machine.md.
+"""
+from collections import deque
+
+from . import Fault
+from .description import SPECTRE
+from .instruction import CALL, LOAD, STORE
+from .memory_side import Cache, Divider
+
+NEVER = 1 << 62
+
+
+class Wait:
+    """Cycles in a row in which an instruction waited for one reason: that, and the entry or line it waited for."""
+
+    __slots__ = ("first", "last", "reason", "serial", "pc")
+
+    def __init__(self, cycle, reason, cause):
+        self.first = self.last = cycle
+        self.reason = reason
+        self.serial, self.pc = (cause.serial, cause.pc) if cause is not None else (None, None)
+
+
+class Item:
+    """A fetched instruction. Its times are numbers of cycles, and None where it didn't come to that.
+
+    `unit` is how it issued: `alu`, `mul`, `div`, `agu`, or a load by its access: `hit`, `miss`, `join`, `forward`, `fault`.
+    `roots` are, for each source, the youngest load from which the value flows, or None. `ready` is the first cycle in which
+    it could have issued as far as its operands go.
+    """
+
+    __slots__ = ("number", "pc", "code", "serial", "fetched", "renamed", "ready", "issued", "unit", "line", "due", "done",
+                 "resolved", "outcome", "mispredicted", "retired", "squashed", "trapped", "store", "output", "sources",
+                 "awaits", "consumers", "roots", "waits", "producers")
+
+    def __init__(self, number, pc, code, cycle):
+        self.number, self.pc, self.code, self.fetched = number, pc, code, cycle
+        self.serial = self.renamed = self.ready = self.issued = self.unit = self.line = self.due = self.done = None
+        self.resolved = self.outcome = self.retired = self.squashed = self.trapped = self.store = self.output = None
+        self.mispredicted = False
+        self.sources, self.roots, self.consumers, self.awaits = (), (), [], 0
+        self.waits, self.producers = [], ()
+
+    @property
+    def gone(self):
+        """The cycle in which it retired or was squashed."""
+        return self.squashed if self.retired is None else self.retired
+
+    @property
+    def youngest_root(self):
+        """The youngest load from which any operand flows: the last one of them to become visible."""
+        return youngest(self.roots)
+
+    def wait(self, cycle, reason, cause):
+        """It waits in this cycle too, as before or for another reason."""
+        last = self.waits[-1] if self.waits else None
+        serial = cause.serial if cause is not None else None
+        if last and last.last == cycle - 1 and last.reason == reason and last.serial == serial:
+            last.last = cycle
+        else:
+            self.waits.append(Wait(cycle, reason, cause))
+
+    def forget(self):
+        """Lets go of the other items that it names, so that a long trace takes no memory."""
+        self.sources, self.roots, self.consumers = (), (), []
+
+
+def youngest(items):
+    """The youngest of these items, of which some may be None."""
+    return max((item for item in items if item is not None), key=lambda item: item.serial, default=None)
+
+
+LOAD_UNITS = {"h": "hit", "m": "miss", "j": "join", "f": "forward", "x": "fault"}
+
+
+class Pipeline:
+    """The machine's state, as far as a trace tells it.
+
+    `waiting` are the entries that haven't issued, by age, `open_stores` the stores that aren't Done, and `shadows` the
+    entries that keep younger ones from being visible: what stands behind the first of them isn't.
+    """
+
+    def __init__(self, image, description):
+        self.image, self.description = image, description
+        self.cycle = self.count = 0
+        self.queue, self.window, self.flight, self.serials = deque(), deque(), deque(), {}
+        self.waiting, self.open_stores, self.shadows = [], [], []
+        self.controls = []
+        self.writers = [None] * 32
+        self.loads = self.stores = 0
+        self.cache, self.divider, self.misses = Cache(description), Divider(), {}
+        self.fills, self.last_squash = [], None
+
+    @property
+    def point(self):
+        """The serial of the first entry behind which nothing is visible."""
+        return self.shadows[0].serial if self.shadows else NEVER
+
+    def is_hidden(self, root):
+        """The load isn't visible, and so what flows from it is tainted. One that has retired is."""
+        return root is not None and root.serial > self.point
+
+    def entry(self, words):
+        """The entry in flight of an event's serial."""
+        try:
+            return self.serials[int(words[1])]
+        except (KeyError, ValueError):
+            raise Fault(f"cycle {self.cycle}: `{':'.join(words)}` is of no entry in flight") from None
+
+    # ---- Fill and Complete
+
+    def fill(self, line):
+        self.misses.pop(line, None)
+        self.fills.append((self.cycle, line, self.cache.fill(line)))
+
+    def complete(self, item):
+        item.done = self.cycle
+        for consumer in item.consumers:
+            consumer.awaits -= 1
+            if not consumer.awaits:
+                consumer.ready = self.cycle
+        if item.code.kind == STORE:
+            self.open_stores.remove(item)
+        if item.code.kind in (LOAD, STORE) and item.unit != "fault" and item in self.shadows:
+            self.shadows.remove(item)
+
+    # ---- Resolve
+
+    def resolve(self, item, outcome):
+        item.resolved, item.outcome = self.cycle, outcome
+        if item in self.controls:
+            self.controls.remove(item)
+        if item in self.shadows:
+            self.shadows.remove(item)
+
+    def squash(self, item):
+        """Drops all that is younger than this branch or JALR, and answers how many entries and items that were."""
+        item.mispredicted = True
+        self.last_squash = item
+        dropped = list(self.queue)
+        self.queue.clear()
+        while self.window and self.window[-1].serial > item.serial:
+            dropped.append(self.window.pop())
+        for gone in dropped:
+            gone.squashed = self.cycle
+            if gone.serial is not None:
+                self.leave(gone)
+        for entries in (self.waiting, self.open_stores, self.shadows, self.controls):
+            entries[:] = [entry for entry in entries if entry.squashed is None]
+        self.divider.drop_from(item.serial + 1)
+        self.writers = [None] * 32
+        for entry in self.window:
+            self.writers[entry.code.destination] = entry
+        return len(dropped)
+
+    def leave(self, item):
+        """The window has one entry less."""
+        del self.serials[item.serial]
+        self.loads -= item.code.kind == LOAD
+        self.stores -= item.code.kind == STORE
+
+    # ---- Retire
+
+    def retire(self, item):
+        if not self.window or self.window[0] is not item:
+            raise Fault(f"cycle {self.cycle}: ret:{item.serial} is not of the oldest entry")
+        self.window.popleft()
+        item.retired = self.cycle
+        self.leave(item)
+        if self.writers[item.code.destination] is item:
+            self.writers[item.code.destination] = None
+        if self.shadows and self.shadows[0] is item:
+            self.shadows.pop(0)
+
+    def write(self, item, line, answer):
+        item.line, item.store = line, answer
+        if answer == "h":
+            self.cache.touch(line)
+
+    # ---- Issue
+
+    def issue(self, item, words):
+        """The entry begins to execute; `due` is when it will be done."""
+        if item.issued is not None or item not in self.waiting:
+            raise Fault(f"cycle {self.cycle}: `{':'.join(words)}` is of an entry that doesn't wait")
+        self.waiting.remove(item)
+        item.issued, item.unit = self.cycle, words[0]
+        if words[0] == "ld":
+            self.access(item, words)
+            return
+        time = {"mul": self.description.mul_latency, "div": int(words[-1])}.get(words[0], 1)
+        item.due = self.cycle + time
+        if words[0] == "div":
+            self.divider.take(item, item.due)
+
+    def access(self, item, words):
+        """What a load found: its unit, its line if it has one, and when its value comes."""
+        item.unit = LOAD_UNITS[words[-1]]
+        item.line = int(words[2], 16) if len(words) == 4 else None
+        latency = {"hit": self.description.hit_latency, "miss": self.description.miss_latency}.get(item.unit, 1)
+        item.due = self.cycle + latency
+        if item.unit == "hit":
+            self.cache.touch(item.line)
+        elif item.unit == "join":
+            item.due = self.misses.get(item.line, item.due)
+        elif item.unit == "miss":
+            self.misses[item.line] = item.due
+
+    # ---- Rename and Fetch
+
+    def rename(self, serial, pc):
+        """The front of the queue goes behind the youngest entry."""
+        if not self.queue or self.queue[0].pc != pc:
+            raise Fault(f"cycle {self.cycle}: ren:{serial}:{pc:08x} is not of the front of the queue")
+        item = self.queue.popleft()
+        item.serial, item.renamed = serial, self.cycle
+        self.find_sources(item)
+        self.window.append(item)
+        self.serials[serial] = item
+        self.writers[item.code.destination] = item
+        self.enter_lists(item)
+        return item
+
+    def find_sources(self, item):
+        """The writers of its sources, the roots of these, and how many aren't Done."""
+        item.sources = tuple(self.writers[register] if register else None for register in item.code.sources)
+        item.producers = tuple(writer.number for writer in item.sources if writer is not None)
+        item.roots = tuple(root_of(writer) for writer in item.sources)
+        for writer in item.sources:
+            if writer is not None and writer.done is None:
+                writer.consumers.append(item)
+                item.awaits += 1
+        if not item.awaits and not item.code.at_once:
+            item.ready = self.cycle + 1
+
+    def enter_lists(self, item):
+        kind = item.code.kind
+        self.loads += kind == LOAD
+        self.stores += kind == STORE
+        if kind == STORE:
+            self.open_stores.append(item)
+        if not item.code.at_once:
+            self.waiting.append(item)
+        if item.code.is_control:
+            self.controls.append(item)
+        if item.code.is_control or self.description.model != SPECTRE and (kind in (LOAD, STORE) or item.code.at_once):
+            self.shadows.append(item)
+
+    def fetch(self, pc):
+        item = Item(self.count, pc, self.image.instruction(pc), self.cycle)
+        self.count += 1
+        self.queue.append(item)
+        self.flight.append(item)
+        return item
+
+    @property
+    def has_call(self):
+        """A call is in flight, and so alone."""
+        return bool(self.window) and self.window[0].code.kind == CALL
+
+
+def root_of(writer):
+    """The youngest load from which a value flows, by who writes it; the load itself is younger than its own roots."""
+    if writer is None:
+        return None
+    return writer if writer.code.kind == LOAD else youngest(writer.roots)

@@ -1,0 +1,123 @@
+"""`stats`: the numbers of a run."""
+from collections import Counter
+
+from .instruction import BRANCH, JALR
+from .reasons import HELD, QUEUE_EMPTY
+
+LOAD_KINDS = (("hit", "loads: hit"), ("miss", "loads: miss"), ("join", "loads: join a miss"), ("forward", "loads: forwarded"),
+              ("fault", "loads: fault"))
+OTHER_UNITS = (("agu", "stores issued"), ("alu", "simple, branches, jumps"), ("mul", "multiplications"), ("div", "divisions"))
+MOST = 10
+
+
+class Counts:
+    """What is counted over the fetched instructions of a run."""
+
+    def __init__(self):
+        self.fetched = self.renamed = self.squashed = self.retired = 0
+        self.units, self.wrong = Counter(), Counter()
+        self.resolved, self.mispredicted = Counter(), Counter()
+        self.stores, self.output = Counter(), 0
+        self.held, self.held_cycles, self.held_dropped = Counter(), Counter(), Counter()
+
+    def add(self, item):
+        self.fetched += 1
+        self.renamed += item.renamed is not None
+        self.squashed += item.squashed is not None
+        self.retired += item.retired is not None
+        if item.unit:
+            self.units[item.unit] += 1
+            self.wrong[item.unit] += item.retired is None
+        if item.resolved is not None:
+            self.resolved[item.code.kind] += 1
+            self.mispredicted[item.code.kind] += item.mispredicted
+        if item.store:
+            self.stores[item.store] += 1
+        self.output += item.output or 0
+        self.add_held(item)
+
+    def add_held(self, item):
+        """The cycles in which only taint kept it from issuing or from being resolved."""
+        cycles = sum(wait.last - wait.first + 1 for wait in item.waits if wait.reason in HELD)
+        if cycles:
+            self.held[item.pc] += 1
+            self.held_cycles[item.pc] += cycles
+            self.held_dropped[item.pc] += item.retired is None
+
+
+def count(items):
+    counts = Counts()
+    for item in items:
+        counts.add(item)
+    return counts
+
+
+def lines_of(replay, disassembler):
+    """The lines of `stats`."""
+    counts = count(replay.items())
+    pipeline, reasons, end = replay.pipeline, replay.reasons, replay.trace.end
+    cycles = pipeline.cycle
+    rows = [
+        ("end", end.text if end else "none: the trace is cut"),
+        ("cycles", cycles),
+        ("retired", counts.retired),
+        ("instructions a cycle", f"{counts.retired / max(cycles, 1):.3f}"),
+        ("fetched", counts.fetched),
+        ("renamed", counts.renamed),
+        ("squashed", counts.squashed),
+    ]
+    rows += [(f"resolved: {name}", f"{counts.resolved[kind]}, mispredicted {counts.mispredicted[kind]}")
+             for name, kind in (("branches", BRANCH), ("JALRs", JALR))]
+    rows += [(name, executed(counts, unit)) for unit, name in LOAD_KINDS + OTHER_UNITS]
+    rows += [
+        ("stores retired", f"{sum(counts.stores.values())}, to a line in the cache {counts.stores['h']}"),
+        ("bytes put out", counts.output),
+        ("lines filled", f"{len(pipeline.fills)}, dropped for them {sum(drop is not None for _, _, drop in pipeline.fills)}"),
+        ("held by taint", f"{sum(counts.held.values())} instructions, {sum(counts.held_cycles.values())} cycles; "
+                          f"{sum(counts.held_dropped.values())} never went on"),
+        ("unexplained", len(reasons.unexplained)),
+    ]
+    yield from (f"{name:26}{value}" for name, value in rows)
+    yield from idle_lines(reasons, cycles)
+    yield from stop_lines(reasons)
+    yield from cost_lines(reasons, disassembler)
+    yield from held_lines(counts, disassembler)
+
+
+def executed(counts, unit):
+    """How many issued so, and how many of them didn't retire."""
+    wrong = counts.wrong[unit]
+    return f"{counts.units[unit]}" + (f", not retired {wrong}" if wrong else "")
+
+
+def idle_lines(reasons, cycles):
+    idle = Counter()
+    for (reason, _), number in reasons.idle.items():
+        idle[reason] += number
+    total = sum(idle.values())
+    yield f"\nnothing retired in {total} of {cycles} cycles"
+    yield from (f"{number:8}  {reason}" for reason, number in idle.most_common())
+
+
+def stop_lines(reasons):
+    total = sum(number for reason, number in reasons.stops.items() if reason != QUEUE_EMPTY)
+    yield f"\nrename stopped short of the width, with items in the queue, in {total} cycles"
+    yield from (f"{number:8}  {reason}" for reason, number in reasons.stops.most_common() if reason != QUEUE_EMPTY)
+
+
+def cost_lines(reasons, disassembler):
+    """The places at which most cycles without retirement were spent: the oldest entry's, or the mispredicted jump's."""
+    costs = Counter()
+    for (_, pc), number in reasons.idle.items():
+        if pc is not None:
+            costs[pc] += number
+    yield "\ncycles without retirement by place, the most first"
+    yield from (f"{number:8}  {disassembler.place(pc)}" for pc, number in costs.most_common(MOST))
+
+
+def held_lines(counts, disassembler):
+    if counts.held:
+        yield "\ncycles held by taint by place, the most first"
+        for pc, number in counts.held_cycles.most_common(MOST):
+            yield (f"{number:8}  {disassembler.place(pc)}: {counts.held[pc]} times, "
+                   f"{counts.held_dropped[pc]} never went on")

@@ -1,0 +1,59 @@
+"""The command: its statuses, and what it tells of wrong words."""
+import os
+import subprocess
+import sys
+import unittest
+
+import support
+
+VIEW = os.path.join(support.ROOT, "tools", "view", "view")
+
+
+def view(*words, text=None):
+    return subprocess.run([sys.executable, VIEW, *words], capture_output=True, text=True, input=text, timeout=60)
+
+
+class Command(unittest.TestCase):
+    @classmethod
+    def setUpClass(cls):
+        cls.text = "".join(support.worked_trace("Bounds check bypass"))
+        cls.trace = support.file_of("bounds.trace", cls.text.encode())
+        cls.other = support.file_of("other.trace", cls.text.replace("0001fff0", "0001ffe0").encode())
+        cls.files = ["-e", support.example("bounds_check.elf"), "-D", support.example("core.toml")]
+
+    def test_each_subcommand_writes(self):
+        for what in ("stats", "why", "list", "konata", "o3", "svg", "html"):
+            with self.subTest(what=what):
+                answer = view(what, self.trace, *self.files)
+                self.assertEqual((answer.returncode, answer.stderr), (0, ""))
+                self.assertGreater(len(answer.stdout), 400)
+
+    def test_diff_tells_by_its_status(self):
+        self.assertEqual(view("diff", self.trace, self.trace, *self.files).returncode, 0)
+        answer = view("diff", self.trace, self.other, *self.files)
+        self.assertEqual((answer.returncode, answer.stdout.split("\n")[0]), (1, "first unequal cycle: 3"))
+
+    def test_why_tells_by_its_status(self):
+        wrong = support.file_of("wrong.trace", self.text.replace(" alu:7", "").encode())
+        self.assertEqual(view("why", wrong, *self.files).returncode, 1)
+
+    def test_standard_input_and_a_file_to_write(self):
+        out = os.path.join(support.FOLDER.name, "out.txt")
+        answer = view("stats", "-", *self.files, "-o", out, text=self.text)
+        self.assertEqual((answer.returncode, answer.stdout), (0, ""))
+        with open(out, encoding="utf-8") as file:
+            self.assertIn("end exit 0 retired 5 cycles 21", file.read())
+
+    def test_what_is_wrong_is_told_in_one_line(self):
+        for words in (["stats", "/nowhere", *self.files], ["stats", self.trace, "-e", "/nowhere", *self.files[2:]],
+                      ["stats", self.trace, *self.files[:2], "-D", "/nowhere"], ["svg", *[self.trace] * 3, *self.files],
+                      ["stats", self.files[3], *self.files]):
+            answer = view(*words)
+            self.assertEqual((answer.returncode, answer.stdout, answer.stderr.count("\n")), (2, "", 1), words)
+
+    def test_help(self):
+        for words in (["--help"], ["svg", "--help"]):
+            self.assertIn("usage: view", view(*words).stdout)
+
+    def test_no_progress_where_there_is_no_terminal(self):
+        self.assertEqual(view("stats", self.trace, *self.files).stderr, "")

@@ -1,0 +1,121 @@
+"""Why instructions wait, on the worked traces of docs/machine.md: what is expected is what the text beside them says."""
+import unittest
+
+import support
+from generate.generated import addi, div, immediate_form, lw, mul, store
+from view.why import cycles
+
+LBU = lambda rd, offset, rs1: immediate_form(0x03, 4, rd, rs1, offset)
+HALF = 1
+FORWARDING = [div(9, 2, 2), addi(5, 0, -1), store(HALF, 5, 0, 2), lw(6, 0, 2), store(2, 5, 4, 2), lw(7, 4, 2), addi(17, 0, 93),
+              0x00000073]
+WRONG_PATH = [lw(5, 0, 2), mul(5, 5, 5), 0x00507863, lw(6, -16, 2), lw(6, -32, 2), lw(6, -48, 2), lw(7, -64, 2), addi(17, 0, 93),
+              0x00000073]
+
+
+def waits(item):
+    """What an entry waited for: cycles, reason, and the entry waited for."""
+    return [(cycles(wait), wait.reason, wait.serial) for wait in item.waits]
+
+
+def example(heading, name, model="core.toml", base=None):
+    """A worked trace; where it says "the first four lines are those of the bounds check", these are taken from there."""
+    lines = support.worked_trace(heading)
+    lines = support.worked_trace(base)[:4] + lines[4:] if base else lines
+    return support.replay(lines, support.example(name + ".elf"), support.example(model))
+
+
+class WorkedTraces(unittest.TestCase):
+    def test_bounds_check(self):
+        """The shift and the sum execute, but the last load waits: its base is tainted by the load of the secret."""
+        run, entries, items = support.bounds_check()
+        self.assertEqual(waits(entries[1]), [("3..12", "operand", 0)])
+        self.assertEqual(waits(entries[3]), [])
+        self.assertEqual(waits(entries[6]), [("6..14", "operand", 5), ("15..16", "taint", 3)])
+        self.assertEqual((entries[6].issued, entries[6].squashed), (None, 17))
+        self.assertEqual((entries[2].resolved, entries[2].outcome, entries[2].mispredicted), (17, "T", True))
+        self.assertEqual(sum(item.squashed is not None for item in items), 7)
+        self.assertEqual(run.reasons.unexplained, [])
+
+    def test_division_by_a_secret(self):
+        """The secret is there in cycle 13, but the division waits, and is dropped in 17."""
+        run, entries, _ = example("Division by a secret", "tainted_divisor", base="Bounds check bypass")
+        self.assertEqual(waits(entries[4]), [("5..12", "operand", 3), ("13..16", "taint", 3)])
+        self.assertEqual(run.reasons.unexplained, [])
+
+    def test_jump_to_a_secret_address(self):
+        """It is Done in 15, but isn't resolved while its operand is tainted, and is dropped in 17."""
+        run, entries, _ = example("Jump to a secret address", "target_injection", base="Bounds check bypass")
+        self.assertEqual((entries[5].issued, entries[5].done, entries[5].resolved), (14, 15, None))
+        self.assertEqual(waits(entries[5])[-1], ("15..16", "taint, to be resolved", 3))
+        self.assertEqual(run.reasons.unexplained, [])
+
+    def test_fault_shadow(self):
+        """No branch is in flight, so under spectre every load is visible at once, also behind the one that will trap."""
+        run, entries, _ = example("Fault shadow", "fault_shadow")
+        self.assertEqual(waits(entries[5]), [("5..15", "operand", 4)])
+        self.assertEqual((entries[1].unit, entries[1].trapped), ("fault", 23))
+        self.assertEqual(run.reasons.unexplained, [])
+
+    def test_fault_shadow_futuristic(self):
+        """Under futuristic an entry behind a fault is never visible: cycle 16 is `16 done:4`, and the rest stays."""
+        lines = support.worked_trace("Fault shadow")
+        lines[15] = "16 done:4\n"
+        run, entries, _ = support.replay(lines, support.example("fault_shadow.elf"), support.example("core_futuristic.toml"))
+        self.assertEqual(waits(entries[5])[-1], ("16..22", "taint", 2))
+        self.assertEqual(run.reasons.unexplained, [])
+
+    def test_forwarding(self):
+        """Memory is written when the stores retire, one a cycle; the first load takes two bytes from memory, the second none."""
+        image = support.image_of_words("forwarding", FORWARDING)
+        run, entries, _ = support.replay(support.worked_trace("Forwarding"), image, support.example("core.toml"))
+        self.assertEqual([entries[serial].unit for serial in (3, 5)], ["miss", "forward"])
+        self.assertEqual(waits(entries[3]), [("4", "older store", 2)])
+        self.assertEqual((entries[2].store, entries[4].store), ("h", "h"))
+        self.assertEqual(run.reasons.unexplained, [])
+
+    def test_misses_of_a_wrong_path(self):
+        """The squash drops the loads, but their misses go on, and the load of the right path waits for a register until 23."""
+        image = support.image_of_words("wrong_path", WRONG_PATH)
+        run, entries, _ = support.replay(support.worked_trace("Misses of a wrong path"), image, support.example("core.toml"))
+        self.assertEqual(waits(entries[8]), [("19..22", "miss register", None)])
+        self.assertEqual(entries[8].issued, 23)
+        self.assertEqual(run.reasons.unexplained, [])
+
+    def test_rename_stops_short(self):
+        """Four loads may be in flight, so the fifth isn't renamed until one retires in 13; from 14 on the call waits to be alone."""
+        image = support.image_of_words("wrong_path", WRONG_PATH)
+        run, _, _ = support.replay(support.worked_trace("Misses of a wrong path"), image, support.example("core.toml"))
+        stops = [(cycles(stop), stop.reason, hex(stop.pc)) for stop in run.reasons.rename_stops]
+        self.assertEqual(stops[:2], [("5..12", "loads", "0x10018"), ("14..16", "call waits to be alone", "0x10020")])
+
+
+class Unexplained(unittest.TestCase):
+    def told(self, lines, image="bounds_check.elf", description="core.toml"):
+        return support.replay(lines, support.example(image), support.example(description))[0].reasons.unexplained
+
+    def changed(self, number, old, new):
+        lines = support.worked_trace("Bounds check bypass")
+        self.assertIn(old, lines[number - 1])
+        lines[number - 1] = lines[number - 1].replace(old, new)
+        return lines
+
+    def test_a_load_that_issues_on_a_tainted_base(self):
+        told = self.told(self.changed(15, "done:5", "done:5 ld:6:0001f900:m"))
+        self.assertTrue(any("entry 6 issues, but has to wait: taint" in text for text in told), told)
+
+    def test_an_instruction_that_waits_for_nothing(self):
+        told = self.told(self.changed(6, " alu:7", ""))
+        self.assertTrue(any("cycle 6: entry 7 waits, and nothing tells why" in text for text in told), told)
+
+    def test_a_result_that_is_late(self):
+        told = self.told(self.changed(14, " done:4", ""))
+        self.assertTrue(any("cycle 14: entries [] are done, [4] are due" in text for text in told), told)
+
+    def test_a_hit_where_the_line_is_not_there(self):
+        told = self.told(self.changed(3, "ld:0:0001fff0:m", "ld:0:0001fff0:h"))
+        self.assertTrue(any("`h` for line 0001fff0, where `m` is right" in text for text in told), told)
+
+    def test_a_trace_under_another_description(self):
+        told = self.told(support.worked_trace("Fault shadow"), "fault_shadow.elf", "core_futuristic.toml")
+        self.assertEqual([text for text in told if "has to wait: taint" in text], ["cycle 16: entry 5 issues, but has to wait: taint"])

@@ -1,0 +1,51 @@
+"""The text of a trace (docs/formats.md, "The trace" and "The last line")."""
+import unittest
+
+import support
+from view import Fault
+from view.trace import Trace
+
+SHORT = """1 fet:00010000 fet:00010004
+2 ren:0:00010000 fet:00010008
+3 alu:0
+4 done:0 ret:0 ren:1:00010004
+5 ret:1 call:1:0
+end exit 0 retired 2 cycles 5
+"""
+
+
+def lines(text):
+    return iter(text.splitlines(keepends=True))
+
+
+class Rows(unittest.TestCase):
+    def test_rows_and_last_line(self):
+        trace = Trace(lines(SHORT))
+        rows = list(trace)
+        self.assertEqual([row.cycle for row in rows], [1, 2, 3, 4, 5])
+        self.assertEqual(rows[1].events, ["ren:0:00010000", "fet:00010008"])
+        self.assertEqual((trace.end.how, trace.end.retired, trace.end.cycles), ("exit 0", 2, 5))
+
+    def test_only_a_run_that_ended_ends_in_retire(self):
+        for end, ends in (("exit 7", True), ("trap 5 00010004", True), ("budget", False)):
+            rows = list(Trace(lines(f"1\n2\nend {end} retired 0 cycles 2\n")))
+            self.assertEqual([row.ends for row in rows], [False, ends], end)
+
+    def test_phases(self):
+        row = next(iter(Trace(lines("1 fill:0001fff0 done:0 res:2:T bp:2:2 sq:7 ret:2 ld:6:0001fff0:h ren:3:00010000 fet:00010004\n"))))
+        self.assertEqual([[words[0] for words in phase] for phase in row.phases()],
+                         [["fill"], ["done"], ["res", "bp", "sq"], ["ret"], ["ld"], ["ren"], ["fet"]])
+
+    def test_a_torn_trace_has_its_whole_lines(self):
+        trace = Trace(lines("1 fet:00010000\n2 ren:0:000"))
+        self.assertEqual(([row.cycle for row in trace], trace.end), ([1], None))
+
+    def test_what_is_no_trace_is_refused(self):
+        for text in ("x0 00000000\n", "2 fet:00010000\n", "1\n3\n", "end what retired 0 cycles 0\n", "\n"):
+            with self.assertRaises(Fault, msg=text):
+                list(Trace(lines(text)))
+        with self.assertRaises(Fault):
+            next(iter(Trace(lines("1 nonsense:1\n")))).phases()
+
+    def test_the_worked_traces_are_read(self):
+        self.assertEqual(len(list(Trace(iter(support.worked_trace("Bounds check bypass"))))), 21)

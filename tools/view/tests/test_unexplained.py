@@ -1,0 +1,77 @@
+"""Nothing is unexplained over what the program writes, and every event that is changed is noticed.
+
+The reasons are found from the trace's text, the image and the description alone, so this is a second opinion on the program.
+"""
+import os
+import unittest
+
+import support
+from generate.generated import generated_image
+from programs import PROGRAMS
+from view import Fault
+
+GENERATED, BLOCKS, CYCLES = 20, 24, 3000
+WORKED = [("Bounds check bypass", "bounds_check"), ("Fault shadow", "fault_shadow")]
+
+
+def unexplained(lines, image, description):
+    return support.replay(lines, image, description)[0].reasons.unexplained
+
+
+@unittest.skipIf(support.NO_PROGRAM, support.NO_PROGRAM)
+class OverThePrograms(unittest.TestCase):
+    def explained(self, image):
+        """The longest trace of this image under six descriptions, of which nothing is unexplained."""
+        longest = 0
+        for description in support.descriptions():
+            lines = support.trace_of(description, image, CYCLES)
+            with self.subTest(image=os.path.basename(image), description=os.path.basename(description)):
+                self.assertEqual(unexplained(lines, image, description), [])
+            longest = max(longest, len(lines))
+        return longest
+
+    def test_examples(self):
+        for name in support.EXAMPLES:
+            self.assertGreater(self.explained(support.example(name + ".elf")), 20)
+
+    def test_small_programs(self):
+        for name, words in PROGRAMS.items():
+            self.assertGreater(self.explained(support.image_of_words(name, words)), 4, name)
+
+    def test_generated_images(self):
+        for seed in range(GENERATED):
+            image = support.file_of(f"generated_{seed}.elf", generated_image(seed, BLOCKS))
+            self.assertGreater(self.explained(image), 100)
+
+
+class EveryEventMatters(unittest.TestCase):
+    def noticed(self, lines, name):
+        try:
+            return unexplained(lines, support.example(name + ".elf"), support.example("core.toml"))
+        except Fault:
+            return True
+
+    def test_an_event_that_is_missing_is_noticed(self):
+        for heading, name in WORKED:
+            for number, event, lines in without_one_event(support.worked_trace(heading)):
+                with self.subTest(trace=heading, cycle=number, event=event):
+                    self.assertTrue(self.noticed(lines, name))
+
+    def test_an_event_that_is_late_is_noticed(self):
+        for heading, name in WORKED:
+            for number, event, lines in without_one_event(support.worked_trace(heading)):
+                if lines[number].startswith("end"):
+                    continue
+                first, *events = lines[number].split()
+                lines[number] = " ".join([first, event, *events]) + "\n"
+                with self.subTest(trace=heading, cycle=number, event=event):
+                    self.assertTrue(self.noticed(lines, name))
+
+
+def without_one_event(lines):
+    """The trace without one of its events, for each: the cycle, the event, and the lines."""
+    for number, line in enumerate(lines[:-1], 1):
+        first, *events = line.split()
+        for place, event in enumerate(events):
+            left = [first, *events[:place], *events[place + 1:]]
+            yield number, event, [*lines[:number - 1], " ".join(left) + "\n", *lines[number:]]

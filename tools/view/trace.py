@@ -1,0 +1,125 @@
+"""The text that `trace` writes, as rows (docs/formats.md, "The trace")."""
+import gzip
+import os
+import re
+import sys
+from typing import NamedTuple
+
+from . import Fault
+
+FILL, COMPLETE, RESOLVE, RETIRE, ISSUE, RENAME, FETCH = range(7)
+
+# the phase of each event, and how many words its text has: the name, and what stands behind colons
+EVENTS = {
+    "fill": (FILL, 2), "done": (COMPLETE, 2), "res": (RESOLVE, 3), "bp": (RESOLVE, 3), "bt": (RESOLVE, 3), "sq": (RESOLVE, 2),
+    "ret": (RETIRE, 2), "st": (RETIRE, 4), "call": (RETIRE, 3), "alu": (ISSUE, 2), "mul": (ISSUE, 2), "div": (ISSUE, 3),
+    "agu": (ISSUE, 2), "ld": (ISSUE, 4), "ren": (RENAME, 3), "fet": (FETCH, 2),
+}
+WITHOUT_LINE = ("f", "x")
+
+END = re.compile(r"end (exit \d+|trap [0-7] [0-9a-f]{8}|budget) retired (\d+) cycles (\d+)")
+
+
+class Row(NamedTuple):
+    """A cycle: its number, the texts of its events in their order, and whether the run ended in its Retire."""
+
+    cycle: int
+    events: list
+    ends: bool
+
+    def phases(self):
+        """The events of each phase, as lists of their words: `["ld", "3", "0001fff0", "m"]`."""
+        phases = [[], [], [], [], [], [], []]
+        for text in self.events:
+            words = text.split(":")
+            phase, length = EVENTS.get(words[0], (None, 0))
+            if len(words) != length and not (words[0] == "ld" and len(words) == 3 and words[2] in WITHOUT_LINE):
+                raise Fault(f"cycle {self.cycle}: `{text}` is no event of a trace")
+            phases[phase].append(words)
+        return phases
+
+
+class End(NamedTuple):
+    """The last line: its text, how the run ended (`exit V`, `trap C P` or `budget`), and the two counts."""
+
+    text: str
+    how: str
+    retired: int
+    cycles: int
+
+
+class Trace:
+    """The rows of a trace, to be read once and in order.
+
+    `end` is the last line, once the rows are read; it is None where the text stops short of one, as a trace does that
+    couldn't be written whole. A line without its newline is such a torn end, and is left out.
+    """
+
+    def __init__(self, lines):
+        self.lines = lines
+        self.end = None
+
+    def __iter__(self):
+        number, row = 0, None
+        for line in self.lines:
+            if not line.endswith("\n"):
+                break
+            if line.startswith("end "):
+                self.end = read_end(line.rstrip("\n"))
+                break
+            if row:
+                yield row
+            number += 1
+            row = read_row(line, number)
+        if row:
+            yield row._replace(ends=self.end is not None and self.end.how != "budget")
+
+
+def read_row(line, number):
+    """The row of a line, which has to be the one of this cycle."""
+    first, *events = line[:-1].split(" ")
+    if first != str(number):
+        raise Fault(f"line {number} is no line of cycle {number}: `{line.strip()[:60]}`")
+    return Row(number, events, False)
+
+
+def read_end(text):
+    """The last line of a trace."""
+    found = END.fullmatch(text)
+    if not found:
+        raise Fault(f"`{text}` is no last line of a trace")
+    return End(text, found[1], int(found[2]), int(found[3]))
+
+
+def open_trace(name):
+    """The file of a trace, `-` for standard input; where the name ends in `.gz` it is unpacked."""
+    try:
+        if name == "-":
+            return sys.stdin
+        return gzip.open(name, "rt") if name.endswith(".gz") else open(name, encoding="ascii")
+    except OSError as error:
+        raise Fault(f"{name}: {error.strerror}") from None
+
+
+class Progress:
+    """The lines of a file as they come; how far they are stands on standard error, if that is a terminal."""
+
+    EVERY = 20000
+
+    def __init__(self, file, screen=sys.stderr):
+        self.file, self.screen, self.shown = file, screen, screen.isatty()
+
+    def __iter__(self):
+        try:
+            for number, line in enumerate(self.file):
+                if self.shown and number % self.EVERY == 0:
+                    self.show(f"cycle {number}")
+                yield line
+        finally:
+            if self.shown:
+                self.show("")
+
+    def show(self, text):
+        width = os.get_terminal_size(self.screen.fileno()).columns if text else 40
+        self.screen.write("\r" + text[:width - 1].ljust(24) + ("" if text else "\r"))
+        self.screen.flush()

@@ -1,0 +1,50 @@
+"""`why`: the reason of each wait, and of each cycle in which rename stops short."""
+from collections import Counter
+
+from .pipeline import NEVER
+from .reasons import HELD
+
+
+def lines_of(replay, disassembler, first, last, summary):
+    """The lines of `why`: each wait that touches the cycles from `first` to `last`, each stop of rename, and the sums."""
+    waits, held = Counter(), Counter()
+    last = NEVER if last is None else last
+    for item in replay.items():
+        for wait in item.waits:
+            waits[wait.reason] += wait.last - wait.first + 1
+            if wait.reason in HELD:
+                held[item.pc, wait.pc] += wait.last - wait.first + 1
+            if not summary and wait.first <= last and wait.last >= first:
+                yield wait_line(item, wait, disassembler)
+    if not summary:
+        for stop in replay.reasons.rename_stops:
+            if stop.first <= last and stop.last >= first:
+                yield f"{cycles(stop):>13}  rename stops short of {disassembler.place(stop.pc)}: {stop.reason}"
+    yield from sums(replay.reasons, waits, held, disassembler)
+
+
+def cycles(span):
+    """`17` or `5..12`."""
+    return f"{span.first}" if span.first == span.last else f"{span.first}..{span.last}"
+
+
+def wait_line(item, wait, disassembler):
+    """The cycles, the instruction, the reason, and the entry that it waits for."""
+    line = f"{cycles(wait):>13}  {item.serial} {disassembler.place(item.pc)}: {wait.reason}"
+    if wait.serial is None:
+        return line
+    return f"{line} of {wait.serial} {disassembler.place(wait.pc)}"
+
+
+def sums(reasons, waits, held, disassembler):
+    yield listed("waits of instructions, in cycles", waits)
+    yield listed("rename stops short, in cycles", reasons.stops)
+    yield listed("fetch stops short, in cycles", reasons.fetch_stops)
+    for (pc, root), number in held.most_common():
+        yield f"held by taint, in cycles: {number} at {disassembler.place(pc)}, by the load {disassembler.place(root)}"
+    yield f"unexplained: {len(reasons.unexplained)}"
+    yield from ("  " + text for text in reasons.unexplained)
+
+
+def listed(title, counter):
+    return f"{title}: " + (", ".join(f"{reason} {number}" for reason, number in counter.most_common()) or "none")
