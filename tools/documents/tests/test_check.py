@@ -1,0 +1,81 @@
+"""Tests of tools/documents/check: over a small tree that is made here, and over this repository."""
+import importlib.machinery
+import importlib.util
+import os
+import tempfile
+import unittest
+
+HERE = os.path.dirname(os.path.abspath(__file__))
+
+
+def load():
+    loader = importlib.machinery.SourceFileLoader("documents_check", os.path.join(HERE, "..", "check"))
+    module = importlib.util.module_from_spec(importlib.util.spec_from_loader("documents_check", loader))
+    loader.exec_module(module)
+    return module
+
+
+def table(heading, *cells):
+    rows = "".join(f"| {cell} | what it does |\n" for cell in cells)
+    return f"# A page\n\n## {heading}\n\n| Crate | What |\n|---|---|\n{rows}\n## The end\n\n| `other` | not of the table |\n"
+
+
+class SmallTree(unittest.TestCase):
+    """A tree of the crates `low` and `high`, whose documents are right until a test changes one."""
+
+    def setUp(self):
+        self.check = load()
+        folder = tempfile.TemporaryDirectory()
+        self.addCleanup(folder.cleanup)
+        self.check.TOP = folder.name
+        os.mkdir(os.path.join(folder.name, "docs"))
+        self.write("crates.txt", "# NAME: what it stands on\nlow:\nhigh staticlib: low\n")
+        self.write("README.md", table("Crate by crate", "`low`, `high`"))
+        self.write("docs/architecture.md", table("The map", "**A layer**", "`high`", "`low`"))
+        self.write("docs/theorems.md", table("The parts", "`low`", "`high`"))
+
+    def write(self, name, text):
+        with open(os.path.join(self.check.TOP, name), "w", encoding="utf-8") as file:
+            file.write(text)
+
+    def test_a_right_tree(self):
+        self.assertEqual(self.check.found(), [])
+
+    def test_rows(self):
+        cases = [
+            (("`low`",), ["docs/theorems.md, \"The parts\": the crate high is left out"]),
+            (("`low`", "`high`", "`gone`"), ["docs/theorems.md, \"The parts\": the crate gone isn't there any more"]),
+            (("`low`", "`high`", "`low`"), ["docs/theorems.md, \"The parts\": the crate low stands twice"]),
+        ]
+        for cells, wanted in cases:
+            with self.subTest(cells=cells):
+                self.write("docs/theorems.md", table("The parts", *cells))
+                self.assertEqual(self.check.found(), wanted)
+
+    def test_names_of_files_and_headings(self):
+        cases = [
+            ("see `crates/low/src/lib.rt`", ["README.md: names crates/low/src/lib.rt, which isn't there"]),
+            ("the program is `crates/low/out/low`", []),
+            ("`docs/theorems.md`, \"The\nparts\" has it", []),
+            ("`docs/theorems.md`, \"The part\" has it",
+             ["README.md: refers to docs/theorems.md, \"The part\", and there is no such heading"]),
+            ("## The end", ["README.md: has two headings \"The end\""]),
+            ("a line\n" * 170, ["README.md has 182 lines, more than 170"]),
+        ]
+        for more, wanted in cases:
+            with self.subTest(more=more[:40]):
+                self.write("README.md", table("Crate by crate", "`low`, `high`") + more + "\n")
+                self.assertEqual(self.check.found(), wanted)
+
+    def test_a_table_that_is_gone(self):
+        self.write("docs/architecture.md", "# A page\n")
+        self.assertEqual(self.check.found(), ["docs/architecture.md: there is no heading \"The map\""])
+
+
+class ThisRepository(unittest.TestCase):
+    def test_nothing_is_found(self):
+        self.assertEqual(load().found(), [])
+
+
+if __name__ == "__main__":
+    unittest.main()
