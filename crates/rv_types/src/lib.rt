@@ -14,12 +14,14 @@ mod piece;
 pub use kinds::{kind_of, reads_of, width_of, writes_of};
 pub use piece::{PIECE_MAX, Piece};
 use std::alloc::{AllocError, AllocFailed};
+use thiserror::Error;
 
 /// The number of registers.
 pub const REGISTERS: usize = 32;
 
 /// There was no memory: the one answer that has no stated cause.
-#[derive(Clone, Copy, Debug, PartialEq, Eq)]
+#[derive(Clone, Copy, Debug, PartialEq, Eq, Error)]
+#[error("no memory is left")]
 pub struct NoMemory;
 
 impl From<AllocError> for NoMemory {
