@@ -12,6 +12,7 @@ The modules, from the bottom up:
     reasons      why an instruction waits, and why rename or fetch stops short
     checks       whether what happens is what the machine's rules ask for
     replay       a whole trace taken through all of these
+    spans        what an instruction does in each cycle
     stats, why, listing, difference, konata, o3, drawing, page
                  what each subcommand writes
     command      the words of the command line

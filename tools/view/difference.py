@@ -51,7 +51,7 @@ def lines_of(difference, disassemblers):
     for side, name in enumerate("AB"):
         row, other = difference.rows[side], difference.rows[1 - side]
         if row is None:
-            yield f"  {name} ends before: {texts(difference.traces)[side]}" if other else f"  {name}: {texts(difference.traces)[side]}"
+            yield f"  {name}{' ends before' if other else ''}: {texts(difference.traces)[side]}"
             continue
         only = Counter(row.events) - Counter(other.events if other else [])
         for event in row.events:

@@ -1,12 +1,13 @@
 """`svg`: a picture, a row for each instruction and a column for each cycle; colours and letters tell what it does.
 
-`spans_of` says what an instruction does in each cycle; all else is layout. Lengths are in pixels.
+What an instruction does in each cycle is told by `spans`; here is its layout. Lengths are in pixels.
 """
 from html import escape
 from itertools import islice
 
 from .listing import tip
-from .reasons import HELD
+from .reasons import DIVIDER, MISS_REGISTER, OLDER_STORE, OPERAND, PORT, TAINT, TAINTED_OUTCOME
+from .spans import DONE, QUEUE, RENAMED, RETIRED, SQUASHED, TRAPPED, spans_of
 
 BEFORE, SPAN = 30, 80
 MOST_ROWS = 1000
@@ -17,14 +18,14 @@ LEGEND_COLUMN, LEGEND_ROW = 208, 18
 
 # name: letter, colour, colour of the letter, what the legend says
 STATES = {
-    "queue": ("q", "#e6e6e6", "#555", "fetched, in the queue"),
-    "renamed": ("n", "#c6d6ea", "#234", "renamed"),
-    "operand": ("o", "#fdf3c4", "#765", "waits for an operand"),
-    "taint": ("t", "#d7301f", "#fff", "held by taint"),
-    "older store": ("s", "#d9c29b", "#432", "waits for an older store"),
-    "port": ("p", "#f4c7dc", "#524", "waits for a port"),
-    "miss register": ("r", "#e9a3c9", "#413", "waits for a miss register"),
-    "divider": ("v", "#cab2d6", "#324", "waits for the divider"),
+    QUEUE: ("q", "#e6e6e6", "#555", "fetched, in the queue"),
+    RENAMED: ("n", "#c6d6ea", "#234", "renamed"),
+    OPERAND: ("o", "#fdf3c4", "#765", "waits for an operand"),
+    TAINT: ("t", "#d7301f", "#fff", "held by taint"),
+    OLDER_STORE: ("s", "#d9c29b", "#432", "waits for an older store"),
+    PORT: ("p", "#f4c7dc", "#524", "waits for a port"),
+    MISS_REGISTER: ("r", "#e9a3c9", "#413", "waits for a miss register"),
+    DIVIDER: ("v", "#cab2d6", "#324", "waits for the divider"),
     "alu": ("+", "#6fa8dc", "#123", "executes: simple, jump"),
     "mul": ("*", "#4f7fc4", "#fff", "executes: multiplication"),
     "div": ("/", "#8e6bb8", "#fff", "executes: division"),
@@ -34,33 +35,13 @@ STATES = {
     "join": ("J", "#f6c445", "#310", "load: joins a miss"),
     "forward": ("F", "#7fd3ee", "#023", "load: forwarded"),
     "fault": ("X", "#7a5230", "#fff", "load: faults"),
-    "done": ("d", "#d5e8d4", "#465", "done"),
-    "retired": ("R", "#222222", "#fff", "retires"),
-    "trapped": ("!", "#d4b106", "#000", "traps"),
-    "squashed": ("x", "none", "#c00", "is squashed"),
+    DONE: ("d", "#d5e8d4", "#465", "done"),
+    TAINTED_OUTCOME: ("t", "#f0907f", "#300", "done, outcome held by taint"),
+    RETIRED: ("R", "#222222", "#fff", "retires"),
+    TRAPPED: ("!", "#d4b106", "#000", "traps"),
+    SQUASHED: ("x", "none", "#c00", "is squashed"),
 }
 OUTCOMES = "T, N, J: resolved as taken, not taken, a jump; framed: mispredicted, and what is younger is squashed"
-WAITS = tuple(name for name, state in STATES.items() if state[3].startswith(("waits", "held")))
-
-
-def spans_of(item, end):
-    """What an instruction does: spans of cycles as (first, behind, name), by time. `end` is the cycle behind the last."""
-    last = item.trapped if item.gone is None else item.gone
-    behind = end if last is None else last
-    turns = [(item.fetched, "queue"), (item.renamed, "renamed")]
-    turns += [(wait.first, wait.reason) for wait in item.waits if wait.reason in WAITS]
-    turns += [(item.issued, item.unit), (item.renamed + 1 if item.code.at_once and item.renamed else item.done, "done")]
-    turns = [turn for turn in turns if turn[0] is not None] + [(behind, None)]
-    spans = [(first, min(after, behind), name) for (first, name), (after, _) in zip(turns, turns[1:]) if first < min(after, behind)]
-    if last is not None:
-        how = "trapped" if item.gone is None else "squashed" if item.retired is None else "retired"
-        spans.append((last, last + 1, how))
-    return spans
-
-
-def held_when_done(item):
-    """The cycles in which a branch or JALR was Done, and taint kept it from being resolved."""
-    return [(wait.first, wait.last + 1) for wait in item.waits if wait.reason == HELD[1]]
 
 
 class Panel:
@@ -128,8 +109,6 @@ class Panel:
         parts = ["<g>", f"<title>{escape(tip(item, self.disassembler))}</title>"]
         for first, behind, name in spans_of(item, self.last + 1):
             parts.append(self.span(y, first, behind, name, item))
-        for first, behind in held_when_done(item):
-            parts.append(self.box(y + ROW - 5, first, behind, "taint", 3))
         if item.resolved is not None and self.first <= item.resolved <= self.last:
             parts.append(self.outcome(y, item))
         return "".join(parts) + "</g>"
@@ -150,7 +129,7 @@ class Panel:
                 f'fill="{STATES[name][1]}"/>')
 
     def outcome(self, y, item):
-        colour = STATES["retired" if item.resolved == item.retired else "done"][2]
+        colour = STATES[RETIRED if item.resolved == item.retired else DONE][2]
         x = self.x(item.resolved)
         wrong = f'<rect class="wrong" x="{x}" y="{y + 1}" width="{CELL - 1}" height="{ROW - 2}"/>' if item.mispredicted else ""
         return (f'{wrong}<text class="letter" font-weight="bold" fill="{colour}" x="{x + CELL / 2}" y="{y + 11}">'
@@ -168,7 +147,8 @@ class Panel:
 STYLE = """text{font:10px "DejaVu Sans Mono",Menlo,Consolas,monospace;fill:#111}
 .title{font-weight:bold;font-size:12px}.faint{fill:#666}.struck{fill:#a33;text-decoration:line-through}
 .grid{stroke:#e2e2e2;fill:none}.number{fill:#666;text-anchor:middle}.fill{fill:#c96a12;text-anchor:middle}
-.letter{text-anchor:middle;font-size:9px}.serial{text-anchor:end;fill:#666}.wrong{fill:none;stroke:#f33;stroke-width:2}
+.letter{text-anchor:middle;font-size:9px}.sample{stroke:#999;stroke-width:.5}.serial{text-anchor:end;fill:#666}
+.wrong{fill:none;stroke:#f33;stroke-width:2}
 .frame{fill:none;stroke:#c00;stroke-width:1.5}.framed{fill:#c00;font-weight:bold}
 """ + "\n".join(f'.letter[fill="{colour}"]{{fill:{colour}}}' for colour in sorted({state[2] for state in STATES.values()}))
 
@@ -186,7 +166,7 @@ def legend(panels, width):
     for place, name in enumerate(used(panels)):
         x, y = MARGIN + place % columns * LEGEND_COLUMN, place // columns * LEGEND_ROW
         letter, colour, dark, text = STATES[name]
-        parts.append(f'<rect x="{x}" y="{y}" width="{CELL}" height="{ROW - 2}" fill="{colour}" stroke="#999" stroke-width="0.5"/>'
+        parts.append(f'<rect class="sample" x="{x}" y="{y}" width="{CELL}" height="{ROW - 2}" fill="{colour}"/>'
                      f'<text class="letter" fill="{dark}" x="{x + CELL / 2}" y="{y + 10}">{letter}</text>'
                      f'<text x="{x + CELL + 6}" y="{y + 10}">{text}</text>')
     rows = -(-len(used(panels)) // columns)

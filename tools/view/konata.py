@@ -1,29 +1,32 @@
 """`konata`: the log that the viewer Konata opens, Kanata 0004.
 
-Each instruction has one `I` and one `R`, and each `S` of a stage its `E`. The stages: F in the queue, Rn renamed, and then one
-for each reason of waiting (Wo operand, Wt taint, Ws older store, Wp port, Wm miss register, Wd divider), one for each unit (X,
-Mul, Div, St, and Lh, Lm, Lj, Lf, Lx for loads), and Cm: done. `W` lines are the dependences. What is in flight at the end is
-told as flushed.
+Each instruction has one `I` and one `R`, and each `S` of a stage its `E`. The stages: F in the queue, Rn renamed; one for each
+reason of waiting (Wo operand, Wt taint, Ws older store, Wp port, Wm miss register, Wd divider); one for each unit (X, Mul,
+Div, St, and Lh, Lm, Lj, Lf, Lx for loads); Cm done; Ct done, and its outcome held by taint. `W` lines are the dependences.
+What is in flight at the end is told as flushed.
 """
 from .listing import tip
+from .reasons import DIVIDER, MISS_REGISTER, OLDER_STORE, OPERAND, PORT, TAINT, TAINTED_OUTCOME
+from .spans import DONE, QUEUE, RENAMED, RETIRED, spans_of
 
-STAGE_OF_UNIT = {"alu": "X", "mul": "Mul", "div": "Div", "agu": "St", "hit": "Lh", "miss": "Lm", "join": "Lj", "forward": "Lf",
-                 "fault": "Lx"}
-STAGE_OF_WAIT = {"operand": "Wo", "taint": "Wt", "older store": "Ws", "port": "Wp", "miss register": "Wm", "divider": "Wd"}
-RETIRED, FLUSHED = 0, 1
+STAGES = {
+    QUEUE: "F", RENAMED: "Rn", OPERAND: "Wo", TAINT: "Wt", OLDER_STORE: "Ws", PORT: "Wp", MISS_REGISTER: "Wm", DIVIDER: "Wd",
+    "alu": "X", "mul": "Mul", "div": "Div", "agu": "St",
+    "hit": "Lh", "miss": "Lm", "join": "Lj", "forward": "Lf", "fault": "Lx",
+    DONE: "Cm", TAINTED_OUTCOME: "Ct", RETIRED: "Cm",
+}
+IS_RETIRED, IS_FLUSHED = 0, 1
 
 
 def stages(item, end):
-    """The stages of an instruction and the cycles in which they begin, by time; `end` is the cycle behind the last."""
-    found = [(item.fetched, "F")]
-    if item.renamed is not None:
-        found.append((item.renamed, "Rn"))
-        found += [(wait.first, STAGE_OF_WAIT[wait.reason]) for wait in item.waits if wait.reason in STAGE_OF_WAIT]
-    if item.issued is not None:
-        found.append((item.issued, STAGE_OF_UNIT[item.unit]))
-    if item.done is not None:
-        found.append((item.done, "Cm"))
-    return [(cycle, name) for cycle, name in found if cycle < end]
+    """The stages as (first, behind, name): the cycle of the retirement is one more of Cm."""
+    found = []
+    for first, behind, name in spans_of(item, end):
+        if name in STAGES and found and found[-1][2] == STAGES[name]:
+            found[-1] = (found[-1][0], behind, STAGES[name])
+        elif name in STAGES:
+            found.append((first, behind, STAGES[name]))
+    return found
 
 
 def lines_of(replay, disassembler, first, last):
@@ -59,20 +62,14 @@ class Log:
     def add(self, item, behind, disassembler):
         """All lines of one instruction; one that is still in flight ends in the cycle `behind` the last."""
         number = self.numbers[item.number] = len(self.numbers)
-        end = item.retired + 1 if item.retired is not None else item.squashed or behind
         self.put(item.fetched, "I", number, item.number if item.serial is None else item.serial, 0)
         self.put(item.fetched, "L", number, 0, disassembler.place(item.pc))
         self.put(item.fetched, "L", number, 1, tip(item, disassembler).replace("\n", "\\n"))
-        open_stage = None
-        for cycle, name in stages(item, end):
-            if open_stage:
-                self.put(cycle, "E", number, 0, open_stage)
-            self.put(cycle, "S", number, 0, name)
-            open_stage = name
-        if open_stage:
-            self.put(end, "E", number, 0, open_stage)
+        for first, end, name in stages(item, behind):
+            self.put(first, "S", number, 0, name)
+            self.put(end, "E", number, 0, name)
         self.add_dependences(item, number)
-        self.put(end, "R", number, self.retired, RETIRED if item.retired is not None else FLUSHED)
+        self.put(end, "R", number, self.retired, IS_RETIRED if item.retired is not None else IS_FLUSHED)
         self.retired += item.retired is not None
 
     def add_dependences(self, item, number):

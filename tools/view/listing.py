@@ -3,7 +3,8 @@ from .pipeline import NEVER
 from .reasons import HELD
 from .why import cycles
 
-HEADER = f"{'serial':>8}{'fetched':>9}{'renamed':>9}{'ready':>9}{'issued':>9}{'done':>9}{'resolved':>9}{'retired':>9}  instruction"
+TIMES = ("fetched", "renamed", "ready", "issued", "done", "resolved", "retired")
+HEADER = f"{'serial':>8}" + "".join(f"{name:>9}" for name in TIMES) + "  instruction"
 
 
 def lines_of(replay, disassembler, first, last):
@@ -16,9 +17,12 @@ def lines_of(replay, disassembler, first, last):
 
 
 def line_of(item, disassembler):
-    times = (item.serial, item.fetched, item.renamed, item.ready, item.issued, item.done, item.resolved, item.retired)
-    columns = "".join(f"{'-' if time is None else time:>{8 if place == 0 else 9}}" for place, time in enumerate(times))
-    return columns + "  " + "; ".join([disassembler.place(item.pc), *notes(item)])
+    times = "".join(f"{shown(getattr(item, name)):>9}" for name in TIMES)
+    return f"{shown(item.serial):>8}{times}  " + "; ".join([disassembler.place(item.pc), *notes(item)])
+
+
+def shown(number):
+    return "-" if number is None else number
 
 
 def notes(item):
@@ -42,8 +46,11 @@ def notes(item):
 
 def tip(item, disassembler):
     """The same as a text of a few lines, for a picture."""
-    names = ("fetched", "renamed", "ready", "issued", "done", "resolved", "retired")
-    times = [f"{name} {getattr(item, name)}" for name in names if getattr(item, name) is not None]
+    times = [f"{name} {getattr(item, name)}" for name in TIMES if getattr(item, name) is not None]
     serial = "" if item.serial is None else f"{item.serial} "
-    waits = [f"{cycles(wait)} waits: {wait.reason}" + ("" if wait.serial is None else f" of {wait.serial}") for wait in item.waits]
+    waits = [f"{cycles(wait)} waits: {wait.reason}{of(wait)}" for wait in item.waits]
     return "\n".join([serial + disassembler.place(item.pc), ", ".join(times), *notes(item), *waits])
+
+
+def of(wait):
+    return "" if wait.serial is None else f" of {wait.serial}"

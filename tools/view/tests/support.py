@@ -24,7 +24,8 @@ FOLDER = tempfile.TemporaryDirectory()
 LARGEST = {"fetch_width": 4, "retire_width": 4, "rob": 64, "stations": 32, "loads": 16, "stores": 16, "queue": 16, "alus": 4,
            "mul_latency": 8, "sets": 16, "ways": 4, "line": 64, "hit_latency": 3, "miss_latency": 40, "mshrs": 8}
 SMALLEST = {"fetch_width": 1, "retire_width": 1, "rob": 4, "stations": 2, "loads": 1, "stores": 1, "queue": 1, "alus": 1,
-            "mul_latency": 1, "counters": 2, "btb": 1, "sets": 1, "ways": 1, "line": 4, "hit_latency": 1, "miss_latency": 2, "mshrs": 1}
+            "mul_latency": 1, "counters": 2, "btb": 1, "sets": 1, "ways": 1, "line": 4, "hit_latency": 1, "miss_latency": 2,
+            "mshrs": 1}
 
 
 def example(name):
@@ -91,6 +92,13 @@ def worked_rows(heading):
         section = file.read().split(f"\n### {heading}\n")[1].split("\n### ")[0]
     rows = next(block for block in section.split("```")[1::2] if re.match(r"\n\d+ \w+:", block)).strip().splitlines()
     return {int(cycle) if cycle.isdigit() else cycle: row for cycle, row in ((row.split()[0], row) for row in rows)}
+
+
+def with_empty_rows(text):
+    """The lines of a trace, with those of the cycles without events put back."""
+    *rows, last = text.splitlines()
+    rows = {int(row.split()[0]): row for row in rows}
+    return [f"{rows.get(cycle, cycle)}\n" for cycle in range(1, max(rows) + 1)] + [last + "\n"]
 
 
 def replay(lines, image_file, description_file):

@@ -26,7 +26,8 @@ class Statistics(unittest.TestCase):
     def test_counts_of_the_bounds_check(self):
         self.has("end  +end exit 0 retired 5 cycles 21", "cycles  +21", "retired  +5", "instructions a cycle  +0.238",
                  "fetched  +13", "renamed  +10", "squashed  +7", "resolved: branches  +1, mispredicted 1",
-                 "resolved: JALRs  +0, mispredicted 0", "loads: hit  +0", "loads: miss  +1", "loads: join a miss  +1, not retired 1",
+                 "resolved: JALRs  +0, mispredicted 0", "loads: hit  +0", "loads: miss  +1",
+                 "loads: join a miss  +1, not retired 1",
                  "simple, branches, jumps  +5, not retired 3", "multiplications  +1", "lines filled  +1, dropped for them 0",
                  "held by taint  +1 instructions, 2 cycles; 1 never went on", "unexplained  +0")
 

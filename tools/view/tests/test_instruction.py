@@ -1,7 +1,7 @@
 """Kinds and registers, from the table of docs/instruction-set.md, "Decoding", and docs/machine.md, "Kinds"."""
 import unittest
 
-import support
+import support  # puts the tools on the path
 from view.instruction import instruction_of
 
 # the word, its kind, what it reads, what it writes. The words are those that binutils assembles from the text beside.

@@ -4,6 +4,7 @@ from xml.etree import ElementTree
 
 import support
 from view import difference, drawing, page
+from view.spans import spans_of
 
 SVG = "{http://www.w3.org/2000/svg}"
 
@@ -25,7 +26,7 @@ class Spans(unittest.TestCase):
     def test_an_instruction_is_somewhere_in_each_cycle_until_it_is_gone(self):
         _, _, items = support.bounds_check()
         for item in items:
-            spans = drawing.spans_of(item, 22)
+            spans = spans_of(item, 22)
             self.assertEqual(spans[0][0], item.fetched)
             self.assertEqual(spans[-1][1], 22 if item.gone is None else item.gone + 1)
             for (_, behind, _), (first, _, _) in zip(spans, spans[1:]):
@@ -33,8 +34,16 @@ class Spans(unittest.TestCase):
 
     def test_the_load_that_is_held(self):
         _, entries, _ = support.bounds_check()
-        self.assertEqual(drawing.spans_of(entries[6], 22), [(4, 5, "queue"), (5, 6, "renamed"), (6, 15, "operand"), (15, 17, "taint"),
+        self.assertEqual(spans_of(entries[6], 22), [(4, 5, "queue"), (5, 6, "renamed"), (6, 15, "operand"), (15, 17, "taint"),
                                                             (17, 18, "squashed")])
+
+
+    def test_a_jump_whose_outcome_is_held(self):
+        """The jump to a secret address is Done in 15 and is dropped in 17, not resolved."""
+        files = support.example("target_injection.elf"), support.example("core.toml")
+        _, entries, _ = support.replay(support.worked_trace("Jump to a secret address"), *files)
+        self.assertEqual(spans_of(entries[5], 22)[-3:],
+                         [(14, 15, "alu"), (15, 17, "taint, to be resolved"), (17, 18, "squashed")])
 
 
 class Pictures(unittest.TestCase):
@@ -104,4 +113,5 @@ class Differences(unittest.TestCase):
         other = [*whole[:-1], "end exit 1 retired 5 cycles 21\n"]
         files = support.example("bounds_check.elf"), support.example("core.toml")
         self.assertEqual(self.lines([support.fresh(whole, *files), support.fresh(other, *files)]),
-                         ["first unequal cycle: 21", "  A: end exit 0 retired 5 cycles 21", "  B: end exit 1 retired 5 cycles 21"])
+                         ["first unequal cycle: 21", "  A: end exit 0 retired 5 cycles 21",
+                          "  B: end exit 1 retired 5 cycles 21"])

@@ -2,15 +2,8 @@
 import unittest
 
 import support
-from generate.generated import addi, div, immediate_form, lw, mul, store
+from programs import PROGRAMS
 from view.why import cycles
-
-LBU = lambda rd, offset, rs1: immediate_form(0x03, 4, rd, rs1, offset)
-HALF = 1
-FORWARDING = [div(9, 2, 2), addi(5, 0, -1), store(HALF, 5, 0, 2), lw(6, 0, 2), store(2, 5, 4, 2), lw(7, 4, 2), addi(17, 0, 93),
-              0x00000073]
-WRONG_PATH = [lw(5, 0, 2), mul(5, 5, 5), 0x00507863, lw(6, -16, 2), lw(6, -32, 2), lw(6, -48, 2), lw(7, -64, 2), addi(17, 0, 93),
-              0x00000073]
 
 
 def waits(item):
@@ -18,11 +11,9 @@ def waits(item):
     return [(cycles(wait), wait.reason, wait.serial) for wait in item.waits]
 
 
-def example(heading, name, model="core.toml", base=None):
-    """A worked trace; where it says "the first four lines are those of the bounds check", these are taken from there."""
-    lines = support.worked_trace(heading)
-    lines = support.worked_trace(base)[:4] + lines[4:] if base else lines
-    return support.replay(lines, support.example(name + ".elf"), support.example(model))
+def example(heading, name):
+    """A worked trace of an example, taken through."""
+    return support.replay(support.worked_trace(heading), support.example(name + ".elf"), support.example("core.toml"))
 
 
 class WorkedTraces(unittest.TestCase):
@@ -37,15 +28,22 @@ class WorkedTraces(unittest.TestCase):
         self.assertEqual(sum(item.squashed is not None for item in items), 7)
         self.assertEqual(run.reasons.unexplained, [])
 
+    def test_store_with_a_tainted_address(self):
+        """A store issues on a tainted address; the load behind it has an untainted base, and waits for the store alone."""
+        run, entries, _ = example("Store with a tainted address", "tainted_store")
+        self.assertEqual((entries[5].issued, waits(entries[5])), (14, [("5..13", "operand", 4)]))
+        self.assertEqual((entries[6].unit, entries[6].issued, waits(entries[6])), ("hit", 15, [("6..14", "older store", 5)]))
+        self.assertEqual(run.reasons.unexplained, [])
+
     def test_division_by_a_secret(self):
         """The secret is there in cycle 13, but the division waits, and is dropped in 17."""
-        run, entries, _ = example("Division by a secret", "tainted_divisor", base="Bounds check bypass")
+        run, entries, _ = example("Division by a secret", "tainted_divisor")
         self.assertEqual(waits(entries[4]), [("5..12", "operand", 3), ("13..16", "taint", 3)])
         self.assertEqual(run.reasons.unexplained, [])
 
     def test_jump_to_a_secret_address(self):
         """It is Done in 15, but isn't resolved while its operand is tainted, and is dropped in 17."""
-        run, entries, _ = example("Jump to a secret address", "target_injection", base="Bounds check bypass")
+        run, entries, _ = example("Jump to a secret address", "target_injection")
         self.assertEqual((entries[5].issued, entries[5].done, entries[5].resolved), (14, 15, None))
         self.assertEqual(waits(entries[5])[-1], ("15..16", "taint, to be resolved", 3))
         self.assertEqual(run.reasons.unexplained, [])
@@ -66,8 +64,8 @@ class WorkedTraces(unittest.TestCase):
         self.assertEqual(run.reasons.unexplained, [])
 
     def test_forwarding(self):
-        """Memory is written when the stores retire, one a cycle; the first load takes two bytes from memory, the second none."""
-        image = support.image_of_words("forwarding", FORWARDING)
+        """The first load takes two bytes from the store and two from memory; the second is wholly forwarded."""
+        image = support.image_of_words("forwarding", PROGRAMS["forwarding"])
         run, entries, _ = support.replay(support.worked_trace("Forwarding"), image, support.example("core.toml"))
         self.assertEqual([entries[serial].unit for serial in (3, 5)], ["miss", "forward"])
         self.assertEqual(waits(entries[3]), [("4", "older store", 2)])
@@ -75,16 +73,16 @@ class WorkedTraces(unittest.TestCase):
         self.assertEqual(run.reasons.unexplained, [])
 
     def test_misses_of_a_wrong_path(self):
-        """The squash drops the loads, but their misses go on, and the load of the right path waits for a register until 23."""
-        image = support.image_of_words("wrong_path", WRONG_PATH)
+        """The squash drops the loads, but their misses go on: the load of the right path waits for a register until 23."""
+        image = support.image_of_words("wrong_path", PROGRAMS["wrong path misses"])
         run, entries, _ = support.replay(support.worked_trace("Misses of a wrong path"), image, support.example("core.toml"))
         self.assertEqual(waits(entries[8]), [("19..22", "miss register", None)])
         self.assertEqual(entries[8].issued, 23)
         self.assertEqual(run.reasons.unexplained, [])
 
     def test_rename_stops_short(self):
-        """Four loads may be in flight, so the fifth isn't renamed until one retires in 13; from 14 on the call waits to be alone."""
-        image = support.image_of_words("wrong_path", WRONG_PATH)
+        """Four loads may be in flight, so the fifth isn't renamed until one retires in 13. Then the call waits to be alone."""
+        image = support.image_of_words("wrong_path", PROGRAMS["wrong path misses"])
         run, _, _ = support.replay(support.worked_trace("Misses of a wrong path"), image, support.example("core.toml"))
         stops = [(cycles(stop), stop.reason, hex(stop.pc)) for stop in run.reasons.rename_stops]
         self.assertEqual(stops[:2], [("5..12", "loads", "0x10018"), ("14..16", "call waits to be alone", "0x10020")])
@@ -118,4 +116,42 @@ class Unexplained(unittest.TestCase):
 
     def test_a_trace_under_another_description(self):
         told = self.told(support.worked_trace("Fault shadow"), "fault_shadow.elf", "core_futuristic.toml")
-        self.assertEqual([text for text in told if "has to wait: taint" in text], ["cycle 16: entry 5 issues, but has to wait: taint"])
+        held = [text for text in told if "has to wait: taint" in text]
+        self.assertEqual(held, ["cycle 16: entry 5 issues, but has to wait: taint"])
+
+
+STORE_THAT_FAULTS = """1 fet:00010000 fet:00010004
+2 ren:0:00010000 ren:1:00010004 fet:00010008 fet:0001000c
+3 div:0:20 agu:1 ren:2:00010008 ren:3:0001000c fet:00010010 fet:00010014
+4 done:1 ld:2:0001fff0:m ren:4:00010010 ren:5:00010014 fet:00010018 fet:0001001c
+5 ren:6:00010018 ren:7:0001001c fet:00010020 fet:00010024
+6 alu:7
+7 done:7
+14 fill:0001fff0 done:2 alu:3
+15 done:3 alu:6
+16 done:6
+"""
+
+
+class StoresThatFault(unittest.TestCase):
+    """Under futuristic what stands behind a store that faults is never visible, and no event tells that it faults.
+
+    The store (1) goes to address 0, outside memory; the load (2) behind it gets its value, and the next one (4) has a base made
+    of that, as the division (5) its operands: they could issue in 15 if the store were safe. The branch (6) executes, and isn't
+    resolved.
+    """
+
+    def run_with(self, rest):
+        lines = support.with_empty_rows(STORE_THAT_FAULTS + rest)
+        image = support.image_of_words("store_that_faults", PROGRAMS["store that faults"])
+        return support.replay(lines, image, support.example("core_futuristic.toml"))
+
+    def test_the_wait_behind_it_is_explained(self):
+        run, entries, _ = self.run_with("23 done:0 ret:0\nend trap 7 00010004 retired 1 cycles 23\n")
+        self.assertEqual([waits(entries[serial])[-1] for serial in (4, 5, 6)], [
+            ("15..22", "taint", 2), ("15..22", "taint", 2), ("16..23", "taint, to be resolved", 2)])
+        self.assertEqual(run.reasons.unexplained, [])
+
+    def test_but_not_if_the_store_retires(self):
+        run, _, _ = self.run_with("23 done:0 ret:0 ret:1 st:1:00000000:m\nend budget retired 2 cycles 23\n")
+        self.assertIn("cycle 23: store 1 retires; a wait was explained by its fault", run.reasons.unexplained)

@@ -32,7 +32,8 @@ class Rows(unittest.TestCase):
             self.assertEqual([row.ends for row in rows], [False, ends], end)
 
     def test_phases(self):
-        row = next(iter(Trace(lines("1 fill:0001fff0 done:0 res:2:T bp:2:2 sq:7 ret:2 ld:6:0001fff0:h ren:3:00010000 fet:00010004\n"))))
+        text = "1 fill:0001fff0 done:0 res:2:T bp:2:2 sq:7 ret:2 ld:6:0001fff0:h ren:3:00010000 fet:00010004\n"
+        row = next(iter(Trace(lines(text))))
         self.assertEqual([[words[0] for words in phase] for phase in row.phases()],
                          [["fill"], ["done"], ["res", "bp", "sq"], ["ret"], ["ld"], ["ren"], ["fet"]])
 
