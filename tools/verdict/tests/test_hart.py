@@ -5,7 +5,7 @@ import unittest
 
 import material
 from material import CODE, CORE, image_file, needs_program, programs, segment, words
-import support
+from material import support
 from generate.generated import generated_image
 from verdict.hart import Hart, report
 

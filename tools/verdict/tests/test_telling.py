@@ -1,7 +1,7 @@
 """What a trace tells of bytes that differ, on the worked traces (docs/machine.md, "Worked traces")."""
 import unittest
 
-import support
+from material import support
 from material import BOUND_0, CODE, CORE, DATA, SECRET, gadget, program
 from verdict.telling import Telling
 from view import Fault

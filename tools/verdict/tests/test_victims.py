@@ -10,7 +10,7 @@ import unittest
 
 import material
 from material import needs_program
-import support
+from material import support
 
 FOLDER = support.example("c")
 COMPILERS = {"gcc": ("riscv64-unknown-elf-gcc",), "clang": ("clang", "ld.lld")}
