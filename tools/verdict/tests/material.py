@@ -1,4 +1,4 @@
-"""What the tests run on: where things are, images from words, the programs and traces of the documents and of the simulator's tests."""
+"""What the tests run on, beside what the tests of tools/view have: images with secrets, and reports of runs."""
 import functools
 import glob
 import os
@@ -8,58 +8,75 @@ import subprocess
 import sys
 import unittest
 
-HERE = os.path.dirname(os.path.abspath(__file__))
-TOOLS = os.path.dirname(os.path.dirname(HERE))
-ROOT = os.path.dirname(TOOLS)
-EXAMPLES = os.path.join(ROOT, "examples")
-sys.path.insert(0, TOOLS)
+TOOLS = os.path.dirname(os.path.dirname(os.path.dirname(os.path.abspath(__file__))))
+sys.path.append(os.path.join(TOOLS, "view", "tests"))
 
+import support
+from programs import PROGRAMS
 from verdict import hart, simulator
 from verdict.loaded import Loaded
 from view.description import read_description
 
 CODE, DATA = 0x00010000, 0x0001fff0
+SECRET = DATA + 8
 ISA_BASE, ISA_SIZE = 0x00010000, 1 << 20
-CORE = os.path.join(EXAMPLES, "core.toml")
-CORE_FUTURISTIC = os.path.join(EXAMPLES, "core_futuristic.toml")
-PROGRAM = simulator.found()
-needs_program = unittest.skipIf(PROGRAM is None, "no simulator: crates/stt_cli/out/stt_cli isn't built, and STT_CLI names none")
+CORE, CORE_FUTURISTIC = support.example("core.toml"), support.example("core_futuristic.toml")
+needs_program = unittest.skipIf(support.NO_PROGRAM, support.NO_PROGRAM)
+
+BOUND_0, BOUND_1 = bytes(8), bytes([1]) + bytes(7)
+DATA_FLAGS, CODE_FLAGS = 6, 5
 
 
 def read(*names):
-    with open(os.path.join(ROOT, *names), encoding="utf-8") as file:
+    with open(os.path.join(support.ROOT, *names), encoding="utf-8") as file:
         return file.read()
-
-
-def elf(segments, entry=CODE):
-    """An image of segments, each an address, bytes and whether it is executable (docs/formats.md, "Fields")."""
-    headers, contents, place = b"", b"", 52 + 32 * len(segments)
-    for address, data, executable in segments:
-        flags = 5 if executable else 6
-        headers += struct.pack("<8I", 1, place + len(contents), address, address, len(data), len(data), flags, 4)
-        contents += data
-    identification = b"\x7fELF\1\1\1" + bytes(9)
-    header = struct.pack("<2H5I6H", 2, 243, 1, entry, 52, 0, 0, 52, 32, len(segments), 40, 0, 0)
-    return identification + header + headers + contents
 
 
 def words(*numbers):
     return struct.pack(f"<{len(numbers)}I", *numbers)
 
 
-def image_file(folder, name, numbers, data=b""):
+def segment(address, data, executable=False):
+    return CODE_FLAGS if executable else DATA_FLAGS, address, data, len(data)
+
+
+def loaded(name, segments, entry=CODE, size=65536):
+    """An image of these segments, in memory from 0x00010000 on."""
+    return Loaded(support.file_of(name, support.elf(segments, entry)), CODE, size)
+
+
+def image_file(name, numbers, data=b""):
     """A file of an image: words at 0x00010000, and bytes at 0x0001fff0, where x2 points under core.toml."""
-    path = os.path.join(folder, name)
-    with open(path, "wb") as file:
-        file.write(elf([(CODE, words(*numbers), True)] + ([(DATA, data, False)] if data else [])))
-    return path
+    segments = [segment(CODE, words(*numbers), True)] + ([segment(DATA, data)] if data else [])
+    return support.file_of(name, support.elf(segments))
+
+
+def gadget_file(name, data):
+    """A stored gadget with other data: the bound, and the secret behind it."""
+    with open(support.example(f"{name}.elf"), "rb") as file:
+        content = bytearray(file.read())
+    headers = int.from_bytes(content[28:32], "little")
+    for at in range(headers, headers + 32 * int.from_bytes(content[44:46], "little"), 32):
+        kind, place, address = struct.unpack_from("<3I", content, at)
+        if kind == 1 and address == DATA:
+            content[place:place + len(data)] = data
+    return support.file_of(f"{name}_{data.hex()}.elf", bytes(content))
+
+
+def gadget(name, data):
+    return Loaded(gadget_file(name, data), CODE, 65536)
+
+
+def program(name):
+    """One of the small programs of the tests of tools/view, with data."""
+    return Loaded(image_file(f"{name}.elf", PROGRAMS[name], bytes(9)), CODE, 65536)
 
 
 @functools.cache
 def programs():
-    """The words of each program that the simulator's own tests run, by name."""
-    found = {}
-    for path in sorted(glob.glob(os.path.join(ROOT, "crates", "stt_cli", "src", "tests", "*.rt"))):
+    """The words of each small program that there is: in the tests of tools/view, and in those of the crates."""
+    found = dict(PROGRAMS)
+    for path in sorted(glob.glob(os.path.join(support.ROOT, "crates", "*", "src", "**", "*.rt"), recursive=True)):
         with open(path, encoding="utf-8") as file:
             for name, numbers in re.findall(r"const (\w+): \[u32; \d+\] =\s*\[([^\]]*)\]", file.read()):
                 found[name] = [int(number, 0) for number in numbers.replace("_", "").split(",") if number.strip()]
@@ -68,23 +85,19 @@ def programs():
 
 def command(name, *arguments):
     """What a command of this tool writes, and its status."""
-    return subprocess.run(["/usr/bin/python3", os.path.join(TOOLS, "verdict", name), *arguments], capture_output=True, text=True,
+    return subprocess.run([sys.executable, os.path.join(TOOLS, "verdict", name), *arguments], capture_output=True, text=True,
                           check=False)
-
-
-def loaded(path, base=ISA_BASE, size=ISA_SIZE):
-    return Loaded(path, base, size)
 
 
 def isa_report(path, steps, description=None):
     """What the simulator's `isa` writes."""
-    return simulator.run(PROGRAM, "isa", path, "--steps", str(steps), *(["--desc", description] if description else []))
+    return simulator.run(support.PROGRAM, "isa", path, "--steps", str(steps), *(["--desc", description] if description else []))
 
 
 def own_report(path, steps, description=None):
     """The report of the run by this tool."""
     machine = read_description(description) if description else None
-    image = loaded(path, *((machine.base, machine.size) if machine else ()))
+    image = Loaded(path, *((machine.base, machine.size) if machine else (ISA_BASE, ISA_SIZE)))
     run = hart.Hart(image)
     for _ in run.run(steps):
         pass

@@ -8,7 +8,7 @@ import unittest
 
 from elftools.elf.elffile import ELFFile
 
-from material import EXAMPLES
+from material import support
 
 TOOLS = all(shutil.which(name) for name in ("make", "riscv64-unknown-elf-as", "riscv64-unknown-elf-ld"))
 
@@ -23,10 +23,10 @@ def segments(path):
 @unittest.skipUnless(TOOLS, "no make, riscv64-unknown-elf-as or riscv64-unknown-elf-ld (Debian: make, binutils-riscv64-unknown-elf)")
 class Gadgets(unittest.TestCase):
     def test_stored_images(self):
-        stored = sorted(glob.glob(os.path.join(EXAMPLES, "*.elf")))
+        stored = sorted(glob.glob(support.example("*.elf")))
         self.assertEqual(len(stored), 5)
         with tempfile.TemporaryDirectory() as folder:
-            subprocess.run(["make", "-C", EXAMPLES, f"BUILD={folder}"], check=True, capture_output=True)
+            subprocess.run(["make", "-C", support.example(""), f"BUILD={folder}"], check=True, capture_output=True)
             for path in stored:
                 self.assertEqual(segments(os.path.join(folder, os.path.basename(path))), segments(path), path)
 

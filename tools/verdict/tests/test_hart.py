@@ -1,11 +1,11 @@
 """The instruction set's run: by hand, and against the simulator's `isa` on every image that there is."""
 import glob
 import os
-import tempfile
 import unittest
 
 import material
-from material import CODE, EXAMPLES, ISA_BASE, ROOT, image_file, loaded, needs_program, programs
+from material import CODE, CORE, image_file, needs_program, programs, segment, words
+from material import support
 from generate.generated import generated_image
 from verdict.hart import Hart, report
 
@@ -33,8 +33,7 @@ ENDS = [
 
 class ByHand(unittest.TestCase):
     def run_of(self, numbers, steps=100, data=b"", passing=False):
-        with tempfile.TemporaryDirectory() as folder:
-            image = loaded(image_file(folder, "a.elf", numbers, data), ISA_BASE, 65536)
+        image = material.loaded("hand.elf", [segment(CODE, words(*numbers), True), segment(material.DATA, data)])
         hart = Hart(image, passing)
         taken = list(hart.run(steps))
         return image, hart, taken
@@ -61,9 +60,9 @@ class ByHand(unittest.TestCase):
         def call(number, stream, address, count):
             return [0x00000893 | number << 20, 0x00000513 | stream << 20, *address, 0x00000613 | count << 20, 0x00000073]
         here, nowhere = [0x000105b7], [0x00000593]  # lui x11,0x10; addi x11,x0,0
-        for words, answer, pieces in [(call(64, 1, here, 4), 4, [4]), (call(64, 2, here, 2000), 1024, [1024]), (call(64, 3, here, 4), -9, []),
+        for numbers, answer, pieces in [(call(64, 1, here, 4), 4, [4]), (call(64, 2, here, 2000), 1024, [1024]), (call(64, 3, here, 4), -9, []),
                                       (call(64, 1, nowhere, 0), 0, []), (call(64, 1, nowhere, 1), -14, []), (call(1, 1, here, 4), -38, [])]:
-            _, hart, _ = self.run_of(words)
+            _, hart, _ = self.run_of(numbers)
             self.assertEqual((hart.registers[10], [len(piece) for piece in hart.out]), (answer & 0xffffffff, pieces))
 
     def test_report_of_the_page(self):
@@ -71,7 +70,7 @@ class ByHand(unittest.TestCase):
         page = material.read("docs", "formats.md")
         told = page[page.index("x0 00000000\nx1 00000000\nx2 0001fff0"):]
         told = told[:told.index("```")].replace(" cycles 27", "")
-        image, hart, _ = self.run_of(programs()["FORWARDING"], data=bytes(9))
+        image, hart, _ = self.run_of(programs()["forwarding"], data=bytes(9))
         self.assertEqual(report(hart, image), told)
 
 
@@ -81,33 +80,26 @@ class AgainstIsa(unittest.TestCase):
         self.assertEqual(material.own_report(path, steps, description), material.isa_report(path, steps, description), path)
 
     def test_stored_images(self):
-        paths = glob.glob(os.path.join(EXAMPLES, "*.elf")) + glob.glob(os.path.join(ROOT, "crates", "*", "data", "*.elf"))
+        paths = glob.glob(support.example("*.elf")) + glob.glob(os.path.join(support.ROOT, "crates", "*", "data", "*.elf"))
         self.assertGreaterEqual(len(paths), 6)
-        for path in paths + [os.path.join(ROOT, "tools", "speed", "loop.elf")]:
+        for path in paths + [os.path.join(support.ROOT, "tools", "speed", "loop.elf")]:
             for steps in (1, 3, 1000):
                 self.agrees(path, steps)
-                self.agrees(path, steps, material.CORE)
+                self.agrees(path, steps, CORE)
 
-    def test_programs_of_the_tests(self):
-        self.assertGreaterEqual(len(programs()), 15)
-        with tempfile.TemporaryDirectory() as folder:
-            for name, numbers in programs().items():
-                path = image_file(folder, f"{name}.elf", numbers, bytes([1, 0, 0, 0, 0, 0, 0, 0, 0x11]))
-                for steps in (2, 7, 1000):
-                    self.agrees(path, steps, material.CORE)
+    def test_small_programs(self):
+        for name, numbers in programs().items():
+            path = image_file(f"{name}.elf", numbers, material.BOUND_1 + b"\x11")
+            for steps in (2, 7, 1000):
+                self.agrees(path, steps, CORE)
 
     def test_ends(self):
-        with tempfile.TemporaryDirectory() as folder:
-            for number, (words, _) in enumerate(ENDS):
-                self.agrees(image_file(folder, f"{number}.elf", words + EXIT), 100)
+        for number, (numbers, _) in enumerate(ENDS):
+            self.agrees(image_file(f"end_{number}.elf", numbers + EXIT), 100)
 
     def test_generated_images(self):
-        with tempfile.TemporaryDirectory() as folder:
-            for seed, blocks in [(1, 1), (2, 7), (3, 100), (2 ** 63 + 5, 33)]:
-                path = os.path.join(folder, f"{seed}.elf")
-                with open(path, "wb") as file:
-                    file.write(generated_image(seed, blocks))
-                self.agrees(path, 100000, material.CORE)
+        for seed, blocks in [(1, 1), (2, 7), (3, 100), (2 ** 63 + 5, 33)]:
+            self.agrees(support.file_of(f"seed_{seed}.elf", generated_image(seed, blocks)), 100000, CORE)
 
 
 if __name__ == "__main__":

@@ -9,9 +9,10 @@ import tempfile
 import unittest
 
 import material
-from material import EXAMPLES, needs_program
+from material import needs_program
+from material import support
 
-FOLDER = os.path.join(EXAMPLES, "c")
+FOLDER = support.example("c")
 COMPILERS = {"gcc": ("riscv64-unknown-elf-gcc",), "clang": ("clang", "ld.lld")}
 BUILT = []
 DESCRIPTIONS = ("medium.toml", "medium_futuristic.toml")
@@ -54,7 +55,7 @@ class Victims(unittest.TestCase):
                 images = [os.path.join(folder, f"{name}_{secret}.elf") for secret in "ab"]
                 for description in DESCRIPTIONS:
                     with self.subTest(victim=name, description=description):
-                        told = material.command("verdict", os.path.join(EXAMPLES, description), *images)
+                        told = material.command("verdict", support.example(description), *images)
                         self.assertEqual(told.stderr, "")
                         self.assertIn(f"\nverdict       {word}: ", told.stdout)
 
@@ -64,7 +65,7 @@ class Victims(unittest.TestCase):
             paths = glob.glob(os.path.join(folder, "*.elf"))
             self.assertEqual(len(paths), 17)
             for path in paths:
-                words = path, 100000, os.path.join(EXAMPLES, DESCRIPTIONS[0])
+                words = path, 100000, support.example(DESCRIPTIONS[0])
                 self.assertEqual(material.own_report(*words), material.isa_report(*words), path)
 
     def test_output(self):
