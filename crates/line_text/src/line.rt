@@ -78,6 +78,16 @@ impl Line {
         self.add(buffer.format(n).as_bytes());
     }
 
+    /// Appends a number of 32 bits in decimal: at most ten digits.
+    pub fn add_decimal_word(&mut self, n: u32)
+        requires { length self.old + 10 ≤ LINE_MAX }
+        ensures text { self.new ≡ self.old ++ decimal n }
+        ensures short { length self.new ≤ length self.old + 10 }
+    {
+        let mut buffer = Buffer::new();
+        self.add(buffer.format(n).as_bytes());
+    }
+
     /// Appends the two hexadecimal digits of a byte.
     pub fn add_hex2(&mut self, byte: u8)
         requires { length self.old + 2 ≤ LINE_MAX }

@@ -54,8 +54,10 @@ fn numbers_of_a_line(rt: HostRuntime) {
     line.add_hex_bytes(&[0x76, 0x54, 0x32, 0x10]);
     line.add(b" ");
     line.add_decimal(u64::MAX);
+    line.add(b" ");
+    line.add_decimal_word(u32::MAX);
     assert_eq!(rt;
         line.as_slice(),
-        b"mem fedcba98 0f76543210 18446744073709551615".as_slice()
+        b"mem fedcba98 0f76543210 18446744073709551615 4294967295".as_slice()
     );
 }

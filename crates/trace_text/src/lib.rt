@@ -9,6 +9,7 @@ mod lines;
 
 pub use line_text::write_end;
 pub use lines::write_row;
+pub use rv_types::{End, Ending};
 
 #[cfg(test)]
 mod tests;
