@@ -87,6 +87,148 @@ const ILLEGAL: [u32; 14] = [
     0x0400_0033,
 ];
 
+const X0: Reg = Reg { number: 0 };
+
+const X1: Reg = Reg { number: 1 };
+
+const X2: Reg = Reg { number: 2 };
+
+const X5: Reg = Reg { number: 5 };
+
+const X8: Reg = Reg { number: 8 };
+
+const X31: Reg = Reg { number: 31 };
+
+// Word and instruction.
+const OTHERS: [(u32, Instr); 10] = [
+    (
+        0x8000_0437,
+        Instr::Lui {
+            rd: X8,
+            imm: -0x8000_0000,
+        },
+    ),
+    (0xffff_f297, Instr::Auipc { rd: X5, imm: -4096 }),
+    (
+        0x8000_00ef,
+        Instr::Jal {
+            rd: X1,
+            imm: -0x10_0000,
+        },
+    ),
+    (0x0010_006f, Instr::Jal { rd: X0, imm: 2048 }),
+    (
+        0x7fff_f2ef,
+        Instr::Jal {
+            rd: X5,
+            imm: 0xf_fffe,
+        },
+    ),
+    (
+        0x0021_00e7,
+        Instr::Jalr {
+            rd: X1,
+            rs1: X2,
+            imm: 2,
+        },
+    ),
+    (
+        0x800f_8067,
+        Instr::Jalr {
+            rd: X0,
+            rs1: X31,
+            imm: -2048,
+        },
+    ),
+    (0x0ff0_000f, Instr::Fence(0x0ff0_000f)),
+    (0x0000_0073, Instr::Ecall),
+    (0x0010_0073, Instr::Ebreak),
+];
+
+// Instructions that no word encodes: immediates out of range or of the wrong shape, operations of another form.
+const WITHOUT_WORD: [Instr; 17] = [
+    Instr::OpImm {
+        op: Op::Add,
+        rd: X1,
+        rs1: X2,
+        imm: 2048,
+    },
+    Instr::OpImm {
+        op: Op::Add,
+        rd: X1,
+        rs1: X2,
+        imm: -2049,
+    },
+    Instr::OpImm {
+        op: Op::Sll,
+        rd: X1,
+        rs1: X2,
+        imm: 32,
+    },
+    Instr::OpImm {
+        op: Op::Sra,
+        rd: X1,
+        rs1: X2,
+        imm: -1,
+    },
+    Instr::OpImm {
+        op: Op::Sub,
+        rd: X1,
+        rs1: X2,
+        imm: 1,
+    },
+    Instr::OpImm {
+        op: Op::Mul,
+        rd: X1,
+        rs1: X2,
+        imm: 1,
+    },
+    Instr::OpReg {
+        op: Op::Beq,
+        rd: X1,
+        rs1: X2,
+        rs2: X5,
+    },
+    Instr::Load {
+        op: Op::Sw,
+        rd: X1,
+        rs1: X2,
+        imm: 0,
+    },
+    Instr::Store {
+        op: Op::Sw,
+        rs1: X2,
+        rs2: X5,
+        imm: 2048,
+    },
+    Instr::Branch {
+        op: Op::Beq,
+        rs1: X2,
+        rs2: X5,
+        imm: 1,
+    },
+    Instr::Branch {
+        op: Op::Beq,
+        rs1: X2,
+        rs2: X5,
+        imm: 4096,
+    },
+    Instr::Branch {
+        op: Op::Lb,
+        rs1: X2,
+        rs2: X5,
+        imm: 8,
+    },
+    Instr::Jal {
+        rd: X1,
+        imm: 0x10_0000,
+    },
+    Instr::Jal { rd: X1, imm: 3 },
+    Instr::Lui { rd: X1, imm: 1 },
+    Instr::Fence(0),
+    Instr::Illegal(0x0000_0073),
+];
+
 fn x(number: u8) -> Reg {
     Reg {
         number: number % 32,
@@ -166,68 +308,9 @@ fn registers(rt: HostRuntime) {
 
 #[test]
 fn jumps_and_others(rt: HostRuntime) {
-    let upper: i32 = -0x8000_0000;
-    pair(
-        &rt,
-        0x8000_0437,
-        Instr::Lui {
-            rd: x(8),
-            imm: upper,
-        },
-    );
-    pair(
-        &rt,
-        0xffff_f297,
-        Instr::Auipc {
-            rd: x(5),
-            imm: -4096,
-        },
-    );
-    pair(
-        &rt,
-        0x8000_00ef,
-        Instr::Jal {
-            rd: x(1),
-            imm: -0x10_0000,
-        },
-    );
-    pair(
-        &rt,
-        0x0010_006f,
-        Instr::Jal {
-            rd: x(0),
-            imm: 2048,
-        },
-    );
-    pair(
-        &rt,
-        0x7fff_f2ef,
-        Instr::Jal {
-            rd: x(5),
-            imm: 0xf_fffe,
-        },
-    );
-    pair(
-        &rt,
-        0x0021_00e7,
-        Instr::Jalr {
-            rd: x(1),
-            rs1: x(2),
-            imm: 2,
-        },
-    );
-    pair(
-        &rt,
-        0x800f_8067,
-        Instr::Jalr {
-            rd: x(0),
-            rs1: x(31),
-            imm: -2048,
-        },
-    );
-    pair(&rt, 0x0ff0_000f, Instr::Fence(0x0ff0_000f));
-    pair(&rt, 0x0000_0073, Instr::Ecall);
-    pair(&rt, 0x0010_0073, Instr::Ebreak);
+    for (word, instr) in OTHERS {
+        pair(&rt, word, instr);
+    }
 }
 
 #[test]
@@ -239,87 +322,7 @@ fn illegal_words(rt: HostRuntime) {
 
 #[test]
 fn no_word(rt: HostRuntime) {
-    let (rd, rs1, rs2) = (x(1), x(2), x(3));
-    let instrs = [
-        Instr::OpImm {
-            op: Op::Add,
-            rd,
-            rs1,
-            imm: 2048,
-        },
-        Instr::OpImm {
-            op: Op::Add,
-            rd,
-            rs1,
-            imm: -2049,
-        },
-        Instr::OpImm {
-            op: Op::Sll,
-            rd,
-            rs1,
-            imm: 32,
-        },
-        Instr::OpImm {
-            op: Op::Sra,
-            rd,
-            rs1,
-            imm: -1,
-        },
-        Instr::OpImm {
-            op: Op::Sub,
-            rd,
-            rs1,
-            imm: 1,
-        },
-        Instr::OpImm {
-            op: Op::Mul,
-            rd,
-            rs1,
-            imm: 1,
-        },
-        Instr::OpReg {
-            op: Op::Beq,
-            rd,
-            rs1,
-            rs2,
-        },
-        Instr::Load {
-            op: Op::Sw,
-            rd,
-            rs1,
-            imm: 0,
-        },
-        Instr::Store {
-            op: Op::Sw,
-            rs1,
-            rs2,
-            imm: 2048,
-        },
-        Instr::Branch {
-            op: Op::Beq,
-            rs1,
-            rs2,
-            imm: 1,
-        },
-        Instr::Branch {
-            op: Op::Beq,
-            rs1,
-            rs2,
-            imm: 4096,
-        },
-        Instr::Branch {
-            op: Op::Lb,
-            rs1,
-            rs2,
-            imm: 8,
-        },
-        Instr::Jal { rd, imm: 0x10_0000 },
-        Instr::Jal { rd, imm: 3 },
-        Instr::Lui { rd, imm: 1 },
-        Instr::Fence(0),
-        Instr::Illegal(0x0000_0073),
-    ];
-    for instr in instrs {
+    for instr in WITHOUT_WORD {
         assert_eq!(rt; encode(&instr), None, "{instr:?}");
     }
 }

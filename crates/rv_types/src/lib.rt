@@ -44,7 +44,8 @@ pub struct Reg {
 }
 
 /// Why an instruction traps, by its number from 0 to 7 (`docs/instruction-set.md`, "Traps").
-#[derive(Clone, Copy, Debug, PartialEq, Eq)]
+#[derive(Clone, Copy, Debug, PartialEq, Eq, Error)]
+#[error("trap {number}")]
 pub struct Cause {
     pub number: u8,
     ghost in_range: { number < 8 },
