@@ -33,10 +33,7 @@ use Rattle.noninterference.proofs.Operand.{known_outcome}
 use Rattle.noninterference.proofs.SameReads.{same_window}
 use Rattle.noninterference.proofs.OneRun.{head_alone, visible_none}
 use Rattle.noninterference.proofs.Turns.{Follows, stays_alike, left_turn, call_turn}
-
-call_kind : (k : Kind) → is_call k ≡ true → k ≡ Call
-call_kind Call h = refl
-call_kind _ h = absurd (cc)
+use Rattle.committed_state.proofs.Retire.{call_kind}
 
 module _ (d : Desc) (code : Code) (aligned : Aligned code) (total : ℕ) where
   abbrev R : Retired → Retired → Type 0
