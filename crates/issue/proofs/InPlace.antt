@@ -23,7 +23,7 @@ use Rattle.parts_stand.specs.Addresses.{AddressesStand}
 use Rattle.parts_stand.specs.Points.{PointStands}
 use Rattle.parts_stand.proofs.Answering.{has_station, stations_older}
 use Rattle.parts_stand.proofs.Keeping.{goes_on_then, goes_same, zip_set}
-use Rattle.parts_stand.proofs.Serials.{all_left, all_right}
+use Rattle.window_model.proofs.Serials.{all_left, all_right}
 use Rattle.parts_stand.proofs.Standing.{issues_at}
 use Rattle.parts_stand.proofs.Addressing.{addresses_go_on}
 use Rattle.parts_stand.proofs.Moving.{point_issues}
