@@ -3,9 +3,8 @@ use Rattle.std.proofs.Common.{◌≡◌, ℕ, Bool, true, false, not, ◌&&◌, 
 use Rattle.std.specs.Prelude.{if◌then◌else◌, is_some}
 use Rattle.rv_types.specs.Decode.{decode}
 use Rattle.rv_types.specs.Kind.{kind_of}
-use Rattle.rv_types.specs.Regs.{writes_of}
-use Rattle.rv_types.specs.Memory.{Ram, Code}
-use Rattle.rv_types.specs.Isa.{Goes, effect, first_of, second_of, isa_step, with_reg}
+use Rattle.rv_types.specs.Memory.{Code}
+use Rattle.rv_types.specs.Isa.{Goes, effect, first_of, second_of, isa_step}
 use Rattle.rv_types.specs.Path.{pass_at, pass_step}
 use Rattle.rv_types.specs.declared.Cause.{Cause}
 use Rattle.rv_types.specs.declared.Instr.{Instr}
@@ -27,11 +26,11 @@ use Rattle.window_model.specs.Path.{path}
 use Rattle.window_model.proofs.Booleans.{both, not_true, some_of}
 use Rattle.committed_state.specs.Consistent.{FitsState, IsItem, Predicts}
 use Rattle.committed_state.specs.Links.{entry_link}
-use Rattle.committed_state.specs.Replay.{Bank, IsReplayed, bank_after, effect_on, ram_after, replayed, replayed_as}
+use Rattle.committed_state.specs.Replay.{Bank, IsReplayed, bank_after, replayed}
 use Rattle.committed_state.proofs.Bytes.{some_is}
 use Rattle.committed_state.proofs.Heads.{item_of, goes_on}
 use Rattle.committed_state.proofs.Known.{done_has}
-use Rattle.committed_state.proofs.Onward.{of_item, by_item, ram_item, after_item}
+use Rattle.committed_state.proofs.Onward.{of_item, by_item, after_item}
 use Rattle.committed_state.proofs.Turn.{item_eq, step_as, replayed_next}
 use Rattle.noninterference.proofs.Loads.{is_access, word_of}
 use Rattle.noninterference.proofs.Paths.{path_goes}

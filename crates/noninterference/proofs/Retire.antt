@@ -6,8 +6,6 @@ use Rattle.rv_types.specs.Isa.{call}
 use Rattle.rv_types.specs.declared.Cause.{Cause}
 use Rattle.rv_types.specs.declared.End.{End}
 use Rattle.rv_types.specs.declared.End.TheVariants.{Trap}
-use Rattle.rv_types.specs.declared.Kind.{Kind}
-use Rattle.rv_types.specs.declared.Kind.TheVariants.{Call}
 use Rattle.machine_desc.specs.declared.Desc.{Desc}
 use Rattle.window_model.specs.Retire.{Retired, retire, turns, turn, head_turn, head_leaves, then_retires, stays, unless_ended, hart_of, may_leave, trap_of}
 use Rattle.window_model.specs.declared.Entry.{Entry}
