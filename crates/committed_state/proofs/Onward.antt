@@ -54,7 +54,8 @@ pub ram_item : (k : Kind) (m : Ram) (e : Entry) (o : Outcome) → ram_after k m 
 ram_item Store m e o = refl
 ram_item _ m e o = refl
 
-after_item : (s : Bank) (e : Entry) → bank_after e s ≡ bank_after (of_item e.item) s
+-- the replay looks at the item alone
+pub after_item : (s : Bank) (e : Entry) → bank_after e s ≡ bank_after (of_item e.item) s
 after_item s e =
     let o = by_item e.item.kind s e in
     let m = ram_item e.item.kind s.ram e (replayed s e) in

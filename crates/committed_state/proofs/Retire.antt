@@ -30,7 +30,8 @@ record LeftAs (code : Code) (k : Kind) (x : Machine) (e : Entry) (rest : List En
   holds : Holds code (hart_as k (hart_of x) e) rest x.queue x.fetch_pc
   step : isa_step code (hart_of x) ≡ Goes (hart_as k (hart_of x) e) []
 
-call_kind : (k : Kind) → is_call k ≡ true → k ≡ Call
+-- what is a call has the kind of one
+pub call_kind : (k : Kind) → is_call k ≡ true → k ≡ Call
 call_kind Call h = refl
 call_kind _ h = absurd (cc)
 

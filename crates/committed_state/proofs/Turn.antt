@@ -86,7 +86,8 @@ step_as (Some w) s e q a k n f h =
 
 -- ---- where the head goes on
 
-replayed_next : (k : Kind) (s : Bank) (e : Entry) → (replayed_as k s e).next ≡ (effect_on s e).next
+-- the replay goes on where the instruction does
+pub replayed_next : (k : Kind) (s : Bank) (e : Entry) → (replayed_as k s e).next ≡ (effect_on s e).next
 replayed_next Load s e = refl
 replayed_next Store s e = refl
 replayed_next Mul s e = refl

@@ -21,7 +21,8 @@ use Rattle.parts_stand.specs.Parts.{Parts, Stand}
 use Rattle.parts_stand.specs.Steps.{GoesOn}
 use Rattle.parts_stand.specs.Addresses.{AddressesStand}
 use Rattle.parts_stand.specs.Points.{PointStands}
-use Rattle.parts_stand.proofs.Serials.{Rise, all_right, rise_head, rise_tail}
+use Rattle.window_model.specs.Serials.{Rise}
+use Rattle.window_model.proofs.Serials.{all_right, rise_head, rise_tail}
 use Rattle.parts_stand.proofs.Keeping.{goes_on_then, goes_same, rise_on, zip_set}
 use Rattle.parts_stand.proofs.Standing as standing
 use Rattle.parts_stand.proofs.Addressing.{addresses_go_on, addresses_know}

@@ -14,7 +14,7 @@ use Rattle.queue_laws.specs.Window.{Others}
 use Rattle.queue_laws.proofs.Keeping.{pop_stands}
 use Rattle.visibility.specs.Point.{Point}
 use Rattle.parts_stand.specs.Parts.{Parts}
-use Rattle.parts_stand.proofs.Serials.{rise_head}
+use Rattle.window_model.proofs.Serials.{rise_head}
 use Rattle.parts_stand.proofs.Standing.{retires_head}
 use Rattle.parts_stand.proofs.Writing.{writers_retire}
 use Rattle.parts_stand.proofs.Addressing.{addresses_retire}

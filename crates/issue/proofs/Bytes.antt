@@ -16,7 +16,8 @@ use Rattle.queue_laws.specs.Window.{StandFor, StoresStandFor}
 use Rattle.queue_laws.proofs.Keeping.{older_stands}
 use Rattle.queue_laws.proofs.Telling.{bytes_are, covered_is}
 use Rattle.visibility.specs.Point.{is_hidden}
-use Rattle.parts_stand.proofs.Serials.{Rise, place_of, splits}
+use Rattle.window_model.specs.Serials.{Rise}
+use Rattle.window_model.proofs.Serials.{place_of, splits}
 use Rattle.parts_stand.proofs.Standing.{take_first}
 use Rattle.parts_stand.proofs.Addressing.{tells_stores}
 use Rattle.issue.specs.declared.seen.Seen.{Seen}

@@ -1,5 +1,5 @@
 -- Parts that stand for the window go on to do so as the entries that have begun come in their places, the youngest first.
-use Rattle.std.proofs.Common.{◌≡◌, ℕ, zero, suc, ◌<◌, true, false, List, [], ◌∷◌, ◌++◌, length, Option, Some, None, refl, ap, ap₂, sym, ◌∙◌, subst, arith, slice_get}
+use Rattle.std.proofs.Common.{◌≡◌, ℕ, zero, suc, ◌<◌, true, List, [], ◌∷◌, ◌++◌, length, Option, Some, None, refl, ap, ap₂, sym, ◌∙◌, subst, arith, slice_get}
 use Rattle.std.specs.Prelude.{◌||◌, if◌then◌else◌, is_some, map, slice_set}
 use Rattle.std.specs.List.{All, AllPairs, AllZip, remove}
 use Rattle.std.specs.Option.{option_to_list}
@@ -23,7 +23,7 @@ use Rattle.parts_stand.specs.Addresses.{AddressesStand}
 use Rattle.parts_stand.specs.Points.{PointStands}
 use Rattle.parts_stand.proofs.Answering.{has_station, stations_older}
 use Rattle.parts_stand.proofs.Keeping.{goes_on_then, goes_same, zip_set}
-use Rattle.parts_stand.proofs.Serials.{all_left, all_right}
+use Rattle.window_model.proofs.Serials.{all_left, all_right}
 use Rattle.parts_stand.proofs.Standing.{issues_at}
 use Rattle.parts_stand.proofs.Addressing.{addresses_go_on}
 use Rattle.parts_stand.proofs.Moving.{point_issues}

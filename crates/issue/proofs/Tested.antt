@@ -18,7 +18,7 @@ use Rattle.parts_stand.specs.Roots.{root_of_source}
 use Rattle.parts_stand.specs.Steps.{GoesOn}
 use Rattle.parts_stand.specs.Addresses.{AddressesStand}
 use Rattle.parts_stand.specs.Writers.{WritersOf, writer_of_source}
-use Rattle.parts_stand.proofs.Serials.{rise_cons, rise_nil}
+use Rattle.window_model.proofs.Serials.{rise_cons, rise_nil}
 use Rattle.issue.specs.Parts.{Standing}
 
 -- ---- what stands

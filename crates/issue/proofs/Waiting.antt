@@ -15,7 +15,7 @@ use Rattle.stations.specs.Stations.{Station}
 use Rattle.parts_stand.specs.Parts.{Parts, Stand, Waiter, waiter_in}
 use Rattle.parts_stand.specs.Steps.{station_of}
 use Rattle.parts_stand.proofs.Answering.{counts_room, counts_stations, has_station}
-use Rattle.parts_stand.proofs.Serials.{place_of}
+use Rattle.window_model.proofs.Serials.{place_of}
 
 -- ---- how many wait before a position
 

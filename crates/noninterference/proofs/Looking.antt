@@ -10,7 +10,7 @@ use Rattle.window_model.specs.declared.Outcome.{Outcome}
 use Rattle.window_model.specs.Order.{writes, sources, is_load, fault_of}
 use Rattle.window_model.specs.Taint.{visible, tainted, any_tainted, address_tainted, base_of, safe, safe_as, settled}
 use Rattle.window_model.proofs.Booleans.{both}
-use Rattle.window_model.proofs.Taints.{tainted_cons}
+use Rattle.window_model.proofs.Taints.{tainted_cons, none_any}
 use Rattle.noninterference.specs.Outcomes.{SameEntry, SameOutcome, SameOutcomes}
 use Rattle.noninterference.specs.Alike.{without_outcome}
 
@@ -46,24 +46,20 @@ visible_older : (model : SttModel) (e : Entry) (before : List Entry) → visible
 visible_older Spectre e before h = (both (settled e) (list_all settled before) h).1
 visible_older Futuristic e before h = (both (safe e) (list_all safe before) h).1
 
-none_tainted : (f : ℕ → Bool) (rs : List ℕ) → ((r : ℕ) → f r ≡ false) → list_any f rs ≡ false
-none_tainted f [] h = refl
-none_tainted f (r ∷ rs) h = ap (λ b. b || list_any f rs) (h r) ∙ none_tainted f rs h
-
 -- so neither is a register, a base, nor any operand
 pub untainted_where_visible : (model : SttModel) (before : List Entry) (r : ℕ) → visible model before ≡ true → tainted model before r ≡ false
 untainted_where_visible model [] r h = refl
 untainted_where_visible model (e ∷ before) r h =
     let older = visible_older model e before h in
-    let by = none_tainted (tainted model before) (sources e) (λ s. untainted_where_visible model before s older) in
+    let by = none_any (tainted model before) (sources e) (λ s. untainted_where_visible model before s older) in
     let rest = untainted_where_visible model before r older in
     tainted_cons model e before r ∙ grind (arith, by, rest, older)
 
 pub untainted_base : (model : SttModel) (before : List Entry) (e : Entry) → visible model before ≡ true → address_tainted model before e ≡ false
-untainted_base model before e h = none_tainted (tainted model before) (base_of (sources e)) (λ r. untainted_where_visible model before r h)
+untainted_base model before e h = none_any (tainted model before) (base_of (sources e)) (λ r. untainted_where_visible model before r h)
 
 pub untainted_sources : (model : SttModel) (before : List Entry) (e : Entry) → visible model before ≡ true → any_tainted model before e ≡ false
-untainted_sources model before e h = none_tainted (tainted model before) (sources e) (λ r. untainted_where_visible model before r h)
+untainted_sources model before e h = none_any (tainted model before) (sources e) (λ r. untainted_where_visible model before r h)
 
 -- behind what is visible, faults are equal
 faults_alike : (k : Kind) (model : SttModel) (before : List Entry) (e e2 : Entry) → SameOutcome k model before e e2 → visible model before ≡ true → fault_of e.outcome ≡ fault_of e2.outcome

@@ -3,9 +3,8 @@ use Rattle.std.proofs.Common.{◌≡◌, ℕ, Bool, true, false, not, ◌&&◌, 
 use Rattle.std.specs.Prelude.{if◌then◌else◌, is_some}
 use Rattle.rv_types.specs.Decode.{decode}
 use Rattle.rv_types.specs.Kind.{kind_of}
-use Rattle.rv_types.specs.Regs.{writes_of}
-use Rattle.rv_types.specs.Memory.{Ram, Code}
-use Rattle.rv_types.specs.Isa.{Goes, effect, first_of, second_of, isa_step, with_reg}
+use Rattle.rv_types.specs.Memory.{Code}
+use Rattle.rv_types.specs.Isa.{Goes, effect, first_of, second_of, isa_step}
 use Rattle.rv_types.specs.Path.{pass_at, pass_step}
 use Rattle.rv_types.specs.declared.Cause.{Cause}
 use Rattle.rv_types.specs.declared.Instr.{Instr}
@@ -27,12 +26,12 @@ use Rattle.window_model.specs.Path.{path}
 use Rattle.window_model.proofs.Booleans.{both, not_true, some_of}
 use Rattle.committed_state.specs.Consistent.{FitsState, IsItem, Predicts}
 use Rattle.committed_state.specs.Links.{entry_link}
-use Rattle.committed_state.specs.Replay.{Bank, IsReplayed, bank_after, effect_on, ram_after, replayed, replayed_as}
+use Rattle.committed_state.specs.Replay.{Bank, IsReplayed, bank_after, replayed}
 use Rattle.committed_state.proofs.Bytes.{some_is}
 use Rattle.committed_state.proofs.Heads.{item_of, goes_on}
 use Rattle.committed_state.proofs.Known.{done_has}
-use Rattle.committed_state.proofs.Onward.{of_item, by_item, ram_item}
-use Rattle.committed_state.proofs.Turn.{item_eq, step_as}
+use Rattle.committed_state.proofs.Onward.{of_item, by_item, after_item}
+use Rattle.committed_state.proofs.Turn.{item_eq, step_as, replayed_next}
 use Rattle.noninterference.proofs.Loads.{is_access, word_of}
 use Rattle.noninterference.proofs.Paths.{path_goes}
 use Rattle.noninterference.proofs.Faults.{hart, entry_of, no_fault, passed_over}
@@ -41,18 +40,6 @@ use Rattle.noninterference.proofs.Faults.{hart, entry_of, no_fault, passed_over}
 abbrev pub passes : SttModel → Entry → Bool
 passes Spectre e = settled e
 passes Futuristic e = safe e
-
--- the replay looks at the item alone
-bank_item : (s : Bank) (e : Entry) → bank_after e s ≡ bank_after (of_item e.item) s
-bank_item s e =
-    let to : Outcome → Ram → Bank = λ o m. record { regs = with_reg s.regs (writes_of e.item.instr) o.value; ram = m } in
-    ap (to (replayed s e)) (ram_item e.item.kind s.ram e (replayed s e))
-    ∙ ap (λ o. to o (ram_after e.item.kind s.ram (of_item e.item) o)) (by_item e.item.kind s e)
-
-replayed_next : (k : Kind) (s : Bank) (e : Entry) → (replayed_as k s e).next ≡ (effect_on s e).next
-replayed_next Load s e = refl
-replayed_next Store s e = refl
-replayed_next _ s e = refl
 
 module _ (code : Code) (aligned : Aligned code) (s : Bank) (e : Entry) (n : ℕ) (item : IsItem code e.item) (f : FitsState e.state e) (r : IsReplayed e.outcome s e) (g : at_once e.item.kind ≡ false) (l : (entry_link e).next ≡ Some n) where
   abbrev O : Outcome
@@ -135,7 +122,7 @@ module _ (code : Code) (aligned : Aligned code) (s : Bank) (e : Entry) (n : ℕ)
           let over = passed_over s e.item.pc e.item.predicted i cause (ap is_access (sym word_there.3) ∙ k) (ap (λ (o : Outcome). o.fault) (sym outcome_is) ∙ h) in
           ap (λ o. pass_at o (hart e.item.pc s)) word_there.1 ∙ over
           ∙ ap (λ m. Goes (hart m (bank_after (entry_of s e.item.pc e.item.predicted i) s)) []) (ap (λ (o : Outcome). o.next) (sym outcome_is) ∙ sym (predicted_next c))
-          ∙ ap (λ b. Goes (hart n b) []) (ap (λ t. bank_after (of_item t) s) (sym item_is) ∙ sym (bank_item s e))
+          ∙ ap (λ b. Goes (hart n b) []) (ap (λ t. bank_after (of_item t) s) (sym item_is) ∙ sym (after_item s e))
 
   plain_goes : (model : SttModel) → is_control e.item.kind ≡ false → is_access e.item.kind ≡ false → Steps model
   plain_goes model c k =

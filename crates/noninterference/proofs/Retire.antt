@@ -6,8 +6,6 @@ use Rattle.rv_types.specs.Isa.{call}
 use Rattle.rv_types.specs.declared.Cause.{Cause}
 use Rattle.rv_types.specs.declared.End.{End}
 use Rattle.rv_types.specs.declared.End.TheVariants.{Trap}
-use Rattle.rv_types.specs.declared.Kind.{Kind}
-use Rattle.rv_types.specs.declared.Kind.TheVariants.{Call}
 use Rattle.machine_desc.specs.declared.Desc.{Desc}
 use Rattle.window_model.specs.Retire.{Retired, retire, turns, turn, head_turn, head_leaves, then_retires, stays, unless_ended, hart_of, may_leave, trap_of}
 use Rattle.window_model.specs.declared.Entry.{Entry}
@@ -33,10 +31,7 @@ use Rattle.noninterference.proofs.Operand.{known_outcome}
 use Rattle.noninterference.proofs.SameReads.{same_window}
 use Rattle.noninterference.proofs.OneRun.{head_alone, visible_none}
 use Rattle.noninterference.proofs.Turns.{Follows, stays_alike, left_turn, call_turn}
-
-call_kind : (k : Kind) → is_call k ≡ true → k ≡ Call
-call_kind Call h = refl
-call_kind _ h = absurd (cc)
+use Rattle.committed_state.proofs.Retire.{call_kind}
 
 module _ (d : Desc) (code : Code) (aligned : Aligned code) (total : ℕ) where
   abbrev R : Retired → Retired → Type 0

@@ -20,7 +20,8 @@ use Rattle.visibility.specs.Point.{Point, HasAdvanced, is_hidden}
 use Rattle.parts_stand.specs.Parts.{Parts, Stand, RootsStand, oldest_of}
 use Rattle.parts_stand.specs.Steps.{GoesOn}
 use Rattle.parts_stand.specs.Addresses.{Addressed, AddressesAdd, AddressesAddOther, AddressesGoOn, AddressesKnow, AddressesOpen, AddressesRetire, AddressesSquash, AddressesStand, TellsStores, address_in, addresses_of, base_root}
-use Rattle.parts_stand.proofs.Serials.{Rise, Falls, place_of, rise_head, splits}
+use Rattle.window_model.specs.Serials.{Rise}
+use Rattle.window_model.proofs.Serials.{Falls, place_of, rise_head, splits}
 use Rattle.parts_stand.proofs.Youngest.{Tells, map_same, map_twice}
 use Rattle.parts_stand.proofs.Tables.{as_many, keeps_all}
 use Rattle.parts_stand.proofs.Standing.{halves, keeps_older, take_first, take_length}

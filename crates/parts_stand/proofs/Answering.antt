@@ -27,7 +27,9 @@ use Rattle.parts_stand.specs.Roots.{youngest_root, root_of_source, source_roots,
 use Rattle.parts_stand.specs.Parts.{RootsStand, Waiter, awaited, awaited_of, oldest_of, waiter_in, waiter_of, waiters_from, writes_in}
 use Rattle.parts_stand.specs.Steps.{station_of}
 use Rattle.parts_stand.specs.Telling.{CountsRoom, CountsStations, FindsAwaited, FindsWriter, HasStation, HoldsOlderOnes, NamesEntry, NamesRoot, NamesWriter, OperandsTold, PicksFirst, TellsIssue, TellsOperands, StationsOlder, StationsYounger, TellsReady, TellsTaint, TellsVisible, asks_besides, entry_of}
-use Rattle.parts_stand.proofs.Serials.{Rise, Falls, behind, behind_at, falls, oldest_least, rise_head}
+use Rattle.window_model.specs.Serials.{Rise}
+use Rattle.window_model.proofs.Serials.{Falls, behind, behind_at, falls, rise_head}
+use Rattle.parts_stand.proofs.Serials.{oldest_least}
 use Rattle.parts_stand.proofs.Youngest.{Tells, few_reads, retired_shown, root_tells}
 use Rattle.parts_stand.proofs.Tables.{as_many, few_writes, found, root_is, source_is, within, writes_have}
 use Rattle.parts_stand.proofs.Keeping.{roots_at, station_is, waiters_count, waiters_have}

@@ -18,7 +18,8 @@ use Rattle.stations.specs.Stations.{strike}
 use Rattle.parts_stand.specs.Roots.{youngest_root, root_of_source, source_roots, unretired}
 use Rattle.parts_stand.specs.Parts.{RootsStand, Waiter, awaited, awaited_of, oldest_of, waiter_of, waiters_from, writes_in}
 use Rattle.parts_stand.specs.Steps.{GoesOn}
-use Rattle.parts_stand.proofs.Serials.{Rise, rise_cons, rise_head, rise_tail, all_at}
+use Rattle.window_model.specs.Serials.{Rise}
+use Rattle.window_model.proofs.Serials.{rise_cons, rise_head, rise_tail, all_at}
 use Rattle.parts_stand.proofs.Youngest.{kept_all_twice, kept_sources, map_same, map_twice, root_without}
 
 -- ---- roots by position

@@ -20,7 +20,8 @@ use Rattle.visibility.specs.Point.{Point, HasMoved, moved_over, next_after, pass
 use Rattle.visibility.proofs.Moving.{has_advanced}
 use Rattle.visibility.proofs.Stopping.{unresolved_fails}
 use Rattle.parts_stand.specs.Points.{Below, PointAdvances, PointCompletes, PointIssues, PointOpens, PointRenames, PointResolves, PointRetires, PointSquashes, PointStands, PointStops}
-use Rattle.parts_stand.proofs.Serials.{Rise, all_at, all_left, none_below, rise_head, rise_tail, splits}
+use Rattle.window_model.specs.Serials.{Rise}
+use Rattle.window_model.proofs.Serials.{all_at, all_left, none_below, rise_head, rise_tail, splits}
 
 -- an entry below the point passes
 abbrev Passes : Point → Entry → Type 0

@@ -19,7 +19,9 @@ use Rattle.stations.specs.Stations.{Station, struck}
 use Rattle.parts_stand.specs.Roots.{youngest_root, root_of_source, source_roots, unretired}
 use Rattle.parts_stand.specs.Parts.{Stand, RootsStand, Waiter, oldest_of, waiter_in, waiter_of, waiters_from, writes_in}
 use Rattle.parts_stand.specs.Steps.{GoesOn, OpensEmpty, RenamesIn, RetiresHead, SquashesFrom, EntriesGoOn, ChangesUnseen, CompletesAt, IssuesAt, seated, station_of}
-use Rattle.parts_stand.proofs.Serials.{Rise, rise_nil, rise_head, rise_tail, rise_push, rise_left, all_left, oldest_least, splits}
+use Rattle.window_model.specs.Serials.{Rise}
+use Rattle.window_model.proofs.Serials.{rise_nil, rise_head, rise_tail, rise_push, rise_left, all_left, splits}
+use Rattle.parts_stand.proofs.Serials.{oldest_least}
 use Rattle.parts_stand.proofs.Youngest.{map_same, map_twice}
 use Rattle.parts_stand.proofs.Tables.{root_is, as_many, writes_join, writes_one, writes_have, keeps_all, keeps_none, without_head}
 use Rattle.parts_stand.proofs.Keeping.{roots_push, roots_left, roots_rest, roots_on, writes_on, all_on, rise_on, oldest_on, goes_same, zip_set, waiters_join, waiters_have, waiters_rest, Steady, Still, still_same, still_goes, waiters_still, map_remove, waiters_issue, struck_waiter, set_done, alone, waiters_done}

@@ -19,7 +19,8 @@ use Rattle.rob_ring.specs.Ring.{below}
 use Rattle.parts_stand.specs.Roots.{youngest_root, unretired}
 use Rattle.parts_stand.specs.Parts.{RootsStand, write_of, writes_in}
 use Rattle.parts_stand.specs.Telling.{source_by, entry_of}
-use Rattle.parts_stand.proofs.Serials.{Rise, place_of}
+use Rattle.window_model.specs.Serials.{Rise}
+use Rattle.window_model.proofs.Serials.{place_of}
 use Rattle.parts_stand.proofs.Youngest.{kept_written, written_by}
 
 -- the write of an entry to a register

@@ -17,7 +17,9 @@ use Rattle.parts_stand.specs.Parts.{oldest_of}
 use Rattle.parts_stand.specs.Steps.{GoesOn}
 use Rattle.parts_stand.specs.Telling.{source_by}
 use Rattle.parts_stand.specs.Writers.{CountsWriters, TellsWriters, WritersGoOn, WritersOf, WritersOpen, WritersRename, WritersRetire, WritersSquash, WritersStand, if_serial, in_flight, named, serial_in, source_writers, writer_of, writer_of_source}
-use Rattle.parts_stand.proofs.Serials.{Rise, all_at, none_below, oldest_least, place_of, rise_tail, splits}
+use Rattle.window_model.specs.Serials.{Rise}
+use Rattle.window_model.proofs.Serials.{all_at, none_below, place_of, rise_tail, splits}
+use Rattle.parts_stand.proofs.Serials.{oldest_least}
 use Rattle.parts_stand.proofs.Youngest.{kept_all_twice, kept_in, kept_out, map_same, map_twice}
 use Rattle.parts_stand.proofs.Tables.{stands_in, writer_place}
 use Rattle.parts_stand.proofs.Standing.{halves, oldest_above, oldest_push, take_length}

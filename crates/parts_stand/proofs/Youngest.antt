@@ -14,11 +14,11 @@ use Rattle.window_model.specs.declared.Entry.{Entry}
 use Rattle.window_model.specs.Along.{Behind}
 use Rattle.window_model.specs.Order.{is_load, writes, sources}
 use Rattle.window_model.specs.Taint.{tainted, any_tainted, visible}
-use Rattle.window_model.proofs.Taints.{tainted_cons}
+use Rattle.window_model.proofs.Taints.{tainted_cons, none_any}
 use Rattle.rename_taint.specs.Writes.{later, latest, root_written}
 use Rattle.visibility.specs.Point.{Point, is_hidden}
 use Rattle.parts_stand.specs.Roots.{youngest_root, root_of_source, source_roots, unretired}
-use Rattle.parts_stand.proofs.Serials.{Falls}
+use Rattle.window_model.proofs.Serials.{Falls}
 
 -- ---- what has not retired
 
@@ -166,10 +166,6 @@ hidden_latest point (o ∷ os) = hidden_later point o (latest os) ∙ ap (λ b. 
 any_map : {X : Type 0} (p : X → Bool) (f : ℕ → X) (q : ℕ → Bool) (rs : List ℕ) → ((r : ℕ) → p (f r) ≡ q r) → list_any p (map f rs) ≡ list_any q rs
 any_map p f q [] h = refl
 any_map p f q (r ∷ rs) h = ap₂ (λ a b. a || b) (h r) (any_map p f q rs h)
-
-none_any : (q : ℕ → Bool) (rs : List ℕ) → ((r : ℕ) → q r ≡ false) → list_any q rs ≡ false
-none_any q [] h = refl
-none_any q (r ∷ rs) h = ap (λ b. b || list_any q rs) (h r) ∙ none_any q rs h
 
 -- where all entries are up to the point, no root is hidden
 none_hidden : (point : ℕ) (before : List Entry) → All (λ e. e.serial ≤ point) before → (r : ℕ) → is_hidden point (youngest_root before r) ≡ false

@@ -1,12 +1,13 @@
 -- What the visibility point keeps between two moves, as the window changes (docs/machine.md, "The parts stand for the machine").
 use Rattle.std.specs.Prelude.{◌≡◌, ℕ, ◌+◌, ◌<◌, ◌≤◌, true, false, List, [], ◌∷◌, ◌++◌, drop, slice_get, slice_set, Some}
-use Rattle.std.specs.List.{All, AllPairs}
+use Rattle.std.specs.List.{All}
 use Rattle.machine_desc.specs.declared.SttModel.{SttModel}
 use Rattle.window_model.specs.declared.Entry.{Entry}
 use Rattle.window_model.specs.declared.Outcome.{Outcome}
 use Rattle.window_model.specs.declared.State.TheVariants.{Done}
 use Rattle.window_model.specs.Order.{is_control, is_waiting}
 use Rattle.window_model.specs.Issue.{begun}
+use Rattle.window_model.specs.Serials.{Rise}
 use Rattle.rob_ring.specs.Ring.{below}
 use Rattle.visibility.specs.Point.{Point, CanAdvance, moved_over}
 
@@ -15,10 +16,6 @@ pub record PointStands (point : Point) (next : ℕ) (window : List Entry) : Type
   pub can : CanAdvance point window
   pub past : point.serial ≤ next
   pub unresolved : All (λ e. is_waiting e.state ≡ true → e.resolved ≡ false) window
-
--- serials rise with age
-abbrev pub Rise : List Entry → Type 0
-Rise window = AllPairs (λ a b. a.serial < b.serial) window
 
 -- all are below this one
 abbrev pub Below : ℕ → List Entry → Type 0

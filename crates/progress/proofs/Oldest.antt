@@ -1,7 +1,7 @@
 -- The oldest entry: it looks back on nothing, and Resolve leaves it, free to leave where it is done.
 use Rattle.std.proofs.Common.{◌≡◌, ℕ, ◌+◌, ◌≤◌, Bool, true, false, not, ◌&&◌, ◌||◌, List, [], ◌∷◌, ◌++◌, Option, Some, None, refl, ap, ◌∙◌, arith}
 use Rattle.std.specs.Prelude.{if◌then◌else◌, reverse}
-use Rattle.std.specs.List.{list_any, list_all}
+use Rattle.std.specs.List.{list_all}
 use Rattle.std.proofs.lemmas.List.{reverse-reverse}
 use Rattle.machine_desc.specs.declared.Desc.{Desc}
 use Rattle.window_model.specs.declared.Entry.{Entry}
@@ -13,12 +13,9 @@ use Rattle.window_model.specs.Taint.{any_tainted, address_tainted, tainted, base
 use Rattle.window_model.specs.Resolve.{resolve, resolve_at, may_resolve, learn, squash, keep, squashes, is_from, with_predictor}
 use Rattle.window_model.specs.Retire.{may_leave}
 use Rattle.window_model.proofs.Places.{found}
+use Rattle.window_model.proofs.Taints.{none_any}
 
 -- ---- nothing is before it
-
-none_of : (f : ℕ → Bool) (rs : List ℕ) → ((r : ℕ) → f r ≡ false) → list_any f rs ≡ false
-none_of f [] h = refl
-none_of f (r ∷ rs) h = ap (λ b. b || list_any f rs) (h r) ∙ none_of f rs h
 
 all_of : (f : ℕ → Bool) (rs : List ℕ) → ((r : ℕ) → f r ≡ true) → list_all f rs ≡ true
 all_of f [] h = refl
@@ -29,10 +26,10 @@ pub oldest_ready : (e : Entry) → ready [] e ≡ true
 oldest_ready e = all_of (λ r. is_known (writer [] r)) (sources e) (λ r. refl)
 
 pub oldest_untainted : (d : Desc) (e : Entry) → any_tainted d.stt_model [] e ≡ false
-oldest_untainted d e = none_of (tainted d.stt_model []) (sources e) (λ r. refl)
+oldest_untainted d e = none_any (tainted d.stt_model []) (sources e) (λ r. refl)
 
 pub oldest_address : (d : Desc) (e : Entry) → address_tainted d.stt_model [] e ≡ false
-oldest_address d e = none_of (tainted d.stt_model []) (base_of (sources e)) (λ r. refl)
+oldest_address d e = none_any (tainted d.stt_model []) (base_of (sources e)) (λ r. refl)
 
 -- ---- Resolve
 

@@ -10,13 +10,13 @@ use Rattle.window_model.specs.declared.Entry.{Entry}
 use Rattle.window_model.specs.declared.Item.{Item}
 use Rattle.window_model.specs.declared.State.TheVariants.{Waiting, Done}
 use Rattle.window_model.specs.Order.{is_load, is_store, is_waiting}
-use Rattle.window_model.specs.Front.{is_call, at_once, fits, fits_as, renamed}
+use Rattle.window_model.specs.Front.{is_call, at_once, fits, fits_as, renamed, CallAlone, calls}
 use Rattle.window_model.proofs.Booleans.{both, neither, not_true, below}
 use Rattle.window_model.proofs.Counts.{count, count_is, count_pushed, none_counted}
 use Rattle.lsq.specs.Queues.{Queues}
 use Rattle.queue_laws.specs.Window.{StandFor}
 use Rattle.queue_laws.proofs.Renaming.{room_is}
-use Rattle.rename.specs.Parts.{calls, CallAlone, fitting}
+use Rattle.rename.specs.Parts.{fitting}
 
 -- ---- a call stands alone
 

@@ -1,5 +1,5 @@
 -- The parts stand for the window again once an entry has come in.
-use Rattle.std.proofs.Common.{◌≡◌, ℕ, ◌+◌, true, false, List, [], ◌∷◌, ◌++◌, Option, refl, ap, sym, ◌∙◌, subst, arith}
+use Rattle.std.proofs.Common.{◌≡◌, ℕ, ◌+◌, true, List, [], ◌∷◌, ◌++◌, Option, refl, ap, sym, ◌∙◌, subst, arith}
 use Rattle.std.specs.Prelude.{if◌then◌else◌, reverse}
 use Rattle.std.specs.Option.{option_to_list}
 use Rattle.circular_buffer.specs.Buffer.{Buffer, buffer}
@@ -10,7 +10,7 @@ use Rattle.window_model.specs.declared.Entry.{Entry}
 use Rattle.window_model.specs.declared.Item.{Item}
 use Rattle.window_model.specs.declared.State.TheVariants.{Waiting, Done}
 use Rattle.window_model.specs.Order.{is_load, is_store, is_waiting}
-use Rattle.window_model.specs.Front.{at_once, renamed}
+use Rattle.window_model.specs.Front.{at_once, renamed, CallAlone}
 use Rattle.rob_ring.specs.Ring.{Ring}
 use Rattle.rename_taint.specs.declared.Write.{Write}
 use Rattle.stations.specs.Stations.{Stations}
@@ -25,7 +25,7 @@ use Rattle.parts_stand.proofs.Addressing.{addresses_add, addresses_add_other}
 use Rattle.parts_stand.proofs.Answering.{counts_room}
 use Rattle.parts_stand.proofs.Standing.{renames_in}
 use Rattle.parts_stand.proofs.Writing.{counts_writers, writers_rename}
-use Rattle.rename.specs.Parts.{CallAlone, Counted, HasRooms, parts_of}
+use Rattle.rename.specs.Parts.{Counted, HasRooms, parts_of}
 use Rattle.rename.specs.Entering.{HasRoomFor, roots_at, with_access, writers_at}
 use Rattle.rename.proofs.Fitting.{Fits, alone_more, load_room, station_room, store_room}
 

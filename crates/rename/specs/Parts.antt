@@ -1,10 +1,10 @@
 -- Phase Rename of a machine that stands in parts (docs/machine.md, "State", "Rename").
-use Rattle.std.specs.Prelude.{◌≡◌, ℕ, ◌≤◌, Bool, if◌then◌else◌, List, length, Option, Some, None, count_by}
+use Rattle.std.specs.Prelude.{◌≡◌, ℕ, if◌then◌else◌, List, length, Option, Some, None, count_by}
 use Rattle.circular_buffer.specs.Buffer.{Buffer}
 use Rattle.machine_desc.specs.declared.Desc.{Desc}
 use Rattle.window_model.specs.declared.Entry.{Entry}
 use Rattle.window_model.specs.declared.Item.{Item}
-use Rattle.window_model.specs.Front.{fits, is_call, rename}
+use Rattle.window_model.specs.Front.{fits, rename}
 use Rattle.window_model.specs.Order.{is_waiting}
 use Rattle.window_model.specs.State.{Machine, After}
 use Rattle.rob_ring.specs.Ring.{Ring}
@@ -33,14 +33,6 @@ fitting d window (Some item) = if fits d window item then Some item else None
 -- the parts that stand for the window, with the serial that the next entry gets
 abbrev pub parts_of : ℕ → Ring → Buffer (List (Option ℕ)) → List Write → Stations → Parts
 parts_of next rob roots writes stations = record { next = next; window = rob.entries; roots = roots.items; writes = writes; held = stations.held }
-
--- a call
-abbrev pub calls : Entry → Bool
-calls e = is_call e.item.kind
-
--- where there is a call, it is the only entry
-abbrev pub CallAlone : List Entry → Type 0
-CallAlone entries = 1 ≤ count_by calls entries → length entries ≤ 1
 
 -- each part has the description's room
 pub record HasRooms (d : Desc) (rob : Ring) (roots source_writers : Buffer (List (Option ℕ))) (names_room : ℕ) (stations : Stations) (queues : Queues) : Type 0 where

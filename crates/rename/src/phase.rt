@@ -7,7 +7,8 @@ ghost use Rattle.parts_stand.specs.Parts.{Stand};
 ghost use Rattle.parts_stand.specs.Addresses.{AddressesStand};
 ghost use Rattle.parts_stand.specs.Points.{PointStands};
 ghost use Rattle.parts_stand.specs.Writers.{WritersOf};
-ghost use Rattle.rename.specs.Parts.{CallAlone, Counted, HasRooms, fitting, parts_of, renames, with_parts};
+ghost use Rattle.window_model.specs.Front.{CallAlone};
+ghost use Rattle.rename.specs.Parts.{Counted, HasRooms, fitting, parts_of, renames, with_parts};
 
 use crate::entering::add_entry;
 use crate::room::fits;

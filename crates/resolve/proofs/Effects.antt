@@ -18,7 +18,9 @@ use Rattle.branch_resolve.specs.Effect.{taught, told, resolution_of}
 use Rattle.branch_resolve.specs.declared.effect.Resolution.TheVariants.{Right, Wrong, Fault}
 use Rattle.resolve.specs.Parts.{position, with_parts, resolves, resolving}
 use Rattle.resolve.specs.Dropped.{behind, dropped_from, left, marked, true_next}
-use Rattle.resolve.proofs.Picked.{Rise, Taken, taken, replaced, rise_with}
+use Rattle.window_model.specs.Serials.{Rise}
+use Rattle.window_model.proofs.Serials.{rise_with}
+use Rattle.resolve.proofs.Picked.{Taken, taken, replaced}
 
 -- marked as resolved
 abbrev pub resolved_one : Entry → Entry

@@ -32,12 +32,13 @@ use Rattle.parts_stand.proofs.Addressing.{addresses_go_on, addresses_squash}
 use Rattle.parts_stand.proofs.Answering.{counts_room}
 use Rattle.parts_stand.proofs.Keeping.{goes_same, zip_set}
 use Rattle.parts_stand.proofs.Moving.{point_resolves, point_squashes, point_stops}
-use Rattle.parts_stand.proofs.Serials.{splits}
+use Rattle.window_model.specs.Serials.{Rise}
+use Rattle.window_model.proofs.Serials.{splits, rise_with}
 use Rattle.parts_stand.proofs.Standing.{changes_unseen, squashes_from}
 use Rattle.parts_stand.proofs.Writing.{counts_writers, writers_go_on, writers_squash}
 use Rattle.resolve.specs.Parts.{parts_of, resolving}
 use Rattle.resolve.specs.Dropped.{behind, dropped_from, left, marked, queues_below, stations_below}
-use Rattle.resolve.proofs.Picked.{Rise, get_seam, rise_with}
+use Rattle.resolve.proofs.Picked.{get_seam}
 use Rattle.resolve.proofs.Effects.{resolved_one}
 
 -- ---- an entry is marked

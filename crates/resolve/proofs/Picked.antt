@@ -1,10 +1,8 @@
 -- The entry that is picked, at its position in the window.
-use Rattle.std.proofs.Common.{◌≡◌, ℕ, zero, suc, ◌<◌, List, [], ◌∷◌, ◌++◌, length, map, get_or, Option, Some, None, refl, ap, sym, ◌∙◌, subst, arith, slice_get}
+use Rattle.std.proofs.Common.{◌≡◌, ℕ, ◌<◌, List, [], ◌∷◌, ◌++◌, length, Option, Some, None, refl, ap, sym, ◌∙◌, arith, slice_get}
 use Rattle.std.specs.Prelude.{reverse, slice_set}
-use Rattle.std.specs.List.{All, AllPairs}
 use Rattle.std.proofs.Math.Seq.{set-append_seam}
-use Rattle.std.proofs.lemmas.List.Elements.{All-head, All-tail}
-use Rattle.std.proofs.lemmas.List.{get_or-map, length-append, length-map, length-reverse, map-append}
+use Rattle.std.proofs.lemmas.List.{length-append, length-reverse}
 use Rattle.machine_desc.specs.declared.Desc.{Desc}
 use Rattle.window_model.specs.declared.Entry.{Entry}
 use Rattle.window_model.specs.Order.{Place, first}
@@ -44,12 +42,6 @@ pub get_seam : (xs ys : List Entry) (y : Entry) → slice_get (xs ++ y ∷ ys) (
 get_seam [] ys y = refl
 get_seam (x ∷ xs) ys y = get_seam xs ys y
 
--- what holds of all holds of it
-pub all_at : (P : Entry → Type 0) (w : List Entry) (i : ℕ) (e : Entry) → All P w → slice_get w i ≡ Some e → P e
-all_at P [] i e a h = absurd (cc)
-all_at P (x ∷ w) zero e a h = let q : x ≡ e = cc in subst P q (All-head P x w a)
-all_at P (x ∷ w) (suc i) e a h = all_at P w i e (All-tail P x w a) h
-
 -- this entry
 pub record Taken (d : Desc) (w : List Entry) (i : ℕ) (e : Entry) : Type 0 where
   pub before : List Entry
@@ -77,34 +69,3 @@ taken d w i e h at =
 pub replaced : (d : Desc) (w : List Entry) (i : ℕ) (e e2 : Entry) (k : Taken d w i e) → slice_set w i e2 ≡ reverse k.before ++ e2 ∷ k.younger
 replaced d w i e e2 k =
     ap (λ n. slice_set w n e2) (sym k.at) ∙ ap (λ w. slice_set w (length (reverse k.before)) e2) k.whole ∙ set-append_seam (reverse k.before) e k.younger e2
-
--- ---- serials
-
-abbrev pub Rise : List Entry → Type 0
-Rise w = AllPairs (λ a b. a.serial < b.serial) w
-
-abbrev serials : List Entry → List ℕ
-serials w = map (λ (e : Entry). e.serial) w
-
-serial_at : (w w2 : List Entry) (i : ℕ) (d : Entry) → serials w ≡ serials w2 → i < length w → i < length w2 → (get_or w i d).serial ≡ (get_or w2 i d).serial
-serial_at w w2 i d h in1 in2 =
-    sym (get_or-map (λ (e : Entry). e.serial) w i d 0 in1) ∙ ap (λ ns. get_or ns i 0) h ∙ get_or-map (λ (e : Entry). e.serial) w2 i d 0 in2
-
--- the same serials rise as well
-rise_same : (w w2 : List Entry) → serials w ≡ serials w2 → Rise w → Rise w2
-rise_same w w2 h r i j d lt within =
-    let n1 = length-map w (λ (e : Entry). e.serial) in
-    let n2 = length-map w2 (λ (e : Entry). e.serial) in
-    let n = ap length h in
-    let jn : j < length w = omega (arith, n1, n2, n) in
-    let a = serial_at w w2 i d h (omega (arith, lt, jn)) (omega (arith, lt)) in
-    let b = serial_at w w2 j d h jn within in
-    let rises = r i j d lt jn in
-    omega (arith, a, b, rises)
-
--- an entry with the same serial in the place of another
-pub rise_with : (older younger : List Entry) (e e2 : Entry) → e2.serial ≡ e.serial → Rise (older ++ e ∷ younger) → Rise (older ++ e2 ∷ younger)
-rise_with older younger e e2 q r =
-    let f : Entry → ℕ = λ e. e.serial in
-    let same = map-append f older (e ∷ younger) ∙ ap (λ n. serials older ++ n ∷ serials younger) (sym q) ∙ sym (map-append f older (e2 ∷ younger)) in
-    rise_same (older ++ e ∷ younger) (older ++ e2 ∷ younger) same r

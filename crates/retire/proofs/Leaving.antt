@@ -9,7 +9,7 @@ use Rattle.rv_types.specs.declared.End.TheVariants.{Trap}
 use Rattle.rv_types.specs.declared.Kind.TheVariants.{Store, Call}
 use Rattle.machine_desc.specs.declared.Desc.{Desc}
 use Rattle.window_model.specs.declared.Entry.{Entry}
-use Rattle.window_model.specs.Front.{is_call}
+use Rattle.window_model.specs.Front.{is_call, CallAlone, calls}
 use Rattle.window_model.specs.Order.{is_store, is_done}
 use Rattle.window_model.specs.Retire.{Retired, retire, turns, head_leaves, stays, trap_as, addr_of, width_of}
 use Rattle.window_model.specs.Row.{Row}
@@ -25,7 +25,7 @@ use Rattle.rename_taint.specs.Writes.{without_retired}
 use Rattle.lsq.specs.Queues.{Queues}
 use Rattle.cache_tags.specs.Sets.{Cache}
 use Rattle.retire.specs.declared.turn.Turn.TheVariants.{Waits, Traps}
-use Rattle.retire.specs.Parts.{calls, CallAlone, TakesStore, with_effects, with_parts, counted, retires}
+use Rattle.retire.specs.Parts.{TakesStore, with_effects, with_parts, counted, retires}
 use Rattle.retire.specs.Turn.{Goes, turn_at}
 use Rattle.retire.specs.Gone.{gone, MayRetire, without_each, without, popped}
 use Rattle.retire.proofs.Quiet.{quiet}

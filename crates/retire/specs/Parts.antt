@@ -1,10 +1,9 @@
 -- Phase Retire of a machine that stands in parts (docs/machine.md, "State", "Retire").
-use Rattle.std.specs.Prelude.{◌≡◌, ℕ, ◌+◌, ◌≤◌, Bool, true, List, length, Option, None, count_by}
+use Rattle.std.specs.Prelude.{◌≡◌, ℕ, ◌+◌, true, List, Option, None}
 use Rattle.rv_types.specs.Memory.{Ram, store_fault}
 use Rattle.rv_types.specs.declared.End.{End}
 use Rattle.machine_desc.specs.declared.Desc.{Desc}
 use Rattle.window_model.specs.declared.Entry.{Entry}
-use Rattle.window_model.specs.Front.{is_call}
 use Rattle.window_model.specs.Order.{is_done, is_store, fault_of}
 use Rattle.window_model.specs.Retire.{Retired, retire, addr_of, width_of}
 use Rattle.window_model.specs.State.{Machine}
@@ -28,14 +27,6 @@ abbrev pub retires : Desc → Ring → Cache → Ram → List ℕ → ℕ → Ma
 retires d rob tags ram regs pc x = retire d (with_parts rob tags ram regs pc None x)
 
 -- ---- what is asked of the parts
-
--- a call
-abbrev pub calls : Entry → Bool
-calls e = is_call e.item.kind
-
--- where there is a call, it is the only entry
-abbrev pub CallAlone : List Entry → Type 0
-CallAlone entries = 1 ≤ count_by calls entries → length entries ≤ 1
 
 -- memory takes what the entry writes, if it is a Done store without a fault
 abbrev pub TakesStore : Ram → Entry → Type 0

@@ -3,7 +3,8 @@ ghost use Rattle.std.specs.Prelude.{◌≡◌, ◌≤◌, ◌<◌, ◌+◌, ◌-
 ghost use Rattle.std.specs.List.{AllByRecursion as Each};
 ghost use Rattle.window_model.specs.State.{Machine};
 ghost use Rattle.rename_taint.specs.Writes.{without_retired};
-ghost use Rattle.retire.specs.Parts.{CallAlone, TakesStore, with_parts, counted, retires};
+ghost use Rattle.window_model.specs.Front.{CallAlone};
+ghost use Rattle.retire.specs.Parts.{TakesStore, with_parts, counted, retires};
 ghost use Rattle.retire.specs.Gone.{gone, MayRetire, without_each, without, popped};
 
 use crate::commit::commit;

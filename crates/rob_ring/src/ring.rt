@@ -132,10 +132,6 @@ impl Window for RobRing {
         RobRing::len(self)
     }
 
-    fn at(&self, i: u32) -> Entry {
-        RobRing::at(self, i)
-    }
-
     fn lend(&self, i: u32) -> &Entry {
         RobRing::lend(self, i)
     }

@@ -35,10 +35,6 @@ impl Window for Two {
         2
     }
 
-    fn at(&self, i: u32) -> Entry {
-        if i == 0 { self.older } else { self.younger }
-    }
-
     fn lend(&self, i: u32) -> &Entry {
         if i == 0 { &self.older } else { &self.younger }
     }

@@ -185,12 +185,7 @@ pub trait Window {
     fn len(&self) -> u32
         ensures { result ≡ length (entries self.now) };
 
-    /// The entry at a position, counted from the oldest.
-    fn at(&self, i: u32) -> Entry
-        requires { i < length (entries self.now) }
-        ensures { slice_get (entries self.now) i ≡ Some result };
-
-    /// Lends the entry at a position, where a copy isn't needed.
+    /// Lends the entry at a position, counted from the oldest.
     fn lend(&self, i: u32) -> &Entry
         requires { i < length (entries self.now) }
         ensures { slice_get (entries self.now) i ≡ Some result.now };

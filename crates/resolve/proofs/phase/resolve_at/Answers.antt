@@ -7,7 +7,8 @@ use Rattle.fetch_unit.specs.Front.{Front}
 use Rattle.branch_resolve.specs.Effect.{resolution_of}
 use Rattle.branch_resolve.specs.declared.effect.Resolution.TheVariants.{Right}
 use Rattle.resolve.specs.Dropped.{left, queues_below, stations_below, true_next}
-use Rattle.resolve.proofs.Picked.{all_at, picked, inside}
+use Rattle.window_model.proofs.Serials.{all_at}
+use Rattle.resolve.proofs.Picked.{picked, inside}
 use Rattle.resolve.proofs.Effects.{Taught, as_long, marked_rises, right_state, right_row, right_rob, right_drops, wrong_state, wrong_row, wrong_rob, wrong_drops}
 use Rattle.resolve.proofs.phase.resolve_at.Given as given
 use Rattle.resolve.proofs.phase.resolve_at.Goals as goal

@@ -7,14 +7,14 @@ loop-position-preserved g c =
     let t = c.loop-position.invariant in
     let within = t.within in
     record {
-      walked = below_on c.args.serial (g.W.Window.entries c.args.window.now) c.loop-position.position c.lend.result.now c.loop-position-test.true t.within c.lend.ensures c.if-lend-serial.true t.walked;
+      walked = below_on c.args.serial (g.W.Window.entries c.args.window.now) c.loop-position.position c.lend.result.now c.loop-position-test.true t.within c.lend.ensures (let h = c.if-lend-serial.true in omega (arith, h)) t.walked;
       within = omega (arith, within);
     }
 
 pub returns-else-lend-serial-clause-older : goal.returns-else-lend-serial-clause-older
 returns-else-lend-serial-clause-older g c =
     let t = c.loop-position.invariant in
-    older_at c.args.serial (g.W.Window.entries c.args.window.now) c.loop-position.position c.lend.result.now c.requires.rise c.loop-position-test.true t.within c.lend.ensures c.if-lend-serial.false t.walked
+    older_at c.args.serial (g.W.Window.entries c.args.window.now) c.loop-position.position c.lend.result.now c.requires.rise c.loop-position-test.true t.within c.lend.ensures (let h = c.if-lend-serial.false in omega (arith, h)) t.walked
 
 pub returns-else-lend-serial-clause-count : goal.returns-else-lend-serial-clause-count
 returns-else-lend-serial-clause-count g c =
