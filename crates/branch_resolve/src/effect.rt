@@ -1,6 +1,7 @@
 //! What comes of an entry that is resolved.
-ghost use Rattle.std.specs.Prelude.{◌≡◌, ◌≤◌, ◌+◌, ◌++◌, length, if◌then◌else◌};
+ghost use Rattle.std.specs.Prelude.{◌≡◌, if◌then◌else◌};
 ghost use Rattle.window_model.specs.declared.Way.TheVariants as way;
+ghost use Rattle.window_model.specs.Row.{HasRoom, IsLonger, with_events};
 ghost use Rattle.branch_resolve.specs.Effect.{taught, told, resolution_of};
 
 use predictor::Predictor;
@@ -21,10 +22,10 @@ pub enum Resolution {
 /// Resolves a branch or JALR: the predictor learns how it went, and the row tells it. A branch moves its counter, also where
 /// it faults; a JALR stores its target, but not where it faults.
 pub fn resolve(entry: &Entry, predictor: &mut Predictor, row: &mut Row) -> Resolution
-    requires room { length row.old.events + 2 ≤ 128 }
+    requires room { HasRoom 2 row.old }
     ensures learnt { predictor.new ≡ taught predictor.old entry.now }
-    ensures row { row.new ≡ record row.old { events = row.old.events ++ told predictor.old entry.now } }
-    ensures few { length row.new.events ≤ length row.old.events + 2 }
+    ensures row { row.new ≡ with_events row.old (told predictor.old entry.now) }
+    ensures few { IsLonger 2 row.old row.new }
     ensures resolution { result ≡ resolution_of entry.now }
 {
     teach(entry, predictor, row);
@@ -33,10 +34,10 @@ pub fn resolve(entry: &Entry, predictor: &mut Predictor, row: &mut Row) -> Resol
 
 // What the predictor learns from the entry, and the events of that.
 fn teach(entry: &Entry, predictor: &mut Predictor, row: &mut Row)
-    requires room { length row.old.events + 2 ≤ 128 }
+    requires room { HasRoom 2 row.old }
     ensures learnt { predictor.new ≡ taught predictor.old entry.now }
-    ensures row { row.new ≡ record row.old { events = row.old.events ++ told predictor.old entry.now } }
-    ensures few { length row.new.events ≤ length row.old.events + 2 }
+    ensures row { row.new ≡ with_events row.old (told predictor.old entry.now) }
+    ensures few { IsLonger 2 row.old row.new }
 {
     if entry.item.kind == Kind::Branch {
         let taken = entry.value() == 1;

@@ -4,7 +4,7 @@ ghost use Rattle.std.specs.Prelude.{◌≡◌, length, IfOk};
 
 use crate::{Resolution, pick, resolve};
 use circular_buffer::HeapCircularBuffer;
-use machine_desc::{Desc, read_desc};
+use machine_desc::{Desc, EXAMPLE, read_desc};
 use predictor::Predictor;
 use rv_types::{Cause, Instr, Op, Reg, kind_of};
 use std::alloc::Global;
@@ -13,11 +13,8 @@ use std::test::Fail;
 use visibility::VisPoint;
 use window_model::{Entry, Event, Item, Outcome, State, Way, Window, empty_row};
 
-const DESC: &str =
-    "[core]\nfetch_width = 2\nretire_width = 2\nrob = 16\nstations = 8\nloads = 4\nstores = 4\nqueue = 8\n[units]\nalus = 2\nmul_latency = 3\n[predictor]\ncounters = 16\nbtb = 4\n[cache]\nsets = 2\nways = 2\nline = 16\nhit_latency = 2\nmiss_latency = 10\nmshrs = 2\n[ram]\nbase = 65536\nsize = 65536\n[stt]\nmodel = \"spectre\"\n";
-
 fn desc(alloc: Global) -> Result<Desc, Fail> {
-    Ok(read_desc(alloc, DESC.as_bytes())?)
+    Ok(read_desc(alloc, EXAMPLE.as_bytes())?)
 }
 
 // A window of two entries.

@@ -1,11 +1,7 @@
 //! Two sets of two lines of 16 bytes, step by step; the expected values follow from `docs/machine.md`.
 use crate::Tags;
-use machine_desc::read_desc;
+use machine_desc::{EXAMPLE, read_desc};
 use std::test::Fail;
-
-// The example of `docs/formats.md`, "Machine descriptions".
-const EXAMPLE: &str =
-    "[core]\nfetch_width = 2\nretire_width = 2\nrob = 16\nstations = 8\nloads = 4\nstores = 4\nqueue = 8\n[units]\nalus = 2\nmul_latency = 3\n[predictor]\ncounters = 16\nbtb = 4\n[cache]\nsets = 2\nways = 2\nline = 16\nhit_latency = 2\nmiss_latency = 10\nmshrs = 2\n[ram]\nbase = 65536\nsize = 65536\n[stt]\nmodel = \"spectre\"\n";
 
 // Three lines of one set, and one of the other.
 const A: u32 = 0x10000;

@@ -2,16 +2,12 @@
 use crate::Fetch;
 use byte_ram::Ram;
 use elf_loader::{Code, load, segments};
-use machine_desc::{Desc, read_desc};
+use machine_desc::{Desc, EXAMPLE, read_desc};
 use predictor::Predictor;
 use rv_types::{Cause, Kind};
 use std::alloc::Global;
 use std::test::Fail;
 use window_model::{Event, Item, empty_row};
-
-// The example of `docs/formats.md`, "Machine descriptions": two items are fetched a cycle.
-const EXAMPLE: &str =
-    "[core]\nfetch_width = 2\nretire_width = 2\nrob = 16\nstations = 8\nloads = 4\nstores = 4\nqueue = 8\n[units]\nalus = 2\nmul_latency = 3\n[predictor]\ncounters = 16\nbtb = 4\n[cache]\nsets = 2\nways = 2\nline = 16\nhit_latency = 2\nmiss_latency = 10\nmshrs = 2\n[ram]\nbase = 65536\nsize = 65536\n[stt]\nmodel = \"spectre\"\n";
 
 // An image of 16 bytes of code at address 65536: beq x0, x0, +8; jal x0, +8; ebreak; jalr x0, 0(x5).
 const FILE: [u8; 100] = [

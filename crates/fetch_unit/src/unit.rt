@@ -1,6 +1,7 @@
 //! The queue and the fetch pc.
-ghost use Rattle.std.specs.Prelude.{◌≡◌, ◌<◌, ◌≤◌, ◌+◌, ◌++◌, ◌∷◌, [], length, drop, slice_get, IfOk, Some};
+ghost use Rattle.std.specs.Prelude.{◌≡◌, ◌<◌, ◌++◌, ◌∷◌, [], length, drop, slice_get, IfOk, Some};
 ghost use Rattle.elf_loader.specs.Code.{word_at};
+ghost use Rattle.window_model.specs.Row.{HasRoom, IsLonger, most_fetched, with_events};
 ghost use Rattle.window_model.specs.State.{Machine};
 ghost use Rattle.fetch_unit.specs.Front.{with_front, fetches, next_fetch};
 
@@ -53,12 +54,12 @@ impl Fetch {
     /// Phase Fetch: up to the description's width of fetching, items come into the queue, each with its event. What it
     /// leaves is what the definition leaves of every machine with this queue, this fetch pc and this predictor.
     pub fn fetch(&mut self, code: &Code, predictor: &Predictor, row: &mut Row)
-        requires room { length row.old.events + 4 ≤ 128 }
+        requires room { HasRoom most_fetched row.old }
         requires one_description { predictor.now.desc ≡ self.old.desc }
         ensures front { (x : Machine) → with_front self.new predictor.now x ≡ (fetches (word_at code.now) self.old predictor.now x).machine }
-        ensures row { (x : Machine) → row.new ≡ record row.old { events = row.old.events ++ (fetches (word_at code.now) self.old predictor.now x).events } }
+        ensures row { (x : Machine) → row.new ≡ with_events row.old (fetches (word_at code.now) self.old predictor.now x).events }
         ensures desc { self.new.desc ≡ self.old.desc }
-        ensures few { length row.new.events ≤ length row.old.events + 4 }
+        ensures few { IsLonger most_fetched row.old row.new }
     {
         for _ in 0..self.desc.core_fetch_width {
             let Some(pc) = self.next() else {

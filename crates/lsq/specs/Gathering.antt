@@ -5,9 +5,10 @@ use Rattle.rv_types.specs.Word.{from_le}
 use Rattle.rv_types.specs.Memory.{Ram}
 use Rattle.rv_types.specs.declared.Width.{Width}
 use Rattle.rv_types.specs.declared.Width.TheVariants.{B, H, W}
+use Rattle.rename_taint.specs.Writes.{later}
 use Rattle.lsq.specs.declared.store.Store.{Store}
 use Rattle.lsq.specs.declared.merging.Gathered.{Gathered}
-use Rattle.lsq.specs.Queues.{younger, youngest_root}
+use Rattle.lsq.specs.Queues.{youngest_root}
 use Rattle.lsq.specs.Merging.{byte_by, byte_or_memory, forwarded}
 
 -- what these stores, youngest first, give to a load of the bytes from an address on
@@ -31,7 +32,7 @@ passed a s g = record {
   second = option_or (byte_by (a + 1) s.known) g.second;
   third = option_or (byte_by (a + 1 + 1) s.known) g.third;
   fourth = option_or (byte_by (a + 1 + 1 + 1) s.known) g.fourth;
-  root = younger s.root g.root;
+  root = later s.root g.root;
 }
 
 -- the number of so many bytes from an address on, those that memory holds where none was gathered

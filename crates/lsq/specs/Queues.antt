@@ -1,7 +1,8 @@
 -- The loads and stores in flight as contracts see them (docs/machine.md, "Issue" and "Loads").
-use Rattle.std.specs.Prelude.{ℕ, max, Bool, nat_lt, ◌==◌, if◌then◌else◌, List, [], ◌∷◌, reverse, Option, Some, None, is_some}
+use Rattle.std.specs.Prelude.{ℕ, Bool, nat_lt, ◌==◌, if◌then◌else◌, List, [], ◌∷◌, reverse, Option, Some, None, is_some}
 use Rattle.std.specs.List.{filter}
 use Rattle.machine_desc.specs.declared.Desc.{Desc}
+use Rattle.rename_taint.specs.Writes.{later}
 use Rattle.lsq.specs.declared.store.Known.{Known}
 use Rattle.lsq.specs.declared.store.Store.{Store}
 
@@ -28,13 +29,7 @@ is_known s = is_some s.known
 abbrev pub known_at : ℕ → Known → Store → Store
 known_at serial known s = if s.serial == serial then record s { known = Some known } else s
 
--- the younger of two roots
-abbrev pub younger : Option ℕ → Option ℕ → Option ℕ
-younger None root = root
-younger (Some a) None = Some a
-younger (Some a) (Some b) = Some (max a b)
-
 -- the youngest root of these stores' addresses
 abbrev pub youngest_root : List Store → Option ℕ
 youngest_root [] = None
-youngest_root (s ∷ stores) = younger s.root (youngest_root stores)
+youngest_root (s ∷ stores) = later s.root (youngest_root stores)

@@ -3,12 +3,13 @@ ghost use Rattle.std.specs.Prelude.{◌≡◌, ◌≤◌, ◌<◌, ◌+◌, ◌-
 ghost use Rattle.rv_types.specs.Memory.{load_fault};
 ghost use Rattle.rv_types.specs.Value.{bytes_in};
 ghost use Rattle.rv_types.specs.Word.{from_le, to_le};
-ghost use Rattle.lsq.specs.Queues.{older, younger, youngest_root};
+ghost use Rattle.lsq.specs.Queues.{older, youngest_root};
 ghost use Rattle.lsq.specs.Merging.{all_forwarded, byte_by, byte_or_memory, merged_bytes, reaches};
 ghost use Rattle.lsq.specs.Gathering.{covered_in, gathered, nothing, number_in, passed};
 
 use crate::store::{Known, Store};
 use byte_ram::Ram;
+use rename_taint::later;
 use rv_types::Width;
 
 /// What a load finds.
@@ -80,17 +81,6 @@ fn byte_by(store: &Store, addr: u64) -> Option<u8>
     }
 }
 
-// The younger of two roots.
-fn younger(first: Option<u64>, second: Option<u64>) -> Option<u64>
-    ensures { result ≡ younger first second }
-{
-    match (first, second) {
-        (None, root) => root,
-        (Some(a), None) => Some(a),
-        (Some(a), Some(b)) => Some(a.max(b)),
-    }
-}
-
 impl Gathered {
     // What no store gives.
     fn nothing() -> Gathered
@@ -118,7 +108,7 @@ impl Gathered {
             second: byte_by(store, second).or(self.second),
             third: byte_by(store, third).or(self.third),
             fourth: byte_by(store, fourth).or(self.fourth),
-            root: younger(store.root, self.root),
+            root: later(store.root, self.root),
         }
     }
 

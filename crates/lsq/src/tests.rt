@@ -2,15 +2,11 @@
 //! "Issue".
 use crate::{Lsq, Merged};
 use byte_ram::Ram;
-use machine_desc::read_desc;
+use machine_desc::{EXAMPLE, read_desc};
 use rv_types::{Cause, Width};
 use std::test::Fail;
 
 const BASE: u32 = 65536;
-
-// A description with four loads and four stores.
-const FOUR_OF_EACH: &[u8] =
-    b"[core]\nfetch_width = 2\nretire_width = 2\nrob = 16\nstations = 8\nloads = 4\nstores = 4\nqueue = 8\n[units]\nalus = 2\nmul_latency = 3\n[predictor]\ncounters = 16\nbtb = 4\n[cache]\nsets = 2\nways = 2\nline = 16\nhit_latency = 2\nmiss_latency = 10\nmshrs = 2\n[ram]\nbase = 65536\nsize = 65536\n[stt]\nmodel = \"spectre\"\n";
 
 // Whether there was room for the load, which is then added.
 fn add_load(lsq: &mut Lsq, serial: u64) -> bool {
@@ -52,7 +48,7 @@ fn a_load_finds_the_youngest_bytes_before_it(rt: HostRuntime) -> Result<(), Fail
     let alloc = rt.alloc();
     let mut ram = Ram::new(alloc, BASE, 64)?;
     assert_eq!(rt; ram.put(BASE, Width::W, 0x4433_2211), Ok(()));
-    let mut lsq = Lsq::new(alloc, &read_desc(alloc, FOUR_OF_EACH)?)?;
+    let mut lsq = Lsq::new(alloc, &read_desc(alloc, EXAMPLE.as_bytes())?)?;
     assert_eq!(rt; add_store(&mut lsq, 3, None), true);
     assert_eq!(rt; add_store(&mut lsq, 5, Some(2)), true);
     assert_eq!(rt; add_store(&mut lsq, 8, Some(1)), true);
@@ -93,7 +89,7 @@ fn a_load_finds_the_youngest_bytes_before_it(rt: HostRuntime) -> Result<(), Fail
 #[test]
 fn four_loads_have_room(rt: HostRuntime) -> Result<(), Fail> {
     let alloc = rt.alloc();
-    let mut lsq = Lsq::new(alloc, &read_desc(alloc, FOUR_OF_EACH)?)?;
+    let mut lsq = Lsq::new(alloc, &read_desc(alloc, EXAMPLE.as_bytes())?)?;
     for serial in 0..4 {
         assert_eq!(rt; add_load(&mut lsq, serial), true);
     }

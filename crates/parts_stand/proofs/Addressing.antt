@@ -15,7 +15,8 @@ use Rattle.window_model.specs.Order.{before_at, is_store}
 use Rattle.window_model.specs.Taint.{address_tainted}
 use Rattle.rob_ring.specs.Ring.{below}
 use Rattle.lsq.specs.declared.store.Store.{Store}
-use Rattle.lsq.specs.Queues.{known_at, older, younger, youngest_root}
+use Rattle.rename_taint.specs.Writes.{later as younger}
+use Rattle.lsq.specs.Queues.{known_at, older, youngest_root}
 use Rattle.visibility.specs.Point.{Point, HasAdvanced, is_hidden}
 use Rattle.parts_stand.specs.Parts.{Parts, Stand, RootsStand, oldest_of}
 use Rattle.parts_stand.specs.Steps.{GoesOn}

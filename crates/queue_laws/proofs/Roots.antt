@@ -9,7 +9,8 @@ use Rattle.window_model.specs.Order.{is_store}
 use Rattle.window_model.specs.Taint.{address_tainted}
 use Rattle.window_model.specs.Access.{any_store_hidden}
 use Rattle.lsq.specs.declared.store.Store.{Store}
-use Rattle.lsq.specs.Queues.{younger, youngest_root}
+use Rattle.rename_taint.specs.Writes.{later as younger}
+use Rattle.lsq.specs.Queues.{youngest_root}
 use Rattle.queue_laws.specs.Window.{hides, tainted_stores}
 use Rattle.queue_laws.specs.Laws.{HiddenAsTainted}
 

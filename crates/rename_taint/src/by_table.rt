@@ -2,8 +2,9 @@
 //!
 //! A slot has the register's youngest writer and the youngest root of its value, so a look-up takes constant time. Each write
 //! that is held stands in a list with what its slot held before. A squash goes back over the list from its youngest end and
-//! restores the slots; a retirement takes the oldest off. So a slot or a list entry may name a writer that has retired since:
-//! that is one older than the oldest write that is held, and counts as none.
+//! restores the slots; a retirement takes the oldest off, and clears its slot where it was the last write. So what a list
+//! entry restores may name a writer that has retired since: that is one older than the oldest write that is held, and counts
+//! as none.
 ghost use Rattle.std.specs.Prelude.{◌≡◌, ◌-◌, ◌<◌, ◌∷◌, ◌++◌, [], ◌==◌, length, nat_le, nat_lt, reverse, take, drop};
 ghost use Rattle.std.specs.List.{filter, list_any, All};
 ghost use Rattle.circular_buffer.specs.Buffer.{buffer};

@@ -37,8 +37,8 @@ pub fn root_written(kind: Kind, serial: u64, roots: [Option<u64>; 2]) -> Option<
     }
 }
 
-// The later of two serials, where there are any.
-fn later(first: Option<u64>, second: Option<u64>) -> Option<u64>
+/// The later of two serials, None where there is neither: of two roots the younger.
+pub fn later(first: Option<u64>, second: Option<u64>) -> Option<u64>
     ensures { result ≡ later first second }
 {
     match (first, second) {

@@ -17,7 +17,7 @@ use unit_ports::Ports;
 pub fn squash_after<R: RenameTaint>(
     first: u64,
     rob: &mut RobRing,
-    rename: &mut R,
+    table: &mut R,
     stations: &mut Stations,
     lsq: &mut Lsq,
     ports: &mut Ports,
@@ -25,8 +25,8 @@ pub fn squash_after<R: RenameTaint>(
     requires rise { Rise rob.old.entries }
     ensures dropped { result ≡ length rob.old.entries - length (below first rob.old.entries) }
     ensures rob { rob.new ≡ record rob.old { entries = below first rob.old.entries } }
-    ensures names { R.writes rename.new ≡ before_serial first (R.writes rename.old) }
-    ensures same_room { R.room rename.new ≡ R.room rename.old }
+    ensures names { R.writes table.new ≡ before_serial first (R.writes table.old) }
+    ensures same_room { R.room table.new ≡ R.room table.old }
     ensures stations { stations.new ≡ record stations.old { held = filter (λ s. nat_lt s.serial first) stations.old.held } }
     ensures lsq { lsq.new ≡ record lsq.old { loads = filter (λ l. nat_lt l first) lsq.old.loads; stores = filter (λ s. nat_lt s.serial first) lsq.old.stores } }
     ensures ports { ports.new ≡ record ports.old { divider = freed_from first ports.old.divider } }
@@ -34,7 +34,7 @@ pub fn squash_after<R: RenameTaint>(
     let len = rob.len();
     let kept = rob.position_of(first);
     rob.cut(kept);
-    rename.cut_back(first);
+    table.cut_back(first);
     stations.drop_from(first);
     lsq.cut(first);
     ports.drop_from(first);

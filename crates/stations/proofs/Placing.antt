@@ -1,9 +1,9 @@
 -- Places are taken once or free as entries come, wake and go.
-use Rattle.std.proofs.Common.{◌≡◌, ◌≢◌, ℕ, ◌+◌, ◌<◌, List, [], ◌∷◌, ◌++◌, length, get_or, set, take, drop, suc, refl, ap, ap₂, sym, ◌∙◌, arith, subst}
+use Rattle.std.proofs.Common.{◌≡◌, ◌≢◌, ℕ, zero, ◌+◌, ◌<◌, List, [], ◌∷◌, ◌++◌, length, get_or, set, take, drop, suc, refl, ap, ap₂, sym, ◌∙◌, arith, subst}
 use Rattle.std.specs.Prelude.{map, IsPermutation}
 use Rattle.std.specs.List.{All, AllPairs, remove, range_with_len}
-use Rattle.std.proofs.Math.ListN.{get_or-map as get_or-map_default}
-use Rattle.std.proofs.lemmas.List.{append_assoc, map-append, map-id, length-map, length-set, take-map, drop-map, get_or-map, get_or-set_same, get_or-set_other}
+use Rattle.std.proofs.lemmas.List.{append_assoc, map-append, map-id, length-map, length-set, take-map, drop-map, get_or-map, get_or_default, get_or-set_same, get_or-set_other}
+use Rattle.std.proofs.lemmas.List.Edits.{map_over_more}
 use Rattle.std.proofs.lemmas.List.Elements.{All-head, All-tail}
 use Rattle.std.proofs.lemmas.List.FromFn.{map-range_with_len_more}
 use Rattle.std.proofs.lemmas.List.Quantifiers.{all_pairs_push, all_pairs_remove}
@@ -72,9 +72,25 @@ placed_remove places ages ages2 free free2 i p s lt is a f =
 
 -- ---- a serial is awaited no longer
 
-pub held_woken : (serial : ℕ) (places : List Occupant) (ages : List ℕ) → held_of (map (woken serial) places) ages ≡ map (struck serial) (held_of places ages)
-held_woken serial places [] = refl
-held_woken serial places (p ∷ ages) = ap₂ (λ s ss. s ∷ ss) (ap (station p) (get_or-map_default (woken serial) places p nobody)) (held_woken serial places ages)
+-- an entry that changes in its place changes at its position alone
+held_set_at : (places : List Occupant) (o : Occupant) (ages : List ℕ) (k p : ℕ) → AllPairs (λ p q. p ≢ q) ages → k < length ages → p ≡ get_or ages k p → p < length places → held_of (set places p o) ages ≡ set (held_of places ages) k (station p o)
+held_set_at places o [] k p once lt at below = absurd (omega arith)
+held_set_at places o (q ∷ ages) zero p once lt at below =
+    let others : All (λ r. r ≢ p) ages = λ k d l same. (once 0 (suc k) d (omega arith) (omega arith) (sym at ∙ sym same)) in
+    ap₂ (λ s ss. s ∷ ss) (ap (station_in (set places p o)) (sym at) ∙ ap (station p) (get_or-set_same places p o nobody below)) (held_set places p o ages others)
+held_set_at places o (q ∷ ages) (suc k) p once lt at below =
+    let other : q ≢ p = λ same. (once 0 (suc k) p (omega arith) lt (same ∙ at)) in
+    ap₂ (λ s ss. s ∷ ss) (ap (station q) (get_or-set_other places p q o nobody other)) (held_set_at places o ages k p (λ i j d l m. once (suc i) (suc j) d (omega arith) (omega arith)) (omega arith) at below)
+
+-- the first k entries are woken, and then the one at position k
+pub held_more : (serial : ℕ) (old places : List Occupant) (ages : List ℕ) (k p : ℕ) (o : Occupant) → AllPairs (λ p q. p ≢ q) ages → k < length ages → p ≡ get_or ages k p → p < length places → o ≡ get_or places p o →
+    held_of places ages ≡ map (struck serial) (take k (held_of old ages)) ++ drop k (held_of old ages) →
+    held_of (set places p (woken serial o)) ages ≡ map (struck serial) (take (k + 1) (held_of old ages)) ++ drop (k + 1) (held_of old ages)
+held_more serial old places ages k p o once lt at below is h =
+    let long = length-map ages (station_in old) in
+    let here : station p o ≡ get_or (held_of places ages) k (station p o) =
+    ap (station p) (is ∙ get_or_default places p o nobody below) ∙ ap (station_in places) at ∙ sym (get_or-map (station_in places) ages k p (station p o) lt) in
+    held_set_at places (woken serial o) ages k p once lt at below ∙ map_over_more (struck serial) (held_of old ages) (held_of places ages) k (station p o) (omega arith) h here
 
 rise_struck : (serial : ℕ) (held : List Station) → Rise held → Rise (map (struck serial) held)
 rise_struck serial held r i j d lt l =
@@ -84,8 +100,8 @@ rise_struck serial held r i j d lt l =
     let c = r i j d lt (omega arith) in
     omega (arith, a, b, c)
 
-pub placed_woken : (serial : ℕ) (places places2 : List Occupant) (ages free : List ℕ) → Placed places ages free → places2 ≡ map (woken serial) places → Placed places2 ages free
-placed_woken serial places places2 ages free s e = rw e (record {
-  once = subst (λ n. IsPermutation (range_with_len 0 n) (ages ++ free)) (sym (length-map places (woken serial))) s.once;
-  rise = subst Rise (sym (held_woken serial places ages)) (rise_struck serial (held_of places ages) s.rise);
-})
+pub placed_woken : (serial : ℕ) (places places2 : List Occupant) (ages free : List ℕ) → Placed places ages free → length places2 ≡ length places → held_of places2 ages ≡ map (struck serial) (held_of places ages) → Placed places2 ages free
+placed_woken serial places places2 ages free s long held = record {
+  once = subst (λ n. IsPermutation (range_with_len 0 n) (ages ++ free)) (sym long) s.once;
+  rise = subst Rise (sym held) (rise_struck serial (held_of places ages) s.rise);
+}

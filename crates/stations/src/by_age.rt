@@ -75,7 +75,7 @@ impl Stations {
     pub fn wake(&mut self, serial: u64)
         ensures { self.new ≡ record self.old { held = map (struck serial) self.old.held } }
     {
-        wake_all(&mut self.places, serial);
+        wake_all(&mut self.places, &self.ages, serial);
     }
 
     /// Whether the entry at a position awaits nothing.

@@ -1,16 +1,13 @@
 //! The gate over a window in which serial 0 alone is visible; the expected answers follow from `docs/machine.md`, "Issue".
 use crate::may_transmit;
-use machine_desc::read_desc;
+use machine_desc::{EXAMPLE, read_desc};
 use rv_types::Kind;
 use std::test::Fail;
 use visibility::VisPoint;
 
-const DESC: &str =
-    "[core]\nfetch_width = 2\nretire_width = 2\nrob = 16\nstations = 8\nloads = 4\nstores = 4\nqueue = 8\n[units]\nalus = 2\nmul_latency = 3\n[predictor]\ncounters = 16\nbtb = 4\n[cache]\nsets = 2\nways = 2\nline = 16\nhit_latency = 2\nmiss_latency = 10\nmshrs = 2\n[ram]\nbase = 65536\nsize = 65536\n[stt]\nmodel = \"spectre\"\n";
-
 #[test]
 fn loads_and_divisions_wait_for_their_roots(rt: HostRuntime) -> Result<(), Fail> {
-    let desc = read_desc(rt.alloc(), DESC.as_bytes())?;
+    let desc = read_desc(rt.alloc(), EXAMPLE.as_bytes())?;
     let point = VisPoint::new(&desc);
     let rows: [(Kind, [Option<u64>; 2], bool); 9] = [
         (Kind::Load, [None, None], true),
@@ -24,7 +21,11 @@ fn loads_and_divisions_wait_for_their_roots(rt: HostRuntime) -> Result<(), Fail>
         (Kind::Mul, [Some(7), Some(7)], true),
     ];
     for (kind, roots, want) in rows {
-        assert_eq!(rt; may_transmit(kind, roots, &point), want, "{kind:?} {roots:?}");
+        assert_eq!(rt;
+            may_transmit(kind, roots, &point),
+            want,
+            "{kind:?} {roots:?}"
+        );
     }
     Ok(())
 }

@@ -1,17 +1,13 @@
 //! Ports of two cycles, and a divider that is used, freed and used again. The expected values follow from
 //! `docs/machine.md`, "Issue" and "Resolve".
 use crate::Ports;
-use machine_desc::read_desc;
+use machine_desc::{EXAMPLE, read_desc};
 use rv_types::Kind;
 use std::test::Fail;
 
-// A description with two arithmetic units.
-const TWO_UNITS: &[u8] =
-    b"[core]\nfetch_width = 2\nretire_width = 2\nrob = 16\nstations = 8\nloads = 4\nstores = 4\nqueue = 8\n[units]\nalus = 2\nmul_latency = 3\n[predictor]\ncounters = 16\nbtb = 4\n[cache]\nsets = 2\nways = 2\nline = 16\nhit_latency = 2\nmiss_latency = 10\nmshrs = 2\n[ram]\nbase = 65536\nsize = 65536\n[stt]\nmodel = \"spectre\"\n";
-
 #[test]
 fn two_units_and_one_of_each_other_port(rt: HostRuntime) -> Result<(), Fail> {
-    let mut ports = Ports::new(&read_desc(rt.alloc(), TWO_UNITS)?);
+    let mut ports = Ports::new(&read_desc(rt.alloc(), EXAMPLE.as_bytes())?);
     // A JAL and a branch take the two arithmetic units; JALR and arithmetic then find none.
     let rows: [(Kind, bool); 10] = [
         (Kind::Jal, true),
@@ -36,7 +32,7 @@ fn two_units_and_one_of_each_other_port(rt: HostRuntime) -> Result<(), Fail> {
 
 #[test]
 fn divider(rt: HostRuntime) -> Result<(), Fail> {
-    let mut ports = Ports::new(&read_desc(rt.alloc(), TWO_UNITS)?);
+    let mut ports = Ports::new(&read_desc(rt.alloc(), EXAMPLE.as_bytes())?);
     assert_eq!(rt; ports.free_div(), true);
     ports.begin(4);
     ports.divide(9, 12);
