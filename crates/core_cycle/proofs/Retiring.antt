@@ -71,7 +71,7 @@ pub record Left (h : Held) (rob : Ring) (roots writers : Buffer (List (Option �
   pub same_room : rob.room ≡ h.rob.room
   pub pairs : roots ≡ buffer (keep_last (length rob.entries) h.roots.items) h.roots.capacity
   pub sources : writers ≡ buffer (keep_last (length rob.entries) h.writers.items) h.writers.capacity
-  pub names : writes ≡ without_each (gone h.rob rob) h.writes
+  pub table : writes ≡ without_each (gone h.rob rob) h.writes
   pub same_table_room : table_room ≡ h.table_room
   pub lsq : queues ≡ popped (gone h.rob rob) h.queues
   pub cache : tags.desc ≡ h.tags.desc
@@ -88,7 +88,7 @@ left_tied h rob roots writers writes room queues tags retired w l =
     let writers_are = stays h.rob.entries rob.entries h.writers.items (counts_writers h.next_serial h.rob.entries h.writers.items w.tied.writers_stand) ∙ sym (ap (λ (b : Buffer (List (Option ℕ))). b.items) l.sources) in
     subst (λ rs. Tied h.next_serial rob.entries rs writers.items writes h.stations.held queues h.point) roots_are
     (subst (λ ws. Tied h.next_serial rob.entries (drop (length (gone h.rob rob)) h.roots.items) ws writes h.stations.held queues h.point) writers_are
-    (subst (λ ns. Tied h.next_serial rob.entries (drop (length (gone h.rob rob)) h.roots.items) (drop (length (gone h.rob rob)) h.writers.items) ns h.stations.held queues h.point) (sym l.names)
+    (subst (λ ns. Tied h.next_serial rob.entries (drop (length (gone h.rob rob)) h.roots.items) (drop (length (gone h.rob rob)) h.writers.items) ns h.stations.held queues h.point) (sym l.table)
     (subst (λ q. Tied h.next_serial rob.entries (drop (length (gone h.rob rob)) h.roots.items) (drop (length (gone h.rob rob)) h.writers.items) (without_each (gone h.rob rob) h.writes) h.stations.held q h.point) (sym l.lsq) all)))
 
 -- the machine that they then hold

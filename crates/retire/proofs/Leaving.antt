@@ -36,7 +36,7 @@ use Rattle.retire.proofs.Turns.{head_at, ended, waits, traps, leaves}
 pub record Parts : Type 0 where
   pub rob : Ring
   pub writes : List Write
-  pub names_room : ℕ
+  pub table_room : ℕ
   pub queues : Queues
   pub tags : Cache
   pub ram : Ram
@@ -62,8 +62,8 @@ pub record Left (s0 : Parts) (s : Parts) (went : List Entry) : Type 0 where
   pub window : s0.rob.entries ≡ went ++ s.rob.entries
   pub may_retire : Each MayRetire went
   pub room : s.rob.room ≡ s0.rob.room
-  pub names : s.writes ≡ without_each went s0.writes
-  pub names_room : s.names_room ≡ s0.names_room
+  pub table : s.writes ≡ without_each went s0.writes
+  pub table_room : s.table_room ≡ s0.table_room
   pub queues : s.queues ≡ popped went s0.queues
   pub desc : s.tags.desc ≡ s0.tags.desc
   pub cycle : s.row.cycle ≡ s0.row.cycle
@@ -81,12 +81,11 @@ pub record RetiresOn (d : Desc) (s0 : Parts) (n : ℕ) (stored : Bool) (s : Part
 -- what is asked at first
 pub record Ready (d : Desc) (s : Parts) : Type 0 where
   pub piece : s.piece ≡ []
-  pub desc : s.tags.desc ≡ d
   pub alone : CallAlone s.rob.entries
   pub stores : Each (TakesStore s.ram) s.rob.entries
 
-pub ready : (d : Desc) (s : Parts) → s.piece ≡ [] → s.tags.desc ≡ d → CallAlone s.rob.entries → Each (TakesStore s.ram) s.rob.entries → Ready d s
-ready d s p t a e = record { piece = p; desc = t; alone = a; stores = e }
+pub ready : (d : Desc) (s : Parts) → s.piece ≡ [] → CallAlone s.rob.entries → Each (TakesStore s.ram) s.rob.entries → Ready d s
+ready d s p a e = record { piece = p; alone = a; stores = e }
 
 pub retires_start : (d : Desc) (s : Parts) → Ready d s → RetiresOn d s (d.core_retire_width - 0) false s
 unfolding retire
@@ -95,7 +94,7 @@ retires_start d s h =
     let none : (x : Machine) → standing s 0 None x ≡ with_parts s.rob s.tags s.ram s.regs s.pc None x = λ x. (let z : x.retired + 0 ≡ x.retired = omega arith in ap (λ n. record (with_parts s.rob s.tags s.ram s.regs s.pc None x) { retired = n }) z) in
     record {
       went = [];
-      left = record { window = refl; may_retire = tt; room = refl; names = refl; names_room = refl; queues = refl; desc = refl; cycle = refl };
+      left = record { window = refl; may_retire = tt; room = refl; table = refl; table_room = refl; queues = refl; desc = refl; cycle = refl };
       whole = λ x. ap (λ n. behind s (turns d n false (standing s 0 None x))) e ∙ ap (λ y. behind s (turns d d.core_retire_width false y)) (none x);
       few = omega arith;
       empty = λ one. h.piece;
@@ -117,8 +116,8 @@ popped_more (w ∷ went) e q = popped_more went e (without w.serial q)
 -- the parts once a head has left and taken effect
 pub record HeadLeft (d : Desc) (s : Parts) (e : Entry) (end : Option End) (s2 : Parts) : Type 0 where
   pub rob : s2.rob ≡ record s.rob { entries = drop 1 s.rob.entries }
-  pub names : s2.writes ≡ without_retired e.serial s.writes
-  pub names_room : s2.names_room ≡ s.names_room
+  pub table : s2.writes ≡ without_retired e.serial s.writes
+  pub table_room : s2.table_room ≡ s.table_room
   pub queues : s2.queues ≡ without e.serial s.queues
   pub state : (x : Machine) (rest : List Entry) →
       record (with_effects s2.tags s2.ram s2.regs s2.pc end x) { window = rest; retired = x.retired + 1 } ≡ (head_leaves e.item.kind d e rest (with_effects s.tags s.ram s.regs s.pc None x)).machine
@@ -138,8 +137,8 @@ left_more d s0 s s2 went rest e end h g w m x =
       window = h.window ∙ ap (λ es. went ++ es) w ∙ sym (append_assoc went (e ∷ []) rest) ∙ ap (λ es. (went ++ e ∷ []) ++ es) (sym r);
       may_retire = each_push MayRetire went e h.may_retire m;
       room = ap (λ (r : Ring). r.room) g.rob ∙ h.room;
-      names = g.names ∙ ap (without_retired e.serial) h.names ∙ sym (without_more went e s0.writes);
-      names_room = g.names_room ∙ h.names_room;
+      table = g.table ∙ ap (without_retired e.serial) h.table ∙ sym (without_more went e s0.writes);
+      table_room = g.table_room ∙ h.table_room;
       queues = g.queues ∙ ap (without e.serial) h.queues ∙ sym (popped_more went e s0.queues);
       desc = g.desc ∙ h.desc;
       cycle = ap (λ (r : Row). r.cycle) (g.row x rest) ∙ h.cycle;

@@ -1,3 +1,4 @@
+pub mod Alike
 pub mod Quiet
 pub mod Turns
 pub mod Leaving

@@ -37,7 +37,8 @@ pub(crate) fn commit(
 ) -> Option<End>
     requires room { length row.old.events + 2 ≤ 128 }
     requires empty { piece.old ≡ [] }
-    requires one_description { tags.old.desc ≡ desc.now }
+    requires sets { tags.old.desc.cache_sets ≡ desc.now.cache_sets }
+    requires line { tags.old.desc.cache_line ≡ desc.now.cache_line }
     requires inside { head.now.item.kind ≡ Store → store_fault ram.old (addr_of head.now.outcome) (width_of head.now) ≡ None }
     ensures state { (x : Machine) (rest : List Entry) → record (with_effects tags.new ram.new regs.new pc.new result x) { window = rest; retired = x.retired + 1 } ≡ (head_leaves head.now.item.kind desc.now head.now rest (with_effects tags.old ram.old regs.old pc.old None x)).machine }
     ensures row { (x : Machine) (rest : List Entry) → row.new ≡ record row.old { events = row.old.events ++ (head_leaves head.now.item.kind desc.now head.now rest (with_effects tags.old ram.old regs.old pc.old None x)).events } }
@@ -72,6 +73,7 @@ fn commit_value(head: &Entry, regs: &mut [u32; REGISTERS], pc: &mut u32)
 }
 
 // A store writes memory, and its line moves to the front where the cache has it.
+#[tactic(auto, using(crate::proofs::Alike::same_hit, crate::proofs::Alike::same_touched))]
 fn commit_store(
     head: &Entry,
     tags: &mut Tags,
@@ -82,12 +84,14 @@ fn commit_store(
     row: &mut Row,
 )
     requires room { length row.old.events + 2 ≤ 128 }
+    requires sets { tags.old.desc.cache_sets ≡ desc.now.cache_sets }
+    requires line { tags.old.desc.cache_line ≡ desc.now.cache_line }
     requires inside { store_fault ram.old (addr_of head.now.outcome) (width_of head.now) ≡ None }
     ensures ram { ram.new ≡ with_bytes ram.old (addr_of head.now.outcome) (to_le (width_of head.now) (stored_of head.now.outcome)) }
-    ensures tags { tags.new ≡ record tags.old { sets = touched tags.old.desc tags.old.sets (line_of desc.now (addr_of head.now.outcome)) } }
+    ensures tags { tags.new ≡ record tags.old { sets = touched desc.now tags.old.sets (line_of desc.now (addr_of head.now.outcome)) } }
     ensures regs { regs.new ≡ with_reg regs.old (writes_of head.now.item.instr) (value_of head.now.outcome) }
     ensures pc { pc.new ≡ next_of head.now.outcome }
-    ensures row { row.new ≡ record row.old { events = row.old.events ++ event.Ret head.now.serial ∷ event.St head.now.serial (line_of desc.now (addr_of head.now.outcome)) (has_line tags.old.desc tags.old.sets (line_of desc.now (addr_of head.now.outcome))) ∷ [] } }
+    ensures row { row.new ≡ record row.old { events = row.old.events ++ event.Ret head.now.serial ∷ event.St head.now.serial (line_of desc.now (addr_of head.now.outcome)) (has_line desc.now tags.old.sets (line_of desc.now (addr_of head.now.outcome))) ∷ [] } }
 {
     let line = line_of(desc, head.addr());
     write_store(ram, head);

@@ -23,10 +23,11 @@ use window_model::Row;
 ///
 /// What it leaves is what the definition leaves of every machine with this window, cache, memory, registers and pc, whose
 /// run hasn't ended. As many have retired as the reorder buffer has fewer entries then: those were its oldest, and the
-/// table of names and the queues of loads and stores have let go of them.
+/// rename table and the queues of loads and stores have let go of them. It asks that the cache has the description's sets and
+/// lines, that a call stands alone, and that memory takes the stores.
 pub fn retire<R: RenameTaint>(
     rob: &mut RobRing,
-    rename: &mut R,
+    table: &mut R,
     lsq: &mut Lsq,
     tags: &mut Tags,
     ram: &mut Ram,
@@ -38,7 +39,8 @@ pub fn retire<R: RenameTaint>(
 ) -> Option<End>
     requires room { length row.old.events + 8 ≤ 128 }
     requires empty { piece.old ≡ [] }
-    requires one_description { tags.old.desc ≡ desc.now }
+    requires sets { tags.old.desc.cache_sets ≡ desc.now.cache_sets }
+    requires line { tags.old.desc.cache_line ≡ desc.now.cache_line }
     requires call_alone { CallAlone rob.old.entries }
     requires stores_fit { Each (TakesStore ram.old) rob.old.entries }
     ensures state { (x : Machine) → counted (length rob.old.entries - length rob.new.entries) (with_parts rob.new tags.new ram.new regs.new pc.new result x) ≡ (retires desc.now rob.old tags.old ram.old regs.old pc.old x).machine }
@@ -47,8 +49,8 @@ pub fn retire<R: RenameTaint>(
     ensures left { rob.old.entries ≡ gone rob.old rob.new ++ rob.new.entries }
     ensures may_retire { Each MayRetire (gone rob.old rob.new) }
     ensures same_room { rob.new.room ≡ rob.old.room }
-    ensures names { R.writes rename.new ≡ without_each (gone rob.old rob.new) (R.writes rename.old) }
-    ensures same_names_room { R.room rename.new ≡ R.room rename.old }
+    ensures table { R.writes table.new ≡ without_each (gone rob.old rob.new) (R.writes table.old) }
+    ensures same_table_room { R.room table.new ≡ R.room table.old }
     ensures lsq { lsq.new ≡ popped (gone rob.old rob.new) lsq.old }
     ensures desc { tags.new.desc ≡ tags.old.desc }
     ensures few { length row.new.events ≤ length row.old.events + 8 }
@@ -60,7 +62,7 @@ pub fn retire<R: RenameTaint>(
             Turn::Waits => return None,
             Turn::Traps(cause, at) => return Some(End::Trap(cause, at)),
         };
-        take_out(head.serial, rob, rename, lsq);
+        take_out(head.serial, rob, table, lsq);
         if let Some(end) = commit(&head, tags, ram, regs, pc, desc, row, piece) {
             return Some(end);
         }
@@ -69,15 +71,15 @@ pub fn retire<R: RenameTaint>(
     None
 }
 
-// The head, which has this serial, leaves the reorder buffer, the table of names and the queues of loads and stores.
-fn take_out<R: RenameTaint>(serial: u64, rob: &mut RobRing, rename: &mut R, lsq: &mut Lsq)
+// The head, which has this serial, leaves the reorder buffer, the rename table and the queues of loads and stores.
+fn take_out<R: RenameTaint>(serial: u64, rob: &mut RobRing, table: &mut R, lsq: &mut Lsq)
     requires some { 0 < length rob.old.entries }
     ensures rob { rob.new ≡ record rob.old { entries = drop 1 rob.old.entries } }
-    ensures names { R.writes rename.new ≡ without_retired serial (R.writes rename.old) }
-    ensures same_names_room { R.room rename.new ≡ R.room rename.old }
+    ensures table { R.writes table.new ≡ without_retired serial (R.writes table.old) }
+    ensures same_table_room { R.room table.new ≡ R.room table.old }
     ensures lsq { lsq.new ≡ without serial lsq.old }
 {
     rob.pop_head();
-    rename.retired(serial);
+    table.retired(serial);
     lsq.pop(serial);
 }

@@ -66,7 +66,7 @@ fn the_oldest_take_effect(rt: HostRuntime) -> Result<(), Fail> {
     let alloc = rt.alloc();
     let desc = read_desc(alloc, EXAMPLE.as_bytes())?;
     let mut rob = RobRing::new(alloc, &desc)?;
-    let mut names = ByTable::new(alloc, &desc)?;
+    let mut table = ByTable::new(alloc, &desc)?;
     let mut lsq = Lsq::new(alloc, &desc)?;
     let mut tags = Tags::new(alloc, &desc)?;
     let mut ram = Ram::new(alloc, BASE, 64)?;
@@ -90,11 +90,11 @@ fn the_oldest_take_effect(rt: HostRuntime) -> Result<(), Fail> {
     rob.push(done(3, addi, Kind::Alu, 7, 0, 0));
     rob.push(done(5, sw, Kind::Store, 0, BASE + 36, 0x1234));
     rob.push(done(6, addi, Kind::Alu, 14, 0, 0));
-    names.write(x5(), 3, None);
+    table.write(x5(), 3, None);
     lsq.add_store(5, None);
     tags.fill(BASE + 32);
     let end = retire(
-        &mut rob, &mut names, &mut lsq, &mut tags, &mut ram, &mut regs, &mut pc, &desc, &mut row,
+        &mut rob, &mut table, &mut lsq, &mut tags, &mut ram, &mut regs, &mut pc, &desc, &mut row,
         &mut piece,
     );
     assert_eq!(rt; end, None);
@@ -102,7 +102,7 @@ fn the_oldest_take_effect(rt: HostRuntime) -> Result<(), Fail> {
     assert_eq!(rt; row.events(), events.as_slice());
     assert_eq!(rt; (regs[5], pc, rob.len()), (7, BASE + 8, 1));
     assert_eq!(rt; ram.get(BASE + 36, Width::W), Ok(0x1234));
-    assert_eq!(rt; names.source(x5()), Source::Committed);
+    assert_eq!(rt; table.source(x5()), Source::Committed);
     assert_eq!(rt; lsq.all_older_known(9), true);
     Ok(())
 }
@@ -112,7 +112,7 @@ fn an_exit_retires_and_ends_the_run(rt: HostRuntime) -> Result<(), Fail> {
     let alloc = rt.alloc();
     let desc = read_desc(alloc, EXAMPLE.as_bytes())?;
     let mut rob = RobRing::new(alloc, &desc)?;
-    let mut names = ByScan::new(alloc, &desc)?;
+    let mut table = ByScan::new(alloc, &desc)?;
     let mut lsq = Lsq::new(alloc, &desc)?;
     let mut tags = Tags::new(alloc, &desc)?;
     let mut ram = Ram::new(alloc, BASE, 64)?;
@@ -122,7 +122,7 @@ fn an_exit_retires_and_ends_the_run(rt: HostRuntime) -> Result<(), Fail> {
     regs[17] = 93;
     rob.push(done(4, Instr::Ecall, Kind::Call, 0, 0, 0));
     let end = retire(
-        &mut rob, &mut names, &mut lsq, &mut tags, &mut ram, &mut regs, &mut pc, &desc, &mut row,
+        &mut rob, &mut table, &mut lsq, &mut tags, &mut ram, &mut regs, &mut pc, &desc, &mut row,
         &mut piece,
     );
     assert_eq!(rt; end, Some(End::Exit(3)));

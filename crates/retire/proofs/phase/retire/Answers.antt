@@ -1,64 +1,71 @@
 -- At each exit no turn is left, and each turn of the loop is one head more.
-use Rattle.std.proofs.Common.{sym, ◌∙◌, Some, arith}
+use Rattle.std.proofs.Common.{ap, sym, ◌∙◌, Some, arith}
+use Rattle.machine_desc.specs.declared.Desc.{Desc}
 use Rattle.retire.proofs.Leaving.{Over, ready, retires_start, retires_more, head_inside, over_last, over_waits, over_traps, over_ends}
 use Rattle.retire.proofs.phase.retire.Given as given
 use Rattle.retire.proofs.phase.retire.Goals as goal
 
 pub loop-init : goal.loop-init
-loop-init g c = retires_start _ _ (ready _ _ c.requires.empty c.requires.one_description c.requires.call_alone c.requires.stores_fit)
+loop-init g c = retires_start _ _ (ready _ _ c.requires.empty c.requires.call_alone c.requires.stores_fit)
 
 -- ---- the head waits
 
 pub returns-in-Waits-clause-state : goal.returns-in-Waits-clause-state
 returns-in-Waits-clause-state g c =
-    (over_waits _ _ _ _ _ c.loop.invariant (ready _ _ c.requires.empty c.requires.one_description c.requires.call_alone c.requires.stores_fit) (sym c.turn_at.ensures.turn ∙ c.in-Waits.is)).state
+    (over_waits _ _ _ _ _ c.loop.invariant (ready _ _ c.requires.empty c.requires.call_alone c.requires.stores_fit) (sym c.turn_at.ensures.turn ∙ c.in-Waits.is)).state
 
 pub returns-in-Waits-clause-row : goal.returns-in-Waits-clause-row
 returns-in-Waits-clause-row g c =
-    (over_waits _ _ _ _ _ c.loop.invariant (ready _ _ c.requires.empty c.requires.one_description c.requires.call_alone c.requires.stores_fit) (sym c.turn_at.ensures.turn ∙ c.in-Waits.is)).row
+    (over_waits _ _ _ _ _ c.loop.invariant (ready _ _ c.requires.empty c.requires.call_alone c.requires.stores_fit) (sym c.turn_at.ensures.turn ∙ c.in-Waits.is)).row
 
 pub returns-in-Waits-clause-piece : goal.returns-in-Waits-clause-piece
 returns-in-Waits-clause-piece g c =
-    (over_waits _ _ _ _ _ c.loop.invariant (ready _ _ c.requires.empty c.requires.one_description c.requires.call_alone c.requires.stores_fit) (sym c.turn_at.ensures.turn ∙ c.in-Waits.is)).piece
+    (over_waits _ _ _ _ _ c.loop.invariant (ready _ _ c.requires.empty c.requires.call_alone c.requires.stores_fit) (sym c.turn_at.ensures.turn ∙ c.in-Waits.is)).piece
 
 pub returns-in-Waits-clause-may_retire : goal.returns-in-Waits-clause-may_retire
 returns-in-Waits-clause-may_retire g c =
-    (over_waits _ _ _ _ _ c.loop.invariant (ready _ _ c.requires.empty c.requires.one_description c.requires.call_alone c.requires.stores_fit) (sym c.turn_at.ensures.turn ∙ c.in-Waits.is)).left.may_retire
+    (over_waits _ _ _ _ _ c.loop.invariant (ready _ _ c.requires.empty c.requires.call_alone c.requires.stores_fit) (sym c.turn_at.ensures.turn ∙ c.in-Waits.is)).left.may_retire
 
 -- ---- it traps
 
 pub returns-in-Traps-clause-state : goal.returns-in-Traps-clause-state
 returns-in-Traps-clause-state g c =
-    (over_traps _ _ _ _ _ _ _ c.loop.invariant (ready _ _ c.requires.empty c.requires.one_description c.requires.call_alone c.requires.stores_fit) c.loop-test.true (sym c.turn_at.ensures.turn ∙ c.in-Traps.is)).state
+    (over_traps _ _ _ _ _ _ _ c.loop.invariant (ready _ _ c.requires.empty c.requires.call_alone c.requires.stores_fit) c.loop-test.true (sym c.turn_at.ensures.turn ∙ c.in-Traps.is)).state
 
 pub returns-in-Traps-clause-row : goal.returns-in-Traps-clause-row
 returns-in-Traps-clause-row g c =
-    (over_traps _ _ _ _ _ _ _ c.loop.invariant (ready _ _ c.requires.empty c.requires.one_description c.requires.call_alone c.requires.stores_fit) c.loop-test.true (sym c.turn_at.ensures.turn ∙ c.in-Traps.is)).row
+    (over_traps _ _ _ _ _ _ _ c.loop.invariant (ready _ _ c.requires.empty c.requires.call_alone c.requires.stores_fit) c.loop-test.true (sym c.turn_at.ensures.turn ∙ c.in-Traps.is)).row
 
 pub returns-in-Traps-clause-piece : goal.returns-in-Traps-clause-piece
 returns-in-Traps-clause-piece g c =
-    (over_traps _ _ _ _ _ _ _ c.loop.invariant (ready _ _ c.requires.empty c.requires.one_description c.requires.call_alone c.requires.stores_fit) c.loop-test.true (sym c.turn_at.ensures.turn ∙ c.in-Traps.is)).piece
+    (over_traps _ _ _ _ _ _ _ c.loop.invariant (ready _ _ c.requires.empty c.requires.call_alone c.requires.stores_fit) c.loop-test.true (sym c.turn_at.ensures.turn ∙ c.in-Traps.is)).piece
 
 pub returns-in-Traps-clause-may_retire : goal.returns-in-Traps-clause-may_retire
 returns-in-Traps-clause-may_retire g c =
-    (over_traps _ _ _ _ _ _ _ c.loop.invariant (ready _ _ c.requires.empty c.requires.one_description c.requires.call_alone c.requires.stores_fit) c.loop-test.true (sym c.turn_at.ensures.turn ∙ c.in-Traps.is)).left.may_retire
+    (over_traps _ _ _ _ _ _ _ c.loop.invariant (ready _ _ c.requires.empty c.requires.call_alone c.requires.stores_fit) c.loop-test.true (sym c.turn_at.ensures.turn ∙ c.in-Traps.is)).left.may_retire
 
 -- ---- it retires
+
+pub commit-requires-clause-sets : goal.commit-requires-clause-sets
+commit-requires-clause-sets g c = ap (λ (d : Desc). d.cache_sets) c.loop.invariant.left.desc ∙ c.requires.sets
+
+pub commit-requires-clause-line : goal.commit-requires-clause-line
+commit-requires-clause-line g c = ap (λ (d : Desc). d.cache_line) c.loop.invariant.left.desc ∙ c.requires.line
 
 pub commit-requires-clause-inside : goal.commit-requires-clause-inside
 commit-requires-clause-inside g c = head_inside _ _ _ _ c.loop.invariant.stores (record { turn = sym c.turn_at.ensures.turn ∙ c.in-Leaves.is; head = c.at-head.ensures })
 
 -- and ends the run
 ends : (g : given.Over) (c : goal.In-Some g) → Over c.args.desc.now
-    (record { rob = c.args.rob.now; writes = g.R.RenameTaint.writes c.args.rename.now; names_room = g.R.RenameTaint.room c.args.rename.now; queues = c.args.lsq.now; tags = c.args.tags.now; ram = c.args.ram.now; regs = c.args.regs.now; pc = c.args.pc.now; row = c.args.row.now; piece = c.args.piece.now })
+    (record { rob = c.args.rob.now; writes = g.R.RenameTaint.writes c.args.table.now; table_room = g.R.RenameTaint.room c.args.table.now; queues = c.args.lsq.now; tags = c.args.tags.now; ram = c.args.ram.now; regs = c.args.regs.now; pc = c.args.pc.now; row = c.args.row.now; piece = c.args.piece.now })
     (Some c.in-Some.end)
-    (record { rob = c.take_out.new.rob; writes = g.R.RenameTaint.writes c.take_out.new.rename; names_room = g.R.RenameTaint.room c.take_out.new.rename; queues = c.take_out.new.lsq; tags = c.commit.new.tags; ram = c.commit.new.ram; regs = c.commit.new.regs; pc = c.commit.new.pc; row = c.commit.new.row; piece = c.commit.new.piece })
+    (record { rob = c.take_out.new.rob; writes = g.R.RenameTaint.writes c.take_out.new.table; table_room = g.R.RenameTaint.room c.take_out.new.table; queues = c.take_out.new.lsq; tags = c.commit.new.tags; ram = c.commit.new.ram; regs = c.commit.new.regs; pc = c.commit.new.pc; row = c.commit.new.row; piece = c.commit.new.piece })
 ends g c =
-    over_ends _ _ _ _ _ _ c.at-head.result _ c.loop.invariant (ready _ _ c.requires.empty c.requires.one_description c.requires.call_alone c.requires.stores_fit) c.loop-test.true (record { turn = sym c.turn_at.ensures.turn ∙ c.in-Leaves.is; head = c.at-head.ensures })
+    over_ends _ _ _ _ _ _ c.at-head.result _ c.loop.invariant (ready _ _ c.requires.empty c.requires.call_alone c.requires.stores_fit) c.loop-test.true (record { turn = sym c.turn_at.ensures.turn ∙ c.in-Leaves.is; head = c.at-head.ensures })
     (record {
       rob = c.take_out.ensures.rob;
-      names = c.take_out.ensures.names;
-      names_room = c.take_out.ensures.same_names_room;
+      table = c.take_out.ensures.table;
+      table_room = c.take_out.ensures.same_table_room;
       queues = c.take_out.ensures.lsq;
       state = c.in-Some.ensures.state;
       row = c.in-Some.ensures.row;
@@ -83,8 +90,8 @@ returns-in-Some-clause-left g c = (ends g c).left.window
 pub returns-in-Some-clause-may_retire : goal.returns-in-Some-clause-may_retire
 returns-in-Some-clause-may_retire g c = (ends g c).left.may_retire
 
-pub returns-in-Some-clause-names : goal.returns-in-Some-clause-names
-returns-in-Some-clause-names g c = (ends g c).left.names
+pub returns-in-Some-clause-table : goal.returns-in-Some-clause-table
+returns-in-Some-clause-table g c = (ends g c).left.table
 
 pub returns-in-Some-clause-lsq : goal.returns-in-Some-clause-lsq
 returns-in-Some-clause-lsq g c = (ends g c).left.queues
@@ -95,8 +102,8 @@ loop-preserved g c =
     retires_more _ _ _ _ _ _ c.at-head.result _ c.loop.invariant c.loop-test.true (record { turn = sym c.turn_at.ensures.turn ∙ c.in-Leaves.is; head = c.at-head.ensures })
     (record {
       rob = c.take_out.ensures.rob;
-      names = c.take_out.ensures.names;
-      names_room = c.take_out.ensures.same_names_room;
+      table = c.take_out.ensures.table;
+      table_room = c.take_out.ensures.same_table_room;
       queues = c.take_out.ensures.lsq;
       state = c.in_default.ensures.state;
       row = c.in_default.ensures.row;
@@ -110,4 +117,4 @@ loop-preserved g c =
 -- ---- the width is reached
 
 pub returns-clause-may_retire : goal.returns-clause-may_retire
-returns-clause-may_retire g c = (over_last _ _ _ _ _ c.loop.invariant (ready _ _ c.requires.empty c.requires.one_description c.requires.call_alone c.requires.stores_fit) (omega arith)).left.may_retire
+returns-clause-may_retire g c = (over_last _ _ _ _ _ c.loop.invariant (ready _ _ c.requires.empty c.requires.call_alone c.requires.stores_fit) (omega arith)).left.may_retire

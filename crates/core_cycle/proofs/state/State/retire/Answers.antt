@@ -1,5 +1,6 @@
 use Rattle.std.proofs.Common.{ap, ◌∙◌, arith}
 use Rattle.circular_buffer.specs.Buffer.{buffer, keep_last}
+use Rattle.machine_desc.specs.declared.Desc.{Desc}
 use Rattle.core_cycle.specs.Described.{Described}
 use Rattle.core_cycle.proofs.Moving.{retire_goes_on}
 use Rattle.core_cycle.proofs.Retiring.{each_takes, retire_whole, retire_shown, retire_row, retire_piece}
@@ -7,6 +8,12 @@ use Rattle.core_cycle.proofs.state.State.retire.Goals as goal
 
 pub retire-self-inside-requires-clause-stores_fit : goal.retire-self-inside-requires-clause-stores_fit
 retire-self-inside-requires-clause-stores_fit g c = each_takes _ _ c.self.invariant.sized.memory c.self.invariant.sized.outcomes
+
+pub retire-self-inside-requires-clause-sets : goal.retire-self-inside-requires-clause-sets
+retire-self-inside-requires-clause-sets g c = ap (λ (d : Desc). d.cache_sets) c.self.invariant.made.tags
+
+pub retire-self-inside-requires-clause-line : goal.retire-self-inside-requires-clause-line
+retire-self-inside-requires-clause-line g c = ap (λ (d : Desc). d.cache_line) c.self.invariant.made.tags
 
 pub invariant_of-self : goal.invariant_of-self
 invariant_of-self g c =
@@ -17,8 +24,8 @@ invariant_of-self g c =
       same_room = c.retire-self-inside.ensures.same_room;
       pairs = c.truncate_front.ensures ∙ ap (λ n. buffer (keep_last n c.self.inside.roots.items) c.self.inside.roots.capacity) c.len-left.ensures.len;
       sources = c.truncate_front-2.ensures ∙ ap (λ n. buffer (keep_last n c.self.inside.writers.items) c.self.inside.writers.capacity) c.len-left.ensures.len;
-      names = c.retire-self-inside.ensures.names;
-      same_table_room = c.retire-self-inside.ensures.same_names_room;
+      table = c.retire-self-inside.ensures.table;
+      same_table_room = c.retire-self-inside.ensures.same_table_room;
       lsq = c.retire-self-inside.ensures.lsq;
       cache = c.retire-self-inside.ensures.desc;
       count = omega (arith, c.saturating_sub.ensures, c.len-left.ensures.len, c.len-before.ensures.len);
