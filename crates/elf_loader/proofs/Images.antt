@@ -9,7 +9,7 @@ use Rattle.rv_types.specs.Memory.{Ram, zeros, bytes_at}
 use Rattle.rv_types.specs.Word.{from_le}
 use Rattle.elf_loader.specs.declared.faults.ElfFault.{ElfFault}
 use Rattle.elf_loader.specs.Faults.{first_some, header_fault}
-use Rattle.elf_loader.specs.Image.{ram_fault, image_in, unless, image_of, code_of, has_code, loads_of}
+use Rattle.elf_loader.specs.Image.{ImageText, ram_fault, ram_after, image_in, unless, image_of, code_of, has_code, loads_of}
 use Rattle.elf_loader.specs.Code.{CodeText, word_at, IsCode}
 use Rattle.elf_loader.proofs.Marked.{no_code_outside}
 
@@ -51,6 +51,23 @@ code_aligned code pc h = whole_by (pc % 4) (nat_le code.base pc) (get_or code.wo
 pub code_of_aligned : (file : List ℕ) (ram : Ram) (pc : ℕ) → IsSome (code_of file ram pc) → pc % 4 ≡ 0
 unfolding code_of
 code_of_aligned file ram pc h = whole_by (pc % 4) (list_any (has_code pc) (loads_of file)) (Some (from_le (bytes_at ram pc 4))) (pc % 4 == 0) refl h
+
+by_fault : (o : Option ElfFault) (i x : ImageText) → unless o i ≡ Ok x → i ≡ x
+by_fault None i x e = cc
+by_fault (Some f) i x e = absurd (cc)
+
+some_is : {T : Type 0} (o : Option T) (t : T) → o ≡ Some t → IsSome o
+some_is None t e = absurd (cc)
+some_is (Some u) t e = refl
+
+-- an image's instructions stand at multiples of 4
+pub at_words : (file : List ℕ) (base size : ℕ) (image : ImageText) → image_of file base size ≡ Ok image → (pc word : ℕ) → image.code pc ≡ Some word → pc % 4 ≡ 0
+unfolding image_of
+at_words file base size image e pc word h =
+    let ram : Ram = record { base = base; bytes = zeros size } in
+    let same : image_in file ram ≡ image = by_fault (first_some (header_fault file ∷ ram_fault file ram ∷ [])) (image_in file ram) image e in
+    let code : code_of file (ram_after file ram) pc ≡ image.code pc = ap (λ (x : ImageText). x.code pc) same in
+    code_of_aligned file (ram_after file ram) pc (some_is _ word (code ∙ h))
 
 low_by : (base pc : ℕ) (x : Option ℕ) (whole low : Bool) → nat_le base pc ≡ low → IsSome (cond (whole && low) x None) → (base ≤ pc) × IsSome x
 low_by base pc x true true e h = (grind (arith, nat_tests), h)

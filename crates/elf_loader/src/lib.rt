@@ -8,6 +8,7 @@ mod faults;
 mod fetchable;
 mod fields;
 mod headers;
+mod laws;
 mod loading;
 mod parts;
 mod unwritten;
@@ -15,6 +16,7 @@ mod unwritten;
 pub use faults::ElfFault;
 pub use fetchable::Code;
 pub use headers::segments;
+pub use laws::instructions_stand_at_words;
 pub use loading::{Image, load};
 pub use parts::{Segment, Segments};
 

@@ -1,5 +1,5 @@
 -- A machine's run keeps its promises: by the laws of committed state, progress and noninterference.
-use Rattle.std.proofs.Common.{◌≡◌, ◌≤◌, ℕ, List, [], Option, Some, None, sym, ap, ◌∙◌, subst}
+use Rattle.std.proofs.Common.{◌≡◌, ◌≤◌, ℕ, List, [], Option, Some, None, Result, sym, ap, ◌∙◌, subst}
 use Rattle.rv_types.specs.Memory.{Code}
 use Rattle.rv_types.specs.Isa.{Run, start}
 use Rattle.elf_loader.specs.Image.{ImageText}
@@ -17,9 +17,13 @@ use Rattle.tool_words.specs.Words.{CommandText, isa_text, run_text, trace_text, 
 use Rattle.stt_cli.specs.Input.{HasDesc}
 use Rattle.stt_cli.specs.Clocking.{run_from}
 use Rattle.stt_cli.specs.Running.{opening_of, trace_of}
-use Rattle.stt_cli.specs.Top.{Runs, Statuses, work_of}
+use Rattle.stt_cli.specs.declared.outcome.Ended.{Ended}
+use Rattle.stt_cli.specs.declared.outcome.Refusal.{Refusal}
+use Rattle.stt_cli.specs.Outcome.{status_of}
+use Rattle.stt_cli.specs.Top.{Runs, Ends, Statuses, work_of}
 use Rattle.stt_cli.specs.Promises.{Commits, MovesOn, Hides, Keeps, Promises, TracesAgree, retired_run, state_at}
 use Rattle.stt_cli.proofs.Images.{image_aligned}
+use Rattle.stt_cli.proofs.Statuses.{statuses_at}
 
 -- ---- Committed state
 
@@ -58,11 +62,11 @@ hides d image n out out' al w = record {
   agreeing = λ m agree. subst (λ t. Wrote (text.trace_text t) out out') (sym (same_trace d image.code image.entry image.ram m n al agree)) w;
 }
 
--- two images with one entry and code, whose memories agree on what the path loads, have one trace
+-- two files' images with one entry and code, whose memories agree on what the path loads, have one trace
 pub traces_agree : TracesAgree
-traces_agree d one two n al e c agree =
+traces_agree d a b one two n f g e c agree =
     let first : trace_of d two n ≡ trace d one.code one.entry two.ram n = ap (λ (x : ℕ). trace d two.code x two.ram n) e ∙ ap (λ (x : Code). trace d x one.entry two.ram n) c in
-    ap text.trace_text (first ∙ same_trace d one.code one.entry one.ram two.ram n al agree)
+    ap text.trace_text (first ∙ same_trace d one.code one.entry one.ram two.ram n (image_aligned a _ _ one f) agree)
 
 -- ---- The program
 
@@ -89,3 +93,8 @@ pub promises : (words : List (List ℕ)) (old new : Shelf) (out out' : Told) (st
 promises words old new out out' status s = record {
   kept = λ h. let a = s.ran h in let p = a.2 in (a.0, a.1, (p.0, p.1, p.2, keeps a.0 old new p.0 p.1 out out' p.2 p.3));
 }
+
+-- so does the program, with the status of how it ended
+pub promises_at : (words : List (List ℕ)) (old new : Shelf) (out out' : Told) (r : Result Ended Refusal) (status : ℕ) → Ends words old new out out' r → status ≡ status_of r
+    → Promises words old new out out' status
+promises_at words old new out out' r status e s = promises words old new out out' status (statuses_at words old new out out' r status e s)

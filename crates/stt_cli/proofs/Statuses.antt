@@ -7,13 +7,12 @@ use Rattle.machine_desc.specs.declared.Desc.{Desc}
 use Rattle.machine_desc.specs.declared.fault.DescFault.{DescFault}
 use Rattle.tool_io.specs.Outside.{Told, Shelf, Wrote, WrotePart, SameCounts, NameFailed, Rose}
 use Rattle.tool_words.specs.Words.{CommandText, command_of}
-use Rattle.stt_cli.specs.declared.reading.TheConstants.{DESCRIPTION_MAX, IMAGE_MAX}
 use Rattle.stt_cli.specs.declared.outcome.Ended.{Ended}
 use Rattle.stt_cli.specs.declared.outcome.Ended.TheVariants.{Exit, Trap, Budget}
 use Rattle.stt_cli.specs.declared.outcome.Refusal.{Refusal}
 use Rattle.stt_cli.specs.declared.outcome.Refusal.TheVariants.{Words, ReadDescription, DescriptionTooLong, Description, ReadImage, ImageTooLong, Image, Write, Memory}
 use Rattle.stt_cli.specs.Outcome.{ended_of, status_of}
-use Rattle.stt_cli.specs.Input.{ImageFrom, from_file, from_seed, HasBytes, MayHold, MayBeLonger, HasDesc, DescriptionRefused, NamedRefused, ImageRefused, FileRefused, IsInput, base_of, size_of}
+use Rattle.stt_cli.specs.Input.{description_max, image_max, ImageFrom, from_file, from_seed, HasBytes, MayHold, MayBeLonger, HasDesc, DescriptionRefused, NamedRefused, ImageRefused, FileRefused, IsInput, base_of, size_of}
 use Rattle.stt_cli.specs.Top.{Asks, Runs, NoImage, Performs, Ends, Statuses, image_from, description_name, work_of, IsFaultyDescription, IsTooLong, IsFaultyImage, TellsDesc, TellsBytes, CountRose, IsNamed, IsFile}
 use Rattle.stt_cli.proofs.Told.{told_bytes, told_longer, told_desc, not_both}
 
@@ -94,16 +93,16 @@ named (Some name) old new e h = (name, refl, h)
 
 longer_description : (words : List (List ℕ)) (old new : Shelf) (out out' : Told) → Asks words (λ command. Performs command old new out out' (Err DescriptionTooLong))
     → Asks words (λ command. (name : List ℕ) × IsNamed (description_name command) name
-    × (MayBeLonger old name DESCRIPTION_MAX ⊎ ((text : List ℕ) × (fault : DescFault) × MayHold old name DESCRIPTION_MAX text × (description_of text ≡ Err fault))))
+    × (MayBeLonger old name description_max ⊎ ((text : List ℕ) × (fault : DescFault) × MayHold old name description_max text × (description_of text ≡ Err fault))))
 longer_description words old new out out' a = let n = named (description_name a.0) old new DescriptionTooLong a.2.0 in (a.0, a.1, (n.0, n.1, inl n.2.0))
 
 no_description : (words : List (List ℕ)) (old new : Shelf) (out out' : Told) (f : DescFault) → Asks words (λ command. Performs command old new out out' (Err (Description f)))
     → Asks words (λ command. (name : List ℕ) × IsNamed (description_name command) name
-    × (MayBeLonger old name DESCRIPTION_MAX ⊎ ((text : List ℕ) × (fault : DescFault) × MayHold old name DESCRIPTION_MAX text × (description_of text ≡ Err fault))))
+    × (MayBeLonger old name description_max ⊎ ((text : List ℕ) × (fault : DescFault) × MayHold old name description_max text × (description_of text ≡ Err fault))))
 no_description words old new out out' f a = let n = named (description_name a.0) old new (Description f) a.2.0 in (a.0, a.1, (n.0, n.1, inr (n.2.0, f, n.2.1, n.2.2)))
 
 four : (words : List (List ℕ)) (old new : Shelf) (out out' : Told) (r : Result Ended Refusal) → Ends words old new out out' r → status_of r ≡ 4 → Asks words (λ command. (name : List ℕ) × IsNamed (description_name command) name
-    × (MayBeLonger old name DESCRIPTION_MAX ⊎ ((text : List ℕ) × (fault : DescFault) × MayHold old name DESCRIPTION_MAX text × (description_of text ≡ Err fault))))
+    × (MayBeLonger old name description_max ⊎ ((text : List ℕ) × (fault : DescFault) × MayHold old name description_max text × (description_of text ≡ Err fault))))
 four words old new out out' (Ok Exit) e h = absurd (omega arith)
 four words old new out out' (Ok Trap) e h = absurd (omega arith)
 four words old new out out' (Ok Budget) e h = absurd (omega arith)
@@ -125,7 +124,7 @@ filed (from_file name) old new e h = (name, refl, h)
 filed (from_seed seed blocks) old new e h = absurd h
 
 five : (words : List (List ℕ)) (old new : Shelf) (out out' : Told) (r : Result Ended Refusal) → Ends words old new out out' r → status_of r ≡ 5 → Asks words (λ command. (desc : Option Desc) × HasDesc old (description_name command) desc
-    × (((name : List ℕ) × IsFile (image_from command) name × MayBeLonger old name IMAGE_MAX)
+    × (((name : List ℕ) × IsFile (image_from command) name × MayBeLonger old name image_max)
     ⊎ ((file : List ℕ) × (fault : ElfFault) × HasBytes old (image_from command) file × (image_of file (base_of desc) (size_of desc) ≡ Err fault))))
 five words old new out out' (Ok Exit) e h = absurd (omega arith)
 five words old new out out' (Ok Trap) e h = absurd (omega arith)
@@ -225,13 +224,13 @@ no_desc : (shelf : Shelf) (d : Option (List ℕ)) (desc : Option Desc) (name tex
 no_desc shelf d desc name text e t m (inl longer) =
     let P : Option (List ℕ) → Type 0 = λ x. HasDesc shelf x desc in
     let h : HasDesc shelf (Some name) desc = subst P e m in
-    let b = told_bytes (shelf.content name) DESCRIPTION_MAX text h.0 t h.2 in
-    let short : length text ≤ DESCRIPTION_MAX = b.1 in
+    let b = told_bytes (shelf.content name) description_max text h.0 t h.2 in
+    let short : length text ≤ description_max = b.1 in
     omega (arith, short, longer)
 no_desc shelf d desc name text e t m (inr f) =
     let P : Option (List ℕ) → Type 0 = λ x. HasDesc shelf x desc in
     let h : HasDesc shelf (Some name) desc = subst P e m in
-    not_both text h.0 h.1 f.0 (told_bytes (shelf.content name) DESCRIPTION_MAX text h.0 t h.2).0 h.3 f.1
+    not_both text h.0 h.1 f.0 (told_bytes (shelf.content name) description_max text h.0 t h.2).0 h.3 f.1
 
 faulty_description : (words : List (List ℕ)) (old new : Shelf) (out out' : Told) (r : Result Ended Refusal) → Ends words old new out out' r → (command : CommandText) (name text : List ℕ) → command_of words ≡ Some command → IsNamed (description_name command) name
     → old.content name ≡ Some text → IsFaultyDescription text → (status_of r ≡ 4) ⊎ ((status_of r ≡ 6) ⊎ (status_of r ≡ 8))
@@ -254,22 +253,22 @@ faulty_description words old new out out' (Err Memory) e command name text k m t
 not_longer : (shelf new : Shelf) (d : Option (List ℕ)) (desc : Option Desc) → TellsDesc shelf d desc → NamedRefused d shelf new DescriptionTooLong → ⊥
 not_longer shelf new None desc t h = h
 not_longer shelf new (Some name) desc t h =
-    let longer : DESCRIPTION_MAX < length t.0 = told_longer (shelf.content name) DESCRIPTION_MAX t.0 t.2 h.0 in
-    let short : length t.0 ≤ DESCRIPTION_MAX = t.3 in
+    let longer : description_max < length t.0 = told_longer (shelf.content name) description_max t.0 t.2 h.0 in
+    let short : length t.0 ≤ description_max = t.3 in
     omega (arith, short, longer)
 
 -- and has no fault
 not_refused : (shelf new : Shelf) (d : Option (List ℕ)) (desc : Option Desc) (f : DescFault) → TellsDesc shelf d desc → NamedRefused d shelf new (Description f) → ⊥
 not_refused shelf new None desc f t h = h
 not_refused shelf new (Some name) desc f t h =
-    let e : t.0 ≡ h.0 = sym (told_bytes (shelf.content name) DESCRIPTION_MAX t.0 h.0 t.2 h.1).0 in
+    let e : t.0 ≡ h.0 = sym (told_bytes (shelf.content name) description_max t.0 h.0 t.2 h.1).0 in
     not_both h.0 t.0 t.1 f e t.4 h.2
 
 -- the bytes that are told are those that a command had
 same_bytes : (shelf : Shelf) (image : ImageFrom) (file file' : List ℕ) → TellsBytes shelf image file → HasBytes shelf image file' → (file' ≡ file) × (IsTooLong image file → ⊥)
 same_bytes shelf (from_file name) file file' t h =
-    let b = told_bytes (shelf.content name) IMAGE_MAX file file' t h in
-    let short : length file ≤ IMAGE_MAX = b.1 in
+    let b = told_bytes (shelf.content name) image_max file file' t h in
+    let short : length file ≤ image_max = b.1 in
     (b.0, λ longer. omega (arith, short, longer))
 same_bytes shelf (from_seed seed blocks) file file' t h = (h ∙ sym t, λ longer. longer)
 
@@ -312,7 +311,7 @@ no_fault command old new f desc file image r m t i =
 
 -- and are not more than one may have
 short_image : (old new : Shelf) (image : ImageFrom) (file : List ℕ) → TellsBytes old image file → (IsTooLong image file → ⊥) → FileRefused image old new ImageTooLong → ⊥
-short_image old new (from_file name) file t l h = l (told_longer (old.content name) IMAGE_MAX file t h.0)
+short_image old new (from_file name) file t l h = l (told_longer (old.content name) image_max file t h.0)
 short_image old new (from_seed seed blocks) file t l h = h
 
 faulty_image : (words : List (List ℕ)) (old new : Shelf) (out out' : Told) (r : Result Ended Refusal) → Ends words old new out out' r → (command : CommandText) (desc : Option Desc) (file : List ℕ) → command_of words ≡ Some command
@@ -376,3 +375,8 @@ statuses words old new out out' r e = record {
   nothing = nothing words old new out out' r e;
   complete = complete words old new out out' r e;
 }
+
+-- so for the status that is answered
+pub statuses_at : (words : List (List ℕ)) (old new : Shelf) (out out' : Told) (r : Result Ended Refusal) (status : ℕ) → Ends words old new out out' r → status ≡ status_of r
+    → Statuses words old new out out' status
+statuses_at words old new out out' r status e s = let P : ℕ → Type 0 = Statuses words old new out out' in subst P (sym s) (statuses words old new out out' r e)

@@ -5,11 +5,10 @@ use Rattle.machine_desc.specs.declared.Desc.{Desc}
 use Rattle.machine_desc.specs.declared.fault.DescFault.{DescFault}
 use Rattle.tool_io.specs.declared.Got.TheVariants.{Bytes, TooLong}
 use Rattle.tool_io.specs.Outside.{Shelf, GetsTold, SameCounts, SameContents, NameFailed, Rose}
-use Rattle.stt_cli.specs.declared.reading.TheConstants.{DESCRIPTION_MAX, IMAGE_MAX}
 use Rattle.stt_cli.specs.declared.outcome.Refusal.{Refusal}
 use Rattle.stt_cli.specs.declared.outcome.Refusal.TheVariants.{ReadImage, ImageTooLong, Memory}
 use Rattle.machine_desc.proofs.SameDesc.{one_description}
-use Rattle.stt_cli.specs.Input.{HasDesc, ImageRefused, InputRefused, from_file}
+use Rattle.stt_cli.specs.Input.{description_max, image_max, HasDesc, ImageRefused, InputRefused, from_file}
 use Rattle.stt_cli.specs.Top.{TellsDesc}
 
 -- what was read is what is told
@@ -34,7 +33,7 @@ told_longer (Some x) max told t g =
 pub told_desc : (shelf : Shelf) (description : Option (List ℕ)) (desc desc' : Option Desc) → TellsDesc shelf description desc → HasDesc shelf description desc' → desc' ≡ desc
 told_desc shelf None desc desc' t h = h ∙ sym t
 told_desc shelf (Some name) desc desc' t h =
-    let e : h.0 ≡ t.0 = (told_bytes (shelf.content name) DESCRIPTION_MAX t.0 h.0 t.2 h.2).0 in
+    let e : h.0 ≡ t.0 = (told_bytes (shelf.content name) description_max t.0 h.0 t.2 h.2).0 in
     let P : List ℕ → Type 0 = λ x. Describes x h.1 in
     let one : h.1 ≡ t.1 = one_description t.0 h.1 t.1 (subst P e h.3) t.4 in
     h.4 ∙ (ap Some one ∙ sym t.5)
@@ -61,7 +60,7 @@ pub image_refused : (old mid new : Shelf) (image : List ℕ) (description : Opti
     → SameContents old mid → ImageRefused image mid new e → InputRefused (from_file image) description old new e
 image_refused old mid new image description desc ReadImage d s c h = (desc, d, failed_after image old mid new s h)
 image_refused old mid new image description desc ImageTooLong d s c h =
-    let P : Option (List ℕ) → Type 0 = λ o. GetsTold o IMAGE_MAX TooLong in
+    let P : Option (List ℕ) → Type 0 = λ o. GetsTold o image_max TooLong in
     (desc, d, (subst P (c image) h.0, counts_after old mid new s h.1))
 image_refused old mid new image description desc Memory d s c h = counts_after old mid new s h
 image_refused old mid new image description desc _ d s c h = absurd h

@@ -10,12 +10,17 @@ use Rattle.machine_desc.specs.Description.{description_of, Describes}
 use Rattle.machine_desc.specs.declared.Desc.{Desc}
 use Rattle.tool_io.specs.declared.Got.TheVariants.{Bytes, TooLong}
 use Rattle.tool_io.specs.Outside.{Shelf, GetsTold, SameCounts, NameFailed}
-use Rattle.stt_cli.specs.declared.region.TheConstants.{RAM_BASE, RAM_SIZE}
-use Rattle.stt_cli.specs.declared.reading.TheConstants.{DESCRIPTION_MAX, IMAGE_MAX}
 use Rattle.stt_cli.specs.declared.reading.Unread.{Unread}
 use Rattle.stt_cli.specs.declared.reading.Unread.TheVariants.{Failed as ReadFailed, TooLong as TooMany, NoMemory}
 use Rattle.stt_cli.specs.declared.outcome.Refusal.{Refusal}
 use Rattle.stt_cli.specs.declared.outcome.Refusal.TheVariants.{ReadDescription, DescriptionTooLong, Description, ReadImage, ImageTooLong, Image as NoImage, Memory}
+
+-- the most bytes of a description, and of an image (docs/formats.md, "Words")
+abbrev pub description_max : ℕ
+description_max = 65536
+
+abbrev pub image_max : ℕ
+image_max = 33554432
 
 -- these may be the bytes under a name, of which there are at most so many: all that is told of them is so
 abbrev pub MayHold : Shelf → List ℕ → ℕ → List ℕ → Type 0
@@ -28,20 +33,21 @@ pub data ImageFrom : Type 0 where
 
 -- these are an image's bytes: such as the file may hold, or those that are generated
 abbrev pub HasBytes : Shelf → ImageFrom → List ℕ → Type 0
-HasBytes shelf (from_file name) file = MayHold shelf name IMAGE_MAX file
+HasBytes shelf (from_file name) file = MayHold shelf name image_max file
 HasBytes shelf (from_seed seed blocks) file = file ≡ generated_image seed blocks
 
 -- there may be more bytes under a name
 abbrev pub MayBeLonger : Shelf → List ℕ → ℕ → Type 0
 MayBeLonger shelf name max = GetsTold (shelf.content name) max TooLong
 
--- where the memory of a run begins, and its size: those of its description, or the usual ones
+-- where the memory of a run begins, and its size: those of its description, or without one 1 MiB from 0x00010000 on
+-- (docs/formats.md, "Words")
 abbrev pub base_of : Option Desc → ℕ
-base_of None = RAM_BASE
+base_of None = 65536
 base_of (Some d) = d.ram_base
 
 abbrev pub size_of : Option Desc → ℕ
-size_of None = RAM_SIZE
+size_of None = 1048576
 size_of (Some d) = d.ram_size
 
 -- why a text is refused as a description
@@ -53,7 +59,7 @@ TextRefused text _ = ⊥
 -- a run has this description: none, or that which the file named may hold
 abbrev pub HasDesc : Shelf → Option (List ℕ) → Option Desc → Type 0
 HasDesc shelf None desc = desc ≡ None
-HasDesc shelf (Some name) desc = (text : List ℕ) × (d : Desc) × MayHold shelf name DESCRIPTION_MAX text × Describes text d × (desc ≡ Some d)
+HasDesc shelf (Some name) desc = (text : List ℕ) × (d : Desc) × MayHold shelf name description_max text × Describes text d × (desc ≡ Some d)
 
 -- why a file of at most so many bytes isn't read; `old` and `new` are what the files tell before and after
 abbrev pub UnreadBy : List ℕ → ℕ → Shelf → Shelf → Unread → Type 0
@@ -64,9 +70,9 @@ UnreadBy name max old new NoMemory = SameCounts old new
 -- why a description is refused
 abbrev pub DescriptionRefused : List ℕ → Shelf → Shelf → Refusal → Type 0
 DescriptionRefused name old new ReadDescription = NameFailed name old new
-DescriptionRefused name old new DescriptionTooLong = MayBeLonger old name DESCRIPTION_MAX × SameCounts old new
+DescriptionRefused name old new DescriptionTooLong = MayBeLonger old name description_max × SameCounts old new
 DescriptionRefused name old new (Description fault) =
-    (text : List ℕ) × MayHold old name DESCRIPTION_MAX text × (description_of text ≡ Err fault) × SameCounts old new
+    (text : List ℕ) × MayHold old name description_max text × (description_of text ≡ Err fault) × SameCounts old new
 DescriptionRefused name old new Memory = SameCounts old new
 DescriptionRefused name old new _ = ⊥
 
@@ -78,7 +84,7 @@ NamedRefused (Some name) old new refusal = DescriptionRefused name old new refus
 -- why reading an image is refused
 abbrev pub ImageRefused : List ℕ → Shelf → Shelf → Refusal → Type 0
 ImageRefused name old new ReadImage = NameFailed name old new
-ImageRefused name old new ImageTooLong = MayBeLonger old name IMAGE_MAX × SameCounts old new
+ImageRefused name old new ImageTooLong = MayBeLonger old name image_max × SameCounts old new
 ImageRefused name old new Memory = SameCounts old new
 ImageRefused name old new _ = ⊥
 

@@ -1,15 +1,15 @@
 -- What may be relied on of a machine's run besides its text: what it has retired, how soon, and what it shows
 -- (docs/theorems.md, "Committed state", "Progress", "Noninterference").
-use Rattle.std.specs.Prelude.{◌≡◌, ℕ, ◌+◌, ◌*◌, ◌<◌, ◌≤◌, ◌⊎◌, List, Option, Some, None}
+use Rattle.std.specs.Prelude.{◌≡◌, ℕ, ◌+◌, ◌*◌, ◌<◌, ◌≤◌, ◌⊎◌, List, Option, Some, None, Ok}
 use Rattle.rv_types.specs.Isa.{Run}
 use Rattle.rv_types.specs.Memory.{Ram, Agree}
-use Rattle.elf_loader.specs.Image.{ImageText}
+use Rattle.elf_loader.specs.Image.{ImageText, image_of}
 use Rattle.machine_desc.specs.declared.Desc.{Desc}
 use Rattle.machine_desc.specs.Ranges.{bound}
 use Rattle.window_model.specs.State.{Machine}
 use Rattle.window_model.specs.Cycle.{at}
 use Rattle.window_model.specs.Path.{reads_of_trace}
-use Rattle.window_model.specs.Committed.{Aligned, exit_of, TrapsNext}
+use Rattle.window_model.specs.Committed.{exit_of, TrapsNext}
 use Rattle.report_text.specs.Report.{report_text}
 use Rattle.trace_text.specs.TraceText as trace
 use Rattle.tool_io.specs.Outside.{Told, Shelf, Wrote}
@@ -54,10 +54,14 @@ with_memory image m = record image { ram = m }
 pub record Hides (d : Desc) (image : ImageText) (n : ℕ) (out out' : Told) : Type 0 where
   pub agreeing : (m : Ram) → Agree image.ram m (reads_of_trace d image.code image.entry image.ram n) → Wrote (trace.trace_text (trace_of d (with_memory image m) n)) out out'
 
--- two images with one entry and code, whose memories so agree, have one trace
+-- the file is accepted under the description, and this is its image
+abbrev pub IsImageOf : Desc → List ℕ → ImageText → Type 0
+IsImageOf d file image = image_of file d.ram_base d.ram_size ≡ Ok image
+
+-- two files' images with one entry and code, whose memories so agree, have one trace
 abbrev pub TracesAgree : Type 0
-TracesAgree = (d : Desc) (one two : ImageText) (n : ℕ) → Aligned one.code → two.entry ≡ one.entry → two.code ≡ one.code
-    → Agree one.ram two.ram (reads_of_trace d one.code one.entry one.ram n) → trace.trace_text (trace_of d two n) ≡ trace.trace_text (trace_of d one n)
+TracesAgree = (d : Desc) (a b : List ℕ) (one two : ImageText) (n : ℕ) → IsImageOf d a one → IsImageOf d b two → two.entry ≡ one.entry
+    → two.code ≡ one.code → Agree one.ram two.ram (reads_of_trace d one.code one.entry one.ram n) → trace.trace_text (trace_of d two n) ≡ trace.trace_text (trace_of d one n)
 
 -- ---- The program
 

@@ -8,13 +8,12 @@ use Rattle.machine_desc.specs.declared.Desc.{Desc}
 use Rattle.machine_desc.specs.declared.fault.DescFault.{DescFault}
 use Rattle.tool_io.specs.Outside.{Told, Shelf, Wrote, WrotePart, SameCounts, NameFailed, Rose}
 use Rattle.tool_words.specs.Words.{CommandText, command_of, isa_text, run_text, trace_text, bench_text}
-use Rattle.stt_cli.specs.declared.reading.TheConstants.{DESCRIPTION_MAX, IMAGE_MAX}
 use Rattle.stt_cli.specs.declared.outcome.Ended.{Ended}
 use Rattle.stt_cli.specs.declared.outcome.Refusal.{Refusal}
 use Rattle.stt_cli.specs.declared.outcome.Refusal.TheVariants.{Words, Image, Write, Memory}
 use Rattle.stt_cli.specs.Outcome.{ended_of, status_of}
 use Rattle.gen_image.specs.Generated.{generated_image}
-use Rattle.stt_cli.specs.Input.{ImageFrom, from_file, from_seed, HasBytes, HasDesc, MayHold, MayBeLonger, InputRefused, IsInput, base_of, size_of}
+use Rattle.stt_cli.specs.Input.{description_max, image_max, ImageFrom, from_file, from_seed, HasBytes, HasDesc, MayHold, MayBeLonger, InputRefused, IsInput, base_of, size_of}
 use Rattle.stt_cli.specs.Running.{Work, isa_work, run_work, trace_work}
 
 -- ---- Commands
@@ -83,11 +82,11 @@ Ends words old new out out' result = Asks words (λ command. Performs command ol
 
 -- a text is longer than a description may be, or is none
 abbrev pub IsFaultyDescription : List ℕ → Type 0
-IsFaultyDescription text = (DESCRIPTION_MAX < length text) ⊎ ((fault : DescFault) × (description_of text ≡ Err fault))
+IsFaultyDescription text = (description_max < length text) ⊎ ((fault : DescFault) × (description_of text ≡ Err fault))
 
 -- a file is longer than an image may be; a generated image never is
 abbrev pub IsTooLong : ImageFrom → List ℕ → Type 0
-IsTooLong (from_file name) file = IMAGE_MAX < length file
+IsTooLong (from_file name) file = image_max < length file
 IsTooLong (from_seed seed blocks) file = ⊥
 
 -- these bytes are too many for an image, or are none for the memory of this description
@@ -98,7 +97,7 @@ IsFaultyImage image file desc = IsTooLong image file ⊎ ((fault : ElfFault) × 
 abbrev pub TellsDesc : Shelf → Option (List ℕ) → Option Desc → Type 0
 TellsDesc shelf None desc = desc ≡ None
 TellsDesc shelf (Some name) desc =
-    (text : List ℕ) × (d : Desc) × (shelf.content name ≡ Some text) × (length text ≤ DESCRIPTION_MAX) × Describes text d × (desc ≡ Some d)
+    (text : List ℕ) × (d : Desc) × (shelf.content name ≡ Some text) × (length text ≤ description_max) × Describes text d × (desc ≡ Some d)
 
 -- these are an image's bytes, as the files tell, or as they are generated
 abbrev pub TellsBytes : Shelf → ImageFrom → List ℕ → Type 0
@@ -128,12 +127,12 @@ pub record Statuses (words : List (List ℕ)) (old new : Shelf) (out out' : Told
   pub no_command : command_of words ≡ None → (status ≡ 2) ⊎ (status ≡ 8)
   -- 4 only where the description is too long or at fault, and there always, but for a failed read and want of memory
   pub four : status ≡ 4 → Asks words (λ command. (name : List ℕ) × IsNamed (description_name command) name
-      × (MayBeLonger old name DESCRIPTION_MAX ⊎ ((text : List ℕ) × (fault : DescFault) × MayHold old name DESCRIPTION_MAX text × (description_of text ≡ Err fault))))
+      × (MayBeLonger old name description_max ⊎ ((text : List ℕ) × (fault : DescFault) × MayHold old name description_max text × (description_of text ≡ Err fault))))
   pub faulty_description : (command : CommandText) (name text : List ℕ) → command_of words ≡ Some command → IsNamed (description_name command) name
       → old.content name ≡ Some text → IsFaultyDescription text → (status ≡ 4) ⊎ ((status ≡ 6) ⊎ (status ≡ 8))
   -- 5 only where the image is too long or at fault, and there always, but for a failed read and want of memory
   pub five : status ≡ 5 → Asks words (λ command. (desc : Option Desc) × HasDesc old (description_name command) desc
-      × (((name : List ℕ) × IsFile (image_from command) name × MayBeLonger old name IMAGE_MAX)
+      × (((name : List ℕ) × IsFile (image_from command) name × MayBeLonger old name image_max)
       ⊎ ((file : List ℕ) × (fault : ElfFault) × HasBytes old (image_from command) file × (image_of file (base_of desc) (size_of desc) ≡ Err fault))))
   pub faulty_image : (command : CommandText) (desc : Option Desc) (file : List ℕ) → command_of words ≡ Some command → TellsDesc old (description_name command) desc
       → TellsBytes old (image_from command) file → IsFaultyImage (image_from command) file desc → (status ≡ 5) ⊎ ((status ≡ 6) ⊎ (status ≡ 8))

@@ -70,7 +70,7 @@ pub fn trace<C: Clocked, S: Sink>(core: &mut C, cycles: u32, out: &mut S) -> Res
     }
     match write_end(&ending_at(core), out) {
         Ok(()) => Ok(ended_of(core.end())),
-        Err(failed) => Err(failed),
+        Err(unwritten) => Err(unwritten),
     }
 }
 

@@ -3,8 +3,7 @@ ghost use Rattle.std.specs.Prelude.{◌≡◌, Option, Some, Result, MatchResult
 ghost use Rattle.std.specs.Option.{option_map};
 ghost use Rattle.machine_desc.specs.Description.{Describes};
 ghost use Rattle.tool_io.specs.Outside.{SameContents, SameCounts};
-ghost use Rattle.stt_cli.specs.Input.{TextRefused, MayHold, HasDesc, DescriptionRefused, NamedRefused, ImageRefused, InputRefused, IsInput, from_file, from_seed};
-ghost use Rattle.stt_cli.specs.declared.reading.TheConstants.{IMAGE_MAX};
+ghost use Rattle.stt_cli.specs.Input.{image_max, TextRefused, MayHold, HasDesc, DescriptionRefused, NamedRefused, ImageRefused, InputRefused, IsInput, from_file, from_seed};
 
 use crate::outcome::Refusal;
 use crate::reading::{DESCRIPTION_MAX, IMAGE_MAX, Unread, read_file};
@@ -81,7 +80,7 @@ fn read_named<F: Files>(
 // The bytes of an image.
 fn read_image<F: Files>(alloc: Global, name: &str, files: &mut F) -> Result<Content, Refusal>
     ensures answer { MatchResult result
-        (λ file. MayHold (F.shelf files.old) name.now IMAGE_MAX file × SameCounts (F.shelf files.old) (F.shelf files.new))
+        (λ file. MayHold (F.shelf files.old) name.now image_max file × SameCounts (F.shelf files.old) (F.shelf files.new))
         (λ e. ImageRefused name.now (F.shelf files.old) (F.shelf files.new) e) }
     ensures stays { SameContents (F.shelf files.old) (F.shelf files.new) }
 {

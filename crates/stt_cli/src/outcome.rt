@@ -5,6 +5,7 @@ ghost use Rattle.stt_cli.specs.Outcome.{ended_of, status_of};
 use elf_loader::ElfFault;
 use machine_desc::DescFault;
 use rv_types::End;
+use thiserror::Error;
 
 /// How a run ended.
 #[derive(Clone, Copy, Debug, PartialEq, Eq)]
@@ -17,26 +18,35 @@ pub enum Ended {
     Budget,
 }
 
-/// Why there is no report, or not all of it.
-#[derive(Debug, Drop)]
+/// Why there is no report or trace, or not all of it.
+#[derive(Debug, Drop, Error)]
 pub enum Refusal {
     /// The words are no command.
+    #[error("the words are no command")]
     Words,
     /// The description couldn't be read.
+    #[error("the description couldn't be read")]
     ReadDescription,
     /// The description has more than 65,536 bytes.
+    #[error("the description has more than 65,536 bytes")]
     DescriptionTooLong,
     /// The text is no description.
+    #[error("the description isn't accepted: {0}")]
     Description(DescFault),
     /// The image couldn't be read.
+    #[error("the image couldn't be read")]
     ReadImage,
     /// The image has more than 33,554,432 bytes.
+    #[error("the image has more than 33,554,432 bytes")]
     ImageTooLong,
     /// The file is no image.
+    #[error("the image isn't accepted: {0}")]
     Image(ElfFault),
     /// The report couldn't be written whole.
+    #[error("the output couldn't be written whole")]
     Write,
     /// There was no memory.
+    #[error("there was no memory")]
     Memory,
 }
 

@@ -4,6 +4,7 @@ ghost use Rattle.tool_io.specs.Outside.{SameContents, SameCounts};
 ghost use Rattle.stt_cli.specs.Input.{MayHold, UnreadBy};
 
 use std::alloc::Global;
+use thiserror::Error;
 use tool_io::{Content, Files, Got, ReadFail};
 
 /// The most bytes of a description.
@@ -13,13 +14,16 @@ pub const DESCRIPTION_MAX: usize = 65536;
 pub const IMAGE_MAX: usize = 33554432;
 
 /// Why a file isn't read.
-#[derive(Clone, Copy, Debug, PartialEq, Eq)]
+#[derive(Clone, Copy, Debug, PartialEq, Eq, Error)]
 pub enum Unread {
     /// The read failed.
+    #[error("the read failed")]
     Failed,
     /// There are more bytes than the limit.
+    #[error("there are more bytes than the limit")]
     TooLong,
     /// There was no memory for the bytes.
+    #[error("there was no memory for the bytes")]
     NoMemory,
 }
 

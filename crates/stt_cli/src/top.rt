@@ -189,6 +189,7 @@ fn answer<F: Files, O: Sink>(
 /// Statuses: 0 the run ended by an exit, 1 by a trap, 3 not within its budget; 2 the words are no command; 4 the
 /// description, 5 the image is too long or at fault; 6 a file couldn't be read; 7 the output couldn't be written whole;
 /// 8 there was no memory, which comes only before the first byte of output.
+#[tactic(auto, using(crate::proofs::Statuses::statuses_at, crate::proofs::Promised::promises_at))]
 pub fn stt_top<F: Files, O: Sink, N: Sink>(
     alloc: Global,
     words: &[&str],
@@ -210,7 +211,7 @@ pub fn stt_top<F: Files, O: Sink, N: Sink>(
     status_of(&outcome)
 }
 
-/// Two images with one entry and one code have one trace under a description, where their memories agree on each byte that the
+/// Two files' images with one entry and one code have one trace under a description, where their memories agree on each byte that the
 /// path loads in as many steps as the machine retires and the window may hold besides (`docs/theorems.md`,
 /// "Noninterference").
 pub fn traces_agree()
