@@ -52,17 +52,25 @@ class Panel:
         there = (item for item in replay.items(last) if item.gone is None or item.gone >= first)
         self.items = list(islice(there, MOST_ROWS))
         end, pipeline = replay.trace.end, replay.pipeline
+        self.only = self.only_symbol()
         self.subtitle = end.text if end else f"shown up to cycle {min(last, pipeline.cycle)}"
+        self.subtitle += f", all in <{self.only}>" if self.only else ""
         self.last = min(last, pipeline.cycle)
         self.fills = [(cycle, line) for cycle, line, _ in pipeline.fills if first <= cycle <= self.last]
         self.labels = [self.label(item) for item in self.items]
-        widest = max([len(label) for label in self.labels] + [len(self.title), 30])
+        widest = max([len(label) for label in self.labels] + [len(self.title), 20])
         self.label_width = widest * CHARACTER + SERIAL + 2 * MARGIN
         self.chart_width = (self.last - first + 1) * CELL + MARGIN
         self.height = TOP + ROW * len(self.items) + FOOT
 
+    def only_symbol(self):
+        """The symbol in which all instructions stand, where it is one: it needn't be told of each."""
+        symbols = {self.disassembler.image.symbol(item.pc).split("+")[0] for item in self.items} - {""}
+        return symbols.pop() if len(symbols) == 1 else None
+
     def label(self, item):
-        text = self.disassembler.place(item.pc)
+        tell = self.disassembler.address_and_text if self.only else self.disassembler.place
+        text = tell(item.pc)
         return text if len(text) <= LONGEST_LABEL else text[:LONGEST_LABEL - 2] + ".."
 
     def x(self, cycle):
@@ -170,8 +178,10 @@ def legend(panels, width):
                      f'<text class="letter" fill="{dark}" x="{x + CELL / 2}" y="{y + 10}">{letter}</text>'
                      f'<text x="{x + CELL + 6}" y="{y + 10}">{text}</text>')
     rows = -(-len(used(panels)) // columns)
-    parts.append(f'<text class="faint" x="{MARGIN}" y="{rows * LEGEND_ROW + 12}">{OUTCOMES}</text>')
-    return "\n".join(parts), (rows + 1) * LEGEND_ROW + MARGIN
+    if any(item.outcome for panel in panels for item in panel.items):
+        parts.append(f'<text class="faint" x="{MARGIN}" y="{rows * LEGEND_ROW + 12}">{OUTCOMES}</text>')
+        rows += 1
+    return "\n".join(parts), rows * LEGEND_ROW + MARGIN
 
 
 def picture(panels):
