@@ -47,8 +47,9 @@ OUTCOMES = "T, N, J: resolved as taken, not taken, a jump; framed: mispredicted,
 class Panel:
     """One trace's part of a picture: the rows of its instructions in the cycles from `first` to `last`."""
 
-    def __init__(self, title, replay, disassembler, first, last, mark):
-        self.title, self.disassembler, self.first, self.mark = title, disassembler, first, mark
+    def __init__(self, title, replay, disassembler, first, last, mark=None, only=()):
+        """`mark` is the first cycle unequal to another trace's, and `only` the events that this trace alone has in it."""
+        self.title, self.disassembler, self.first, self.mark, self.only_here = title, disassembler, first, mark, only
         there = (item for item in replay.items(last) if item.gone is None or item.gone >= first)
         self.items = list(islice(there, MOST_ROWS))
         end, pipeline = replay.trace.end, replay.pipeline
@@ -79,10 +80,14 @@ class Panel:
     def y(self, row):
         return TOP + row * ROW
 
+    def heading_drawn(self):
+        """The title, and how the run ended."""
+        return (f'<text class="title" x="{MARGIN}" y="16">{escape(self.title)}</text>\n'
+                f'<text class="faint" x="{MARGIN}" y="31">{escape(self.subtitle)}</text>')
+
     def labels_drawn(self):
         """The column of instructions, those that were squashed struck through."""
-        lines = [f'<text class="title" x="{MARGIN}" y="16">{escape(self.title)}</text>',
-                 f'<text class="faint" x="{MARGIN}" y="31">{escape(self.subtitle)}</text>']
+        lines = []
         for row, (item, label) in enumerate(zip(self.items, self.labels)):
             struck, y = ' class="struck"' if item.squashed is not None else "", self.y(row) + 11
             if item.serial is not None:
@@ -144,12 +149,14 @@ class Panel:
                 f"{item.outcome}</text>")
 
     def frame(self):
-        bottom = self.y(len(self.items)) + 18
-        x = self.x(self.mark)
-        beside = x > self.chart_width / 2
+        """The first unequal cycle framed, and below it what this trace alone has there."""
+        bottom, x = self.y(len(self.items)) + 18, self.x(self.mark)
+        here = ", only here: " + " ".join(self.only_here[:2]) + " .." * (len(self.only_here) > 2) if self.only_here else ""
+        text = f"first unequal cycle: {self.mark}{here}"
+        width = len(text) * CHARACTER + MARGIN
+        left = max(0, min(x - width / 2, self.chart_width - width))
         return (f'<rect class="frame" x="{x - 1}" y="{TOP - 4}" width="{CELL + 1}" height="{bottom - TOP + 4}"/>'
-                f'<text class="framed" text-anchor="{"end" if beside else "start"}" x="{x + (CELL if beside else 0)}" '
-                f'y="{bottom + 25}">first unequal cycle: {self.mark}</text>')
+                f'<text class="framed" x="{left:.0f}" y="{bottom + 25}">{text}</text>')
 
 
 STYLE = """text{font:10px "DejaVu Sans Mono",Menlo,Consolas,monospace;fill:#111}
@@ -188,7 +195,7 @@ def picture(panels):
     """The panels side by side, and the legend below them."""
     parts, x = [], 0
     for panel in panels:
-        parts.append(f'<g transform="translate({x},0)">{panel.labels_drawn()}</g>')
+        parts.append(f'<g transform="translate({x},0)">{panel.heading_drawn()}\n{panel.labels_drawn()}</g>')
         parts.append(f'<g transform="translate({x + panel.label_width:.0f},0)">{panel.chart_drawn()}</g>')
         x += round(panel.label_width + panel.chart_width) + GAP
     width = max(x - GAP, 3 * LEGEND_COLUMN)

@@ -4,9 +4,10 @@ from html import escape
 from .drawing import LEGEND_COLUMN, STYLE, legend, svg
 
 SHAPE = """body{margin:12px;font:14px sans-serif}
-.panels{display:flex;gap:24px;align-items:flex-start}
-.panel{display:flex;overflow-x:auto;max-width:100%;border:1px solid #ddd}
-.panel>svg{flex:none}.panel>svg.labels{position:sticky;left:0;background:#fff;border-right:1px solid #ddd}
+h2{font-size:16px;margin:4px 0}p{color:#666;margin:4px 0}
+.panels{display:flex;gap:24px;align-items:flex-start;margin-bottom:12px}.panel{min-width:0}
+.chart{display:flex;overflow-x:auto;border:1px solid #ddd}
+.chart>svg{flex:none}.chart>svg.labels{position:sticky;left:0;background:#fff;border-right:1px solid #ddd}
 g:hover>rect{stroke:#000;stroke-width:.6}"""
 
 
@@ -23,4 +24,6 @@ def page(panels):
 
 def panel_drawn(panel):
     labels = svg(panel.labels_drawn(), panel.label_width, panel.height, ' class="labels"')
-    return f'<div class="panel">{labels}{svg(panel.chart_drawn(), panel.chart_width, panel.height)}</div>'
+    chart = svg(panel.chart_drawn(), panel.chart_width, panel.height)
+    return (f'<div class="panel"><h2>{escape(panel.title)}</h2><p>{escape(panel.subtitle)}</p>\n'
+            f'<div class="chart">{labels}{chart}</div></div>')

@@ -187,7 +187,8 @@ class Reasons:
         elif head.issued is None and not head.code.at_once:
             self.head = head
         elif head.done is None and head.issued is not None:
-            self.idle[f"oldest executes: {head.unit}", head.pc] += 1
+            what = f"load {head.unit}" if head.code.kind == LOAD else head.code.kind
+            self.idle[f"oldest executes: {what}", head.pc] += 1
         else:
             self.idle["oldest waits to be resolved", head.pc] += 1
 

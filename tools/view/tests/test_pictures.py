@@ -18,8 +18,9 @@ def fault_shadow():
 
 
 def panels():
-    return [drawing.Panel(title, run, disassembler, 1, 23, 16)
-            for title, (run, disassembler) in zip(("under <spectre>", "under futuristic"), fault_shadow())]
+    titles, only = ("under <spectre>", "under futuristic"), (["ld:5:0001f900:m"], [])
+    return [drawing.Panel(title, run, disassembler, 1, 23, 16, here)
+            for title, (run, disassembler), here in zip(titles, fault_shadow(), only)]
 
 
 class Spans(unittest.TestCase):
@@ -65,6 +66,8 @@ class Pictures(unittest.TestCase):
         frames = [element for element in self.root.iter(SVG + "rect") if element.get("class") == "frame"]
         self.assertEqual(len(frames), 2)
         self.assertEqual({element.get("x") for element in frames}, {str(15 * drawing.CELL - 1)})
+        self.assertIn("first unequal cycle: 16, only here: ld:5:0001f900:m", self.texts())
+        self.assertIn("first unequal cycle: 16", self.texts())
 
     def test_only_futuristic_holds_the_load_by_taint(self):
         red = [element for element in self.root.iter(SVG + "rect") if element.get("fill") == drawing.STATES["taint"][1]]
@@ -78,7 +81,7 @@ class Pictures(unittest.TestCase):
 
     def test_what_is_squashed_is_struck_through(self):
         run, disassembler = support.fresh_bounds_check()
-        root = ElementTree.fromstring(drawing.picture([drawing.Panel("a", run, disassembler, 1, 21, None)]))
+        root = ElementTree.fromstring(drawing.picture([drawing.Panel("a", run, disassembler, 1, 21)]))
         struck = [element.text for element in root.iter(SVG + "text") if element.get("class") == "struck"]
         self.assertEqual(len(struck), 7)
         self.assertIn("00010018 load x7, x6", struck)
