@@ -52,10 +52,12 @@ class Panel:
         self.title, self.disassembler, self.first, self.mark, self.only_here = title, disassembler, first, mark, only
         there = (item for item in replay.items(last) if item.gone is None or item.gone >= first)
         self.items = list(islice(there, MOST_ROWS))
+        more = next(there, None) is not None
         end, pipeline = replay.trace.end, replay.pipeline
         self.only = self.only_symbol()
         self.subtitle = end.text if end else f"shown up to cycle {min(last, pipeline.cycle)}"
         self.subtitle += f", all in <{self.only}>" if self.only else ""
+        self.subtitle += f", the first {MOST_ROWS} instructions" if more else ""
         self.last = min(last, pipeline.cycle)
         self.fills = [(cycle, line) for cycle, line, _ in pipeline.fills if first <= cycle <= self.last]
         self.labels = [self.label(item) for item in self.items]

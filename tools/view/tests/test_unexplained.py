@@ -2,6 +2,7 @@
 
 The reasons are found from the trace's text, the image and the description alone, so this is a second opinion on the program.
 """
+import gc
 import os
 import unittest
 
@@ -9,6 +10,7 @@ import support
 from generate.generated import generated_image
 from programs import PROGRAMS
 from view import Fault
+from view.pipeline import Item
 
 GENERATED, BLOCKS, CYCLES = 20, 24, 3000
 WORKED = [("Bounds check bypass", "bounds_check"), ("Fault shadow", "fault_shadow")]
@@ -44,6 +46,17 @@ class OverThePrograms(unittest.TestCase):
             self.assertGreater(self.explained(image), 100)
 
 
+    def test_instructions_that_are_gone_take_no_memory(self):
+        """Of the thousands of a run no more are held than can be in flight at once."""
+        image, description = support.file_of("long.elf", generated_image(1, 200)), support.example("core.toml")
+        run, _ = support.fresh(support.trace_of(description, image, 100000), image, description)
+        before, most, number = live_items(), 0, 0
+        for number, _ in enumerate(run.items(), 1):
+            most = max(most, live_items() - before) if number % 500 == 0 else most
+        self.assertGreater(number, 2000)
+        self.assertLess(most, 200)
+
+
 class EveryEventMatters(unittest.TestCase):
     def noticed(self, lines, name):
         try:
@@ -66,6 +79,10 @@ class EveryEventMatters(unittest.TestCase):
                 lines[number] = " ".join([first, event, *events]) + "\n"
                 with self.subTest(trace=heading, cycle=number, event=event):
                     self.assertTrue(self.noticed(lines, name))
+
+
+def live_items():
+    return sum(isinstance(thing, Item) for thing in gc.get_objects())
 
 
 def without_one_event(lines):
