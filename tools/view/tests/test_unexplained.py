@@ -1,4 +1,4 @@
-"""Nothing is unexplained over what the program writes, and every event that is changed is noticed.
+"""Nothing is unexplained over what the program and an independent model write, and every event that is changed is noticed.
 
 The reasons are found from the trace's text, the image and the description alone, so this is a second opinion on the program.
 """
@@ -13,6 +13,7 @@ from view import Fault
 from view.pipeline import Item
 
 GENERATED, BLOCKS, CYCLES = 20, 24, 3000
+RUNS = os.path.join(support.ROOT, "tools", "evaluate", "runs")
 WORKED = [("Bounds check bypass", "bounds_check"), ("Fault shadow", "fault_shadow")]
 
 
@@ -55,6 +56,16 @@ class OverThePrograms(unittest.TestCase):
             most = max(most, live_items() - before) if number % 500 == 0 else most
         self.assertGreater(number, 2000)
         self.assertLess(most, 200)
+
+
+class OverAnIndependentModel(unittest.TestCase):
+    def test_small_random_runs(self):
+        folders = sorted(name for name in os.listdir(RUNS) if os.path.isdir(os.path.join(RUNS, name)))
+        self.assertGreater(len(folders), 30)
+        for name in folders:
+            trace, image, description = (os.path.join(RUNS, name, file) for file in ("trace", "image.elf", "core.toml"))
+            with self.subTest(run=name), open(trace, encoding="ascii") as lines:
+                self.assertEqual(unexplained(lines, image, description), [])
 
 
 class EveryEventMatters(unittest.TestCase):
