@@ -45,11 +45,14 @@ OUTCOMES = "T, N, J: resolved as taken, not taken, a jump; framed: mispredicted,
 
 
 class Panel:
-    """One trace's part of a picture: the rows of its instructions in the cycles from `first` to `last`."""
+    """One trace's part of a picture: the rows of its instructions in a span of cycles, from the first to the last.
 
-    def __init__(self, title, replay, disassembler, first, last, mark=None, only=()):
-        """`mark` is the first cycle unequal to another trace's, and `only` the events that this trace alone has in it."""
-        self.title, self.disassembler, self.first, self.mark, self.only_here = title, disassembler, first, mark, only
+    `mark` is where it is first unequal to the other trace, if it is.
+    """
+
+    def __init__(self, title, replay, disassembler, span, mark=None):
+        first, last = span
+        self.title, self.disassembler, self.first, self.mark = title, disassembler, first, mark
         there = (item for item in replay.items(last) if item.gone is None or item.gone >= first)
         self.items = list(islice(there, MOST_ROWS))
         more = next(there, None) is not None
@@ -105,19 +108,25 @@ class Panel:
         y = self.y(len(self.items)) + 14
         parts += [f'<text class="fill" x="{self.x(cycle) + CELL / 2}" y="{y}">L<title>line {line:08x} comes in cycle {cycle}'
                   "</title></text>" for cycle, line in self.fills]
-        if self.mark is not None and self.first <= self.mark <= self.last:
+        if self.mark and self.first <= self.mark.cycle <= self.last:
             parts.append(self.frame())
         return "\n".join(parts)
+
+    @property
+    def fifths(self):
+        return [cycle for cycle in range(self.first, self.last + 1) if cycle % 5 == 0]
+
+    def numbers_drawn(self, y):
+        """The number of every fifth cycle."""
+        return "".join(f'<text class="number" x="{self.x(cycle) + CELL / 2}" y="{y}">{cycle}</text>' for cycle in self.fifths)
 
     def grid(self):
         """Lines for every fifth cycle and row, and the numbers of these cycles above and below."""
         bottom = self.y(len(self.items))
-        fifths = [cycle for cycle in range(self.first, self.last + 1) if cycle % 5 == 0]
-        lines = [f"M{self.x(cycle)} {TOP - 4}V{bottom + 4}" for cycle in fifths]
+        lines = [f"M{self.x(cycle)} {TOP - 4}V{bottom + 4}" for cycle in self.fifths]
         lines += [f"M0 {self.y(row)}H{self.chart_width - MARGIN}" for row in range(0, len(self.items) + 1, 5)]
-        numbers = [f'<text class="number" x="{self.x(cycle) + CELL / 2}" y="{y}">{cycle}</text>'
-                   for cycle in fifths for y in (TOP - 8, bottom + 30)]
-        return f'<path class="grid" d="{"".join(lines)}"/>' + "".join(numbers)
+        numbers = self.numbers_drawn(TOP - 8) + self.numbers_drawn(bottom + 30)
+        return f'<path class="grid" d="{"".join(lines)}"/>{numbers}'
 
     def row_drawn(self, row, item):
         y = self.y(row)
@@ -152,9 +161,9 @@ class Panel:
 
     def frame(self):
         """The first unequal cycle framed, and below it what this trace alone has there."""
-        bottom, x = self.y(len(self.items)) + 18, self.x(self.mark)
-        here = ", only here: " + " ".join(self.only_here[:2]) + " .." * (len(self.only_here) > 2) if self.only_here else ""
-        text = f"first unequal cycle: {self.mark}{here}"
+        bottom, x = self.y(len(self.items)) + 18, self.x(self.mark.cycle)
+        here, more = " ".join(self.mark.only[:2]), " .." if len(self.mark.only) > 2 else ""
+        text = f"first unequal cycle: {self.mark.cycle}" + (f", only here: {here}{more}" if here else "")
         width = len(text) * CHARACTER + MARGIN
         left = max(0, min(x - width / 2, self.chart_width - width))
         return (f'<rect class="frame" x="{x - 1}" y="{TOP - 4}" width="{CELL + 1}" height="{bottom - TOP + 4}"/>'
@@ -207,6 +216,8 @@ def picture(panels):
                           f'<g transform="translate(0,{top})">{drawn}</g>']), width, top + height)
 
 
-def svg(inside, width, height, attributes=""):
-    return (f'<svg xmlns="http://www.w3.org/2000/svg" width="{width:.0f}" height="{height:.0f}" '
-            f'viewBox="0 0 {width:.0f} {height:.0f}"{attributes}>\n{inside}\n</svg>')
+def svg(inside, width, height, top=0, name=""):
+    """A drawing of its own: what lies from `top` to `height`, with a name for a page's style."""
+    named = f' class="{name}"' if name else ""
+    return (f'<svg xmlns="http://www.w3.org/2000/svg"{named} width="{width:.0f}" height="{height - top:.0f}" '
+            f'viewBox="0 {top} {width:.0f} {height - top:.0f}">\n{inside}\n</svg>')

@@ -18,9 +18,10 @@ def fault_shadow():
 
 
 def panels():
-    titles, only = ("under <spectre>", "under futuristic"), (["ld:5:0001f900:m"], [])
-    return [drawing.Panel(title, run, disassembler, 1, 23, 16, here)
-            for title, (run, disassembler), here in zip(titles, fault_shadow(), only)]
+    titles = "under <spectre>", "under futuristic"
+    marks = difference.first_unequal([run.trace for run, _ in fault_shadow()])
+    return [drawing.Panel(title, run, disassembler, (1, 23), mark)
+            for title, (run, disassembler), mark in zip(titles, fault_shadow(), marks)]
 
 
 class Spans(unittest.TestCase):
@@ -81,7 +82,7 @@ class Pictures(unittest.TestCase):
 
     def test_what_is_squashed_is_struck_through(self):
         run, disassembler = support.fresh_bounds_check()
-        root = ElementTree.fromstring(drawing.picture([drawing.Panel("a", run, disassembler, 1, 21)]))
+        root = ElementTree.fromstring(drawing.picture([drawing.Panel("a", run, disassembler, (1, 21))]))
         struck = [element.text for element in root.iter(SVG + "text") if element.get("class") == "struck"]
         self.assertEqual(len(struck), 7)
         self.assertIn("00010018 load x7, x6", struck)

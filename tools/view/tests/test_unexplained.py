@@ -41,6 +41,21 @@ class OverThePrograms(unittest.TestCase):
         for name, words in PROGRAMS.items():
             self.assertGreater(self.explained(support.image_of_words(name, words)), 4, name)
 
+    def test_the_small_programs_meet_each_reason(self):
+        waits, stalls, fetch = set(), set(), set()
+        for name, words in PROGRAMS.items():
+            image = support.image_of_words(name, words)
+            for description in support.descriptions():
+                run, _, items = support.replay(support.trace_of(description, image, CYCLES), image, description)
+                waits |= {wait.reason for item in items for wait in item.waits}
+                stalls |= set(run.front.rename)
+                fetch |= set(run.front.fetch)
+        self.assertEqual(waits, {"operand", "taint", "older store", "port", "miss register", "divider", "taint, to be resolved",
+                                 "one resolved a cycle"})
+        self.assertEqual(stalls, {"reorder buffer", "stations", "loads", "stores", "call in flight", "call waits to be alone",
+                                  "queue empty"})
+        self.assertEqual(fetch, {"queue full", "nothing to fetch"})
+
     def test_generated_images(self):
         for seed in range(GENERATED):
             image = support.file_of(f"generated_{seed}.elf", generated_image(seed, BLOCKS))
