@@ -9,7 +9,8 @@ The modules, from the bottom up:
     description  the sizes and latencies of the core
     memory_side  the cache, the miss registers and the divider, as the events move them
     pipeline     the window and the queue, as the events move them; what became of each fetched instruction
-    reasons      why an instruction waits, and why rename or fetch stops short
+    reasons      why an instruction waits, and why nothing retires
+    front_end    why rename or fetch stops short
     checks       whether what happens is what the machine's rules ask for
     replay       a whole trace taken through all of these
     spans        what an instruction does in each cycle

@@ -104,13 +104,14 @@ def lines_of_diff(inputs):
 def lines_of_picture(words, inputs):
     """A panel for each trace, over one span of cycles: by default some before the first unequal cycle, or the first ones."""
     sides = range(len(inputs.names))
-    mark = difference.first_unequal([inputs.trace(side) for side in sides]) if len(inputs.names) == 2 else None
-    first = words.first or (max(1, mark - drawing.BEFORE) if mark else 1)
+    marks = difference.first_unequal([inputs.trace(side) for side in sides]) if len(inputs.names) == 2 else None
+    first = words.first or (max(1, marks[0].cycle - drawing.BEFORE) if marks else 1)
     last = words.last or first + drawing.SPAN - 1
     panels = []
     for side in sides:
         title = words.title[side] if words.title and side < len(words.title) else os.path.basename(inputs.names[side])
-        panels.append(drawing.Panel(title, inputs.replay(side), inputs.disassembler(side), first, last, mark))
+        mark = marks[side] if marks else None
+        panels.append(drawing.Panel(title, inputs.replay(side), inputs.disassembler(side), (first, last), mark))
     yield (page.page if words.what == "html" else drawing.picture)(panels)
 
 

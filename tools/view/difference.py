@@ -1,6 +1,7 @@
 """`diff`: the first unequal cycle of two traces, and the events that only one of them has in it."""
 from collections import Counter, deque
 from itertools import zip_longest
+from typing import NamedTuple
 
 OF_AN_ENTRY = {"done", "res", "ret", "st", "call", "alu", "mul", "div", "agu", "ld", "ren"}
 OF_A_LINE = {"fill": 1, "ld": 2, "st": 2}
@@ -32,14 +33,35 @@ def texts(traces):
     return [trace.end.text if trace.end else "(no last line)" for trace in traces]
 
 
+class Mark(NamedTuple):
+    """The first unequal cycle, and the events that one of the two traces alone has there."""
+
+    cycle: int
+    only: list
+
+
 def first_unequal(traces):
-    """The first unequal cycle, from the texts alone, or None."""
+    """The mark of each of two traces, from their texts alone; None where they are equal."""
     cycle = 0
     for rows in zip_longest(*traces):
         if None in rows or rows[0].events != rows[1].events:
-            return next(row.cycle for row in rows if row)
+            cycle = next(row.cycle for row in rows if row)
+            return [Mark(cycle, only(rows, side)) for side in (0, 1)]
         cycle = rows[0].cycle
-    return cycle if texts(traces)[0] != texts(traces)[1] else None
+    return [Mark(cycle, [])] * 2 if texts(traces)[0] != texts(traces)[1] else None
+
+
+def only(rows, side):
+    """The events of this side's row that the other's hasn't, in their order."""
+    if rows[side] is None:
+        return []
+    left = Counter(rows[side].events) - Counter(rows[1 - side].events if rows[1 - side] else [])
+    found = []
+    for event in rows[side].events:
+        if left[event]:
+            left[event] -= 1
+            found.append(event)
+    return found
 
 
 def lines_of(difference, disassemblers):
@@ -53,11 +75,8 @@ def lines_of(difference, disassemblers):
         if row is None:
             yield f"  {name}{' ends before' if other else ''}: {texts(difference.traces)[side]}"
             continue
-        only = Counter(row.events) - Counter(other.events if other else [])
-        for event in row.events:
-            if only[event]:
-                only[event] -= 1
-                yield f"  only {name}: {told(event, difference.replays[side].pipeline, disassemblers[side])}"
+        for event in only(difference.rows, side):
+            yield f"  only {name}: {told(event, difference.replays[side].pipeline, disassemblers[side])}"
 
 
 def told(event, pipeline, disassembler):

@@ -54,7 +54,11 @@ class Disassembler:
     def place(self, pc):
         """The address, the instruction, and the symbol if there is one: `00010018 lw x7, -2048(x6) <_start+0x18>`."""
         symbol = self.image.symbol(pc)
-        return f"{pc:08x} {self.text(pc)}" + (f" <{symbol}>" if symbol else "")
+        return self.address_and_text(pc) + (f" <{symbol}>" if symbol else "")
+
+    def address_and_text(self, pc):
+        """The same without the symbol."""
+        return f"{pc:08x} {self.text(pc)}"
 
     def by_objdump(self):
         found = {}

@@ -45,24 +45,38 @@ OUTCOMES = "T, N, J: resolved as taken, not taken, a jump; framed: mispredicted,
 
 
 class Panel:
-    """One trace's part of a picture: the rows of its instructions in the cycles from `first` to `last`."""
+    """One trace's part of a picture: the rows of its instructions in a span of cycles, from the first to the last.
 
-    def __init__(self, title, replay, disassembler, first, last, mark):
+    `mark` is where it is first unequal to the other trace, if it is.
+    """
+
+    def __init__(self, title, replay, disassembler, span, mark=None):
+        first, last = span
         self.title, self.disassembler, self.first, self.mark = title, disassembler, first, mark
         there = (item for item in replay.items(last) if item.gone is None or item.gone >= first)
         self.items = list(islice(there, MOST_ROWS))
+        more = next(there, None) is not None
         end, pipeline = replay.trace.end, replay.pipeline
+        self.only = self.only_symbol()
         self.subtitle = end.text if end else f"shown up to cycle {min(last, pipeline.cycle)}"
+        self.subtitle += f", all in <{self.only}>" if self.only else ""
+        self.subtitle += f", the first {MOST_ROWS} instructions" if more else ""
         self.last = min(last, pipeline.cycle)
         self.fills = [(cycle, line) for cycle, line, _ in pipeline.fills if first <= cycle <= self.last]
         self.labels = [self.label(item) for item in self.items]
-        widest = max([len(label) for label in self.labels] + [len(self.title), 30])
+        widest = max([len(label) for label in self.labels] + [len(self.title), 20])
         self.label_width = widest * CHARACTER + SERIAL + 2 * MARGIN
         self.chart_width = (self.last - first + 1) * CELL + MARGIN
         self.height = TOP + ROW * len(self.items) + FOOT
 
+    def only_symbol(self):
+        """The symbol in which all instructions stand, where it is one: it needn't be told of each."""
+        symbols = {self.disassembler.image.symbol(item.pc).split("+")[0] for item in self.items} - {""}
+        return symbols.pop() if len(symbols) == 1 else None
+
     def label(self, item):
-        text = self.disassembler.place(item.pc)
+        tell = self.disassembler.address_and_text if self.only else self.disassembler.place
+        text = tell(item.pc)
         return text if len(text) <= LONGEST_LABEL else text[:LONGEST_LABEL - 2] + ".."
 
     def x(self, cycle):
@@ -71,10 +85,14 @@ class Panel:
     def y(self, row):
         return TOP + row * ROW
 
+    def heading_drawn(self):
+        """The title, and how the run ended."""
+        return (f'<text class="title" x="{MARGIN}" y="16">{escape(self.title)}</text>\n'
+                f'<text class="faint" x="{MARGIN}" y="31">{escape(self.subtitle)}</text>')
+
     def labels_drawn(self):
         """The column of instructions, those that were squashed struck through."""
-        lines = [f'<text class="title" x="{MARGIN}" y="16">{escape(self.title)}</text>',
-                 f'<text class="faint" x="{MARGIN}" y="31">{escape(self.subtitle)}</text>']
+        lines = []
         for row, (item, label) in enumerate(zip(self.items, self.labels)):
             struck, y = ' class="struck"' if item.squashed is not None else "", self.y(row) + 11
             if item.serial is not None:
@@ -90,19 +108,25 @@ class Panel:
         y = self.y(len(self.items)) + 14
         parts += [f'<text class="fill" x="{self.x(cycle) + CELL / 2}" y="{y}">L<title>line {line:08x} comes in cycle {cycle}'
                   "</title></text>" for cycle, line in self.fills]
-        if self.mark is not None and self.first <= self.mark <= self.last:
+        if self.mark and self.first <= self.mark.cycle <= self.last:
             parts.append(self.frame())
         return "\n".join(parts)
+
+    @property
+    def fifths(self):
+        return [cycle for cycle in range(self.first, self.last + 1) if cycle % 5 == 0]
+
+    def numbers_drawn(self, y):
+        """The number of every fifth cycle."""
+        return "".join(f'<text class="number" x="{self.x(cycle) + CELL / 2}" y="{y}">{cycle}</text>' for cycle in self.fifths)
 
     def grid(self):
         """Lines for every fifth cycle and row, and the numbers of these cycles above and below."""
         bottom = self.y(len(self.items))
-        fifths = [cycle for cycle in range(self.first, self.last + 1) if cycle % 5 == 0]
-        lines = [f"M{self.x(cycle)} {TOP - 4}V{bottom + 4}" for cycle in fifths]
+        lines = [f"M{self.x(cycle)} {TOP - 4}V{bottom + 4}" for cycle in self.fifths]
         lines += [f"M0 {self.y(row)}H{self.chart_width - MARGIN}" for row in range(0, len(self.items) + 1, 5)]
-        numbers = [f'<text class="number" x="{self.x(cycle) + CELL / 2}" y="{y}">{cycle}</text>'
-                   for cycle in fifths for y in (TOP - 8, bottom + 30)]
-        return f'<path class="grid" d="{"".join(lines)}"/>' + "".join(numbers)
+        numbers = self.numbers_drawn(TOP - 8) + self.numbers_drawn(bottom + 30)
+        return f'<path class="grid" d="{"".join(lines)}"/>{numbers}'
 
     def row_drawn(self, row, item):
         y = self.y(row)
@@ -136,12 +160,14 @@ class Panel:
                 f"{item.outcome}</text>")
 
     def frame(self):
-        bottom = self.y(len(self.items)) + 18
-        x = self.x(self.mark)
-        beside = x > self.chart_width / 2
+        """The first unequal cycle framed, and below it what this trace alone has there."""
+        bottom, x = self.y(len(self.items)) + 18, self.x(self.mark.cycle)
+        here, more = " ".join(self.mark.only[:2]), " .." if len(self.mark.only) > 2 else ""
+        text = f"first unequal cycle: {self.mark.cycle}" + (f", only here: {here}{more}" if here else "")
+        width = len(text) * CHARACTER + MARGIN
+        left = max(0, min(x - width / 2, self.chart_width - width))
         return (f'<rect class="frame" x="{x - 1}" y="{TOP - 4}" width="{CELL + 1}" height="{bottom - TOP + 4}"/>'
-                f'<text class="framed" text-anchor="{"end" if beside else "start"}" x="{x + (CELL if beside else 0)}" '
-                f'y="{bottom + 25}">first unequal cycle: {self.mark}</text>')
+                f'<text class="framed" x="{left:.0f}" y="{bottom + 25}">{text}</text>')
 
 
 STYLE = """text{font:10px "DejaVu Sans Mono",Menlo,Consolas,monospace;fill:#111}
@@ -170,15 +196,17 @@ def legend(panels, width):
                      f'<text class="letter" fill="{dark}" x="{x + CELL / 2}" y="{y + 10}">{letter}</text>'
                      f'<text x="{x + CELL + 6}" y="{y + 10}">{text}</text>')
     rows = -(-len(used(panels)) // columns)
-    parts.append(f'<text class="faint" x="{MARGIN}" y="{rows * LEGEND_ROW + 12}">{OUTCOMES}</text>')
-    return "\n".join(parts), (rows + 1) * LEGEND_ROW + MARGIN
+    if any(item.outcome for panel in panels for item in panel.items):
+        parts.append(f'<text class="faint" x="{MARGIN}" y="{rows * LEGEND_ROW + 12}">{OUTCOMES}</text>')
+        rows += 1
+    return "\n".join(parts), rows * LEGEND_ROW + MARGIN
 
 
 def picture(panels):
     """The panels side by side, and the legend below them."""
     parts, x = [], 0
     for panel in panels:
-        parts.append(f'<g transform="translate({x},0)">{panel.labels_drawn()}</g>')
+        parts.append(f'<g transform="translate({x},0)">{panel.heading_drawn()}\n{panel.labels_drawn()}</g>')
         parts.append(f'<g transform="translate({x + panel.label_width:.0f},0)">{panel.chart_drawn()}</g>')
         x += round(panel.label_width + panel.chart_width) + GAP
     width = max(x - GAP, 3 * LEGEND_COLUMN)
@@ -188,6 +216,8 @@ def picture(panels):
                           f'<g transform="translate(0,{top})">{drawn}</g>']), width, top + height)
 
 
-def svg(inside, width, height, attributes=""):
-    return (f'<svg xmlns="http://www.w3.org/2000/svg" width="{width:.0f}" height="{height:.0f}" '
-            f'viewBox="0 0 {width:.0f} {height:.0f}"{attributes}>\n{inside}\n</svg>')
+def svg(inside, width, height, top=0, name=""):
+    """A drawing of its own: what lies from `top` to `height`, with a name for a page's style."""
+    named = f' class="{name}"' if name else ""
+    return (f'<svg xmlns="http://www.w3.org/2000/svg"{named} width="{width:.0f}" height="{height - top:.0f}" '
+            f'viewBox="0 {top} {width:.0f} {height - top:.0f}">\n{inside}\n</svg>')

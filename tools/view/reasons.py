@@ -1,4 +1,4 @@
-"""Why an instruction waits, why nothing retires, and why rename or fetch stops short.
+"""Why an instruction waits to issue or to be resolved, and why nothing retires.
 
 Each reason is a rule of docs/machine.md that forbids the step in that cycle, tested on the state that the phase finds. A
 wait that no rule asks for, and a step that a rule forbids, are told as unexplained. So this is also a check of the trace,
@@ -7,7 +7,7 @@ made from its text, the image and the description alone.
 from collections import Counter
 
 from .description import FUTURISTIC
-from .instruction import CALL, DIVISION, LOAD, MULTIPLICATION, STOP, STORE
+from .instruction import CALL, DIVISION, LOAD, MULTIPLICATION, STORE
 
 # to issue
 OPERAND, TAINT, OLDER_STORE, PORT, MISS_REGISTER, DIVIDER = (
@@ -15,38 +15,20 @@ OPERAND, TAINT, OLDER_STORE, PORT, MISS_REGISTER, DIVIDER = (
 # to be resolved
 TAINTED_OUTCOME, ONE_A_CYCLE = "taint, to be resolved", "one resolved a cycle"
 HELD = (TAINT, TAINTED_OUTCOME)
-# to be renamed
-REORDER_BUFFER, CALL_IN_FLIGHT, LOADS, STORES, CALL_ALONE, STATIONS = (
-    "reorder buffer", "call in flight", "loads", "stores", "call waits to be alone", "stations")
-QUEUE_EMPTY, QUEUE_FULL, NOTHING_TO_FETCH = "queue empty", "queue full", "nothing to fetch"
 
 PORT_OF = {LOAD: "load", STORE: "store", MULTIPLICATION: "multiplier", DIVISION: "divider"}
-
-
-class Stop:
-    """Cycles in a row in which rename stopped short for one reason, and the address of the item that stayed first."""
-
-    __slots__ = ("first", "last", "reason", "pc")
-
-    def __init__(self, cycle, reason, pc):
-        self.first = self.last = cycle
-        self.reason, self.pc = reason, pc
 
 
 class Reasons:
     """Looks at each phase of a cycle before its events are applied to the pipeline, and keeps what it finds.
 
-    `unexplained` are lines for people; `stops`, `fetch_stops` count the cycles in which rename and fetch stopped short;
-    `idle` counts, by reason and address, those in which nothing retired.
+    `unexplained` are lines for people; `idle` counts, by reason and address, the cycles in which nothing retired.
     """
 
     def __init__(self, pipeline):
         self.pipeline, self.description = pipeline, pipeline.description
-        self.unexplained, self.rename_stops = [], []
-        self.stops, self.fetch_stops, self.idle = Counter(), Counter(), Counter()
-        self.presumed = set()
-        self.fetching, self.head = True, None
-        self.ports = {}
+        self.unexplained, self.idle = [], Counter()
+        self.presumed, self.head, self.ports = set(), None, {}
 
     def tell(self, text):
         self.unexplained.append(f"cycle {self.pipeline.cycle}: {text}")
@@ -69,8 +51,7 @@ class Reasons:
             else:
                 item.wait(self.pipeline.cycle, ONE_A_CYCLE, None)
         if first != resolved:
-            self.tell(f"entry {first} is to be resolved, and entry {resolved} is" if first is not None else
-                      f"entry {resolved} is resolved, but may not")
+            self.tell(f"{named(resolved)} is resolved, where {named(first)} may be")
 
     def tainted_root(self, item):
         """The youngest load from which an operand flows, if it isn't visible."""
@@ -136,7 +117,7 @@ class Reasons:
         """Under futuristic a store that faults hides all behind it, and the trace doesn't tell that it faults.
 
         Where that alone can explain a wait, a Done store older than the root is taken to fault. It then must not retire:
-        `retires` tells if it does.
+        `retire` tells if it does.
         """
         if self.description.model != FUTURISTIC or root is None or kind not in (LOAD, DIVISION):
             return False
@@ -187,7 +168,8 @@ class Reasons:
         elif head.issued is None and not head.code.at_once:
             self.head = head
         elif head.done is None and head.issued is not None:
-            self.idle[f"oldest executes: {head.unit}", head.pc] += 1
+            what = f"load {head.unit}" if head.code.kind == LOAD else head.code.kind
+            self.idle[f"oldest executes: {what}", head.pc] += 1
         else:
             self.idle["oldest waits to be resolved", head.pc] += 1
 
@@ -197,70 +179,6 @@ class Reasons:
             waits = self.head.waits[-1:] if self.head.issued is None else []
             self.idle[f"oldest waits: {waits[0].reason}" if waits else "oldest begins to execute", self.head.pc] += 1
 
-    # ---- Rename
 
-    def to_rename(self, item):
-        """The reason why the front of the queue can't go, None where it can."""
-        pipeline, description, kind = self.pipeline, self.description, item.code.kind
-        if len(pipeline.window) >= description.rob:
-            return REORDER_BUFFER
-        if pipeline.has_call:
-            return CALL_IN_FLIGHT
-        if kind == LOAD and pipeline.loads >= description.loads:
-            return LOADS
-        if kind == STORE and pipeline.stores >= description.stores:
-            return STORES
-        if kind == CALL and pipeline.window:
-            return CALL_ALONE
-        if not item.code.at_once and len(pipeline.waiting) >= description.stations:
-            return STATIONS
-        return None
-
-    def before_rename(self, serial):
-        reason = self.to_rename(self.pipeline.queue[0]) if self.pipeline.queue else None
-        if reason:
-            self.tell(f"entry {serial} is renamed, but has to wait: {reason}")
-
-    def after_rename(self, count):
-        """Fewer than the width were renamed: nothing was left, or the front of the queue couldn't go."""
-        if count > self.description.fetch_width:
-            self.tell(f"{count} items are renamed")
-        if count >= self.description.fetch_width:
-            return
-        if not self.pipeline.queue:
-            self.stops[QUEUE_EMPTY] += 1
-            return
-        front = self.pipeline.queue[0]
-        reason = self.to_rename(front)
-        if reason is None:
-            self.tell(f"the item of {front.pc:08x} isn't renamed, and nothing tells why")
-            return
-        self.stops[reason] += 1
-        self.keep_stop(reason, front.pc)
-
-    def keep_stop(self, reason, pc):
-        last, cycle = self.rename_stops[-1] if self.rename_stops else None, self.pipeline.cycle
-        if last and last.last == cycle - 1 and last.reason == reason and last.pc == pc:
-            last.last = cycle
-        else:
-            self.rename_stops.append(Stop(cycle, reason, pc))
-
-    # ---- Fetch
-
-    def after_fetch(self, fetched, squashed):
-        """Fewer than the width were fetched: the queue is full, or a stop or a jump that faults left nothing to fetch.
-
-        A jump that faults drops what is younger, and nothing is fetched from then on: the trace tells it by that alone.
-        """
-        queue, width = self.pipeline.queue, self.description.fetch_width
-        self.fetching = self.fetching or squashed
-        if fetched and not self.fetching or len(fetched) > width or fetched and len(queue) > self.description.queue:
-            self.tell("more is fetched than may be")
-        if fetched and fetched[-1].code.kind == STOP or squashed and not fetched:
-            self.fetching = False
-        if len(fetched) < width:
-            full = len(queue) >= self.description.queue
-            if full or not self.fetching:
-                self.fetch_stops[QUEUE_FULL if full else NOTHING_TO_FETCH] += 1
-            else:
-                self.tell("fetch stops short, and nothing tells why")
+def named(serial):
+    return "nothing" if serial is None else f"entry {serial}"

@@ -1,6 +1,7 @@
 """A whole trace taken through the pipeline, the reasons and the checks."""
 from . import Fault
 from .checks import Checks
+from .front_end import FrontEnd
 from .pipeline import Pipeline
 from .reasons import Reasons
 from .trace import COMPLETE, FETCH, FILL, ISSUE, RENAME, RESOLVE, RETIRE
@@ -16,6 +17,7 @@ class Replay:
         self.trace = trace
         self.pipeline = pipeline or Pipeline(image, description)
         self.reasons = Reasons(self.pipeline)
+        self.front = FrontEnd(self.pipeline, self.reasons.tell)
         self.checks = Checks(self.pipeline, self.reasons.tell)
         self.retired = 0
 
@@ -65,7 +67,7 @@ class Replay:
             self.issue(phases[ISSUE])
             self.rename(phases[RENAME])
             fetched = [self.pipeline.fetch(int(words[1], 16)) for words in phases[FETCH]]
-            self.reasons.after_fetch(fetched, squashed)
+            self.front.after_fetch(fetched, squashed)
 
     def fill(self, lines):
         self.checks.fill(lines)
@@ -127,6 +129,6 @@ class Replay:
 
     def rename(self, events):
         for words in events:
-            self.reasons.before_rename(int(words[1]))
+            self.front.before_rename(int(words[1]))
             self.pipeline.rename(int(words[1]), int(words[2], 16))
-        self.reasons.after_rename(len(events))
+        self.front.after_rename(len(events))

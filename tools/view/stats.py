@@ -1,8 +1,9 @@
 """`stats`: the numbers of a run."""
 from collections import Counter
 
+from .front_end import QUEUE_EMPTY
 from .instruction import BRANCH, JALR
-from .reasons import HELD, QUEUE_EMPTY
+from .reasons import HELD
 
 LOAD_KINDS = (("hit", "loads: hit"), ("miss", "loads: miss"), ("join", "loads: join a miss"), ("forward", "loads: forwarded"),
               ("fault", "loads: fault"))
@@ -79,7 +80,7 @@ def lines_of(replay, disassembler):
     ]
     yield from (f"{name:26}{value}" for name, value in rows)
     yield from idle_lines(reasons, cycles)
-    yield from stop_lines(reasons)
+    yield from stall_lines(replay.front)
     yield from cost_lines(reasons, disassembler)
     yield from held_lines(counts, disassembler)
 
@@ -99,10 +100,10 @@ def idle_lines(reasons, cycles):
     yield from (f"{number:8}  {reason}" for reason, number in idle.most_common())
 
 
-def stop_lines(reasons):
-    total = sum(number for reason, number in reasons.stops.items() if reason != QUEUE_EMPTY)
+def stall_lines(front):
+    total = sum(number for reason, number in front.rename.items() if reason != QUEUE_EMPTY)
     yield f"\nrename stopped short of the width, with items in the queue, in {total} cycles"
-    yield from (f"{number:8}  {reason}" for reason, number in reasons.stops.most_common() if reason != QUEUE_EMPTY)
+    yield from (f"{number:8}  {reason}" for reason, number in front.rename.most_common() if reason != QUEUE_EMPTY)
 
 
 def cost_lines(reasons, disassembler):

@@ -1,6 +1,5 @@
 """The text that `trace` writes, as rows (docs/formats.md, "The trace")."""
 import gzip
-import os
 import re
 import sys
 from typing import NamedTuple
@@ -118,8 +117,8 @@ class Progress:
         finally:
             if self.shown:
                 self.show("")
+                self.screen.write("\r")
 
     def show(self, text):
-        width = os.get_terminal_size(self.screen.fileno()).columns if text else 40
-        self.screen.write("\r" + text[:width - 1].ljust(24) + ("" if text else "\r"))
+        self.screen.write(f"\r{text:16}")
         self.screen.flush()

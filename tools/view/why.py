@@ -6,7 +6,7 @@ from .reasons import HELD
 
 
 def lines_of(replay, disassembler, first, last, summary):
-    """The lines of `why`: each wait that touches the cycles from `first` to `last`, each stop of rename, and the sums."""
+    """The lines of `why`: each wait that touches the cycles from `first` to `last`, each stall of rename, and the sums."""
     waits, held = Counter(), Counter()
     last = NEVER if last is None else last
     for item in replay.items():
@@ -17,10 +17,10 @@ def lines_of(replay, disassembler, first, last, summary):
             if not summary and wait.first <= last and wait.last >= first:
                 yield wait_line(item, wait, disassembler)
     if not summary:
-        for stop in replay.reasons.rename_stops:
-            if stop.first <= last and stop.last >= first:
-                yield f"{cycles(stop):>13}  rename stops short of {disassembler.place(stop.pc)}: {stop.reason}"
-    yield from sums(replay.reasons, waits, held, disassembler)
+        for stall in replay.front.stalls:
+            if stall.first <= last and stall.last >= first:
+                yield f"{cycles(stall):>13}  rename stops short of {disassembler.place(stall.pc)}: {stall.reason}"
+    yield from sums(replay, waits, held, disassembler)
 
 
 def cycles(span):
@@ -36,14 +36,15 @@ def wait_line(item, wait, disassembler):
     return f"{line} of {wait.serial} {disassembler.place(wait.pc)}"
 
 
-def sums(reasons, waits, held, disassembler):
+def sums(replay, waits, held, disassembler):
+    unexplained = replay.reasons.unexplained
     yield listed("waits of instructions, in cycles", waits)
-    yield listed("rename stops short, in cycles", reasons.stops)
-    yield listed("fetch stops short, in cycles", reasons.fetch_stops)
+    yield listed("rename stops short, in cycles", replay.front.rename)
+    yield listed("fetch stops short, in cycles", replay.front.fetch)
     for (pc, root), number in held.most_common():
         yield f"held by taint, in cycles: {number} at {disassembler.place(pc)}, by the load {disassembler.place(root)}"
-    yield f"unexplained: {len(reasons.unexplained)}"
-    yield from ("  " + text for text in reasons.unexplained)
+    yield f"unexplained: {len(unexplained)}"
+    yield from ("  " + text for text in unexplained)
 
 
 def listed(title, counter):

@@ -33,7 +33,7 @@ class Statistics(unittest.TestCase):
 
     def test_cycles_without_retirement(self):
         """Retirement is in 13, 16, 17, 20 and 21. Up to 2 nothing is in flight, the load executes from 4 to 12, and so on."""
-        self.has("nothing retired in 16 of 21 cycles", "9  oldest executes: miss", "2  window empty", "2  oldest executes: mul",
+        self.has("nothing retired in 16 of 21 cycles", "9  oldest executes: load miss", "2  window empty", "2  oldest executes: multiplication",
                  "1  window empty after a misprediction", "2  oldest begins to execute")
 
 

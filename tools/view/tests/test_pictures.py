@@ -18,8 +18,10 @@ def fault_shadow():
 
 
 def panels():
-    return [drawing.Panel(title, run, disassembler, 1, 23, 16)
-            for title, (run, disassembler) in zip(("under <spectre>", "under futuristic"), fault_shadow())]
+    titles = "under <spectre>", "under futuristic"
+    marks = difference.first_unequal([run.trace for run, _ in fault_shadow()])
+    return [drawing.Panel(title, run, disassembler, (1, 23), mark)
+            for title, (run, disassembler), mark in zip(titles, fault_shadow(), marks)]
 
 
 class Spans(unittest.TestCase):
@@ -55,13 +57,18 @@ class Pictures(unittest.TestCase):
         return [element.text for element in self.root.iter(SVG + "text")]
 
     def test_both_panels_have_all_their_instructions(self):
-        for name in ("00010000 division x9, x2, x2 <_start>", "00010014 load x7, x6 <_start+0x14>"):
+        for name in ("00010000 division x9, x2, x2", "00010014 load x7, x6"):
             self.assertEqual(self.texts().count(name), 2, name)
+
+    def test_a_symbol_that_all_have_is_told_once(self):
+        self.assertEqual(self.texts().count("end trap 5 00010004 retired 1 cycles 23, all in <_start>"), 2)
 
     def test_the_first_unequal_cycle_is_framed_in_both(self):
         frames = [element for element in self.root.iter(SVG + "rect") if element.get("class") == "frame"]
         self.assertEqual(len(frames), 2)
         self.assertEqual({element.get("x") for element in frames}, {str(15 * drawing.CELL - 1)})
+        self.assertIn("first unequal cycle: 16, only here: ld:5:0001f900:m", self.texts())
+        self.assertIn("first unequal cycle: 16", self.texts())
 
     def test_only_futuristic_holds_the_load_by_taint(self):
         red = [element for element in self.root.iter(SVG + "rect") if element.get("fill") == drawing.STATES["taint"][1]]
@@ -75,10 +82,10 @@ class Pictures(unittest.TestCase):
 
     def test_what_is_squashed_is_struck_through(self):
         run, disassembler = support.fresh_bounds_check()
-        root = ElementTree.fromstring(drawing.picture([drawing.Panel("a", run, disassembler, 1, 21, None)]))
+        root = ElementTree.fromstring(drawing.picture([drawing.Panel("a", run, disassembler, (1, 21))]))
         struck = [element.text for element in root.iter(SVG + "text") if element.get("class") == "struck"]
         self.assertEqual(len(struck), 7)
-        self.assertIn("00010018 load x7, x6 <_start+0x18>", struck)
+        self.assertIn("00010018 load x7, x6", struck)
 
     def test_a_page_stands_alone(self):
         text = page.page(panels())

@@ -84,8 +84,8 @@ class WorkedTraces(unittest.TestCase):
         """Four loads may be in flight, so the fifth isn't renamed until one retires in 13. Then the call waits to be alone."""
         image = support.image_of_words("wrong_path", PROGRAMS["wrong path misses"])
         run, _, _ = support.replay(support.worked_trace("Misses of a wrong path"), image, support.example("core.toml"))
-        stops = [(cycles(stop), stop.reason, hex(stop.pc)) for stop in run.reasons.rename_stops]
-        self.assertEqual(stops[:2], [("5..12", "loads", "0x10018"), ("14..16", "call waits to be alone", "0x10020")])
+        stalls = [(cycles(stall), stall.reason, hex(stall.pc)) for stall in run.front.stalls]
+        self.assertEqual(stalls[:2], [("5..12", "loads", "0x10018"), ("14..16", "call waits to be alone", "0x10020")])
 
 
 class Unexplained(unittest.TestCase):

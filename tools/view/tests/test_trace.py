@@ -1,9 +1,10 @@
 """The text of a trace (docs/formats.md, "The trace" and "The last line")."""
+import io
 import unittest
 
 import support
 from view import Fault
-from view.trace import Trace
+from view.trace import Progress, Trace
 
 SHORT = """1 fet:00010000 fet:00010004
 2 ren:0:00010000 fet:00010008
@@ -50,3 +51,20 @@ class Rows(unittest.TestCase):
 
     def test_the_worked_traces_are_read(self):
         self.assertEqual(len(list(Trace(iter(support.worked_trace("Bounds check bypass"))))), 21)
+
+
+class Screen(io.StringIO):
+    def __init__(self, is_terminal):
+        super().__init__()
+        self.is_terminal = is_terminal
+
+    def isatty(self):
+        return self.is_terminal
+
+
+class HowFar(unittest.TestCase):
+    def test_only_a_terminal_is_told_how_far_it_is(self):
+        for is_terminal, told in ((True, ["cycle 0", "cycle 20000", "cycle 40000", "", ""]), (False, [])):
+            screen = Screen(is_terminal)
+            self.assertEqual(sum(1 for _ in Progress(iter(["1\n"] * 50000), screen)), 50000)
+            self.assertEqual([text.strip() for text in screen.getvalue().split("\r")[1:]], told)

@@ -1,7 +1,8 @@
-"""Nothing is unexplained over what the program writes, and every event that is changed is noticed.
+"""Nothing is unexplained over what the program and an independent model write, and every event that is changed is noticed.
 
 The reasons are found from the trace's text, the image and the description alone, so this is a second opinion on the program.
 """
+import gc
 import os
 import unittest
 
@@ -9,8 +10,10 @@ import support
 from generate.generated import generated_image
 from programs import PROGRAMS
 from view import Fault
+from view.pipeline import Item
 
 GENERATED, BLOCKS, CYCLES = 20, 24, 3000
+RUNS = os.path.join(support.ROOT, "tools", "evaluate", "runs")
 WORKED = [("Bounds check bypass", "bounds_check"), ("Fault shadow", "fault_shadow")]
 
 
@@ -38,10 +41,46 @@ class OverThePrograms(unittest.TestCase):
         for name, words in PROGRAMS.items():
             self.assertGreater(self.explained(support.image_of_words(name, words)), 4, name)
 
+    def test_the_small_programs_meet_each_reason(self):
+        waits, stalls, fetch = set(), set(), set()
+        for name, words in PROGRAMS.items():
+            image = support.image_of_words(name, words)
+            for description in support.descriptions():
+                run, _, items = support.replay(support.trace_of(description, image, CYCLES), image, description)
+                waits |= {wait.reason for item in items for wait in item.waits}
+                stalls |= set(run.front.rename)
+                fetch |= set(run.front.fetch)
+        self.assertEqual(waits, {"operand", "taint", "older store", "port", "miss register", "divider", "taint, to be resolved",
+                                 "one resolved a cycle"})
+        self.assertEqual(stalls, {"reorder buffer", "stations", "loads", "stores", "call in flight", "call waits to be alone",
+                                  "queue empty"})
+        self.assertEqual(fetch, {"queue full", "nothing to fetch"})
+
     def test_generated_images(self):
         for seed in range(GENERATED):
             image = support.file_of(f"generated_{seed}.elf", generated_image(seed, BLOCKS))
             self.assertGreater(self.explained(image), 100)
+
+
+    def test_instructions_that_are_gone_take_no_memory(self):
+        """Of the thousands of a run no more are held than can be in flight at once."""
+        image, description = support.file_of("long.elf", generated_image(1, 200)), support.example("core.toml")
+        run, _ = support.fresh(support.trace_of(description, image, 100000), image, description)
+        before, most, number = live_items(), 0, 0
+        for number, _ in enumerate(run.items(), 1):
+            most = max(most, live_items() - before) if number % 500 == 0 else most
+        self.assertGreater(number, 2000)
+        self.assertLess(most, 200)
+
+
+class OverAnIndependentModel(unittest.TestCase):
+    def test_small_random_runs(self):
+        folders = sorted(name for name in os.listdir(RUNS) if os.path.isdir(os.path.join(RUNS, name)))
+        self.assertGreater(len(folders), 30)
+        for name in folders:
+            trace, image, description = (os.path.join(RUNS, name, file) for file in ("trace", "image.elf", "core.toml"))
+            with self.subTest(run=name), open(trace, encoding="ascii") as lines:
+                self.assertEqual(unexplained(lines, image, description), [])
 
 
 class EveryEventMatters(unittest.TestCase):
@@ -66,6 +105,10 @@ class EveryEventMatters(unittest.TestCase):
                 lines[number] = " ".join([first, event, *events]) + "\n"
                 with self.subTest(trace=heading, cycle=number, event=event):
                     self.assertTrue(self.noticed(lines, name))
+
+
+def live_items():
+    return sum(isinstance(thing, Item) for thing in gc.get_objects())
 
 
 def without_one_event(lines):

@@ -1,0 +1,96 @@
+"""Why rename or fetch stops short of the width (docs/machine.md, "Rename" and "Fetch")."""
+from collections import Counter
+
+from .instruction import CALL, LOAD, STOP, STORE
+
+REORDER_BUFFER, CALL_IN_FLIGHT, LOADS, STORES, CALL_ALONE, STATIONS = (
+    "reorder buffer", "call in flight", "loads", "stores", "call waits to be alone", "stations")
+QUEUE_EMPTY, QUEUE_FULL, NOTHING_TO_FETCH = "queue empty", "queue full", "nothing to fetch"
+
+
+class Stall:
+    """Cycles in a row in which rename stopped short for one reason, and the address of the item that stayed first."""
+
+    __slots__ = ("first", "last", "reason", "pc")
+
+    def __init__(self, cycle, reason, pc):
+        self.first = self.last = cycle
+        self.reason, self.pc = reason, pc
+
+
+class FrontEnd:
+    """Looks at each renaming before it is applied, and at the queue behind the two phases; `tell` gets what no rule explains.
+
+    `rename` and `fetch` count the cycles in which they stopped short, by reason; `stalls` are those of rename by their cycles.
+    """
+
+    def __init__(self, pipeline, tell):
+        self.pipeline, self.description, self.tell = pipeline, pipeline.description, tell
+        self.rename, self.fetch, self.stalls = Counter(), Counter(), []
+        self.fetching = True
+
+    def to_rename(self, item):
+        """The reason why the front of the queue can't go, None where it can."""
+        pipeline, description, kind = self.pipeline, self.description, item.code.kind
+        if len(pipeline.window) >= description.rob:
+            return REORDER_BUFFER
+        if pipeline.has_call:
+            return CALL_IN_FLIGHT
+        if kind == LOAD and pipeline.loads >= description.loads:
+            return LOADS
+        if kind == STORE and pipeline.stores >= description.stores:
+            return STORES
+        if kind == CALL and pipeline.window:
+            return CALL_ALONE
+        if not item.code.at_once and len(pipeline.waiting) >= description.stations:
+            return STATIONS
+        return None
+
+    def before_rename(self, serial):
+        reason = self.to_rename(self.pipeline.queue[0]) if self.pipeline.queue else None
+        if reason:
+            self.tell(f"entry {serial} is renamed, but has to wait: {reason}")
+
+    def after_rename(self, count):
+        """Fewer than the width were renamed: nothing was left, or the front of the queue couldn't go."""
+        if count > self.description.fetch_width:
+            self.tell(f"{count} items are renamed")
+        if count >= self.description.fetch_width:
+            return
+        if not self.pipeline.queue:
+            self.rename[QUEUE_EMPTY] += 1
+            return
+        front = self.pipeline.queue[0]
+        reason = self.to_rename(front)
+        if reason is None:
+            self.tell(f"the item of {front.pc:08x} isn't renamed, and nothing tells why")
+            return
+        self.rename[reason] += 1
+        self.keep_stall(reason, front.pc)
+
+    def keep_stall(self, reason, pc):
+        last, cycle = self.stalls[-1] if self.stalls else None, self.pipeline.cycle
+        if last and last.last == cycle - 1 and last.reason == reason and last.pc == pc:
+            last.last = cycle
+        else:
+            self.stalls.append(Stall(cycle, reason, pc))
+
+    # ---- Fetch
+
+    def after_fetch(self, fetched, squashed):
+        """Fewer than the width were fetched: the queue is full, or a stop or a jump that faults left nothing to fetch.
+
+        A jump that faults drops what is younger, and nothing is fetched from then on: the trace tells it by that alone.
+        """
+        queue, width = self.pipeline.queue, self.description.fetch_width
+        self.fetching = self.fetching or squashed
+        if fetched and not self.fetching or len(fetched) > width or fetched and len(queue) > self.description.queue:
+            self.tell("more is fetched than may be")
+        if fetched and fetched[-1].code.kind == STOP or squashed and not fetched:
+            self.fetching = False
+        if len(fetched) < width:
+            full = len(queue) >= self.description.queue
+            if full or not self.fetching:
+                self.fetch[QUEUE_FULL if full else NOTHING_TO_FETCH] += 1
+            else:
+                self.tell("fetch stops short, and nothing tells why")
