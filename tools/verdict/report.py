@@ -153,4 +153,4 @@ def wrong_loads(loads):
     if not loads:
         return "; no wrong path loaded them"
     done = sum(item.done is not None for item in loads)
-    return f"; wrong paths loaded them {plural(len(loads), 'time')}, and {plural(done, 'time')} the value came before all was dropped"
+    return f"; wrong paths loaded them {plural(len(loads), 'time')}, and the value came {plural(done, 'time')} before all was dropped"

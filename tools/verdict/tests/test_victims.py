@@ -50,7 +50,7 @@ class Victims(unittest.TestCase):
     def test_verdicts(self):
         for compiler, folder in self.each_compiler():
             cases = [(name, word) for name, by, word in table() if by == compiler]
-            self.assertEqual(len(cases), 8)
+            self.assertEqual(len(cases), 9)
             for name, word in cases:
                 images = [os.path.join(folder, f"{name}_{secret}.elf") for secret in "ab"]
                 for description in DESCRIPTIONS:
@@ -63,7 +63,7 @@ class Victims(unittest.TestCase):
         """Each victim's run on the instruction set is the simulator's."""
         for _, folder in self.each_compiler():
             paths = glob.glob(os.path.join(folder, "*.elf"))
-            self.assertEqual(len(paths), 17)
+            self.assertEqual(len(paths), 19)
             for path in paths:
                 words = path, 100000, support.example(DESCRIPTIONS[0])
                 self.assertEqual(material.own_report(*words), material.isa_report(*words), path)
