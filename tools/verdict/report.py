@@ -3,7 +3,7 @@ from typing import NamedTuple
 
 from view import difference
 from view.description import Description
-from view.disassembly import Disassembler
+from view.disassembly import CALLERS, Disassembler
 from view.replay import Replay
 from view.trace import Trace
 
@@ -51,9 +51,9 @@ class Case(NamedTuple):
         return "hidden" if self.telling.held else "vacuous"
 
 
-def lines(case):
+def lines(case, notation=CALLERS):
     """The whole verdict, a line each."""
-    texts = [Disassembler(image) for image in (case.one, case.two)]
+    texts = [Disassembler(image, notation) for image in (case.one, case.two)]
     yield row("description", f"{case.description}, model {case.machine.model}")
     yield row("A", f"{case.one.name}: {case.pair.ends[0].text}")
     yield row("B", f"{case.two.name}: {case.pair.ends[1].text}")

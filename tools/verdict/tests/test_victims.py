@@ -6,6 +6,7 @@ import re
 import shutil
 import subprocess
 import tempfile
+import textwrap
 import unittest
 
 import material
@@ -58,6 +59,17 @@ class Victims(unittest.TestCase):
                         told = material.command("verdict", support.example(description), *images)
                         self.assertEqual(told.stderr, "")
                         self.assertIn(f"\nverdict       {word}: ", told.stdout)
+
+    def test_sample_of_the_page(self):
+        """The verdict that docs/using.md shows is what the command writes for gcc's table lookup."""
+        if missing("gcc"):
+            self.skipTest(missing("gcc"))
+        page = material.read("docs", "using.md")
+        sample = re.search(r"^ +description .*?\n +verdict .*?\n", page, re.MULTILINE | re.DOTALL).group()
+        folder = built("gcc")
+        told = material.command("verdict", support.example("medium.toml"), *(f"{folder}/table_{secret}.elf" for secret in "ab")).stdout
+        told = told.replace(folder, "examples/c/build/gcc").replace(support.example("medium.toml"), "examples/medium.toml")
+        self.assertEqual(textwrap.dedent(sample), told)
 
     def test_runs(self):
         """Each victim's run on the instruction set is the simulator's."""
