@@ -10,8 +10,7 @@ import textwrap
 import unittest
 
 import material
-from material import needs_program
-from material import support
+from material import needs_program, support
 
 FOLDER = support.example("c")
 COMPILERS = {"gcc": ("riscv64-unknown-elf-gcc",), "clang": ("clang", "ld.lld")}
