@@ -2,9 +2,15 @@
 from typing import NamedTuple
 
 from view import difference
-from view.disassembly import Disassembler
+from view.description import Description
+from view.disassembly import CALLERS, Disassembler
 from view.replay import Replay
 from view.trace import Trace
+
+from .loaded import Loaded
+from .premises import Premises
+from .simulator import Pair
+from .telling import Telling
 
 WIDTH = 14
 MOST_LINES = 6
@@ -24,12 +30,12 @@ MEANING = {
 class Case(NamedTuple):
     """Two images under a description: their comparison, their premises, and what the first one's trace tells."""
     description: str
-    machine: object
-    one: object
-    two: object
-    pair: object
-    premises: object
-    telling: object
+    machine: Description
+    one: Loaded
+    two: Loaded
+    pair: Pair
+    premises: Premises
+    telling: Telling
 
     @property
     def met(self):
@@ -45,9 +51,9 @@ class Case(NamedTuple):
         return "hidden" if self.telling.held else "vacuous"
 
 
-def lines(case):
+def lines(case, notation=CALLERS):
     """The whole verdict, a line each."""
-    texts = [Disassembler(image) for image in (case.one, case.two)]
+    texts = [Disassembler(image, notation) for image in (case.one, case.two)]
     yield row("description", f"{case.description}, model {case.machine.model}")
     yield row("A", f"{case.one.name}: {case.pair.ends[0].text}")
     yield row("B", f"{case.two.name}: {case.pair.ends[1].text}")
@@ -62,6 +68,14 @@ def lines(case):
 
 def row(name, text):
     return f"{name:{WIDTH}}{text}"
+
+
+def limited(rows):
+    """The first of these lines, and how many more there are."""
+    rows = list(rows)
+    yield from rows[:MOST_LINES]
+    if len(rows) > MOST_LINES:
+        yield row("", f"and {len(rows) - MOST_LINES} more")
 
 
 def plural(number, noun):
@@ -107,8 +121,8 @@ def path(case, texts):
     by_load = {}
     for address, pc in shown.items():
         by_load.setdefault(pc, []).append(address)
-    for pc, addresses in list(by_load.items())[:MOST_LINES]:
-        yield row("", f"{shortened(groups(case.one, addresses))} first by {texts.place(pc)}")
+    yield from limited(row("", f"{shortened(groups(case.one, addresses))} first by {texts.place(pc)}")
+                       for pc, addresses in by_load.items())
 
 
 def traces(case, texts):
@@ -122,20 +136,18 @@ def traces(case, texts):
     yield row("traces", first)
     for side in "AB":
         only = [other for other in others if other.startswith((f"only {side}", side))]
-        yield from (row("", other) for other in only[:MOST_LINES])
-        if len(only) > MOST_LINES:
-            yield row("", f"only {side}: and {plural(len(only) - MOST_LINES, 'more event')}")
+        yield from limited(row("", other) for other in only)
 
 
 def transmitters(telling, texts):
     """What was held on the differing bytes, and what showed them."""
-    for (pc, what), held in list(telling.held.items())[:MOST_LINES]:
-        yield row("held", f"{texts.place(pc)}: its {what}, {plural(len(held.items), 'time')}, {plural(held.cycles, 'cycle')}, "
-                          f"{afterwards(held)}")
+    yield from limited(row("held", f"{texts.place(pc)}: its {what}, {plural(len(held.items), 'time')}, "
+                                   f"{plural(held.cycles, 'cycle')}, {afterwards(held)}")
+                       for (pc, what), held in telling.held.items())
     if not telling.held:
         yield row("held", "nothing on an operand made of the bytes that differ" + wrong_loads(telling.wrong_loads))
-    for (pc, what), shown in list(telling.shown.items())[:MOST_LINES]:
-        yield row("shown", f"{texts.place(pc)}: its {what}, {plural(shown.times, 'time')}, first in cycle {shown.cycle}")
+    yield from limited(row("shown", f"{texts.place(pc)}: its {what}, {plural(shown.times, 'time')}, first in cycle {shown.cycle}")
+                       for (pc, what), shown in telling.shown.items())
 
 
 def afterwards(held):
@@ -153,4 +165,4 @@ def wrong_loads(loads):
     if not loads:
         return "; no wrong path loaded them"
     done = sum(item.done is not None for item in loads)
-    return f"; wrong paths loaded them {plural(len(loads), 'time')}, and {plural(done, 'time')} the value came before all was dropped"
+    return f"; wrong paths loaded them {plural(len(loads), 'time')}, and the value came {plural(done, 'time')} before all was dropped"

@@ -16,8 +16,6 @@ from .values import Valued
 
 SHOWS = {LOAD: "access", DIVISION: "time", BRANCH: "direction", JALR: "target", STORE: "line", CALL: "registers"}
 BEFORE_A_LOAD = "address before a load"
-
-
 A0, A1, A2, A7 = 10, 11, 12, 17
 
 
@@ -61,16 +59,23 @@ class Telling(Replay):
         """For each source, whether its value comes from the differing bytes."""
         return self.pipeline.values[item.serial].marked
 
+    def hidden(self, item):
+        """Whether a source is made of the differing bytes, and tainted."""
+        return any(self.hidden_source(item, place) for place in range(len(item.roots)))
+
+    def hidden_source(self, item, place):
+        return self.marked(item)[place] and self.pipeline.is_hidden(item.roots[place])
+
     # ---- Phases
 
     def resolve(self, events):
-        controls = [(item, any(self.marked(item))) for item in self.pipeline.controls]
+        hidden = [item for item in self.pipeline.controls if self.hidden(item)]
         for words in events[:1]:
             item = self.pipeline.entry(words)
             self.shows(item, any(self.marked(item)))
         squashed = super().resolve(events)
-        for item, marked in controls:
-            if marked and self.waited(item, TAINTED_OUTCOME):
+        for item in hidden:
+            if self.waited(item, TAINTED_OUTCOME):
                 self.holds(item, SHOWS[item.code.kind])
         return squashed
 
@@ -85,28 +90,26 @@ class Telling(Replay):
         super().retire(events, ends)
 
     def issue(self, events):
-        waiting, stores = list(self.pipeline.waiting), list(self.pipeline.open_stores)
+        hidden, stores = [item for item in self.pipeline.waiting if self.hidden(item)], list(self.pipeline.open_stores)
         for words in events:
             item = self.pipeline.entry(words)
             if item.code.kind == LOAD:
-                self.load(item)
+                self.load(item, words[-1] in "hmj")
             elif item.code.kind == DIVISION:
                 self.shows(item, any(self.marked(item)))
         super().issue(events)
-        for item in waiting:
+        for item in hidden:
             behind_store = item.code.kind == LOAD and stores and stores[0].serial < item.serial
-            if any(self.marked(item)) and self.waited(item, TAINT) and not behind_store:
+            if self.waited(item, TAINT) and not behind_store:
                 self.holds(item, SHOWS[item.code.kind])
 
-    def load(self, item):
-        """A load that issues: what it shows, what it loads, and which stores it may not tell from others."""
+    def load(self, item, accesses):
+        """A load that issues: what it shows, what it loads, and which stores it goes to the cache for, covered or not."""
         self.shows(item, self.marked(item)[0])
         if self.pipeline.values[item.serial].loads_marked:
             self.loads.append(item)
         for store in self.pipeline.window:
-            if store is item:
-                return
-            if store.code.kind == STORE and self.marked(store)[0] and self.pipeline.is_hidden(store.roots[0]):
+            if accesses and store.code.kind == STORE and store.serial < item.serial and self.hidden_source(store, 0):
                 self.holds(store, BEFORE_A_LOAD)
 
     # ---- Counting

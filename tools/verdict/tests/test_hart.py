@@ -4,8 +4,7 @@ import os
 import unittest
 
 import material
-from material import CODE, CORE, image_file, needs_program, programs, segment, words
-from material import support
+from material import CODE, CORE, image_file, needs_program, programs, segment, support, words
 from generate.generated import generated_image
 from verdict.hart import Hart, report
 
@@ -80,12 +79,20 @@ class AgainstIsa(unittest.TestCase):
         self.assertEqual(material.own_report(path, steps, description), material.isa_report(path, steps, description), path)
 
     def test_stored_images(self):
+        """The images of the repository, in the usual memory and in that of the example."""
         paths = glob.glob(support.example("*.elf")) + glob.glob(os.path.join(support.ROOT, "crates", "*", "data", "*.elf"))
         self.assertGreaterEqual(len(paths), 6)
         for path in paths + [os.path.join(support.ROOT, "tools", "speed", "loop.elf")]:
             for steps in (1, 3, 1000):
                 self.agrees(path, steps)
                 self.agrees(path, steps, CORE)
+
+    def test_random_programs(self):
+        """Those of the independent model's runs, each under its description."""
+        self.assertGreater(len(material.RUNS), 30)
+        for run in material.RUNS:
+            for steps in (5, 1000):
+                self.agrees(os.path.join(run, "image.elf"), steps, os.path.join(run, "core.toml"))
 
     def test_small_programs(self):
         for name, numbers in programs().items():

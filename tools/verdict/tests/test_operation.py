@@ -1,5 +1,4 @@
 """Words, names, immediates and values (docs/instruction-set.md, "Decoding" and "Values")."""
-import os
 import random
 import re
 import shutil

@@ -1,8 +1,9 @@
 """What a trace tells of bytes that differ, on the worked traces (docs/machine.md, "Worked traces")."""
+import os
 import unittest
 
-from material import support
-from material import BOUND_0, CODE, CORE, DATA, SECRET, gadget, program
+from material import BOUND_0, CODE, CORE, DATA, RUNS, SECRET, gadget, program, support
+from verdict.loaded import Loaded
 from verdict.telling import Telling
 from view import Fault
 from view.description import read_description
@@ -70,6 +71,20 @@ class Worked(unittest.TestCase):
         """What is computed agrees with the trace: a wholly forwarded load, one that isn't, misses of a wrong path."""
         for found in (forwarding(), telling("wrong path misses", "Misses of a wrong path")):
             self.assertEqual((found.reasons.unexplained, held(found), found.shown), ([], {}, {}))
+
+
+class IndependentRuns(unittest.TestCase):
+    def test_values(self):
+        """What is computed along the traces of an independent model, wrong paths too, is what they tell."""
+        wrong = 0
+        for run in RUNS:
+            machine = read_description(os.path.join(run, "core.toml"))
+            image = Loaded(os.path.join(run, "image.elf"), machine.base, machine.size)
+            with open(os.path.join(run, "trace"), encoding="ascii") as trace:
+                found = Telling(Trace(trace), image, machine, range(machine.base, machine.base + machine.size))
+            self.assertEqual(found.reasons.unexplained, [], run)
+            wrong += len(found.wrong_loads)
+        self.assertGreater(wrong, 20)
 
 
 class OtherTraces(unittest.TestCase):

@@ -1,8 +1,7 @@
 """The command: verdicts on the gadgets, statuses, refusals (docs/using.md, "Read a verdict")."""
 import unittest
 
-from material import support
-from material import BOUND_0, CODE, CORE, CORE_FUTURISTIC, command, gadget, gadget_file, needs_program
+from material import BOUND_0, CODE, CORE, CORE_FUTURISTIC, command, gadget, gadget_file, needs_program, support
 from verdict import judge, report, simulator
 from view.description import read_description
 

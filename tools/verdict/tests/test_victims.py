@@ -6,11 +6,11 @@ import re
 import shutil
 import subprocess
 import tempfile
+import textwrap
 import unittest
 
 import material
-from material import needs_program
-from material import support
+from material import needs_program, support
 
 FOLDER = support.example("c")
 COMPILERS = {"gcc": ("riscv64-unknown-elf-gcc",), "clang": ("clang", "ld.lld")}
@@ -50,7 +50,7 @@ class Victims(unittest.TestCase):
     def test_verdicts(self):
         for compiler, folder in self.each_compiler():
             cases = [(name, word) for name, by, word in table() if by == compiler]
-            self.assertEqual(len(cases), 8)
+            self.assertEqual(len(cases), 9)
             for name, word in cases:
                 images = [os.path.join(folder, f"{name}_{secret}.elf") for secret in "ab"]
                 for description in DESCRIPTIONS:
@@ -59,11 +59,22 @@ class Victims(unittest.TestCase):
                         self.assertEqual(told.stderr, "")
                         self.assertIn(f"\nverdict       {word}: ", told.stdout)
 
+    def test_sample_of_the_page(self):
+        """The verdict that docs/using.md shows is what the command writes for gcc's table lookup."""
+        if missing("gcc"):
+            self.skipTest(missing("gcc"))
+        page = material.read("docs", "using.md")
+        sample = re.search(r"^ +description .*?\n +verdict .*?\n", page, re.MULTILINE | re.DOTALL).group()
+        folder = built("gcc")
+        told = material.command("verdict", support.example("medium.toml"), *(f"{folder}/table_{secret}.elf" for secret in "ab")).stdout
+        told = told.replace(folder, "examples/c/build/gcc").replace(support.example("medium.toml"), "examples/medium.toml")
+        self.assertEqual(textwrap.dedent(sample), told)
+
     def test_runs(self):
         """Each victim's run on the instruction set is the simulator's."""
         for _, folder in self.each_compiler():
             paths = glob.glob(os.path.join(folder, "*.elf"))
-            self.assertEqual(len(paths), 17)
+            self.assertEqual(len(paths), 19)
             for path in paths:
                 words = path, 100000, support.example(DESCRIPTIONS[0])
                 self.assertEqual(material.own_report(*words), material.isa_report(*words), path)
