@@ -1,4 +1,4 @@
--- What the parts that a core lends tell of its machine (docs/machine.md, "The parts stand for the machine").
+-- What the parts that a core lends tell of its machine (docs/architecture.md, "How they stand for it").
 use Rattle.std.specs.Prelude.{◌≡◌, ℕ, ◌<◌, ◌≤◌, nat_le, true, List, [], ◌∷◌, length, map, reverse, slice_get, Option, Some, if◌then◌else◌}
 use Rattle.std.specs.List.{All}
 use Rattle.std.specs.Option.{option_map}

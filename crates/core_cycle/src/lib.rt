@@ -1,7 +1,7 @@
 //! The written machine by its parts: each part answers what else the window would have to be searched for.
 //!
 //! Each phase stands in a crate of its own, over the parts that it moves; here they are put together. `specs/Held.antt` says
-//! which machine the parts hold and when they stand for it (`docs/machine.md`, "The parts stand for the machine").
+//! which machine the parts hold and when they stand for it (`docs/architecture.md`, "How they stand for it").
 #![tactic(auto)]
 
 mod by_parts;

@@ -1,4 +1,4 @@
-//! The entries that begin, in their places (`docs/machine.md`, "The parts stand for the machine").
+//! The entries that begin, in their places (`docs/architecture.md`, "How they stand for it").
 ghost use Rattle.std.specs.Prelude.{◌≡◌, ℕ, List, Option};
 ghost use Rattle.std.specs.List.{AllZip};
 ghost use Rattle.lsq.specs.Queues.{Queues};

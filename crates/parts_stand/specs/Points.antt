@@ -1,4 +1,4 @@
--- What the visibility point keeps between two moves, as the window changes (docs/machine.md, "The parts stand for the machine").
+-- What the visibility point keeps between two moves, as the window changes (docs/architecture.md, "How they stand for it").
 use Rattle.std.specs.Prelude.{◌≡◌, ℕ, ◌+◌, ◌<◌, ◌≤◌, true, false, List, [], ◌∷◌, ◌++◌, drop, slice_get, slice_set, Some}
 use Rattle.std.specs.List.{All}
 use Rattle.machine_desc.specs.declared.SttModel.{SttModel}

@@ -1,4 +1,4 @@
--- Which steps keep the parts standing for the window (docs/machine.md, "The parts stand for the machine").
+-- Which steps keep the parts standing for the window (docs/architecture.md, "How they stand for it").
 use Rattle.std.specs.Prelude.{◌≡◌, ℕ, ◌+◌, nat_lt, true, false, List, [], ◌∷◌, ◌++◌, length, map, reverse, take, drop, slice_get, slice_set, Option, Some, if◌then◌else◌}
 use Rattle.std.specs.List.{filter, remove, count_by, AllZip}
 use Rattle.std.specs.Option.{option_to_list}

@@ -1,4 +1,4 @@
--- What parts that stand for the window tell of it (docs/machine.md, "The parts stand for the machine").
+-- What parts that stand for the window tell of it (docs/architecture.md, "How they stand for it").
 use Rattle.std.specs.Prelude.{◌≡◌, ℕ, ◌+◌, ◌<◌, ◌≤◌, Bool, true, ◌&&◌, nat_le, false, List, length, reverse, take, slice_get, slice_set, Option, Some, None, if◌then◌else◌}
 use Rattle.std.specs.List.{All, count_by, list_any}
 use Rattle.std.specs.Option.{option_map}

@@ -1,4 +1,4 @@
--- The serials of the sources' writers, by position (docs/machine.md, "The parts stand for the machine"): as they were when each
+-- The serials of the sources' writers, by position (docs/architecture.md, "How they stand for it"): as they were when each
 -- entry was renamed, so that a source's value is found without a search.
 use Rattle.std.specs.Prelude.{◌≡◌, ℕ, ◌+◌, ◌==◌, List, [], ◌∷◌, ◌++◌, length, map, take, drop, slice_get, Option, Some, None, if◌then◌else◌}
 use Rattle.std.specs.List.{AllZip}

@@ -3,7 +3,7 @@
 //! The reorder buffer has the window itself. The rename table, the stations, the youngest roots by position and the visibility
 //! point are there so that the window needn't be searched: `specs/Parts.antt` says what each holds where it stands for the
 //! window, `specs/Telling.antt` what it then tells of the window, and `specs/Steps.antt` and `specs/Points.antt` that what
-//! each phase does keeps it so (`docs/machine.md`, "The parts stand for the machine"). `specs/Addresses.antt` says the same of the
+//! each phase does keeps it so (`docs/architecture.md`, "How they stand for it"). `specs/Addresses.antt` says the same of the
 //! roots that stores in the queue have; that the queue's stores are the window's is `queue_laws`'s to say. `specs/Writers.antt` says it
 //! of the sources' writers by position.
 #![tactic(auto)]

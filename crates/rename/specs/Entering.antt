@@ -1,4 +1,4 @@
--- What an entry brings into the parts (docs/machine.md, "Rename", "The parts stand for the machine").
+-- What an entry brings into the parts (docs/machine.md, "Rename"; docs/architecture.md, "How they stand for it").
 use Rattle.std.specs.Prelude.{◌≡◌, ℕ, ◌<◌, true, List, [], ◌∷◌, ◌++◌, length, map, slice_get, Option, Some, None}
 use Rattle.std.specs.Option.{option_map}
 use Rattle.circular_buffer.specs.Buffer.{Buffer}
