@@ -1,0 +1,92 @@
+"""What tools/evaluate/write makes of the runs has what their folders have, and what is no run is refused."""
+import ast
+import os
+import re
+import shutil
+import struct
+import subprocess
+import sys
+import tempfile
+import unittest
+
+HERE = os.path.dirname(os.path.dirname(os.path.realpath(__file__)))
+ROOT = os.path.dirname(os.path.dirname(HERE))
+RUNS = os.path.join(HERE, "runs")
+NAMES = sorted(name for name in os.listdir(RUNS) if os.path.isdir(os.path.join(RUNS, name)))
+
+sys.dont_write_bytecode = True
+sys.path.insert(0, HERE)
+import instructions
+
+# words with their instructions, as GNU as writes them but for targets, which are distances
+WORDS = [
+    (0x00012283, "lw x5,0(x2)"), (0x025282B3, "mul x5,x5,x5"), (0x00507A63, "bgeu x0,x5,+20"), (0x80032383, "lw x7,-2048(x6)"),
+    (0xFE029EE3, "bne x5,x0,-4"), (0x0000006F, "jal x0,+0"), (0xFE9FF06F, "jal x0,-24"), (0x00230223, "sb x2,4(x6)"),
+    (0x80000437, "lui x8,0x80000"), (0x00C28067, "jalr x0,12(x5)"), (0x40545413, "srai x8,x8,5"), (0x00000073, "ecall"),
+    (0x00000000, "00000000, which is no instruction"), (0x00001013, "slli x0,x0,0"), (0x0202E3B3, "rem x7,x5,x0"),
+]
+# what makes a run's folder none, by the file that is changed
+WRONG = [
+    ("an image that is cut", "image.elf", lambda old: old[:-1]),
+    ("a trace without its last line's end", "trace", lambda old: old[:-1]),
+    ("a description that is no TOML", "core.toml", lambda old: b"[core\n"),
+    ("a description that lacks a key", "core.toml", lambda old: old.replace(b"rob", b"bor")),
+    ("cycles that are no number", "cycles", lambda old: b"many\n"),
+]
+
+
+def content(*path):
+    with open(os.path.join(*path), "rb") as file:
+        return file.read()
+
+
+def write(*words):
+    return subprocess.run([sys.executable, os.path.join(HERE, "write"), *words], capture_output=True, text=True)
+
+
+def lines_of(text, field):
+    """The lines of a field of a definition, as the bytes of a text."""
+    listed = re.search(field + r" = lines \(\n(.*?)\n      \[\]\)", text, re.S)[1]
+    return "".join(ast.literal_eval(line.strip().removesuffix(" ∷")) + "\n" for line in listed.split("\n")).encode()
+
+
+class Evaluate(unittest.TestCase):
+    def test_the_crate_has_what_would_be_written(self):
+        ended = write("--check")
+        self.assertEqual(ended.returncode, 0, ended.stdout + ended.stderr)
+
+    def test_definitions_have_what_the_folders_have(self):
+        for name in NAMES:
+            module = "".join(part.capitalize() for part in name.split("_"))
+            text = content(ROOT, "crates", "worked_runs", "specs", module + ".antt").decode()
+            image = b"".join(struct.pack("<I", int(word, 16)) for word in re.findall(r"0x([0-9a-f]{8}) ∷", text))
+            with self.subTest(name):
+                self.assertEqual(lines_of(text, "description"), content(RUNS, name, "core.toml"))
+                self.assertEqual(image, content(RUNS, name, "image.elf"))
+                self.assertIn(f"  cycles = {int(content(RUNS, name, 'cycles'))};\n", text)
+                self.assertEqual(lines_of(text, "trace"), content(RUNS, name, "trace"))
+
+    def test_what_is_no_run_is_refused_and_nothing_is_written(self):
+        for what, file, change in WRONG:
+            with self.subTest(what), tempfile.TemporaryDirectory() as folder:
+                runs, crate = os.path.join(folder, "runs"), os.path.join(folder, "crate")
+                shutil.copytree(os.path.join(RUNS, NAMES[0]), os.path.join(runs, NAMES[0]))
+                with open(os.path.join(runs, NAMES[0], file), "wb") as changed:
+                    changed.write(change(content(RUNS, NAMES[0], file)))
+                self.assertNotEqual(write("--runs", runs, "--crate", crate).returncode, 0)
+                self.assertFalse(os.path.exists(crate))
+
+    def test_a_table_has_the_runs_that_are_named(self):
+        with tempfile.TemporaryDirectory() as folder:
+            table = os.path.join(folder, "runs.rt")
+            self.assertEqual(write("--tests", table, *NAMES[:2]).returncode, 0)
+            self.assertEqual(re.findall(rb'name: "(\w+)"', content(table)), [name.encode() for name in NAMES[:2]])
+
+    def test_instructions_are_written_as_the_manual_has_them(self):
+        for word, text in WORDS:
+            with self.subTest(f"{word:08x}"):
+                self.assertEqual(instructions.text(word), text)
+
+
+if __name__ == "__main__":
+    unittest.main()
