@@ -1,0 +1,76 @@
+"""Values and marks of entries in flight, renamed by hand (docs/machine.md, "Entries")."""
+import unittest
+
+import material  # finds the modules below
+from generate.generated import add, lw, sw
+from material import BOUND_0, CODE, CORE, DATA, SECRET, loaded, segment, words
+from programs import lbu
+from verdict.path import walk
+from verdict.telling import arguments
+from verdict.values import Valued
+from view.description import FUTURISTIC, SPECTRE, read_description
+
+
+def image(*numbers):
+    return loaded("values.elf", [segment(CODE, words(*numbers), True), segment(DATA, BOUND_0 + b"\x04")])
+
+
+def renamed(numbers, model=SPECTRE):
+    """A pipeline in which these words are renamed one after another, and their entries."""
+    pipeline = Valued(image(*numbers), read_description(CORE)._replace(model=model), [SECRET])
+    items = []
+    for serial in range(len(numbers)):
+        pipeline.fetch(CODE + 4 * serial)
+        items.append(pipeline.rename(serial, CODE + 4 * serial))
+    return pipeline, items
+
+
+class Marks(unittest.TestCase):
+    def marked(self, *numbers):
+        """The registers that are made of the secret, behind these words."""
+        pipeline, _ = renamed(numbers)
+        return [register for register, marked in enumerate(pipeline.marked_registers) if marked]
+
+    def test_through_registers(self):
+        self.assertEqual(self.marked(lbu(6, 8, 2), add(7, 5, 6), add(9, 5, 5)), [6, 7])
+        self.assertEqual(self.marked(lbu(6, 8, 2), add(6, 5, 5)), [])
+
+    def test_through_memory(self):
+        store, clear = sw(6, 4, 2), sw(0, 4, 2)
+        self.assertEqual(self.marked(lbu(6, 8, 2), store, lw(7, 4, 2)), [6, 7])
+        self.assertEqual(self.marked(lbu(6, 8, 2), store, clear, lw(7, 4, 2)), [6])
+
+    def test_through_a_table(self):
+        """What is loaded from a place made of the secret is made of it."""
+        self.assertEqual(self.marked(lbu(6, 8, 2), add(6, 6, 2), lw(7, 0, 6), add(6, 5, 5)), [7])
+
+    def test_dropped(self):
+        """Behind a squash registers, memory and marks are as they were."""
+        pipeline, items = renamed([add(5, 2, 2), lbu(6, 8, 2), sw(6, 4, 2), add(5, 6, 6)])
+        pipeline.squash(items[0])
+        self.assertEqual((pipeline.registers[5], pipeline.registers[6]), (2 * DATA & 0xffffffff, 0))
+        self.assertEqual((pipeline.memory.get(DATA + 4, 1), any(pipeline.marked_registers)), (b"\0", False))
+        self.assertEqual([at for at, marked in pipeline.marked_bytes.items() if marked], [SECRET])
+
+
+class Shadows(unittest.TestCase):
+    def test_store_that_faults(self):
+        """Under futuristic a Done store is safe where it doesn't fault; under spectre stores cast no shadow."""
+        for store, model, safe in [(sw(5, 0, 0), FUTURISTIC, False), (sw(5, 0, 2), FUTURISTIC, True), (sw(5, 0, 0), SPECTRE, True)]:
+            pipeline, (item,) = renamed([store], model)
+            pipeline.issue(item, ["agu", "0"])
+            pipeline.complete(item)
+            self.assertEqual(pipeline.shadows, [] if safe else [item], (hex(store), model))
+
+
+class Others(unittest.TestCase):
+    def test_registers_of_calls(self):
+        """docs/instruction-set.md, "System calls": an exit looks at a7 and a0, a write at a1 and a2 too, any other at a7."""
+        self.assertEqual([sorted(arguments(number)) for number in (93, 94, 64, 1)], [[10, 17], [10, 17], [10, 11, 12, 17], [17]])
+
+    def test_stores_are_no_loads(self):
+        self.assertEqual(walk(image(sw(5, 0, 2), 0x05d00893, 0x00000073), SPECTRE, 10).loads, {})
+
+
+if __name__ == "__main__":
+    unittest.main()
