@@ -18,7 +18,7 @@ use Rattle.stations.specs.Stations.{Station, Stations}
 use Rattle.parts_stand.specs.Parts.{Stand, awaited, awaited_of, waiter_of, waiters_from, write_of}
 use Rattle.parts_stand.specs.Roots.{root_of_source, youngest_root}
 use Rattle.parts_stand.specs.Writers.{WritersOf, writer_of_source}
-use Rattle.parts_stand.proofs.Serials.{rise_cons, rise_nil}
+use Rattle.window_model.proofs.Serials.{rise_cons, rise_nil}
 use Rattle.resolve.specs.Parts.{Standing}
 
 abbrev none : List (Option ℕ)
