@@ -1,10 +1,13 @@
 //! Worked runs and refusals over files and sinks in memory: each status, each note, and reads and puts that fail.
 use crate::top::stt_top;
+use machine_desc::EXAMPLE;
 use std::alloc::Global;
+use std::process::Abort;
 use std::test::Fail;
 use tool_io::{Content, MemFail, MemFile, MemFiles, MemSink};
 
 mod bench;
+mod evaluated;
 mod failing;
 mod hostile;
 mod images;
@@ -14,7 +17,7 @@ mod texts;
 mod traces;
 
 use images::{DIVISIONS, EXIT_IN_TWO, OVERWRITES, WRITES, image_of};
-use texts::{DESCRIPTION, report_of};
+use texts::report_of;
 
 /// Room for every report of these tests.
 const ROOM: usize = 8192;
@@ -44,17 +47,6 @@ fn sink_of(alloc: Global, call: u64, sent: usize) -> Result<MemSink, Fail> {
     Ok(MemSink::new(alloc, ROOM, fails)?)
 }
 
-// The program's top call.
-fn top(
-    alloc: Global,
-    words: &[&str],
-    files: &mut MemFiles,
-    out: &mut MemSink,
-    note: &mut MemSink,
-) -> u8 {
-    stt_top(alloc, words, files, out, note)
-}
-
 /// What a run of the program left.
 #[derive(Drop)]
 struct Left {
@@ -63,13 +55,70 @@ struct Left {
     note: MemSink,
 }
 
-// Runs the program on these words, with p.elf and d.toml.
-fn run(alloc: Global, words: &[&str], image: &[u8], description: &[u8]) -> Result<Left, Fail> {
-    let mut files = files_of(alloc, image, description, 0)?;
-    let mut out = sink_of(alloc, 0, 0)?;
-    let mut note = sink_of(alloc, 0, 0)?;
-    let status = top(alloc, words, &mut files, &mut out, &mut note);
+/// What is to fail, by its number, 0 for nothing.
+#[derive(Copy, Clone)]
+struct Failures {
+    /// A read.
+    read: u64,
+    /// A put of the output, which lets so many bytes go out before.
+    put: u64,
+    sent: usize,
+    /// A put of the note, which lets so many bytes go out before.
+    note: u64,
+    noted: usize,
+}
+
+const NOTHING: Failures = Failures {
+    read: 0,
+    put: 0,
+    sent: 0,
+    note: 0,
+    noted: 0,
+};
+
+// Runs the program on these words, with p.elf and d.toml, and with what is to fail.
+fn run_failing(
+    alloc: Global,
+    words: &[&str],
+    image: &[u8],
+    description: &[u8],
+    failing: Failures,
+) -> Result<Left, Fail> {
+    let mut files = files_of(alloc, image, description, failing.read)?;
+    let mut out = sink_of(alloc, failing.put, failing.sent)?;
+    let mut note = sink_of(alloc, failing.note, failing.noted)?;
+    let status = stt_top(alloc, words, &mut files, &mut out, &mut note);
     Ok(Left { status, out, note })
+}
+
+// The same, where nothing fails.
+fn run(alloc: Global, words: &[&str], image: &[u8], description: &[u8]) -> Result<Left, Fail> {
+    run_failing(alloc, words, image, description, NOTHING)
+}
+
+// The program ended with this status, and wrote this and this note.
+fn expect(rt: &impl Abort, left: &Left, status: u8, out: &[u8], note: &str) {
+    assert_eq!(rt; left.note.as_slice(), note.as_bytes());
+    assert_eq!(rt; left.out.as_slice(), out);
+    assert_eq!(rt; left.status, status);
+}
+
+/// A run, and how it has to end.
+#[derive(Copy, Clone)]
+struct Case<'a> {
+    words: &'a [&'a str],
+    image: &'a [u8],
+    description: &'a [u8],
+    status: u8,
+    out: &'a [u8],
+    note: &'a str,
+}
+
+// Runs a case, and looks at how it ended.
+fn check(rt: &impl Abort, alloc: Global, case: Case<'_>) -> Result<(), Fail> {
+    let left = run(alloc, case.words, case.image, case.description)?;
+    expect(rt, &left, case.status, case.out, case.note);
+    Ok(())
 }
 
 #[test]
@@ -78,7 +127,8 @@ fn runs(rt: HostRuntime) -> Result<(), Fail> {
     let five: &[&str] = &["isa", "p.elf", "--steps", "5"];
     let hundred: &[&str] = &["isa", "p.elf", "--steps", "100"];
     let described: &[&str] = &["isa", "p.elf", "--steps", "5", "--desc", "d.toml"];
-    let rows: [(&[&str], &[u32], u8, &[(usize, u32)], &str); 6] = [
+    let clocked: &[&str] = &["run", "d.toml", "p.elf", "--cycles", "100"];
+    let rows: [(&[&str], &[u32], u8, &[(usize, u32)], &str); 11] = [
         (
             five,
             &EXIT_IN_TWO,
@@ -130,14 +180,61 @@ fn runs(rt: HostRuntime) -> Result<(), Fail> {
             &[(2, 0x0010_fff0)],
             "pc 00010000\nend trap 2 00010000 retired 0\n",
         ),
+        (
+            clocked,
+            &OVERWRITES,
+            0,
+            &[(2, 0x0001_fff0), (5, 0x0001_0000), (17, 0x5d)],
+            "pc 00010010\nmem 00010000 9702000023a402000000000073000000\nend exit 0 retired 4 cycles 6\n",
+        ),
+        (
+            clocked,
+            &programs::FORWARDING,
+            0,
+            &[
+                (2, 0x0001_fff0),
+                (5, 0xffff_ffff),
+                (6, 0x0000_ffff),
+                (7, 0xffff_ffff),
+                (9, 1),
+                (17, 0x5d),
+            ],
+            "pc 00010020\nmem 0001fff0 ffff0000ffffffff0000000000000000\nend exit 0 retired 8 cycles 27\n",
+        ),
+        (
+            &["run", "d.toml", "p.elf", "--cycles", "5"],
+            &EXIT_IN_TWO,
+            0,
+            &[(2, 0x0001_fff0), (17, 0x5d)],
+            "pc 00010008\nend exit 0 retired 2 cycles 5\n",
+        ),
+        (
+            &["run", "d.toml", "p.elf", "--cycles", "4"],
+            &EXIT_IN_TWO,
+            3,
+            &[(2, 0x0001_fff0), (17, 0x5d)],
+            "pc 00010004\nend budget retired 1 cycles 4\n",
+        ),
+        (
+            &["run", "d.toml", "p.elf", "--cycles", "9"],
+            &[],
+            1,
+            &[(2, 0x0001_fff0)],
+            "pc 00010000\nend trap 1 00010000 retired 0 cycles 3\n",
+        ),
     ];
     for (words, code, status, registers, lines) in rows {
         let image = image_of(alloc, code, 7)?;
-        let left = run(alloc, words, image.as_slice(), DESCRIPTION.as_bytes())?;
         let want = report_of(alloc, registers, lines)?;
-        assert_eq!(rt; left.out.as_slice(), want.as_bytes());
-        assert_eq!(rt; left.status, status);
-        assert_eq!(rt; left.note.as_slice(), b"".as_slice());
+        let case = Case {
+            words,
+            image: image.as_slice(),
+            description: EXAMPLE.as_bytes(),
+            status,
+            out: want.as_bytes(),
+            note: "",
+        };
+        check(&rt, alloc, case)?;
     }
     Ok(())
 }
@@ -146,12 +243,6 @@ fn runs(rt: HostRuntime) -> Result<(), Fail> {
 fn writes_its_output(rt: HostRuntime) -> Result<(), Fail> {
     let alloc = rt.alloc();
     let image = image_of(alloc, &WRITES, 5)?;
-    let left = run(
-        alloc,
-        &["isa", "p.elf", "--steps", "100"],
-        image.as_slice(),
-        b"",
-    )?;
     let zeros = vec![in alloc; b'0'; 2048]?;
     let mut want = Vec::from_slice(alloc, b"out ")?;
     want.extend_from_slice(zeros.as_slice())?;
@@ -170,15 +261,21 @@ fn writes_its_output(rt: HostRuntime) -> Result<(), Fail> {
         "pc 0001002c\nend exit 4294967282 retired 11\n",
     )?;
     want.extend_from_slice(state.as_bytes())?;
-    assert_eq!(rt; left.out.as_slice(), want.as_slice());
-    assert_eq!(rt; left.status, 0);
-    Ok(())
+    let case = Case {
+        words: &["isa", "p.elf", "--steps", "100"],
+        image: image.as_slice(),
+        description: b"",
+        status: 0,
+        out: want.as_slice(),
+        note: "",
+    };
+    check(&rt, alloc, case)
 }
 
 #[test]
 fn refuses_words_and_names(rt: HostRuntime) -> Result<(), Fail> {
     let alloc = rt.alloc();
-    let rows: [(&[&str], u8, &str); 17] = [
+    let rows: [(&[&str], u8, &str); 31] = [
         (&["run", "d.toml", "p.elf"], 2, "words\n"),
         (&["trace", "p.elf", "--cycles", "5"], 2, "words\n"),
         (
@@ -212,13 +309,80 @@ fn refuses_words_and_names(rt: HostRuntime) -> Result<(), Fail> {
             6,
             "read description\n",
         ),
+        (&["run", "d.toml", "p.elf"], 2, "words\n"),
+        (&["trace", "d.toml", "p.elf"], 2, "words\n"),
+        (&["trace", "d.toml", "--cycles", "5"], 2, "words\n"),
+        (&["trace", "d.toml", "p.elf", "--cycles", "0"], 2, "words\n"),
+        (
+            &["trace", "d.toml", "p.elf", "--cycles", "4294967296"],
+            2,
+            "words\n",
+        ),
+        (
+            &["trace", "e.toml", "q.elf", "--cycles", "5"],
+            6,
+            "read description\n",
+        ),
+        (
+            &["run", "d.toml", "q.elf", "--cycles", "5"],
+            6,
+            "read image\n",
+        ),
+        (
+            &[
+                "bench", "d.toml", "--seed", "1", "--blocks", "0", "--cycles", "9",
+            ],
+            2,
+            "words\n",
+        ),
+        (
+            &[
+                "bench", "d.toml", "--seed", "1", "--blocks", "4097", "--cycles", "9",
+            ],
+            2,
+            "words\n",
+        ),
+        (
+            &["bench", "d.toml", "--blocks", "1", "--cycles", "9"],
+            2,
+            "words\n",
+        ),
+        (
+            &["bench", "d.toml", "--seed", "1", "--cycles", "9"],
+            2,
+            "words\n",
+        ),
+        (
+            &["bench", "d.toml", "--seed", "1", "--blocks", "1"],
+            2,
+            "words\n",
+        ),
+        (
+            &[
+                "bench", "e.toml", "--seed", "1", "--blocks", "1", "--cycles", "9",
+            ],
+            6,
+            "read description\n",
+        ),
+        (
+            &[
+                "bench", "p.elf", "--seed", "1", "--blocks", "1", "--cycles", "9",
+            ],
+            4,
+            "description K1\n",
+        ),
     ];
+    let image = image_of(alloc, &EXIT_IN_TWO, 5)?;
     for (words, status, note) in rows {
-        let image = image_of(alloc, &EXIT_IN_TWO, 5)?;
-        let left = run(alloc, words, image.as_slice(), DESCRIPTION.as_bytes())?;
-        assert_eq!(rt; left.status, status, "{words:?}");
-        assert_eq!(rt; left.note.as_slice(), note.as_bytes(), "{words:?}");
-        assert_eq!(rt; left.out.as_slice(), b"".as_slice());
+        let case = Case {
+            words,
+            image: image.as_slice(),
+            description: EXAMPLE.as_bytes(),
+            status,
+            out: b"",
+            note,
+        };
+        check(&rt, alloc, case)?;
     }
     Ok(())
 }
@@ -233,12 +397,14 @@ fn a_note_that_fails(rt: HostRuntime) -> Result<(), Fail> {
         (&["isa", "q.elf", "--steps", "5"], 6, "rea"),
     ];
     for (words, status, sent) in rows {
-        let mut files = files_of(alloc, b"\x7f", DESCRIPTION.as_bytes(), 0)?;
-        let mut out = sink_of(alloc, 0, 0)?;
-        let mut note = sink_of(alloc, 1, 3)?;
-        assert_eq!(rt; top(alloc, words, &mut files, &mut out, &mut note), status);
-        assert_eq!(rt; note.as_slice(), sent.as_bytes());
-        assert_eq!(rt; out.as_slice(), b"".as_slice());
+        let failing = Failures {
+            note: 1,
+            noted: 3,
+            ..NOTHING
+        };
+        let text = EXAMPLE.as_bytes();
+        let left = run_failing(alloc, words, b"\x7f", text, failing)?;
+        expect(&rt, &left, status, b"", sent);
     }
     Ok(())
 }

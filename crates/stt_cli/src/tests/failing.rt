@@ -1,44 +1,16 @@
-//! Reads and puts that fail, each in turn: dependent loads traced, forwarding run, and output
-//! written on the instruction set.
+//! Reads and puts that fail, each in turn: of the smallest program, of output written on the instruction set, of dependent
+//! loads traced, and of forwarding run.
 use super::images::{EXIT_IN_TWO, WRITES, image_with_data};
-use super::texts::DESCRIPTION;
-use super::{Left, files_of, programs, sink_of, top};
+use super::{Failures, Left, NOTHING, expect, programs, run_failing};
+use machine_desc::EXAMPLE;
 use std::alloc::Global;
 use std::process::Abort;
 use std::test::Fail;
 
-/// What is to fail, by its number, 0 for nothing.
-#[derive(Copy, Clone)]
-struct Failing {
-    /// A read.
-    read: u64,
-    /// A put of the output, which lets so many bytes go out before.
-    put: u64,
-    sent: usize,
-    /// A put of the note.
-    note: u64,
-}
-
-const NOTHING: Failing = Failing {
-    read: 0,
-    put: 0,
-    sent: 0,
-    note: 0,
-};
-
 // Runs these words on this code, with what is to fail.
-fn fails(alloc: Global, words: &[&str], code: &[u32], failing: Failing) -> Result<Left, Fail> {
+fn fails(alloc: Global, words: &[&str], code: &[u32], failing: Failures) -> Result<Left, Fail> {
     let image = image_with_data(alloc, code, b"")?;
-    let mut files = files_of(
-        alloc,
-        image.as_slice(),
-        DESCRIPTION.as_bytes(),
-        failing.read,
-    )?;
-    let mut out = sink_of(alloc, failing.put, failing.sent)?;
-    let mut note = sink_of(alloc, failing.note, 0)?;
-    let status = top(alloc, words, &mut files, &mut out, &mut note);
-    Ok(Left { status, out, note })
+    run_failing(alloc, words, image.as_slice(), EXAMPLE.as_bytes(), failing)
 }
 
 // Each read fails in turn, until a run has none that fails: it reads nothing else, and writes nothing. The status is the same
@@ -53,16 +25,13 @@ fn reads_fail(
     let mut read = 0u64;
     for line in notes {
         read = read.saturating_add(1);
-        let failing = Failing { read, ..NOTHING };
+        let failing = Failures { read, ..NOTHING };
         let left = fails(alloc, words, code, failing)?;
-        assert_eq!(rt; left.status, 6);
-        assert_eq!(rt; left.note.as_slice(), line.as_bytes());
-        assert_eq!(rt; left.out.as_slice(), b"".as_slice());
-        let unsaid = fails(alloc, words, code, Failing { note: 1, ..failing })?;
-        assert_eq!(rt; unsaid.status, 6);
-        assert_eq!(rt; unsaid.note.as_slice(), b"".as_slice());
+        expect(rt, &left, 6, b"", line);
+        let unsaid = fails(alloc, words, code, Failures { note: 1, ..failing })?;
+        expect(rt, &unsaid, 6, b"", "");
     }
-    let last = Failing {
+    let last = Failures {
         read: read.saturating_add(1),
         ..NOTHING
     };
@@ -80,24 +49,21 @@ fn puts_fail(rt: &impl Abort, alloc: Global, words: &[&str], code: &[u32]) -> Re
     for line in whole.out.as_slice().split_inclusive(|byte| *byte == b'\n') {
         put = put.saturating_add(1);
         for sent in [0, 1, line.len().saturating_sub(1)] {
-            let failing = Failing {
+            let failing = Failures {
                 put,
                 sent,
                 ..NOTHING
             };
             let left = fails(alloc, words, code, failing)?;
-            assert_eq!(rt; left.status, 7);
-            assert_eq!(rt; left.note.as_slice(), b"write\n".as_slice());
-            assert_eq!(rt; left.out.as_slice().len(), before.saturating_add(sent));
-            assert!(rt; whole.out.as_slice().starts_with(left.out.as_slice()));
-            let unsaid = fails(alloc, words, code, Failing { note: 1, ..failing })?;
-            assert_eq!(rt; unsaid.status, 7);
-            assert_eq!(rt; unsaid.note.as_slice(), b"".as_slice());
-            assert_eq!(rt; unsaid.out.as_slice(), left.out.as_slice());
+            let end = before.saturating_add(sent);
+            let gone = whole.out.as_slice().get(..end).unwrap_or(b"");
+            expect(rt, &left, 7, gone, "write\n");
+            let unsaid = fails(alloc, words, code, Failures { note: 1, ..failing })?;
+            expect(rt, &unsaid, 7, gone, "");
         }
         before = before.saturating_add(line.len());
     }
-    let last = Failing {
+    let last = Failures {
         put: put.saturating_add(1),
         ..NOTHING
     };
@@ -105,45 +71,44 @@ fn puts_fail(rt: &impl Abort, alloc: Global, words: &[&str], code: &[u32]) -> Re
     Ok(())
 }
 
+// Each read and each put of these words on this code fails in turn; the reads have these notes.
+fn each_fails(
+    rt: &impl Abort,
+    alloc: Global,
+    words: &[&str],
+    code: &[u32],
+    notes: &[&str],
+) -> Result<(), Fail> {
+    reads_fail(rt, alloc, words, code, notes)?;
+    puts_fail(rt, alloc, words, code)
+}
+
+// The notes of the reads of a command that reads both files.
+const BOTH: [&str; 2] = ["read description\n", "read image\n"];
+
+#[test]
+fn of_the_smallest_program(rt: HostRuntime) -> Result<(), Fail> {
+    let alloc = rt.alloc();
+    let words = ["isa", "p.elf", "--steps", "5"];
+    reads_fail(&rt, alloc, &words, &EXIT_IN_TWO, &["read image\n"])?;
+    let described = ["isa", "p.elf", "--steps", "5", "--desc", "d.toml"];
+    each_fails(&rt, alloc, &described, &EXIT_IN_TWO, &BOTH)
+}
+
+#[test]
+fn of_output(rt: HostRuntime) -> Result<(), Fail> {
+    let words = ["isa", "p.elf", "--steps", "100", "--desc", "d.toml"];
+    each_fails(&rt, rt.alloc(), &words, &WRITES, &BOTH)
+}
+
 #[test]
 fn of_a_trace(rt: HostRuntime) -> Result<(), Fail> {
     let words = ["trace", "d.toml", "p.elf", "--cycles", "100"];
-    let code = &programs::HIT_UNDER_MISS;
-    reads_fail(
-        &rt,
-        rt.alloc(),
-        &words,
-        code,
-        &["read description\n", "read image\n"],
-    )?;
-    puts_fail(&rt, rt.alloc(), &words, code)
+    each_fails(&rt, rt.alloc(), &words, &programs::HIT_UNDER_MISS, &BOTH)
 }
 
 #[test]
 fn of_a_run(rt: HostRuntime) -> Result<(), Fail> {
     let words = ["run", "d.toml", "p.elf", "--cycles", "100"];
-    let code = &programs::FORWARDING;
-    reads_fail(
-        &rt,
-        rt.alloc(),
-        &words,
-        code,
-        &["read description\n", "read image\n"],
-    )?;
-    puts_fail(&rt, rt.alloc(), &words, code)
-}
-
-#[test]
-fn of_the_instruction_set(rt: HostRuntime) -> Result<(), Fail> {
-    let words = ["isa", "p.elf", "--steps", "5"];
-    reads_fail(&rt, rt.alloc(), &words, &EXIT_IN_TWO, &["read image\n"])?;
-    let described = ["isa", "p.elf", "--steps", "100", "--desc", "d.toml"];
-    reads_fail(
-        &rt,
-        rt.alloc(),
-        &described,
-        &WRITES,
-        &["read description\n", "read image\n"],
-    )?;
-    puts_fail(&rt, rt.alloc(), &described, &WRITES)
+    each_fails(&rt, rt.alloc(), &words, &programs::FORWARDING, &BOTH)
 }

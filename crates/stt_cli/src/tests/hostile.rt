@@ -1,8 +1,9 @@
 //! Hostile images and descriptions: each fault with its note, under each command that reads them, and files at their limits
 //! and one byte over.
 use super::images::{EXIT_IN_TWO, image_of};
-use super::texts::{DESCRIPTION, replaced};
-use super::{Left, run};
+use super::texts::replaced;
+use super::{expect, run};
+use machine_desc::EXAMPLE;
 use std::alloc::Global;
 use std::process::Abort;
 use std::test::Fail;
@@ -42,9 +43,7 @@ fn all_refuse(
 ) -> Result<(), Fail> {
     for words in commands {
         let left = run(alloc, words, image, description)?;
-        assert_eq!(rt; left.note.as_slice(), note.as_bytes(), "{words:?}");
-        assert_eq!(rt; left.status, status);
-        assert_eq!(rt; left.out.as_slice(), b"".as_slice());
+        expect(rt, &left, status, b"", note);
     }
     Ok(())
 }
@@ -78,7 +77,7 @@ fn refuses_images(rt: HostRuntime) -> Result<(), Fail> {
     ];
     for (at, bytes, note) in rows {
         let image = changed_image(alloc, at, bytes)?;
-        let text = DESCRIPTION.as_bytes();
+        let text = EXAMPLE.as_bytes();
         all_refuse(&rt, alloc, &COMMANDS, image.as_slice(), text, 5, note)?;
     }
     // Of the flags only the one of compressed instructions is refused.
@@ -133,7 +132,7 @@ fn refuses_descriptions(rt: HostRuntime) -> Result<(), Fail> {
         ),
     ];
     for (old, new, note) in rows {
-        let text = replaced(alloc, DESCRIPTION, old, new)?;
+        let text = replaced(alloc, EXAMPLE, old, new)?;
         all_refuse(&rt, alloc, &DESCRIBED, b"", text.as_slice(), 4, note)?;
     }
     let whole: [(&[u8], &str); 3] = [
@@ -144,7 +143,7 @@ fn refuses_descriptions(rt: HostRuntime) -> Result<(), Fail> {
     for (text, note) in whole {
         all_refuse(&rt, alloc, &DESCRIBED, b"", text, 4, note)?;
     }
-    let mut ended = DESCRIPTION.as_bytes().to_vec(alloc)?;
+    let mut ended = EXAMPLE.as_bytes().to_vec(alloc)?;
     ended.push(0xff)?;
     let note = "description K1\n";
     all_refuse(&rt, alloc, &DESCRIBED, b"", ended.as_slice(), 4, note)
@@ -180,7 +179,7 @@ fn image_as_long_as(alloc: Global, length: usize) -> Result<Vec<u8>, Fail> {
 #[test]
 fn images_at_their_limits(rt: HostRuntime) -> Result<(), Fail> {
     let alloc = rt.alloc();
-    let text = DESCRIPTION.as_bytes();
+    let text = EXAMPLE.as_bytes();
     let most = image_as_long_as(alloc, IMAGE_BYTES)?;
     let words = ["trace", "d.toml", "p.elf", "--cycles", "5"];
     let left = run(alloc, &words, most.as_slice(), text)?;
@@ -188,29 +187,38 @@ fn images_at_their_limits(rt: HostRuntime) -> Result<(), Fail> {
     assert_eq!(rt; left.status, 0);
     let over = image_as_long_as(alloc, IMAGE_BYTES + 1)?;
     let long = run(alloc, &words, over.as_slice(), text)?;
-    assert_eq!(rt; long.note.as_slice(), b"image too long\n".as_slice());
-    assert_eq!(rt; long.status, 5);
-    assert_eq!(rt; long.out.as_slice(), b"".as_slice());
+    expect(&rt, &long, 5, b"", "image too long\n");
     Ok(())
 }
 
 #[test]
-fn images_without_a_header(rt: HostRuntime) -> Result<(), Fail> {
+fn images_cut_short(rt: HostRuntime) -> Result<(), Fail> {
     let alloc = rt.alloc();
-    let text = DESCRIPTION.as_bytes();
+    let text = EXAMPLE.as_bytes();
     let image = image_of(alloc, &EXIT_IN_TWO, 5)?;
-    let header: &[u8] = image.as_slice().get(..51).unwrap_or(b"");
-    all_refuse(&rt, alloc, &COMMANDS, header, text, 5, "image E1 52 51\n")?;
-    all_refuse(&rt, alloc, &COMMANDS, b"", text, 5, "image E1 52 0\n")
+    let rows: [(usize, &str); 4] = [
+        (0, "image E1 52 0\n"),
+        (51, "image E1 52 51\n"),
+        (60, "image E10 84 60\n"),
+        (88, "image E13 0\n"),
+    ];
+    for (length, note) in rows {
+        let cut = image.as_slice().get(..length).unwrap_or(b"");
+        all_refuse(&rt, alloc, &COMMANDS, cut, text, 5, note)?;
+    }
+    Ok(())
 }
 
 #[test]
-fn descriptions_at_their_limits(rt: HostRuntime) -> Result<(), Fail> {
+fn descriptions_that_are_accepted(rt: HostRuntime) -> Result<(), Fail> {
     let alloc = rt.alloc();
-    let text = DESCRIPTION.as_bytes();
+    let text = EXAMPLE.as_bytes();
     let image = image_of(alloc, &EXIT_IN_TWO, 5)?;
     let most = padded(alloc, text, b' ', DESCRIPTION_BYTES)?;
     all_exit(&rt, alloc, image.as_slice(), most.as_slice())?;
+    // The ways of the cache need be no power of two.
+    let three = replaced(alloc, EXAMPLE, "ways = 2", "ways = 3")?;
+    all_exit(&rt, alloc, image.as_slice(), three.as_slice())?;
     let over = padded(alloc, text, b' ', DESCRIPTION_BYTES + 1)?;
     let note = "description too long\n";
     all_refuse(&rt, alloc, &DESCRIBED, b"", over.as_slice(), 4, note)

@@ -1,7 +1,8 @@
-//! The worked traces and reports of the out-of-order machine (`docs/machine.md`, "Worked traces").
-use super::images::{EXIT_IN_TWO, image_with_data};
-use super::texts::{DESCRIPTION, replaced, report_of};
-use super::{Left, files_of, programs, run, sink_of, top, traces};
+//! The worked traces of the out-of-order machine (`docs/machine.md`, "Worked traces").
+use super::images::{DIVISIONS, EXIT_IN_TWO, image_with_data};
+use super::texts::{replaced, report_of};
+use super::{Left, expect, programs, run, traces};
+use machine_desc::EXAMPLE;
 use std::alloc::Global;
 use std::test::Fail;
 
@@ -15,25 +16,24 @@ fn data_of(bound: u8, secret: u8) -> [u8; 9] {
     [bound, 0, 0, 0, 0, 0, 0, 0, secret]
 }
 
-// Runs a command on an image of this code and data, under the description with this model.
-fn run_with(
+// The trace of an image of this code and data, under the description with this model.
+fn traced(
     alloc: Global,
-    command: &str,
     cycles: &str,
     code: &[u32],
     data: &[u8],
     model: &str,
 ) -> Result<Left, Fail> {
     let image = image_with_data(alloc, code, data)?;
-    let text = replaced(alloc, DESCRIPTION, "spectre", model)?;
-    let words = [command, "d.toml", "p.elf", "--cycles", cycles];
+    let text = replaced(alloc, EXAMPLE, "spectre", model)?;
+    let words = ["trace", "d.toml", "p.elf", "--cycles", cycles];
     run(alloc, &words, image.as_slice(), text.as_slice())
 }
 
 #[test]
 fn traces_under_both_models(rt: HostRuntime) -> Result<(), Fail> {
     let alloc = rt.alloc();
-    let rows: [(&str, &[u32], u8, &str); 10] = [
+    let rows: [(&str, &[u32], u8, &str); 11] = [
         ("100", &EXIT_IN_TWO, 0, traces::STRAIGHT_LINE),
         ("4", &EXIT_IN_TWO, 3, traces::CUT_SHORT),
         ("5", &EXIT_IN_TWO, 0, traces::STRAIGHT_LINE),
@@ -49,13 +49,12 @@ fn traces_under_both_models(rt: HostRuntime) -> Result<(), Fail> {
         ("100", &programs::LOOP, 0, traces::LOOP),
         ("100", &programs::JUMP, 0, traces::JUMP),
         ("6", &programs::ENDLESS, 3, traces::ENDLESS),
+        ("100", &DIVISIONS, 0, traces::DIVISIONS),
     ];
     for (cycles, code, status, text) in rows {
         for model in ["spectre", "futuristic"] {
-            let left = run_with(alloc, "trace", cycles, code, b"", model)?;
-            assert_eq!(rt; left.out.as_slice(), text.as_bytes());
-            assert_eq!(rt; left.status, status);
-            assert_eq!(rt; left.note.as_slice(), b"".as_slice());
+            let left = traced(alloc, cycles, code, b"", model)?;
+            expect(&rt, &left, status, text.as_bytes(), "");
         }
     }
     Ok(())
@@ -73,9 +72,8 @@ fn secrets_leave_no_mark(rt: HostRuntime) -> Result<(), Fail> {
     for (code, text) in rows {
         for secret in [0, 1, 0x11, 0x22] {
             for model in ["spectre", "futuristic"] {
-                let left = run_with(alloc, "trace", "100", code, &data_of(0, secret), model)?;
-                assert_eq!(rt; left.out.as_slice(), text.as_bytes(), "{secret}");
-                assert_eq!(rt; left.status, 0);
+                let left = traced(alloc, "100", code, &data_of(0, secret), model)?;
+                expect(&rt, &left, 0, text.as_bytes(), "");
             }
         }
     }
@@ -104,112 +102,55 @@ fn what_the_path_reads_shows(rt: HostRuntime) -> Result<(), Fail> {
         ),
     ];
     for (code, bound, model, status, text) in rows {
-        let one = run_with(alloc, "trace", "100", code, &data_of(bound, 0x11), model)?;
-        assert_eq!(rt; one.out.as_slice(), text.as_bytes());
-        assert_eq!(rt; one.status, status);
-        let other = run_with(alloc, "trace", "100", code, &data_of(bound, 0x22), model)?;
+        let one = traced(alloc, "100", code, &data_of(bound, 0x11), model)?;
+        expect(&rt, &one, status, text.as_bytes(), "");
+        let other = traced(alloc, "100", code, &data_of(bound, 0x22), model)?;
         let changed = text.replace(alloc, LINE_OF_11, LINE_OF_22)?;
-        assert_eq!(rt; other.out.as_slice(), changed.as_bytes());
+        expect(&rt, &other, status, changed.as_bytes(), "");
     }
     let code = &programs::TAINTED_BRANCH;
-    let left = run_with(alloc, "trace", "100", code, &data_of(1, 0x11), "spectre")?;
-    assert_eq!(rt; left.out.as_slice(), traces::TAINTED_BRANCH.as_bytes());
+    for model in ["spectre", "futuristic"] {
+        let left = traced(alloc, "100", code, &data_of(1, 0x11), model)?;
+        expect(&rt, &left, 0, traces::TAINTED_BRANCH.as_bytes(), "");
+    }
     Ok(())
 }
 
-#[test]
-fn reports_of_the_core(rt: HostRuntime) -> Result<(), Fail> {
-    let alloc = rt.alloc();
-    let rows: [(&[u32], &str, &[(usize, u32)], &str, u8); 4] = [
-        (
-            &programs::FORWARDING,
-            "100",
-            &[
-                (2, 0x0001_fff0),
-                (5, 0xffff_ffff),
-                (6, 0x0000_ffff),
-                (7, 0xffff_ffff),
-                (9, 1),
-                (17, 0x5d),
-            ],
-            "pc 00010020\nmem 0001fff0 ffff0000ffffffff0000000000000000\nend exit 0 retired 8 cycles 27\n",
-            0,
-        ),
-        (
-            &EXIT_IN_TWO,
-            "5",
-            &[(2, 0x0001_fff0), (17, 0x5d)],
-            "pc 00010008\nend exit 0 retired 2 cycles 5\n",
-            0,
-        ),
-        (
-            &EXIT_IN_TWO,
-            "4",
-            &[(2, 0x0001_fff0), (17, 0x5d)],
-            "pc 00010004\nend budget retired 1 cycles 4\n",
-            3,
-        ),
-        (
-            &[],
-            "9",
-            &[(2, 0x0001_fff0)],
-            "pc 00010000\nend trap 1 00010000 retired 0 cycles 3\n",
-            1,
-        ),
-    ];
-    for (code, cycles, registers, lines, status) in rows {
-        let left = run_with(alloc, "run", cycles, code, b"", "spectre")?;
-        let want = report_of(alloc, registers, lines)?;
-        assert_eq!(rt; left.out.as_slice(), want.as_bytes());
-        assert_eq!(rt; left.status, status);
+// The image of an exit, with this byte at this place, cut to this length.
+fn changed(alloc: Global, place: usize, byte: u8, length: usize) -> Result<Vec<u8>, Fail> {
+    let mut image = image_with_data(alloc, &EXIT_IN_TWO, b"")?;
+    image.truncate(length);
+    if let Some(old) = image.get_mut(place) {
+        *old = byte;
     }
-    Ok(())
+    Ok(image)
 }
 
 #[test]
 fn nothing_to_fetch(rt: HostRuntime) -> Result<(), Fail> {
     let alloc = rt.alloc();
-    let mut image = image_with_data(alloc, &EXIT_IN_TWO, b"")?;
-    image.truncate(52);
-    if let Some(count) = image.get_mut(44) {
-        *count = 0;
-    }
-    let words = ["trace", "d.toml", "p.elf", "--cycles", "9"];
-    let left = run(alloc, &words, image.as_slice(), DESCRIPTION.as_bytes())?;
-    assert_eq!(rt; left.out.as_slice(), traces::NO_CODE.as_bytes());
-    assert_eq!(rt; left.status, 1);
-    Ok(())
-}
-
-#[test]
-fn refuses_words_of_the_core(rt: HostRuntime) -> Result<(), Fail> {
-    let alloc = rt.alloc();
-    let rows: [(&[&str], u8, &str); 7] = [
-        (&["run", "d.toml", "p.elf"], 2, "words\n"),
-        (&["trace", "d.toml", "p.elf"], 2, "words\n"),
-        (&["trace", "d.toml", "--cycles", "5"], 2, "words\n"),
-        (&["trace", "d.toml", "p.elf", "--cycles", "0"], 2, "words\n"),
-        (
-            &["trace", "d.toml", "p.elf", "--cycles", "4294967296"],
-            2,
-            "words\n",
-        ),
-        (
-            &["trace", "e.toml", "q.elf", "--cycles", "5"],
-            6,
-            "read description\n",
-        ),
-        (
-            &["run", "d.toml", "q.elf", "--cycles", "5"],
-            6,
-            "read image\n",
-        ),
+    let isa: &[&str] = &["isa", "p.elf", "--steps", "9"];
+    let trace: &[&str] = &["trace", "d.toml", "p.elf", "--cycles", "9"];
+    let at_once = report_of(
+        alloc,
+        &[(2, 0x0010_fff0)],
+        "pc 00010000\nend trap 1 00010000 retired 0\n",
+    )?;
+    let between = report_of(
+        alloc,
+        &[(2, 0x0010_fff0)],
+        "pc 00010002\nend trap 1 00010002 retired 0\n",
+    )?;
+    // No program headers, in a file of the header alone; and an entry between two instructions.
+    let rows: [(&[&str], (usize, u8, usize), &str); 3] = [
+        (trace, (44, 0, 52), traces::NO_CODE),
+        (isa, (44, 0, 52), at_once.as_str()),
+        (isa, (24, 2, 92), between.as_str()),
     ];
-    for (words, status, note) in rows {
-        let left = run(alloc, words, b"", DESCRIPTION.as_bytes())?;
-        assert_eq!(rt; left.status, status, "{words:?}");
-        assert_eq!(rt; left.note.as_slice(), note.as_bytes(), "{words:?}");
-        assert_eq!(rt; left.out.as_slice(), b"".as_slice());
+    for (words, (place, byte, length), text) in rows {
+        let image = changed(alloc, place, byte, length)?;
+        let left = run(alloc, words, image.as_slice(), EXAMPLE.as_bytes())?;
+        expect(&rt, &left, 1, text.as_bytes(), "");
     }
     Ok(())
 }

@@ -2,10 +2,6 @@
 use std::alloc::Global;
 use std::test::Fail;
 
-/// A description: the core of the worked examples, with 64 KiB of memory.
-pub const DESCRIPTION: &str =
-    "[core]\nfetch_width = 2\nretire_width = 2\nrob = 16\nstations = 8\nloads = 4\nstores = 4\nqueue = 8\n[units]\nalus = 2\nmul_latency = 3\n[predictor]\ncounters = 16\nbtb = 4\n[cache]\nsets = 2\nways = 2\nline = 16\nhit_latency = 2\nmiss_latency = 10\nmshrs = 2\n[ram]\nbase = 65536\nsize = 65536\n[stt]\nmodel = \"spectre\"\n";
-
 /// The text with one part in the place of another, where it has that part.
 pub fn replaced(alloc: Global, text: &str, old: &str, new: &str) -> Result<Vec<u8>, Fail> {
     let Some((before, after)) = text.split_once(old) else {

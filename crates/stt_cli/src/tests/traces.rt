@@ -381,3 +381,95 @@ pub const NO_CODE: &str = "\
 3\n\
 end trap 1 00010000 retired 0 cycles 3\n\
 ";
+
+/// Divisions by zero take 6 cycles, those of the least number by -1 take 35.
+pub const DIVISIONS: &str = "\
+1 fet:00010000 fet:00010004\n\
+2 ren:0:00010000 ren:1:00010004 fet:00010008 fet:0001000c\n\
+3 alu:0 ren:2:00010008 ren:3:0001000c fet:00010010 fet:00010014\n\
+4 done:0 ret:0 div:1:6 alu:3 ren:4:00010010 ren:5:00010014 fet:00010018 fet:0001001c\n\
+5 done:3 alu:4 ren:6:00010018 ren:7:0001001c fet:00010020 fet:00010024\n\
+6 done:4 alu:7\n\
+7 done:7\n\
+8\n\
+9\n\
+10 done:1 ret:1 div:2:6\n\
+11\n\
+12\n\
+13\n\
+14\n\
+15\n\
+16 done:2 ret:2 ret:3 div:5:35\n\
+17 ret:4\n\
+18\n\
+19\n\
+20\n\
+21\n\
+22\n\
+23\n\
+24\n\
+25\n\
+26\n\
+27\n\
+28\n\
+29\n\
+30\n\
+31\n\
+32\n\
+33\n\
+34\n\
+35\n\
+36\n\
+37\n\
+38\n\
+39\n\
+40\n\
+41\n\
+42\n\
+43\n\
+44\n\
+45\n\
+46\n\
+47\n\
+48\n\
+49\n\
+50\n\
+51 done:5 ret:5 div:6:35\n\
+52\n\
+53\n\
+54\n\
+55\n\
+56\n\
+57\n\
+58\n\
+59\n\
+60\n\
+61\n\
+62\n\
+63\n\
+64\n\
+65\n\
+66\n\
+67\n\
+68\n\
+69\n\
+70\n\
+71\n\
+72\n\
+73\n\
+74\n\
+75\n\
+76\n\
+77\n\
+78\n\
+79\n\
+80\n\
+81\n\
+82\n\
+83\n\
+84\n\
+85\n\
+86 done:6 ret:6 ret:7 ren:8:00010020\n\
+87 ret:8 call:8:0\n\
+end exit 0 retired 9 cycles 87\n\
+";
