@@ -14,7 +14,7 @@ use Rattle.window_model.specs.declared.Item.{Item}
 use Rattle.window_model.specs.declared.State.TheVariants.{Waiting, Done}
 use Rattle.window_model.specs.declared.Way.TheVariants.{Taken, Jump}
 use Rattle.window_model.specs.State.{Machine, opening}
-use Rattle.window_model.specs.Access.{covers, any_store_hidden}
+use Rattle.window_model.specs.Access.{covers, load_bytes, any_store_hidden}
 use Rattle.window_model.specs.Front.{fits}
 use Rattle.window_model.specs.Issue.{may_issue, issue, is_granted}
 use Rattle.window_model.specs.Resolve.{may_resolve, learn, freed_from}
@@ -163,3 +163,13 @@ faulting_store_covers_nothing = refl
 faulting_store_hides : any_store_hidden Spectre (done_at 2 0x00532223 0 (Some store_outside) ∷ load ∷ branch ∷ []) ≡ true
 unfolding decode
 faulting_store_hides = refl
+
+-- a store (sw x5,4(x2)) that hasn't issued has no address and covers nothing, not even the bytes from 0 on: a load gets memory's
+waiting_store_covers_nothing : covers 0 (waiting 0 0x00512223) ≡ false
+unfolding decode
+waiting_store_covers_nothing = refl
+
+load_behind_a_waiting_store : load_bytes (record { base = 0; bytes = 17 ∷ 34 ∷ 51 ∷ 68 ∷ [] }) (waiting 0 0x00512223 ∷ []) 0 4
+    ≡ 17 ∷ 34 ∷ 51 ∷ 68 ∷ []
+unfolding decode
+load_behind_a_waiting_store = refl
