@@ -1,0 +1,96 @@
+//! Two images to be run.
+ghost use Rattle.std.specs.Prelude.{◌≡◌, ◌<◌, ◌^◌, ◌+◌, ◌↔◌, length, IfOk, IsTrue};
+ghost use Rattle.window_model.specs.Cycle.{after_cycles};
+ghost use Rattle.pair_run.specs.Starts.{loaded};
+ghost use Rattle.pair_run.specs.Answer.{Answers, Premise};
+ghost use Rattle.pair_run.specs.declared.answer.Differ.TheVariants.{Same};
+
+use crate::answer::PairAnswer;
+use crate::loaded::agree_for;
+use crate::running::{run_both, steps_of};
+use crate::starting::Start;
+use core_cycle::Core;
+use elf_loader::Image;
+use isa_step::Isa;
+use machine_desc::Desc;
+use rename_taint::RenameTaint;
+use rv_types::NoMemory;
+use std::alloc::Global;
+use std::marker::Model;
+use window_model::Clocked;
+
+/// Two images and the description of the core that is to be run on both, once. It has all memory that the runs take.
+#[derive(Drop)]
+pub struct Pair<R: RenameTaint + Drop> {
+    desc: Desc,
+    one: Start,
+    two: Start,
+    /// Whether both images have one code, which the cores and the path hold.
+    same_code: bool,
+    first: Core<R>,
+    second: Core<R>,
+    path: Isa,
+}
+
+impl<R: RenameTaint + Drop> Model for Pair<R> {
+    ghost use Rattle.pair_run.specs.Images.{Images, images_code, Opened, image_at};
+
+    ghost Value = { Images };
+
+    ghost coded = { images_code };
+
+    ghost view = { λ p. record { desc = p.desc; one = image_at p.one p.first.code; two = image_at p.two p.second.code } };
+
+    ghost invariant = { λ p. Opened p.desc p.one p.two p.same_code p.first p.second p.path };
+}
+
+impl<R: RenameTaint + Drop> Pair<R> {
+    /// Makes a core and the instruction set's state of the images. It takes all the memory that the runs take: for each byte
+    /// of the description's memory 11, and what two cores take besides. The one error is want of it.
+    pub fn new(alloc: Global, desc: &Desc, one: Image, two: Image) -> Result<Pair<R>, NoMemory>
+        requires base { one.ram.base ≡ desc.now.ram_base }
+        requires size { length one.ram.bytes ≡ desc.now.ram_size }
+        requires base2 { two.ram.base ≡ desc.now.ram_base }
+        requires size2 { length two.ram.bytes ≡ desc.now.ram_size }
+        ensures { IfOk result (λ p. p ≡ record { desc = desc.now; one = one; two = two }) }
+    {
+        let same_code = two.code.same(&one.code);
+        let start = Start::of(alloc, &one)?;
+        let start2 = Start::of(alloc, &two)?;
+        let path = Isa::new(one.copy(alloc)?);
+        Ok(Pair {
+            desc: *desc,
+            one: start,
+            two: start2,
+            same_code,
+            first: Core::new(alloc, desc, one)?,
+            second: Core::new(alloc, desc, two)?,
+            path,
+        })
+    }
+
+    /// Runs a core on both images, for at most so many cycles each, and answers how the runs differ, and whether they have
+    /// to be the same (`docs/theorems.md`, "Noninterference"). It takes no memory.
+    pub fn run(self, cycles: u32) -> PairAnswer
+        ensures answers { Answers self.desc (loaded self.one) (loaded self.two) cycles result }
+        ensures hides { IsTrue result.premise → result.first ≡ Same }
+    {
+        let Pair {
+            desc,
+            one,
+            two,
+            same_code,
+            first: mut core,
+            second: mut other,
+            mut path,
+        } = self;
+        let first = run_both(&mut core, &mut other, cycles);
+        let steps = steps_of(&core, &desc);
+        PairAnswer {
+            premise: agree_for(&mut path, desc.stt_model, same_code, &one, &two, steps),
+            first,
+            retired: core.retired(),
+            cycles: core.cycles(),
+        }
+    }
+}
