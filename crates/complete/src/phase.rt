@@ -1,11 +1,12 @@
 //! The phase: entry by entry, from the oldest on.
-ghost use Rattle.std.specs.Prelude.{◌≡◌, ◌≤◌, ◌<◌, ◌+◌, ◌++◌, ◌∷◌, [], ℕ, List, Option, Some, length, map, slice_get, slice_set};
+ghost use Rattle.std.specs.Prelude.{◌≡◌, ◌<◌, ◌∷◌, [], ℕ, List, Option, Some, length, map, slice_get, slice_set};
 ghost use Rattle.std.specs.List.{AllPairs, AllZip};
 ghost use Rattle.std.specs.Option.{option_map};
 ghost use Rattle.window_model.specs.declared.Event.TheVariants as event;
 ghost use Rattle.window_model.specs.declared.State.TheVariants.{Done};
 ghost use Rattle.window_model.specs.Fill.{completes, completes_at};
 ghost use Rattle.window_model.specs.Retire.{width_of};
+ghost use Rattle.window_model.specs.Row.{HasRoom, IsLonger, with_events};
 ghost use Rattle.window_model.specs.State.{Machine};
 ghost use Rattle.stations.specs.Stations.{struck};
 ghost use Rattle.visibility.specs.Point.{Point};
@@ -35,9 +36,9 @@ pub fn complete(
     cycle: u64,
     row: &mut Row,
 )
-    requires room { length row.old.events + rob.old.room ≤ 128 }
+    requires room { HasRoom rob.old.room row.old }
     ensures state { (x : Machine) → with_parts rob.new cycle x ≡ (completes_all rob.old cycle x).machine }
-    ensures row { (x : Machine) → row.new ≡ record row.old { events = row.old.events ++ (completes_all rob.old cycle x).events } }
+    ensures row { (x : Machine) → row.new ≡ with_events row.old (completes_all rob.old cycle x).events }
     ensures same_room { rob.new.room ≡ rob.old.room }
     ensures stations { stations.new ≡ record stations.old { held = woken (finished cycle rob.old.entries) stations.old.held } }
     ensures lsq { lsq.new ≡ record lsq.old { stores = noted (finished cycle rob.old.entries) lsq.old.stores } }
@@ -46,7 +47,7 @@ pub fn complete(
     ensures queues_stand { AllPairs (λ a b. a.serial < b.serial) rob.old.entries → StandFor lsq.old rob.old.entries → StandFor lsq.new rob.new.entries }
     ensures addresses_stand { (roots : List (List (Option ℕ))) → AddressesStand rob.old.entries roots lsq.old.stores → AddressesStand rob.new.entries roots lsq.new.stores }
     ensures point_stands { (point : Point) (next : ℕ) → PointStands point next rob.old.entries → PointStands point next rob.new.entries }
-    ensures few { length row.new.events ≤ length row.old.events + rob.old.room }
+    ensures few { IsLonger rob.old.room row.old row.new }
 {
     for i in 0..rob.len() {
         if !is_due_at(rob, i, cycle) {
@@ -85,12 +86,12 @@ fn complete_entry(
     row: &mut Row,
 )
     requires here { i < length rob.old.entries }
-    requires room { length row.old.events < 128 }
+    requires room { HasRoom 1 row.old }
     ensures rob { rob.new ≡ record rob.old { entries = slice_set rob.old.entries i (record entry.now { state = Done }) } }
     ensures stations { stations.new ≡ record stations.old { held = map (struck entry.now.serial) stations.old.held } }
     ensures lsq { lsq.new ≡ record lsq.old { stores = known_with lsq.old.stores entry.now } }
-    ensures row { row.new ≡ record row.old { events = row.old.events ++ event.Done entry.now.serial ∷ [] } }
-    ensures few { length row.new.events ≤ length row.old.events + 1 }
+    ensures row { row.new ≡ with_events row.old (event.Done entry.now.serial ∷ []) }
+    ensures few { IsLonger 1 row.old row.new }
 {
     rob.set(i, done(entry));
     stations.wake(entry.serial);

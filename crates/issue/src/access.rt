@@ -1,9 +1,5 @@
 //! What a load finds (`docs/machine.md`, "Loads"): bytes of older stores, the cache, or a miss.
-ghost use Rattle.std.specs.Prelude.{◌≡◌, ◌<◌, ◌==◌, None, Some};
-ghost use Rattle.rv_types.specs.Memory.{load_fault, store_fault};
-
 use crate::seen::Seen;
-use byte_ram::Ram;
 use rv_types::Cause;
 use window_model::line_of;
 
@@ -22,34 +18,6 @@ pub(crate) enum Access {
     Misses(u32),
     /// No miss register is free.
     Waits,
-}
-
-/// The fault of a load of so many bytes.
-pub(crate) fn load_fault(ram: &Ram, addr: u32, size: u32) -> Option<Cause>
-    requires { 0 < size }
-    ensures { result ≡ load_fault ram.now addr size }
-{
-    if addr % size != 0 {
-        return Some(Cause::load_misaligned());
-    }
-    if ram.holds(addr, size) {
-        return None;
-    }
-    Some(Cause::load_outside())
-}
-
-/// The fault of a store of so many bytes.
-pub(crate) fn store_fault(ram: &Ram, addr: u32, size: u32) -> Option<Cause>
-    requires { 0 < size }
-    ensures { result ≡ store_fault ram.now addr size }
-{
-    if addr % size != 0 {
-        return Some(Cause::store_misaligned());
-    }
-    if ram.holds(addr, size) {
-        return None;
-    }
-    Some(Cause::store_outside())
 }
 
 impl<'a> Seen<'a> {

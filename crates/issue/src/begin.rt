@@ -3,7 +3,7 @@ ghost use Rattle.std.specs.Prelude.{◌≡◌, ◌+◌, None, Some, false};
 ghost use Rattle.rv_effect.specs.Seen.{seen};
 ghost use Rattle.window_model.specs.Issue.{fault_if, outcome};
 
-use crate::access::{Access, load_fault, store_fault};
+use crate::access::Access;
 use crate::seen::Seen;
 use rv_alu::{div_time, extend};
 use rv_effect::{Effect, effect};
@@ -153,7 +153,7 @@ impl<'a> Seen<'a> {
         ensures begun { as_tried entry.now result.begun ≡ begin_as kind.Load self.now.desc.now (machine_of self.now) (before_at (window_of self.now) position) entry.now }
     {
         let made = self.effect(position, entry);
-        match load_fault(self.ram, made.addr, entry.width()) {
+        match self.ram.load_fault(made.addr, entry.width()) {
             None => self.begin_sound(position, entry, &made),
             Some(cause) => BegunLoad {
                 access: Access::Faults(cause),
@@ -199,7 +199,7 @@ impl<'a> Seen<'a> {
     fn begin_store(&self, entry: &Entry, made: &Effect) -> Begun
         ensures { as_begun entry.now result ≡ begins entry.now (self.now.cycle + 1) (outcome (seen made.now) 0 (store_fault self.now.ram.now made.now.addr (width_of entry.now))) (event.Agu entry.now.serial) }
     {
-        let fault = store_fault(self.ram, made.addr, entry.width());
+        let fault = self.ram.store_fault(made.addr, entry.width());
         let due = self.cycle as u64 + 1;
         begins(due, outcome(made, 0, fault), Event::Agu(entry.serial))
     }

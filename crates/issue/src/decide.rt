@@ -60,6 +60,7 @@ pub(crate) struct Decided {
 impl Decided {
     ghost use Rattle.std.specs.Prelude.{◌≡◌, ◌≤◌, ◌+◌, ◌++◌, length};
     ghost use Rattle.std.specs.Option.{option_or};
+    ghost use Rattle.window_model.specs.Row.{HasRoom, most_issued, with_events};
     ghost use Rattle.issue.specs.Deciding.{events_by, puts_by};
     ghost use Rattle.issue.specs.Decisions.{IsNothing};
 
@@ -76,10 +77,10 @@ impl Decided {
 
     // Notes the turn of the entry at a position, and its event, if it has begun.
     fn note(&mut self, position: u32, station: u32, turn: &Turn, row: &mut Row)
-        requires few { length self.old.puts.items + length (events_by turn.now.begun) ≤ 8 }
-        requires room { length row.old.events + length (events_by turn.now.begun) ≤ 128 }
+        requires few { length self.old.puts.items + length (events_by turn.now.begun) ≤ most_issued }
+        requires room { HasRoom (length (events_by turn.now.begun)) row.old }
         ensures puts { self.new.puts.items ≡ self.old.puts.items ++ puts_by position station turn.now.begun }
-        ensures row { row.new ≡ record row.old { events = row.old.events ++ events_by turn.now.begun } }
+        ensures row { row.new ≡ with_events row.old (events_by turn.now.begun) }
         ensures load { self.new.load ≡ option_or turn.now.access self.old.load }
         ensures division { self.new.division ≡ option_or turn.now.division self.old.division }
     {
@@ -103,6 +104,7 @@ impl<'a> Seen<'a> {
     ghost use Rattle.std.specs.Option.{option_map};
     ghost use Rattle.window_model.specs.Order.{before_at, each, first, is_waiting, ready};
     ghost use Rattle.window_model.specs.Issue.{DivPort, LoadPort, access_of, divides, issue_entry, is_free, tried};
+    ghost use Rattle.window_model.specs.Row.{HasRoom, IsLonger, most_issued, with_events};
     ghost use Rattle.unit_ports.specs.Laws.{LeftAfter};
     ghost use Rattle.parts_stand.specs.Steps.{station_of};
     ghost use Rattle.issue.specs.Accesses.{as_access};
@@ -140,10 +142,10 @@ impl<'a> Seen<'a> {
         requires waits { is_waiting entry.now.state ≡ true }
         requires ready { ready (before_at (window_of self.now) position) entry.now ≡ true }
         requires left { LeftAfter self.now.desc.now free (before_at (window_of self.now) position) ports.old }
-        requires few { length decided.old.puts.items + left_in_all ports.old ≤ 8 }
-        requires room { length row.old.events + left_in_all ports.old ≤ 128 }
+        requires few { length decided.old.puts.items + left_in_all ports.old ≤ most_issued }
+        requires room { HasRoom (left_in_all ports.old) row.old }
         ensures puts { decided.new.puts.items ≡ decided.old.puts.items ++ puts_of position station (turn_of self.now free (before_at (window_of self.now) position) entry.now) }
-        ensures row { row.new ≡ record row.old { events = row.old.events ++ (turn_of self.now free (before_at (window_of self.now) position) entry.now).events } }
+        ensures row { row.new ≡ with_events row.old (turn_of self.now free (before_at (window_of self.now) position) entry.now).events }
         ensures load { option_map as_access decided.new.load ≡ (if gets self.now.desc.now free LoadPort (before_at (window_of self.now) position) entry.now then Some (access_of self.now.desc.now (machine_of self.now) (before_at (window_of self.now) position) entry.now) else option_map as_access decided.old.load) }
         ensures division { decided.new.division ≡ (if gets self.now.desc.now free DivPort (before_at (window_of self.now) position) entry.now then Some (division_of (machine_of self.now) (before_at (window_of self.now) position) entry.now) else decided.old.division) }
         ensures left { LeftAfter self.now.desc.now free (entry.now ∷ before_at (window_of self.now) position) ports.new }
@@ -163,16 +165,16 @@ impl<'a> Seen<'a> {
         requires stands { Stands self.now }
         requires cycle { ports.old.cycle ≡ self.now.cycle }
         requires left { LeftAfter self.now.desc.now (is_free (machine_with ports.old self.now)) [] ports.old }
-        requires few { left_in_all ports.old ≤ 8 }
+        requires few { left_in_all ports.old ≤ most_issued }
         requires nothing { IsNothing decided.old }
-        requires room { length row.old.events + 8 ≤ 128 }
+        requires room { HasRoom most_issued row.old }
         ensures puts { ArePuts (window_of self.now) decided.new.puts.items }
         ensures window { placed decided.new.puts.items (window_of self.now) ≡ map (λ b. b.entry) (each (issue_entry self.now.desc.now (machine_with ports.old self.now)) (window_of self.now)) }
-        ensures row { row.new ≡ record row.old { events = row.old.events ++ flat_map (λ b. b.events) (each (issue_entry self.now.desc.now (machine_with ports.old self.now)) (window_of self.now)) } }
+        ensures row { row.new ≡ with_events row.old (flat_map (λ b. b.events) (each (issue_entry self.now.desc.now (machine_with ports.old self.now)) (window_of self.now))) }
         ensures load { option_map as_access decided.new.load ≡ option_map (λ p. access_of self.now.desc.now (machine_with ports.old self.now) p.before p.entry) (first (tried self.now.desc.now (is_free (machine_with ports.old self.now))) (window_of self.now)) }
         ensures division { decided.new.division ≡ option_map (λ p. division_of (machine_with ports.old self.now) p.before p.entry) (first (divides self.now.desc.now (is_free (machine_with ports.old self.now))) (window_of self.now)) }
         ensures only { OnlyPorts ports.old ports.new }
-        ensures few { length row.new.events ≤ length row.old.events + 8 }
+        ensures few { IsLonger most_issued row.old row.new }
     {
         let free = ports.free_div();
         for station in 0..self.stations.len() {

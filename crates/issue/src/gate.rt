@@ -39,7 +39,7 @@ impl<'a> Seen<'a> {
     }
 
     // Whether the entry, which waits and is ready, may issue. `free` says that the divider is free in this cycle.
-    fn may_issue(&self, position: u32, entry: &Entry, free: bool) -> bool
+    fn may_begin(&self, position: u32, entry: &Entry, free: bool) -> bool
         requires stands { Stands self.now }
         requires at { StandsAt self.now position entry.now }
         requires waits { is_waiting entry.now.state ≡ true }
@@ -65,7 +65,7 @@ impl<'a> Seen<'a> {
         ensures fewer { left_in_all ports.new + one_if result ≡ left_in_all ports.old }
         ensures only { OnlyPorts ports.old ports.new }
     {
-        if !self.may_issue(position, entry, free) {
+        if !self.may_begin(position, entry, free) {
             return false;
         }
         ports.grant(entry.item.kind)

@@ -1,6 +1,7 @@
 //! The phase: it decides first, and writes then.
-ghost use Rattle.std.specs.Prelude.{◌≡◌, ◌≤◌, ◌+◌, ◌++◌, ℕ, length};
+ghost use Rattle.std.specs.Prelude.{◌≡◌, ℕ};
 ghost use Rattle.std.specs.List.{AllZip};
+ghost use Rattle.window_model.specs.Row.{HasRoom, IsLonger, most_issued, with_events};
 ghost use Rattle.window_model.specs.State.{Machine};
 ghost use Rattle.visibility.specs.Point.{HasAdvanced, Point};
 ghost use Rattle.queue_laws.specs.Window.{StandFor};
@@ -57,9 +58,9 @@ pub fn issue(
     requires stands { Standing rob.old roots.now writers.now stations.old lsq.now }
     requires advanced { HasAdvanced point.now rob.old.entries }
     requires made { MadeFor desc.now tags.old mshrs.old ports.old point.now }
-    requires room { length row.old.events + 8 ≤ 128 }
+    requires room { HasRoom most_issued row.old }
     ensures state { (x : Machine) → with_parts rob.new tags.new mshrs.new ports.new ram.now regs.now cycle x ≡ (issues desc.now rob.old tags.old mshrs.old ports.old ram.now regs.now cycle x).machine }
-    ensures row { (x : Machine) → row.new ≡ record row.old { events = row.old.events ++ (issues desc.now rob.old tags.old mshrs.old ports.old ram.now regs.now cycle x).events } }
+    ensures row { (x : Machine) → row.new ≡ with_events row.old (issues desc.now rob.old tags.old mshrs.old ports.old ram.now regs.now cycle x).events }
     ensures same_room { rob.new.room ≡ rob.old.room }
     ensures same_places { stations.new.room ≡ stations.old.room }
     ensures goes_on { AllZip GoesOn rob.old.entries rob.new.entries }
@@ -71,7 +72,7 @@ pub fn issue(
     ensures registers { mshrs.new.room ≡ mshrs.old.room }
     ensures alus { ports.new.alus ≡ ports.old.alus }
     ensures cycle { ports.new.cycle ≡ cycle }
-    ensures few { length row.new.events ≤ length row.old.events + 8 }
+    ensures few { IsLonger most_issued row.old row.new }
 {
     ports.begin(cycle as u64);
     if !stations.any_ready() {
@@ -103,9 +104,9 @@ fn issue_ready(
     requires advanced { HasAdvanced point.now rob.old.entries }
     requires made { MadeFor desc.now tags.old mshrs.old ports.old point.now }
     requires begun { HasBegun cycle ports.old }
-    requires room { length row.old.events + 8 ≤ 128 }
+    requires room { HasRoom most_issued row.old }
     ensures state { (x : Machine) → with_parts rob.new tags.new mshrs.new ports.new ram.now regs.now cycle x ≡ (issues desc.now rob.old tags.old mshrs.old ports.old ram.now regs.now cycle x).machine }
-    ensures row { (x : Machine) → row.new ≡ record row.old { events = row.old.events ++ (issues desc.now rob.old tags.old mshrs.old ports.old ram.now regs.now cycle x).events } }
+    ensures row { (x : Machine) → row.new ≡ with_events row.old (issues desc.now rob.old tags.old mshrs.old ports.old ram.now regs.now cycle x).events }
     ensures same_room { rob.new.room ≡ rob.old.room }
     ensures same_places { stations.new.room ≡ stations.old.room }
     ensures goes_on { AllZip GoesOn rob.old.entries rob.new.entries }
@@ -117,7 +118,7 @@ fn issue_ready(
     ensures registers { mshrs.new.room ≡ mshrs.old.room }
     ensures alus { ports.new.alus ≡ ports.old.alus }
     ensures cycle { ports.new.cycle ≡ cycle }
-    ensures few { length row.new.events ≤ length row.old.events + 8 }
+    ensures few { IsLonger most_issued row.old row.new }
 {
     let mut decided = Decided::nothing();
     decide(
@@ -164,14 +165,14 @@ fn decide(
     requires stands { Standing rob.now roots.now writers.now stations.now lsq.now }
     requires advanced { HasAdvanced point.now rob.now.entries }
     requires made { MadeFor desc.now tags.now mshrs.now ports.old point.now }
-    requires room { length row.old.events + 8 ≤ 128 }
+    requires room { HasRoom most_issued row.old }
     requires begun { HasBegun cycle ports.old }
     requires nothing { IsNothing decided.old }
     ensures puts { ArePuts rob.now.entries decided.new.puts.items }
     ensures decided { (x : Machine) → Decides desc.now (with_parts rob.now tags.now mshrs.now ports.old ram.now regs.now cycle x) decided.new }
-    ensures row { (x : Machine) → row.new ≡ record row.old { events = row.old.events ++ (issues desc.now rob.now tags.now mshrs.now ports.old ram.now regs.now cycle x).events } }
+    ensures row { (x : Machine) → row.new ≡ with_events row.old (issues desc.now rob.now tags.now mshrs.now ports.old ram.now regs.now cycle x).events }
     ensures only { OnlyPorts ports.old ports.new }
-    ensures few { length row.new.events ≤ length row.old.events + 8 }
+    ensures few { IsLonger most_issued row.old row.new }
 {
     let seen = Seen {
         rob,

@@ -1,8 +1,9 @@
 //! Windows that are filled by hand; the expected values follow from `docs/machine.md`, "Issue" and "Loads".
-ghost use Rattle.std.specs.Prelude.{◌≡◌, ◌≤◌, ◌<◌, ◌+◌, false, length};
+ghost use Rattle.std.specs.Prelude.{◌≡◌, ◌<◌, false, length};
 ghost use Rattle.std.specs.List.{All};
 ghost use Rattle.window_model.specs.declared.State.TheVariants.{Waiting};
 ghost use Rattle.window_model.specs.Order.{is_store};
+ghost use Rattle.window_model.specs.Row.{HasRoom, most_issued};
 ghost use Rattle.issue.specs.Parts.{Standing};
 
 mod filling;
@@ -48,7 +49,7 @@ fn run(
     requires cache { shared.old.tags.desc ≡ desc.now }
     requires registers { shared.old.mshrs.room ≡ desc.now.cache_mshrs }
     requires alus { shared.old.ports.alus ≡ desc.now.units_alus }
-    requires room { length row.old.events + 8 ≤ 128 }
+    requires room { HasRoom most_issued row.old }
     ensures { length parts.new.rob.entries ≡ length parts.old.rob.entries }
 {
     let mut point = VisPoint::new(desc);

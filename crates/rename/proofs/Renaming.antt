@@ -92,7 +92,7 @@ standing_more item s s2 x g =
 
 -- the room that its entry takes is there
 pub enters : (d : Desc) (s0 : Phase) (n : ℕ) (s : Phase) (item : Item) → RenamesOn d s0 n s → fitting d s.held.rob.entries (slice_get s.front.queue 0) ≡ Some item →
-    HasRoomFor (renamed s.held.next item) s.held.rob s.held.roots s.held.writers s.held.writes s.held.names_room s.held.stations s.held.queues
+    HasRoomFor (renamed s.held.next item) s.held.rob s.held.roots s.held.writers s.held.writes s.held.table_room s.held.stations s.held.queues
 enters d s0 n s item h q = room_for d s.held item h.tied (fits_all d s.held.rob.entries item (fitting_is d s.held.rob.entries (slice_get s.front.queue 0) item q).1)
 
 point_more : (h0 h h2 : Held) (item : Item) → PointStays h0 h → Entered (renamed h.next item) h h2 → PointStays h0 h2

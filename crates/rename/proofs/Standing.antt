@@ -35,7 +35,7 @@ pub record Held : Type 0 where
   pub roots : Buffer (List (Option ℕ))
   pub writers : Buffer (List (Option ℕ))
   pub writes : List Write
-  pub names_room : ℕ
+  pub table_room : ℕ
   pub stations : Stations
   pub queues : Queues
   pub next : ℕ
@@ -47,7 +47,7 @@ pub record Tied (d : Desc) (h : Held) : Type 0 where
   pub queues : StandFor h.queues h.rob.entries
   pub addresses : AddressesStand h.rob.entries h.roots.items h.queues.stores
   pub alone : CallAlone h.rob.entries
-  pub rooms : HasRooms d h.rob h.roots h.writers h.names_room h.stations h.queues
+  pub rooms : HasRooms d h.rob h.roots h.writers h.table_room h.stations h.queues
 
 -- ---- what they tell of room
 
@@ -55,7 +55,7 @@ pub counted : (d : Desc) (h : Held) → Tied d h → Counted d h.rob.entries h.s
 counted d h t =
     record { waiting = (counts_room _ t.stands).held; places = t.rooms.places; accesses = t.queues; loads = t.rooms.loads; stores = t.rooms.stores }
 
-pub room_for : (d : Desc) (h : Held) (item : Item) → Tied d h → Fits d h.rob.entries item → HasRoomFor (renamed h.next item) h.rob h.roots h.writers h.writes h.names_room h.stations h.queues
+pub room_for : (d : Desc) (h : Held) (item : Item) → Tied d h → Fits d h.rob.entries item → HasRoomFor (renamed h.next item) h.rob h.roots h.writers h.writes h.table_room h.stations h.queues
 room_for d h item t f =
     let c = counts_room _ t.stands in
     let n = counts_writers h.next h.rob.entries h.writers.items t.writers in
@@ -79,7 +79,7 @@ pub record Entered (e : Entry) (h h2 : Held) : Type 0 where
   pub roots : h2.roots ≡ buffer (h.roots.items ++ roots_at h.writes e ∷ []) h.roots.capacity
   pub writers : h2.writers ≡ buffer (h.writers.items ++ writers_at h.writes e ∷ []) h.writers.capacity
   pub writes : h2.writes ≡ h.writes ++ option_to_list (write_of e (roots_at h.writes e))
-  pub names_room : h2.names_room ≡ h.names_room
+  pub table_room : h2.table_room ≡ h.table_room
   pub stations : (place : ℕ) × (h2.stations ≡ record h.stations { held = seated place (awaits_of (reverse h.rob.entries) e) e h.stations.held })
   pub queues : h2.queues ≡ with_access e.item.kind e.serial (roots_at h.writes e) h.queues
   pub next : h2.next ≡ h.next + 1
@@ -158,7 +158,7 @@ tied_more d h h2 item t f g =
         entries = ap (λ (r : Ring). r.room) g.rob ∙ t.rooms.entries;
         pairs = ap (λ (b : Buffer (List (Option ℕ))). b.capacity) g.roots ∙ t.rooms.pairs;
         writers = ap (λ (b : Buffer (List (Option ℕ))). b.capacity) g.writers ∙ t.rooms.writers;
-        writes = g.names_room ∙ t.rooms.writes;
+        writes = g.table_room ∙ t.rooms.writes;
         places = ap (λ (s : Stations). s.room) g.stations.1 ∙ t.rooms.places;
         loads = ap (λ (q : Queues). q.max_loads) g.queues ∙ keeps_loads k h.next roots h.queues ∙ t.rooms.loads;
         stores = ap (λ (q : Queues). q.max_stores) g.queues ∙ keeps_stores k h.next roots h.queues ∙ t.rooms.stores;

@@ -17,11 +17,11 @@ use Rattle.parts_stand.specs.Parts.{awaited_of}
 use Rattle.parts_stand.specs.Writers.{named}
 
 -- there is room for an entry in each part that is to hold it
-pub record HasRoomFor (e : Entry) (rob : Ring) (roots source_writers : Buffer (List (Option ℕ))) (writes : List Write) (names_room : ℕ) (stations : Stations) (queues : Queues) : Type 0 where
+pub record HasRoomFor (e : Entry) (rob : Ring) (roots source_writers : Buffer (List (Option ℕ))) (writes : List Write) (table_room : ℕ) (stations : Stations) (queues : Queues) : Type 0 where
   pub entry : length rob.entries < rob.room
   pub pair : length roots.items < roots.capacity
   pub writers : length source_writers.items < source_writers.capacity
-  pub write : length writes < names_room
+  pub write : length writes < table_room
   pub station : is_waiting e.state ≡ true → length stations.held < stations.room
   pub load : is_load e.item.kind ≡ true → length queues.loads < queues.max_loads
   pub store : is_store e.item.kind ≡ true → length queues.stores < queues.max_stores

@@ -35,11 +35,11 @@ abbrev pub parts_of : ℕ → Ring → Buffer (List (Option ℕ)) → List Write
 parts_of next rob roots writes stations = record { next = next; window = rob.entries; roots = roots.items; writes = writes; held = stations.held }
 
 -- each part has the description's room
-pub record HasRooms (d : Desc) (rob : Ring) (roots source_writers : Buffer (List (Option ℕ))) (names_room : ℕ) (stations : Stations) (queues : Queues) : Type 0 where
+pub record HasRooms (d : Desc) (rob : Ring) (roots source_writers : Buffer (List (Option ℕ))) (table_room : ℕ) (stations : Stations) (queues : Queues) : Type 0 where
   pub entries : rob.room ≡ d.core_rob
   pub pairs : roots.capacity ≡ d.core_rob
   pub writers : source_writers.capacity ≡ d.core_rob
-  pub writes : names_room ≡ d.core_rob
+  pub writes : table_room ≡ d.core_rob
   pub places : stations.room ≡ d.core_stations
   pub loads : queues.max_loads ≡ d.core_loads
   pub stores : queues.max_stores ≡ d.core_stores

@@ -29,24 +29,24 @@ pub(crate) fn add_entry<R: RenameTaint>(
     rob: &mut RobRing,
     roots: &mut HeapCircularBuffer<[Option<u64>; 2]>,
     writers: &mut HeapCircularBuffer<[Option<u64>; 2]>,
-    names: &mut R,
+    table: &mut R,
     stations: &mut Stations,
     lsq: &mut Lsq,
 )
-    requires stands { Stand (parts_of serial rob.old roots.old (R.writes names.old) stations.old) }
-    requires room { HasRoomFor (renamed serial item.now) rob.old roots.old writers.old (R.writes names.old) (R.room names.old) stations.old lsq.old }
+    requires stands { Stand (parts_of serial rob.old roots.old (R.writes table.old) stations.old) }
+    requires room { HasRoomFor (renamed serial item.now) rob.old roots.old writers.old (R.writes table.old) (R.room table.old) stations.old lsq.old }
     ensures rob { rob.new ≡ record rob.old { entries = rob.old.entries ++ renamed serial item.now ∷ [] } }
-    ensures roots { roots.new ≡ buffer (roots.old.items ++ roots_at (R.writes names.old) (renamed serial item.now) ∷ []) roots.old.capacity }
-    ensures writers { writers.new ≡ buffer (writers.old.items ++ writers_at (R.writes names.old) (renamed serial item.now) ∷ []) writers.old.capacity }
-    ensures names { R.writes names.new ≡ R.writes names.old ++ option_to_list (write_of (renamed serial item.now) (roots_at (R.writes names.old) (renamed serial item.now))) }
-    ensures same_names_room { R.room names.new ≡ R.room names.old }
+    ensures roots { roots.new ≡ buffer (roots.old.items ++ roots_at (R.writes table.old) (renamed serial item.now) ∷ []) roots.old.capacity }
+    ensures writers { writers.new ≡ buffer (writers.old.items ++ writers_at (R.writes table.old) (renamed serial item.now) ∷ []) writers.old.capacity }
+    ensures table { R.writes table.new ≡ R.writes table.old ++ option_to_list (write_of (renamed serial item.now) (roots_at (R.writes table.old) (renamed serial item.now))) }
+    ensures same_table_room { R.room table.new ≡ R.room table.old }
     ensures stations { (place : ℕ) × (stations.new ≡ record stations.old { held = seated place (awaits_of (reverse rob.old.entries) (renamed serial item.now)) (renamed serial item.now) stations.old.held }) }
-    ensures lsq { lsq.new ≡ with_access item.now.kind serial (roots_at (R.writes names.old) (renamed serial item.now)) lsq.old }
+    ensures lsq { lsq.new ≡ with_access item.now.kind serial (roots_at (R.writes table.old) (renamed serial item.now)) lsq.old }
 {
-    let source_writers = writers_of(names, &item.instr);
+    let source_writers = writers_of(table, &item.instr);
     let awaits = awaits_of(source_writers, rob);
-    let sources = roots_of(names, &item.instr);
-    add_write(serial, item, sources, names);
+    let sources = roots_of(table, &item.instr);
+    add_write(serial, item, sources, table);
     add_station(serial, item, awaits, stations);
     add_access(serial, item.kind, sources, lsq);
     push_within(roots, sources);
@@ -73,15 +73,15 @@ fn renamed(serial: u64, item: Item) -> Entry
 }
 
 // The entry's write is held, if it writes a register.
-fn add_write<R: RenameTaint>(serial: u64, item: &Item, sources: [Option<u64>; 2], names: &mut R)
-    requires room { length (R.writes names.old) < R.room names.old }
-    requires youngest { All (λ w. w.serial < serial) (R.writes names.old) }
-    ensures names { R.writes names.new ≡ R.writes names.old ++ option_to_list (write_of (renamed serial item.now) sources) }
-    ensures same_room { R.room names.new ≡ R.room names.old }
+fn add_write<R: RenameTaint>(serial: u64, item: &Item, sources: [Option<u64>; 2], table: &mut R)
+    requires room { length (R.writes table.old) < R.room table.old }
+    requires youngest { All (λ w. w.serial < serial) (R.writes table.old) }
+    ensures table { R.writes table.new ≡ R.writes table.old ++ option_to_list (write_of (renamed serial item.now) sources) }
+    ensures same_room { R.room table.new ≡ R.room table.old }
 {
     if let Some(register) = writes_of(&item.instr) {
         let root = root_written(item.kind, serial, sources);
-        names.write(register, serial, root);
+        table.write(register, serial, root);
     }
 }
 

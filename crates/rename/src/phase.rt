@@ -1,5 +1,6 @@
 //! The phase: item by item.
-ghost use Rattle.std.specs.Prelude.{◌≡◌, ◌≤◌, ◌<◌, ◌+◌, ◌++◌, ◌^◌, None, IfSome, is_some, drop, length, slice_get};
+ghost use Rattle.std.specs.Prelude.{◌≡◌, ◌≤◌, ◌<◌, ◌+◌, ◌^◌, None, IfSome, is_some, drop, slice_get};
+ghost use Rattle.window_model.specs.Row.{HasRoom, IsLonger, most_fetched, with_events};
 ghost use Rattle.window_model.specs.State.{Machine};
 ghost use Rattle.queue_laws.specs.Window.{StandFor};
 ghost use Rattle.visibility.specs.Point.{Point};
@@ -32,7 +33,7 @@ pub fn rename<R: RenameTaint>(
     rob: &mut RobRing,
     roots: &mut HeapCircularBuffer<[Option<u64>; 2]>,
     writers: &mut HeapCircularBuffer<[Option<u64>; 2]>,
-    names: &mut R,
+    table: &mut R,
     stations: &mut Stations,
     lsq: &mut Lsq,
     front: &mut Fetch,
@@ -40,33 +41,33 @@ pub fn rename<R: RenameTaint>(
     desc: &Desc,
     row: &mut Row,
 )
-    requires stands { Stand (parts_of next_serial.old rob.old roots.old (R.writes names.old) stations.old) }
+    requires stands { Stand (parts_of next_serial.old rob.old roots.old (R.writes table.old) stations.old) }
     requires writers { WritersOf next_serial.old rob.old.entries writers.old.items }
     requires queues { StandFor lsq.old rob.old.entries }
     requires addresses { AddressesStand rob.old.entries roots.old.items lsq.old.stores }
     requires call_alone { CallAlone rob.old.entries }
-    requires rooms { HasRooms desc.now rob.old roots.old writers.old (R.room names.old) stations.old lsq.old }
-    requires serials { next_serial.old + 4 < 2 ^ 64 }
-    requires room { length row.old.events + 4 ≤ 128 }
+    requires rooms { HasRooms desc.now rob.old roots.old writers.old (R.room table.old) stations.old lsq.old }
+    requires serials { next_serial.old + most_fetched < 2 ^ 64 }
+    requires room { HasRoom most_fetched row.old }
     ensures state { (x : Machine) → with_parts rob.new front.new next_serial.new x ≡ (renames desc.now rob.old front.old next_serial.old x).machine }
-    ensures row { (x : Machine) → row.new ≡ record row.old { events = row.old.events ++ (renames desc.now rob.old front.old next_serial.old x).events } }
-    ensures stands { Stand (parts_of next_serial.new rob.new roots.new (R.writes names.new) stations.new) }
+    ensures row { (x : Machine) → row.new ≡ with_events row.old (renames desc.now rob.old front.old next_serial.old x).events }
+    ensures stands { Stand (parts_of next_serial.new rob.new roots.new (R.writes table.new) stations.new) }
     ensures writers { WritersOf next_serial.new rob.new.entries writers.new.items }
     ensures queues { StandFor lsq.new rob.new.entries }
     ensures addresses { AddressesStand rob.new.entries roots.new.items lsq.new.stores }
     ensures call_alone { CallAlone rob.new.entries }
-    ensures rooms { HasRooms desc.now rob.new roots.new writers.new (R.room names.new) stations.new lsq.new }
+    ensures rooms { HasRooms desc.now rob.new roots.new writers.new (R.room table.new) stations.new lsq.new }
     ensures point { (p : Point) → PointStands p next_serial.old rob.old.entries → PointStands p next_serial.new rob.new.entries }
     ensures front_desc { front.new.desc ≡ front.old.desc }
-    ensures serials { next_serial.new ≤ next_serial.old + 4 }
-    ensures few { length row.new.events ≤ length row.old.events + 4 }
+    ensures serials { next_serial.new ≤ next_serial.old + most_fetched }
+    ensures few { IsLonger most_fetched row.old row.new }
 {
     for _ in 0..desc.core_fetch_width {
         let Some(item) = take_fitting(front, desc, rob, stations, lsq) else {
             return;
         };
         let serial = *next_serial;
-        add_entry(serial, &item, rob, roots, writers, names, stations, lsq);
+        add_entry(serial, &item, rob, roots, writers, table, stations, lsq);
         *next_serial += 1;
         row.push(Event::Ren(serial, item.pc));
     }

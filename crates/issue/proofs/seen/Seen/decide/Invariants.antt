@@ -1,5 +1,6 @@
 use Rattle.std.proofs.Common.{◌≡◌, ◌≤◌, ◌+◌, length}
 use Rattle.std.specs.Option.{option_map}
+use Rattle.window_model.specs.Row.{most_issued}
 use Rattle.issue.specs.Accesses.{as_access}
 use Rattle.issue.specs.Ports.{OnlyPorts, left_in_all}
 use Rattle.issue.specs.State.{window_of}
@@ -11,7 +12,7 @@ abbrev pub invariant-loop-station : goal.invariant-loop-station
 invariant-loop-station l = record {
   walked : Reaches (Walked l.self l.free l.ports l.decided.puts.items (option_map as_access l.decided.load) l.decided.division l.initial.row.events l.row.events) (window_of l.self) l.station;
   only : OnlyPorts l.initial.ports l.ports;
-  few : length l.decided.puts.items + left_in_all l.ports ≤ 8;
-  room : length l.row.events + left_in_all l.ports ≤ length l.initial.row.events + 8;
+  few : length l.decided.puts.items + left_in_all l.ports ≤ most_issued;
+  room : length l.row.events + left_in_all l.ports ≤ length l.initial.row.events + most_issued;
   cycle : l.row.cycle ≡ l.initial.row.cycle;
 }
