@@ -9,9 +9,8 @@ use Rattle.window_model.specs.declared.Event.{Event}
 use Rattle.window_model.specs.State.{Machine, After}
 use Rattle.window_model.specs.Row.{Row}
 use Rattle.window_model.specs.Fill.{fill, complete}
-use Rattle.window_model.specs.Resolve.{resolve}
 use Rattle.window_model.specs.Retire.{Retired, retire}
-use Rattle.window_model.specs.Front.{fetch, then_does}
+use Rattle.window_model.specs.Front.{fetch}
 use Rattle.window_model.specs.Cycle.{Cycled, cycle, back}
 use Rattle.window_model.specs.Committed.{Aligned, Commits}
 use Rattle.window_model.proofs.Quiet.{before_retire, front_quiet}
@@ -21,6 +20,7 @@ use Rattle.quiet_cycles.specs.Still.{NothingDueBefore, StillUntil, empty_row}
 use Rattle.visibility.specs.Point.{HasAdvanced}
 use Rattle.core_cycle.specs.Described.{Described}
 use Rattle.core_cycle.specs.Kept.{Kept, KeptUntil}
+use Rattle.core_cycle.specs.Phases.{front}
 use Rattle.core_cycle.proofs.Passing.{commits_after, kept_after, still_after}
 
 -- ---- fetching leaves the window as it is
@@ -36,9 +36,6 @@ fetched_advanced code s s1 e a =
 
 abbrev begun : Machine → Machine
 begun x = record x { cycle = x.cycle + 1 }
-
-abbrev front : Desc → Machine → After
-front d x = then_does (fill d x) (λ y. then_does (complete y) (resolve d))
 
 -- it begins, and the phases before Retire go
 pub record Fronts (s s1 s2 : Described) : Type 0 where

@@ -3,16 +3,14 @@
 use Rattle.std.proofs.Common.{◌≡◌, ◌≤◌, ◌++◌, List, [], length, ap, sym, ◌∙◌, subst, arith}
 use Rattle.std.proofs.lemmas.List.{length-append, nil_from_length}
 use Rattle.std.specs.List.{AllByRecursion as Each}
-use Rattle.std.specs.Prelude.{count_by}
 use Rattle.machine_desc.specs.declared.Desc.{Desc}
 use Rattle.machine_desc.specs.declared.SttModel.TheVariants.{Spectre}
 use Rattle.window_model.specs.declared.Event.{Event}
 use Rattle.window_model.specs.Fill.{complete}
-use Rattle.window_model.specs.Front.{rename}
+use Rattle.window_model.specs.Front.{rename, CallAlone}
 use Rattle.window_model.specs.Resolve.{resolve}
 use Rattle.window_model.specs.Row.{Row}
 use Rattle.window_model.specs.State.{Machine, After}
-use Rattle.machine_facts.specs.Sized.{calls}
 use Rattle.quiet_cycles.proofs.Early.{complete_nothing, none_done, none_resolves, resolve_nothing}
 use Rattle.quiet_cycles.proofs.Front.{rename_nothing}
 use Rattle.visibility.specs.Point.{HasAdvanced, Point}
@@ -67,7 +65,7 @@ spectre_goes_on h rob v w f s spectre a =
 pub retire_goes_on : (h : Held) (rob : Ring) (v : Described) → Whole h → h.rob.entries ≡ gone h.rob rob ++ rob.entries → Each MayRetire (gone h.rob rob) → described h ≡ v →
     HasAdvanced v.point v.machine.window → HasAdvanced h.point rob.entries
 retire_goes_on h rob v w left m s a =
-    retire_advanced h.point (gone h.rob rob) rob.entries m (subst (λ es. 1 ≤ count_by calls es → length es ≤ 1) left w.sized.call_alone) (subst (HasAdvanced h.point) left (here h v s a))
+    retire_advanced h.point (gone h.rob rob) rob.entries m (subst CallAlone left w.sized.call_alone) (subst (HasAdvanced h.point) left (here h v s a))
 
 pub issue_goes_on : (h : Held) (rob : Ring) (tags : Cache) (mshrs : Registers) (ports : Ports) (v : Described) → Whole h →
     ((x : Machine) → issuing.with_parts rob tags mshrs ports h.ram h.regs h.cycle x ≡ (issuing.issues h.desc h.rob h.tags h.mshrs h.ports h.ram h.regs h.cycle x).machine) → described h ≡ v →

@@ -1,11 +1,10 @@
 //! A cycle's phases in their order (`docs/machine.md`, "A cycle").
-ghost use Rattle.std.specs.Prelude.{◌≡◌, ◌≤◌, ◌<◌, ◌+◌, ◌++◌, ◌^◌, length};
+ghost use Rattle.std.specs.Prelude.{◌≡◌, ◌<◌, ◌+◌, ◌^◌};
 ghost use Rattle.elf_loader.specs.Code.{word_at};
 ghost use Rattle.visibility.specs.Point.{HasAdvanced};
 ghost use Rattle.window_model.specs.Cycle.{back};
-ghost use Rattle.window_model.specs.Fill.{fill, complete};
-ghost use Rattle.window_model.specs.Resolve.{resolve};
-ghost use Rattle.window_model.specs.Front.{then_does};
+ghost use Rattle.window_model.specs.Row.{HasRoom, IsLonger, most_before_retire, most_fetched, with_events};
+ghost use Rattle.core_cycle.specs.Phases.{front, most_after_retire};
 
 use crate::state::State;
 use elf_loader::Code;
@@ -17,12 +16,12 @@ impl<R: RenameTaint> State<R> {
     /// once they are through.
     pub(crate) fn before_retire(&mut self, row: &mut Row)
         requires advanced { HasAdvanced self.old.point self.old.machine.window }
-        requires room { length row.old.events + 75 ≤ 128 }
+        requires room { HasRoom most_before_retire row.old }
         ensures desc { self.new.desc ≡ self.old.desc }
-        ensures machine { self.new.machine ≡ (then_does (fill self.old.desc self.old.machine) (λ y. then_does (complete y) (resolve self.old.desc))).machine }
-        ensures row { row.new ≡ record row.old { events = row.old.events ++ (then_does (fill self.old.desc self.old.machine) (λ y. then_does (complete y) (resolve self.old.desc))).events } }
+        ensures machine { self.new.machine ≡ (front self.old.desc self.old.machine).machine }
+        ensures row { row.new ≡ with_events row.old (front self.old.desc self.old.machine).events }
         ensures advanced { HasAdvanced self.new.point self.new.machine.window }
-        ensures few { length row.new.events ≤ length row.old.events + 75 }
+        ensures few { IsLonger most_before_retire row.old row.new }
     {
         self.fill(row);
         let filled = row.events().len();
@@ -37,13 +36,13 @@ impl<R: RenameTaint> State<R> {
     /// it, and once Rename has brought in others.
     pub(crate) fn after_retire(&mut self, code: &Code, row: &mut Row)
         requires advanced { HasAdvanced self.old.point self.old.machine.window }
-        requires serials { self.old.machine.next_serial + 4 < 2 ^ 64 }
-        requires room { length row.old.events + 16 ≤ 128 }
+        requires serials { self.old.machine.next_serial + most_fetched < 2 ^ 64 }
+        requires room { HasRoom most_after_retire row.old }
         ensures desc { self.new.desc ≡ self.old.desc }
         ensures machine { self.new.machine ≡ (back self.old.desc (word_at code.now) self.old.machine).machine }
-        ensures row { row.new ≡ record row.old { events = row.old.events ++ (back self.old.desc (word_at code.now) self.old.machine).events } }
+        ensures row { row.new ≡ with_events row.old (back self.old.desc (word_at code.now) self.old.machine).events }
         ensures advanced { HasAdvanced self.new.point self.new.machine.window }
-        ensures few { length row.new.events ≤ length row.old.events + 16 }
+        ensures few { IsLonger most_after_retire row.old row.new }
     {
         if self.end.is_some() {
             return;

@@ -1,5 +1,5 @@
 -- Parts that are filled by hand stand for their window: an entry that is Done and writes nothing, and one behind it that waits.
-use Rattle.std.proofs.Common.{◌≡◌, ℕ, ◌<◌, Bool, true, false, cond, List, [], ◌∷◌, map, Option, None, Some, refl, ap, ap₂, sym, ◌∙◌, subst, arith}
+use Rattle.std.proofs.Common.{◌≡◌, ℕ, ◌<◌, false, List, [], ◌∷◌, map, Option, None, Some, refl, ap, ap₂, sym, ◌∙◌, subst, arith}
 use Rattle.std.specs.Prelude.{if◌then◌else◌}
 use Rattle.std.specs.List.{cons_option}
 use Rattle.std.specs.Option.{option_map}
@@ -14,7 +14,7 @@ use Rattle.window_model.specs.Order.{is_load, is_register, is_waiting, sources, 
 use Rattle.rob_ring.specs.Ring.{Ring}
 use Rattle.rename_taint.specs.declared.Write.{Write}
 use Rattle.rename_taint.specs.Writes.{root_written}
-use Rattle.stations.specs.Stations.{Station, Stations}
+use Rattle.stations.specs.Stations.{Stations}
 use Rattle.parts_stand.specs.Parts.{Stand, awaited, awaited_of, waiter_of, waiters_from, write_of}
 use Rattle.parts_stand.specs.Roots.{root_of_source, youngest_root}
 use Rattle.parts_stand.specs.Writers.{WritersOf, writer_of_source}

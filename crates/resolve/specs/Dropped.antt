@@ -1,10 +1,11 @@
 -- What is left of the parts once an entry is resolved (docs/machine.md, "Resolve").
-use Rattle.std.specs.Prelude.{ℕ, ◌+◌, true, nat_lt, List, length, slice_set, Option, Some, None, if◌then◌else◌}
+use Rattle.std.specs.Prelude.{ℕ, ◌+◌, ◌-◌, true, nat_lt, List, length, slice_set, Option, Some, None, if◌then◌else◌}
 use Rattle.std.specs.List.{filter}
 use Rattle.window_model.specs.declared.Entry.{Entry}
 use Rattle.window_model.specs.Order.{Place}
 use Rattle.window_model.specs.Resolve.{squashes}
-use Rattle.rob_ring.specs.Ring.{Ring}
+use Rattle.rob_ring.specs.Ring.{Ring, below}
+use Rattle.fetch_unit.specs.Front.{Front}
 use Rattle.predictor.specs.Tables.{Tables}
 use Rattle.stations.specs.Stations.{Station}
 use Rattle.lsq.specs.Queues.{Queues}
@@ -38,6 +39,10 @@ stations_below first held = filter (λ s. nat_lt s.serial first) held
 -- the loads and stores below a serial
 abbrev pub queues_below : ℕ → Queues → Queues
 queues_below first q = record q { loads = filter (λ l. nat_lt l first) q.loads; stores = filter (λ s. nat_lt s.serial first) q.stores }
+
+-- how many go from a serial on: entries, and all fetched items
+abbrev pub count_from : ℕ → Ring → Front → ℕ
+count_from first rob front = length rob.entries - length (below first rob.entries) + length front.queue
 
 -- where fetching goes on after an entry that turned out so, if it was not rightly predicted
 abbrev pub true_next : Resolution → Option ℕ

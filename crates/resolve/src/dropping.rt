@@ -1,12 +1,13 @@
 //! What is younger than an entry that was wrongly predicted or faults goes.
-ghost use Rattle.std.specs.Prelude.{◌≡◌, ◌<◌, ◌≤◌, ◌+◌, ◌-◌, ◌++◌, ◌∷◌, ◌^◌, [], length, take};
+ghost use Rattle.std.specs.Prelude.{◌≡◌, ◌<◌, ◌+◌, ◌-◌, ◌∷◌, ◌^◌, [], length, take};
 ghost use Rattle.std.specs.List.{AllPairs};
 ghost use Rattle.circular_buffer.specs.Buffer.{buffer};
 ghost use Rattle.window_model.specs.declared.Event.TheVariants as event;
 ghost use Rattle.window_model.specs.Resolve.{freed_from};
+ghost use Rattle.window_model.specs.Row.{HasRoom, IsLonger, with_events};
 ghost use Rattle.rob_ring.specs.Ring.{below};
 ghost use Rattle.rename_taint.specs.Writes.{before_serial};
-ghost use Rattle.resolve.specs.Dropped.{queues_below, stations_below, true_next};
+ghost use Rattle.resolve.specs.Dropped.{count_from, queues_below, stations_below, true_next};
 
 use branch_resolve::Resolution;
 use circular_buffer::HeapCircularBuffer;
@@ -37,7 +38,7 @@ pub(crate) fn drop_younger<R: RenameTaint>(
     requires rise { AllPairs (λ a b. a.serial < b.serial) rob.old.entries }
     requires more { serial < 2 ^ 64 - 1 }
     requires few_items { length rob.old.entries + length front.old.queue < 2 ^ 32 }
-    requires room { length row.old.events < 128 }
+    requires room { HasRoom 1 row.old }
     ensures rob { rob.new ≡ record rob.old { entries = below (serial + 1) rob.old.entries } }
     ensures roots { roots.new ≡ buffer (take (length rob.new.entries) roots.old.items) roots.old.capacity }
     ensures writers { writers.new ≡ buffer (take (length rob.new.entries) writers.old.items) writers.old.capacity }
@@ -47,8 +48,8 @@ pub(crate) fn drop_younger<R: RenameTaint>(
     ensures lsq { lsq.new ≡ queues_below (serial + 1) lsq.old }
     ensures ports { ports.new ≡ record ports.old { divider = freed_from (serial + 1) ports.old.divider } }
     ensures front { front.new ≡ record front.old { queue = []; fetch_pc = next } }
-    ensures row { row.new ≡ record row.old { events = row.old.events ++ event.Sq (length rob.old.entries - length (below (serial + 1) rob.old.entries) + length front.old.queue) ∷ [] } }
-    ensures few { length row.new.events ≤ length row.old.events + 1 }
+    ensures row { row.new ≡ with_events row.old (event.Sq (count_from (serial + 1) rob.old front.old) ∷ []) }
+    ensures few { IsLonger 1 row.old row.new }
 {
     let entries = squash_after(serial + 1, rob, table, stations, lsq, ports);
     roots.truncate_back(rob.len() as usize);

@@ -1,8 +1,9 @@
 //! The phase: an entry is picked, marked, and teaches; where it squashes, what is younger goes.
-ghost use Rattle.std.specs.Prelude.{◌≡◌, ◌≤◌, ◌<◌, ◌+◌, ◌-◌, ◌++◌, ◌^◌, ℕ, true, length, take, Some, slice_get, slice_set};
+ghost use Rattle.std.specs.Prelude.{◌≡◌, ◌<◌, ◌+◌, ◌-◌, ◌^◌, ℕ, true, length, take, Some, slice_get, slice_set};
 ghost use Rattle.std.specs.List.{All, AllPairs};
 ghost use Rattle.circular_buffer.specs.Buffer.{buffer};
 ghost use Rattle.window_model.specs.Resolve.{freed_from};
+ghost use Rattle.window_model.specs.Row.{HasRoom, IsLonger, most_resolved, with_events};
 ghost use Rattle.window_model.specs.State.{Machine};
 ghost use Rattle.rob_ring.specs.Ring.{below};
 ghost use Rattle.rename_taint.specs.Writes.{before_serial};
@@ -53,9 +54,9 @@ pub fn resolve<R: RenameTaint>(
     requires advanced { HasAdvanced point.now rob.old.entries }
     requires model { point.now.model ≡ predictor.old.desc.stt_model }
     requires few_items { length rob.old.entries + length front.old.queue < 2 ^ 32 }
-    requires room { length row.old.events + 3 ≤ 128 }
+    requires room { HasRoom most_resolved row.old }
     ensures state { (x : Machine) → with_parts rob.new front.new predictor.new ports.new x ≡ (resolves rob.old front.old predictor.old ports.old x).machine }
-    ensures row { (x : Machine) → row.new ≡ record row.old { events = row.old.events ++ (resolves rob.old front.old predictor.old ports.old x).events } }
+    ensures row { (x : Machine) → row.new ≡ with_events row.old (resolves rob.old front.old predictor.old ports.old x).events }
     ensures rob { rob.new ≡ record rob.old { entries = left below (dropped_from rob.old predictor.old) (marked (resolving rob.old predictor.old) rob.old.entries) } }
     ensures roots { roots.new ≡ buffer (take (length rob.new.entries) roots.old.items) roots.old.capacity }
     ensures writers { writers.new ≡ buffer (take (length rob.new.entries) writers.old.items) writers.old.capacity }
@@ -71,7 +72,7 @@ pub fn resolve<R: RenameTaint>(
     ensures point_stands { (next : ℕ) → PointStands point.now next rob.old.entries → PointStands point.now next rob.new.entries }
     ensures predictor_desc { predictor.new.desc ≡ predictor.old.desc }
     ensures front_desc { front.new.desc ≡ front.old.desc }
-    ensures few { length row.new.events ≤ length row.old.events + 3 }
+    ensures few { IsLonger most_resolved row.old row.new }
 {
     let Some(position) = pick(rob, point, roots) else {
         return;
@@ -101,9 +102,9 @@ fn resolve_at<R: RenameTaint>(
     requires each_has_roots { length roots.old.items ≡ length rob.old.entries }
     requires each_has_writers { length writers.old.items ≡ length rob.old.entries }
     requires picked { Some at ≡ position (resolving rob.old predictor.old) }
-    requires room { length row.old.events + 3 ≤ 128 }
+    requires room { HasRoom most_resolved row.old }
     ensures state { (x : Machine) → with_parts rob.new front.new predictor.new ports.new x ≡ (resolves rob.old front.old predictor.old ports.old x).machine }
-    ensures row { (x : Machine) → row.new ≡ record row.old { events = row.old.events ++ (resolves rob.old front.old predictor.old ports.old x).events } }
+    ensures row { (x : Machine) → row.new ≡ with_events row.old (resolves rob.old front.old predictor.old ports.old x).events }
     ensures rob { rob.new ≡ record rob.old { entries = left below (dropped_from rob.old predictor.old) (marked (resolving rob.old predictor.old) rob.old.entries) } }
     ensures roots { roots.new ≡ buffer (take (length rob.new.entries) roots.old.items) roots.old.capacity }
     ensures writers { writers.new ≡ buffer (take (length rob.new.entries) writers.old.items) writers.old.capacity }
@@ -114,7 +115,7 @@ fn resolve_at<R: RenameTaint>(
     ensures ports { ports.new ≡ record ports.old { divider = left freed_from (dropped_from rob.old predictor.old) ports.old.divider } }
     ensures predictor_desc { predictor.new.desc ≡ predictor.old.desc }
     ensures front_desc { front.new.desc ≡ front.old.desc }
-    ensures few { length row.new.events ≤ length row.old.events + 3 }
+    ensures few { IsLonger most_resolved row.old row.new }
 {
     let entry = mark(rob, at);
     let resolution = branch_resolve::resolve(&entry, predictor, row);

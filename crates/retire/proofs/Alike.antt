@@ -1,5 +1,5 @@
 -- What a line finds in the cache depends on the description's sets and lines alone.
-use Rattle.std.proofs.Common.{◌≡◌, ℕ, ◌/◌, ◌%◌, Bool, not, ◌==◌, List, [], ◌∷◌, ap, ap₂}
+use Rattle.std.proofs.Common.{◌≡◌, ℕ, ◌/◌, ◌%◌, not, ◌==◌, List, [], ◌∷◌, ap, ap₂}
 use Rattle.std.specs.Prelude.{if◌then◌else◌, slice_index_or, slice_set}
 use Rattle.std.specs.List.{filter, list_any}
 use Rattle.machine_desc.specs.declared.Desc.{Desc}

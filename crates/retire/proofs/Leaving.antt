@@ -169,7 +169,8 @@ one_more d n stored s s2 went rest e end t w p g x =
 
 -- ---- what is asked stays so
 
-alone_rest : (e : Entry) (rest : List Entry) → CallAlone (e ∷ rest) → CallAlone rest
+-- the rest of a window in which a call stands alone
+pub alone_rest : (e : Entry) (rest : List Entry) → CallAlone (e ∷ rest) → CallAlone rest
 alone_rest e rest h one =
     let a = count_is calls rest in
     let b = count_is calls (e ∷ rest) in

@@ -1,5 +1,5 @@
 //! What a head that retires does to the cache, memory, the registers and the pc (`docs/machine.md`, "Retire").
-ghost use Rattle.std.specs.Prelude.{◌≡◌, ◌≤◌, ◌+◌, ◌++◌, ◌∷◌, [], List, None, IfSome, length};
+ghost use Rattle.std.specs.Prelude.{◌≡◌, ◌+◌, ◌∷◌, [], List, None, IfSome, length};
 ghost use Rattle.rv_types.specs.Isa.{call, with_reg};
 ghost use Rattle.rv_types.specs.Memory.{store_fault, with_bytes};
 ghost use Rattle.rv_types.specs.Regs.{writes_of};
@@ -11,6 +11,7 @@ ghost use Rattle.window_model.specs.declared.Event.TheVariants as event;
 ghost use Rattle.window_model.specs.Order.{value_of};
 ghost use Rattle.window_model.specs.Resolve.{next_of};
 ghost use Rattle.window_model.specs.Retire.{head_leaves, addr_of, stored_of, width_of, has_line, touched};
+ghost use Rattle.window_model.specs.Row.{HasRoom, IsLonger, with_events};
 ghost use Rattle.window_model.specs.Shape.{SameShape};
 ghost use Rattle.window_model.specs.State.{Machine, line_of};
 ghost use Rattle.retire.specs.Parts.{with_effects};
@@ -35,17 +36,17 @@ pub(crate) fn commit(
     row: &mut Row,
     piece: &mut Piece,
 ) -> Option<End>
-    requires room { length row.old.events + 2 ≤ 128 }
+    requires room { HasRoom 2 row.old }
     requires empty { piece.old ≡ [] }
     requires sets { tags.old.desc.cache_sets ≡ desc.now.cache_sets }
     requires line { tags.old.desc.cache_line ≡ desc.now.cache_line }
     requires inside { head.now.item.kind ≡ Store → store_fault ram.old (addr_of head.now.outcome) (width_of head.now) ≡ None }
     ensures state { (x : Machine) (rest : List Entry) → record (with_effects tags.new ram.new regs.new pc.new result x) { window = rest; retired = x.retired + 1 } ≡ (head_leaves head.now.item.kind desc.now head.now rest (with_effects tags.old ram.old regs.old pc.old None x)).machine }
-    ensures row { (x : Machine) (rest : List Entry) → row.new ≡ record row.old { events = row.old.events ++ (head_leaves head.now.item.kind desc.now head.now rest (with_effects tags.old ram.old regs.old pc.old None x)).events } }
+    ensures row { (x : Machine) (rest : List Entry) → row.new ≡ with_events row.old (head_leaves head.now.item.kind desc.now head.now rest (with_effects tags.old ram.old regs.old pc.old None x)).events }
     ensures piece { (x : Machine) (rest : List Entry) → piece.new ≡ (head_leaves head.now.item.kind desc.now head.now rest (with_effects tags.old ram.old regs.old pc.old None x)).piece }
     ensures desc { tags.new.desc ≡ tags.old.desc }
     ensures shape { SameShape ram.old ram.new }
-    ensures few { length row.new.events ≤ length row.old.events + 2 }
+    ensures few { IsLonger 2 row.old row.new }
 {
     match head.item.kind {
         Kind::Store => {
@@ -83,7 +84,7 @@ fn commit_store(
     desc: &Desc,
     row: &mut Row,
 )
-    requires room { length row.old.events + 2 ≤ 128 }
+    requires room { HasRoom 2 row.old }
     requires sets { tags.old.desc.cache_sets ≡ desc.now.cache_sets }
     requires line { tags.old.desc.cache_line ≡ desc.now.cache_line }
     requires inside { store_fault ram.old (addr_of head.now.outcome) (width_of head.now) ≡ None }
@@ -91,7 +92,7 @@ fn commit_store(
     ensures tags { tags.new ≡ record tags.old { sets = touched desc.now tags.old.sets (line_of desc.now (addr_of head.now.outcome)) } }
     ensures regs { regs.new ≡ with_reg regs.old (writes_of head.now.item.instr) (value_of head.now.outcome) }
     ensures pc { pc.new ≡ next_of head.now.outcome }
-    ensures row { row.new ≡ record row.old { events = row.old.events ++ event.Ret head.now.serial ∷ event.St head.now.serial (line_of desc.now (addr_of head.now.outcome)) (has_line desc.now tags.old.sets (line_of desc.now (addr_of head.now.outcome))) ∷ [] } }
+    ensures row { row.new ≡ with_events row.old (event.Ret head.now.serial ∷ event.St head.now.serial (line_of desc.now (addr_of head.now.outcome)) (has_line desc.now tags.old.sets (line_of desc.now (addr_of head.now.outcome))) ∷ []) }
 {
     let line = line_of(desc, head.addr());
     write_store(ram, head);
@@ -119,11 +120,11 @@ fn commit_call(
     row: &mut Row,
     piece: &mut Piece,
 ) -> Option<u32>
-    requires room { length row.old.events + 2 ≤ 128 }
+    requires room { HasRoom 2 row.old }
     requires empty { piece.old ≡ [] }
     ensures stepped { stepped_as (record { pc = pc.new; regs = regs.new; ram = ram.now }) piece.new result ≡ call (record { pc = pc.old; regs = regs.old; ram = ram.now }) }
     ensures exit { IfSome result (λ v. piece.new ≡ []) }
-    ensures row { row.new ≡ record row.old { events = row.old.events ++ event.Ret head.now.serial ∷ event.Call head.now.serial (length piece.new) ∷ [] } }
+    ensures row { row.new ≡ with_events row.old (event.Ret head.now.serial ∷ event.Call head.now.serial (length piece.new) ∷ []) }
 {
     let exit = call(pc, regs, ram, piece);
     row.push(Event::Ret(head.serial));

@@ -1,6 +1,7 @@
 //! The phase: turn by turn.
-ghost use Rattle.std.specs.Prelude.{◌≡◌, ◌≤◌, ◌<◌, ◌+◌, ◌-◌, ◌++◌, [], length, drop};
+ghost use Rattle.std.specs.Prelude.{◌≡◌, ◌<◌, ◌-◌, ◌++◌, [], length, drop};
 ghost use Rattle.std.specs.List.{AllByRecursion as Each};
+ghost use Rattle.window_model.specs.Row.{HasRoom, IsLonger, most_retired, with_events};
 ghost use Rattle.window_model.specs.State.{Machine};
 ghost use Rattle.rename_taint.specs.Writes.{without_retired};
 ghost use Rattle.window_model.specs.Front.{CallAlone};
@@ -37,14 +38,14 @@ pub fn retire<R: RenameTaint>(
     row: &mut Row,
     piece: &mut Piece,
 ) -> Option<End>
-    requires room { length row.old.events + 8 ≤ 128 }
+    requires room { HasRoom most_retired row.old }
     requires empty { piece.old ≡ [] }
     requires sets { tags.old.desc.cache_sets ≡ desc.now.cache_sets }
     requires line { tags.old.desc.cache_line ≡ desc.now.cache_line }
     requires call_alone { CallAlone rob.old.entries }
     requires stores_fit { Each (TakesStore ram.old) rob.old.entries }
     ensures state { (x : Machine) → counted (length rob.old.entries - length rob.new.entries) (with_parts rob.new tags.new ram.new regs.new pc.new result x) ≡ (retires desc.now rob.old tags.old ram.old regs.old pc.old x).machine }
-    ensures row { (x : Machine) → row.new ≡ record row.old { events = row.old.events ++ (retires desc.now rob.old tags.old ram.old regs.old pc.old x).events } }
+    ensures row { (x : Machine) → row.new ≡ with_events row.old (retires desc.now rob.old tags.old ram.old regs.old pc.old x).events }
     ensures piece { (x : Machine) → piece.new ≡ (retires desc.now rob.old tags.old ram.old regs.old pc.old x).piece }
     ensures left { rob.old.entries ≡ gone rob.old rob.new ++ rob.new.entries }
     ensures may_retire { Each MayRetire (gone rob.old rob.new) }
@@ -53,7 +54,7 @@ pub fn retire<R: RenameTaint>(
     ensures same_table_room { R.room table.new ≡ R.room table.old }
     ensures lsq { lsq.new ≡ popped (gone rob.old rob.new) lsq.old }
     ensures desc { tags.new.desc ≡ tags.old.desc }
-    ensures few { length row.new.events ≤ length row.old.events + 8 }
+    ensures few { IsLonger most_retired row.old row.new }
 {
     let mut stored = false;
     for _ in 0..desc.core_retire_width {

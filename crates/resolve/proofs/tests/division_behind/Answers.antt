@@ -3,8 +3,7 @@ use Rattle.std.proofs.Common.{List, [], ◌∷◌, ◌++◌, Option, None, ap, �
 use Rattle.std.specs.Prelude.{ℕ}
 use Rattle.rob_ring.specs.Ring.{Ring}
 use Rattle.rename_taint.specs.declared.Write.{Write}
-use Rattle.stations.specs.Stations.{Station, Stations}
-use Rattle.circular_buffer.specs.Buffer.{Buffer}
+use Rattle.stations.specs.Stations.{Stations}
 use Rattle.resolve.proofs.Tested.{standing_of}
 use Rattle.resolve.proofs.tests.division_behind.Goals as goal
 
