@@ -4,8 +4,11 @@ use Rattle.std.specs.Prelude.{true, false, replicate}
 use Rattle.rv_types.specs.Causes.{jump_misaligned, load_outside, store_outside}
 use Rattle.rv_types.specs.Decode.{decode}
 use Rattle.rv_types.specs.Kind.{kind_of}
+use Rattle.rv_types.specs.Value.{value}
 use Rattle.rv_types.specs.declared.Cause.{Cause}
 use Rattle.rv_types.specs.declared.End.TheVariants.{Trap}
+use Rattle.rv_types.specs.declared.Op.TheVariants.{Mulhsu, Sra}
+use Rattle.elf_loader.specs.Image.{SegmentText, byte_after}
 use Rattle.machine_desc.specs.Example.{example}
 use Rattle.machine_desc.specs.declared.SttModel.TheVariants.{Spectre, Futuristic}
 use Rattle.window_model.specs.declared.Entry.{Entry}
@@ -173,3 +176,24 @@ load_behind_a_waiting_store : load_bytes (record { base = 0; bytes = 17 ∷ 34 �
     ≡ 17 ∷ 34 ∷ 51 ∷ 68 ∷ []
 unfolding decode
 load_behind_a_waiting_store = refl
+
+-- MULHSU takes its first source alone as signed, and SRA copies the sign
+first_source_is_signed : value Mulhsu 0xffffffff 2 ≡ 0xffffffff
+first_source_is_signed = refl
+
+second_source_is_not : value Mulhsu 2 0xffffffff ≡ 1
+second_source_is_not = refl
+
+sign_is_copied : value Sra 0x80000000 4 ≡ 0xf8000000
+sign_is_copied = refl
+
+-- a segment of four bytes at 4, of which the file has one
+abbrev segment : SegmentText
+segment = record { vaddr = 4; memsz = 4; flags = 4; bytes = 9 ∷ [] }
+
+-- past the file's bytes a segment is 0, whatever stood there, and behind the segment memory stays
+past_the_file : byte_after (segment ∷ []) 5 7 ≡ 0
+past_the_file = refl
+
+past_the_segment : byte_after (segment ∷ []) 8 7 ≡ 7
+past_the_segment = refl
