@@ -38,8 +38,9 @@ impl<'a> Seen<'a> {
         }
     }
 
-    // Whether the entry, which waits and is ready, may issue. `free` says that the divider is free in this cycle.
-    fn may_begin(&self, position: u32, entry: &Entry, free: bool) -> bool
+    // Whether the entry, which waits and is ready, asks for a port: it may issue. `free` says that the divider is free in this
+    // cycle.
+    fn asks_for_port(&self, position: u32, entry: &Entry, free: bool) -> bool
         requires stands { Stands self.now }
         requires at { StandsAt self.now position entry.now }
         requires waits { is_waiting entry.now.state ≡ true }
@@ -65,7 +66,7 @@ impl<'a> Seen<'a> {
         ensures fewer { left_in_all ports.new + one_if result ≡ left_in_all ports.old }
         ensures only { OnlyPorts ports.old ports.new }
     {
-        if !self.may_begin(position, entry, free) {
+        if !self.asks_for_port(position, entry, free) {
             return false;
         }
         ports.grant(entry.item.kind)

@@ -2,7 +2,7 @@ use Rattle.std.proofs.Common.{◌∙◌, false, true, refl, sym}
 use Rattle.window_model.specs.Order.{before_at}
 use Rattle.issue.specs.State.{window_of}
 use Rattle.issue.proofs.Testing.{asks_by_kind, issue_is}
-use Rattle.issue.proofs.seen.Seen.may_begin.Goals as goal
+use Rattle.issue.proofs.seen.Seen.asks_for_port.Goals as goal
 
 pub returns-then-not-may_transmit : goal.returns-then-not-may_transmit
 returns-then-not-may_transmit c =
