@@ -8,8 +8,8 @@ ghost use Rattle.window_model.specs.Front.{fetch, rename};
 ghost use Rattle.window_model.specs.Issue.{issue};
 ghost use Rattle.window_model.specs.Resolve.{resolve};
 ghost use Rattle.window_model.specs.Retire.{retire};
-ghost use Rattle.window_model.specs.Row.{HasRoom, IsLonger, with_events};
-ghost use Rattle.window_model.specs.Row.{most_done, most_entries, most_fetched, most_filled, most_issued, most_resolved, most_retired};
+ghost use Rattle.window_model.specs.Row.{HasRoom, IsLonger, most_done, most_entries, most_fetched, most_filled};
+ghost use Rattle.window_model.specs.Row.{most_issued, most_resolved, most_retired, with_events};
 
 use crate::state::State;
 use elf_loader::Code;

@@ -1,9 +1,10 @@
 -- Phase Resolve of a machine that stands in parts (docs/machine.md, "State", "Resolve"), and what the parts stand for before it.
-use Rattle.std.specs.Prelude.{ℕ, ◌<◌, ◌^◌, List, length, Option}
+use Rattle.std.specs.Prelude.{◌≡◌, ℕ, ◌<◌, ◌^◌, List, length, Option}
 use Rattle.std.specs.Option.{option_map}
 use Rattle.circular_buffer.specs.Buffer.{Buffer}
 use Rattle.window_model.specs.Order.{Place, first}
 use Rattle.window_model.specs.Resolve.{may_resolve, resolve}
+use Rattle.window_model.specs.Row.{Row, with_events}
 use Rattle.window_model.specs.State.{Machine, After}
 use Rattle.rob_ring.specs.Ring.{Ring}
 use Rattle.rename_taint.specs.declared.Write.{Write}
@@ -21,6 +22,10 @@ with_parts rob front t ports x = record (with_front front t x) { window = rob.en
 -- phase Resolve of such a machine, of the predictor's description
 abbrev pub resolves : Ring → Front → Tables → Ports → Machine → After
 resolves rob front t ports x = resolve t.desc (with_parts rob front t ports x)
+
+-- the row has the phase's events behind its own, whichever machine has these parts
+abbrev pub Tells : (Machine → After) → Row → Row → Type 0
+Tells phase old new = (x : Machine) → new ≡ with_events old (phase x).events
 
 -- the entry that it resolves, in its place
 abbrev pub resolving : Ring → Tables → Option Place

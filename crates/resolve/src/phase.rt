@@ -3,7 +3,7 @@ ghost use Rattle.std.specs.Prelude.{◌≡◌, ◌<◌, ◌+◌, ◌-◌, ◌^�
 ghost use Rattle.std.specs.List.{All, AllPairs};
 ghost use Rattle.circular_buffer.specs.Buffer.{buffer};
 ghost use Rattle.window_model.specs.Resolve.{freed_from};
-ghost use Rattle.window_model.specs.Row.{HasRoom, IsLonger, most_resolved, with_events};
+ghost use Rattle.window_model.specs.Row.{HasRoom, IsLonger, most_resolved};
 ghost use Rattle.window_model.specs.State.{Machine};
 ghost use Rattle.rob_ring.specs.Ring.{below};
 ghost use Rattle.rename_taint.specs.Writes.{before_serial};
@@ -13,7 +13,7 @@ ghost use Rattle.parts_stand.specs.Addresses.{AddressesStand};
 ghost use Rattle.parts_stand.specs.Parts.{Stand};
 ghost use Rattle.parts_stand.specs.Points.{PointStands};
 ghost use Rattle.parts_stand.specs.Writers.{WritersOf};
-ghost use Rattle.resolve.specs.Parts.{Standing, parts_of, position, with_parts, resolves, resolving};
+ghost use Rattle.resolve.specs.Parts.{Standing, Tells, parts_of, position, with_parts, resolves, resolving};
 ghost use Rattle.resolve.specs.Dropped.{dropped_from, left, marked, queues_below, stations_below};
 
 use crate::dropping::{drop_younger, true_next};
@@ -56,7 +56,7 @@ pub fn resolve<R: RenameTaint>(
     requires few_items { length rob.old.entries + length front.old.queue < 2 ^ 32 }
     requires room { HasRoom most_resolved row.old }
     ensures state { (x : Machine) → with_parts rob.new front.new predictor.new ports.new x ≡ (resolves rob.old front.old predictor.old ports.old x).machine }
-    ensures row { (x : Machine) → row.new ≡ with_events row.old (resolves rob.old front.old predictor.old ports.old x).events }
+    ensures row { Tells (resolves rob.old front.old predictor.old ports.old) row.old row.new }
     ensures rob { rob.new ≡ record rob.old { entries = left below (dropped_from rob.old predictor.old) (marked (resolving rob.old predictor.old) rob.old.entries) } }
     ensures roots { roots.new ≡ buffer (take (length rob.new.entries) roots.old.items) roots.old.capacity }
     ensures writers { writers.new ≡ buffer (take (length rob.new.entries) writers.old.items) writers.old.capacity }
@@ -104,7 +104,7 @@ fn resolve_at<R: RenameTaint>(
     requires picked { Some at ≡ position (resolving rob.old predictor.old) }
     requires room { HasRoom most_resolved row.old }
     ensures state { (x : Machine) → with_parts rob.new front.new predictor.new ports.new x ≡ (resolves rob.old front.old predictor.old ports.old x).machine }
-    ensures row { (x : Machine) → row.new ≡ with_events row.old (resolves rob.old front.old predictor.old ports.old x).events }
+    ensures row { Tells (resolves rob.old front.old predictor.old ports.old) row.old row.new }
     ensures rob { rob.new ≡ record rob.old { entries = left below (dropped_from rob.old predictor.old) (marked (resolving rob.old predictor.old) rob.old.entries) } }
     ensures roots { roots.new ≡ buffer (take (length rob.new.entries) roots.old.items) roots.old.capacity }
     ensures writers { writers.new ≡ buffer (take (length rob.new.entries) writers.old.items) writers.old.capacity }

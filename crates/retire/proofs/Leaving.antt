@@ -25,7 +25,7 @@ use Rattle.rename_taint.specs.Writes.{without_retired}
 use Rattle.lsq.specs.Queues.{Queues}
 use Rattle.cache_tags.specs.Sets.{Cache}
 use Rattle.retire.specs.declared.turn.Turn.TheVariants.{Waits, Traps}
-use Rattle.retire.specs.Parts.{TakesStore, with_effects, with_parts, counted, retires}
+use Rattle.retire.specs.Parts.{IsLeft, PrintsHead, TakesStore, TellsHead, with_effects, with_parts, counted, head_retires, retires}
 use Rattle.retire.specs.Turn.{Goes, turn_at}
 use Rattle.retire.specs.Gone.{gone, MayRetire, without_each, without, popped}
 use Rattle.retire.proofs.Quiet.{quiet}
@@ -119,10 +119,9 @@ pub record HeadLeft (d : Desc) (s : Parts) (e : Entry) (end : Option End) (s2 : 
   pub table : s2.writes ≡ without_retired e.serial s.writes
   pub table_room : s2.table_room ≡ s.table_room
   pub queues : s2.queues ≡ without e.serial s.queues
-  pub state : (x : Machine) (rest : List Entry) →
-      record (with_effects s2.tags s2.ram s2.regs s2.pc end x) { window = rest; retired = x.retired + 1 } ≡ (head_leaves e.item.kind d e rest (with_effects s.tags s.ram s.regs s.pc None x)).machine
-  pub row : (x : Machine) (rest : List Entry) → s2.row ≡ record s.row { events = s.row.events ++ (head_leaves e.item.kind d e rest (with_effects s.tags s.ram s.regs s.pc None x)).events }
-  pub piece : (x : Machine) (rest : List Entry) → s2.piece ≡ (head_leaves e.item.kind d e rest (with_effects s.tags s.ram s.regs s.pc None x)).piece
+  pub state : IsLeft (head_retires d e s.tags s.ram s.regs s.pc) s2.tags s2.ram s2.regs s2.pc end
+  pub row : TellsHead (head_retires d e s.tags s.ram s.regs s.pc) s.row s2.row
+  pub piece : PrintsHead (head_retires d e s.tags s.ram s.regs s.pc) s2.piece
   pub desc : s2.tags.desc ≡ s.tags.desc
   pub shape : SameShape s.ram s2.ram
   pub few : length s2.row.events ≤ length s.row.events + 2

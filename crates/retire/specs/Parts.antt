@@ -1,12 +1,15 @@
 -- Phase Retire of a machine that stands in parts (docs/machine.md, "State", "Retire").
-use Rattle.std.specs.Prelude.{◌≡◌, ℕ, ◌+◌, true, List, Option, None}
+use Rattle.std.specs.Prelude.{◌≡◌, ℕ, ◌+◌, true, List, [], ◌∷◌, Option, None}
 use Rattle.rv_types.specs.Memory.{Ram, store_fault}
 use Rattle.rv_types.specs.declared.End.{End}
 use Rattle.machine_desc.specs.declared.Desc.{Desc}
 use Rattle.window_model.specs.declared.Entry.{Entry}
+use Rattle.window_model.specs.declared.Event.{Event}
+use Rattle.window_model.specs.declared.Event.TheVariants as event
 use Rattle.window_model.specs.Order.{is_done, is_store, fault_of}
-use Rattle.window_model.specs.Retire.{Retired, retire, addr_of, width_of}
-use Rattle.window_model.specs.State.{Machine}
+use Rattle.window_model.specs.Retire.{Retired, addr_of, has_line, head_leaves, retire, width_of}
+use Rattle.window_model.specs.Row.{Row, with_events}
+use Rattle.window_model.specs.State.{Machine, line_of}
 use Rattle.rob_ring.specs.Ring.{Ring}
 use Rattle.cache_tags.specs.Sets.{Cache}
 
@@ -25,6 +28,39 @@ counted n x = record x { retired = x.retired + n }
 -- phase Retire of a machine with these parts, whose run hasn't ended
 abbrev pub retires : Desc → Ring → Cache → Ram → List ℕ → ℕ → Machine → Retired
 retires d rob tags ram regs pc x = retire d (with_parts rob tags ram regs pc None x)
+
+-- the row has the phase's events behind its own, whichever machine has these parts
+abbrev pub Tells : (Machine → Retired) → Row → Row → Type 0
+Tells phase old new = (x : Machine) → new ≡ with_events old (phase x).events
+
+-- ---- one head
+
+-- the head of a machine with this cache, memory, registers and pc retires, and these entries stay
+abbrev pub head_retires : Desc → Entry → Cache → Ram → List ℕ → ℕ → Machine → List Entry → Retired
+head_retires d e tags ram regs pc x rest = head_leaves e.item.kind d e rest (with_effects tags ram regs pc None x)
+
+-- this cache, memory, registers, pc and end are what it leaves, whichever machine and entries these are
+abbrev pub IsLeft : (Machine → List Entry → Retired) → Cache → Ram → List ℕ → ℕ → Option End → Type 0
+IsLeft head tags ram regs pc end = (x : Machine) (rest : List Entry) →
+    record (with_effects tags ram regs pc end x) { window = rest; retired = x.retired + 1 } ≡ (head x rest).machine
+
+-- the row has its events behind its own, whichever machine and entries these are
+abbrev pub TellsHead : (Machine → List Entry → Retired) → Row → Row → Type 0
+TellsHead head old new = (x : Machine) (rest : List Entry) → new ≡ with_events old (head x rest).events
+
+-- and the piece its bytes
+abbrev pub PrintsHead : (Machine → List Entry → Retired) → List ℕ → Type 0
+PrintsHead head piece = (x : Machine) (rest : List Entry) → piece ≡ (head x rest).piece
+
+-- the events of a store: that it retires, and its line, with whether the cache has it
+abbrev pub store_told : Desc → Cache → Entry → List Event
+store_told d tags e =
+    let line = line_of d (addr_of e.outcome) in
+    event.Ret e.serial ∷ event.St e.serial line (has_line d tags.sets line) ∷ []
+
+-- and of a call with so many bytes
+abbrev pub call_told : Entry → ℕ → List Event
+call_told e bytes = event.Ret e.serial ∷ event.Call e.serial bytes ∷ []
 
 -- ---- what is asked of the parts
 

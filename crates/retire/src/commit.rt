@@ -1,20 +1,18 @@
 //! What a head that retires does to the cache, memory, the registers and the pc (`docs/machine.md`, "Retire").
-ghost use Rattle.std.specs.Prelude.{◌≡◌, ◌+◌, ◌∷◌, [], List, None, IfSome, length};
+ghost use Rattle.std.specs.Prelude.{◌≡◌, [], None, IfSome, length};
 ghost use Rattle.rv_types.specs.Isa.{call, with_reg};
 ghost use Rattle.rv_types.specs.Memory.{store_fault, with_bytes};
 ghost use Rattle.rv_types.specs.Regs.{writes_of};
 ghost use Rattle.rv_types.specs.Word.{to_le};
 ghost use Rattle.rv_types.specs.declared.Kind.TheVariants.{Store};
 ghost use Rattle.rv_effect.specs.Called.{stepped_as};
-ghost use Rattle.window_model.specs.declared.Entry.{Entry};
-ghost use Rattle.window_model.specs.declared.Event.TheVariants as event;
 ghost use Rattle.window_model.specs.Order.{value_of};
 ghost use Rattle.window_model.specs.Resolve.{next_of};
-ghost use Rattle.window_model.specs.Retire.{head_leaves, addr_of, stored_of, width_of, has_line, touched};
+ghost use Rattle.window_model.specs.Retire.{addr_of, stored_of, width_of, touched};
 ghost use Rattle.window_model.specs.Row.{HasRoom, IsLonger, with_events};
 ghost use Rattle.window_model.specs.Shape.{SameShape};
-ghost use Rattle.window_model.specs.State.{Machine, line_of};
-ghost use Rattle.retire.specs.Parts.{with_effects};
+ghost use Rattle.window_model.specs.State.{line_of};
+ghost use Rattle.retire.specs.Parts.{IsLeft, PrintsHead, TellsHead, call_told, head_retires, store_told};
 ghost use Rattle.retire.specs.Turn.{end_of};
 
 use byte_ram::Ram;
@@ -41,9 +39,9 @@ pub(crate) fn commit(
     requires sets { tags.old.desc.cache_sets ≡ desc.now.cache_sets }
     requires line { tags.old.desc.cache_line ≡ desc.now.cache_line }
     requires inside { head.now.item.kind ≡ Store → store_fault ram.old (addr_of head.now.outcome) (width_of head.now) ≡ None }
-    ensures state { (x : Machine) (rest : List Entry) → record (with_effects tags.new ram.new regs.new pc.new result x) { window = rest; retired = x.retired + 1 } ≡ (head_leaves head.now.item.kind desc.now head.now rest (with_effects tags.old ram.old regs.old pc.old None x)).machine }
-    ensures row { (x : Machine) (rest : List Entry) → row.new ≡ with_events row.old (head_leaves head.now.item.kind desc.now head.now rest (with_effects tags.old ram.old regs.old pc.old None x)).events }
-    ensures piece { (x : Machine) (rest : List Entry) → piece.new ≡ (head_leaves head.now.item.kind desc.now head.now rest (with_effects tags.old ram.old regs.old pc.old None x)).piece }
+    ensures state { IsLeft (head_retires desc.now head.now tags.old ram.old regs.old pc.old) tags.new ram.new regs.new pc.new result }
+    ensures row { TellsHead (head_retires desc.now head.now tags.old ram.old regs.old pc.old) row.old row.new }
+    ensures piece { PrintsHead (head_retires desc.now head.now tags.old ram.old regs.old pc.old) piece.new }
     ensures desc { tags.new.desc ≡ tags.old.desc }
     ensures shape { SameShape ram.old ram.new }
     ensures few { IsLonger 2 row.old row.new }
@@ -92,7 +90,7 @@ fn commit_store(
     ensures tags { tags.new ≡ record tags.old { sets = touched desc.now tags.old.sets (line_of desc.now (addr_of head.now.outcome)) } }
     ensures regs { regs.new ≡ with_reg regs.old (writes_of head.now.item.instr) (value_of head.now.outcome) }
     ensures pc { pc.new ≡ next_of head.now.outcome }
-    ensures row { row.new ≡ with_events row.old (event.Ret head.now.serial ∷ event.St head.now.serial (line_of desc.now (addr_of head.now.outcome)) (has_line desc.now tags.old.sets (line_of desc.now (addr_of head.now.outcome))) ∷ []) }
+    ensures row { row.new ≡ with_events row.old (store_told desc.now tags.old head.now) }
 {
     let line = line_of(desc, head.addr());
     write_store(ram, head);
@@ -124,7 +122,7 @@ fn commit_call(
     requires empty { piece.old ≡ [] }
     ensures stepped { stepped_as (record { pc = pc.new; regs = regs.new; ram = ram.now }) piece.new result ≡ call (record { pc = pc.old; regs = regs.old; ram = ram.now }) }
     ensures exit { IfSome result (λ v. piece.new ≡ []) }
-    ensures row { row.new ≡ with_events row.old (event.Ret head.now.serial ∷ event.Call head.now.serial (length piece.new) ∷ []) }
+    ensures row { row.new ≡ with_events row.old (call_told head.now (length piece.new)) }
 {
     let exit = call(pc, regs, ram, piece);
     row.push(Event::Ret(head.serial));

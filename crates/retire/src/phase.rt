@@ -1,11 +1,11 @@
 //! The phase: turn by turn.
 ghost use Rattle.std.specs.Prelude.{◌≡◌, ◌<◌, ◌-◌, ◌++◌, [], length, drop};
 ghost use Rattle.std.specs.List.{AllByRecursion as Each};
-ghost use Rattle.window_model.specs.Row.{HasRoom, IsLonger, most_retired, with_events};
+ghost use Rattle.window_model.specs.Row.{HasRoom, IsLonger, most_retired};
 ghost use Rattle.window_model.specs.State.{Machine};
 ghost use Rattle.rename_taint.specs.Writes.{without_retired};
 ghost use Rattle.window_model.specs.Front.{CallAlone};
-ghost use Rattle.retire.specs.Parts.{TakesStore, with_parts, counted, retires};
+ghost use Rattle.retire.specs.Parts.{TakesStore, Tells, with_parts, counted, retires};
 ghost use Rattle.retire.specs.Gone.{gone, MayRetire, without_each, without, popped};
 
 use crate::commit::commit;
@@ -45,7 +45,7 @@ pub fn retire<R: RenameTaint>(
     requires call_alone { CallAlone rob.old.entries }
     requires stores_fit { Each (TakesStore ram.old) rob.old.entries }
     ensures state { (x : Machine) → counted (length rob.old.entries - length rob.new.entries) (with_parts rob.new tags.new ram.new regs.new pc.new result x) ≡ (retires desc.now rob.old tags.old ram.old regs.old pc.old x).machine }
-    ensures row { (x : Machine) → row.new ≡ with_events row.old (retires desc.now rob.old tags.old ram.old regs.old pc.old x).events }
+    ensures row { Tells (retires desc.now rob.old tags.old ram.old regs.old pc.old) row.old row.new }
     ensures piece { (x : Machine) → piece.new ≡ (retires desc.now rob.old tags.old ram.old regs.old pc.old x).piece }
     ensures left { rob.old.entries ≡ gone rob.old rob.new ++ rob.new.entries }
     ensures may_retire { Each MayRetire (gone rob.old rob.new) }
