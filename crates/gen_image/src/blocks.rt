@@ -1,8 +1,6 @@
 //! The instructions of a block.
-ghost use Rattle.std.specs.Prelude.{◌≡◌, ◌<◌, ◌≤◌, ◌∷◌, [], All, slice_index_or};
+ghost use Rattle.std.specs.Prelude.{◌≡◌, ◌<◌, [], slice_index_or, pos};
 ghost use Rattle.gen_image.specs.Generated.{register, forms, block_of, after_block};
-ghost use Rattle.gen_image.specs.Encoded.{HasWord};
-ghost use Rattle.std.specs.Prelude.{pos};
 ghost use Rattle.rv_types.specs.declared.Op.TheVariants.{Blt, Lw, Sw, Add};
 ghost use Rattle.rv_types.specs.declared.Instr.TheVariants.{Branch, Load, Store, OpImm, OpReg};
 

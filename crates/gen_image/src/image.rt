@@ -1,7 +1,7 @@
 //! The program, and the file that it stands in.
-ghost use Rattle.std.specs.Prelude.{◌≡◌, ◌<◌, ◌≤◌, ◌+◌, ◌*◌, ◌^◌, ◌∷◌, ◌++◌, [], IfOk, Result, All, length};
+ghost use Rattle.std.specs.Prelude.{◌≡◌, ◌≤◌, ◌∷◌, ◌++◌, [], IfOk, All};
 ghost use Rattle.rv_types.specs.Word.{to_le};
-ghost use Rattle.gen_image.specs.Generated.{beginning, ending, blocks_from, bytes_of, twos, fours, file_header, part_header, size_of_code, generated_image};
+ghost use Rattle.gen_image.specs.Generated.{beginning, ending, blocks_from, bytes_of, twos, fours, file_header, part_header, generated_image};
 ghost use Rattle.gen_image.specs.Encoded.{HasWord};
 
 use crate::blocks::{BASE, add_immediate, block, register};

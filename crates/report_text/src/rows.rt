@@ -1,5 +1,5 @@
 //! The rows of memory that a run changed (`docs/formats.md`, "The report").
-ghost use Rattle.std.specs.Prelude.{◌≡◌, ◌<◌, ◌≤◌, ◌+◌, ◌*◌, ◌/◌, ◌%◌, ◌^◌, length};
+ghost use Rattle.std.specs.Prelude.{◌≡◌, ◌≤◌, ◌+◌, ◌*◌, length};
 ghost use Rattle.tool_io.specs.Outside.{Writes};
 ghost use Rattle.report_text.specs.Report.{row_of, row_line, row_text, row_lines};
 

@@ -1,6 +1,6 @@
 //! Files in memory that fail at listed reads. What a read leaves stands in `specs/MemoryFiles.antt`.
-ghost use Rattle.std.specs.Prelude.{◌≡◌, ◌++◌, ◌↔◌, List, ℕ, Option, Some, None, IfOk, IsErrOf, IsSome, IsNone, slice_get, option_map, replicate, length};
-ghost use Rattle.tool_io.specs.Outside.{Shelf, Reads, SameContents};
+ghost use Rattle.std.specs.Prelude.{◌≡◌, ◌↔◌, IfOk, IsErrOf, replicate, length};
+ghost use Rattle.tool_io.specs.Outside.{Reads, SameContents};
 ghost use Rattle.tool_io.specs.MemoryFiles.{FilesState, shelf_of, place_of, IsFileFault, files_after};
 
 use crate::{Content, Files, Got, ReadFail};

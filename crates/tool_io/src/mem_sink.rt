@@ -1,6 +1,6 @@
 //! A sink in memory that fails at listed puts. What a put leaves stands in `specs/MemorySink.antt`.
-ghost use Rattle.std.specs.Prelude.{◌≡◌, ◌≤◌, ◌<◌, ◌+◌, ◌-◌, ◌++◌, ◌⊎◌, ◌↔◌, ◌==◌, min, [], length, take, List, ℕ, Option, Some, None, IfOk, IsErr, IsSome, find, option_map, unwrap_or};
-ghost use Rattle.tool_io.specs.Outside.{Told, Writes};
+ghost use Rattle.std.specs.Prelude.{◌≡◌, ◌≤◌, ◌↔◌, [], Some, IfOk, IsErr};
+ghost use Rattle.tool_io.specs.Outside.{Writes};
 ghost use Rattle.tool_io.specs.MemorySink.{SinkState, sent_at, IsSinkFault, sink_after};
 
 use crate::{Failed, Sink};

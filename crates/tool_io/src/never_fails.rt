@@ -1,6 +1,6 @@
 //! Files in memory and a sink that never fail.
 ghost use Rattle.std.specs.Prelude.{◌≡◌, Some, None};
-ghost use Rattle.tool_io.specs.MemoryFiles.{place_of, held_or_empty};
+ghost use Rattle.tool_io.specs.MemoryFiles.{held_or_empty};
 
 use crate::mem_files::{MemFile, find_name};
 use crate::{Content, Failed, Files, Got, ReadFail, Sink};
