@@ -55,7 +55,11 @@ load = done_at 1 0x00814303 0x1fff8 None
 abbrev sum : Entry
 sum = done_at 2 0x006103b3 0 None
 
--- taint flows through the second source as through the first, and ends as the branch is resolved
+-- taint flows through the first source (add x7,x6,x2) and through the second, and ends as the branch is resolved
+first_source_taints : tainted Spectre (done_at 2 0x002303b3 0 None ∷ load ∷ branch ∷ []) 7 ≡ true
+unfolding decode
+first_source_taints = refl
+
 second_source_taints : tainted Spectre (sum ∷ load ∷ branch ∷ []) 7 ≡ true
 unfolding decode
 second_source_taints = refl
@@ -176,6 +180,11 @@ load_behind_a_waiting_store : load_bytes (record { base = 0; bytes = 17 ∷ 34 �
     ≡ 17 ∷ 34 ∷ 51 ∷ 68 ∷ []
 unfolding decode
 load_behind_a_waiting_store = refl
+
+-- its tainted address (sw x5,4(x6)) hides all the same
+waiting_store_hides : any_store_hidden Spectre (waiting 2 0x00532223 ∷ load ∷ branch ∷ []) ≡ true
+unfolding decode
+waiting_store_hides = refl
 
 -- MULHSU takes its first source alone as signed, and SRA copies the sign
 first_source_is_signed : value Mulhsu 0xffffffff 2 ≡ 0xffffffff

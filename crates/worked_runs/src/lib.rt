@@ -3,7 +3,8 @@
 //! `specs/Runs.antt` lists runs whose traces an independent model wrote, in another language and from the machine's description
 //! alone (`tools/evaluate/runs/README.md`); `specs/Agreement.antt` says what it is to agree with one, from the description's
 //! text and the image's bytes to the trace's text. `proofs/` has further runs and corner cases, each worked out by hand from
-//! `docs/machine.md`. A wrong rule in the definitions of the machine is refused here.
+//! `docs/machine.md`. They refuse wrong rules in the definitions of the machine: `tools/evaluate/runs/README.md` has those that
+//! were tried.
 #![tactic(auto)]
 
 ghost use Rattle.std.specs.Prelude.{All};
