@@ -78,7 +78,11 @@ impl Name {
 impl fmt::Display for Name {
     fn fmt<W: fmt::Write>(&self, f: &mut fmt::Formatter<W>) -> fmt::Result {
         for byte in self.as_slice() {
-            let shown = if 32 <= *byte && *byte < 127 { *byte } else { b'?' };
+            let shown = if 32 <= *byte && *byte < 127 {
+                *byte
+            } else {
+                b'?'
+            };
             write!(f, "{}", shown as char)?;
         }
         Ok(())
