@@ -16,4 +16,7 @@ _start:
     .data
     .word 0                # the bound
     .word 0
-    .byte 0x11             # the secret
+    .ifndef SECRET
+    .set SECRET, 0x11
+    .endif
+    .byte SECRET           # the secret

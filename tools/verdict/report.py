@@ -39,8 +39,8 @@ class Case(NamedTuple):
 
     @property
     def met(self):
-        """Whether the premises are met: by the simulator, if it says so, else by this tool."""
-        return self.premises.met if self.pair.premise is None else self.pair.premise
+        """Whether the premises are met, as the simulator says; the reasons are those of this tool."""
+        return self.pair.premise
 
     def word(self):
         """The verdict in one word."""

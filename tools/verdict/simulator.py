@@ -12,12 +12,12 @@ RAN = (0, 1, 3)
 
 
 class Pair(NamedTuple):
-    """The traces of two images as lines, and the first cycle in which they aren't equal, or none. `premise` is what the simulator
-    itself says of the premises, where it says something."""
+    """The traces of two images as lines; and what the simulator's command `pair` says of them: whether the premises of noninterference
+    are met, and the first cycle in which the traces aren't equal, or none."""
     one: list
     two: list
+    premise: bool
     unequal: Optional[int]
-    premise: Optional[bool] = None
 
     @property
     def ends(self):
@@ -40,13 +40,14 @@ def run(program, *words):
 
 
 def compare(program, description, one, two, cycles):
-    """The traces of two images, and where they part. All that the simulator is asked about a pair is asked here: a command of its own
-    that compares two images would give `unequal` and `premise`."""
-    return pair_of(*(run(program, "trace", description, image, "--cycles", str(cycles)) for image in (one, two)))
+    """What the simulator says of two images: how they compare, and their traces."""
+    premise, unequal = compared(run(program, "pair", description, one, two, "--cycles", str(cycles)))
+    traces = (run(program, "trace", description, image, "--cycles", str(cycles)) for image in (one, two))
+    return Pair(*(trace.splitlines(keepends=True) for trace in traces), premise, unequal)
 
 
-def pair_of(one, two):
-    """A pair of traces, from their texts. Where only the last lines differ, the traces part in the last cycle."""
-    one, two = one.splitlines(keepends=True), two.splitlines(keepends=True)
-    unequal = next((number for number, (a, b) in enumerate(zip(one, two), 1) if a != b), None)
-    return Pair(one, two, unequal - 1 if unequal == len(one) == len(two) else unequal)
+def compared(text):
+    """The premises and the first unequal cycle, from the three lines of `pair`. Where only the ends differ, it is the last cycle."""
+    (_, premise), first, (*_, cycles) = (line.split() for line in text.splitlines())
+    unequal = None if first == ["equal"] else int(cycles if first[1] == "end" else first[1])
+    return premise == "yes", unequal

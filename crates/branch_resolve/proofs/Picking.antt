@@ -6,7 +6,7 @@ use Rattle.window_model.specs.declared.Entry.{Entry}
 use Rattle.window_model.specs.Order.{is_control, is_done}
 use Rattle.window_model.proofs.Booleans.{both, not_true}
 use Rattle.visibility.specs.Point.{Point, Passed, passes}
-use Rattle.visibility.proofs.Stopping.{unresolved_fails}
+use Rattle.window_model.proofs.Passing.{unresolved_fails}
 use Rattle.visibility.proofs.Walking.{drop_here}
 use Rattle.branch_resolve.specs.Pick.{pick_from, can_resolve}
 

@@ -11,7 +11,7 @@ use std::alloc::Global;
 use std::process::Abort;
 use std::test::Fail;
 use visibility::VisPoint;
-use window_model::{Entry, Event, Item, Outcome, State, Way, Window, empty_row};
+use window_model::{Entry, Event, Item, Outcome, Progress, Way, Window, empty_row};
 
 fn desc(alloc: Global) -> Result<Desc, Fail> {
     Ok(read_desc(alloc, EXAMPLE.as_bytes())?)
@@ -57,7 +57,7 @@ fn done(instr: Instr, value: u32, next: u32, fault: Option<Cause>) -> Entry
             kind: kind_of(&instr),
             predicted: Some(0x10008),
         },
-        state: State::Done,
+        state: Progress::Done,
         outcome: Some(outcome),
         resolved: false,
     }
@@ -130,12 +130,16 @@ fn the_oldest_without_a_tainted_operand_is_picked(rt: HostRuntime) -> Result<(),
         older: taken,
         younger: younger(jump(), 0x10008, 0x20000),
     };
-    let clean = by_position(&rt, alloc, [[None, Some(0)], [Some(0), None]])?;
-    assert_eq!(rt; pick(&both, &point, &clean), Some(0));
-    let hidden = by_position(&rt, alloc, [[None, Some(7)], [Some(0), None]])?;
-    assert_eq!(rt; pick(&both, &point, &hidden), Some(1));
-    let all_hidden = by_position(&rt, alloc, [[Some(7), None], [Some(7), None]])?;
-    assert_eq!(rt; pick(&both, &point, &all_hidden), None);
+    // the youngest roots of the older one's second source and of the younger one's first
+    let rows = [
+        (Some(0), Some(0), Some(0)),
+        (Some(7), Some(0), Some(1)),
+        (Some(7), Some(7), None),
+    ];
+    for (older, younger, want) in rows {
+        let roots = by_position(&rt, alloc, [[None, older], [younger, None]])?;
+        assert_eq!(rt; pick(&both, &point, &roots), want);
+    }
     let neither = Two {
         older: done(sum(), 1, 0x10008, None),
         younger: Entry {
@@ -143,6 +147,7 @@ fn the_oldest_without_a_tainted_operand_is_picked(rt: HostRuntime) -> Result<(),
             ..younger(branch(), 1, 0x10014)
         },
     };
+    let clean = by_position(&rt, alloc, [[None, None], [None, None]])?;
     assert_eq!(rt; pick(&neither, &point, &clean), None);
     Ok(())
 }
@@ -159,10 +164,10 @@ fn what_is_behind_the_point_is_passed_over(rt: HostRuntime) -> Result<(), Fail> 
         younger: younger(jump(), 0x10008, 0x20000),
     };
     point.advance(&window);
-    let of_the_older = by_position(&rt, alloc, [[None, None], [Some(3), None]])?;
-    assert_eq!(rt; pick(&window, &point, &of_the_older), Some(1));
-    let hidden = by_position(&rt, alloc, [[None, None], [Some(6), None]])?;
-    assert_eq!(rt; pick(&window, &point, &hidden), None);
+    for (root, want) in [(3, Some(1)), (6, None)] {
+        let roots = by_position(&rt, alloc, [[None, None], [Some(root), None]])?;
+        assert_eq!(rt; pick(&window, &point, &roots), want);
+    }
     Ok(())
 }
 
@@ -171,23 +176,24 @@ fn what_is_resolved_teaches_and_tells(rt: HostRuntime) -> Result<(), Fail> {
     let alloc = rt.alloc();
     let mut predictor = Predictor::new(alloc, &desc(alloc)?)?;
     let fault = Some(Cause::jump_misaligned());
+    let (not_taken, taken) = (Way::NotTaken, Way::Taken);
     let rows = [
         (
             done(branch(), 0, 0x10008, None),
             Resolution::Right,
-            Way::NotTaken,
+            not_taken,
             Some(Event::Bp(1, 0)),
         ),
         (
             done(branch(), 1, 0x10014, None),
             Resolution::Wrong(0x10014),
-            Way::Taken,
+            taken,
             Some(Event::Bp(1, 1)),
         ),
         (
             done(branch(), 1, 0x10016, fault),
             Resolution::Fault,
-            Way::Taken,
+            taken,
             Some(Event::Bp(1, 2)),
         ),
         (

@@ -13,16 +13,18 @@ use Rattle.window_model.specs.declared.Entry.{Entry}
 use Rattle.window_model.specs.declared.Outcome.{Outcome}
 use Rattle.window_model.specs.Order.{is_store}
 use Rattle.window_model.specs.Retire.{addr_of, stored_of, width_of}
-use Rattle.window_model.specs.Access.{reaches, covers, byte_from, byte_of, load_bytes}
-use Rattle.committed_state.specs.Replay.{Bank, bank, replayed, replayed_as, Replayed, IsReplayed, ram_after, stored_unless}
+use Rattle.window_model.specs.Access.{reaches, covers, byte_of, load_bytes}
+use Rattle.committed_state.specs.Replay.{Bank, bank, replayed, replayed_as, Replayed, ram_after, stored_unless}
+use Rattle.committed_state.specs.Computed.{ComesTo}
 use Rattle.window_model.specs.Shape.{SameShape}
 use Rattle.window_model.proofs.Memory.{length_to_le, inside, read_before, read_within, read_after, same_shape, shape_then, store_keeps}
+use Rattle.committed_state.proofs.Onward.{byte_pick}
 
 stored_keeps : (c : Option Cause) (ram : Ram) (a n v : ℕ) → store_fault ram a n ≡ c → SameShape ram (stored_unless c ram a (to_le n v))
 stored_keeps (Some c) ram a n v h = same_shape ram
 stored_keeps None ram a n v h = store_keeps ram a n v h
 
-keeps_as : (k : Kind) (s : Bank) (e : Entry) → SameShape s.ram (ram_after k s.ram e (replayed_as k s e))
+keeps_as : (k : Kind) (s : Bank) (e : Entry) → SameShape s.ram (ram_after k s.ram e.item.instr (replayed_as k s e))
 keeps_as Store s e = stored_keeps _ s.ram _ (width_of e) _ refl
 keeps_as _ s e = same_shape s.ram
 
@@ -64,29 +66,24 @@ one_store ram a n v b x o h le false z p q e =
     let lt : b < a = grind (arith, nat_tests) in
     e ∙ sym (read_before ram.bytes (to_le n v) (a - ram.base) (omega (arith, r.0, r.1)) (b - ram.base) (omega (arith, r.0)))
 
--- what a store's byte is, where there is none the older one
-pick : (c : Bool) (ram : Ram) (b : ℕ) (e : Entry) (o : Option Entry) → byte_of ram b (if c then Some e else o) ≡ (if c then byte_from b e else byte_of ram b o)
-pick true ram b e o = refl
-pick false ram b e o = refl
-
 -- by the kind, the fault and the outcome of an entry
 by_fault : (m : Ram) (f : Option Cause) (a n v b o : ℕ) → store_fault m a n ≡ f → m.base ≤ b → o ≡ Byte m b →
     (if not (is_some f) && nat_le a b && nat_lt b (a + n) then slice_index (to_le n v) (b - a) else o) ≡ Byte (stored_unless f m a (to_le n v)) b
 by_fault m (Some c) a n v b o h le e = e
 by_fault m None a n v b o h le e = one_store m a n v b b o h le (nat_le a b) (nat_lt b (a + n)) refl refl e
 
-pub some_is : (c : Option Outcome) (s : Bank) (e : Entry) → IsReplayed c s e → is_some c ≡ true → c ≡ Some (replayed s e)
-some_is None s e r h = absurd (cc)
-some_is (Some o) s e r h = ap Some r
+pub some_is : (c : Option Outcome) (v : Outcome) → ComesTo c v → is_some c ≡ true → c ≡ Some v
+some_is None v r h = absurd (cc)
+some_is (Some o) v r h = ap Some r
 
-by_kind : (k : Kind) (s : Bank) (ram : Ram) (e : Entry) (b : ℕ) (o : Option Entry) → e.item.kind ≡ k → (is_store k ≡ true → is_some e.outcome ≡ true) → IsReplayed e.outcome s e → s.ram.base ≤ b →
-    byte_of ram b o ≡ Byte s.ram b → byte_of ram b (if is_store k && reaches b (width_of e) e.outcome then Some e else o) ≡ Byte (ram_after k s.ram e (replayed_as k s e)) b
+by_kind : (k : Kind) (s : Bank) (ram : Ram) (e : Entry) (b : ℕ) (o : Option Entry) → e.item.kind ≡ k → (is_store k ≡ true → is_some e.outcome ≡ true) → ComesTo e.outcome (replayed s e) → s.ram.base ≤ b →
+    byte_of ram b o ≡ Byte s.ram b → byte_of ram b (if is_store k && reaches b (width_of e) e.outcome then Some e else o) ≡ Byte (ram_after k s.ram e.item.instr (replayed_as k s e)) b
 by_kind Store s ram e b o q st r le h =
-    let done : e.outcome ≡ Some (replayed_as Store s e) = some_is e.outcome s e r (st refl) ∙ ap (λ k. Some (replayed_as k s e)) q in
+    let done : e.outcome ≡ Some (replayed_as Store s e) = some_is e.outcome (replayed s e) r (st refl) ∙ ap (λ k. Some (replayed_as k s e)) q in
     let F : Option Outcome → ℕ = λ c.
     if reaches b (width_of e) c then slice_index (to_le (width_of e) (stored_of c)) (b - addr_of c) else byte_of ram b o in
     let out = replayed_as Store s e in
-    pick (reaches b (width_of e) e.outcome) ram b e o
+    byte_pick (reaches b (width_of e) e.outcome) ram b e o
     ∙ ap F done
     ∙ by_fault s.ram out.fault out.addr (width_of e) out.stored b (byte_of ram b o) refl le h
 by_kind _ s ram e b o q st r le h = h

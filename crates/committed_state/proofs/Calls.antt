@@ -49,27 +49,27 @@ call_next : (r : Bool) (e : Entry) → (r ≡ true → is_control e.item.kind �
 call_next true e c k p = absurd (let q = c refl in let n = ap is_control k in cc)
 call_next false e c k p = subst (λ k. Predicts k e.item) k p
 
-module _ (code : Code) (x : Machine) (more : Machine → Retired) where
+module _ (d : Desc) (code : Code) (x : Machine) (more : Machine → Retired) where
   finish : (y : Machine) (events : List Event) (piece : List ℕ) →
       isa code (hart_of x) 1 ≡ record { last = hart_of y; pieces = with_piece piece []; steps = 1; ended = exit_of y.end } →
-      TrapsNext code (hart_of y) y.end → y.retired ≡ x.retired + 1 → Consistent code y → more y ≡ stays y →
-      Retires code x (then_retires (record { machine = y; events = events; piece = piece }) more)
+      TrapsNext code (hart_of y) y.end → y.retired ≡ x.retired + 1 → Consistent d code y → more y ≡ stays y →
+      Retires d code x (then_retires (record { machine = y; events = events; piece = piece }) more)
   finish y events piece runs trap count h m =
       let joined : Retired → Retired = λ s. record { machine = s.machine; events = events ++ s.events; piece = piece ++ s.piece } in
       let committed : Leads code (hart_of x) x.retired y (with_piece piece []) = record { steps = 1; counted = count; runs = runs; trap = trap } in
-      let now : Retires code x (joined (stays y)) = record {
+      let now : Retires d code x (joined (stays y)) = record {
         committed = subst (λ p. Leads code (hart_of x) x.retired y (with_piece p [])) (sym (append-nil piece)) committed;
         holds = h;
       } in
-      subst (λ s. Retires code x (joined s)) (sym m) now
+      subst (λ s. Retires d code x (joined s)) (sym m) now
 
   module _ (e : Entry) (h : Holds code (hart_of x) (e ∷ []) x.queue x.fetch_pc) (may : may_leave e ≡ true) (k : e.item.kind ≡ Call) (empty : (y : Machine) → y.window ≡ [] → more y ≡ stays y) where
     after_call : (s2 : Hart) → Follows (hart_of x) s2 → Holds code s2 [] x.queue x.fetch_pc
     after_call s2 f =
         let st = h.entries.0 in
         let pc = some_of _ _ h.chain.0 in
-        let d = done_has e.state e st.state (leave_parts (is_done e.state) (is_control e.item.kind) e.resolved may).0 in
-        let nx = call_next e.resolved e d.1 k st.item.next ∙ ap (λ p. Some (word_add p 4)) (sym pc) ∙ ap Some (sym f.pc) in
+        let done = done_has e.state e st.state (leave_parts (is_done e.state) (is_control e.item.kind) e.resolved may).0 in
+        let nx = call_next e.resolved e done.1 k st.item.next ∙ ap (λ p. Some (word_add p 4)) (sym pc) ∙ ap Some (sym f.pc) in
         record {
           entries = tt;
           items = h.items;
@@ -77,7 +77,7 @@ module _ (code : Code) (x : Machine) (more : Machine → Retired) where
           registers = f.registers ∙ h.registers;
         }
 
-    by_step : (t : Step) → isa_step code (hart_of x) ≡ t → CallDoes (hart_of x) t → Retires code x (then_retires (call_leaves e [] x t) more)
+    by_step : (t : Step) → isa_step code (hart_of x) ≡ t → CallDoes (hart_of x) t → Retires d code x (then_retires (call_leaves e [] x t) more)
     by_step (Goes s2 piece) q f =
         let y = as_hart s2 [] None x in
         finish y (call_leaves e [] x (Goes s2 piece)).events piece (ap (λ t. after (hart_of x) t (run (isa_step code) 0)) q) tt refl (after_call s2 f) (empty y refl)
@@ -86,5 +86,5 @@ module _ (code : Code) (x : Machine) (more : Machine → Retired) where
         finish y (call_leaves e [] x (Exits v s2)).events [] (ap (λ t. after (hart_of x) t (run (isa_step code) 0)) q) tt refl (after_call s2 f) (empty y refl)
     by_step (Traps c) q f = absurd f
 
-    pub call_turn : Retires code x (then_retires (call_leaves e [] x (call (hart_of x))) more)
+    pub call_turn : Retires d code x (then_retires (call_leaves e [] x (call (hart_of x))) more)
     call_turn = by_step (call (hart_of x)) (head_calls code (hart_of x) e h.entries.0 (some_of _ _ h.chain.0) k) (call_does (hart_of x))

@@ -1,18 +1,18 @@
 -- Complete: what becomes done has its outcome. Fill leaves all of this alone.
-use Rattle.std.proofs.Common.{◌≡◌, ℕ, ◌+◌, Bool, true, false, not, List, [], refl, ap, sym, ◌∙◌, subst}
+use Rattle.std.proofs.Common.{◌≡◌, ℕ, Bool, true, false, not, List, [], refl, ap, sym, ◌∙◌, subst}
 use Rattle.std.specs.Prelude.{if◌then◌else◌}
 use Rattle.rv_types.specs.Memory.{Code}
 use Rattle.machine_desc.specs.declared.Desc.{Desc}
 use Rattle.window_model.specs.declared.Entry.{Entry}
-use Rattle.window_model.specs.declared.State.{State}
-use Rattle.window_model.specs.declared.State.TheVariants.{Waiting, Busy, Done}
+use Rattle.window_model.specs.declared.Progress.{Progress}
+use Rattle.window_model.specs.declared.Progress.TheVariants.{Waiting, Busy, Done}
 use Rattle.window_model.specs.State.{Machine}
 use Rattle.window_model.specs.Retire.{hart_of}
 use Rattle.window_model.specs.Fill.{fill, complete, completed, completes_at}
-use Rattle.committed_state.specs.Replay.{Bank, bank}
+use Rattle.committed_state.specs.Computed.{Bank}
 use Rattle.window_model.specs.Along.{Behind}
 use Rattle.committed_state.specs.Consistent.{Stands, Holds, Consistent, FitsState, bank_in}
-use Rattle.committed_state.proofs.Onward.{moves_same, is_replayed_item}
+use Rattle.committed_state.proofs.Onward.{moves_same}
 use Rattle.committed_state.proofs.Kept.{Kept, each_holds}
 use Rattle.window_model.proofs.EntryByEntry.{map_is_each}
 
@@ -22,7 +22,7 @@ done e = record e { state = Done }
 kept_same : (code : Code) (s : Bank) (b : List Entry) (e : Entry) → Stands code s b e → Kept code s b e e
 kept_same code s b e h = record { stands = h; moves = moves_same e; link = refl }
 
-fits_done : (t : State) (e : Entry) (cycle : ℕ) → completes_at cycle t ≡ true → FitsState t e → FitsState Done (done e)
+fits_done : (t : Progress) (e : Entry) (cycle : ℕ) → completes_at cycle t ≡ true → FitsState t e → FitsState Done (done e)
 fits_done (Busy due) e cycle c h = (h.0 ∙ sym (ap not h.2), λ r. absurd (let q = h.1 in cc))
 fits_done Waiting e cycle c h = absurd (cc)
 fits_done Done e cycle c h = absurd (cc)
@@ -36,23 +36,20 @@ complete_one code s cycle b e h st = by_due (completes_at cycle e.state) refl
       stands = record {
         item = st.item;
         state = fits_done e.state e cycle q st.state;
-        replayed = is_replayed_item e.outcome (bank s b) e (done e) refl st.replayed;
+        computed = st.computed;
         operands = st.operands;
         stores = st.stores;
         through = st.through;
         alone = st.alone;
       };
-      moves = record { item = refl; done = λ h. refl };
+      moves = record { item = refl; done = λ h. (refl, refl) };
       link = refl;
     }
 
-pub consistent_complete : (code : Code) (x : Machine) → Consistent code x → Consistent code (complete x).machine
-consistent_complete code x h =
+pub consistent_complete : (code : Code) (d : Desc) (x : Machine) → Consistent d code x → Consistent d code (complete x).machine
+consistent_complete code d x h =
     subst (λ w. Holds code (hart_of x) w x.queue x.fetch_pc) (map_is_each (completed x.cycle) [] x.window)
     (each_holds code (hart_of x) (λ b e. completed x.cycle e) (complete_one code (bank_in (hart_of x)) x.cycle) x.window x.queue x.fetch_pc h)
 
-pub consistent_fill : (code : Code) (d : Desc) (x : Machine) → Consistent code x → Consistent code (fill d x).machine
+pub consistent_fill : (code : Code) (d : Desc) (x : Machine) → Consistent d code x → Consistent d code (fill d x).machine
 consistent_fill code d x h = h
-
-pub consistent_begin : (code : Code) (x : Machine) → Consistent code x → Consistent code (record x { cycle = x.cycle + 1 })
-consistent_begin code x h = h

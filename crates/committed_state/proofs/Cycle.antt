@@ -32,15 +32,15 @@ module _ (code : Code) (d : Desc) where
     trap = subst (λ o. TrapsNext code (hart_of u) o) (sym q.ended) (subst (λ s. TrapsNext code s z.end) (sym q.hart) c.trap);
   }
 
-  pub consistent_front : (x : Machine) → Consistent code x → Consistent code (before_retire d x)
+  pub consistent_front : (x : Machine) → Consistent d code x → Consistent d code (before_retire d x)
   consistent_front x h =
       let x1 : Machine = record x { cycle = x.cycle + 1 } in
-      consistent_resolve code d (complete (fill d x1).machine).machine (consistent_complete code (fill d x1).machine (consistent_fill code d x1 h))
+      consistent_resolve code d (complete (fill d x1).machine).machine (consistent_complete code d (fill d x1).machine (consistent_fill code d x1 h))
 
-  pub consistent_back : (x : Machine) → Consistent code x → Consistent code (back d code x).machine
-  consistent_back = back_keep d (Consistent code) code (consistent_issue code d) (consistent_rename code d) (consistent_fetch code d)
+  pub consistent_back : (x : Machine) → Consistent d code x → Consistent d code (back d code x).machine
+  consistent_back = back_keep d (Consistent d code) code (consistent_issue code d) (consistent_rename code d) (consistent_fetch code d)
 
-  pub cycle_does : (x : Machine) → Aligned code → Consistent code x → x.end ≡ None → Leads code (hart_of x) x.retired (cycle d code x).machine (with_piece (cycle d code x).piece []) × Consistent code (cycle d code x).machine
+  pub cycle_does : (x : Machine) → Aligned code → Consistent d code x → x.end ≡ None → Leads code (hart_of x) x.retired (cycle d code x).machine (with_piece (cycle d code x).piece []) × Consistent d code (cycle d code x).machine
   unfolding cycle
   cycle_does x al h n =
       let y = before_retire d x in

@@ -9,7 +9,7 @@ use Rattle.rv_types.specs.declared.Kind.TheVariants.{Alu, Mul, Div, Load, Store,
 use Rattle.machine_desc.specs.declared.Desc.{Desc}
 use Rattle.window_model.specs.declared.Entry.{Entry}
 use Rattle.window_model.specs.declared.Item.{Item}
-use Rattle.window_model.specs.declared.State.TheVariants.{Waiting, Done}
+use Rattle.window_model.specs.declared.Progress.TheVariants.{Waiting, Done}
 use Rattle.window_model.specs.State.{Machine}
 use Rattle.window_model.specs.declared.Target.{Target}
 use Rattle.window_model.specs.Order.{is_control}
@@ -17,7 +17,7 @@ use Rattle.window_model.specs.Retire.{hart_of}
 use Rattle.window_model.specs.Front.{rename, renamed, fits, fits_as, fetch, fetch_one, item_at, kind_at, predicted, at_once, is_call}
 use Rattle.window_model.proofs.Before.{all_reverse}
 use Rattle.window_model.proofs.Walks.{rename_keep, fetch_keep}
-use Rattle.committed_state.specs.Replay.{Bank}
+use Rattle.committed_state.specs.Computed.{Bank}
 use Rattle.window_model.specs.Along.{Along}
 use Rattle.committed_state.specs.Links.{Chain, links, entry_link, item_link, true_next}
 use Rattle.committed_state.specs.Consistent.{Stands, Holds, Consistent, FitsState, IsItem, Predicts, goes_through, bank_in}
@@ -90,7 +90,7 @@ module _ (code : Code) (d : Desc) where
       let now : Stands code (bank_in s) (reverse w) (renamed serial i) = record {
         item = h.items.0;
         state = fits_new (at_once i.kind) serial i refl;
-        replayed = tt;
+        computed = tt;
         operands = λ q. absurd (cc);
         stores = λ q l. absurd (cc);
         through = all_reverse goes_through w ∙ through_chain code (bank_in s) [] (Some s.pc) fetch_pc w i rest h.entries h.chain (not_true _ f3.1);
@@ -103,8 +103,8 @@ module _ (code : Code) (d : Desc) where
         registers = h.registers;
       }
 
-  pub consistent_rename : (x : Machine) → Consistent code x → Consistent code (rename d x).machine
-  consistent_rename = rename_keep d (Consistent code)
+  pub consistent_rename : (x : Machine) → Consistent d code x → Consistent d code (rename d x).machine
+  consistent_rename = rename_keep d (Consistent d code)
       (λ x i rest q f h. rename_holds (hart_of x) x.window i rest x.fetch_pc x.next_serial f (subst (λ q. Holds code (hart_of x) x.window q x.fetch_pc) q h))
 
 -- ---- fetch
@@ -130,12 +130,12 @@ chain_push from [] q i k = chain_items from q i k
 chain_push from (e ∷ w) q i k = (k.0, chain_push (entry_link e).next w q i k.1)
 
 module _ (code : Code) (d : Desc) where
-  fetch_item : (x : Machine) (pc : ℕ) → x.fetch_pc ≡ Some pc → nat_lt (length x.queue) d.core_queue ≡ true → Consistent code x → Consistent code (fetch_one (item_at d code x pc) x).machine
+  fetch_item : (x : Machine) (pc : ℕ) → x.fetch_pc ≡ Some pc → nat_lt (length x.queue) d.core_queue ≡ true → Consistent d code x → Consistent d code (fetch_one d (item_at d code x pc) x).machine
   fetch_item x pc q r h =
       let i = item_at d code x pc in
       let c = subst (Chain (Some x.pc) (links x.window x.queue)) q h.chain in
       let now : IsItem code i = record { instr = refl; kind = refl; next = predicts (kind_at (code pc)) d x.counters x.targets i refl } in
       record { entries = h.entries; items = each_push (IsItem code) x.queue i h.items now; chain = chain_push (Some x.pc) x.window x.queue i c; registers = h.registers }
 
-  pub consistent_fetch : (x : Machine) → Consistent code x → Consistent code (fetch d code x).machine
-  consistent_fetch = fetch_keep d (Consistent code) code fetch_item
+  pub consistent_fetch : (x : Machine) → Consistent d code x → Consistent d code (fetch d code x).machine
+  consistent_fetch = fetch_keep d (Consistent d code) code fetch_item

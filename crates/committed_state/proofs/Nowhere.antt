@@ -9,7 +9,7 @@ use Rattle.window_model.specs.declared.Item.{Item}
 use Rattle.window_model.specs.Order.{is_faulty}
 use Rattle.window_model.specs.Resolve.{next_of}
 use Rattle.window_model.specs.Front.{is_stop}
-use Rattle.committed_state.specs.Replay.{Bank}
+use Rattle.committed_state.specs.Computed.{Bank}
 use Rattle.window_model.specs.Along.{Along}
 use Rattle.committed_state.specs.Links.{Chain, links, entry_link}
 use Rattle.committed_state.specs.Consistent.{Stands, IsItem, Predicts, HasStopped}
@@ -51,4 +51,4 @@ reason code s pc [] (i ∷ is) h q k = queue_stops code (Some pc) i is q k
 reason code s pc (e ∷ es) queue h q k = window_stops code s [] (Some pc) e es queue h q k
 
 pub nowhere_has_reason : NowhereHasReason
-nowhere_has_reason code x h n = reason code _ x.pc x.window x.queue h.entries h.items (subst (Chain (Some x.pc) (links x.window x.queue)) n h.chain)
+nowhere_has_reason d code x h n = reason code _ x.pc x.window x.queue h.entries h.items (subst (Chain (Some x.pc) (links x.window x.queue)) n h.chain)

@@ -6,21 +6,20 @@ use Rattle.rv_types.specs.Memory.{Code}
 use Rattle.machine_desc.specs.declared.Desc.{Desc}
 use Rattle.window_model.specs.declared.Entry.{Entry}
 use Rattle.window_model.specs.declared.Item.{Item}
-use Rattle.window_model.specs.declared.State.{State}
-use Rattle.window_model.specs.declared.State.TheVariants.{Waiting, Busy, Done}
+use Rattle.window_model.specs.declared.Progress.{Progress}
+use Rattle.window_model.specs.declared.Progress.TheVariants.{Waiting, Busy, Done}
 use Rattle.window_model.specs.State.{Machine}
-use Rattle.window_model.specs.declared.Target.{Target}
 use Rattle.window_model.specs.Order.{Place, is_done, is_control, is_faulty}
 use Rattle.window_model.specs.Retire.{hart_of}
-use Rattle.window_model.specs.Resolve.{resolve, resolve_at, may_resolve, with_predictor, squash, keep, squashes, is_next, next_of}
-use Rattle.committed_state.specs.Replay.{Bank, bank}
+use Rattle.window_model.specs.Resolve.{resolve, squashes, is_next, next_of}
+use Rattle.committed_state.specs.Computed.{Bank}
 use Rattle.window_model.specs.Along.{Along}
 use Rattle.committed_state.specs.Links.{Link, Chain, links, entry_link, item_link, true_next}
 use Rattle.committed_state.specs.Consistent.{Stands, Holds, Consistent, FitsState, bank_in}
-use Rattle.committed_state.proofs.Onward.{Moves, moves_same, stands_onward, is_replayed_item}
-use Rattle.window_model.proofs.Places.{Found, older_is, by_place}
+use Rattle.committed_state.proofs.Onward.{Moves, moves_same, stands_onward}
+use Rattle.window_model.proofs.Placing.{Taken, resolve_keep}
 use Rattle.window_model.proofs.EntryByEntry.{along_cut, place_on}
-use Rattle.window_model.proofs.Resolving.{MayResolve, resolve_parts, resolved_one}
+use Rattle.window_model.proofs.Resolving.{resolved_one}
 
 -- ---- entries and links up to that place, and what follows it
 
@@ -35,7 +34,7 @@ same_links (x ∷ older) ys e e2 h = ap (λ ls. entry_link x ∷ ls) (same_links
 
 -- ---- the entry
 
-fits_resolved : (t : State) (e : Entry) → is_done t ≡ true → is_control e.item.kind ≡ true → FitsState t e → FitsState t (resolved_one e)
+fits_resolved : (t : Progress) (e : Entry) → is_done t ≡ true → is_control e.item.kind ≡ true → FitsState t e → FitsState t (resolved_one e)
 fits_resolved Done e d c h = (h.0, λ r. c)
 fits_resolved Waiting e d c h = absurd (cc)
 fits_resolved (Busy due) e d c h = absurd (cc)
@@ -44,7 +43,7 @@ stands_resolved : (code : Code) (s : Bank) (e : Entry) → is_done e.state ≡ t
 stands_resolved code s e d c b st = record {
   item = st.item;
   state = fits_resolved e.state e d c st.state;
-  replayed = is_replayed_item e.outcome (bank s b) e (resolved_one e) refl st.replayed;
+  computed = st.computed;
   operands = st.operands;
   stores = st.stores;
   through = st.through;
@@ -72,47 +71,38 @@ right_link e r q =
 
 -- ---- the phase
 
-module _ (code : Code) (d : Desc) (x : Machine) (h : Consistent code x) (p : Place) (f : Found (may_resolve d) [] x.window p) where
-  abbrev e : Entry
-  e = p.entry
+module _ (code : Code) (d : Desc) where
+  module _ (x : Machine) (p : Place) (t : Taken d x p) (h : Consistent d code x) where
+    abbrev e : Entry
+    e = p.entry
 
-  parts : MayResolve d p.before e
-  parts = resolve_parts d p.before e f.has
+    abbrev older : List Entry
+    older = reverse p.before
 
-  here : Holds code (hart_of x) (f.older ++ e ∷ p.younger) x.queue x.fetch_pc
-  here = subst (λ w. Holds code (hart_of x) w x.queue x.fetch_pc) f.all h
+    here : Holds code (hart_of x) (older ++ e ∷ p.younger) x.queue x.fetch_pc
+    here = subst (λ w. Holds code (hart_of x) w x.queue x.fetch_pc) t.window h
 
-  entries : Along (Stands code (bank_in (hart_of x))) [] (f.older ++ resolved_one e ∷ p.younger)
-  entries =
-      let bank = bank_in (hart_of x) in
-      place_on (Stands code bank) Moves moves_same (stands_onward code bank) e (resolved_one e) (record { item = refl; done = λ q. q })
-      (stands_resolved code bank e parts.done parts.control) [] f.older p.younger here.entries
+    entries : Along (Stands code (bank_in (hart_of x))) [] (older ++ resolved_one e ∷ p.younger)
+    entries =
+        let bank = bank_in (hart_of x) in
+        place_on (Stands code bank) Moves moves_same (stands_onward code bank) e (resolved_one e) (record { item = refl; done = λ q. (q, refl) })
+        (stands_resolved code bank e t.parts.done t.parts.control) [] older p.younger here.entries
 
-  kept : squashes e ≡ false → Holds code (hart_of x) (f.older ++ resolved_one e ∷ p.younger) x.queue x.fetch_pc
-  kept q = record {
-    entries = entries;
-    items = h.items;
-    chain = subst (λ ls. Chain (Some x.pc) (ls ++ map item_link x.queue) x.fetch_pc) (sym (same_links f.older p.younger e (resolved_one e) (right_link e parts.fresh q))) here.chain;
-    registers = h.registers;
-  }
+    kept : squashes e ≡ false → Holds code (hart_of x) (older ++ resolved_one e ∷ p.younger) x.queue x.fetch_pc
+    kept q = record {
+      entries = entries;
+      items = h.items;
+      chain = subst (λ ls. Chain (Some x.pc) (ls ++ map item_link x.queue) x.fetch_pc) (sym (same_links older p.younger e (resolved_one e) (right_link e t.parts.fresh q))) here.chain;
+      registers = h.registers;
+    }
 
-  cut : Holds code (hart_of x) (f.older ++ resolved_one e ∷ []) [] (true_next e)
-  cut = record {
-    entries = along_cut (Stands code (bank_in (hart_of x))) [] f.older p.younger (resolved_one e) entries;
-    items = tt;
-    chain = chain_cut (Some x.pc) x.fetch_pc f.older p.younger x.queue e (resolved_one e) refl here.chain;
-    registers = h.registers;
-  }
+    cut : Holds code (hart_of x) (older ++ resolved_one e ∷ []) [] (true_next e)
+    cut = record {
+      entries = along_cut (Stands code (bank_in (hart_of x))) [] older p.younger (resolved_one e) entries;
+      items = tt;
+      chain = chain_cut (Some x.pc) x.fetch_pc older p.younger x.queue e (resolved_one e) refl here.chain;
+      registers = h.registers;
+    }
 
-  older : reverse p.before ≡ f.older
-  older = older_is (may_resolve d) x.window p f
-
-  either : (c : Bool) (n : List ℕ) (t : List (Option Target)) → squashes e ≡ c → Consistent code (if c then squash p (with_predictor x n t) else keep p (with_predictor x n t)).machine
-  either true n t q = subst (λ w. Holds code (hart_of x) (w ++ resolved_one e ∷ []) [] (true_next e)) (sym older) cut
-  either false n t q = subst (λ w. Holds code (hart_of x) (w ++ resolved_one e ∷ p.younger) x.queue x.fetch_pc) (sym older) (kept q)
-
-  at_place : Consistent code (resolve_at d (Some p) x).machine
-  at_place = either (squashes e) _ _ refl
-
-pub consistent_resolve : (code : Code) (d : Desc) (x : Machine) → Consistent code x → Consistent code (resolve d x).machine
-consistent_resolve code d x h = by_place (may_resolve d) x.window (λ o. Consistent code (resolve_at d o x).machine) h (at_place code d x h)
+  pub consistent_resolve : (x : Machine) → Consistent d code x → Consistent d code (resolve d x).machine
+  consistent_resolve = resolve_keep d (Consistent d code) (λ x p t q h. cut x p t h) (λ x p t q h. kept x p t h q)

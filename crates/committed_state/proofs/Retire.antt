@@ -1,5 +1,5 @@
 -- Retire: what leaves the window is a run of the instruction set.
-use Rattle.std.proofs.Common.{◌≡◌, ℕ, Bool, true, false, List, [], ◌∷◌, Some, None, refl, sym, subst, arith}
+use Rattle.std.proofs.Common.{◌≡◌, ℕ, Bool, ◌||◌, true, false, List, [], ◌∷◌, Some, None, refl, sym, subst, arith}
 use Rattle.rv_types.specs.Memory.{Code}
 use Rattle.rv_types.specs.Isa.{Hart, Goes, isa_step, with_reg}
 use Rattle.rv_types.specs.Regs.{writes_of}
@@ -9,7 +9,7 @@ use Rattle.rv_types.specs.declared.Kind.TheVariants.{Alu, Mul, Div, Load, Store,
 use Rattle.machine_desc.specs.declared.Desc.{Desc}
 use Rattle.window_model.specs.declared.Entry.{Entry}
 use Rattle.window_model.specs.State.{Machine}
-use Rattle.window_model.specs.Order.{value_of}
+use Rattle.window_model.specs.Order.{is_store, value_of}
 use Rattle.window_model.specs.Resolve.{next_of}
 use Rattle.window_model.specs.Retire.{Retired, retire, turns, head_leaves, then_retires, ends_with, hart_of, may_leave, trap_of}
 use Rattle.window_model.specs.Front.{is_call}
@@ -37,53 +37,53 @@ call_kind _ h = absurd (cc)
 
 module _ (code : Code) (aligned : Aligned code) (d : Desc) where
   -- a run of turns from a consistent state commits
-  abbrev Commits : ℕ → Machine → Retired → Type 0
-  Commits n x r = Consistent code x → x.end ≡ None → Retires code x r
+  abbrev Commits : ℕ → Bool → Machine → Retired → Type 0
+  Commits n stored x r = Consistent d code x → x.end ≡ None → Retires d code x r
 
   -- what follows a head of a kind
   abbrev Follows : Kind → ℕ → Bool → Machine → Entry → List Entry → Type 0
-  Follows k n stored x e rest = let y = (head_leaves k d e rest x).machine in Commits n y (turns d n stored y)
+  Follows k n stored x e rest = let y = (head_leaves k d e rest x).machine in Commits n stored y (turns d n stored y)
 
-  left_turn : (k : Kind) (n : ℕ) (stored : Bool) (x : Machine) (e : Entry) (rest : List Entry) → is_call k ≡ false → LeftAs code k x e rest → x.end ≡ None → Follows k n stored x e rest → Retires code x (then_retires (head_leaves k d e rest x) (turns d n stored))
+  left_turn : (k : Kind) (n : ℕ) (stored : Bool) (x : Machine) (e : Entry) (rest : List Entry) → is_call k ≡ false → LeftAs code k x e rest → x.end ≡ None → Follows k n stored x e rest → Retires d code x (then_retires (head_leaves k d e rest x) (turns d n stored))
   left_turn Call n stored x e rest c l u m = absurd (cc)
-  left_turn Store n stored x e rest c l u m = let r = head_leaves Store d e rest x in one_more code x r.machine r.events (turns d n stored) l.step refl (m l.holds u)
-  left_turn Alu n stored x e rest c l u m = let r = head_leaves Alu d e rest x in one_more code x r.machine r.events (turns d n stored) l.step refl (m l.holds u)
-  left_turn Mul n stored x e rest c l u m = let r = head_leaves Mul d e rest x in one_more code x r.machine r.events (turns d n stored) l.step refl (m l.holds u)
-  left_turn Div n stored x e rest c l u m = let r = head_leaves Div d e rest x in one_more code x r.machine r.events (turns d n stored) l.step refl (m l.holds u)
-  left_turn Load n stored x e rest c l u m = let r = head_leaves Load d e rest x in one_more code x r.machine r.events (turns d n stored) l.step refl (m l.holds u)
-  left_turn Branch n stored x e rest c l u m = let r = head_leaves Branch d e rest x in one_more code x r.machine r.events (turns d n stored) l.step refl (m l.holds u)
-  left_turn Jalr n stored x e rest c l u m = let r = head_leaves Jalr d e rest x in one_more code x r.machine r.events (turns d n stored) l.step refl (m l.holds u)
-  left_turn Jal n stored x e rest c l u m = let r = head_leaves Jal d e rest x in one_more code x r.machine r.events (turns d n stored) l.step refl (m l.holds u)
-  left_turn (Stop a) n stored x e rest c l u m = let r = head_leaves (Stop a) d e rest x in one_more code x r.machine r.events (turns d n stored) l.step refl (m l.holds u)
+  left_turn Store n stored x e rest c l u m = let r = head_leaves Store d e rest x in one_more d code x r.machine r.events (turns d n stored) l.step refl (m l.holds u)
+  left_turn Alu n stored x e rest c l u m = let r = head_leaves Alu d e rest x in one_more d code x r.machine r.events (turns d n stored) l.step refl (m l.holds u)
+  left_turn Mul n stored x e rest c l u m = let r = head_leaves Mul d e rest x in one_more d code x r.machine r.events (turns d n stored) l.step refl (m l.holds u)
+  left_turn Div n stored x e rest c l u m = let r = head_leaves Div d e rest x in one_more d code x r.machine r.events (turns d n stored) l.step refl (m l.holds u)
+  left_turn Load n stored x e rest c l u m = let r = head_leaves Load d e rest x in one_more d code x r.machine r.events (turns d n stored) l.step refl (m l.holds u)
+  left_turn Branch n stored x e rest c l u m = let r = head_leaves Branch d e rest x in one_more d code x r.machine r.events (turns d n stored) l.step refl (m l.holds u)
+  left_turn Jalr n stored x e rest c l u m = let r = head_leaves Jalr d e rest x in one_more d code x r.machine r.events (turns d n stored) l.step refl (m l.holds u)
+  left_turn Jal n stored x e rest c l u m = let r = head_leaves Jal d e rest x in one_more d code x r.machine r.events (turns d n stored) l.step refl (m l.holds u)
+  left_turn (Stop a) n stored x e rest c l u m = let r = head_leaves (Stop a) d e rest x in one_more d code x r.machine r.events (turns d n stored) l.step refl (m l.holds u)
 
   by_call : (b : Bool) (n : ℕ) (stored : Bool) (x : Machine) (e : Entry) (rest : List Entry) → is_call e.item.kind ≡ b → x.end ≡ None → Holds code (hart_of x) (e ∷ rest) x.queue x.fetch_pc → may_leave e ≡ true → trap_of e ≡ None →
-      Follows e.item.kind n stored x e rest → Retires code x (then_retires (head_leaves e.item.kind d e rest x) (turns d n stored))
+      Follows e.item.kind n stored x e rest → Retires d code x (then_retires (head_leaves e.item.kind d e rest x) (turns d n stored))
   by_call true n stored x e [] b u h may t m =
       let q = call_kind e.item.kind b in
-      subst (λ k. Retires code x (then_retires (head_leaves k d e [] x) (turns d n stored))) (sym q) (call_turn code x (turns d n stored) e h may q (turns_empty d n stored))
+      subst (λ k. Retires d code x (then_retires (head_leaves k d e [] x) (turns d n stored))) (sym q) (call_turn d code x (turns d n stored) e h may q (turns_empty d n stored))
   by_call true n stored x e (e2 ∷ rest) b u h may t m = absurd (only_call code (hart_of x) e e2 rest x.queue x.fetch_pc (call_kind e.item.kind b) h)
   by_call false n stored x e rest b u h may t m =
       let l = head_leaves_so code (hart_of x) e rest x.queue x.fetch_pc h may t b in
       left_turn e.item.kind n stored x e rest b (record { holds = l.holds; step = l.step }) u m
 
   -- the head, told of the window
-  head_of : (x : Machine) (e : Entry) (rest : List Entry) → x.window ≡ e ∷ rest → Consistent code x → Holds code (hart_of x) (e ∷ rest) x.queue x.fetch_pc
+  head_of : (x : Machine) (e : Entry) (rest : List Entry) → x.window ≡ e ∷ rest → Consistent d code x → Holds code (hart_of x) (e ∷ rest) x.queue x.fetch_pc
   head_of x e rest q h = subst (λ w. Holds code (hart_of x) w x.queue x.fetch_pc) q h
 
-  traps : (n : ℕ) (x : Machine) (e : Entry) (rest : List Entry) (c : Cause) → x.window ≡ e ∷ rest → may_leave e ≡ true → trap_of e ≡ Some c → Commits n x (ends_with c e x)
+  traps : (n : ℕ) (x : Machine) (e : Entry) (rest : List Entry) (c : Cause) → x.window ≡ e ∷ rest → may_leave e ≡ true → trap_of e ≡ Some c → Commits n false x (ends_with c e x)
   traps n x e rest c q may t h u =
       let w = head_of x e rest q h in
       let pc = some_of _ _ w.chain.0 in
       record {
-        committed = record { steps = 0; counted = omega arith; runs = refl; trap = (head_ends code aligned (hart_of x) e w.entries.0 pc may c t, pc) };
+        committed = record { steps = 0; counted = omega arith; runs = refl; trap = (head_ends code aligned (hart_of x) w.registers e w.entries.0 pc may c t, pc) };
         holds = h;
       }
 
-  pub retire_commits : (x : Machine) → Consistent code x → x.end ≡ None → Retires code x (retire d x)
+  pub retire_commits : (x : Machine) → Consistent d code x → x.end ≡ None → Retires d code x (retire d x)
   retire_commits x h u =
-      retire_by d Commits (λ n x h u. no_turn code x h u)
-      (λ n stored x e rest v q l t more h u. by_call (is_call e.item.kind) n stored x e rest refl u (head_of x e rest q h) l t more)
-      (λ n x e rest c v q l t. traps n x e rest c q l t) x h u
+      retire_by d Commits (λ n stored x s h u. no_turn d code x h u)
+      (λ n stored x e rest v q l t w more h u. by_call (is_call e.item.kind) n (stored || is_store e.item.kind) x e rest refl u (head_of x e rest q h) l t more)
+      (λ n stored x e rest c v q l t. traps n x e rest c q l t) x h u
 
-  pub consistent_retire : (x : Machine) → Consistent code x → x.end ≡ None → Consistent code (retire d x).machine
+  pub consistent_retire : (x : Machine) → Consistent d code x → x.end ≡ None → Consistent d code (retire d x).machine
   consistent_retire x h u = (retire_commits x h u).holds

@@ -58,7 +58,7 @@ module _ (code : Code) (d : Desc) (aligned : Aligned code) where
 
   record Goes_well (k : ℕ) (x : Machine) : Type 0 where
     commits : Leads code (hart_of x) x.retired (after_cycles d code k x) (pieces d code k x)
-    keeps : Consistent code (after_cycles d code k x)
+    keeps : Consistent d code (after_cycles d code k x)
 
   -- nothing more
   at_rest : (x : Machine) → x.end ≡ None → Leads code (hart_of x) x.retired x []
@@ -69,16 +69,16 @@ module _ (code : Code) (d : Desc) (aligned : Aligned code) where
   ended_run (suc k) y e h = (ap (λ o. unless_ended o y (after_cycles d code k (cycle d code y).machine)) h, ap (λ o. unless_ended o [] (with_piece (cycle d code y).piece (pieces d code k (cycle d code y).machine))) h)
 
   -- what follows a cycle, whether or not it ended the run
-  after_one : (k : ℕ) (x y : Machine) (p : List ℕ) (o : Option End) → y.end ≡ o → Leads code (hart_of x) x.retired y (with_piece p []) → Consistent code y → (y.end ≡ None → Goes_well k y) →
-      Leads code (hart_of x) x.retired (after_cycles d code k y) (with_piece p (pieces d code k y)) × Consistent code (after_cycles d code k y)
+  after_one : (k : ℕ) (x y : Machine) (p : List ℕ) (o : Option End) → y.end ≡ o → Leads code (hart_of x) x.retired y (with_piece p []) → Consistent d code y → (y.end ≡ None → Goes_well k y) →
+      Leads code (hart_of x) x.retired (after_cycles d code k y) (with_piece p (pieces d code k y)) × Consistent d code (after_cycles d code k y)
   after_one k x y p None n c h more = let m = more n in (together x y _ p _ n c m.commits, m.keeps)
   after_one k x y p (Some e) n c h more =
       let r = ended_run k y e n in (
         subst (λ u. Leads code (hart_of x) x.retired u (with_piece p (pieces d code k y))) (sym r.0) (subst (λ ps. Leads code (hart_of x) x.retired y (with_piece p ps)) (sym r.1) c),
-        subst (Consistent code) (sym r.0) h,
+        subst (Consistent d code) (sym r.0) h,
       )
 
-  run_from : (k : ℕ) (x : Machine) → Consistent code x → x.end ≡ None → Goes_well k x
+  run_from : (k : ℕ) (x : Machine) → Consistent d code x → x.end ≡ None → Goes_well k x
   run_from zero x h n = record { commits = at_rest x n; keeps = h }
   run_from (suc k) x h n =
       let c = cycle d code x in
@@ -86,14 +86,14 @@ module _ (code : Code) (d : Desc) (aligned : Aligned code) where
       let both = after_one k x c.machine c.piece c.machine.end refl now.0 now.1 (run_from k c.machine now.1) in
       record {
         commits = unended x.end n both.0;
-        keeps = subst (λ o. Consistent code (unless_ended o x (after_cycles d code k c.machine))) (sym n) both.1;
+        keeps = subst (λ o. Consistent d code (unless_ended o x (after_cycles d code k c.machine))) (sym n) both.1;
       }
     where
       unended : (o : Option End) → o ≡ None → {z : Machine} {ps : List (List ℕ)} → Leads code (hart_of x) x.retired z ps → Leads code (hart_of x) x.retired (unless_ended o x z) (unless_ended o [] ps)
       unended None q r = r
       unended (Some e) q r = absurd (cc)
 
-pub consistent_opening : (code : Code) (d : Desc) (entry : ℕ) (ram : Ram) → Consistent code (opening d entry ram)
+pub consistent_opening : (code : Code) (d : Desc) (entry : ℕ) (ram : Ram) → Consistent d code (opening d entry ram)
 consistent_opening code d entry ram = record { entries = tt; items = tt; chain = refl; registers = refl }
 
 pub run_commits : RunCommits

@@ -24,10 +24,10 @@ use Rattle.committed_state.specs.Links.{Chain, links}
 use Rattle.committed_state.specs.Consistent.{Stands, Holds, Predicts, bank_in}
 use Rattle.committed_state.proofs.Bytes.{some_is}
 use Rattle.window_model.proofs.Registers.{length_with}
-use Rattle.committed_state.proofs.Onward.{of_item, replayed_item, ram_item}
+use Rattle.committed_state.proofs.Onward.{of_item}
 use Rattle.committed_state.proofs.Heads.{item_of, hart_after, head_goes, head_traps, goes_on}
 use Rattle.committed_state.proofs.Shift.{along_shift}
-use Rattle.committed_state.proofs.Known.{done_has}
+use Rattle.committed_state.proofs.Known.{done_has, replayed_head}
 use Rattle.window_model.proofs.Booleans.{some_of}
 use Rattle.window_model.proofs.Leaving.{no_trap}
 
@@ -42,7 +42,7 @@ hart_with s e o = record { pc = next_of o; regs = with_reg s.regs (writes_of e.i
 abbrev pub head_hart : Hart → Entry → Hart
 head_hart s e = hart_with s e e.outcome
 
-ram_left : (k : Kind) (m : Ram) (e : Entry) (r : Outcome) → r.fault ≡ None → head_ram k m e (Some r) ≡ ram_after k m e r
+ram_left : (k : Kind) (m : Ram) (e : Entry) (r : Outcome) → r.fault ≡ None → head_ram k m e (Some r) ≡ ram_after k m e.item.instr r
 ram_left Store m e r h = rw h refl
 ram_left _ m e r h = refl
 
@@ -61,9 +61,6 @@ item_eq i pc j p a k = ap (λ n. made n i.instr i.kind i.predicted) (sym p) ∙ 
 abbrev hart_item : Hart → Item → Outcome → Hart
 hart_item s i o = hart_after s (of_item i) o
 
-hart_by_item : (s : Hart) (e : Entry) (o : Outcome) → hart_after s e o ≡ hart_item s e.item o
-hart_by_item s e o = ap (λ m. let t : Hart = record { pc = o.next; regs = with_reg s.regs (writes_of e.item.instr) o.value; ram = m } in t) (ram_item e.item.kind s.ram e o)
-
 abbrev pub steps : Option Cause → Hart → Step
 steps None t = Goes t []
 steps (Some cause) t = Traps cause
@@ -79,10 +76,10 @@ step_as None s e q a k n f h = absurd (cc)
 step_as (Some w) s e q a k n f h =
     let i = decode w in
     let it = item_eq e.item s.pc i q a k in
-    let r = replayed_item (bank_in s) (of_item (item_of s.pc i e.item.predicted)) e it in
+    let r : replayed (bank_in s) e ≡ replayed (bank_in s) (of_item (item_of s.pc i e.item.predicted)) = ap (λ t. replayed (bank_in s) (of_item t)) it in
     let n2 = ap (λ (t : Item). at_once t.kind) (sym it) ∙ n in
     by_fault s e.item.predicted i f n2 (sym (ap (λ (o : Outcome). o.fault) r) ∙ h)
-    ∙ ap (steps f) (ap (hart_item s (item_of s.pc i e.item.predicted)) (sym r) ∙ ap (λ t. hart_item s t (replayed (bank_in s) e)) (sym it) ∙ sym (hart_by_item s e (replayed (bank_in s) e)))
+    ∙ ap (steps f) (ap (hart_item s (item_of s.pc i e.item.predicted)) (sym r) ∙ ap (λ t. hart_item s t (replayed (bank_in s) e)) (sym it))
 
 -- ---- where the head goes on
 
@@ -137,7 +134,7 @@ head_leaves_so code s e rest queue fetch_pc h may t k =
     let d = done_has e.state e st.state m.0 in
     let n = no_stop e.item.kind e t k in
     let r = replayed (bank_in s) e in
-    let o = some_is e.outcome (bank_in s) e st.replayed (d.0 ∙ ap not n.0) in
+    let o = some_is e.outcome r (replayed_head code (bank_in s) h.registers e st) (d.0 ∙ ap not n.0) in
     let f : r.fault ≡ None = sym (ap fault_of o) ∙ n.1 in
     let left = hart_left s e e.outcome r o f in
     let c = code s.pc in
@@ -147,7 +144,7 @@ head_leaves_so code s e rest queue fetch_pc h may t k =
     let nx = link_next e.resolved e e.outcome r o f predicts in
     record {
       holds = record {
-        entries = subst (λ b. Along (Stands code b) [] rest) (sym (ap bank_in left)) (along_shift code (bank_in s) e rest h.entries.1);
+        entries = subst (λ b. Along (Stands code b) [] rest) (sym (ap bank_in left)) (along_shift (bank_in s) e (replayed_head code (bank_in s) h.registers e st) (d.0 ∙ ap not n.0) h.registers code rest h.entries.1);
         items = h.items;
         chain = subst (λ a. Chain a (links rest queue) fetch_pc) nx h.chain.1;
         registers = length_with s.regs (writes_of e.item.instr) (value_of e.outcome) ∙ h.registers;

@@ -7,16 +7,17 @@ use Rattle.rv_types.specs.Memory.{Code}
 use Rattle.rv_types.specs.Isa.{Hart}
 use Rattle.rv_types.specs.declared.Kind.{Kind}
 use Rattle.rv_types.specs.declared.Kind.TheVariants.{Branch, Jalr, Jal, Stop}
+use Rattle.machine_desc.specs.declared.Desc.{Desc}
 use Rattle.window_model.specs.declared.Entry.{Entry}
 use Rattle.window_model.specs.declared.Item.{Item}
-use Rattle.window_model.specs.declared.State.{State}
-use Rattle.window_model.specs.declared.State.TheVariants.{Waiting, Busy, Done}
+use Rattle.window_model.specs.declared.Progress.{Progress}
+use Rattle.window_model.specs.declared.Progress.TheVariants.{Waiting, Busy, Done}
 use Rattle.window_model.specs.State.{Machine}
 use Rattle.window_model.specs.Order.{is_load, is_control, is_faulty, ready}
 use Rattle.window_model.specs.Retire.{hart_of}
 use Rattle.window_model.specs.Issue.{stores_done}
 use Rattle.window_model.specs.Front.{instr_at, kind_at, target_of, at_once, is_call, is_stop}
-use Rattle.committed_state.specs.Replay.{Bank, bank, IsReplayed}
+use Rattle.committed_state.specs.Computed.{Bank, ComesTo, computed}
 use Rattle.window_model.specs.Along.{Along}
 use Rattle.committed_state.specs.Links.{Chain, links}
 
@@ -39,7 +40,7 @@ abbrev pub is_issued : Entry → Bool
 is_issued e = is_some e.outcome
 
 -- when an entry has its outcome, and when it may be resolved
-abbrev pub FitsState : State → Entry → Type 0
+abbrev pub FitsState : Progress → Entry → Type 0
 FitsState Waiting e = (e.outcome ≡ None) × (e.resolved ≡ false) × (at_once e.item.kind ≡ false)
 FitsState (Busy due) e = (is_issued e ≡ true) × (e.resolved ≡ false) × (at_once e.item.kind ≡ false)
 FitsState Done e = (is_issued e ≡ not (at_once e.item.kind)) × (e.resolved ≡ true → is_control e.item.kind ≡ true)
@@ -52,8 +53,8 @@ goes_through e = not (at_once e.item.kind)
 pub record Stands (code : Code) (s : Bank) (before : List Entry) (e : Entry) : Type 0 where
   pub item : IsItem code e.item
   pub state : FitsState e.state e
-  -- its outcome is the replay's
-  pub replayed : IsReplayed e.outcome (bank s before) e
+  -- its outcome is what Issue makes of its operands
+  pub computed : ComesTo e.outcome (computed s before e)
   -- it was issued with its operands known, and a load after the older stores
   pub operands : is_issued e ≡ true → ready before e ≡ true
   pub stores : is_issued e ≡ true → is_load e.item.kind ≡ true → stores_done before ≡ true
@@ -72,9 +73,9 @@ pub record Holds (code : Code) (s : Hart) (window : List Entry) (queue : List It
   pub chain : Chain (Some s.pc) (links window queue) fetch_pc
   pub registers : length s.regs ≡ 32
 
--- what each phase keeps
-abbrev pub Consistent : Code → Machine → Type 0
-Consistent code x = Holds code (hart_of x) x.window x.queue x.fetch_pc
+-- what each phase keeps, under any description
+abbrev pub Consistent : Desc → Code → Machine → Type 0
+Consistent d code x = Holds code (hart_of x) x.window x.queue x.fetch_pc
 
 -- why fetch has nowhere to go: the youngest is a stop, or a resolved entry of the window with a fault
 abbrev pub HasStopped : List Entry → List Item → Type 0

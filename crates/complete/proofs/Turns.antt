@@ -1,21 +1,27 @@
 -- Completing entry by entry: what is left to complete makes the whole.
-use Rattle.std.proofs.Common.{◌≡◌, ℕ, zero, suc, ◌+◌, ◌≤◌, Bool, true, false, cond, List, [], ◌∷◌, ◌++◌, length, take, drop, Option, Some, None, refl, ap, ap₂, sym, ◌∙◌, subst, arith, slice_get}
+use Rattle.std.proofs.Common.{◌≡◌, ℕ, zero, suc, ◌+◌, ◌<◌, ◌≤◌, Bool, true, false, cond, List, [], ◌∷◌, ◌++◌, length, take, drop, Option, Some, None, refl, ap, ap₂, sym, ◌∙◌, subst, arith, slice_get}
 use Rattle.std.specs.Prelude.{if◌then◌else◌, map, slice_set}
 use Rattle.std.specs.List.{filter, fold}
 use Rattle.std.specs.Option.{option_map}
-use Rattle.std.proofs.lemmas.List.{append-nil, append_assoc, drop_all}
+use Rattle.std.proofs.lemmas.List.{append-nil, append_assoc, drop_all, length-append, length-map, take_all}
 use Rattle.window_model.specs.declared.Entry.{Entry}
 use Rattle.window_model.specs.declared.Event.{Event}
 use Rattle.window_model.specs.declared.Event.TheVariants as event
-use Rattle.window_model.specs.Fill.{completes, completed}
+use Rattle.window_model.specs.declared.Progress.{Progress}
+use Rattle.window_model.specs.declared.Progress.TheVariants.{Waiting, Busy, Done}
+use Rattle.window_model.specs.Fill.{complete, completes, completes_at, completed}
+use Rattle.window_model.specs.Order.{is_waiting}
 use Rattle.window_model.specs.Row.{Row}
-use Rattle.window_model.specs.State.{Machine}
-use Rattle.rob_ring.specs.Ring.{Ring}
-use Rattle.stations.specs.Stations.{Stations, struck}
-use Rattle.lsq.specs.Queues.{Queues}
-use Rattle.complete.specs.Parts.{completes_all}
-use Rattle.complete.specs.Telling.{finished, woken, noted, known_with}
-use Rattle.complete.proofs.Ties.{Ties, done, ties_more, ties_start}
+use Rattle.parts_stand.proofs.Standing.{halves}
+use Rattle.core_parts.specs.Described.{Described}
+
+-- the entry, once it is Done
+abbrev pub done : Entry → Entry
+done e = record e { state = Done }
+
+-- the entries that become Done in this cycle, oldest first
+abbrev finished : ℕ → List Entry → List Entry
+finished cycle entries = filter (completes cycle) entries
 
 -- the events, once this entry is Done
 abbrev with_done : List Event → Entry → List Event
@@ -63,32 +69,19 @@ events_all events (e ∷ es) =
 
 -- ---- the phase
 
--- with the entries from a position on, these parts and this row come to what the first ones come to with all
-pub record CompletesOn (cycle : ℕ) (rob : Ring) (stations : Stations) (q : Queues) (row : Row) (i : ℕ) (r : Ring) (s : Stations) (t : Queues) (now : Row) : Type 0 where
-  pub entries : r.entries ≡ map (completed cycle) (take i rob.entries) ++ drop i rob.entries
-  pub held : woken (finished cycle (drop i rob.entries)) s.held ≡ woken (finished cycle rob.entries) stations.held
-  pub stores : noted (finished cycle (drop i rob.entries)) t.stores ≡ noted (finished cycle rob.entries) q.stores
-  pub events : fold with_done now.events (finished cycle (drop i rob.entries)) ≡ fold with_done row.events (finished cycle rob.entries)
-  pub same_room : r.room ≡ rob.room
-  pub same_places : s.room ≡ stations.room
-  pub same_loads : record t { stores = [] } ≡ record q { stores = [] }
-  pub same_cycle : now.cycle ≡ row.cycle
-  pub few : length now.events ≤ length row.events + i
-  pub ties : Ties rob.entries stations.held q r.entries s.held t
+-- the entries below a position are through
+abbrev through : ℕ → List Entry → ℕ → List Entry
+through cycle es i = map (completed cycle) (take i es) ++ drop i es
 
-pub completes_start : (cycle : ℕ) (rob : Ring) (stations : Stations) (q : Queues) (row : Row) → CompletesOn cycle rob stations q row 0 rob stations q row
-completes_start cycle rob stations q row = record {
-  entries = refl;
-  held = refl;
-  stores = refl;
-  events = refl;
-  same_room = refl;
-  same_places = refl;
-  same_loads = refl;
-  same_cycle = refl;
-  few = omega arith;
-  ties = ties_start rob.entries stations.held q;
-}
+-- with the entries from a position on, this machine and this row come to what the first ones come to with all
+pub record CompletesOn (s : Described) (row : Row) (i : ℕ) (now : Described) (row_now : Row) : Type 0 where
+  pub machine : now ≡ record s { machine = record (s.machine) { window = through s.machine.cycle s.machine.window i } }
+  pub events : fold with_done row_now.events (finished s.machine.cycle (drop i s.machine.window)) ≡ fold with_done row.events (finished s.machine.cycle s.machine.window)
+  pub same_cycle : row_now.cycle ≡ row.cycle
+  pub few : length row_now.events ≤ length row.events + i
+
+pub completes_start : (s : Described) (row : Row) → CompletesOn s row 0 s row
+completes_start s row = record { machine = refl; events = refl; same_cycle = refl; few = omega arith }
 
 -- one entry of the window
 entries_more : (cycle : ℕ) (es now : List Entry) (i : ℕ) (e : Entry) (b : Bool) → now ≡ map (completed cycle) (take i es) ++ drop i es → slice_get es i ≡ Some e → completes cycle e ≡ b →
@@ -97,85 +90,93 @@ entries_more cycle es now i e true n h c =
     ap₂ (λ ys y. slice_set ys i y) n (sym (ap (λ b. if b then done e else e) c)) ∙ map_set (completed cycle) es i e h
 entries_more cycle es now i e false n h c = n ∙ map_stays (completed cycle) es i e h (ap (λ b. if b then done e else e) c)
 
--- an entry becomes Done, or stays as it is
-turn : (cycle : ℕ) (rob : Ring) (stations : Stations) (q : Queues) (row : Row) (i : ℕ) (r : Ring) (s : Stations) (t : Queues) (now : Row) (e : Entry) (r2 : Ring) (s2 : Stations) (t2 : Queues) (now2 : Row) →
-    CompletesOn cycle rob stations q row i r s t now → slice_get r.entries i ≡ Some e →
-    r2 ≡ record r { entries = if completes cycle e then slice_set r.entries i (done e) else r.entries } →
-    s2 ≡ record s { held = if completes cycle e then map (struck e.serial) s.held else s.held } →
-    t2 ≡ record t { stores = if completes cycle e then known_with t.stores e else t.stores } →
-    now2 ≡ record now { events = if completes cycle e then with_done now.events e else now.events } → length now2.events ≤ length now.events + 1 →
-    CompletesOn cycle rob stations q row (i + 1) r2 s2 t2 now2
-turn cycle rob stations q row i r s t now e r2 s2 t2 now2 c g set woke told pushed few =
-    let es = rob.entries in
-    let b = completes cycle e in
-    let next : suc i ≡ i + 1 = omega arith in
-    let h : slice_get es i ≡ Some e = sym (get_mapped (completed cycle) es i) ∙ ap (λ ws. slice_get ws i) (sym c.entries) ∙ g in
-    let entries : r2.entries ≡ (if b then slice_set r.entries i (done e) else r.entries) = ap (λ (r : Ring). r.entries) set in
-    let held : s2.held ≡ (if b then map (struck e.serial) s.held else s.held) = ap (λ (s : Stations). s.held) woke in
-    let events : now2.events ≡ (if b then with_done now.events e else now.events) = ap (λ (r : Row). r.events) pushed in
-    let stores : t2.stores ≡ (if b then known_with t.stores e else t.stores) = ap (λ (q : Queues). q.stores) told in
-    record {
-      entries = entries ∙ entries_more cycle es r.entries i e b c.entries h refl ∙ ap (λ k. map (completed cycle) (take k es) ++ drop k es) next;
-      held = ap₂ (λ k hs. woken (finished cycle (drop k es)) hs) (sym next) held
-          ∙ sym (fold_left (λ hs (e : Entry). map (struck e.serial) hs) s.held (completes cycle) es i e h) ∙ c.held;
-      stores = ap₂ (λ k ss. noted (finished cycle (drop k es)) ss) (sym next) stores ∙ sym (fold_left known_with t.stores (completes cycle) es i e h) ∙ c.stores;
-      events = ap₂ (λ k vs. fold with_done vs (finished cycle (drop k es))) (sym next) events ∙ sym (fold_left with_done now.events (completes cycle) es i e h) ∙ c.events;
-      same_room = ap (λ (r : Ring). r.room) set ∙ c.same_room;
-      same_places = ap (λ (s : Stations). s.room) woke ∙ c.same_places;
-      same_loads = ap (λ (q : Queues). record q { stores = [] }) told ∙ c.same_loads;
-      same_cycle = ap (λ (r : Row). r.cycle) pushed ∙ c.same_cycle;
-      few = omega (arith, few, c.few);
-      ties =
-          subst (λ ws. Ties es stations.held q ws s2.held t2) (sym entries)
-          (subst (λ hs. Ties es stations.held q (if b then slice_set r.entries i (done e) else r.entries) hs t2) (sym held)
-          (subst (λ t. Ties es stations.held q (if b then slice_set r.entries i (done e) else r.entries) (if b then map (struck e.serial) s.held else s.held) t) (sym told)
-          (ties_more cycle es stations.held q r.entries s.held t i e b c.ties g refl)));
-    }
-
 -- what is told of the entry at a position
 told_of : (p : Entry → Bool) (o : Option Entry) (e : Entry) (b : Bool) → option_map p o ≡ Some b → o ≡ Some e → b ≡ p e
 told_of p o e b h g = let k : Some b ≡ Some (p e) = sym h ∙ ap (option_map p) g in cc
 
--- the entry at a position is due, and becomes Done
-pub completes_more : (cycle : ℕ) (rob : Ring) (stations : Stations) (q : Queues) (row : Row) (i : ℕ) (r : Ring) (s : Stations) (t : Queues) (now : Row) (e : Entry) (r2 : Ring) (s2 : Stations) (t2 : Queues) (now2 : Row) →
-    CompletesOn cycle rob stations q row i r s t now → option_map (completes cycle) (slice_get r.entries i) ≡ Some true → slice_get r.entries i ≡ Some e →
-    r2 ≡ record r { entries = slice_set r.entries i (done e) } →
-    s2 ≡ record s { held = map (struck e.serial) s.held } →
-    t2 ≡ record t { stores = known_with t.stores e } →
-    now2 ≡ record now { events = with_done now.events e } → length now2.events ≤ length now.events + 1 →
-    CompletesOn cycle rob stations q row (i + 1) r2 s2 t2 now2
-completes_more cycle rob stations q row i r s t now e r2 s2 t2 now2 c due g set woke told pushed few =
-    let d = told_of (completes cycle) (slice_get r.entries i) e true due g in
-    turn cycle rob stations q row i r s t now e r2 s2 t2 now2 c g
-    (set ∙ ap (λ b. record r { entries = if b then slice_set r.entries i (done e) else r.entries }) d)
-    (woke ∙ ap (λ b. record s { held = if b then map (struck e.serial) s.held else s.held }) d)
-    (told ∙ ap (λ b. record t { stores = if b then known_with t.stores e else t.stores }) d)
-    (pushed ∙ ap (λ b. record now { events = if b then with_done now.events e else now.events }) d)
-    few
+module _ (s : Described) (row : Row) (i : ℕ) (now : Described) (row_now : Row) (c : CompletesOn s row i now row_now) where
+  entries_are : now.machine.window ≡ through s.machine.cycle s.machine.window i
+  entries_are = ap (λ (s : Described). s.machine.window) c.machine
 
-past_by : (cycle : ℕ) (rob : Ring) (stations : Stations) (q : Queues) (row : Row) (i : ℕ) (r : Ring) (s : Stations) (t : Queues) (now : Row) (o : Option Entry) →
-    CompletesOn cycle rob stations q row i r s t now → slice_get r.entries i ≡ o → option_map (completes cycle) o ≡ Some false →
-    CompletesOn cycle rob stations q row (i + 1) r s t now
-past_by cycle rob stations q row i r s t now None c g due = absurd (cc)
-past_by cycle rob stations q row i r s t now (Some e) c g due =
-    let d = told_of (completes cycle) (Some e) e false due refl in
-    turn cycle rob stations q row i r s t now e r s t now c g
-    (ap (λ b. record r { entries = if b then slice_set r.entries i (done e) else r.entries }) d)
-    (ap (λ b. record s { held = if b then map (struck e.serial) s.held else s.held }) d)
-    (ap (λ b. record t { stores = if b then known_with t.stores e else t.stores }) d)
-    (ap (λ b. record now { events = if b then with_done now.events e else now.events }) d)
-    (omega arith)
+  as_it_was : (e : Entry) → slice_get now.machine.window i ≡ Some e → slice_get s.machine.window i ≡ Some e
+  as_it_was e g = sym (get_mapped (completed s.machine.cycle) s.machine.window i) ∙ ap (λ ws. slice_get ws i) (sym entries_are) ∙ g
 
--- it is not, and all stays
-pub completes_past : (cycle : ℕ) (rob : Ring) (stations : Stations) (q : Queues) (row : Row) (i : ℕ) (r : Ring) (s : Stations) (t : Queues) (now : Row) →
-    CompletesOn cycle rob stations q row i r s t now → option_map (completes cycle) (slice_get r.entries i) ≡ Some false →
-    CompletesOn cycle rob stations q row (i + 1) r s t now
-completes_past cycle rob stations q row i r s t now c due = past_by cycle rob stations q row i r s t now (slice_get r.entries i) c refl due
+  -- the entry at the position is due, and becomes Done
+  pub completes_more : (e : Entry) (next : Described) (row_next : Row) → option_map (completes now.machine.cycle) (slice_get now.machine.window i) ≡ Some true → slice_get now.machine.window i ≡ Some e →
+      next ≡ record now { machine = record (now.machine) { window = slice_set now.machine.window i (done e) } } → row_next ≡ record row_now { events = row_now.events ++ event.Done e.serial ∷ [] } →
+      CompletesOn s row (i + 1) next row_next
+  completes_more e next row_next due g n r =
+      let due2 = ap (λ (s : Described). option_map (completes s.machine.cycle) (slice_get now.machine.window i)) (sym c.machine) ∙ due in
+      let d : completes s.machine.cycle e ≡ true = sym (told_of (completes s.machine.cycle) (slice_get now.machine.window i) e true due2 g) in
+      let h = as_it_was e g in
+      let next_is : suc i ≡ i + 1 = omega arith in
+      let events : row_next.events ≡ with_done row_now.events e = ap (λ (r : Row). r.events) r in
+      let more = length-append row_now.events (event.Done e.serial ∷ []) in
+      let longer = ap length events in
+      record {
+        machine = n ∙ ap (λ (now : Described). record now { machine = record (now.machine) { window = slice_set now.machine.window i (done e) } }) c.machine
+            ∙ ap (λ w. record s { machine = record (s.machine) { window = w } }) (entries_more s.machine.cycle s.machine.window (through s.machine.cycle s.machine.window i) i e true refl h d ∙ ap (through s.machine.cycle s.machine.window) next_is);
+        events = ap₂ (λ k vs. fold with_done vs (finished s.machine.cycle (drop k s.machine.window))) (sym next_is) events
+            ∙ ap (λ b. fold with_done (if b then with_done row_now.events e else row_now.events) (finished s.machine.cycle (drop (suc i) s.machine.window))) (sym d)
+            ∙ sym (fold_left with_done row_now.events (completes s.machine.cycle) s.machine.window i e h) ∙ c.events;
+        same_cycle = ap (λ (r : Row). r.cycle) r ∙ c.same_cycle;
+        few = omega (arith, more, longer, c.few);
+      }
 
--- ---- all entries
+  past_by : (o : Option Entry) → slice_get now.machine.window i ≡ o → option_map (completes now.machine.cycle) o ≡ Some false → CompletesOn s row (i + 1) now row_now
+  past_by None g due = absurd (cc)
+  past_by (Some e) g due =
+      let due2 = ap (λ (s : Described). option_map (completes s.machine.cycle) (Some e)) (sym c.machine) ∙ due in
+      let d : completes s.machine.cycle e ≡ false = sym (told_of (completes s.machine.cycle) (Some e) e false due2 refl) in
+      let h = as_it_was e g in
+      let next_is : suc i ≡ i + 1 = omega arith in
+      record {
+        machine = c.machine ∙ ap (λ w. record s { machine = record (s.machine) { window = w } })
+            (entries_more s.machine.cycle s.machine.window (through s.machine.cycle s.machine.window i) i e false refl h d ∙ ap (through s.machine.cycle s.machine.window) next_is);
+        events = ap (λ k. fold with_done row_now.events (finished s.machine.cycle (drop k s.machine.window))) (sym next_is)
+            ∙ ap (λ b. fold with_done (if b then with_done row_now.events e else row_now.events) (finished s.machine.cycle (drop (suc i) s.machine.window))) (sym d)
+            ∙ sym (fold_left with_done row_now.events (completes s.machine.cycle) s.machine.window i e h) ∙ c.events;
+        same_cycle = c.same_cycle;
+        few = omega (arith, c.few);
+      }
 
-pub row_over : (cycle : ℕ) (rob : Ring) (stations : Stations) (q : Queues) (row : Row) (i : ℕ) (r : Ring) (s : Stations) (t : Queues) (now : Row) → CompletesOn cycle rob stations q row i r s t now →
-    length rob.entries ≤ i → (x : Machine) → now ≡ record row { events = row.events ++ (completes_all rob cycle x).events }
-row_over cycle rob stations q row i r s t now c le x =
-    let none = ap (λ es. fold with_done now.events (finished cycle es)) (sym (drop_all i rob.entries le)) in
-    ap₂ (λ n es. record { cycle = n; events = es }) c.same_cycle (none ∙ c.events ∙ events_all row.events (finished cycle rob.entries))
+  -- it is not, and all stays
+  pub completes_past : option_map (completes now.machine.cycle) (slice_get now.machine.window i) ≡ Some false → CompletesOn s row (i + 1) now row_now
+  completes_past due = past_by (slice_get now.machine.window i) refl due
+
+  -- there are as many entries as there were
+  pub as_many : i ≤ length s.machine.window → length now.machine.window ≡ length s.machine.window
+  as_many l =
+      let a = ap length entries_are in
+      let b = length-append (map (completed s.machine.cycle) (take i s.machine.window)) (drop i s.machine.window) in
+      let c2 = length-map (take i s.machine.window) (completed s.machine.cycle) in
+      let d = length-append (take i s.machine.window) (drop i s.machine.window) in
+      let f = ap length (halves i s.machine.window) in
+      omega (arith, a, b, c2, d, f)
+
+  -- ---- all entries
+
+  pub machine_over : length s.machine.window ≤ i → now ≡ record s { machine = (complete s.machine).machine }
+  machine_over le =
+      c.machine
+      ∙ ap₂ (λ a b. record s { machine = record (s.machine) { window = map (completed s.machine.cycle) a ++ b } }) (take_all i s.machine.window le) (drop_all i s.machine.window le)
+      ∙ ap (λ w. record s { machine = record (s.machine) { window = w } }) (append-nil (map (completed s.machine.cycle) s.machine.window))
+
+  pub row_over : length s.machine.window ≤ i → row_now ≡ record row { events = row.events ++ (complete s.machine).events }
+  row_over le =
+      let none = ap (λ es. fold with_done row_now.events (finished s.machine.cycle es)) (sym (drop_all i s.machine.window le)) in
+      ap₂ (λ n es. record { cycle = n; events = es }) c.same_cycle (none ∙ c.events ∙ events_all row.events (finished s.machine.cycle s.machine.window))
+
+-- ---- what is due doesn't wait
+
+not_waiting : (cycle : ℕ) (s : Progress) → completes_at cycle s ≡ true → is_waiting s ≡ false
+not_waiting cycle Waiting h = absurd (cc)
+not_waiting cycle (Busy due) h = refl
+not_waiting cycle Done h = refl
+
+due_by : (cycle : ℕ) (o : Option Entry) → option_map (completes cycle) o ≡ Some true → option_map (λ e. is_waiting e.state) o ≡ Some false
+due_by cycle None h = absurd (cc)
+due_by cycle (Some e) h = ap Some (not_waiting cycle e.state (let k : Some (completes cycle e) ≡ Some true = h in cc))
+
+pub due_waits : (cycle i : ℕ) (w : List Entry) → option_map (completes cycle) (slice_get w i) ≡ Some true → option_map (λ e. is_waiting e.state) (slice_get w i) ≡ Some false
+due_waits cycle i w h = due_by cycle (slice_get w i) h

@@ -1,60 +1,35 @@
 //! The phase: entry by entry, from the oldest on.
-ghost use Rattle.std.specs.Prelude.{◌≡◌, ◌<◌, ◌∷◌, [], ℕ, List, Option, Some, length, map, slice_get, slice_set};
-ghost use Rattle.std.specs.List.{AllPairs, AllZip};
+ghost use Rattle.std.specs.Prelude.{◌≡◌, ◌<◌, false, length, Some, slice_get};
 ghost use Rattle.std.specs.Option.{option_map};
-ghost use Rattle.window_model.specs.declared.Event.TheVariants as event;
-ghost use Rattle.window_model.specs.declared.State.TheVariants.{Done};
-ghost use Rattle.window_model.specs.Fill.{completes, completes_at};
+ghost use Rattle.window_model.specs.declared.Progress.TheVariants.{Done};
+ghost use Rattle.window_model.specs.Fill.{complete, completes, completes_at};
+ghost use Rattle.window_model.specs.Order.{is_waiting};
 ghost use Rattle.window_model.specs.Retire.{width_of};
-ghost use Rattle.window_model.specs.Row.{HasRoom, IsLonger, with_events};
-ghost use Rattle.window_model.specs.State.{Machine};
-ghost use Rattle.stations.specs.Stations.{struck};
-ghost use Rattle.visibility.specs.Point.{Point};
-ghost use Rattle.queue_laws.specs.Window.{StandFor};
-ghost use Rattle.parts_stand.specs.Parts.{Parts, Stand};
-ghost use Rattle.parts_stand.specs.Steps.{GoesOn};
-ghost use Rattle.parts_stand.specs.Addresses.{AddressesStand};
-ghost use Rattle.parts_stand.specs.Points.{PointStands};
-ghost use Rattle.complete.specs.Parts.{with_parts, completes_all, holding};
-ghost use Rattle.complete.specs.Telling.{finished, woken, noted, known_with, width_for};
+ghost use Rattle.window_model.specs.Row.{HasRoom, IsLonger, most_done, with_events};
+ghost use Rattle.core_parts.specs.Described.{with_window};
+ghost use Rattle.core_parts.specs.Steps.{known_with};
+ghost use Rattle.complete.specs.Completed.{done_at, width_for};
 
+use core_parts::Parts;
 use lsq::Lsq;
+use rename_taint::RenameTaint;
 use rob_ring::RobRing;
 use rv_types::Width;
-use stations::Stations;
-use window_model::{Entry, Event, Row, State};
+use window_model::{Entry, Event, Progress, Row};
 
-/// Phase Complete of this cycle: each entry that is Busy until then becomes Done, oldest first, with its event. What it
-/// leaves is what the definition leaves of every machine with this window in this cycle.
-///
-/// The stations are told of each of these entries, so that none awaits it any more, and the queue of stores of what each
-/// store among them writes. Parts that stand for the window go on to do so.
-pub fn complete(
-    rob: &mut RobRing,
-    stations: &mut Stations,
-    lsq: &mut Lsq,
-    cycle: u64,
-    row: &mut Row,
-)
-    requires room { HasRoom rob.old.room row.old }
-    ensures state { (x : Machine) → with_parts rob.new cycle x ≡ (completes_all rob.old cycle x).machine }
-    ensures row { (x : Machine) → row.new ≡ with_events row.old (completes_all rob.old cycle x).events }
-    ensures same_room { rob.new.room ≡ rob.old.room }
-    ensures stations { stations.new ≡ record stations.old { held = woken (finished cycle rob.old.entries) stations.old.held } }
-    ensures lsq { lsq.new ≡ record lsq.old { stores = noted (finished cycle rob.old.entries) lsq.old.stores } }
-    ensures goes_on { AllZip GoesOn rob.old.entries rob.new.entries }
-    ensures stand { (p : Parts) → Stand (holding rob.old stations.old p) → Stand (holding rob.new stations.new p) }
-    ensures queues_stand { AllPairs (λ a b. a.serial < b.serial) rob.old.entries → StandFor lsq.old rob.old.entries → StandFor lsq.new rob.new.entries }
-    ensures addresses_stand { (roots : List (List (Option ℕ))) → AddressesStand rob.old.entries roots lsq.old.stores → AddressesStand rob.new.entries roots lsq.new.stores }
-    ensures point_stands { (point : Point) (next : ℕ) → PointStands point next rob.old.entries → PointStands point next rob.new.entries }
-    ensures few { IsLonger rob.old.room row.old row.new }
+/// Phase Complete: each entry that is Busy until this cycle becomes Done, oldest first, with its event.
+pub fn complete<R: RenameTaint>(parts: &mut Parts<R>, row: &mut Row)
+    requires room { HasRoom most_done row.old }
+    ensures machine { parts.new ≡ record parts.old { machine = (complete parts.old.machine).machine } }
+    ensures row { row.new ≡ with_events row.old (complete parts.old.machine).events }
+    ensures few { IsLonger most_done row.old row.new }
 {
-    for i in 0..rob.len() {
-        if !is_due_at(rob, i, cycle) {
+    for i in 0..parts.rob.len() {
+        if !is_due_at(&parts.rob, i, parts.cycle as u64) {
             continue;
         }
-        let entry = rob.at(i);
-        complete_entry(i, &entry, rob, stations, lsq, row);
+        let entry = finish(i, parts);
+        row.push(Event::Done(entry.serial));
     }
 }
 
@@ -67,36 +42,27 @@ fn is_due_at(rob: &RobRing, i: u32, cycle: u64) -> bool
 }
 
 // Whether an entry in this state is.
-fn is_due(state: State, cycle: u64) -> bool
+fn is_due(state: Progress, cycle: u64) -> bool
     ensures { result ≡ completes_at cycle state }
 {
     match state {
-        State::Busy(due) => due == cycle,
+        Progress::Busy(due) => due == cycle,
         _ => false,
     }
 }
 
-// The entry at a position becomes Done.
-fn complete_entry(
-    i: u32,
-    entry: &Entry,
-    rob: &mut RobRing,
-    stations: &mut Stations,
-    lsq: &mut Lsq,
-    row: &mut Row,
-)
-    requires here { i < length rob.old.entries }
-    requires room { HasRoom 1 row.old }
-    ensures rob { rob.new ≡ record rob.old { entries = slice_set rob.old.entries i (record entry.now { state = Done }) } }
-    ensures stations { stations.new ≡ record stations.old { held = map (struck entry.now.serial) stations.old.held } }
-    ensures lsq { lsq.new ≡ record lsq.old { stores = known_with lsq.old.stores entry.now } }
-    ensures row { row.new ≡ with_events row.old (event.Done entry.now.serial ∷ []) }
-    ensures few { IsLonger 1 row.old row.new }
+// The entry at a position, which doesn't wait, becomes Done: no station awaits it any more, and what it writes is known, if it is
+// a store. The answer is the entry as it was.
+fn finish<R: RenameTaint>(i: u32, parts: &mut Parts<R>) -> Entry
+    requires { option_map (λ e. is_waiting e.state) (slice_get parts.old.machine.window i) ≡ Some false }
+    ensures entry { slice_get parts.old.machine.window i ≡ Some result }
+    ensures machine { parts.new ≡ with_window (done_at i result parts.old.machine.window) parts.old }
 {
-    rob.set(i, done(entry));
-    stations.wake(entry.serial);
-    note_store(entry, lsq);
-    row.push(Event::Done(entry.serial));
+    let entry = parts.rob.at(i);
+    parts.rob.set(i, done(&entry));
+    parts.stations.wake(entry.serial);
+    note_store(&entry, &mut parts.lsq);
+    entry
 }
 
 // The entry, once it is Done.
@@ -104,14 +70,16 @@ fn done(entry: &Entry) -> Entry
     ensures { result ≡ record entry.now { state = Done } }
 {
     Entry {
-        state: State::Done,
+        state: Progress::Done,
         ..*entry
     }
 }
 
 // What an entry writes that is Done is known to the queue of stores, if it is a store.
 fn note_store(entry: &Entry, lsq: &mut Lsq)
-    ensures { lsq.new ≡ record lsq.old { stores = known_with lsq.old.stores entry.now } }
+    ensures { lsq.new ≡ record lsq.old {
+      stores = known_with (width_for (width_of entry.now)) entry.now lsq.old.stores;
+    } }
 {
     if entry.is_store() {
         lsq.store_known(
@@ -125,7 +93,7 @@ fn note_store(entry: &Entry, lsq: &mut Lsq)
 }
 
 // The width of the entry's access.
-#[tactic(auto, using(crate::proofs::Widths::width_is))]
+#[tactic(auto, using(crate::proofs::Width::width_is))]
 fn width_of(entry: &Entry) -> Width
     ensures { result ≡ width_for (width_of entry.now) }
 {

@@ -18,9 +18,9 @@ use Rattle.window_model.proofs.Walks.{fetch_keep}
 use Rattle.machine_facts.proofs.Adds.{fill_adds, complete_adds, resolve_adds, retire_turns}
 use Rattle.quiet_cycles.specs.Still.{NothingDueBefore, StillUntil, empty_row}
 use Rattle.visibility.specs.Point.{HasAdvanced}
-use Rattle.core_cycle.specs.Described.{Described}
+use Rattle.core_parts.specs.Described.{Described, fetch_of}
 use Rattle.core_cycle.specs.Kept.{Kept, KeptUntil}
-use Rattle.core_cycle.specs.Phases.{front}
+use Rattle.core_cycle.specs.Phases.{back_of, front_of}
 use Rattle.core_cycle.proofs.Passing.{commits_after, kept_after, still_after}
 
 -- ---- fetching leaves the window as it is
@@ -28,31 +28,38 @@ use Rattle.core_cycle.proofs.Passing.{commits_after, kept_after, still_after}
 fetched_window : (d : Desc) (code : Code) (x : Machine) → (fetch d code x).machine.window ≡ x.window
 fetched_window d code x = fetch_keep d (λ y. y.window ≡ x.window) code (λ y pc q r k. k) x refl
 
-pub fetched_advanced : (code : Code) (s s1 : Described) → s1 ≡ record s { machine = (fetch s.desc code s.machine).machine } → HasAdvanced s.point s.machine.window → HasAdvanced s1.point s1.machine.window
-fetched_advanced code s s1 e a =
-    subst (λ (s : Described). HasAdvanced s.point s.machine.window) (sym e) (subst (HasAdvanced s.point) (sym (fetched_window s.desc code s.machine)) a)
+pub fetched_advanced : (s s1 : Described) → s1 ≡ record s { machine = (fetch_of s).machine } → HasAdvanced s.point s.machine.window → HasAdvanced s1.point s1.machine.window
+fetched_advanced s s1 e a =
+    subst (λ (s : Described). HasAdvanced s.point s.machine.window) (sym e) (subst (HasAdvanced s.point) (sym (fetched_window s.desc (word_at s.code) s.machine)) a)
 
 -- ---- what each step of a cycle leaves
 
 abbrev begun : Machine → Machine
 begun x = record x { cycle = x.cycle + 1 }
 
--- it begins, and the phases before Retire go
+-- it begins
+abbrev starts : Described → Described
+starts s = record s { machine = begun s.machine }
+
+-- and the phases before Retire go
 pub record Fronts (s s1 s2 : Described) : Type 0 where
-  pub begins : s1 ≡ record s { machine = begun s.machine }
-  pub desc : s2.desc ≡ s1.desc
-  pub machine : s2.machine ≡ (front s1.desc s1.machine).machine
+  pub begins : s1 ≡ starts s
+  pub goes : s2 ≡ record s1 { machine = (front_of s1).machine; point = s2.point }
 
 -- Retire goes
-abbrev Leaves : Described → Described → Type 0
+abbrev pub Leaves : Described → Described → Type 0
 Leaves s2 s3 = s3 ≡ record s2 { machine = (retire s2.desc s2.machine).machine }
 
+-- and those after it
+abbrev pub Backs : Described → Described → Type 0
+Backs s3 s4 = s4 ≡ record s3 { machine = (back_of s3).machine; point = s4.point }
+
 -- a row without events, and what each of these adds to it
-pub record Writes (code : Code) (s s1 s2 s3 : Described) (r1 r2 r3 r4 : Row) : Type 0 where
+pub record Writes (s s1 s2 s3 : Described) (r1 r2 r3 r4 : Row) : Type 0 where
   pub begins : r1 ≡ empty_row (s.machine.cycle + 1)
-  pub fronts : r2 ≡ record r1 { events = r1.events ++ (front s1.desc s1.machine).events }
+  pub fronts : r2 ≡ record r1 { events = r1.events ++ (front_of s1).events }
   pub retires : r3 ≡ record r2 { events = r2.events ++ (retire s2.desc s2.machine).events }
-  pub backs : r4 ≡ record r3 { events = r3.events ++ (back s3.desc code s3.machine).events }
+  pub backs : r4 ≡ record r3 { events = r3.events ++ (back_of s3).events }
 
 abbrev written : ℕ → List Event → List Event → List Event → Row
 written number f r b = record { cycle = number; events = f ++ r ++ b }
@@ -62,28 +69,31 @@ joined : (number : ℕ) (f r b : List Event) (r1 r2 r3 r4 : Row) → r1 ≡ empt
 joined number f r b r1 r2 r3 r4 e1 e2 e3 e4 = cc
 
 -- all of them are the written cycle
-abbrev all : Desc → Code → Machine → Cycled
-all d code x =
-    let f = front d (begun x) in
-    let r = retire d f.machine in
-    let b = back d code r.machine in
-    record { machine = b.machine; row = written (x.cycle + 1) f.events r.events b.events; piece = r.piece }
+abbrev all : Described → Cycled
+all s =
+    let f = front_of (starts s) in
+    let r = retire s.desc f.machine in
+    let b = back s.desc (word_at s.code) r.machine in
+    record { machine = b.machine; row = written (s.machine.cycle + 1) f.events r.events b.events; piece = r.piece }
 
-whole : (d : Desc) (code : Code) (x : Machine) → all d code x ≡ cycle d code x
+whole : (s : Described) → all s ≡ cycle s.desc (word_at s.code) s.machine
 unfolding cycle
-whole d code x = refl
+whole s = refl
 
 -- ---- until Retire, the count of the retired, the end and the next serial are as they were
 
 module _ (s s1 s2 : Described) (p : Fronts s s1 s2) where
   desc_fronted : s2.desc ≡ s.desc
-  desc_fronted = p.desc ∙ ap (λ (s : Described). s.desc) p.begins
+  desc_fronted = ap (λ (s : Described). s.desc) p.goes ∙ ap (λ (s : Described). s.desc) p.begins
 
-  fronted : front s1.desc s1.machine ≡ front s.desc (begun s.machine)
-  fronted = ap (λ (s : Described). front s.desc s.machine) p.begins
+  code_fronted : s2.code ≡ s.code
+  code_fronted = ap (λ (s : Described). s.code) p.goes ∙ ap (λ (s : Described). s.code) p.begins
+
+  fronted : front_of s1 ≡ front_of (starts s)
+  fronted = ap front_of p.begins
 
   machine_fronted : s2.machine ≡ before_retire s.desc s.machine
-  machine_fronted = p.machine ∙ ap (λ (a : After). a.machine) fronted
+  machine_fronted = ap (λ (s : Described). s.machine) p.goes ∙ ap (λ (a : After). a.machine) fronted
 
   pub end_stays : s2.machine.end ≡ s.machine.end
   end_stays = ap (λ (x : Machine). x.end) machine_fronted ∙ (front_quiet s.desc s.machine).ended
@@ -98,6 +108,9 @@ module _ (s s1 s2 : Described) (p : Fronts s s1 s2) where
   module _ (s3 : Described) (q : Leaves s2 s3) where
     desc_left : s3.desc ≡ s.desc
     desc_left = ap (λ (s : Described). s.desc) q ∙ desc_fronted
+
+    code_left : s3.code ≡ s.code
+    code_left = ap (λ (s : Described). s.code) q ∙ code_fronted
 
     machine_left : s3.machine ≡ (retire s.desc (before_retire s.desc s.machine)).machine
     machine_left = ap (λ (s : Described). s.machine) q ∙ ap (λ (r : Retired). r.machine) retired
@@ -115,49 +128,59 @@ module _ (s s1 s2 : Described) (p : Fronts s s1 s2) where
 
     -- ---- what a cycle comes to, what it keeps, and what it retires
 
-    module _ (code : Code) (s4 : Described) (k : s4.machine ≡ (back s3.desc code s3.machine).machine) where
-      backed : back s3.desc code s3.machine ≡ back s.desc code (retire s.desc (before_retire s.desc s.machine)).machine
-      backed = ap₂ (λ d x. back d code x) desc_left machine_left
+    module _ (s4 : Described) (k : Backs s3 s4) where
+      backed : back_of s3 ≡ back s.desc (word_at s.code) (retire s.desc (before_retire s.desc s.machine)).machine
+      backed =
+          ap (λ d. back d (word_at s3.code) s3.machine) desc_left
+          ∙ ap (λ code. back s.desc (word_at code) s3.machine) code_left
+          ∙ ap (back s.desc (word_at s.code)) machine_left
 
-      machine_is : s4.machine ≡ (cycle s.desc code s.machine).machine
-      machine_is = k ∙ ap (λ (a : After). a.machine) backed ∙ ap (λ (c : Cycled). c.machine) (whole s.desc code s.machine)
+      desc_backed : s4.desc ≡ s.desc
+      desc_backed = ap (λ (s : Described). s.desc) k ∙ desc_left
 
-      piece_is : (retire s2.desc s2.machine).piece ≡ (cycle s.desc code s.machine).piece
-      piece_is = ap (λ (r : Retired). r.piece) retired ∙ ap (λ (c : Cycled). c.piece) (whole s.desc code s.machine)
+      code_backed : s4.code ≡ s.code
+      code_backed = ap (λ (s : Described). s.code) k ∙ code_left
 
-      row_is : (r1 r2 r3 r4 : Row) → Writes code s s1 s2 s3 r1 r2 r3 r4 → r4 ≡ (cycle s.desc code s.machine).row
+      machine_is : s4.machine ≡ (cycle s.desc (word_at s.code) s.machine).machine
+      machine_is = ap (λ (s : Described). s.machine) k ∙ ap (λ (a : After). a.machine) backed ∙ ap (λ (c : Cycled). c.machine) (whole s)
+
+      piece_is : (retire s2.desc s2.machine).piece ≡ (cycle s.desc (word_at s.code) s.machine).piece
+      piece_is = ap (λ (r : Retired). r.piece) retired ∙ ap (λ (c : Cycled). c.piece) (whole s)
+
+      row_is : (r1 r2 r3 r4 : Row) → Writes s s1 s2 s3 r1 r2 r3 r4 → r4 ≡ (cycle s.desc (word_at s.code) s.machine).row
       row_is r1 r2 r3 r4 w =
           let number = s.machine.cycle + 1 in
-          let f = front s.desc (begun s.machine) in
+          let f = front_of (starts s) in
           let r = retire s.desc (before_retire s.desc s.machine) in
-          joined number (front s1.desc s1.machine).events (retire s2.desc s2.machine).events (back s3.desc code s3.machine).events r1 r2 r3 r4 w.begins w.fronts w.retires w.backs
-          ∙ ap (λ (f : After). written number f.events (retire s2.desc s2.machine).events (back s3.desc code s3.machine).events) fronted
-          ∙ ap (λ (r : Retired). written number f.events r.events (back s3.desc code s3.machine).events) retired
+          joined number (front_of s1).events (retire s2.desc s2.machine).events (back_of s3).events r1 r2 r3 r4 w.begins w.fronts w.retires w.backs
+          ∙ ap (λ (f : After). written number f.events (retire s2.desc s2.machine).events (back_of s3).events) fronted
+          ∙ ap (λ (r : Retired). written number f.events r.events (back_of s3).events) retired
           ∙ ap (λ (b : After). written number f.events r.events b.events) backed
-          ∙ ap (λ (c : Cycled). c.row) (whole s.desc code s.machine)
+          ∙ ap (λ (c : Cycled). c.row) (whole s)
 
       -- the written cycle
-      pub cycle_is : (r1 r2 r3 r4 : Row) (piece : List ℕ) → Writes code s s1 s2 s3 r1 r2 r3 r4 → piece ≡ (retire s2.desc s2.machine).piece →
-          record { machine = s4.machine; row = r4; piece = piece } ≡ cycle s.desc code s.machine
+      pub cycle_is : (r1 r2 r3 r4 : Row) (piece : List ℕ) → Writes s s1 s2 s3 r1 r2 r3 r4 → piece ≡ (retire s2.desc s2.machine).piece →
+          record { machine = s4.machine; row = r4; piece = piece } ≡ cycle s.desc (word_at s.code) s.machine
       cycle_is r1 r2 r3 r4 piece w p =
-          let c = cycle s.desc code s.machine in
+          let c = cycle s.desc (word_at s.code) s.machine in
           let whole : Machine → Row → List ℕ → Cycled = λ m r p. record { machine = m; row = r; piece = p } in
           ap (λ m. whole m r4 piece) machine_is ∙ ap (λ r. whole c.machine r piece) (row_is r1 r2 r3 r4 w) ∙ ap (whole c.machine c.row) (p ∙ piece_is)
 
-      module _ (aligned : Aligned code) (h : Kept code s) (n : s.machine.end ≡ None) where
+      module _ (aligned : Aligned (word_at s.code)) (h : Kept (word_at s.code) s) (n : s.machine.end ≡ None) where
         -- what retires are steps of the instruction set
-        pub cycle_retires : (piece : List ℕ) → piece ≡ (retire s2.desc s2.machine).piece → Commits code s.machine s4.machine piece
-        cycle_retires piece e = commits_after code s s4 machine_is aligned h n piece (e ∙ piece_is)
+        pub cycle_retires : (piece : List ℕ) → piece ≡ (retire s2.desc s2.machine).piece → Commits (word_at s.code) s.machine s4.machine piece
+        cycle_retires piece e = commits_after (word_at s.code) s s4 machine_is aligned h n piece (e ∙ piece_is)
 
         -- what holds in every state is kept, and what is known of the next cycles holds
-        pub cycle_kept : (r1 r2 r3 r4 : Row) → Writes code s s1 s2 s3 r1 r2 r3 r4 → s4.desc ≡ s3.desc → HasAdvanced s4.point s4.machine.window →
-            (until : ℕ) → (0 < until → r4.events ≡ []) → (0 < until → s4.machine.end ≡ None) → NothingDueBefore until s4.machine → KeptUntil until code s4
-        cycle_kept r1 r2 r3 r4 w same a until empty running due = record {
-          kept = kept_after code s s4 machine_is aligned h n a;
-          still =
-              subst (λ d. StillUntil until d code s4.machine) (sym (same ∙ desc_left))
-              (still_after until s.desc code s.machine _ (cycle_is r1 r2 r3 r4 _ w refl) empty running due);
-        }
+        pub cycle_kept : (r1 r2 r3 r4 : Row) → Writes s s1 s2 s3 r1 r2 r3 r4 → HasAdvanced s4.point s4.machine.window →
+            (until : ℕ) → (0 < until → r4.events ≡ []) → (0 < until → s4.machine.end ≡ None) → NothingDueBefore until s4.machine → KeptUntil until (word_at s4.code) s4
+        cycle_kept r1 r2 r3 r4 w a until empty running due =
+            subst (λ code. KeptUntil until (word_at code) s4) (sym code_backed) (record {
+              kept = kept_after (word_at s.code) s s4 machine_is aligned h n desc_backed a;
+              still =
+                  subst (λ d. StillUntil until d (word_at s.code) s4.machine) (sym desc_backed)
+                  (still_after until s.desc (word_at s.code) s.machine _ (cycle_is r1 r2 r3 r4 _ w refl) empty running due);
+            })
 
 -- a core's code stands at multiples of 4
 pub text_aligned : (code : CodeText) → Aligned (word_at code)

@@ -1,8 +1,7 @@
 -- As the oldest entries retire, what stands beside the window goes on to stand for it.
-use Rattle.std.proofs.Common.{◌≡◌, ◌≢◌, ℕ, suc, zero, ◌<◌, Bool, true, false, List, [], ◌∷◌, ◌++◌, length, drop, Option, refl, subst, arith}
+use Rattle.std.proofs.Common.{◌≡◌, ℕ, suc, zero, Bool, true, false, List, [], ◌∷◌, ◌++◌, length, drop, Option, refl, subst}
 use Rattle.std.specs.Prelude.{◌&&◌, ◌||◌, not}
-use Rattle.std.specs.List.{All, AllByRecursion as Each}
-use Rattle.std.proofs.lemmas.List.Elements.{All-weaker}
+use Rattle.std.specs.List.{AllByRecursion as Each}
 use Rattle.window_model.specs.declared.Entry.{Entry}
 use Rattle.window_model.specs.Order.{is_done, is_control}
 use Rattle.window_model.specs.Retire.{may_leave}
@@ -10,17 +9,10 @@ use Rattle.rename_taint.specs.declared.Write.{Write}
 use Rattle.rename_taint.specs.Writes.{without_retired}
 use Rattle.stations.specs.Stations.{Station}
 use Rattle.lsq.specs.Queues.{Queues}
-use Rattle.queue_laws.specs.Window.{Others}
-use Rattle.queue_laws.proofs.Keeping.{pop_stands}
 use Rattle.visibility.specs.Point.{Point}
-use Rattle.parts_stand.specs.Parts.{Parts}
-use Rattle.window_model.proofs.Serials.{rise_head}
-use Rattle.parts_stand.proofs.Standing.{retires_head}
-use Rattle.parts_stand.proofs.Writing.{writers_retire}
-use Rattle.parts_stand.proofs.Addressing.{addresses_retire}
-use Rattle.parts_stand.proofs.Moving.{point_retires}
 use Rattle.retire.specs.Gone.{MayRetire, without_each, without, popped}
-use Rattle.core_cycle.specs.Held.{Tied}
+use Rattle.core_parts.proofs.Steps.{stands_retired}
+use Rattle.core_cycle.proofs.Tied.{Tied}
 
 by_parts : (a b : Bool) → a && b ≡ true → a ≡ true
 by_parts true b m = refl
@@ -30,23 +22,12 @@ by_parts false b m = m
 leaves_done : (e : Entry) → may_leave e ≡ true → is_done e.state ≡ true
 leaves_done e m = by_parts (is_done e.state) (not (is_control e.item.kind) || e.resolved) m
 
--- none of those that are younger has its serial
-younger_differ : (e : Entry) (es : List Entry) → All (λ d. e.serial < d.serial) es → Others e.serial es
-younger_differ e es a = All-weaker (λ (d : Entry). e.serial < d.serial) (λ (d : Entry). d.serial ≢ e.serial) (λ d l. omega (arith, l)) es a
-
 -- the oldest entry goes
 one_gone : (next : ℕ) (e : Entry) (es : List Entry) (roots writers : List (List (Option ℕ))) (writes : List Write) (held : List Station) (q : Queues) (point : Point) →
     is_done e.state ≡ true → Tied next (e ∷ es) roots writers writes held q point →
     Tied next es (drop 1 roots) (drop 1 writers) (without_retired e.serial writes) held (without e.serial q) point
 one_gone next e es roots writers writes held q point d t =
-    let parts : Parts = record { next = next; window = e ∷ es; roots = roots; writes = writes; held = held } in
-    record {
-      stand = retires_head parts e t.stand refl d;
-      writers_stand = writers_retire parts writers t.stand t.writers_stand;
-      queues_stand = pop_stands q e es t.queues_stand (younger_differ e es (rise_head e es t.stand.rise));
-      addresses_stand = addresses_retire parts q.stores e t.stand t.addresses_stand refl;
-      point_stands = point_retires point next (e ∷ es) t.point_stands;
-    }
+    stands_retired (record { next = next; window = e ∷ es; roots = roots; writers = writers; writes = writes; held = held; queues = q; point = point }) e t refl d
 
 -- pairs by position
 abbrev pub Pairs : Type 0

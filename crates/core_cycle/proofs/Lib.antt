@@ -1,12 +1,6 @@
-pub mod Viewed
-pub mod Wholes
+pub mod Tied
 pub mod Leaving
 pub mod Retiring
-pub mod Resolving
-pub mod Opening
-pub mod Lending
-pub mod Issuing
-pub mod Renaming
 pub mod Advanced
 pub mod Moving
 pub mod Passing

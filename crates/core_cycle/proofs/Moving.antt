@@ -1,10 +1,9 @@
 -- Where the visibility point needn't move: it says of what a phase leaves which entries are visible, as it said of the window
 -- before.
-use Rattle.std.proofs.Common.{◌≡◌, ◌≤◌, ◌++◌, List, [], length, ap, sym, ◌∙◌, subst, arith}
+use Rattle.std.proofs.Common.{◌≡◌, ◌++◌, List, [], length, ap, sym, subst, arith}
 use Rattle.std.proofs.lemmas.List.{length-append, nil_from_length}
 use Rattle.std.specs.List.{AllByRecursion as Each}
 use Rattle.machine_desc.specs.declared.Desc.{Desc}
-use Rattle.machine_desc.specs.declared.SttModel.TheVariants.{Spectre}
 use Rattle.window_model.specs.declared.Event.{Event}
 use Rattle.window_model.specs.Fill.{complete}
 use Rattle.window_model.specs.Front.{rename, CallAlone}
@@ -15,15 +14,10 @@ use Rattle.quiet_cycles.proofs.Early.{complete_nothing, none_done, none_resolves
 use Rattle.quiet_cycles.proofs.Front.{rename_nothing}
 use Rattle.visibility.specs.Point.{HasAdvanced, Point}
 use Rattle.rob_ring.specs.Ring.{Ring}
-use Rattle.cache_tags.specs.Sets.{Cache}
-use Rattle.mshr_file.specs.Registers.{Registers}
-use Rattle.unit_ports.specs.Ports.{Ports}
-use Rattle.complete.specs.Parts as completing
-use Rattle.issue.specs.Parts as issuing
 use Rattle.retire.specs.Gone.{gone, MayRetire}
-use Rattle.core_cycle.specs.Described.{Described}
-use Rattle.core_cycle.specs.Held.{Held, Whole, described, machine_of}
-use Rattle.core_cycle.proofs.Advanced.{complete_advanced, issue_advanced, retire_advanced}
+use Rattle.core_parts.specs.Described.{Described}
+use Rattle.core_parts.specs.Held.{Held, Whole, described}
+use Rattle.core_cycle.proofs.Advanced.{retire_advanced}
 
 -- ---- a phase without events leaves the window as it was
 
@@ -56,22 +50,10 @@ module _ (p : Point) (x : Machine) (old new : Row) (same : length new.events ≡
 here : (h : Held) (v : Described) → described h ≡ v → HasAdvanced v.point v.machine.window → HasAdvanced h.point h.rob.entries
 here h v s a = subst (λ (v : Described). HasAdvanced v.point v.machine.window) (sym s) a
 
-pub spectre_goes_on : (h : Held) (rob : Ring) (v : Described) → Whole h → ((x : Machine) → completing.with_parts rob h.cycle x ≡ (completing.completes_all h.rob h.cycle x).machine) → described h ≡ v →
-    v.desc.stt_model ≡ Spectre → HasAdvanced v.point v.machine.window → HasAdvanced h.point rob.entries
-spectre_goes_on h rob v w f s spectre a =
-    let model = w.made.model ∙ ap (λ (v : Described). v.desc.stt_model) s ∙ spectre in
-    subst (HasAdvanced h.point) (sym (ap (λ (x : Machine). x.window) (f (machine_of h)))) (complete_advanced h.point (machine_of h) model (here h v s a))
-
 pub retire_goes_on : (h : Held) (rob : Ring) (v : Described) → Whole h → h.rob.entries ≡ gone h.rob rob ++ rob.entries → Each MayRetire (gone h.rob rob) → described h ≡ v →
     HasAdvanced v.point v.machine.window → HasAdvanced h.point rob.entries
 retire_goes_on h rob v w left m s a =
     retire_advanced h.point (gone h.rob rob) rob.entries m (subst CallAlone left w.sized.call_alone) (subst (HasAdvanced h.point) left (here h v s a))
-
-pub issue_goes_on : (h : Held) (rob : Ring) (tags : Cache) (mshrs : Registers) (ports : Ports) (v : Described) → Whole h →
-    ((x : Machine) → issuing.with_parts rob tags mshrs ports h.ram h.regs h.cycle x ≡ (issuing.issues h.desc h.rob h.tags h.mshrs h.ports h.ram h.regs h.cycle x).machine) → described h ≡ v →
-    HasAdvanced v.point v.machine.window → HasAdvanced h.point rob.entries
-issue_goes_on h rob tags mshrs ports v w f s a =
-    subst (HasAdvanced h.point) (sym (ap (λ (x : Machine). x.window) (f (machine_of h)))) (issue_advanced h.desc h.point (machine_of h) w.tied.point_stands.unresolved (here h v s a))
 
 -- ---- the core's point, once the machine is another
 

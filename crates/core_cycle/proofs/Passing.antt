@@ -1,6 +1,7 @@
 -- A cycle that is passed over, and from when on the next ones may be.
 use Rattle.std.proofs.Common.{◌≡◌, ℕ, zero, suc, ◌+◌, ◌<◌, List, [], None, ap, ap₂, sym, ◌∙◌, subst, arith}
 use Rattle.rv_types.specs.Memory.{Code}
+use Rattle.elf_loader.specs.Code.{word_at}
 use Rattle.machine_desc.specs.declared.Desc.{Desc}
 use Rattle.machine_desc.proofs.EveryDesc.{every_desc}
 use Rattle.window_model.specs.State.{Machine}
@@ -14,17 +15,17 @@ use Rattle.committed_state.proofs.Cycle.{cycle_commits, consistent_cycle}
 use Rattle.quiet_cycles.specs.Still.{NothingDueBefore, StillUntil, at_cycle, empty_row}
 use Rattle.quiet_cycles.proofs.Repeats.{none_stand, stands_after_cycle}
 use Rattle.visibility.specs.Point.{HasAdvanced}
-use Rattle.core_cycle.specs.Described.{Described}
+use Rattle.core_parts.specs.Described.{Described}
 use Rattle.core_cycle.specs.Kept.{Kept, KeptUntil}
 
 -- ---- after each cycle, whether its phases went or it was passed over
 
 module _ (code : Code) (s s1 : Described) (e : s1.machine ≡ (cycle s.desc code s.machine).machine) (aligned : Aligned code) (h : Kept code s) (n : s.machine.end ≡ None) where
   -- what holds in every state is kept
-  pub kept_after : HasAdvanced s1.point s1.machine.window → Kept code s1
-  kept_after a = record {
+  pub kept_after : s1.desc ≡ s.desc → HasAdvanced s1.point s1.machine.window → Kept code s1
+  kept_after q a = record {
     counted = subst Counted (sym e) (counts_cycle s.desc code s.machine (every_desc s.desc) h.counted);
-    consistent = subst (Consistent code) (sym e) (consistent_cycle s.desc code s.machine aligned h.consistent n);
+    consistent = subst (λ d. Consistent d code s1.machine) (sym q) (subst (Consistent s.desc code) (sym e) (consistent_cycle s.desc code s.machine aligned h.consistent n));
     advanced = a;
   }
 
@@ -36,33 +37,37 @@ module _ (code : Code) (s s1 : Described) (e : s1.machine ≡ (cycle s.desc code
 
 -- ---- one that is passed over
 
-module _ (n : ℕ) (code : Code) (s s1 : Described) (begins : s1 ≡ record s { machine = at_cycle (s.machine.cycle + 1) s.machine }) (h : StillUntil n s.desc code s.machine) (l : s.machine.cycle + 1 < n) where
+module _ (n : ℕ) (s s1 : Described) (begins : s1 ≡ record s { machine = at_cycle (s.machine.cycle + 1) s.machine }) (h : StillUntil n s.desc (word_at s.code) s.machine) (l : s.machine.cycle + 1 < n) where
   -- is the written cycle
-  passed_whole : record { machine = s1.machine; row = empty_row (s.machine.cycle + 1); piece = [] } ≡ cycle s.desc code s.machine
+  passed_whole : record { machine = s1.machine; row = empty_row (s.machine.cycle + 1); piece = [] } ≡ cycle s.desc (word_at s.code) s.machine
   passed_whole =
       let whole : Described → Cycled = λ s1. record { machine = s1.machine; row = empty_row (s.machine.cycle + 1); piece = [] } in
       ap whole begins ∙ sym (h s.machine.cycle (omega arith) l)
 
-  pub passed : (row : Row) (piece : List ℕ) → row ≡ empty_row (s.machine.cycle + 1) → piece ≡ [] → record { machine = s1.machine; row = row; piece = piece } ≡ cycle s.desc code s.machine
+  pub passed : (row : Row) (piece : List ℕ) → row ≡ empty_row (s.machine.cycle + 1) → piece ≡ [] → record { machine = s1.machine; row = row; piece = piece } ≡ cycle s.desc (word_at s.code) s.machine
   passed row piece r p =
       let whole : Row → List ℕ → Cycled = λ row piece. record { machine = s1.machine; row = row; piece = piece } in
       ap₂ whole r p ∙ passed_whole
 
-  passed_machine : s1.machine ≡ (cycle s.desc code s.machine).machine
+  passed_machine : s1.machine ≡ (cycle s.desc (word_at s.code) s.machine).machine
   passed_machine = ap (λ (c : Cycled). c.machine) passed_whole
 
   -- and those after it stay as still as they were
-  still_stays : StillUntil n s1.desc code s1.machine
-  still_stays = subst (λ (s : Described). StillUntil n s.desc code s.machine) (sym begins) (λ c k m. h c (omega arith) m)
+  still_stays : StillUntil n s1.desc (word_at s1.code) s1.machine
+  still_stays = subst (λ (s : Described). StillUntil n s.desc (word_at s.code) s.machine) (sym begins) (λ c k m. h c (omega arith) m)
 
-  pub passed_kept : Aligned code → Kept code s → s.machine.end ≡ None → KeptUntil n code s1
-  passed_kept aligned k e = record {
-    kept = kept_after code s s1 passed_machine aligned k e (subst (λ (s : Described). HasAdvanced s.point s.machine.window) (sym begins) k.advanced);
-    still = still_stays;
-  }
+  pub passed_kept : Aligned (word_at s.code) → Kept (word_at s.code) s → s.machine.end ≡ None → KeptUntil n (word_at s1.code) s1
+  passed_kept aligned k e =
+      let same = ap (λ (s : Described). s.code) begins in
+      record {
+        kept =
+            subst (λ code. Kept (word_at code) s1) (sym same)
+            (kept_after (word_at s.code) s s1 passed_machine aligned k e (ap (λ (s : Described). s.desc) begins) (subst (λ (s : Described). HasAdvanced s.point s.machine.window) (sym begins) k.advanced));
+        still = still_stays;
+      }
 
-  pub passed_commits : Aligned code → Kept code s → s.machine.end ≡ None → (piece : List ℕ) → piece ≡ [] → Commits code s.machine s1.machine piece
-  passed_commits aligned k e piece p = commits_after code s s1 passed_machine aligned k e piece (p ∙ ap (λ (c : Cycled). c.piece) passed_whole)
+  pub passed_commits : Aligned (word_at s.code) → Kept (word_at s.code) s → s.machine.end ≡ None → (piece : List ℕ) → piece ≡ [] → Commits (word_at s.code) s.machine s1.machine piece
+  passed_commits aligned k e piece p = commits_after (word_at s.code) s s1 passed_machine aligned k e piece (p ∙ ap (λ (c : Cycled). c.piece) passed_whole)
 
 -- ---- after one that wasn't, up to what is due
 

@@ -8,8 +8,8 @@ use Rattle.rv_types.specs.declared.End.{End}
 use Rattle.machine_desc.proofs.EveryDesc.{every_desc}
 use Rattle.window_model.specs.declared.Entry.{Entry}
 use Rattle.window_model.specs.declared.Outcome.{Outcome}
-use Rattle.window_model.specs.declared.State.{State}
-use Rattle.window_model.specs.declared.State.TheVariants.{Waiting, Busy, Done}
+use Rattle.window_model.specs.declared.Progress.{Progress}
+use Rattle.window_model.specs.declared.Progress.TheVariants.{Waiting, Busy, Done}
 use Rattle.window_model.specs.Order.{is_done, is_waiting, fault_of}
 use Rattle.window_model.specs.Retire.{retire, addr_of, width_of}
 use Rattle.window_model.specs.Row.{Row}
@@ -26,10 +26,11 @@ use Rattle.parts_stand.proofs.Writing.{counts_writers}
 use Rattle.retire.specs.Parts as retiring
 use Rattle.retire.specs.Parts.{TakesStore}
 use Rattle.retire.specs.Gone.{gone, MayRetire, without_each, without, popped}
-use Rattle.core_cycle.specs.Described.{Described}
-use Rattle.core_cycle.specs.Held.{Held, Tied, Whole, described, machine_of}
+use Rattle.core_parts.specs.Described.{Described}
+use Rattle.core_parts.specs.Held.{Held, Whole, described, machine_of, sizes}
+use Rattle.core_cycle.proofs.Tied.{Tied}
 use Rattle.core_cycle.proofs.Leaving.{Pairs, all_gone}
-use Rattle.core_cycle.proofs.Viewed.{by_phase}
+use Rattle.core_parts.proofs.Whole.{shown_by}
 
 -- ---- memory takes what a Done store writes
 
@@ -37,7 +38,7 @@ takes_by : (ram : Ram) (width : ℕ) (o : Option Outcome) → FaultIs ram width 
 takes_by ram width None f s n = absurd (cc)
 takes_by ram width (Some o) f s n = sym f ∙ n
 
-done_waits : (s : State) → is_done s ≡ true → is_waiting s ≡ false
+done_waits : (s : Progress) → is_done s ≡ true → is_waiting s ≡ false
 done_waits Waiting d = absurd (cc)
 done_waits (Busy due) d = refl
 done_waits Done d = refl
@@ -82,10 +83,10 @@ left_tied : (h : Held) (rob : Ring) (roots writers : Buffer (List (Option ℕ)))
     Left h rob roots writers writes room queues tags retired → Tied h.next_serial rob.entries roots.items writers.items writes h.stations.held queues h.point
 left_tied h rob roots writers writes room queues tags retired w l =
     let here : Tied h.next_serial (gone h.rob rob ++ rob.entries) h.roots.items h.writers.items h.writes h.stations.held h.queues h.point =
-    subst (λ es. Tied h.next_serial es h.roots.items h.writers.items h.writes h.stations.held h.queues h.point) l.entries w.tied in
+    subst (λ es. Tied h.next_serial es h.roots.items h.writers.items h.writes h.stations.held h.queues h.point) l.entries w.stands in
     let all = all_gone h.next_serial (gone h.rob rob) rob.entries h.roots.items h.writers.items h.writes h.stations.held h.queues h.point l.may_retire here in
-    let roots_are = stays h.rob.entries rob.entries h.roots.items (counts_room _ w.tied.stand).roots ∙ sym (ap (λ (b : Buffer (List (Option ℕ))). b.items) l.pairs) in
-    let writers_are = stays h.rob.entries rob.entries h.writers.items (counts_writers h.next_serial h.rob.entries h.writers.items w.tied.writers_stand) ∙ sym (ap (λ (b : Buffer (List (Option ℕ))). b.items) l.sources) in
+    let roots_are = stays h.rob.entries rob.entries h.roots.items (counts_room _ w.stands.stand).roots ∙ sym (ap (λ (b : Buffer (List (Option ℕ))). b.items) l.pairs) in
+    let writers_are = stays h.rob.entries rob.entries h.writers.items (counts_writers h.next_serial h.rob.entries h.writers.items w.stands.writers) ∙ sym (ap (λ (b : Buffer (List (Option ℕ))). b.items) l.sources) in
     subst (λ rs. Tied h.next_serial rob.entries rs writers.items writes h.stations.held queues h.point) roots_are
     (subst (λ ws. Tied h.next_serial rob.entries (drop (length (gone h.rob rob)) h.roots.items) ws writes h.stations.held queues h.point) writers_are
     (subst (λ ns. Tied h.next_serial rob.entries (drop (length (gone h.rob rob)) h.roots.items) (drop (length (gone h.rob rob)) h.writers.items) ns h.stations.held queues h.point) (sym l.table)
@@ -101,6 +102,18 @@ left_machine h rob tags ram regs pc end retired n f e =
     ∙ f (machine_of h)
     ∙ ap (λ e. (retire h.desc (record (machine_of h) { end = e })).machine) (sym n)
 
+left_sizes : (h : Held) (rob : Ring) (roots writers : Buffer (List (Option ℕ))) (writes : List Write) (room : ℕ) (queues : Queues) (tags : Cache) (retired : ℕ) → Left h rob roots writers writes room queues tags retired →
+    sizes (record h { rob = rob; roots = roots; writers = writers; writes = writes; table_room = room; queues = queues; tags = tags }) ≡ sizes h
+left_sizes h rob roots writers writes room queues tags retired l =
+    let e1 = l.same_room in
+    let e2 = l.pairs in
+    let e3 = l.sources in
+    let e4 = l.same_table_room in
+    let e5 = ap (λ (q : Queues). q.max_loads) l.lsq ∙ popped_loads (gone h.rob rob) h.queues in
+    let e6 = ap (λ (q : Queues). q.max_stores) l.lsq ∙ popped_stores (gone h.rob rob) h.queues in
+    let e7 = l.cache in
+    cc
+
 pub retire_whole : (h : Held) (rob : Ring) (roots writers : Buffer (List (Option ℕ))) (writes : List Write) (room : ℕ) (queues : Queues) (tags : Cache) (ram : Ram) (regs : List ℕ) (pc : ℕ) (end : Option End) (retired : ℕ) →
     Whole h → h.end ≡ None →
     ((x : Machine) → retiring.counted (length h.rob.entries - length rob.entries) (retiring.with_parts rob tags ram regs pc end x) ≡ (retiring.retires h.desc h.rob h.tags h.ram h.regs h.pc x).machine) →
@@ -108,22 +121,8 @@ pub retire_whole : (h : Held) (rob : Ring) (roots writers : Buffer (List (Option
     Whole (record h { rob = rob; roots = roots; writers = writers; writes = writes; table_room = room; queues = queues; tags = tags; ram = ram; regs = regs; pc = pc; end = end; retired = retired })
 retire_whole h rob roots writers writes room queues tags ram regs pc end retired w n f l = record {
   sized = subst (Sized h.desc) (sym (left_machine h rob tags ram regs pc end retired n f l.count)) (sized_retire h.desc (machine_of h) (every_desc h.desc) w.sized);
-  tied = left_tied h rob roots writers writes room queues tags retired w l;
-  made = record {
-    entries = l.same_room ∙ w.made.entries;
-    pairs = ap (λ (b : Buffer (List (Option ℕ))). b.capacity) l.pairs ∙ w.made.pairs;
-    writers = ap (λ (b : Buffer (List (Option ℕ))). b.capacity) l.sources ∙ w.made.writers;
-    writes = l.same_table_room ∙ w.made.writes;
-    places = w.made.places;
-    loads = ap (λ (q : Queues). q.max_loads) l.lsq ∙ popped_loads (gone h.rob rob) h.queues ∙ w.made.loads;
-    stores = ap (λ (q : Queues). q.max_stores) l.lsq ∙ popped_stores (gone h.rob rob) h.queues ∙ w.made.stores;
-    registers = w.made.registers;
-    tags = l.cache ∙ w.made.tags;
-    tables = w.made.tables;
-    front = w.made.front;
-    alus = w.made.alus;
-    model = w.made.model;
-  };
+  stands = left_tied h rob roots writers writes room queues tags retired w l;
+  made = left_sizes h rob roots writers writes room queues tags retired l ∙ w.made;
 }
 
 pub retire_shown : (h : Held) (rob : Ring) (tags : Cache) (ram : Ram) (regs : List ℕ) (pc : ℕ) (end : Option End) (retired : ℕ) (v : Described) → Whole h → h.end ≡ None →
@@ -131,7 +130,7 @@ pub retire_shown : (h : Held) (rob : Ring) (tags : Cache) (ram : Ram) (regs : Li
     retired ≡ h.retired + (length h.rob.entries - length rob.entries) → described h ≡ v →
     described (record h { rob = rob; tags = tags; ram = ram; regs = regs; pc = pc; end = end; retired = retired }) ≡ record v { machine = (retire v.desc v.machine).machine }
 retire_shown h rob tags ram regs pc end retired v w n f e s =
-    by_phase (λ d x. (retire d x).machine) h (machine_of (record h { rob = rob; tags = tags; ram = ram; regs = regs; pc = pc; end = end; retired = retired })) v (left_machine h rob tags ram regs pc end retired n f e) s
+    shown_by (λ d x. (retire d x).machine) h (machine_of (record h { rob = rob; tags = tags; ram = ram; regs = regs; pc = pc; end = end; retired = retired })) v (left_machine h rob tags ram regs pc end retired n f e) s
 
 pub retire_row : (h : Held) (v : Described) (old new : Row) → Whole h → h.end ≡ None →
     ((x : Machine) → new ≡ record old { events = old.events ++ (retiring.retires h.desc h.rob h.tags h.ram h.regs h.pc x).events }) → described h ≡ v →

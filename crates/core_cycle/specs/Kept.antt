@@ -5,14 +5,14 @@ use Rattle.machine_facts.specs.Timely.{Counted}
 use Rattle.committed_state.specs.Consistent.{Consistent}
 use Rattle.quiet_cycles.specs.Still.{StillUntil}
 use Rattle.visibility.specs.Point.{HasAdvanced}
-use Rattle.core_cycle.specs.Described.{Described}
+use Rattle.core_parts.specs.Described.{Described}
 
 -- its counts are small, what is in flight stands over what has retired, and the point says which entries are visible
 pub record Kept (code : Code) (s : Described) : Type 0 where
   -- so few serials and retired instructions that they fit their types
   pub counted : Counted s.machine
   -- each entry is an instruction of the program, and has the outcome that the instruction set gives it in its place
-  pub consistent : Consistent code s.machine
+  pub consistent : Consistent s.desc code s.machine
   pub advanced : HasAdvanced s.point s.machine.window
 
 -- and nothing happens in the cycles before the one with this number

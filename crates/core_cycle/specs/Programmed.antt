@@ -6,7 +6,7 @@ use Rattle.elf_loader.specs.contracts.fetchable.Code as code
 use Rattle.machine_desc.specs.contracts.Desc as desc
 use Rattle.machine_desc.specs.declared.Desc.{Desc}
 use Rattle.window_model.specs.State.{Machine}
-use Rattle.core_cycle.specs.Described.{machine_code}
+use Rattle.core_parts.specs.Described.{machine_code}
 
 -- a machine, the description that it runs under, and the words that it may fetch
 pub record Programmed : Type 0 where

@@ -2,12 +2,15 @@
 ghost use Rattle.std.specs.Prelude.{◌≡◌, ◌<◌, length, IfOk};
 ghost use Rattle.queue_laws.specs.Window.{StandFor};
 ghost use Rattle.window_model.specs.State.{opening};
-ghost use Rattle.core_cycle.specs.Lent.{HasAddressRoots, HasRoots, HoldsWaiting, NamesRoots, NamesWriters};
-ghost use Rattle.core_cycle.specs.Lent.{ShowsOlder, TellsReady, TellsVisible};
+ghost use Rattle.core_parts.specs.Lent.{HasAddressRoots, HasRoots, HoldsWaiting, NamesRoots, NamesWriters};
+ghost use Rattle.core_parts.specs.Lent.{ShowsOlder, TellsReady, TellsVisible};
 
-use crate::state::State;
+use crate::cycle::{after_retire, before_retire};
+use crate::due::still_until;
+use crate::phases::retire;
 use byte_ram::Ram;
-use elf_loader::{Code, Image};
+use core_parts::Parts;
+use elf_loader::Image;
 use lsq::Lsq;
 use machine_desc::Desc;
 use rename_taint::RenameTaint;
@@ -24,8 +27,7 @@ use window_model::{Clocked, Row};
 /// no phase goes (`docs/machine.md`, "Cycles in which nothing happens").
 #[derive(Drop)]
 pub struct Core<R: RenameTaint> {
-    state: State<R>,
-    code: Code,
+    parts: Parts<R>,
     /// Nothing happens in the cycles below this number. 0 where that is known of none.
     still_until: u32,
 }
@@ -39,9 +41,9 @@ impl<R: RenameTaint> Model for Core<R> {
 
     ghost coded = { programmed_code };
 
-    ghost view = { λ c. record { desc = c.state.desc; code = c.code; machine = c.state.machine } };
+    ghost view = { λ c. record { desc = c.parts.desc; code = c.parts.code; machine = c.parts.machine } };
 
-    ghost invariant = { λ c. KeptUntil c.still_until (word_at c.code) c.state };
+    ghost invariant = { λ c. KeptUntil c.still_until (word_at c.parts.code) c.parts };
 }
 
 impl<R: RenameTaint> Core<R> {
@@ -50,13 +52,13 @@ impl<R: RenameTaint> Core<R> {
     pub fn new(alloc: Global, desc: &Desc, image: Image) -> Result<Core<R>, NoMemory>
         requires base { image.ram.base ≡ desc.now.ram_base }
         requires size { length image.ram.bytes ≡ desc.now.ram_size }
-        ensures { IfOk result (λ c. c ≡ record { desc = desc.now; code = image.code; machine = opening desc.now image.entry image.ram }) }
+        ensures { IfOk result (λ c.
+            c ≡ record { desc = desc.now; code = image.code; machine = opening desc.now image.entry image.ram }) }
     {
         let Image { ram, code, entry } = image;
-        let state = State::new(alloc, desc, entry, ram)?;
+        let parts = Parts::new(alloc, desc, code, entry, ram)?;
         Ok(Core {
-            state,
-            code,
+            parts,
             still_until: 0,
         })
     }
@@ -65,7 +67,7 @@ impl<R: RenameTaint> Core<R> {
     pub fn rob(&self) -> &RobRing
         ensures { result.now.entries ≡ self.now.machine.window }
     {
-        self.state.rob()
+        self.parts.rob()
     }
 
     /// The rename table: it names the writer and the youngest root that each register has for an entry behind the window. For
@@ -74,7 +76,7 @@ impl<R: RenameTaint> Core<R> {
         ensures writers { NamesWriters (R.writes result.now) self.now.machine.window }
         ensures roots { NamesRoots self.now.machine.next_serial (R.writes result.now) self.now.machine.window }
     {
-        self.state.table()
+        self.parts.table()
     }
 
     /// The stations: they hold the entries that wait, and tell which are ready.
@@ -82,7 +84,7 @@ impl<R: RenameTaint> Core<R> {
         ensures waiting { HoldsWaiting result.now self.now.machine.window }
         ensures ready { TellsReady result.now self.now.machine.window }
     {
-        self.state.stations()
+        self.parts.stations()
     }
 
     /// The queues: they hold the window's loads and stores by age. Each store has the youngest root of its address; one without
@@ -91,7 +93,7 @@ impl<R: RenameTaint> Core<R> {
         ensures queues { StandFor result.now self.now.machine.window }
         ensures roots { HasAddressRoots self.now.machine.next_serial result.now.stores self.now.machine.window }
     {
-        self.state.lsq()
+        self.parts.lsq()
     }
 
     /// The visibility point: entries up to it are visible, and no others.
@@ -99,7 +101,7 @@ impl<R: RenameTaint> Core<R> {
         ensures visible { TellsVisible self.now.desc.stt_model result.now self.now.machine.window }
         ensures older { ShowsOlder result.now self.now.machine.window }
     {
-        self.state.point()
+        self.parts.point()
     }
 
     /// The youngest roots of taint (YRoT in the papers on speculative taint tracking) of the entry at a position, counted from
@@ -109,7 +111,7 @@ impl<R: RenameTaint> Core<R> {
         requires { i < length self.now.machine.window }
         ensures { HasRoots self.now.machine.next_serial self.now.machine.window i result }
     {
-        self.state.yrot_at(i)
+        self.parts.yrot_at(i)
     }
 }
 
@@ -123,39 +125,39 @@ impl<R: RenameTaint> Clocked for Core<R> {
     ghost machine = { λ c. c.machine };
 
     fn cycle(&mut self, row: &mut Row, piece: &mut Piece) {
-        self.state.begin();
-        row.begin(self.state.cycle);
+        self.parts.begin();
+        row.begin(self.parts.cycle);
         piece.clear();
-        if self.state.cycle < self.still_until {
+        if self.parts.cycle < self.still_until {
             return;
         }
-        self.state.before_retire(row);
-        self.state.retire(row, piece);
-        self.state.after_retire(&self.code, row);
-        self.still_until = self.state.still_until(row);
+        before_retire(&mut self.parts, row);
+        retire(&mut self.parts, row, piece);
+        after_retire(&mut self.parts, row);
+        self.still_until = still_until(&self.parts, row);
     }
 
     fn end(&self) -> Option<End> {
-        self.state.end
+        self.parts.end
     }
 
     fn cycles(&self) -> u32 {
-        self.state.cycle
+        self.parts.cycle
     }
 
     fn retired(&self) -> u64 {
-        self.state.retired
+        self.parts.retired
     }
 
     fn regs(&self) -> &[u32; REGISTERS] {
-        &self.state.regs
+        &self.parts.regs
     }
 
     fn pc(&self) -> u32 {
-        self.state.pc
+        self.parts.pc
     }
 
     fn ram(&self) -> &Ram {
-        &self.state.ram
+        &self.parts.ram
     }
 }

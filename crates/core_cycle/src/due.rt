@@ -2,35 +2,33 @@
 ghost use Rattle.std.specs.Prelude.{◌≡◌, ◌<◌, ◌≤◌, All, [], None};
 ghost use Rattle.quiet_cycles.specs.Still.{NotDoneBefore, NotDueBefore, NothingDueBefore};
 
-use crate::state::State;
+use core_parts::Parts;
 use rename_taint::RenameTaint;
 use rob_ring::RobRing;
-use window_model::{Miss, Row, State as EntryState};
+use window_model::{Miss, Progress, Row};
 
-impl<R: RenameTaint> State<R> {
-    /// After a cycle with this row: the number of a cycle before which nothing happens. 0, of which nothing is claimed, where
-    /// the row has an event or the run has ended.
-    pub(crate) fn still_until(&self, row: &Row) -> u32
-        ensures empty { 0 < result → row.now.events ≡ [] }
-        ensures running { 0 < result → self.now.machine.end ≡ None }
-        ensures due { NothingDueBefore result self.now.machine }
-    {
-        if self.end.is_some() || !row.events().is_empty() {
-            return 0;
-        }
-        self.next_due()
+/// After a cycle with this row: the number of a cycle before which nothing happens. 0, of which nothing is claimed, where
+/// the row has an event or the run has ended.
+pub(crate) fn still_until<R: RenameTaint>(parts: &Parts<R>, row: &Row) -> u32
+    ensures empty { 0 < result → row.now.events ≡ [] }
+    ensures running { 0 < result → parts.now.machine.end ≡ None }
+    ensures due { NothingDueBefore result parts.now.machine }
+{
+    if parts.end.is_some() || !row.events().is_empty() {
+        return 0;
     }
+    next_due(parts)
+}
 
-    // The first cycle after this one in which something is due: an entry becomes Done, a line comes, or the divider is free
-    // again. The last number of a cycle where nothing is.
-    fn next_due(&self) -> u32
-        ensures { NothingDueBefore result self.now.machine }
-    {
-        let cycle = self.cycle as u64;
-        let free = sooner(self.ports.divider().free_from, cycle, u32::MAX as u64);
-        let comes = lines_due(self.mshrs.misses(), cycle, free);
-        entries_due(&self.rob, cycle, comes) as u32
-    }
+// The first cycle after this one in which something is due: an entry becomes Done, a line comes, or the divider is free
+// again. The last number of a cycle where nothing is.
+fn next_due<R: RenameTaint>(parts: &Parts<R>) -> u32
+    ensures { NothingDueBefore result parts.now.machine }
+{
+    let cycle = parts.cycle as u64;
+    let free = sooner(parts.ports.divider().free_from, cycle, u32::MAX as u64);
+    let comes = lines_due(parts.mshrs.misses(), cycle, free);
+    entries_due(&parts.rob, cycle, comes) as u32
 }
 
 // The sooner of the two, where the first is due after this cycle.
@@ -46,12 +44,12 @@ fn sooner(due: u64, cycle: u64, least: u64) -> u64
 }
 
 // The same of what an entry is busy with.
-fn done_sooner(state: EntryState, cycle: u64, least: u64) -> u64
+fn done_sooner(state: Progress, cycle: u64, least: u64) -> u64
     ensures done { NotDoneBefore result cycle state }
     ensures sooner { result ≤ least }
 {
     match state {
-        EntryState::Busy(due) => sooner(due, cycle, least),
+        Progress::Busy(due) => sooner(due, cycle, least),
         _ => least,
     }
 }

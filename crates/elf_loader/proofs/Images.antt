@@ -98,7 +98,7 @@ any_by x true false h = absurd (false≢true h)
 any_by x false any h = absurd (false≢true h)
 
 -- and in memory
-inside_by : (low high pc : ℕ) (any : Bool) → any ≡ true → ((pc < low) ⊎ (high < pc + 4) → any ≡ false) → (pc < low) ⊎ (low ≤ pc) → (high < pc + 4) ⊎ (pc + 4 ≤ high) → (low ≤ pc) × (pc + 4 ≤ high)
+pub inside_by : (low high pc : ℕ) (any : Bool) → any ≡ true → ((pc < low) ⊎ (high < pc + 4) → any ≡ false) → (pc < low) ⊎ (low ≤ pc) → (high < pc + 4) ⊎ (pc + 4 ≤ high) → (low ≤ pc) × (pc + 4 ≤ high)
 inside_by low high pc any t none (inl l) b = let f = none (inl l) in absurd (cc)
 inside_by low high pc any t none (inr l) (inl u) = let f = none (inr u) in absurd (cc)
 inside_by low high pc any t none (inr l) (inr u) = (l, u)

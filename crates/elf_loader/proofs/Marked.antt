@@ -106,7 +106,7 @@ any_step : (p : SegmentText → Bool) (o : Option SegmentText) (rest : List Segm
 any_step p None rest h e = e
 any_step p (Some s) rest h e = ap (λ (b : Bool). b || list_any p rest) h ∙ e
 
-any_none : (f : ℕ → Option SegmentText) (p : SegmentText → Bool) (a n : ℕ) → ((i : ℕ) → a ≤ i → IfSome (f i) (λ s. p s ≡ false)) → list_any p (filter_map f (range_with_len a n)) ≡ false
+pub any_none : (f : ℕ → Option SegmentText) (p : SegmentText → Bool) (a n : ℕ) → ((i : ℕ) → a ≤ i → IfSome (f i) (λ s. p s ≡ false)) → list_any p (filter_map f (range_with_len a n)) ≡ false
 any_none f p a zero h = refl
 any_none f p a (suc n) h = any_step p (f a) (filter_map f (range_with_len (a + 1) n)) (h a (omega arith)) (any_none f p (a + 1) n (λ i l. h i (omega arith)))
 

@@ -37,7 +37,7 @@ placed_start old left e = record {
 }
 
 -- one more in front is found where none behind it is
-last_more : (s : SegmentText) (loads : List SegmentText) (a : ℕ) → last_at (s ∷ loads) a ≡ option_or (last_at loads a) (cond (covers s a) (Some s) None)
+pub last_more : (s : SegmentText) (loads : List SegmentText) (a : ℕ) → last_at (s ∷ loads) a ≡ option_or (last_at loads a) (cond (covers s a) (Some s) None)
 last_more s loads a = ap (find (λ t. covers t a)) (reverse_onto loads s []) ∙ find-append (λ t. covers t a) (reverse loads) (s ∷ [])
 
 cell_by : (s : SegmentText) (a b : ℕ) (o : Option SegmentText) (c : Bool) → cond (is_none o && c) (byte_in s a) (byte_or a b o) ≡ byte_or a b (option_or o (cond c (Some s) None))
@@ -109,7 +109,7 @@ inside_still loads old new left o h i =
 ram_of : ℕ → List ℕ → Ram
 ram_of base bytes = record { base = base; bytes = bytes }
 
-same_ram : (m n : Ram) → m.base ≡ n.base → m.bytes ≡ n.bytes → m ≡ n
+pub same_ram : (m n : Ram) → m.base ≡ n.base → m.bytes ≡ n.bytes → m ≡ n
 unfolding ram_of
 same_ram m n e f = ap₂ ram_of e f
 

@@ -4,3 +4,4 @@ pub mod Fields
 pub mod Filling
 pub mod Image
 pub mod Jumps
+pub mod Spans

@@ -11,6 +11,7 @@ mod headers;
 mod laws;
 mod loading;
 mod parts;
+mod span;
 mod unwritten;
 
 pub use faults::ElfFault;

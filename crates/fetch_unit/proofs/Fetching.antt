@@ -42,15 +42,15 @@ by_room true o pc h = (refl, h)
 by_room false o pc h = absurd (cc)
 
 one_more : (d : Desc) (code : Code) (n : ℕ) (x : Machine) (pc : ℕ) → nat_lt (length x.queue) d.core_queue ≡ true → x.fetch_pc ≡ Some pc →
-    fetch_up_to d code (suc n) x ≡ then_does (fetch_one (item_at d code x pc) x) (fetch_up_to d code n)
+    fetch_up_to d code (suc n) x ≡ then_does (fetch_one d (item_at d code x pc) x) (fetch_up_to d code n)
 one_more d code n x pc r p =
     ap (λ o. fetch_from d code o x (fetch_up_to d code n)) p
-    ∙ ap (λ b. if b then then_does (fetch_one (item_at d code x pc) x) (fetch_up_to d code n) else nothing x) r
+    ∙ ap (λ b. if b then then_does (fetch_one d (item_at d code x pc) x) (fetch_up_to d code n) else nothing x) r
 
 one_behind : (d : Desc) (code : Code) (n : ℕ) (x : Machine) (pc : ℕ) (es : List Event) → nat_lt (length x.queue) d.core_queue ≡ true → x.fetch_pc ≡ Some pc →
-    behind (es ++ event.Fet pc ∷ []) (fetch_up_to d code n (fetch_one (item_at d code x pc) x).machine) ≡ behind es (fetch_up_to d code (suc n) x)
+    behind (es ++ event.Fet pc ∷ []) (fetch_up_to d code n (fetch_one d (item_at d code x pc) x).machine) ≡ behind es (fetch_up_to d code (suc n) x)
 one_behind d code n x pc es r p =
-    let a = fetch_up_to d code n (fetch_one (item_at d code x pc) x).machine in
+    let a = fetch_up_to d code n (fetch_one d (item_at d code x pc) x).machine in
     ap (λ es. record { machine = a.machine; events = es }) (append_assoc es (event.Fet pc ∷ []) a.events) ∙ sym (ap (behind es) (one_more d code n x pc r p))
 
 pub fetches_more : (code : Code) (t : Tables) (first : Front) (row : Row) (i : ℕ) (f : Front) (now : Row) (pc : ℕ) (item : Item) (f2 : Front) (now2 : Row) →
@@ -87,7 +87,7 @@ no_more d code (suc n) x None b p r h = ap (λ o. fetch_from d code o x (fetch_u
 no_more d code (suc n) x (Some pc) true p r h = absurd (cc)
 no_more d code (suc n) x (Some pc) false p r h =
     ap (λ o. fetch_from d code o x (fetch_up_to d code n)) p
-    ∙ ap (λ b. if b then then_does (fetch_one (item_at d code x pc) x) (fetch_up_to d code n) else nothing x) r
+    ∙ ap (λ b. if b then then_does (fetch_one d (item_at d code x pc) x) (fetch_up_to d code n) else nothing x) r
 
 -- nothing is left to fetch
 pub record Over (code : Code) (t : Tables) (first : Front) (begun : Row) (f : Front) (now : Row) : Type 0 where

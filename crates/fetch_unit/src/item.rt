@@ -8,7 +8,6 @@ ghost use Rattle.window_model.specs.Front.{item_at, predicted, stored_target, ta
 
 use elf_loader::Code;
 use predictor::Predictor;
-use rv_decode::decode;
 use rv_types::{Cause, Instr, Kind, kind_of};
 use window_model::Item;
 
@@ -51,12 +50,12 @@ fn predicted(predictor: &Predictor, pc: u32, instr: &Instr, kind: Kind) -> Optio
 }
 
 /// The item of an address. Outside code it is a stop.
+#[tactic(auto, using(crate::proofs::Items::item_there, crate::proofs::Items::nothing_there))]
 pub(crate) fn item_at(predictor: &Predictor, code: &Code, pc: u32) -> Item
     ensures { (x : Machine) → result ≡ item_at predictor.now.desc (word_at code.now) (with_predictor x predictor.now.counters predictor.now.targets) pc }
 {
-    match code.word(pc) {
-        Some(word) => {
-            let instr = decode(word);
+    match code.instr(pc) {
+        Some(instr) => {
             let kind = kind_of(&instr);
             let predicted = predicted(predictor, pc, &instr, kind);
             Item {

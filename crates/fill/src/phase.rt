@@ -1,22 +1,35 @@
 //! The phase: line by line.
-ghost use Rattle.std.specs.Prelude.{◌≡◌};
-ghost use Rattle.window_model.specs.Row.{HasRoom, IsLonger, with_events};
-ghost use Rattle.window_model.specs.State.{Machine};
-ghost use Rattle.fill.specs.Parts.{with_parts, fills};
+ghost use Rattle.std.specs.Prelude.{◌≡◌, map};
+ghost use Rattle.window_model.specs.declared.Event.TheVariants as event;
+ghost use Rattle.window_model.specs.Fill.{fill};
+ghost use Rattle.window_model.specs.Row.{HasRoom, IsLonger, most_filled, with_events};
+ghost use Rattle.mshr_file.specs.Laws.{arriving, staying};
+ghost use Rattle.fill.specs.Lines.{with_lines};
 
 use cache_tags::Tags;
+use core_parts::Parts;
 use mshr_file::Mshrs;
+use rename_taint::RenameTaint;
 use window_model::{Event, Row};
 
-/// Phase Fill of this cycle: the miss registers that are due are freed, in the order of taking, and the line of each enters
-/// the cache, with its event. What it leaves is what the definition leaves of every machine with these registers and this
-/// cache in this cycle.
-pub fn fill(mshrs: &mut Mshrs, tags: &mut Tags, cycle: u64, row: &mut Row)
+/// Phase Fill: the miss registers that are due are freed, in the order of taking, and the line of each enters the cache, with
+/// its event.
+pub fn fill<R: RenameTaint>(parts: &mut Parts<R>, row: &mut Row)
+    requires room { HasRoom most_filled row.old }
+    ensures machine { parts.new ≡ record parts.old { machine = (fill parts.old.desc parts.old.machine).machine } }
+    ensures row { row.new ≡ with_events row.old (fill parts.old.desc parts.old.machine).events }
+    ensures few { IsLonger most_filled row.old row.new }
+{
+    let cycle = parts.cycle as u64;
+    fill_lines(&mut parts.mshrs, &mut parts.tags, cycle, row);
+}
+
+// The lines that are due in this cycle enter.
+pub(crate) fn fill_lines(mshrs: &mut Mshrs, tags: &mut Tags, cycle: u64, row: &mut Row)
     requires room { HasRoom mshrs.old.room row.old }
-    ensures state { (x : Machine) → with_parts mshrs.new tags.new cycle x ≡ (fills mshrs.old tags.old cycle x).machine }
-    ensures row { (x : Machine) → row.new ≡ with_events row.old (fills mshrs.old tags.old cycle x).events }
-    ensures same_room { mshrs.new.room ≡ mshrs.old.room }
-    ensures desc { tags.new.desc ≡ tags.old.desc }
+    ensures freed { mshrs.new ≡ record mshrs.old { misses = staying cycle mshrs.old.misses } }
+    ensures entered { tags.new ≡ with_lines (arriving cycle mshrs.old.misses) tags.old }
+    ensures row { row.new ≡ with_events row.old (map event.Fill (arriving cycle mshrs.old.misses)) }
     ensures few { IsLonger mshrs.old.room row.old row.new }
 {
     for _ in 0..mshrs.len() {

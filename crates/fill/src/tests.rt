@@ -2,16 +2,23 @@
 ghost use Rattle.std.specs.Prelude.{◌≡◌};
 
 use crate::fill;
+use crate::phase::fill_lines;
 use cache_tags::Tags;
-use machine_desc::read_desc;
+use core_parts::{Parts, parts_of};
+use machine_desc::{Desc, EXAMPLE, read_desc};
 use mshr_file::Mshrs;
+use rename_taint::{ByScan, ByTable, RenameTaint};
+use std::alloc::Global;
 use std::process::Abort;
 use std::test::Fail;
 use window_model::{Event, empty_row};
 
-// A description with four miss registers and two sets of two lines of 16 bytes.
-const DESC: &str =
-    "[core]\nfetch_width = 2\nretire_width = 2\nrob = 16\nstations = 8\nloads = 4\nstores = 4\nqueue = 8\n[units]\nalus = 2\nmul_latency = 3\n[predictor]\ncounters = 16\nbtb = 4\n[cache]\nsets = 2\nways = 2\nline = 16\nhit_latency = 2\nmiss_latency = 10\nmshrs = 4\n[ram]\nbase = 65536\nsize = 65536\n[stt]\nmodel = \"spectre\"\n";
+// The example's description, of two sets of two lines of 16 bytes, with four miss registers.
+fn with_four(desc: &Desc) -> Desc {
+    let mut changed = *desc;
+    changed.cache_mshrs = 4;
+    changed
+}
 
 // Four lines of one set.
 const A: u32 = 0x10000;
@@ -35,7 +42,7 @@ fn take(rt: &impl Abort, mshrs: &mut Mshrs, line: u32, due: u64)
 #[test]
 fn lines_that_are_due_enter_in_the_order_of_taking(rt: HostRuntime) -> Result<(), Fail> {
     let alloc = rt.alloc();
-    let desc = read_desc(alloc, DESC.as_bytes())?;
+    let desc = with_four(&read_desc(alloc, EXAMPLE.as_bytes())?);
     let mut mshrs = Mshrs::new(alloc, &desc)?;
     let mut tags = Tags::new(alloc, &desc)?;
     let mut row = empty_row();
@@ -43,10 +50,10 @@ fn lines_that_are_due_enter_in_the_order_of_taking(rt: HostRuntime) -> Result<()
     take(&rt, &mut mshrs, B, 13);
     take(&rt, &mut mshrs, C, 12);
     take(&rt, &mut mshrs, D, 12);
-    fill(&mut mshrs, &mut tags, 11, &mut row);
+    fill_lines(&mut mshrs, &mut tags, 11, &mut row);
     assert_eq!(rt; (row.events().len(), mshrs.len()), (0, 4));
     // Of the three that come the first is the one that goes: its set has two ways.
-    fill(&mut mshrs, &mut tags, 12, &mut row);
+    fill_lines(&mut mshrs, &mut tags, 12, &mut row);
     let events = [Event::Fill(A), Event::Fill(C), Event::Fill(D)];
     assert_eq!(rt; row.events(), events.as_slice());
     assert_eq!(rt;
@@ -55,4 +62,27 @@ fn lines_that_are_due_enter_in_the_order_of_taking(rt: HostRuntime) -> Result<()
     );
     assert_eq!(rt; (mshrs.len(), mshrs.find(B)), (1, Some(13)));
     Ok(())
+}
+
+// Parts before their first cycle: no line is on its way.
+fn nothing_happens<R: RenameTaint + Drop>(rt: &impl Abort, alloc: Global) -> Result<(), Fail> {
+    let desc = read_desc(alloc, EXAMPLE.as_bytes())?;
+    let made: Option<Parts<R>> = parts_of(alloc, &desc, &[0x0000_0073])?;
+    let Some(mut parts) = made else {
+        panic!(rt; "the word is refused");
+    };
+    let mut row = empty_row();
+    fill(&mut parts, &mut row);
+    assert_eq!(rt; row.events().len(), 0);
+    Ok(())
+}
+
+#[test]
+fn over_a_search(rt: HostRuntime) -> Result<(), Fail> {
+    nothing_happens::<ByScan>(&rt, rt.alloc())
+}
+
+#[test]
+fn over_a_table(rt: HostRuntime) -> Result<(), Fail> {
+    nothing_happens::<ByTable>(&rt, rt.alloc())
 }

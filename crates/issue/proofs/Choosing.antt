@@ -5,9 +5,11 @@ use Rattle.rv_types.specs.declared.Kind.{Kind}
 use Rattle.rv_types.specs.declared.Kind.TheVariants.{Mul, Load, Div, Store}
 use Rattle.machine_desc.specs.declared.Desc.{Desc}
 use Rattle.window_model.specs.declared.Entry.{Entry}
-use Rattle.window_model.specs.Order.{is_load, is_waiting, ready}
-use Rattle.window_model.specs.Issue.{DivPort, LoadPort, is_division, is_granted, may_issue_as, port_of, same_port, stores_done}
-use Rattle.issue.specs.Ports.{gets}
+use Rattle.window_model.specs.Around.{Around}
+use Rattle.window_model.specs.Order.{is_load}
+use Rattle.window_model.specs.Issue.{Port, DivPort, LoadPort, is_division, is_granted, may_at, may_issue, port_of, same_port, stores_done}
+use Rattle.window_model.proofs.Booleans.{both}
+use Rattle.window_model.proofs.Issuing.{load_behind, may_parts}
 
 pub the_other : {A : Type 0} (b : Bool) (x y z : A) → b ≡ false → z ≡ y → z ≡ (if b then x else y)
 the_other true x y z h e = absurd (cc)
@@ -28,47 +30,32 @@ no_division _ h = refl
 
 -- ---- by the port
 
-load_port : (k : Kind) → same_port (port_of k) LoadPort ≡ is_load k
-load_port Load = refl
-load_port Div = refl
-load_port Mul = refl
-load_port Store = refl
-load_port _ = refl
+-- an entry is granted no port that its kind doesn't ask for
+other : (d : Desc) (now : Around) (before : List Entry) (e : Entry) (k : Kind) (port : Port) → e.item.kind ≡ k → same_port (port_of k) port ≡ false → is_granted d now port before e ≡ false
+other d now before e k port q h = none (may_issue d now before e) _ _ (ap (λ k. same_port (port_of k) port) q ∙ h)
+  where
+    none : (m t l : Bool) → t ≡ false → ((m && t) && l) ≡ false
+    none true t l h = ap (λ t. t && l) h
+    none false t l h = refl
 
-division_port : (k : Kind) → same_port (port_of k) DivPort ≡ is_division k
-division_port Load = refl
-division_port Div = refl
-division_port Mul = refl
-division_port Store = refl
-division_port _ = refl
+-- one that is granted its own port is granted that of loads where it is a load, and that of divisions where it is one
+pub granted_load : (k : Kind) (d : Desc) (now : Around) (before : List Entry) (e : Entry) → e.item.kind ≡ k → is_granted d now (port_of k) before e ≡ true → is_granted d now LoadPort before e ≡ is_load k
+granted_load Load d now before e q h = h
+granted_load Div d now before e q h = other d now before e Div LoadPort q refl
+granted_load Mul d now before e q h = other d now before e Mul LoadPort q refl
+granted_load Store d now before e q h = other d now before e Store LoadPort q refl
+granted_load k d now before e q h = other d now before e k LoadPort q refl
 
-pub gets_load : (d : Desc) (free : Bool) (before : List Entry) (e : Entry) → is_granted d free before e ≡ true → gets d free LoadPort before e ≡ is_load e.item.kind
-gets_load d free before e h = ap (λ b. b && same_port (port_of e.item.kind) LoadPort) h ∙ load_port e.item.kind
-
-pub gets_division : (d : Desc) (free : Bool) (before : List Entry) (e : Entry) → is_granted d free before e ≡ true → gets d free DivPort before e ≡ is_division e.item.kind
-gets_division d free before e h = ap (λ b. b && same_port (port_of e.item.kind) DivPort) h ∙ division_port e.item.kind
-
-pub gets_none : (d : Desc) (free : Bool) (before : List Entry) (e : Entry) (b : Bool) → is_granted d free before e ≡ false → (is_granted d free before e && b) ≡ false
-gets_none d free before e b h = ap (λ g. g && b) h
+pub granted_division : (k : Kind) (d : Desc) (now : Around) (before : List Entry) (e : Entry) → e.item.kind ≡ k → is_granted d now (port_of k) before e ≡ true → is_granted d now DivPort before e ≡ is_division k
+granted_division Div d now before e q h = h
+granted_division Load d now before e q h = other d now before e Load DivPort q refl
+granted_division Mul d now before e q h = other d now before e Mul DivPort q refl
+granted_division Store d now before e q h = other d now before e Store DivPort q refl
+granted_division k d now before e q h = other d now before e k DivPort q refl
 
 -- ---- a load that is granted a port has only Done stores before it
 
-last_of : (a b c n : Bool) → ((a && b && c) && n) ≡ true → c ≡ true
-last_of true true true n h = refl
-last_of true true false n h = absurd (cc)
-last_of true false c n h = absurd (cc)
-last_of false b c n h = absurd (cc)
-
-last_true : (a b : Bool) → (a && b) ≡ true → b ≡ true
-last_true true b h = h
-last_true false b h = absurd (cc)
-
-done_by : (k : Kind) (d : Desc) (free : Bool) (before : List Entry) (e : Entry) → may_issue_as k d free before e ≡ true → is_load k ≡ true → stores_done before ≡ true
-done_by Load d free before e h l = last_true _ (stores_done before) h
-done_by Div d free before e h l = absurd (cc)
-done_by Mul d free before e h l = absurd (cc)
-done_by Store d free before e h l = absurd (cc)
-done_by _ d free before e h l = absurd (cc)
-
-pub granted_done : (d : Desc) (free : Bool) (before : List Entry) (e : Entry) → is_granted d free before e ≡ true → is_load e.item.kind ≡ true → stores_done before ≡ true
-granted_done d free before e h l = done_by e.item.kind d free before e (last_of (is_waiting e.state) (ready before e) (may_issue_as e.item.kind d free before e) _ h) l
+pub granted_done : (d : Desc) (now : Around) (before : List Entry) (e : Entry) → is_granted d now (port_of e.item.kind) before e ≡ true → is_load e.item.kind ≡ true → stores_done before ≡ true
+granted_done d now before e h l =
+    let m = (both (may_issue d now before e) _ (both (may_at d now (port_of e.item.kind) before e) _ h).0).0 in
+    load_behind e.item.kind d now before e (may_parts d now before e m).kind l

@@ -1,5 +1,5 @@
 -- Where no station is ready every entry stays as it is.
-use Rattle.std.proofs.Common.{◌≡◌, ℕ, zero, suc, Bool, true, false, ◌||◌, ◌&&◌, List, [], ◌∷◌, take, Some, None, refl, ap, ap₂, sym, ◌∙◌, slice_get}
+use Rattle.std.proofs.Common.{◌≡◌, ℕ, zero, suc, Bool, true, false, ◌||◌, ◌&&◌, List, [], ◌∷◌, take, Some, None, refl, ap, ap₂, sym, ◌∙◌, slice_get, ◌++◌, append-nil}
 use Rattle.std.specs.Prelude.{if◌then◌else◌, map}
 use Rattle.std.specs.List.{flat_map, list_any}
 use Rattle.std.specs.Option.{option_map}
@@ -7,23 +7,25 @@ use mathlib.Core.List.{reverse_aux}
 use Rattle.machine_desc.specs.declared.Desc.{Desc}
 use Rattle.window_model.specs.declared.Entry.{Entry}
 use Rattle.window_model.specs.Along.{Along, Fact}
+use Rattle.window_model.specs.Row.{Row, with_events}
 use Rattle.window_model.specs.State.{Machine}
-use Rattle.window_model.specs.Order.{before_at, each_from, first_from, is_load, is_waiting, ready}
-use Rattle.window_model.specs.Issue.{begin_as, is_division, is_free, issue, issue_entry, may_issue, waits}
+use Rattle.window_model.specs.Around.{Around, around}
+use Rattle.window_model.specs.Order.{before_at, each_from, first_from, is_waiting, ready}
+use Rattle.window_model.specs.Issue.{Port, DivPort, LoadPort, begin_as, issue, issue_entry, may_at, may_issue, port_of, same_port, waits}
 use Rattle.stations.specs.Stations.{Station, awaits_none}
 use Rattle.parts_stand.specs.Parts.{Parts, Stand}
 use Rattle.parts_stand.specs.Steps.{station_of}
 use Rattle.parts_stand.proofs.Answering.{tells_ready}
+use Rattle.core_parts.specs.Described.{Described}
+use Rattle.core_parts.specs.Held.{Held, Whole, described, in_flight, machine_of}
+use Rattle.core_parts.specs.Stands.{table_and_stations}
+use Rattle.core_parts.proofs.Whole.{shown_by, told_by}
 use Rattle.issue.proofs.Leaving.{leaves}
 use Rattle.issue.proofs.Testing.{grants_none}
 
 neither : (a b : Bool) → (a || b) ≡ false → (a ≡ false) × (b ≡ false)
 neither true b h = absurd (cc)
 neither false b h = (refl, h)
-
-none_and : (a b : Bool) → b ≡ false → (a && b) ≡ false
-none_and true b h = h
-none_and false b h = refl
 
 -- ---- no entry may issue
 
@@ -34,38 +36,37 @@ answer_at (s ∷ held) zero b h k = let no = (neither (awaits_none s) (list_any 
 answer_at (s ∷ held) (suc n) b h k = answer_at held n b (neither (awaits_none s) (list_any awaits_none held) h).1 k
 
 -- an entry that doesn't wait, and one that isn't ready, stay
-abbrev pub Stays : Desc → Bool → Fact
-Stays d free before e = may_issue d free before e ≡ false
+abbrev pub Stays : Desc → Around → Fact
+Stays d now before e = may_issue d now before e ≡ false
 
-stays_by : (d : Desc) (free : Bool) (before : List Entry) (e : Entry) (w : Bool) → is_waiting e.state ≡ w → (is_waiting e.state ≡ true → ready before e ≡ false) → Stays d free before e
-stays_by d free before e true w r = let n = r w in cc
-stays_by d free before e false w r = cc
+stays_by : (d : Desc) (now : Around) (before : List Entry) (e : Entry) (w : Bool) → is_waiting e.state ≡ w → (is_waiting e.state ≡ true → ready before e ≡ false) → Stays d now before e
+stays_by d now before e true w r = let n = r w in cc
+stays_by d now before e false w r = cc
 
 -- what each position has, each entry has
 along_by : (P : Fact) (before es : List Entry) → ((i : ℕ) (e : Entry) → slice_get es i ≡ Some e → P (reverse_aux (take i es) before) e) → Along P before es
 along_by P before [] h = tt
 along_by P before (e ∷ es) h = (h 0 e refl, along_by P (e ∷ before) es (λ i e2 k. h (suc i) e2 k))
 
-pub all_stay : (d : Desc) (free : Bool) (p : Parts) → Stand p → list_any awaits_none p.held ≡ false → Along (Stays d free) [] p.window
-all_stay d free p s none = along_by (Stays d free) [] p.window (λ i e h.
-    stays_by d free (before_at p.window i) e (is_waiting e.state) refl (λ w. answer_at p.held (station_of i p.window) (ready (before_at p.window i) e) none (tells_ready p i e s h w)))
+pub all_stay : (d : Desc) (now : Around) (p : Parts) → Stand p → list_any awaits_none p.held ≡ false → Along (Stays d now) [] p.window
+all_stay d now p s none = along_by (Stays d now) [] p.window (λ i e h.
+    stays_by d now (before_at p.window i) e (is_waiting e.state) refl (λ w. answer_at p.held (station_of i p.window) (ready (before_at p.window i) e) none (tells_ready p i e s h w)))
 
 -- ---- and nothing is left otherwise
 
-module _ (d : Desc) (x : Machine) where
-  turn_waits : (before : List Entry) (e : Entry) → Stays d (is_free x) before e → issue_entry d x before e ≡ waits e
-  turn_waits before e h = ap (λ b. if b then begin_as e.item.kind d x before e else waits e) (sym (grants_none d (is_free x) before e h))
+module _ (d : Desc) (now : Around) where
+  turn_waits : (before : List Entry) (e : Entry) → Stays d now before e → issue_entry d now before e ≡ waits e
+  turn_waits before e h = ap (λ b. if b then begin_as e.item.kind d now before e else waits e) (grants_none d now (port_of e.item.kind) before e h)
 
-  each_waits : (before es : List Entry) → Along (Stays d (is_free x)) before es → each_from (issue_entry d x) before es ≡ map waits es
+  each_waits : (before es : List Entry) → Along (Stays d now) before es → each_from (issue_entry d now) before es ≡ map waits es
   each_waits before [] h = refl
   each_waits before (e ∷ es) h = ap₂ (λ b bs. b ∷ bs) (turn_waits before e h.0) (each_waits (e ∷ before) es h.1)
 
-  none_first : (asks : Entry → Bool) (before es : List Entry) → Along (Stays d (is_free x)) before es → first_from (λ before e. asks e && may_issue d (is_free x) before e) before es ≡ None
-  none_first asks before [] h = refl
-  none_first asks before (e ∷ es) h =
-      ap (λ b. if b then Some (record { before = before; entry = e; younger = es }) else first_from (λ before e. asks e && may_issue d (is_free x) before e) (e ∷ before) es)
-      (none_and (asks e) (may_issue d (is_free x) before e) h.0)
-      ∙ none_first asks (e ∷ before) es h.1
+  none_first : (port : Port) (before es : List Entry) → Along (Stays d now) before es → first_from (may_at d now port) before es ≡ None
+  none_first port before [] h = refl
+  none_first port before (e ∷ es) h =
+      ap (λ m. if m && same_port (port_of e.item.kind) port then Some (record { before = before; entry = e; younger = es }) else first_from (may_at d now port) (e ∷ before) es) h.0
+      ∙ none_first port (e ∷ before) es h.1
 
 same_entries : (es : List Entry) → map (λ b. b.entry) (map waits es) ≡ es
 same_entries [] = refl
@@ -75,16 +76,31 @@ no_events : (es : List Entry) → flat_map (λ b. b.events) (map waits es) ≡ [
 no_events [] = refl
 no_events (e ∷ es) = no_events es
 
-module _ (d : Desc) (x : Machine) (h : Along (Stays d (is_free x)) [] x.window) where
+module _ (d : Desc) (x : Machine) (h : Along (Stays d (around x)) [] x.window) where
   -- the phase has no event
   pub idle_events : (issue d x).events ≡ []
-  idle_events = ap (flat_map (λ b. b.events)) (each_waits d x [] x.window h) ∙ no_events x.window
+  idle_events = ap (flat_map (λ b. b.events)) (each_waits d (around x) [] x.window h) ∙ no_events x.window
 
   -- and leaves the machine as it is
   pub idle_machine : x ≡ (issue d x).machine
   idle_machine =
       leaves d x x.window None None x.cache x.misses x.divider
-      (sym (ap (map (λ b. b.entry)) (each_waits d x [] x.window h) ∙ same_entries x.window))
-      (sym (ap (option_map _) (none_first d x (λ e. is_load e.item.kind) [] x.window h)))
-      (sym (ap (option_map _) (none_first d x (λ e. is_division e.item.kind) [] x.window h)))
+      (sym (ap (map (λ b. b.entry)) (each_waits d (around x) [] x.window h) ∙ same_entries x.window))
+      (sym (ap (option_map _) (none_first d (around x) LoadPort [] x.window h)))
+      (sym (ap (option_map _) (none_first d (around x) DivPort [] x.window h)))
       refl refl refl
+
+-- ---- of parts with no ready station
+
+-- no entry may issue
+none_may : (h : Held) → Whole h → list_any awaits_none h.stations.held ≡ false → Along (Stays h.desc (around (machine_of h))) [] h.rob.entries
+none_may h w none = all_stay h.desc (around (machine_of h)) (table_and_stations (in_flight h)) w.stands.stand none
+
+-- so the phase leaves what is seen of them, and has no event
+pub idle_shown : (h : Held) (v : Described) → Whole h → list_any awaits_none h.stations.held ≡ false → described h ≡ v → described h ≡ record v { machine = (issue v.desc v.machine).machine }
+idle_shown h v w none s = shown_by (λ d x. (issue d x).machine) h (machine_of h) v (idle_machine h.desc (machine_of h) (none_may h w none)) s
+
+pub idle_row : (h : Held) (v : Described) (row : Row) → Whole h → list_any awaits_none h.stations.held ≡ false → described h ≡ v → row ≡ with_events row (issue v.desc v.machine).events
+idle_row h v row w none s =
+    told_by (λ d x. issue d x) h v row row
+    (ap (λ es. record row { events = es }) (sym (ap (λ es. row.events ++ es) (idle_events h.desc (machine_of h) (none_may h w none)) ∙ append-nil row.events))) s

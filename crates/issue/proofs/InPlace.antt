@@ -1,81 +1,34 @@
 -- Parts that stand for the window go on to do so as the entries that have begun come in their places, the youngest first.
-use Rattle.std.proofs.Common.{◌≡◌, ℕ, zero, suc, ◌<◌, true, List, [], ◌∷◌, ◌++◌, length, Option, Some, None, refl, ap, ap₂, sym, ◌∙◌, subst, arith, slice_get}
-use Rattle.std.specs.Prelude.{◌||◌, if◌then◌else◌, is_some, map, slice_set}
-use Rattle.std.specs.List.{All, AllPairs, AllZip, remove}
+use Rattle.std.proofs.Common.{◌≡◌, ℕ, zero, suc, ◌<◌, List, [], ◌∷◌, ◌++◌, length, Option, Some, refl, ap, sym, ◌∙◌, subst, arith, slice_get}
+use Rattle.std.specs.Prelude.{slice_set}
+use Rattle.std.specs.List.{All, AllPairs, remove}
 use Rattle.std.specs.Option.{option_to_list}
 use Rattle.std.proofs.lemmas.List.Elements.{All-head, All-nil, All-cons, All-tail}
 use Rattle.std.proofs.lemmas.Option.{slice_get_within}
 use Rattle.window_model.specs.declared.Entry.{Entry}
-use Rattle.window_model.specs.declared.Outcome.{Outcome}
-use Rattle.window_model.specs.Order.{is_load, is_store, is_waiting}
 use Rattle.window_model.specs.Issue.{begun}
-use Rattle.window_model.proofs.Booleans.{waiting_done}
-use Rattle.window_model.proofs.EntryByEntry.{zip_same}
 use Rattle.rob_ring.specs.Ring.{Ring}
 use Rattle.stations.specs.Stations.{Station, Stations}
-use Rattle.lsq.specs.Queues.{Queues}
-use Rattle.visibility.specs.Point.{Point}
-use Rattle.queue_laws.specs.Window.{StandFor, seen, write_in}
-use Rattle.queue_laws.proofs.Renaming.{unseen_stands}
-use Rattle.parts_stand.specs.Parts.{Parts, Stand}
-use Rattle.parts_stand.specs.Steps.{GoesOn, station_of}
-use Rattle.parts_stand.specs.Addresses.{AddressesStand}
-use Rattle.parts_stand.specs.Points.{PointStands}
+use Rattle.core_parts.specs.Stands.{InFlight, Stands, table_and_stations}
+use Rattle.core_parts.proofs.Steps.{stands_begun}
 use Rattle.parts_stand.proofs.Answering.{has_station, stations_older}
-use Rattle.parts_stand.proofs.Keeping.{goes_on_then, goes_same, zip_set}
 use Rattle.window_model.proofs.Serials.{all_left, all_right}
-use Rattle.parts_stand.proofs.Standing.{issues_at}
-use Rattle.parts_stand.proofs.Addressing.{addresses_go_on}
-use Rattle.parts_stand.proofs.Moving.{point_issues}
 use Rattle.issue.specs.declared.decide.Put.{Put}
 use Rattle.issue.specs.Puts.{ArePuts, IsPut, begun_at, placed}
 use Rattle.issue.proofs.Turning.{placed_push}
 
 -- ---- what stands
 
--- where the queues and the points stood for the one window, with these stations, they do for the other with those
-pub record Ties (entries : List Entry) (held : List Station) (now : List Entry) (held_now : List Station) : Type 0 where
-  pub stand : (p : Parts) → Stand (record p { window = entries; held = held }) → Stand (record p { window = now; held = held_now })
-  pub goes_on : AllZip GoesOn entries now
-  pub queues : (q : Queues) → StandFor q entries → StandFor q now
-  pub addresses : (roots : List (List (Option ℕ))) (q : Queues) → AddressesStand entries roots q.stores → AddressesStand now roots q.stores
-  pub point : (point : Point) (next : ℕ) → PointStands point next entries → PointStands point next now
-
-ties_start : (entries : List Entry) (held : List Station) → Ties entries held entries held
-ties_start entries held = record { stand = λ p s. s; goes_on = zip_same GoesOn goes_same entries; queues = λ q s. s; addresses = λ roots q s. s; point = λ point next s. s }
-
--- the queues don't see that it begins
-same_seen : (e : Entry) (due : ℕ) (o : Outcome) → is_waiting e.state ≡ true → seen (begun e due o) ≡ seen e
-same_seen e due o h =
-    ap₂ (λ b w. record {
-      load = if is_load e.item.kind then Some e.serial else None;
-      store = if is_store e.item.kind then Some (record { serial = e.serial; write = if b then Some (write_in e) else None; computed = w || is_some e.outcome }) else None;
-    }) (sym (waiting_done e.state h)) (sym h)
-
-map_set : {X : Type 0} (f : Entry → X) (es : List Entry) (i : ℕ) (e e2 : Entry) → slice_get es i ≡ Some e → f e2 ≡ f e → map f (slice_set es i e2) ≡ map f es
-map_set f [] i e e2 h q = absurd (cc)
-map_set f (x ∷ es) zero e e2 h q = let a : x ≡ e = cc in ap (λ y. y ∷ map f es) (q ∙ ap f (sym a))
-map_set f (x ∷ es) (suc i) e e2 h q = ap (λ ys. f x ∷ ys) (map_set f es i e e2 h q)
-
--- parts of which only these matter
-abbrev as_parts : List Entry → List (List (Option ℕ)) → Parts
-as_parts entries roots = record { next = 0; window = entries; roots = roots; writes = []; held = [] }
+-- whatever stood for the one window, with these stations, does for the other with those
+abbrev pub Ties : List Entry → List Station → List Entry → List Station → Type 0
+Ties entries held now held_now = (p : InFlight) → Stands (record p { window = entries; held = held }) → Stands (record p { window = now; held = held_now })
 
 -- an entry that has begun comes in its place, and its station is freed
 ties_more : (entries : List Entry) (held : List Station) (now : List Entry) (held_now : List Station) (put : Put) →
     Ties entries held now held_now → (k : IsPut now put) → Ties entries held (slice_set now put.position (begun k.old put.due put.outcome)) (remove held_now put.station)
 ties_more entries held now held_now put t k =
-    let e = k.old in
-    let b = begun e put.due put.outcome in
-    let on : AllZip GoesOn now (slice_set now put.position b) = zip_set GoesOn goes_same now put.position e b k.here (record { serial = refl; item = refl }) in
-    let made : Ties entries held (slice_set now put.position b) (remove held_now (station_of put.position now)) = record {
-      stand = λ p s. issues_at (record p { window = now; held = held_now }) put.position put.due e put.outcome (t.stand p s) k.here k.waits;
-      goes_on = goes_on_then entries now (slice_set now put.position b) t.goes_on on;
-      queues = λ q s. unseen_stands q now (slice_set now put.position b) (t.queues q s) (map_set seen now put.position e b k.here (same_seen e put.due put.outcome k.waits));
-      addresses = λ roots q s. addresses_go_on (as_parts now roots) q.stores (slice_set now put.position b) (t.addresses roots q s) on;
-      point = λ point next s. point_issues point next now put.position put.due e put.outcome (t.point point next s) k.here k.waits;
-    } in
-    subst (λ n. Ties entries held (slice_set now put.position b) (remove held_now n)) (sym k.station) made
+    subst (λ n. Ties entries held (slice_set now put.position (begun k.old put.due put.outcome)) (remove held_now n)) (sym k.station)
+    (λ p s. stands_begun (record p { window = now; held = held_now }) put.position put.due k.old put.outcome (t p s) k.here k.waits)
 
 -- ---- the puts
 
@@ -146,7 +99,7 @@ pub record PlacesOn (puts : List Put) (rob : Ring) (stations : Stations) (left :
   pub ties : Ties rob.entries stations.held r.entries s.held
 
 pub places_start : (puts : List Put) (rob : Ring) (stations : Stations) → ArePuts rob.entries puts → PlacesOn puts rob stations puts rob stations
-places_start puts rob stations a = record { whole = refl; rest = a; same_room = refl; same_places = refl; ties = ties_start rob.entries stations.held }
+places_start puts rob stations a = record { whole = refl; rest = a; same_room = refl; same_places = refl; ties = λ p s. s }
 
 module _ (puts : List Put) (rob : Ring) (stations : Stations) (left rest : List Put) (r : Ring) (s : Stations) (put : Put) (o : Option Put) (t : PlacesOn puts rob stations left r s) (is : o ≡ Some put) (popped : left ≡ rest ++ option_to_list o) where
   split : left ≡ rest ++ put ∷ []
@@ -166,10 +119,10 @@ module _ (puts : List Put) (rob : Ring) (stations : Stations) (left rest : List 
   pub place_within : put.position < length r.entries
   place_within = slice_get_within r.entries put.position here.old here.here
 
-  pub station_within : (p : Parts) × Stand (record p { window = rob.entries; held = stations.held }) → put.station < length s.held
+  pub station_within : (p : InFlight) × Stands (record p { window = rob.entries; held = stations.held }) → put.station < length s.held
   station_within k =
       subst (λ n. n < length s.held) (sym here.station)
-      ((has_station (record k.0 { window = r.entries; held = s.held }) put.position here.old (t.ties.stand k.0 k.1) here.here here.waits).within)
+      ((has_station (table_and_stations (record k.0 { window = r.entries; held = s.held })) put.position here.old (t.ties k.0 k.1).stand here.here here.waits).within)
 
   pub places_more : (r2 : Ring) (s2 : Stations) → ((e : Entry) → slice_get r.entries put.position ≡ Some e → r2 ≡ record r { entries = slice_set r.entries put.position (begun e put.due put.outcome) }) →
       s2 ≡ record s { held = remove s.held put.station } → PlacesOn puts rob stations rest r2 s2

@@ -5,12 +5,11 @@ pub mod Waiting
 pub mod Testing
 pub mod Choosing
 pub mod Slots
-pub mod Dividers
 pub mod Turning
 pub mod Noting
 pub mod Walking
 pub mod InPlace
-pub mod Alike
 pub mod Leaving
 pub mod Idle
-pub mod Tested
+pub mod Advanced
+pub mod Issued

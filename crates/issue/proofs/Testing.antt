@@ -7,7 +7,9 @@ use Rattle.std.proofs.lemmas.Bool.Decides.{nat_tests}
 use Rattle.rv_types.specs.Value.{one_if}
 use Rattle.machine_desc.specs.declared.Desc.{Desc}
 use Rattle.window_model.specs.declared.Entry.{Entry}
-use Rattle.window_model.specs.Issue.{Port, AluPort, MulPort, DivPort, StorePort, LoadPort, is_granted, may_issue, may_issue_as, port_of, stores_done}
+use Rattle.window_model.specs.Around.{Around, is_free}
+use Rattle.window_model.specs.Issue.{Port, AluPort, MulPort, DivPort, AddressPort, LoadPort, asking, is_granted, may_issue, may_issue_as, port_of, ports, same_port, stores_done}
+use Rattle.window_model.proofs.Issuing.{may_own}
 use Rattle.window_model.specs.Order.{before_at, is_waiting, ready}
 use Rattle.stations.specs.Stations.{awaits_none}
 use Rattle.lsq.specs.Queues.{is_known, older}
@@ -21,7 +23,7 @@ use Rattle.parts_stand.specs.Telling.{asks_besides}
 use Rattle.parts_stand.proofs.Answering.{tells_issue, tells_ready}
 use Rattle.issue.specs.declared.seen.Seen.{Seen}
 use Rattle.issue.specs.Ports.{OnlyPorts, left_in_all}
-use Rattle.issue.specs.State.{Stands, StandsAt, parts_of}
+use Rattle.issue.specs.State.{Stands, StandsAt, around_of, parts_of}
 use Rattle.issue.proofs.Bytes.{stores_before}
 
 -- ---- what an entry is asked for
@@ -43,13 +45,13 @@ module _ (s : Seen) (i : ℕ) (e : Entry) (t : Stands s) (h : StandsAt s i e) wh
   stores_known = known_is (older e.serial s.lsq.now.stores) before (stores_before s.lsq.now s.rob.now.entries i e t.queues t.parts.rise h)
 
   -- untainted operands, and what is asked for besides
-  pub issue_is : (free m b : Bool) (roots : List (Option ℕ)) → slice_get s.roots.now.items i ≡ Some roots → m ≡ may_transmit e.item.kind s.point.now.serial roots → b ≡ asks_besides e.item.kind free before →
-      (m && b) ≡ may_issue_as e.item.kind s.desc.now free before e
-  issue_is free m b roots r p q = ap₂ (λ m b. m && b) p q ∙ sym (tells_issue s.desc.now (parts_of t.next t.writes s) s.point.now i e roots free t.parts t.advanced t.model h r)
+  pub issue_is : (m b : Bool) (roots : List (Option ℕ)) → slice_get s.roots.now.items i ≡ Some roots → m ≡ may_transmit e.item.kind s.point.now.serial roots → b ≡ asks_besides e.item.kind (is_free (around_of s)) before →
+      (m && b) ≡ may_issue_as e.item.kind s.desc.now (around_of s) before e
+  issue_is m b roots r p q = ap₂ (λ m b. m && b) p q ∙ sym (tells_issue s.desc.now (parts_of t.next t.writes s) s.point.now i e roots (around_of s) t.parts t.advanced t.model h r)
 
 -- an entry that waits and is ready may issue by what its kind asks for
-pub asks_by_kind : (d : Desc) (free : Bool) (before : List Entry) (e : Entry) → is_waiting e.state ≡ true → ready before e ≡ true → may_issue d free before e ≡ may_issue_as e.item.kind d free before e
-asks_by_kind d free before e w r = ap₂ (λ a b. a && b && may_issue_as e.item.kind d free before e) w r
+pub asks_by_kind : (d : Desc) (now : Around) (before : List Entry) (e : Entry) → is_waiting e.state ≡ true → ready before e ≡ true → may_issue d now before e ≡ may_issue_as e.item.kind d now before e
+asks_by_kind d now before e w r = ap₂ (λ a b. a && b && may_issue_as e.item.kind d now before e) w r
 
 -- ---- ports
 
@@ -64,26 +66,29 @@ pub one_less : (q : Port) (p : Ports) → left_in_all (taken_at q p) + one_if (n
 one_less AluPort p = let k = some_less p.alu in omega (arith, k)
 one_less MulPort p = let k = some_less p.mul in omega (arith, k)
 one_less DivPort p = let k = some_less p.div in omega (arith, k)
-one_less StorePort p = let k = some_less p.store in omega (arith, k)
+one_less AddressPort p = let k = some_less p.store in omega (arith, k)
 one_less LoadPort p = let k = some_less p.load in omega (arith, k)
 
 pub only_ports : (q : Port) (p : Ports) → OnlyPorts p (taken_at q p)
 only_ports AluPort p = record { alus = refl; cycle = refl; divider = refl }
 only_ports MulPort p = record { alus = refl; cycle = refl; divider = refl }
 only_ports DivPort p = record { alus = refl; cycle = refl; divider = refl }
-only_ports StorePort p = record { alus = refl; cycle = refl; divider = refl }
+only_ports AddressPort p = record { alus = refl; cycle = refl; divider = refl }
 only_ports LoadPort p = record { alus = refl; cycle = refl; divider = refl }
 
 -- an entry that may not issue takes none
-pub left_none : (d : Desc) (free : Bool) (before : List Entry) (e : Entry) (p : Ports) → may_issue d free before e ≡ false → LeftAfter d free before p → LeftAfter d free (e ∷ before) p
-left_none d free before e p h l = subst (λ b. LeftAfter d free (e ∷ before) (asked b e p)) h (left_more d free before e p l)
+pub left_none : (d : Desc) (now : Around) (before : List Entry) (e : Entry) (p : Ports) → may_issue d now before e ≡ false → LeftAfter d now before p → LeftAfter d now (e ∷ before) p
+left_none d now before e p h l = subst (λ b. LeftAfter d now (e ∷ before) (asked b e p)) h (left_more d now before e p l)
 
 -- one that may takes one
-pub left_one : (d : Desc) (free : Bool) (before : List Entry) (e : Entry) (p new : Ports) → may_issue d free before e ≡ true → LeftAfter d free before p → new ≡ taken_at (port_of e.item.kind) p → LeftAfter d free (e ∷ before) new
-left_one d free before e p new h l n = subst (LeftAfter d free (e ∷ before)) (sym n) (subst (λ b. LeftAfter d free (e ∷ before) (asked b e p)) h (left_more d free before e p l))
+pub left_one : (d : Desc) (now : Around) (before : List Entry) (e : Entry) (p new : Ports) → may_issue d now before e ≡ true → LeftAfter d now before p → new ≡ taken_at (port_of e.item.kind) p → LeftAfter d now (e ∷ before) new
+left_one d now before e p new h l n = subst (LeftAfter d now (e ∷ before)) (sym n) (subst (λ b. LeftAfter d now (e ∷ before) (asked b e p)) h (left_more d now before e p l))
 
-pub grants_none : (d : Desc) (free : Bool) (before : List Entry) (e : Entry) → may_issue d free before e ≡ false → false ≡ is_granted d free before e
-grants_none d free before e h = cc
+-- an entry that may not issue is granted no port
+pub grants_none : (d : Desc) (now : Around) (port : Port) (before : List Entry) (e : Entry) → may_issue d now before e ≡ false → is_granted d now port before e ≡ false
+grants_none d now port before e h = ap (λ m. (m && same_port (port_of e.item.kind) port) && nat_lt (asking d now port before) (ports d port)) h
 
-pub grants_one : (d : Desc) (free : Bool) (before : List Entry) (e : Entry) (p : Ports) (b : Bool) → may_issue d free before e ≡ true → LeftAfter d free before p → b ≡ nat_lt 0 (left_at (port_of e.item.kind) p) → b ≡ is_granted d free before e
-grants_one d free before e p b h l n = n ∙ ap (λ m. m && nat_lt 0 (left_at (port_of e.item.kind) p)) (sym h) ∙ granted_is d free before e p l
+-- and one that may is granted its own where one is left
+pub grants_one : (d : Desc) (now : Around) (before : List Entry) (e : Entry) (p : Ports) (b : Bool) → may_issue d now before e ≡ true → LeftAfter d now before p → b ≡ nat_lt 0 (left_at (port_of e.item.kind) p) → b ≡ is_granted d now (port_of e.item.kind) before e
+grants_one d now before e p b h l n =
+    n ∙ ap (λ m. m && nat_lt 0 (left_at (port_of e.item.kind) p)) (sym (may_own d now before e ∙ h)) ∙ granted_is d now (port_of e.item.kind) before e p l

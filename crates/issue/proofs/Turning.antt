@@ -1,5 +1,5 @@
 -- What an entry's turn comes to: it waits on, or it begins with one event.
-use Rattle.std.proofs.Common.{◌≡◌, ℕ, ◌+◌, ◌<◌, ◌≤◌, Bool, true, false, ◌&&◌, List, [], ◌∷◌, ◌++◌, length, Some, refl, ap, sym, subst, ◌∙◌, inl, inr, arith, append-nil, slice_get}
+use Rattle.std.proofs.Common.{◌≡◌, ℕ, ◌+◌, ◌<◌, ◌≤◌, Bool, true, false, List, [], ◌∷◌, ◌++◌, length, Some, refl, ap, sym, subst, ◌∙◌, inl, inr, arith, append-nil, slice_get}
 use Rattle.std.specs.Prelude.{if◌then◌else◌, ◌⊎◌}
 use Rattle.std.specs.List.{All, AllPairs}
 use Rattle.std.proofs.lemmas.List.{set_at}
@@ -13,16 +13,15 @@ use Rattle.machine_desc.specs.declared.Desc.{Desc}
 use Rattle.window_model.specs.declared.Entry.{Entry}
 use Rattle.window_model.specs.declared.Event.{Event}
 use Rattle.window_model.specs.declared.Outcome.{Outcome}
-use Rattle.window_model.specs.State.{Machine}
-use Rattle.window_model.specs.Order.{is_waiting, ready}
-use Rattle.window_model.specs.Access.{Access, Faults, Forwards, Hits, Joins, Misses, Waits}
-use Rattle.window_model.specs.Issue.{Begun, access_of, begin_as, begins, begun, effect_at, is_granted, load_as, may_issue_as, value_loaded, waits}
+use Rattle.window_model.specs.Around.{Around}
+use Rattle.window_model.specs.Order.{is_waiting}
+use Rattle.window_model.specs.Issue.{Begun, access_of, begin_as, begins, begun, is_granted, issue_entry, load_as, may_at, may_issue, port_of, waits}
+use Rattle.window_model.proofs.Booleans.{both}
+use Rattle.window_model.proofs.Issuing.{by_load, may_parts}
 use Rattle.parts_stand.specs.Steps.{station_of}
 use Rattle.issue.specs.declared.decide.Put.{Put}
-use Rattle.issue.specs.declared.seen.Seen.{Seen}
-use Rattle.issue.specs.Deciding.{puts_of, turn_of}
+use Rattle.issue.specs.Deciding.{puts_of}
 use Rattle.issue.specs.Puts.{IsPut, begun_at, placed}
-use Rattle.issue.specs.State.{machine_of}
 
 -- it is granted a port, and begins with one event
 pub record Begins (granted : Bool) (e : Entry) (b : Begun) : Type 0 where
@@ -30,32 +29,31 @@ pub record Begins (granted : Bool) (e : Entry) (b : Begun) : Type 0 where
   pub outcome : Outcome
   pub event : Event
   pub has_port : granted ≡ true
-  pub is : b ≡ begins e due outcome event
+  pub is : b ≡ begins e due outcome (event ∷ [])
 
 abbrev pub Acts : Bool → Entry → Begun → Type 0
 Acts granted e b = (b ≡ waits e) ⊎ Begins granted e b
 
-load_acts : (a : Access) (d : Desc) (x : Machine) (e : Entry) (f : Effect) (v : ℕ) → Acts true e (load_as a d x e f v)
-load_acts (Faults cause) d x e f v = inr (record { due = _; outcome = _; event = _; has_port = refl; is = refl })
-load_acts Forwards d x e f v = inr (record { due = _; outcome = _; event = _; has_port = refl; is = refl })
-load_acts (Hits line) d x e f v = inr (record { due = _; outcome = _; event = _; has_port = refl; is = refl })
-load_acts (Joins line due) d x e f v = inr (record { due = _; outcome = _; event = _; has_port = refl; is = refl })
-load_acts (Misses line) d x e f v = inr (record { due = _; outcome = _; event = _; has_port = refl; is = refl })
-load_acts Waits d x e f v = inl refl
+one_event : (e : Entry) (due : ℕ) (o : Outcome) (v : Event) → Acts true e (begins e due o (v ∷ []))
+one_event e due o v = inr (record { due = due; outcome = o; event = v; has_port = refl; is = refl })
 
-begin_acts : (k : Kind) (d : Desc) (x : Machine) (before : List Entry) (e : Entry) → Acts true e (begin_as k d x before e)
-begin_acts Load d x before e = let f = effect_at x before e in load_acts (access_of d x before e) d x e f (value_loaded x before e f.addr)
-begin_acts Store d x before e = inr (record { due = _; outcome = _; event = _; has_port = refl; is = refl })
-begin_acts Mul d x before e = inr (record { due = _; outcome = _; event = _; has_port = refl; is = refl })
-begin_acts Div d x before e = inr (record { due = _; outcome = _; event = _; has_port = refl; is = refl })
-begin_acts _ d x before e = inr (record { due = _; outcome = _; event = _; has_port = refl; is = refl })
+load_acts : (d : Desc) (now : Around) (b : List Entry) (e : Entry) (f : Effect) (v : ℕ) → Acts true e (load_as (access_of d now b e) d now e f v)
+load_acts d now b e f v =
+    by_load d now (λ a. Acts true e (load_as a d now e f v)) (one_event e _ _ _) (λ line room. one_event e _ _ _) (λ full. inl refl) (λ c. one_event e _ _ _) b e
+
+begin_acts : (k : Kind) (d : Desc) (now : Around) (before : List Entry) (e : Entry) → Acts true e (begin_as k d now before e)
+begin_acts Load d now before e = load_acts d now before e _ _
+begin_acts Store d now before e = one_event e _ _ _
+begin_acts Mul d now before e = one_event e _ _ _
+begin_acts Div d now before e = one_event e _ _ _
+begin_acts _ d now before e = one_event e _ _ _
 
 by_grant : (granted : Bool) (e : Entry) (b : Begun) → Acts true e b → Acts granted e (if granted then b else waits e)
 by_grant true e b h = h
 by_grant false e b h = inl refl
 
-pub turn_acts : (s : Seen) (free : Bool) (before : List Entry) (e : Entry) → Acts (is_granted s.desc.now free before e) e (turn_of s free before e)
-turn_acts s free before e = by_grant (is_granted s.desc.now free before e) e _ (begin_acts e.item.kind s.desc.now (machine_of s) before e)
+pub turn_acts : (d : Desc) (now : Around) (before : List Entry) (e : Entry) → Acts (is_granted d now (port_of e.item.kind) before e) e (issue_entry d now before e)
+turn_acts d now before e = by_grant (is_granted d now (port_of e.item.kind) before e) e _ (begin_acts e.item.kind d now before e)
 
 -- ---- its events, and whether it waits
 
@@ -66,16 +64,12 @@ few_events granted e b (inr t) =
     let one : one_if granted ≡ 1 = ap one_if t.has_port in
     omega (arith, n, one)
 
-first_true : (a b c n : Bool) → ((a && b && c) && n) ≡ true → a ≡ true
-first_true true b c n h = refl
-first_true false b c n h = absurd (cc)
-
-pub granted_waits : (d : Desc) (free : Bool) (before : List Entry) (e : Entry) → is_granted d free before e ≡ true → is_waiting e.state ≡ true
-granted_waits d free before e h = first_true (is_waiting e.state) (ready before e) (may_issue_as e.item.kind d free before e) _ h
+pub granted_waits : (d : Desc) (now : Around) (before : List Entry) (e : Entry) → is_granted d now (port_of e.item.kind) before e ≡ true → is_waiting e.state ≡ true
+granted_waits d now before e h = (may_parts d now before e (both (may_issue d now before e) _ (both (may_at d now (port_of e.item.kind) before e) _ h).0).0).waits
 
 -- one that is granted no port waits on
-pub turn_waits : (s : Seen) (free : Bool) (before : List Entry) (e : Entry) → is_granted s.desc.now free before e ≡ false → turn_of s free before e ≡ waits e
-turn_waits s free before e h = ap (λ b. if b then begin_as e.item.kind s.desc.now (machine_of s) before e else waits e) h
+pub turn_waits : (d : Desc) (now : Around) (before : List Entry) (e : Entry) → is_granted d now (port_of e.item.kind) before e ≡ false → issue_entry d now before e ≡ waits e
+turn_waits d now before e h = ap (λ b. if b then begin_as e.item.kind d now before e else waits e) h
 
 -- ---- the puts
 

@@ -10,35 +10,33 @@ use Rattle.window_model.specs.declared.Divider.{Divider}
 use Rattle.window_model.specs.declared.Entry.{Entry}
 use Rattle.window_model.specs.declared.Event.{Event}
 use Rattle.window_model.specs.Access.{Access}
-use Rattle.window_model.specs.State.{Machine}
+use Rattle.machine_desc.specs.declared.Desc.{Desc}
+use Rattle.window_model.specs.Around.{Around}
 use Rattle.window_model.specs.Order.{before_at, each, is_waiting, ready}
-use Rattle.window_model.specs.Issue.{Begun, DivPort, LoadPort, access_of, begin_as, divides, is_free, is_granted, issue_entry, may_issue, tried, waits}
+use Rattle.window_model.specs.Issue.{Begun, DivPort, LoadPort, access_of, is_granted, issue_entry, may_at, may_issue, port_of, taken_for, waits}
 use Rattle.window_model.proofs.Before.{before_more, each_push}
 use Rattle.unit_ports.specs.Ports.{Ports}
 use Rattle.unit_ports.specs.Laws.{LeftAfter}
 use Rattle.parts_stand.specs.Steps.{station_of}
 use Rattle.issue.specs.declared.decide.Put.{Put}
 use Rattle.issue.specs.declared.seen.Seen.{Seen}
-use Rattle.issue.specs.Begins.{division_of}
-use Rattle.issue.specs.Deciding.{puts_of, turn_of}
-use Rattle.issue.specs.Ports.{gets}
+use Rattle.issue.specs.Deciding.{puts_of}
 use Rattle.issue.specs.Puts.{ArePuts, IsPut, placed}
-use Rattle.issue.specs.State.{StandsAt, machine_of, machine_with, window_of}
-use Rattle.issue.proofs.Choosing.{gets_none, the_other}
-use Rattle.issue.proofs.Dividers.{access_same, begin_same}
-use Rattle.issue.proofs.Slots.{asks, division_asks, load_asks, of_first, one_more, slot_more}
+use Rattle.issue.specs.State.{StandsAt, around_of, window_of}
+use Rattle.issue.proofs.Choosing.{the_other}
+use Rattle.issue.proofs.Slots.{of_first, one_more, slot_more}
 use Rattle.issue.proofs.Testing.{grants_none, left_none}
 use Rattle.issue.proofs.Waiting.{Keeps, Reaches}
 use Rattle.issue.proofs.Turning.{PutsTo, granted_waits, placed_more, puts_more, turn_acts, turn_waits}
 
 -- what is decided once the entries before a position have had their turns
-pub record DecidedTo (s : Seen) (free : Bool) (i : ℕ) (puts : List Put) (load : Option Access) (division : Option Divider) (earlier events : List Event) : Type 0 where
+pub record DecidedTo (s : Seen) (i : ℕ) (puts : List Put) (load : Option Access) (division : Option Divider) (earlier events : List Event) : Type 0 where
   pub puts_to : PutsTo (window_of s) i puts
   -- whatever entries are younger
-  pub window : (younger : List Entry) → placed puts (take i (window_of s) ++ younger) ≡ map (λ b. b.entry) (each (turn_of s free) (take i (window_of s))) ++ younger
-  pub events_are : events ≡ earlier ++ flat_map (λ b. b.events) (each (turn_of s free) (take i (window_of s)))
-  pub load_is : load ≡ of_first (asks s.desc.now free LoadPort) (access_of s.desc.now (machine_of s)) (take i (window_of s))
-  pub division_is : division ≡ of_first (asks s.desc.now free DivPort) (division_of (machine_of s)) (take i (window_of s))
+  pub window : (younger : List Entry) → placed puts (take i (window_of s) ++ younger) ≡ map (λ b. b.entry) (each (issue_entry s.desc.now (around_of s)) (take i (window_of s))) ++ younger
+  pub events_are : events ≡ earlier ++ flat_map (λ b. b.events) (each (issue_entry s.desc.now (around_of s)) (take i (window_of s)))
+  pub load_is : load ≡ of_first (may_at s.desc.now (around_of s) LoadPort) (access_of s.desc.now (around_of s)) (take i (window_of s))
+  pub division_is : division ≡ of_first (may_at s.desc.now (around_of s) DivPort) (taken_for (around_of s)) (take i (window_of s))
 
 entries_push : (bs : List Begun) (b : Begun) → map (λ b. b.entry) (bs ++ b ∷ []) ≡ map (λ b. b.entry) bs ++ b.entry ∷ []
 entries_push [] b = refl
@@ -48,95 +46,103 @@ events_push : (bs : List Begun) (b : Begun) → flat_map (λ b. b.events) (bs ++
 events_push [] b = append-nil b.events
 events_push (a ∷ bs) b = ap (λ es. a.events ++ es) (events_push bs b) ∙ sym (append_assoc a.events (flat_map (λ b. b.events) bs) b.events)
 
-module _ (s : Seen) (free : Bool) (i : ℕ) (e : Entry) (h : StandsAt s i e) where
+module _ (s : Seen) (i : ℕ) (e : Entry) (h : StandsAt s i e) where
+  abbrev d : Desc
+  d = s.desc.now
+
+  abbrev now : Around
+  now = around_of s
+
+  abbrev window_up_to : ℕ → List Entry
+  window_up_to n = take n (window_of s)
+
   abbrev before : List Entry
   before = before_at (window_of s) i
 
   abbrev turn : Begun
-  turn = turn_of s free before e
+  turn = issue_entry d now before e
 
-  abbrev older_turns : List Begun
-  older_turns = each (turn_of s free) (take i (window_of s))
+  abbrev turns : ℕ → List Begun
+  turns n = each (issue_entry d now) (window_up_to n)
 
   -- the turns of the entries up to this one
-  turns_more : each (turn_of s free) (take (i + 1) (window_of s)) ≡ older_turns ++ turn ∷ []
-  turns_more = ap (each (turn_of s free)) (one_more (window_of s) i e h) ∙ each_push (turn_of s free) [] (take i (window_of s)) e
+  turns_more : turns (i + 1) ≡ turns i ++ turn ∷ []
+  turns_more = ap (each (issue_entry d now)) (one_more (window_of s) i e h) ∙ each_push (issue_entry d now) [] (window_up_to i) e
 
-  window_more : (station : ℕ) (puts : List Put) → ((younger : List Entry) → placed puts (take i (window_of s) ++ younger) ≡ map (λ b. b.entry) older_turns ++ younger) →
-      (younger : List Entry) → placed (puts ++ puts_of i station turn) (take (i + 1) (window_of s) ++ younger) ≡ map (λ b. b.entry) (each (turn_of s free) (take (i + 1) (window_of s))) ++ younger
+  window_more : (station : ℕ) (puts : List Put) → ((younger : List Entry) → placed puts (window_up_to i ++ younger) ≡ map (λ b. b.entry) (turns i) ++ younger) →
+      (younger : List Entry) → placed (puts ++ puts_of i station turn) (window_up_to (i + 1) ++ younger) ≡ map (λ b. b.entry) (turns (i + 1)) ++ younger
   window_more station puts w younger =
       let within : i < length (window_of s) = slice_get_within (window_of s) i e h in
-      let l : length (take i (window_of s)) ≡ i = length-take-le i (window_of s) (omega (arith, within)) in
-      let older : take (i + 1) (window_of s) ++ younger ≡ take i (window_of s) ++ e ∷ younger = ap (λ es. es ++ younger) (one_more (window_of s) i e h) ∙ append_assoc (take i (window_of s)) (e ∷ []) younger in
-      let turned : map (λ b. b.entry) (each (turn_of s free) (take (i + 1) (window_of s))) ≡ map (λ b. b.entry) older_turns ++ turn.entry ∷ [] = ap (map (λ b. b.entry)) turns_more ∙ entries_push older_turns turn in
-      let whole : map (λ b. b.entry) (each (turn_of s free) (take (i + 1) (window_of s))) ++ younger ≡ map (λ b. b.entry) older_turns ++ turn.entry ∷ younger = ap (λ es. es ++ younger) turned ∙ append_assoc (map (λ b. b.entry) older_turns) (turn.entry ∷ []) younger in
+      let l : length (window_up_to i) ≡ i = length-take-le i (window_of s) (omega (arith, within)) in
+      let older : window_up_to (i + 1) ++ younger ≡ window_up_to i ++ e ∷ younger = ap (λ es. es ++ younger) (one_more (window_of s) i e h) ∙ append_assoc (window_up_to i) (e ∷ []) younger in
+      let turned : map (λ b. b.entry) (turns (i + 1)) ≡ map (λ b. b.entry) (turns i) ++ turn.entry ∷ [] = ap (map (λ b. b.entry)) turns_more ∙ entries_push (turns i) turn in
+      let whole : map (λ b. b.entry) (turns (i + 1)) ++ younger ≡ map (λ b. b.entry) (turns i) ++ turn.entry ∷ younger = ap (λ es. es ++ younger) turned ∙ append_assoc (map (λ b. b.entry) (turns i)) (turn.entry ∷ []) younger in
       ap (placed (puts ++ puts_of i station turn)) older
-      ∙ placed_more puts i station e (is_granted s.desc.now free before e) turn (take i (window_of s)) younger l (turn_acts s free before e)
+      ∙ placed_more puts i station e (is_granted d now (port_of e.item.kind) before e) turn (window_up_to i) younger l (turn_acts d now before e)
       ∙ w (turn.entry ∷ younger) ∙ sym whole
 
-  events_more : (earlier events more : List Event) → more ≡ events ++ turn.events → events ≡ earlier ++ flat_map (λ b. b.events) older_turns →
-      more ≡ earlier ++ flat_map (λ b. b.events) (each (turn_of s free) (take (i + 1) (window_of s)))
+  events_more : (earlier events more : List Event) → more ≡ events ++ turn.events → events ≡ earlier ++ flat_map (λ b. b.events) (turns i) →
+      more ≡ earlier ++ flat_map (λ b. b.events) (turns (i + 1))
   events_more earlier events more m k =
-      m ∙ ap (λ es. es ++ turn.events) k ∙ append_assoc earlier (flat_map (λ b. b.events) older_turns) turn.events
-      ∙ ap (λ es. earlier ++ es) (sym (ap (flat_map (λ b. b.events)) turns_more ∙ events_push older_turns turn))
+      m ∙ ap (λ es. es ++ turn.events) k ∙ append_assoc earlier (flat_map (λ b. b.events) (turns i)) turn.events
+      ∙ ap (λ es. earlier ++ es) (sym (ap (flat_map (λ b. b.events)) turns_more ∙ events_push (turns i) turn))
 
   -- one entry more has had its turn
   pub decided_more : (station : ℕ) (puts new_puts : List Put) (load new_load : Option Access) (division new_division : Option Divider) (earlier events more : List Event) → station ≡ station_of i (window_of s) →
       new_puts ≡ puts ++ puts_of i station turn → more ≡ events ++ turn.events →
-      new_load ≡ (if gets s.desc.now free LoadPort before e then Some (access_of s.desc.now (machine_of s) before e) else load) →
-      new_division ≡ (if gets s.desc.now free DivPort before e then Some (division_of (machine_of s) before e) else division) →
-      DecidedTo s free i puts load division earlier events → DecidedTo s free (i + 1) new_puts new_load new_division earlier more
+      new_load ≡ (if is_granted d now LoadPort before e then Some (access_of d now before e) else load) →
+      new_division ≡ (if is_granted d now DivPort before e then Some (taken_for now before e) else division) →
+      DecidedTo s i puts load division earlier events → DecidedTo s (i + 1) new_puts new_load new_division earlier more
   decided_more station puts new_puts load new_load division new_division earlier events more n p m l v t =
-      let granted = is_granted s.desc.now free before e in
+      let granted = is_granted d now (port_of e.item.kind) before e in
       record {
-        puts_to = subst (PutsTo (window_of s) (i + 1)) (sym p) (puts_more (window_of s) i station e puts granted turn h n (granted_waits s.desc.now free before e) (turn_acts s free before e) t.puts_to);
-        window = λ younger. ap (λ ps. placed ps (take (i + 1) (window_of s) ++ younger)) p ∙ window_more station puts t.window younger;
+        puts_to = subst (PutsTo (window_of s) (i + 1)) (sym p) (puts_more (window_of s) i station e puts granted turn h n (granted_waits d now before e) (turn_acts d now before e) t.puts_to);
+        window = λ younger. ap (λ ps. placed ps (window_up_to (i + 1) ++ younger)) p ∙ window_more station puts t.window younger;
         events_are = events_more earlier events more m t.events_are;
-        load_is = slot_more (access_of s.desc.now (machine_of s)) s.desc.now free LoadPort (window_of s) i e load new_load h refl l t.load_is;
-        division_is = slot_more (division_of (machine_of s)) s.desc.now free DivPort (window_of s) i e division new_division h refl v t.division_is;
+        load_is = slot_more (access_of d now) d now LoadPort (window_of s) i e load new_load h refl l t.load_is;
+        division_is = slot_more (taken_for now) d now DivPort (window_of s) i e division new_division h refl v t.division_is;
       }
 
   -- one that doesn't wait, and one that isn't ready, may not issue
-  pub not_waiting : is_waiting e.state ≡ false → may_issue s.desc.now free before e ≡ false
+  pub not_waiting : is_waiting e.state ≡ false → may_issue d now before e ≡ false
   not_waiting w = cc
 
-  pub not_ready : is_waiting e.state ≡ true → ready before e ≡ false → may_issue s.desc.now free before e ≡ false
+  pub not_ready : is_waiting e.state ≡ true → ready before e ≡ false → may_issue d now before e ≡ false
   not_ready w r = cc
 
   -- one that may not issue leaves all as it is
-  pub decided_past : (puts : List Put) (load : Option Access) (division : Option Divider) (earlier events : List Event) → may_issue s.desc.now free before e ≡ false →
-      DecidedTo s free i puts load division earlier events → DecidedTo s free (i + 1) puts load division earlier events
+  pub decided_past : (puts : List Put) (load : Option Access) (division : Option Divider) (earlier events : List Event) → may_issue d now before e ≡ false →
+      DecidedTo s i puts load division earlier events → DecidedTo s (i + 1) puts load division earlier events
   decided_past puts load division earlier events m t =
-      let none : is_granted s.desc.now free before e ≡ false = sym (grants_none s.desc.now free before e m) in
-      let stays : turn ≡ waits e = turn_waits s free before e none in
+      let stays : turn ≡ waits e = turn_waits d now before e (grants_none d now (port_of e.item.kind) before e m) in
       decided_more (station_of i (window_of s)) puts puts load load division division earlier events events refl
       (sym (ap (λ b. puts ++ puts_of i (station_of i (window_of s)) b) stays ∙ append-nil puts))
       (sym (ap (λ b. events ++ b.events) stays ∙ append-nil events))
-      (the_other _ _ load load (gets_none s.desc.now free before e _ none) refl) (the_other _ _ division division (gets_none s.desc.now free before e _ none) refl) t
+      (the_other _ _ load load (grants_none d now LoadPort before e m) refl) (the_other _ _ division division (grants_none d now DivPort before e m) refl) t
 
   -- what older entries have left is left to the next
-  pub left_on : (p : Ports) → LeftAfter s.desc.now free (e ∷ before) p → LeftAfter s.desc.now free (before_at (window_of s) (i + 1)) p
-  left_on p l = subst (λ before. LeftAfter s.desc.now free before p) (sym (before_more (window_of s) i e (slice_get_within (window_of s) i e h) ∙ ap (λ e. e ∷ before) (get_or_from_slice_get (window_of s) i e e h))) l
+  pub left_on : (p : Ports) → LeftAfter d now (e ∷ before) p → LeftAfter d now (before_at (window_of s) (i + 1)) p
+  left_on p l = subst (λ before. LeftAfter d now before p) (sym (before_more (window_of s) i e (slice_get_within (window_of s) i e h) ∙ ap (λ e. e ∷ before) (get_or_from_slice_get (window_of s) i e e h))) l
 
-  pub left_past : (p : Ports) → may_issue s.desc.now free before e ≡ false → LeftAfter s.desc.now free before p → LeftAfter s.desc.now free (before_at (window_of s) (i + 1)) p
-  left_past p m l = left_on p (left_none s.desc.now free before e p m l)
+  pub left_past : (p : Ports) → may_issue d now before e ≡ false → LeftAfter d now before p → LeftAfter d now (before_at (window_of s) (i + 1)) p
+  left_past p m l = left_on p (left_none d now before e p m l)
 
 -- ---- the walk
 
 -- what is decided before a position, and the ports that are left there
-pub record Walked (s : Seen) (free : Bool) (ports : Ports) (puts : List Put) (load : Option Access) (division : Option Divider) (earlier events : List Event) (i : ℕ) : Type 0 where
-  pub decided : DecidedTo s free i puts load division earlier events
-  pub left : LeftAfter s.desc.now free (before_at (window_of s) i) ports
+pub record Walked (s : Seen) (ports : Ports) (puts : List Put) (load : Option Access) (division : Option Divider) (earlier events : List Event) (i : ℕ) : Type 0 where
+  pub decided : DecidedTo s i puts load division earlier events
+  pub left : LeftAfter s.desc.now (around_of s) (before_at (window_of s) i) ports
 
-module _ (s : Seen) (free : Bool) (ports : Ports) (puts : List Put) (load : Option Access) (division : Option Divider) (earlier events : List Event) where
+module _ (s : Seen) (ports : Ports) (puts : List Put) (load : Option Access) (division : Option Divider) (earlier events : List Event) where
   -- one that may not issue leaves all as it is
-  pub walked_past : (i : ℕ) (e : Entry) (h : StandsAt s i e) → may_issue s.desc.now free (before_at (window_of s) i) e ≡ false →
-      Walked s free ports puts load division earlier events i → Walked s free ports puts load division earlier events (i + 1)
-  walked_past i e h m t = record { decided = decided_past s free i e h puts load division earlier events m t.decided; left = left_past s free i e h ports m t.left }
+  pub walked_past : (i : ℕ) (e : Entry) (h : StandsAt s i e) → may_issue s.desc.now (around_of s) (before_at (window_of s) i) e ≡ false →
+      Walked s ports puts load division earlier events i → Walked s ports puts load division earlier events (i + 1)
+  walked_past i e h m t = record { decided = decided_past s i e h puts load division earlier events m t.decided; left = left_past s i e h ports m t.left }
 
   -- so does one that doesn't wait
-  pub keeps : Keeps (Walked s free ports puts load division earlier events) (window_of s)
-  keeps i e h w t = walked_past i e h (not_waiting s free i e h w) t
+  pub keeps : Keeps (Walked s ports puts load division earlier events) (window_of s)
+  keeps i e h w t = walked_past i e h (not_waiting s i e h w) t
 
 -- ---- an entry, by whether it waits
 
@@ -157,47 +163,35 @@ waits_here window i b e h w = let k : Some (is_waiting e.state) ≡ Some b = ap 
 
 -- ---- at the end
 
--- one is the other where they are everywhere
-same_function : {A : Type 0} (f g : List Entry → Entry → A) → ((before : List Entry) (e : Entry) → f before e ≡ g before e) → f ≡ g
-same_function f g h = λ i. λ before e. h before e i
-
-turn_is : (s : Seen) (ports : Ports) (free : Bool) → free ≡ is_free (machine_with ports s) → turn_of s free ≡ issue_entry s.desc.now (machine_with ports s)
-turn_is s ports free q = same_function _ _ (λ before e.
-    ap (λ b. if is_granted s.desc.now b before e then begin_as e.item.kind s.desc.now (machine_of s) before e else waits e) q
-    ∙ ap (λ b. if is_granted s.desc.now (is_free (machine_with ports s)) before e then b else waits e) (sym (begin_same s.desc.now (machine_of s) ports.divider e.item.kind before e)))
-
 -- what is decided once all have had their turns is what the definition decides
-pub record DecidesAll (s : Seen) (x : Machine) (puts : List Put) (load : Option Access) (division : Option Divider) (earlier events : List Event) : Type 0 where
+pub record DecidesAll (s : Seen) (puts : List Put) (load : Option Access) (division : Option Divider) (earlier events : List Event) : Type 0 where
   pub puts_are : ArePuts (window_of s) puts
-  pub window_is : placed puts (window_of s) ≡ map (λ b. b.entry) (each (issue_entry s.desc.now x) (window_of s))
-  pub events_are : events ≡ earlier ++ flat_map (λ b. b.events) (each (issue_entry s.desc.now x) (window_of s))
-  pub load_is : load ≡ of_first (tried s.desc.now (is_free x)) (access_of s.desc.now x) (window_of s)
-  pub division_is : division ≡ of_first (divides s.desc.now (is_free x)) (division_of x) (window_of s)
+  pub window_is : placed puts (window_of s) ≡ map (λ b. b.entry) (each (issue_entry s.desc.now (around_of s)) (window_of s))
+  pub events_are : events ≡ earlier ++ flat_map (λ b. b.events) (each (issue_entry s.desc.now (around_of s)) (window_of s))
+  pub load_is : load ≡ of_first (may_at s.desc.now (around_of s) LoadPort) (access_of s.desc.now (around_of s)) (window_of s)
+  pub division_is : division ≡ of_first (may_at s.desc.now (around_of s) DivPort) (taken_for (around_of s)) (window_of s)
 
-pub decided_all : (s : Seen) (ports : Ports) (free : Bool) (i : ℕ) (puts : List Put) (load : Option Access) (division : Option Divider) (earlier events : List Event) → free ≡ is_free (machine_with ports s) → length (window_of s) ≤ i →
-    DecidedTo s free i puts load division earlier events → DecidesAll s (machine_with ports s) puts load division earlier events
-decided_all s ports free i puts load division earlier events q le t =
-    let x = machine_with ports s in
+pub decided_all : (s : Seen) (i : ℕ) (puts : List Put) (load : Option Access) (division : Option Divider) (earlier events : List Event) → length (window_of s) ≤ i →
+    DecidedTo s i puts load division earlier events → DecidesAll s puts load division earlier events
+decided_all s i puts load division earlier events le t =
+    let now = around_of s in
     let d = s.desc.now in
     let all : take i (window_of s) ≡ window_of s = take_all i (window_of s) le in
-    let turns : each (turn_of s free) (take i (window_of s)) ≡ each (issue_entry d x) (window_of s) = ap (each (turn_of s free)) all ∙ ap (λ f. each f (window_of s)) (turn_is s ports free q) in
-    let loads : asks d free LoadPort ≡ tried d (is_free x) = same_function _ _ (load_asks d free) ∙ ap (tried d) q in
-    let divisions : asks d free DivPort ≡ divides d (is_free x) = same_function _ _ (division_asks d free) ∙ ap (divides d) q in
-    let accesses : access_of d (machine_of s) ≡ access_of d x = same_function _ _ (λ before e. sym (access_same d (machine_of s) ports.divider before e)) in
+    let turns = ap (each (issue_entry d now)) all in
     record {
       puts_are = record { each_put = t.puts_to.each_put; by_age = t.puts_to.by_age };
-      window_is = ap (placed puts) (sym (append-nil (take i (window_of s)) ∙ all)) ∙ t.window [] ∙ append-nil (map (λ b. b.entry) (each (turn_of s free) (take i (window_of s)))) ∙ ap (map (λ b. b.entry)) turns;
+      window_is = ap (placed puts) (sym (append-nil (take i (window_of s)) ∙ all)) ∙ t.window [] ∙ append-nil (map (λ b. b.entry) (each (issue_entry d now) (take i (window_of s)))) ∙ ap (map (λ b. b.entry)) turns;
       events_are = t.events_are ∙ ap (λ bs. earlier ++ flat_map (λ b. b.events) bs) turns;
-      load_is = t.load_is ∙ ap (of_first (asks d free LoadPort) (access_of d (machine_of s))) all ∙ ap (λ p. of_first p (access_of d (machine_of s)) (window_of s)) loads ∙ ap (λ f. of_first (tried d (is_free x)) f (window_of s)) accesses;
-      division_is = t.division_is ∙ ap (of_first (asks d free DivPort) (division_of (machine_of s))) all ∙ ap (λ p. of_first p (division_of (machine_of s)) (window_of s)) divisions;
+      load_is = t.load_is ∙ ap (of_first (may_at d now LoadPort) (access_of d now)) all;
+      division_is = t.division_is ∙ ap (of_first (may_at d now DivPort) (taken_for now)) all;
     }
 
 none_by_age : AllPairs (λ (p q : Put). p.position < q.position) []
 none_by_age i j d lt within = absurd (omega arith)
 
 -- nothing is decided as the walk begins
-pub decided_none : (s : Seen) (free : Bool) (puts : List Put) (load : Option Access) (division : Option Divider) (earlier : List Event) → puts ≡ [] → load ≡ None → division ≡ None → DecidedTo s free 0 puts load division earlier earlier
-decided_none s free puts load division earlier p l v =
+pub decided_none : (s : Seen) (puts : List Put) (load : Option Access) (division : Option Divider) (earlier : List Event) → puts ≡ [] → load ≡ None → division ≡ None → DecidedTo s 0 puts load division earlier earlier
+decided_none s puts load division earlier p l v =
     record {
       puts_to = subst (PutsTo (window_of s) 0) (sym p) (record { each_put = All-nil (IsPut (window_of s)); older = All-nil (λ p. p.position < 0); by_age = none_by_age });
       window = λ younger. ap (λ ps. placed ps younger) p;
@@ -206,7 +200,7 @@ decided_none s free puts load division earlier p l v =
       division_is = v;
     }
 
-pub walked_none : (s : Seen) (free : Bool) (ports : Ports) (puts : List Put) (load : Option Access) (division : Option Divider) (earlier : List Event) → puts ≡ [] → load ≡ None → division ≡ None → LeftAfter s.desc.now free [] ports →
-    Reaches (Walked s free ports puts load division earlier earlier) (window_of s) 0
-walked_none s free ports puts load division earlier p l v left =
-    record { position = 0; within = omega arith; station = refl; holds = record { decided = decided_none s free puts load division earlier p l v; left = left } }
+pub walked_none : (s : Seen) (ports : Ports) (puts : List Put) (load : Option Access) (division : Option Divider) (earlier : List Event) → puts ≡ [] → load ≡ None → division ≡ None → LeftAfter s.desc.now (around_of s) [] ports →
+    Reaches (Walked s ports puts load division earlier earlier) (window_of s) 0
+walked_none s ports puts load division earlier p l v left =
+    record { position = 0; within = omega arith; station = refl; holds = record { decided = decided_none s puts load division earlier p l v; left = left } }

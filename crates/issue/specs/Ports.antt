@@ -1,8 +1,5 @@
 -- The ports that are left as entries are granted them (docs/machine.md, "Issue").
-use Rattle.std.specs.Prelude.{◌≡◌, ℕ, ◌+◌, Bool, ◌&&◌, List}
-use Rattle.machine_desc.specs.declared.Desc.{Desc}
-use Rattle.window_model.specs.declared.Entry.{Entry}
-use Rattle.window_model.specs.Issue.{Port, is_granted, port_of, same_port}
+use Rattle.std.specs.Prelude.{◌≡◌, ℕ, ◌+◌}
 use Rattle.unit_ports.specs.Ports.{Ports, begun_at}
 
 -- all ports of this cycle are left
@@ -18,7 +15,3 @@ pub record OnlyPorts (old new : Ports) : Type 0 where
   pub alus : new.alus ≡ old.alus
   pub cycle : new.cycle ≡ old.cycle
   pub divider : new.divider ≡ old.divider
-
--- the entry is granted this port
-abbrev pub gets : Desc → Bool → Port → List Entry → Entry → Bool
-gets d free port before e = is_granted d free before e && same_port (port_of e.item.kind) port

@@ -1,10 +1,9 @@
 -- The state that the phase looks at, and when it stands for a machine (docs/machine.md, "Issue", "The parts stand for the
 -- machine").
-use Rattle.std.specs.Prelude.{◌≡◌, ℕ, List, [], slice_get, None, Some}
+use Rattle.std.specs.Prelude.{◌≡◌, ℕ, List, slice_get, Some}
 use Rattle.window_model.specs.declared.Entry.{Entry}
-use Rattle.window_model.specs.State.{Machine}
+use Rattle.window_model.specs.Around.{Around}
 use Rattle.rename_taint.specs.declared.Write.{Write}
-use Rattle.unit_ports.specs.Ports.{Ports}
 use Rattle.visibility.specs.Point.{HasAdvanced}
 use Rattle.queue_laws.specs.Window.{StandFor}
 use Rattle.parts_stand.specs.Parts.{Parts, Stand}
@@ -12,37 +11,9 @@ use Rattle.parts_stand.specs.Addresses.{AddressesStand}
 use Rattle.parts_stand.specs.Writers.{WritersOf}
 use Rattle.issue.specs.declared.seen.Seen.{Seen}
 
--- a machine of which nothing is known
-abbrev pub nothing : Machine
-nothing = record {
-  cycle = 0;
-  regs = [];
-  pc = 0;
-  ram = record { base = 0; bytes = [] };
-  window = [];
-  queue = [];
-  fetch_pc = None;
-  counters = [];
-  targets = [];
-  cache = [];
-  misses = [];
-  divider = record { free_from = 0; user = None };
-  retired = 0;
-  next_serial = 0;
-  end = None;
-}
-
--- a machine with these parts in the place of its own
-abbrev pub with_seen : Seen → Machine → Machine
-with_seen s x = record x { cycle = s.cycle; regs = s.regs.now; ram = s.ram.now; window = s.rob.now.entries; cache = s.tags.now.sets; misses = s.mshrs.now.misses }
-
--- one with these parts alone: what the phase does with an entry depends on no other
-abbrev pub machine_of : Seen → Machine
-machine_of s = with_seen s nothing
-
--- and with the divider that the ports know
-abbrev pub machine_with : Ports → Seen → Machine
-machine_with ports s = record (machine_of s) { divider = ports.divider }
+-- what an entry looks at besides the older ones
+abbrev pub around_of : Seen → Around
+around_of s = record { cycle = s.cycle; regs = s.regs.now; ram = s.ram.now; cache = s.tags.now.sets; misses = s.mshrs.now.misses; free_from = s.free_from }
 
 -- the window
 abbrev pub window_of : Seen → List Entry

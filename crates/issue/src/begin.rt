@@ -3,12 +3,12 @@ ghost use Rattle.std.specs.Prelude.{◌≡◌, ◌+◌, None, Some, false};
 ghost use Rattle.rv_effect.specs.Seen.{seen};
 ghost use Rattle.window_model.specs.Issue.{fault_if, outcome};
 
-use crate::access::Access;
+use crate::access::{Access, Line};
 use crate::seen::Seen;
 use rv_alu::{div_time, extend};
 use rv_effect::{Effect, effect};
 use rv_types::{Cause, Kind};
-use window_model::{Divider, Entry, Event, Look, Outcome};
+use window_model::{Divider, Entry, Event, Outcome};
 
 /// How an entry begins.
 #[derive(Clone, Copy, Debug, PartialEq, Eq)]
@@ -70,24 +70,24 @@ fn begins(due: u64, outcome: Outcome, event: Event) -> Begun
 }
 
 impl<'a> Seen<'a> {
-    ghost use Rattle.std.specs.Prelude.{◌≡◌, ◌+◌, None, Some, false, true};
+    ghost use Rattle.std.specs.Prelude.{◌≡◌, ◌+◌, [], ◌∷◌, None, Some, false, true};
     ghost use Rattle.rv_types.specs.declared.Kind.TheVariants as kind;
     ghost use Rattle.rv_types.specs.Memory.{load_fault, store_fault};
     ghost use Rattle.rv_effect.specs.Seen.{seen};
     ghost use Rattle.window_model.specs.declared.Event.TheVariants as event;
-    ghost use Rattle.window_model.specs.Access.{access_at};
-    ghost use Rattle.window_model.specs.Issue.{access_of, begin_as, begins, effect_at, fault_if, is_division, load_as, outcome, stores_done, value_loaded};
+    ghost use Rattle.window_model.specs.Access.{access_at, due_of};
+    ghost use Rattle.window_model.specs.Issue.{access_of, begin_as, begins, effect_of, fault_if, is_division, load_as, outcome, stores_done, taken_for, value_loaded};
     ghost use Rattle.window_model.specs.Order.{before_at, is_load};
     ghost use Rattle.window_model.specs.Retire.{width_of};
-    ghost use Rattle.issue.specs.Accesses.{as_access};
-    ghost use Rattle.issue.specs.Begins.{as_begun, as_tried, division_of};
-    ghost use Rattle.issue.specs.State.{Stands, StandsAt, window_of, machine_of};
+    ghost use Rattle.issue.specs.Accesses.{as_access, as_line};
+    ghost use Rattle.issue.specs.Begins.{as_begun, as_tried};
+    ghost use Rattle.issue.specs.State.{Stands, StandsAt, around_of, window_of};
 
     // What the instruction of the entry at a position makes of its operands.
     fn effect(&self, position: u32, entry: &Entry) -> Effect
         requires stands { Stands self.now }
         requires at { StandsAt self.now position entry.now }
-        ensures { seen result ≡ effect_at (machine_of self.now) (before_at (window_of self.now) position) entry.now }
+        ensures { seen result ≡ effect_of self.now.regs.now (before_at (window_of self.now) position) entry.now }
     {
         let operands = self.operands(position, entry);
         effect(
@@ -98,29 +98,37 @@ impl<'a> Seen<'a> {
         )
     }
 
-    // A load by what its access comes to.
-    fn load_as(&self, access: Access, entry: &Entry, effect: &Effect, value: u32) -> Option<Begun>
-        ensures { as_tried entry.now result ≡ load_as (as_access access) self.now.desc.now (machine_of self.now) entry.now (seen effect.now) value }
+    // The cycle in which a line is there.
+    fn due_of(&self, line: &Line) -> u64
+        ensures { result ≡ due_of self.now.desc.now (around_of self.now) (as_line line.now) }
     {
         let cycle = self.cycle as u64;
+        match *line {
+            Line::Hits(_) => cycle + self.desc.cache_hit_latency as u64,
+            Line::Joins(_, due) => due,
+            Line::Takes(_) => cycle + self.desc.cache_miss_latency as u64,
+        }
+    }
+
+    // A load by what its access comes to.
+    fn load_as(&self, access: Access, entry: &Entry, effect: &Effect, value: u32) -> Option<Begun>
+        ensures { as_tried entry.now result ≡ load_as (as_access access) self.now.desc.now (around_of self.now) entry.now (seen effect.now) value }
+    {
+        let soon = self.cycle as u64 + 1;
         let serial = entry.serial;
-        let value = outcome(effect, value, None);
         match access {
             Access::Faults(cause) => {
                 let fault = outcome(effect, 0, Some(cause));
-                Some(begins(cycle + 1, fault, Event::LdFault(serial)))
+                Some(begins(soon, fault, Event::LdFault(serial)))
             }
-            Access::Forwards => Some(begins(cycle + 1, value, Event::LdForward(serial))),
-            Access::Hits(line) => {
-                let due = cycle + self.desc.cache_hit_latency as u64;
-                Some(begins(due, value, Event::Ld(serial, line, Look::Hit)))
+            Access::Forwards => {
+                let value = outcome(effect, value, None);
+                Some(begins(soon, value, Event::LdForward(serial)))
             }
-            Access::Joins(line, due) => {
-                Some(begins(due, value, Event::Ld(serial, line, Look::Join)))
-            }
-            Access::Misses(line) => {
-                let due = cycle + self.desc.cache_miss_latency as u64;
-                Some(begins(due, value, Event::Ld(serial, line, Look::Miss)))
+            Access::Looks(line) => {
+                let value = outcome(effect, value, None);
+                let event = Event::Ld(serial, line.line(), line.look());
+                Some(begins(self.due_of(&line), value, event))
             }
             Access::Waits => None,
         }
@@ -132,8 +140,8 @@ impl<'a> Seen<'a> {
         requires at { StandsAt self.now position entry.now }
         requires done { stores_done (before_at (window_of self.now) position) ≡ true }
         requires sound { load_fault self.now.ram.now effect.now.addr (width_of entry.now) ≡ None }
-        ensures access { as_access result.access ≡ access_at self.now.desc.now (machine_of self.now) (before_at (window_of self.now) position) effect.now.addr (width_of entry.now) None }
-        ensures begun { as_tried entry.now result.begun ≡ load_as (as_access result.access) self.now.desc.now (machine_of self.now) entry.now (seen effect.now) (value_loaded (machine_of self.now) (before_at (window_of self.now) position) entry.now effect.now.addr) }
+        ensures access { as_access result.access ≡ access_at self.now.desc.now (around_of self.now) (before_at (window_of self.now) position) effect.now.addr (width_of entry.now) None }
+        ensures begun { as_tried entry.now result.begun ≡ load_as (as_access result.access) self.now.desc.now (around_of self.now) entry.now (seen effect.now) (value_loaded self.now.ram.now (before_at (window_of self.now) position) entry.now effect.now.addr) }
     {
         let loaded = self.load(position, entry, effect.addr);
         let access = self.find(loaded.forwarded, effect.addr);
@@ -149,8 +157,8 @@ impl<'a> Seen<'a> {
         requires stands { Stands self.now }
         requires at { StandsAt self.now position entry.now }
         requires done { stores_done (before_at (window_of self.now) position) ≡ true }
-        ensures access { as_access result.access ≡ access_of self.now.desc.now (machine_of self.now) (before_at (window_of self.now) position) entry.now }
-        ensures begun { as_tried entry.now result.begun ≡ begin_as kind.Load self.now.desc.now (machine_of self.now) (before_at (window_of self.now) position) entry.now }
+        ensures access { as_access result.access ≡ access_of self.now.desc.now (around_of self.now) (before_at (window_of self.now) position) entry.now }
+        ensures begun { as_tried entry.now result.begun ≡ begin_as kind.Load self.now.desc.now (around_of self.now) (before_at (window_of self.now) position) entry.now }
     {
         let made = self.effect(position, entry);
         match self.ram.load_fault(made.addr, entry.width()) {
@@ -166,8 +174,8 @@ impl<'a> Seen<'a> {
     pub(crate) fn begin_division(&self, position: u32, entry: &Entry) -> BegunDivision
         requires stands { Stands self.now }
         requires at { StandsAt self.now position entry.now }
-        ensures divider { result.divider ≡ division_of (machine_of self.now) (before_at (window_of self.now) position) entry.now }
-        ensures begun { as_begun entry.now result.begun ≡ begin_as kind.Div self.now.desc.now (machine_of self.now) (before_at (window_of self.now) position) entry.now }
+        ensures divider { result.divider ≡ taken_for (around_of self.now) (before_at (window_of self.now) position) entry.now }
+        ensures begun { as_begun entry.now result.begun ≡ begin_as kind.Div self.now.desc.now (around_of self.now) (before_at (window_of self.now) position) entry.now }
     {
         let made = self.effect(position, entry);
         let first = self.operands(position, entry).first;
@@ -185,7 +193,7 @@ impl<'a> Seen<'a> {
 
     // A multiplication.
     fn begin_product(&self, entry: &Entry, made: &Effect) -> Begun
-        ensures { as_begun entry.now result ≡ begins entry.now (self.now.cycle + self.now.desc.now.units_mul_latency) (outcome (seen made.now) made.now.value None) (event.Mul entry.now.serial) }
+        ensures { as_begun entry.now result ≡ begins entry.now (self.now.cycle + self.now.desc.now.units_mul_latency) (outcome (seen made.now) made.now.value None) (event.Mul entry.now.serial ∷ []) }
     {
         let due = self.cycle as u64 + self.desc.units_mul_latency as u64;
         begins(
@@ -197,7 +205,7 @@ impl<'a> Seen<'a> {
 
     // A store: its address and value are there, and its fault.
     fn begin_store(&self, entry: &Entry, made: &Effect) -> Begun
-        ensures { as_begun entry.now result ≡ begins entry.now (self.now.cycle + 1) (outcome (seen made.now) 0 (store_fault self.now.ram.now made.now.addr (width_of entry.now))) (event.Agu entry.now.serial) }
+        ensures { as_begun entry.now result ≡ begins entry.now (self.now.cycle + 1) (outcome (seen made.now) 0 (store_fault self.now.ram.now made.now.addr (width_of entry.now))) (event.Agu entry.now.serial ∷ []) }
     {
         let fault = self.ram.store_fault(made.addr, entry.width());
         let due = self.cycle as u64 + 1;
@@ -206,7 +214,7 @@ impl<'a> Seen<'a> {
 
     // What takes one cycle of an arithmetic unit.
     fn begin_simple(&self, entry: &Entry, made: &Effect) -> Begun
-        ensures { as_begun entry.now result ≡ begins entry.now (self.now.cycle + 1) (outcome (seen made.now) made.now.value (fault_if made.now.misaligned)) (event.Alu entry.now.serial) }
+        ensures { as_begun entry.now result ≡ begins entry.now (self.now.cycle + 1) (outcome (seen made.now) made.now.value (fault_if made.now.misaligned)) (event.Alu entry.now.serial ∷ []) }
     {
         let due = self.cycle as u64 + 1;
         let outcome = outcome(made, made.value, fault_if(made.misaligned));
@@ -219,7 +227,7 @@ impl<'a> Seen<'a> {
         requires at { StandsAt self.now position entry.now }
         requires no_load { is_load entry.now.item.kind ≡ false }
         requires no_division { is_division entry.now.item.kind ≡ false }
-        ensures { as_begun entry.now result ≡ begin_as entry.now.item.kind self.now.desc.now (machine_of self.now) (before_at (window_of self.now) position) entry.now }
+        ensures { as_begun entry.now result ≡ begin_as entry.now.item.kind self.now.desc.now (around_of self.now) (before_at (window_of self.now) position) entry.now }
     {
         let made = self.effect(position, entry);
         match entry.item.kind {

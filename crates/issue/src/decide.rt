@@ -103,17 +103,16 @@ impl<'a> Seen<'a> {
     ghost use Rattle.std.specs.List.{flat_map};
     ghost use Rattle.std.specs.Option.{option_map};
     ghost use Rattle.window_model.specs.Order.{before_at, each, first, is_waiting, ready};
-    ghost use Rattle.window_model.specs.Issue.{DivPort, LoadPort, access_of, divides, issue_entry, is_free, tried};
+    ghost use Rattle.window_model.specs.Issue.{DivPort, LoadPort, access_of, is_granted, issue_entry, may_at, taken_for};
     ghost use Rattle.window_model.specs.Row.{HasRoom, IsLonger, most_issued, with_events};
     ghost use Rattle.unit_ports.specs.Laws.{LeftAfter};
     ghost use Rattle.parts_stand.specs.Steps.{station_of};
     ghost use Rattle.issue.specs.Accesses.{as_access};
-    ghost use Rattle.issue.specs.Begins.{division_of};
-    ghost use Rattle.issue.specs.Deciding.{puts_of, turn_of};
+    ghost use Rattle.issue.specs.Deciding.{puts_of};
     ghost use Rattle.issue.specs.Decisions.{IsNothing};
-    ghost use Rattle.issue.specs.Ports.{OnlyPorts, gets, left_in_all};
+    ghost use Rattle.issue.specs.Ports.{OnlyPorts, left_in_all};
     ghost use Rattle.issue.specs.Puts.{ArePuts, placed};
-    ghost use Rattle.issue.specs.State.{Stands, StandsAt, machine_of, machine_with, window_of};
+    ghost use Rattle.issue.specs.State.{Stands, StandsAt, around_of, window_of};
 
     // The position of the entry that waits at a station.
     fn position_at(&self, station: u32) -> u32
@@ -125,14 +124,12 @@ impl<'a> Seen<'a> {
         self.rob.position_of(self.stations.serial(station))
     }
 
-    // The turn of the entry at a position, which waits at a station and is ready. `free` says that the divider is free in this
-    // cycle.
+    // The turn of the entry at a position, which waits at a station and is ready.
     fn decide_entry(
         &self,
         position: u32,
         entry: &Entry,
         station: u32,
-        free: bool,
         ports: &mut Ports,
         decided: &mut Decided,
         row: &mut Row,
@@ -141,18 +138,18 @@ impl<'a> Seen<'a> {
         requires at { StandsAt self.now position entry.now }
         requires waits { is_waiting entry.now.state ≡ true }
         requires ready { ready (before_at (window_of self.now) position) entry.now ≡ true }
-        requires left { LeftAfter self.now.desc.now free (before_at (window_of self.now) position) ports.old }
+        requires left { LeftAfter self.now.desc.now (around_of self.now) (before_at (window_of self.now) position) ports.old }
         requires few { length decided.old.puts.items + left_in_all ports.old ≤ most_issued }
         requires room { HasRoom (left_in_all ports.old) row.old }
-        ensures puts { decided.new.puts.items ≡ decided.old.puts.items ++ puts_of position station (turn_of self.now free (before_at (window_of self.now) position) entry.now) }
-        ensures row { row.new ≡ with_events row.old (turn_of self.now free (before_at (window_of self.now) position) entry.now).events }
-        ensures load { option_map as_access decided.new.load ≡ (if gets self.now.desc.now free LoadPort (before_at (window_of self.now) position) entry.now then Some (access_of self.now.desc.now (machine_of self.now) (before_at (window_of self.now) position) entry.now) else option_map as_access decided.old.load) }
-        ensures division { decided.new.division ≡ (if gets self.now.desc.now free DivPort (before_at (window_of self.now) position) entry.now then Some (division_of (machine_of self.now) (before_at (window_of self.now) position) entry.now) else decided.old.division) }
-        ensures left { LeftAfter self.now.desc.now free (entry.now ∷ before_at (window_of self.now) position) ports.new }
-        ensures fewer { length (turn_of self.now free (before_at (window_of self.now) position) entry.now).events + left_in_all ports.new ≤ left_in_all ports.old }
+        ensures puts { decided.new.puts.items ≡ decided.old.puts.items ++ puts_of position station (issue_entry self.now.desc.now (around_of self.now) (before_at (window_of self.now) position) entry.now) }
+        ensures row { row.new ≡ with_events row.old (issue_entry self.now.desc.now (around_of self.now) (before_at (window_of self.now) position) entry.now).events }
+        ensures load { option_map as_access decided.new.load ≡ (if is_granted self.now.desc.now (around_of self.now) LoadPort (before_at (window_of self.now) position) entry.now then Some (access_of self.now.desc.now (around_of self.now) (before_at (window_of self.now) position) entry.now) else option_map as_access decided.old.load) }
+        ensures division { decided.new.division ≡ (if is_granted self.now.desc.now (around_of self.now) DivPort (before_at (window_of self.now) position) entry.now then Some (taken_for (around_of self.now) (before_at (window_of self.now) position) entry.now) else decided.old.division) }
+        ensures left { LeftAfter self.now.desc.now (around_of self.now) (entry.now ∷ before_at (window_of self.now) position) ports.new }
+        ensures fewer { length (issue_entry self.now.desc.now (around_of self.now) (before_at (window_of self.now) position) entry.now).events + left_in_all ports.new ≤ left_in_all ports.old }
         ensures only { OnlyPorts ports.old ports.new }
     {
-        if !self.grant(position, entry, free, ports) {
+        if !self.grant(position, entry, ports) {
             return;
         }
         let turn = self.begin(position, entry);
@@ -160,30 +157,28 @@ impl<'a> Seen<'a> {
     }
 
     /// Goes over the stations, oldest first: entries that don't wait, or aren't ready, stay as they are. All ports of the cycle
-    /// are left, `ports` knows the divider, and nothing is decided as yet.
+    /// are left, and nothing is decided as yet.
     pub(crate) fn decide(&self, ports: &mut Ports, decided: &mut Decided, row: &mut Row)
         requires stands { Stands self.now }
-        requires cycle { ports.old.cycle ≡ self.now.cycle }
-        requires left { LeftAfter self.now.desc.now (is_free (machine_with ports.old self.now)) [] ports.old }
+        requires left { LeftAfter self.now.desc.now (around_of self.now) [] ports.old }
         requires few { left_in_all ports.old ≤ most_issued }
         requires nothing { IsNothing decided.old }
         requires room { HasRoom most_issued row.old }
         ensures puts { ArePuts (window_of self.now) decided.new.puts.items }
-        ensures window { placed decided.new.puts.items (window_of self.now) ≡ map (λ b. b.entry) (each (issue_entry self.now.desc.now (machine_with ports.old self.now)) (window_of self.now)) }
-        ensures row { row.new ≡ with_events row.old (flat_map (λ b. b.events) (each (issue_entry self.now.desc.now (machine_with ports.old self.now)) (window_of self.now))) }
-        ensures load { option_map as_access decided.new.load ≡ option_map (λ p. access_of self.now.desc.now (machine_with ports.old self.now) p.before p.entry) (first (tried self.now.desc.now (is_free (machine_with ports.old self.now))) (window_of self.now)) }
-        ensures division { decided.new.division ≡ option_map (λ p. division_of (machine_with ports.old self.now) p.before p.entry) (first (divides self.now.desc.now (is_free (machine_with ports.old self.now))) (window_of self.now)) }
+        ensures window { placed decided.new.puts.items (window_of self.now) ≡ map (λ b. b.entry) (each (issue_entry self.now.desc.now (around_of self.now)) (window_of self.now)) }
+        ensures row { row.new ≡ with_events row.old (flat_map (λ b. b.events) (each (issue_entry self.now.desc.now (around_of self.now)) (window_of self.now))) }
+        ensures load { option_map as_access decided.new.load ≡ option_map (λ p. access_of self.now.desc.now (around_of self.now) p.before p.entry) (first (may_at self.now.desc.now (around_of self.now) LoadPort) (window_of self.now)) }
+        ensures division { decided.new.division ≡ option_map (λ p. taken_for (around_of self.now) p.before p.entry) (first (may_at self.now.desc.now (around_of self.now) DivPort) (window_of self.now)) }
         ensures only { OnlyPorts ports.old ports.new }
         ensures few { IsLonger most_issued row.old row.new }
     {
-        let free = ports.free_div();
         for station in 0..self.stations.len() {
             if !self.stations.ready(station) {
                 continue;
             }
             let position = self.position_at(station);
             let entry = self.rob.lend(position);
-            self.decide_entry(position, entry, station, free, ports, decided, row);
+            self.decide_entry(position, entry, station, ports, decided, row);
         }
     }
 }

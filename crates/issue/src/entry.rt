@@ -19,20 +19,20 @@ pub(crate) struct Turn {
 impl<'a> Seen<'a> {
     ghost use Rattle.std.specs.Prelude.{◌≡◌, None, Some, if◌then◌else◌, true};
     ghost use Rattle.std.specs.Option.{option_map};
-    ghost use Rattle.window_model.specs.Issue.{access_of, begin_as, is_division, stores_done};
+    ghost use Rattle.window_model.specs.Issue.{access_of, begin_as, is_division, stores_done, taken_for};
     ghost use Rattle.window_model.specs.Order.{before_at, is_load};
     ghost use Rattle.issue.specs.Accesses.{as_access};
-    ghost use Rattle.issue.specs.Begins.{as_tried, division_of};
-    ghost use Rattle.issue.specs.State.{Stands, StandsAt, machine_of, window_of};
+    ghost use Rattle.issue.specs.Begins.{as_tried};
+    ghost use Rattle.issue.specs.State.{Stands, StandsAt, around_of, window_of};
 
     /// An entry that is granted a port begins. A load that finds no miss register stays as it is.
     pub(crate) fn begin(&self, position: u32, entry: &Entry) -> Turn
         requires stands { Stands self.now }
         requires at { StandsAt self.now position entry.now }
         requires done { is_load entry.now.item.kind ≡ true → stores_done (before_at (window_of self.now) position) ≡ true }
-        ensures begun { as_tried entry.now result.begun ≡ begin_as entry.now.item.kind self.now.desc.now (machine_of self.now) (before_at (window_of self.now) position) entry.now }
-        ensures access { option_map as_access result.access ≡ (if is_load entry.now.item.kind then Some (access_of self.now.desc.now (machine_of self.now) (before_at (window_of self.now) position) entry.now) else None) }
-        ensures division { result.division ≡ (if is_division entry.now.item.kind then Some (division_of (machine_of self.now) (before_at (window_of self.now) position) entry.now) else None) }
+        ensures begun { as_tried entry.now result.begun ≡ begin_as entry.now.item.kind self.now.desc.now (around_of self.now) (before_at (window_of self.now) position) entry.now }
+        ensures access { option_map as_access result.access ≡ (if is_load entry.now.item.kind then Some (access_of self.now.desc.now (around_of self.now) (before_at (window_of self.now) position) entry.now) else None) }
+        ensures division { result.division ≡ (if is_division entry.now.item.kind then Some (taken_for (around_of self.now) (before_at (window_of self.now) position) entry.now) else None) }
     {
         match entry.item.kind {
             Kind::Load => {

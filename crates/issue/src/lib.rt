@@ -2,8 +2,8 @@
 //! ports.
 //!
 //! `docs/machine.md`, "Issue" and "Loads", has the rules in words; the contract of [`issue`] cites them from
-//! `window_model/specs`, `Issue` and `Access`, whatever else the machine holds. `specs/Parts.antt` says of which machines it
-//! speaks, and what the parts stand for before it.
+//! `window_model/specs`, `Issue` and `Access`. Every test is made on what the parts hold before the phase (`Seen`); what is decided
+//! is written then.
 #![tactic(auto)]
 
 mod access;
@@ -19,6 +19,3 @@ mod seen;
 mod shared;
 
 pub use phase::issue;
-
-#[cfg(test)]
-mod tests;

@@ -35,6 +35,8 @@ pub(crate) struct Seen<'a> {
     pub(crate) regs: &'a [u32; REGISTERS],
     /// The machine's description.
     pub(crate) desc: &'a Desc,
+    /// The divider is free from this cycle on.
+    pub(crate) free_from: u64,
     /// The cycle.
     pub(crate) cycle: u32,
 }

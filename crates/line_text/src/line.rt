@@ -33,6 +33,12 @@ fn hex_digit(d: u8) -> u8
     DIGITS[d as usize]
 }
 
+fn hex_digits(byte: u8) -> [u8; 2]
+    ensures { result ≡ hex2 byte }
+{
+    [hex_digit(byte / 16), hex_digit(byte % 16)]
+}
+
 impl Line {
     /// The empty line.
     pub fn new() -> Self
@@ -43,6 +49,13 @@ impl Line {
         }
     }
 
+    /// Takes all bytes out. It costs what was in the line, and not its room: a line that is made once serves many texts.
+    pub fn clear(&mut self)
+        ensures { self.new ≡ [] }
+    {
+        self.bytes.clear();
+    }
+
     /// The bytes.
     pub fn as_slice(&self) -> &[u8]
         ensures { result.now ≡ self.now }
@@ -50,22 +63,12 @@ impl Line {
         self.bytes.as_slice()
     }
 
-    /// Appends one byte.
-    fn push(&mut self, byte: u8)
-        requires { length self.old < LINE_MAX }
-        ensures { self.new ≡ self.old ++ byte ∷ [] }
-    {
-        self.bytes.push(byte);
-    }
-
     /// Appends the bytes of a text, where there is room for them.
     pub fn add(&mut self, text: &[u8])
         requires { length self.old + length text.now ≤ LINE_MAX }
         ensures { self.new ≡ self.old ++ text.now }
     {
-        for byte in text {
-            self.push(*byte);
-        }
+        let _ = self.bytes.try_extend_from_slice(text);
     }
 
     /// Appends a number in decimal: at most 20 digits.
@@ -94,8 +97,7 @@ impl Line {
         ensures text { self.new ≡ self.old ++ hex2 byte }
         ensures len { length self.new ≡ length self.old + 2 }
     {
-        self.push(hex_digit(byte / 16));
-        self.push(hex_digit(byte % 16));
+        self.add(&hex_digits(byte));
     }
 
     /// Appends the eight hexadecimal digits of a word.
@@ -104,10 +106,11 @@ impl Line {
         ensures text { self.new ≡ self.old ++ hex8 word }
         ensures len { length self.new ≡ length self.old + 8 }
     {
-        self.add_hex2((word / 0x100_0000) as u8);
-        self.add_hex2((word / 0x1_0000 % 0x100) as u8);
-        self.add_hex2((word / 0x100 % 0x100) as u8);
-        self.add_hex2((word % 0x100) as u8);
+        let [a, b] = hex_digits((word / 0x100_0000) as u8);
+        let [c, d] = hex_digits((word / 0x1_0000 % 0x100) as u8);
+        let [e, f] = hex_digits((word / 0x100 % 0x100) as u8);
+        let [g, h] = hex_digits((word % 0x100) as u8);
+        self.add(&[a, b, c, d, e, f, g, h]);
     }
 
     /// Appends the two hexadecimal digits of each byte in turn.

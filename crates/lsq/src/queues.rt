@@ -75,7 +75,9 @@ impl Lsq {
     /// Appends a store of which nothing is known, with the serial of the youngest load from which its address flows.
     pub fn add_store(&mut self, serial: u64, root: Option<u64>)
         requires room { length self.old.stores < self.old.max_stores }
-        ensures { self.new ≡ record self.old { stores = self.old.stores ++ record { serial = serial; root = root; known = None } ∷ [] } }
+        ensures { self.new ≡ record self.old {
+          stores = self.old.stores ++ record { serial = serial; root = root; known = None } ∷ [];
+        } }
     {
         let store = Store {
             serial,
@@ -95,7 +97,10 @@ impl Lsq {
         stored: u32,
         fault: Option<Cause>,
     )
-        ensures { self.new ≡ record self.old { stores = map (known_at serial (record { addr = addr; width = width; stored = stored; fault = fault })) self.old.stores } }
+        ensures { self.new ≡ record self.old {
+          stores = map (known_at serial (record { addr = addr; width = width; stored = stored; fault = fault }))
+              self.old.stores;
+        } }
     {
         let known = Known {
             addr,
@@ -119,7 +124,8 @@ impl Lsq {
     /// no fault.
     pub fn merge(&self, serial: u64, addr: u32, width: Width, ram: &Ram) -> Merged
         requires address { load_fault ram.now addr (bytes_in width) ≡ None }
-        ensures value { result.value ≡ from_le (merged_bytes ram.now (older serial self.now.stores) addr (bytes_in width)) }
+        ensures value { result.value
+            ≡ from_le (merged_bytes ram.now (older serial self.now.stores) addr (bytes_in width)) }
         ensures small { result.value < 2 ^ (8 * bytes_in width) }
         ensures covered { result.covered ≡ all_forwarded (older serial self.now.stores) addr (bytes_in width) }
         ensures root { result.root ≡ youngest_root (older serial self.now.stores) }
@@ -129,7 +135,10 @@ impl Lsq {
 
     /// Takes out each load and store from this serial on: they were dropped.
     pub fn cut(&mut self, first: u64)
-        ensures { self.new ≡ record self.old { loads = filter (λ l. nat_lt l first) self.old.loads; stores = filter (λ s. nat_lt s.serial first) self.old.stores } }
+        ensures { self.new ≡ record self.old {
+          loads = filter (λ l. nat_lt l first) self.old.loads;
+          stores = filter (λ s. nat_lt s.serial first) self.old.stores;
+        } }
     {
         cut_loads(&mut self.loads, first);
         cut_stores(&mut self.stores, first);
@@ -137,7 +146,10 @@ impl Lsq {
 
     /// Takes out the load or store with this serial, if there is one: it retired.
     pub fn pop(&mut self, serial: u64)
-        ensures { self.new ≡ record self.old { loads = filter (λ l. not (l == serial)) self.old.loads; stores = filter (λ s. not (s.serial == serial)) self.old.stores } }
+        ensures { self.new ≡ record self.old {
+          loads = filter (λ l. not (l == serial)) self.old.loads;
+          stores = filter (λ s. not (s.serial == serial)) self.old.stores;
+        } }
     {
         pop_load(&mut self.loads, serial);
         pop_store(&mut self.stores, serial);

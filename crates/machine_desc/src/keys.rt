@@ -122,7 +122,8 @@ impl Section {
 
 // A row of a number.
 fn number(section: Section, name: &'static str, least: u32, most: u32, shape: Shape) -> Row
-    ensures row { record { section = result.section; name = result.name.now; values = result.values } ≡ whole section name.now least most shape }
+    ensures row { record { section = result.section; name = result.name.now; values = result.values }
+        ≡ whole section name.now least most shape }
     ensures name { result.name.now ≡ name.now }
 {
     Row {

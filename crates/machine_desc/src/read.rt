@@ -161,7 +161,10 @@ fn clean_number(document: &Table, key: Key) -> u32
 // The description of a document without fault.
 fn desc(document: &Table, stt_model: SttModel) -> Desc
     requires { IsClean (table_view document.now) }
-    ensures { contents result ≡ record { numbers = map (number (table_view document.now)) number_keys; model = stt_model } }
+    ensures { contents result ≡ record {
+      numbers = map (number (table_view document.now)) number_keys;
+      model = stt_model;
+    } }
 {
     Desc {
         core_fetch_width: clean_number(document, Key::CoreFetchWidth),

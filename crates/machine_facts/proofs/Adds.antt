@@ -67,15 +67,15 @@ learn_few : (k : Kind) (d : Desc) (e : Entry) (n : List ℕ) (t : List (Option T
 learn_few Branch d e n t = omega arith
 learn_few _ d e n t = learnt_few (is_faulty e) _ _ (omega arith) (omega arith)
 
-place_adds : (p : Place) (x : Machine) (b : Bool) (c : List ℕ) (t : List (Option Target)) → Adds 1 x (if b then squash p (with_predictor x c t) else keep p (with_predictor x c t))
-place_adds p x true c t = record { events = omega arith; cycle = refl; serials = refl; retired = refl }
-place_adds p x false c t = record { events = omega arith; cycle = refl; serials = refl; retired = refl }
+place_adds : (d : Desc) (p : Place) (x : Machine) (b : Bool) (c : List ℕ) (t : List (Option Target)) → Adds 1 x (if b then squash d p (with_predictor x c t) else keep p (with_predictor x c t))
+place_adds d p x true c t = record { events = omega arith; cycle = refl; serials = refl; retired = refl }
+place_adds d p x false c t = record { events = omega arith; cycle = refl; serials = refl; retired = refl }
 
 resolve_at_adds : (d : Desc) (o : Option Place) (x : Machine) → Adds 3 x (resolve_at d o x)
 resolve_at_adds d None x = record { events = omega arith; cycle = refl; serials = refl; retired = refl }
 resolve_at_adds d (Some p) x =
     let l = learn d p.entry x.counters x.targets in
-    let a = place_adds p x (squashes p.entry) l.counters l.targets in
+    let a = place_adds d p x (squashes p.entry) l.counters l.targets in
     record { events = joined 2 1 l.events _ (learn_few p.entry.item.kind d p.entry x.counters x.targets) a.events; cycle = a.cycle; serials = a.serials; retired = a.retired }
 
 pub resolve_adds : (d : Desc) (x : Machine) → Adds 3 x (resolve d x)
@@ -110,9 +110,9 @@ then_turns n x r s p q = record {
 
 pub retire_turns : (d : Desc) (x : Machine) → Turns d.core_retire_width x (retire d x)
 retire_turns d x =
-    retire_by d Turns (λ n x. record { events = omega arith; cycle = refl; serials = refl; retired = omega arith })
-    (λ n stored x e rest u q l t more. then_turns n x (head_leaves e.item.kind d e rest x) _ (head_turn e.item.kind d e rest x) more)
-    (λ n x e rest cause u q l t. record { events = omega arith; cycle = refl; serials = refl; retired = omega arith }) x
+    retire_by d (λ n stored x r. Turns n x r) (λ n stored x s. record { events = omega arith; cycle = refl; serials = refl; retired = omega arith })
+    (λ n stored x e rest u q l t w more. then_turns n x (head_leaves e.item.kind d e rest x) _ (head_turn e.item.kind d e rest x) more)
+    (λ n stored x e rest cause u q l t. record { events = omega arith; cycle = refl; serials = refl; retired = omega arith }) x
 
 -- ---- rename and fetch
 
@@ -127,11 +127,11 @@ pub rename_renames : (d : Desc) (x : Machine) → Renames d.core_fetch_width x (
 rename_renames d x =
     rename_by d Renames (λ n x. record { events = omega arith; cycle = refl; serials = omega arith; retired = refl })
     (λ n x i rest q f more.
-    record { events = let j = joined 1 n (rename_one i rest x).events (rename_up_to d n (rename_one i rest x).machine).events (omega arith) more.events in omega (arith, j); cycle = more.cycle; serials = omega (arith, more.serials); retired = more.retired }) x
+    record { events = let j = joined 1 n (rename_one d i rest x).events (rename_up_to d n (rename_one d i rest x).machine).events (omega arith) more.events in omega (arith, j); cycle = more.cycle; serials = omega (arith, more.serials); retired = more.retired }) x
 
 pub fetch_adds : (d : Desc) (code : Code) (x : Machine) → Adds d.core_fetch_width x (fetch d code x)
 fetch_adds d code x =
     fetch_by d code Adds (λ n x. record { events = omega arith; cycle = refl; serials = refl; retired = refl })
     (λ n x pc q r more.
-    let a = fetch_one (item_at d code x pc) x in
+    let a = fetch_one d (item_at d code x pc) x in
     record { events = let j = joined 1 n a.events (fetch_up_to d code n a.machine).events (omega arith) more.events in omega (arith, j); cycle = more.cycle; serials = more.serials; retired = more.retired }) x

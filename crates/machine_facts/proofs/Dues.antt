@@ -1,5 +1,5 @@
 -- What is under way ends soon: as the cycle goes on, as lines arrive and entries become done, and as entries begin.
-use Rattle.std.proofs.Common.{◌≡◌, ◌≢◌, ℕ, ◌+◌, ◌<◌, ◌≤◌, Bool, true, false, not, cond, List, [], ◌∷◌, ◌++◌, Option, Some, None, refl, sym, subst, arith}
+use Rattle.std.proofs.Common.{◌≡◌, ◌≢◌, ℕ, ◌+◌, ◌<◌, ◌≤◌, Bool, true, false, not, cond, List, [], ◌∷◌, ◌++◌, Option, Some, None, refl, sym, subst, arith, append-nil}
 use Rattle.std.proofs.lemmas.Bool.Decides.{nat_tests}
 use Rattle.std.specs.Prelude.{if◌then◌else◌, ◌==◌, map}
 use Rattle.std.specs.List.{filter, find, AllByRecursion as Each}
@@ -11,21 +11,22 @@ use Rattle.machine_desc.specs.Ranges.{IsDesc}
 use Rattle.window_model.specs.declared.Entry.{Entry}
 use Rattle.window_model.specs.declared.Item.{Item}
 use Rattle.window_model.specs.declared.Miss.{Miss}
-use Rattle.window_model.specs.declared.State.{State}
-use Rattle.window_model.specs.declared.State.TheVariants.{Waiting, Busy, Done}
+use Rattle.window_model.specs.declared.Progress.{Progress}
+use Rattle.window_model.specs.declared.Progress.TheVariants.{Waiting, Busy, Done}
 use Rattle.window_model.specs.State.{Machine}
 use Rattle.window_model.specs.Order.{Place, each_from}
 use Rattle.window_model.specs.Fill.{is_due, completed, completes, completes_at}
-use Rattle.window_model.specs.Access.{Access, Faults, Forwards, Hits, Joins, Misses, Waits}
-use Rattle.window_model.specs.Issue.{Begun, issue_entry, begin_as, load_as, access_of, time_of, misses_after, divider_after}
+use Rattle.window_model.specs.Around.{Around}
+use Rattle.window_model.specs.Access.{Access, Faults, Forwards, Looks, Waits, due_by, misses_after, register}
+use Rattle.window_model.specs.Issue.{Begun, issue_entry, begin_as, load_as, access_of, time_of, divider_after}
 use Rattle.window_model.specs.Front.{renamed, at_once}
 use Rattle.window_model.proofs.Lists.{each_then, each_map, each_push, each_filter, OfSome, find_each}
-use Rattle.window_model.proofs.Issuing.{by_issue, begin_goes, by_load}
+use Rattle.window_model.proofs.Issuing.{by_issue, begin_goes, by_line, by_load}
 use Rattle.machine_facts.specs.Timely.{IsSoon, DueSoon, IsDue, IsPending, Apart, latency, longest_division}
 
 -- ---- the cycle goes on
 
-due_later : (past cycle longest : ℕ) (t : State) → DueSoon past cycle longest t → DueSoon past (cycle + 1) longest t
+due_later : (past cycle longest : ℕ) (t : Progress) → DueSoon past cycle longest t → DueSoon past (cycle + 1) longest t
 due_later past cycle longest (Busy due) h = (h.0, omega (arith, h.1))
 due_later past cycle longest Waiting h = tt
 due_later past cycle longest Done h = tt
@@ -49,7 +50,7 @@ pub misses_left : (d : Desc) (past cycle : ℕ) (ms : List Miss) → cycle ≡ p
 misses_left d past cycle [] q h = tt
 misses_left d past cycle (m ∷ ms) q h = left_miss d past cycle m _ (is_due cycle m) refl q h.0 (misses_left d past cycle ms q h.1)
 
-left_due : (d : Desc) (past cycle longest : ℕ) (t : State) → completes_at cycle t ≡ false → cycle ≡ past + 1 → DueSoon past cycle longest t → DueSoon cycle cycle longest t
+left_due : (d : Desc) (past cycle longest : ℕ) (t : Progress) → completes_at cycle t ≡ false → cycle ≡ past + 1 → DueSoon past cycle longest t → DueSoon cycle cycle longest t
 left_due d past cycle longest (Busy due) h q s = (not_this past cycle due h q s.0, s.1)
 left_due d past cycle longest Waiting h q s = tt
 left_due d past cycle longest Done h q s = tt
@@ -67,36 +68,39 @@ dues_left d past cycle w q h = each_map (IsDue d cycle cycle) (completed cycle) 
 -- ---- what begins
 
 -- a division takes 3 to 35 cycles
-time_in : (x : Machine) (b : List Entry) (e : Entry) → (0 < time_of x b e) × (time_of x b e ≤ longest_division)
-time_in x b e = (omega arith, omega arith)
+time_in : (regs : List ℕ) (b : List Entry) (e : Entry) → (0 < time_of regs b e) × (time_of regs b e ≤ longest_division)
+time_in regs b e = (omega arith, omega arith)
 
--- an access ends soon where it joins
-abbrev JoinsSoon : Desc → Machine → Access → Type 0
-JoinsSoon d x (Joins line due) = IsSoon x.cycle x.cycle d.cache_miss_latency due
-JoinsSoon d x _ = Unit {0}
+-- a number of a miss register that is found
+of_found : (d : Desc) (now : Around) (o : Option Miss) (m : Miss) → o ≡ Some m → OfSome (IsPending d now.cycle now.cycle) o → IsPending d now.cycle now.cycle m
+of_found d now o m q h = subst (OfSome (IsPending d now.cycle now.cycle)) q h
 
-of_found : (d : Desc) (x : Machine) (o : Option Miss) (m : Miss) → o ≡ Some m → OfSome (IsPending d x.cycle x.cycle) o → IsPending d x.cycle x.cycle m
-of_found d x o m q h = subst (OfSome (IsPending d x.cycle x.cycle)) q h
+-- lines come soon
+abbrev pub LooksSoon : Desc → Around → Access → Type 0
+LooksSoon d now (Looks found) = IsSoon now.cycle now.cycle d.cache_miss_latency (due_by d now found)
+LooksSoon d now _ = Unit {0}
 
-joins_soon : (d : Desc) (x : Machine) → Each (IsPending d x.cycle x.cycle) x.misses → (b : List Entry) (e : Entry) → JoinsSoon d x (access_of d x b e)
-joins_soon d x h = by_load d x (JoinsSoon d x) tt (λ line. tt) (λ line m q. of_found d x _ m q (find_each (IsPending d x.cycle x.cycle) (λ m. m.line == line) x.misses h)) (λ line q r. tt) (λ r. tt) (λ c. tt)
+pub looks_soon : (d : Desc) (now : Around) → IsDesc d → Each (IsPending d now.cycle now.cycle) now.misses → (b : List Entry) (e : Entry) → LooksSoon d now (access_of d now b e)
+looks_soon d now i h =
+    by_load d now (LooksSoon d now) tt
+    (λ line room. by_line d now (λ l. LooksSoon d now (Looks (l ∷ []))) (λ line q. (omega (arith, i.hit_latency.0), omega (arith, i.miss_latency.1)))
+    (λ line m q. of_found d now _ m q (find_each (IsPending d now.cycle now.cycle) (λ m. m.line == line) now.misses h)) (λ line q. (omega (arith, i.miss_latency.0.0), omega arith)) line)
+    (λ r. tt) (λ c. tt)
 
-module _ (d : Desc) (x : Machine) (i : IsDesc d) where
-  abbrev Soon : Kind → State → Type 0
-  Soon k t = DueSoon x.cycle x.cycle (latency k d) t
+module _ (d : Desc) (now : Around) (i : IsDesc d) where
+  abbrev Soon : Kind → Progress → Type 0
+  Soon k t = DueSoon now.cycle now.cycle (latency k d) t
 
-  load_soon : (a : Access) (e : Entry) (f : Effect) (v : ℕ) → JoinsSoon d x a → Soon Load e.state → Soon Load (load_as a d x e f v).entry.state
+  load_soon : (a : Access) (e : Entry) (f : Effect) (v : ℕ) → LooksSoon d now a → Soon Load e.state → Soon Load (load_as a d now e f v).entry.state
   load_soon (Faults c) e f v h k = (omega arith, omega (arith, i.miss_latency.0.0))
   load_soon Forwards e f v h k = (omega arith, omega (arith, i.miss_latency.0.0))
-  load_soon (Hits line) e f v h k = (omega (arith, i.hit_latency.0), omega (arith, i.miss_latency.1))
-  load_soon (Joins line due) e f v h k = h
-  load_soon (Misses line) e f v h k = (omega (arith, i.miss_latency.0.0), omega arith)
+  load_soon (Looks found) e f v h k = h
   load_soon Waits e f v h k = k
 
-  begin_soon : (k : Kind) (b : List Entry) (e : Entry) → JoinsSoon d x (access_of d x b e) → Soon k e.state → Soon k (begin_as k d x b e).entry.state
-  begin_soon Load b e j h = load_soon (access_of d x b e) e _ _ j h
+  begin_soon : (k : Kind) (b : List Entry) (e : Entry) → LooksSoon d now (access_of d now b e) → Soon k e.state → Soon k (begin_as k d now b e).entry.state
+  begin_soon Load b e j h = load_soon (access_of d now b e) e _ _ j h
   begin_soon Mul b e j h = (omega (arith, i.mul_latency.0), omega arith)
-  begin_soon Div b e j h = let n = time_in x b e in (omega (arith, n.0), omega (arith, n.1))
+  begin_soon Div b e j h = let n = time_in now.regs b e in (omega (arith, n.0), omega (arith, n.1))
   begin_soon Store b e j h = (omega arith, omega arith)
   begin_soon Alu b e j h = (omega arith, omega arith)
   begin_soon Branch b e j h = (omega arith, omega arith)
@@ -105,18 +109,18 @@ module _ (d : Desc) (x : Machine) (i : IsDesc d) where
   begin_soon Call b e j h = (omega arith, omega arith)
   begin_soon (Stop c) b e j h = (omega arith, omega arith)
 
-  issue_soon : Each (IsPending d x.cycle x.cycle) x.misses → (b : List Entry) (e : Entry) → IsDue d x.cycle x.cycle e → IsDue d x.cycle x.cycle (issue_entry d x b e).entry
-  issue_soon p b e h = by_issue d x b e (IsDue d x.cycle x.cycle) h (λ m.
-      let r = (begin_as e.item.kind d x b e).entry in
-      subst (λ (j : Item). DueSoon x.cycle x.cycle (latency j.kind d) r.state) (sym (begin_goes e.item.kind d x b e).item) (begin_soon e.item.kind b e (joins_soon d x p b e) h))
+  issue_soon : Each (IsPending d now.cycle now.cycle) now.misses → (b : List Entry) (e : Entry) → IsDue d now.cycle now.cycle e → IsDue d now.cycle now.cycle (issue_entry d now b e).entry
+  issue_soon p b e h = by_issue d now b e (IsDue d now.cycle now.cycle) h (λ m.
+      let r = (begin_as e.item.kind d now b e).entry in
+      subst (λ (j : Item). DueSoon now.cycle now.cycle (latency j.kind d) r.state) (sym (begin_goes e.item.kind d now b e).item) (begin_soon e.item.kind b e (looks_soon d now i p b e) h))
 
-  pub dues_issued : Each (IsPending d x.cycle x.cycle) x.misses → (b es : List Entry) → Each (IsDue d x.cycle x.cycle) es → Each (IsDue d x.cycle x.cycle) (map (λ (t : Begun). t.entry) (each_from (issue_entry d x) b es))
+  pub dues_issued : Each (IsPending d now.cycle now.cycle) now.misses → (b es : List Entry) → Each (IsDue d now.cycle now.cycle) es → Each (IsDue d now.cycle now.cycle) (map (λ (t : Begun). t.entry) (each_from (issue_entry d now) b es))
   dues_issued p b [] h = tt
   dues_issued p b (e ∷ es) h = (issue_soon p b e h.0, dues_issued p (e ∷ b) es h.1)
 
-  pub divider_soon : (o : Option Place) → x.divider.free_from ≤ x.cycle + longest_division → (divider_after x o).free_from ≤ x.cycle + longest_division
-  divider_soon None h = h
-  divider_soon (Some p) h = let n = time_in x p.before p.entry in omega (arith, n.1)
+pub divider_soon : (x : Machine) (o : Option Place) → x.divider.free_from ≤ x.cycle + longest_division → (divider_after x o).free_from ≤ x.cycle + longest_division
+divider_soon x None h = h
+divider_soon x (Some p) h = let n = time_in x.regs p.before p.entry in omega (arith, n.1)
 
 -- ---- what is renamed
 
@@ -156,9 +160,16 @@ pub record MissesSoon (d : Desc) (cycle : ℕ) (ms : List Miss) : Type 0 where
   pub misses : Each (IsPending d cycle cycle) ms
   pub lines : Apart ms
 
-pub taken_soon : (d : Desc) (x : Machine) → IsDesc d → MissesSoon d x.cycle x.misses → (b : List Entry) (e : Entry) → MissesSoon d x.cycle (misses_after (access_of d x b e) d x)
-taken_soon d x i h = by_load d x (λ a. MissesSoon d x.cycle (misses_after a d x)) h (λ line. h) (λ line m q. h)
-    (λ line q r.
-    let new : Miss = record { line = line; due = x.cycle + d.cache_miss_latency } in
-    record { misses = each_push (IsPending d x.cycle x.cycle) x.misses new h.misses (omega (arith, i.miss_latency.0.0), omega arith); lines = apart_push x.misses new h.lines (none_found x.misses line q) })
+pub taken_soon : (d : Desc) (now : Around) → IsDesc d → MissesSoon d now.cycle now.misses → (b : List Entry) (e : Entry) → MissesSoon d now.cycle (misses_after (access_of d now b e) d now.cycle now.misses)
+taken_soon d now i h =
+    let after : Access → Type 0 = λ a. MissesSoon d now.cycle (misses_after a d now.cycle now.misses) in
+    let same : MissesSoon d now.cycle (now.misses ++ []) = subst (MissesSoon d now.cycle) (sym (append-nil now.misses)) h in
+    by_load d now after h
+    (λ line room. by_line d now (λ l. after (Looks (l ∷ []))) (λ line q. same) (λ line m q. same)
+    (λ line q.
+    let new = register d now.cycle line in
+    record {
+      misses = each_push (IsPending d now.cycle now.cycle) now.misses new h.misses (omega (arith, i.miss_latency.0.0), omega arith);
+      lines = apart_push now.misses new h.lines (none_found now.misses line q);
+    }) line)
     (λ r. h) (λ c. h)

@@ -5,6 +5,7 @@ pub mod SizedPhases
 pub mod SizedRetire
 pub mod SizedRun
 pub mod Serials
+pub mod Stores
 pub mod Dues
 pub mod Reasons
 pub mod TimelyPhases

@@ -9,11 +9,11 @@ use Rattle.machine_desc.specs.declared.Desc.{Desc}
 use Rattle.window_model.specs.declared.Entry.{Entry}
 use Rattle.window_model.specs.declared.Item.{Item}
 use Rattle.window_model.specs.declared.Target.{Target}
-use Rattle.window_model.specs.declared.State.TheVariants.{Done}
-use Rattle.window_model.specs.State.{Machine}
+use Rattle.window_model.specs.declared.Progress.TheVariants.{Done}
 use Rattle.window_model.specs.Order.{each_from, is_done, is_faulty, fault_of}
 use Rattle.window_model.specs.Fill.{completed, completes}
 use Rattle.window_model.specs.Retire.{trap_of}
+use Rattle.window_model.specs.Around.{Around}
 use Rattle.window_model.specs.Issue.{Begun, issue_entry, begin_as}
 use Rattle.window_model.specs.Front.{is_stop, predicted, renamed}
 use Rattle.window_model.proofs.Issuing.{by_issue, begin_goes}
@@ -71,15 +71,15 @@ still_stop false s2 false t2 f f2 p q h = absurd (cc)
 still_stop true false t t2 f f2 p q h = absurd (cc)
 still_stop false s2 true t2 f f2 p q h = absurd (cc)
 
-last_begins : (d : Desc) (x : Machine) (b : List Entry) (e : Entry) → is_last e ≡ true → is_last (issue_entry d x b e).entry ≡ true
-last_begins d x b e h = by_issue d x b e (λ r. is_last r ≡ true) h (λ m.
-    let r = (begin_as e.item.kind d x b e).entry in
+last_begins : (d : Desc) (now : Around) (b : List Entry) (e : Entry) → is_last e ≡ true → is_last (issue_entry d now b e).entry ≡ true
+last_begins d now b e h = by_issue d now b e (λ r. is_last r ≡ true) h (λ m.
+    let r = (begin_as e.item.kind d now b e).entry in
     still_stop (is_stop e.item.kind) (is_stop r.item.kind) (is_done e.state) (is_done r.state) (is_faulty e) (is_faulty r)
-    (ap (λ (i : Item). is_stop i.kind) (sym (begin_goes e.item.kind d x b e).item)) (waiting_done e.state m.waits) h)
+    (ap (λ (i : Item). is_stop i.kind) (sym (begin_goes e.item.kind d now b e).item)) (waiting_done e.state m.waits) h)
 
-pub last_issued : (d : Desc) (x : Machine) (b : List Entry) (n n2 : Bool) → (n ≡ true → n2 ≡ true) → (es : List Entry) → last_from n es ≡ true → last_from n2 (map (λ (t : Begun). t.entry) (each_from (issue_entry d x) b es)) ≡ true
-last_issued d x b n n2 i [] h = i h
-last_issued d x b n n2 i (e ∷ es) h = last_issued d x (e ∷ b) (is_last e) (is_last (issue_entry d x b e).entry) (last_begins d x b e) es h
+pub last_issued : (d : Desc) (now : Around) (b : List Entry) (n n2 : Bool) → (n ≡ true → n2 ≡ true) → (es : List Entry) → last_from n es ≡ true → last_from n2 (map (λ (t : Begun). t.entry) (each_from (issue_entry d now) b es)) ≡ true
+last_issued d now b n n2 i [] h = i h
+last_issued d now b n n2 i (e ∷ es) h = last_issued d now (e ∷ b) (is_last e) (is_last (issue_entry d now b e).entry) (last_begins d now b e) es h
 
 -- ---- a head that doesn't trap is not the last
 

@@ -1,8 +1,8 @@
 -- Each phase but Retire keeps sizes and entries.
 use Rattle.std.proofs.Common.{◌≡◌, ℕ, ◌+◌, ◌≤◌, Bool, true, false, not, List, [], ◌∷◌, ◌++◌, length, Option, Some, None, refl, ap, sym, ◌∙◌, subst, arith, length-append}
-use Rattle.std.proofs.lemmas.List.{length-set, length-replicate}
+use Rattle.std.proofs.lemmas.List.{length-map, length-set, length-replicate}
 use Rattle.std.specs.Prelude.{if◌then◌else◌, map, nat_lt, reverse, is_some}
-use Rattle.std.specs.List.{filter, AllByRecursion as Each}
+use Rattle.std.specs.List.{filter, fold, AllByRecursion as Each}
 use Rattle.rv_types.specs.Decode.{decode}
 use Rattle.rv_types.specs.Value.{size_of}
 use Rattle.rv_types.specs.Kind.{kind_of}
@@ -11,30 +11,33 @@ use Rattle.rv_types.specs.declared.Kind.{Kind}
 use Rattle.rv_types.specs.declared.Kind.TheVariants.{Alu, Mul, Div, Load, Store, Branch, Jalr, Jal, Call, Stop}
 use Rattle.machine_desc.specs.declared.Desc.{Desc}
 use Rattle.machine_desc.specs.Ranges.{IsDesc}
+use Rattle.window_model.specs.declared.Divider.{Divider}
 use Rattle.window_model.specs.declared.Entry.{Entry}
 use Rattle.window_model.specs.declared.Item.{Item}
 use Rattle.window_model.specs.declared.Miss.{Miss}
-use Rattle.window_model.specs.declared.State.{State}
-use Rattle.window_model.specs.declared.State.TheVariants.{Waiting, Busy, Done}
+use Rattle.window_model.specs.declared.Progress.{Progress}
+use Rattle.window_model.specs.declared.Progress.TheVariants.{Waiting, Busy, Done}
 use Rattle.window_model.specs.declared.Target.{Target}
 use Rattle.window_model.specs.State.{Machine, opening}
 use Rattle.window_model.specs.Order.{Place, first, each_from, is_waiting, is_faulty, is_store}
 use Rattle.window_model.specs.Fill.{fill, complete, completed, completes, completes_at, is_due}
-use Rattle.window_model.specs.Resolve.{resolve, resolve_at, may_resolve, Learnt, learn_as, with_predictor, squash, keep, squashes}
-use Rattle.window_model.specs.Retire.{op_of, width_of}
-use Rattle.window_model.specs.Issue.{Begun, issue, issue_entry, begin_as, is_free, access_of, cache_after, misses_after, after_load, tried, divides, divider_after}
+use Rattle.window_model.specs.Resolve.{resolve, Learnt, learn, learn_as, squash, keep}
+use Rattle.window_model.specs.Retire.{op_of, touched, width_of}
+use Rattle.window_model.specs.Around.{Around, around}
+use Rattle.window_model.specs.Access.{cache_after, line_at, look_up, misses_after, register, taken_lines}
+use Rattle.window_model.specs.Issue.{Begun, LoadPort, issue, issue_entry, begin_as, access_of, after_load, may_at}
 use Rattle.window_model.specs.Front.{rename, rename_one, renamed, fits, fetch, fetch_one, item_at, instr_at, kind_at, at_once}
 use Rattle.window_model.proofs.Booleans.{below}
 use Rattle.window_model.proofs.Lists.{each_then, each_map, each_join, each_left, each_right, each_push, each_replicate, filter_shortens}
-use Rattle.window_model.proofs.Places.{Found, by_place}
+use Rattle.window_model.proofs.Placing.{Taken, resolve_keep, taught}
 use Rattle.window_model.proofs.Counts.{Evolves, evolves_same, evolves_thins, map_evolves, place_evolves, completed_goes}
-use Rattle.window_model.proofs.Issuing.{by_issue, begin_goes, issue_evolves, by_load}
+use Rattle.window_model.proofs.Issuing.{by_issue, begin_goes, issue_evolves, by_after_load, by_load}
 use Rattle.window_model.proofs.Walks.{rename_keep, fetch_keep}
 use Rattle.machine_facts.specs.Sized.{Sized, HasKind, FitsKind, FaultIs}
 use Rattle.machine_facts.proofs.Parts.{WindowFits, IsEntry, PredictorFits, CacheFits, Fits, parts, whole}
 use Rattle.machine_facts.proofs.Caches.{filled_fits, touched_fits}
 use Rattle.machine_facts.proofs.SizedWindow.{thinner, renamed_fits}
-use Rattle.window_model.proofs.Resolving.{placed, resolved_one, resolved_goes}
+use Rattle.window_model.proofs.Resolving.{resolved_one, resolved_goes}
 
 -- ---- the first state
 
@@ -71,7 +74,7 @@ sized_fill d x i s =
     })
 
 -- what is busy doesn't wait
-not_waiting : (t : State) (cycle : ℕ) → completes_at cycle t ≡ true → is_waiting t ≡ false
+not_waiting : (t : Progress) (cycle : ℕ) → completes_at cycle t ≡ true → is_waiting t ≡ false
 not_waiting (Busy due) cycle h = refl
 not_waiting Waiting cycle h = absurd (cc)
 not_waiting Done cycle h = refl
@@ -103,103 +106,109 @@ module _ (d : Desc) where
   predictor_if true a c p q = p
   predictor_if false a c p q = q
 
-  learns_in : (k : Kind) (e : Entry) (c : List ℕ) (t : List (Option Target)) → PredictorFits d c t → PredictorFits d (learn_as k d e c t).counters (learn_as k d e c t).targets
+  pub learns_in : (k : Kind) (e : Entry) (c : List ℕ) (t : List (Option Target)) → PredictorFits d c t → PredictorFits d (learn_as k d e c t).counters (learn_as k d e c t).targets
   learns_in Branch e c t h = record { counters = length-set c _ _ ∙ h.counters; targets = h.targets }
   learns_in _ e c t h = predictor_if (is_faulty e) _ _ h (record { counters = h.counters; targets = length-set t _ _ ∙ h.targets })
 
-  module _ (x : Machine) (f : Fits d x) (p : Place) (g : Found (may_resolve d) [] x.window p) where
-    older : List Entry
-    older = reverse p.before
-
-    place : x.window ≡ older ++ p.entry ∷ p.younger
-    unfolding older
-    place = placed d x.window p g
-
-    window : (zs : List Entry) → Evolves p.younger zs → WindowFits d (older ++ resolved_one p.entry ∷ zs)
+  module _ (x : Machine) (f : Fits d x) (p : Place) (t : Taken d x p) where
+    window : (zs : List Entry) → Evolves p.younger zs → WindowFits d (reverse p.before ++ resolved_one p.entry ∷ zs)
     window zs v =
-        let here = subst (WindowFits d) place f.window in
-        thinner d (older ++ p.entry ∷ p.younger) (older ++ resolved_one p.entry ∷ zs) (evolves_thins _ _ (place_evolves older p.entry (resolved_one p.entry) p.younger zs (resolved_goes p.entry) v)) here
+        let here = subst (WindowFits d) t.window f.window in
+        let on = place_evolves (reverse p.before) p.entry (resolved_one p.entry) p.younger zs (resolved_goes p.entry) v in
+        thinner d _ (reverse p.before ++ resolved_one p.entry ∷ zs) (evolves_thins _ _ on) here
 
-    entries : (zs : List Entry) → (Each (IsEntry x.ram) p.younger → Each (IsEntry x.ram) zs) → Each (IsEntry x.ram) (older ++ resolved_one p.entry ∷ zs)
+    entries : (zs : List Entry) → (Each (IsEntry x.ram) p.younger → Each (IsEntry x.ram) zs) → Each (IsEntry x.ram) (reverse p.before ++ resolved_one p.entry ∷ zs)
     entries zs v =
-        let all = subst (Each (IsEntry x.ram)) place f.entries in
-        let behind = each_right (IsEntry x.ram) older _ all in
+        let all = subst (Each (IsEntry x.ram)) t.window f.entries in
+        let behind = each_right (IsEntry x.ram) (reverse p.before) _ all in
         let e = behind.0 in
-        each_join (IsEntry x.ram) older _ (each_left (IsEntry x.ram) older _ all) (record { kind = e.kind; memory = e.memory; outcome = e.outcome }, v behind.1)
+        each_join (IsEntry x.ram) (reverse p.before) _ (each_left (IsEntry x.ram) (reverse p.before) _ all) (record { kind = e.kind; memory = e.memory; outcome = e.outcome }, v behind.1)
 
-    either : (b : Bool) (c : List ℕ) (t : List (Option Target)) → PredictorFits d c t → Sized d (if b then squash p (with_predictor x c t) else keep p (with_predictor x c t)).machine
-    unfolding older
-    either true c t q = whole d _ (record {
+    predictor : let l = learn d p.entry x.counters x.targets in PredictorFits d l.counters l.targets
+    predictor = learns_in p.entry.item.kind p.entry x.counters x.targets f.predictor
+
+    squashed : Sized d (squash d p (taught d p x)).machine
+    squashed = whole d _ (record {
       window = window [] tt;
       entries = entries [] (λ k. tt);
       queue = record { queue = omega arith; item_kinds = tt };
-      predictor = q;
+      predictor = predictor;
       cache = f.cache;
       misses = f.misses;
       registers = f.registers;
     })
-    either false c t q = whole d _ (record {
+
+    kept : Sized d (keep p (taught d p x)).machine
+    kept = whole d _ (record {
       window = window p.younger (evolves_same p.younger);
       entries = entries p.younger (λ k. k);
       queue = f.queue;
-      predictor = q;
+      predictor = predictor;
       cache = f.cache;
       misses = f.misses;
       registers = f.registers;
     })
 
-    at_place : Sized d (resolve_at d (Some p) x).machine
-    at_place = either (squashes p.entry) _ _ (learns_in p.entry.item.kind p.entry x.counters x.targets f.predictor)
-
 pub sized_resolve : (d : Desc) (x : Machine) → IsDesc d → Sized d x → Sized d (resolve d x).machine
-sized_resolve d x i s = by_place (may_resolve d) x.window (λ o. Sized d (resolve_at d o x).machine) s (at_place d x (parts d x s))
+sized_resolve d x i = resolve_keep d (Sized d) (λ x p t q s. squashed d x (parts d x s) p t) (λ x p t q s. kept d x (parts d x s) p t) x
 
 -- ---- issue
 
 -- a store that begins has memory's fault
-store_begins : (k : Kind) (d : Desc) (x : Machine) (b : List Entry) (e : Entry) → is_store k ≡ true → FaultIs x.ram (width_of e) (begin_as k d x b e).entry.outcome × (is_some (begin_as k d x b e).entry.outcome ≡ true)
-store_begins Store d x b e h = (refl, refl)
-store_begins _ d x b e h = absurd (cc)
+store_begins : (k : Kind) (d : Desc) (now : Around) (b : List Entry) (e : Entry) → is_store k ≡ true → FaultIs now.ram (width_of e) (begin_as k d now b e).entry.outcome × (is_some (begin_as k d now b e).entry.outcome ≡ true)
+store_begins Store d now b e h = (refl, refl)
+store_begins _ d now b e h = absurd (cc)
 
 -- the same, told of the entry that has begun
-begun_entry : (d : Desc) (x : Machine) (b : List Entry) (e r : Entry) → r.item ≡ e.item → (is_store e.item.kind ≡ true → FaultIs x.ram (width_of e) r.outcome × (is_some r.outcome ≡ true)) → IsEntry x.ram e → IsEntry x.ram r
-begun_entry d x b e r q f h =
-    let own = subst (λ (i : Item). (is_store i.kind ≡ true → FaultIs x.ram (size_of (op_of i.instr)) r.outcome × (is_some r.outcome ≡ true))) (sym q) f in
+begun_entry : (ram : Ram) (e r : Entry) → r.item ≡ e.item → (is_store e.item.kind ≡ true → FaultIs ram (width_of e) r.outcome × (is_some r.outcome ≡ true)) → IsEntry ram e → IsEntry ram r
+begun_entry ram e r q f h =
+    let own = subst (λ (i : Item). (is_store i.kind ≡ true → FaultIs ram (size_of (op_of i.instr)) r.outcome × (is_some r.outcome ≡ true))) (sym q) f in
     record { kind = subst HasKind (sym q) h.kind; memory = λ st. (own st).0; outcome = λ st w. (own st).1 }
 
-issue_sizes : (d : Desc) (x : Machine) (b : List Entry) (e : Entry) → IsEntry x.ram e → IsEntry x.ram (issue_entry d x b e).entry
-issue_sizes d x b e h = by_issue d x b e (IsEntry x.ram) h (λ m. begun_entry d x b e _ (begin_goes e.item.kind d x b e).item (store_begins e.item.kind d x b e) h)
+issue_sizes : (d : Desc) (now : Around) (b : List Entry) (e : Entry) → IsEntry now.ram e → IsEntry now.ram (issue_entry d now b e).entry
+issue_sizes d now b e h = by_issue d now b e (IsEntry now.ram) h (λ m. begun_entry now.ram e _ (begin_goes e.item.kind d now b e).item (store_begins e.item.kind d now b e) h)
 
-issue_entries : (d : Desc) (x : Machine) (b es : List Entry) → Each (IsEntry x.ram) es → Each (IsEntry x.ram) (map (λ (t : Begun). t.entry) (each_from (issue_entry d x) b es))
-issue_entries d x b [] h = tt
-issue_entries d x b (e ∷ es) h = (issue_sizes d x b e h.0, issue_entries d x (e ∷ b) es h.1)
+issue_entries : (d : Desc) (now : Around) (b es : List Entry) → Each (IsEntry now.ram) es → Each (IsEntry now.ram) (map (λ (t : Begun). t.entry) (each_from (issue_entry d now) b es))
+issue_entries d now b [] h = tt
+issue_entries d now b (e ∷ es) h = (issue_sizes d now b e h.0, issue_entries d now (e ∷ b) es h.1)
 
 -- what a load shares
 record SharedFits (d : Desc) (lines : List (List ℕ)) (taken : List Miss) : Type 0 where
   cache : CacheFits d lines
   misses : length taken ≤ d.cache_mshrs
 
-load_shares : (d : Desc) (x : Machine) → CacheFits d x.cache → length x.misses ≤ d.cache_mshrs → (b : List Entry) (e : Entry) →
-    let a = access_of d x b e in SharedFits d (cache_after a d x.cache) (misses_after a d x)
-load_shares d x c m =
-    let same : SharedFits d x.cache x.misses = record { cache = c; misses = m } in
-    by_load d x (λ a. SharedFits d (cache_after a d x.cache) (misses_after a d x)) same (λ line. record { cache = touched_fits d x.cache line c; misses = m }) (λ line m q. same)
-    (λ line q r. record { cache = c; misses = let new : Miss = record { line = line; due = x.cycle + d.cache_miss_latency } in let l = length-append x.misses (new ∷ []) in omega arith }) (λ r. same) (λ cause. same)
+lines_fit : (d : Desc) (lines : List ℕ) (cache : List (List ℕ)) → CacheFits d cache → CacheFits d (fold (touched d) cache lines)
+lines_fit d [] cache c = c
+lines_fit d (line ∷ lines) cache c = lines_fit d lines (touched d cache line) (touched_fits d cache line c)
+
+load_shares : (d : Desc) (now : Around) → CacheFits d now.cache → length now.misses ≤ d.cache_mshrs → (b : List Entry) (e : Entry) →
+    let a = access_of d now b e in SharedFits d (cache_after a d now.cache) (misses_after a d now.cycle now.misses)
+load_shares d now c m =
+    let same : SharedFits d now.cache now.misses = record { cache = c; misses = m } in
+    by_load d now (λ a. SharedFits d (cache_after a d now.cache) (misses_after a d now.cycle now.misses)) same
+    (λ line room.
+    let found = look_up d now line ∷ [] in
+    let taken = map (register d now.cycle) (taken_lines found) in
+    let more = length-append now.misses taken in
+    let as_many = length-map (taken_lines found) (register d now.cycle) in
+    record { cache = lines_fit d (map line_at found) now.cache c; misses = omega (arith, more, as_many, room) })
+    (λ r. same) (λ cause. same)
 
 after_shares : (d : Desc) (x : Machine) (o : Option Place) → Fits d x → SharedFits d (after_load d o x).cache (after_load d o x).misses
 after_shares d x None f = record { cache = f.cache; misses = f.misses }
-after_shares d x (Some p) f = load_shares d x f.cache f.misses p.before p.entry
+after_shares d x (Some p) f = load_shares d (around x) f.cache f.misses p.before p.entry
 
-after_same : (d : Desc) (x : Machine) (o : Option Place) (w : List Entry) → WindowFits d w → Each (IsEntry x.ram) w → Fits d x → let y = after_load d o x in Sized d (record y { window = w; divider = divider_after x (first (divides d (is_free x)) x.window) })
-after_same d x None w v e f = whole d _ (record { window = v; entries = e; queue = f.queue; predictor = f.predictor; cache = f.cache; misses = f.misses; registers = f.registers })
-after_same d x (Some p) w v e f =
-    let s = after_shares d x (Some p) f in
-    whole d _ (record { window = v; entries = e; queue = f.queue; predictor = f.predictor; cache = s.cache; misses = s.misses; registers = f.registers })
+after_same : (d : Desc) (x : Machine) (o : Option Place) (w : List Entry) (v : Divider) → WindowFits d w → Each (IsEntry x.ram) w → Fits d x → Sized d (record (after_load d o x) { window = w; divider = v })
+after_same d x o w v f e g =
+    let s = after_shares d x o g in
+    by_after_load d x (λ y. SharedFits d y.cache y.misses → Sized d (record y { window = w; divider = v }))
+    (λ cache misses s. whole d _ (record { window = f; entries = e; queue = g.queue; predictor = g.predictor; cache = s.cache; misses = s.misses; registers = g.registers })) o s
 
 pub sized_issue : (d : Desc) (x : Machine) → IsDesc d → Sized d x → Sized d (issue d x).machine
 sized_issue d x i s =
     let f = parts d x s in
-    after_same d x (first (tried d (is_free x)) x.window) _ (thinner d x.window _ (evolves_thins x.window _ (issue_evolves d x [] x.window)) f.window) (issue_entries d x [] x.window f.entries) f
+    let now = around x in
+    after_same d x (first (may_at d now LoadPort) x.window) _ _ (thinner d x.window _ (evolves_thins x.window _ (issue_evolves d now [] x.window)) f.window) (issue_entries d now [] x.window f.entries) f
 
 -- ---- rename and fetch
 
@@ -211,12 +220,12 @@ renamed_entry : (ram : Ram) (i : Item) (serial : ℕ) → HasKind i → IsEntry 
 renamed_entry ram i serial h = record { kind = h; memory = λ st. tt; outcome = λ st w. absurd (store_waits i.kind st w) }
 
 -- an item that fits is renamed
-pub rename_item : (d : Desc) (x : Machine) (i : Item) (rest : List Item) → x.queue ≡ i ∷ rest → fits d x.window i ≡ true → Sized d x → Sized d (rename_one i rest x).machine
+pub rename_item : (d : Desc) (x : Machine) (i : Item) (rest : List Item) → x.queue ≡ i ∷ rest → fits d x.window i ≡ true → Sized d x → Sized d (rename_one d i rest x).machine
 rename_item d x i rest q r s =
     let f = parts d x s in
     let n = ap length q in
     let items = subst (Each HasKind) q f.queue.item_kinds in
-    whole d (rename_one i rest x).machine (record {
+    whole d (rename_one d i rest x).machine (record {
       window = renamed_fits d x.window i x.next_serial r f.window;
       entries = each_push (IsEntry x.ram) x.window (renamed x.next_serial i) f.entries (renamed_entry x.ram i x.next_serial items.0);
       queue = record { queue = omega (arith, n, f.queue.queue); item_kinds = items.1 };
@@ -246,13 +255,13 @@ fetched_kind None pc p = tt
 fetched_kind (Some w) pc p = own_kind (kind_of (decode w)) (record { pc = pc; instr = decode w; kind = kind_of (decode w); predicted = p }) refl refl
 
 -- an item for which there is room is fetched
-pub fetch_item : (d : Desc) (code : Code) (x : Machine) (pc : ℕ) → x.fetch_pc ≡ Some pc → nat_lt (length x.queue) d.core_queue ≡ true → Sized d x → Sized d (fetch_one (item_at d code x pc) x).machine
+pub fetch_item : (d : Desc) (code : Code) (x : Machine) (pc : ℕ) → x.fetch_pc ≡ Some pc → nat_lt (length x.queue) d.core_queue ≡ true → Sized d x → Sized d (fetch_one d (item_at d code x pc) x).machine
 fetch_item d code x pc q r s =
     let f = parts d x s in
     let i = item_at d code x pc in
     let b = below (length x.queue) d.core_queue r in
     let l = length-append x.queue (i ∷ []) in
-    whole d (fetch_one i x).machine (record {
+    whole d (fetch_one d i x).machine (record {
       window = f.window;
       entries = f.entries;
       queue = record { queue = omega (arith, b, l); item_kinds = each_push HasKind x.queue i f.queue.item_kinds (fetched_kind (code pc) pc i.predicted) };

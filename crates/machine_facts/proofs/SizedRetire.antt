@@ -13,7 +13,7 @@ use Rattle.window_model.specs.declared.Outcome.{Outcome}
 use Rattle.window_model.specs.Shape.{SameShape}
 use Rattle.window_model.specs.State.{Machine, line_of}
 use Rattle.window_model.specs.Order.{is_store, is_done, value_of, fault_of}
-use Rattle.window_model.specs.Retire.{trap_as, retire, head_leaves, addr_of, stored_of, width_of, may_leave, trap_of}
+use Rattle.window_model.specs.Retire.{retire, head_leaves, addr_of, stored_of, width_of, may_leave, trap_of}
 use Rattle.window_model.proofs.Booleans.{both, done_waits}
 use Rattle.window_model.proofs.Lists.{each_then}
 use Rattle.window_model.proofs.Memory.{same_shape, shape_then, store_keeps, same_fault}
@@ -97,20 +97,3 @@ sized_retire d x i s = (retire_lies d x.ram x (record { sized = s; shape = same_
 
 pub memory_stays_retire : (d : Desc) (x : Machine) → IsDesc d → Sized d x → SameShape x.ram (retire d x).machine.ram
 memory_stays_retire d x i s = (retire_lies d x.ram x (record { sized = s; shape = same_shape x.ram })).shape
-
--- a head that may leave retires
-pub sized_head : (d : Desc) (x : Machine) (e : Entry) (rest : List Entry) → x.window ≡ e ∷ rest → may_leave e ≡ true → trap_of e ≡ None → Sized d x → Sized d (head_leaves e.item.kind d e rest x).machine
-sized_head d x e rest w l t s = (leaves d x.ram x e rest w l t (record { sized = s; shape = same_shape x.ram })).sized
-
--- the run ends
-pub sized_end : (d : Desc) (x : Machine) (end : End) → Sized d x → Sized d (record x { end = Some end })
-sized_end d x end s = (ends d x.ram x end (record { sized = s; shape = same_shape x.ram })).sized
-
--- a store that may retire writes inside memory
-pub store_inside : (d : Desc) (x : Machine) (e : Entry) (rest : List Entry) → x.window ≡ e ∷ rest → e.item.kind ≡ Store → may_leave e ≡ true → trap_of e ≡ None → Sized d x →
-    store_fault x.ram (addr_of e.outcome) (width_of e) ≡ None
-store_inside d x e rest w k l t s =
-    let own : IsEntry x.ram e = (subst (Each (IsEntry x.ram)) w (parts d x s).entries).0 in
-    let st : is_store e.item.kind ≡ true = ap is_store k in
-    let none : fault_of e.outcome ≡ None = sym (ap (λ k. trap_as k e) k) ∙ t in
-    no_fault x.ram (width_of e) e.outcome (own.memory st) (own.outcome st (done_waits e.state (both (is_done e.state) _ l).0)) none

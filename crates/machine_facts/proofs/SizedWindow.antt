@@ -7,7 +7,7 @@ use Rattle.rv_types.specs.declared.Kind.TheVariants.{Load, Store, Call}
 use Rattle.machine_desc.specs.declared.Desc.{Desc}
 use Rattle.window_model.specs.declared.Entry.{Entry}
 use Rattle.window_model.specs.declared.Item.{Item}
-use Rattle.window_model.specs.declared.State.TheVariants.{Waiting, Done}
+use Rattle.window_model.specs.declared.Progress.TheVariants.{Waiting, Done}
 use Rattle.window_model.specs.Order.{is_load, is_store, is_waiting}
 use Rattle.window_model.specs.Front.{is_call, at_once, fits, fits_as, renamed}
 use Rattle.window_model.proofs.Booleans.{both, not_true, below}

@@ -11,26 +11,26 @@ use Rattle.machine_desc.specs.Ranges.{IsDesc}
 use Rattle.window_model.specs.declared.Divider.{Divider}
 use Rattle.window_model.specs.declared.Entry.{Entry}
 use Rattle.window_model.specs.declared.Item.{Item}
-use Rattle.window_model.specs.declared.Target.{Target}
 use Rattle.window_model.specs.State.{Machine, opening}
 use Rattle.window_model.specs.Order.{Place, first, is_done, is_faulty, value_of}
 use Rattle.window_model.specs.Fill.{fill, complete, completed, is_due}
-use Rattle.window_model.specs.Resolve.{resolve, resolve_at, may_resolve, with_predictor, squash, keep, squashes, is_from, next_of}
+use Rattle.window_model.specs.Resolve.{resolve, squash, keep, is_from, next_of}
 use Rattle.window_model.specs.Retire.{retire, head_leaves, trap_of}
-use Rattle.window_model.specs.Issue.{issue, is_free, after_load, tried, divides}
+use Rattle.window_model.specs.Around.{around}
+use Rattle.window_model.specs.Issue.{DivPort, LoadPort, issue, after_load, may_at}
 use Rattle.window_model.specs.Front.{rename, rename_one, renamed, fits, fetch, fetch_one, item_at, instr_at, kind_at, is_stop}
 use Rattle.window_model.proofs.Lists.{each_join, each_left, each_right, each_push}
-use Rattle.window_model.proofs.Places.{Found, by_place}
+use Rattle.window_model.proofs.Placing.{Taken, resolve_keep, taught}
 use Rattle.window_model.proofs.Registers.{read_other, writes_not_zero}
 use Rattle.window_model.proofs.Counts.{Evolves, evolves_same, map_evolves, place_evolves, completed_goes}
 use Rattle.window_model.proofs.Walks.{heads_keep, rename_keep, fetch_keep}
 use Rattle.machine_facts.specs.Timely.{Rises, IsDue, longest_division, last_from, last_item_from, TimelyFrom, Timely}
 use Rattle.machine_facts.proofs.Serials.{rises_from, rises_on, rises_push}
-use Rattle.machine_facts.proofs.Dues.{dues_later, misses_later, misses_left, dues_left, dues_issued, divider_soon, due_new, apart_filter, taken_soon}
+use Rattle.machine_facts.proofs.Dues.{dues_later, misses_later, misses_left, dues_left, dues_issued, divider_soon, due_new, apart_filter, MissesSoon, taken_soon}
 use Rattle.machine_facts.proofs.Reasons.{last_map, items_more, last_more, last_join, last_push, last_item_push, last_completed, last_issued, last_rest, last_new, stop_predicts}
-use Rattle.window_model.proofs.Resolving.{resolve_parts, placed, resolved_one, resolved_goes}
+use Rattle.window_model.proofs.Resolving.{resolved_one, resolved_goes}
 use Rattle.window_model.proofs.Leaving.{gone, head_by}
-use Rattle.window_model.proofs.Issuing.{issue_evolves}
+use Rattle.window_model.proofs.Issuing.{by_after_load, issue_evolves}
 
 -- ---- the first state, and the next cycle
 
@@ -89,40 +89,34 @@ module _ (d : Desc) where
   last_resolved false true f p q = q
   last_resolved false false f p q = absurd (cc)
 
-  module _ (x : Machine) (h : Timely d x) (p : Place) (g : Found (may_resolve d) [] x.window p) where
-    older : List Entry
-    older = reverse p.before
+  module _ (x : Machine) (h : Timely d x) (p : Place) (t : Taken d x p) where
+    abbrev Marked : List Entry → List Entry
+    Marked zs = reverse p.before ++ resolved_one p.entry ∷ zs
 
-    place : x.window ≡ older ++ p.entry ∷ p.younger
-    unfolding older
-    place = placed d x.window p g
+    serials : (zs : List Entry) → Evolves p.younger zs → Rises 0 (Marked zs) x.next_serial
+    serials zs v = rises_on 0 x.next_serial x.window _ (subst (λ w. Evolves w (Marked zs)) (sym t.window) (place_evolves (reverse p.before) p.entry (resolved_one p.entry) p.younger zs (resolved_goes p.entry) v)) h.serials
 
-    done : is_done p.entry.state ≡ true
-    done = (resolve_parts d p.before p.entry g.has).done
-
-    serials : (zs : List Entry) → Evolves p.younger zs → Rises 0 (older ++ resolved_one p.entry ∷ zs) x.next_serial
-    serials zs v = rises_on 0 x.next_serial x.window _ (subst (λ w. Evolves w (older ++ resolved_one p.entry ∷ zs)) (sym place) (place_evolves older p.entry (resolved_one p.entry) p.younger zs (resolved_goes p.entry) v)) h.serials
-
-    dues : (zs : List Entry) → (Each (IsDue d x.cycle x.cycle) p.younger → Each (IsDue d x.cycle x.cycle) zs) → Each (IsDue d x.cycle x.cycle) (older ++ resolved_one p.entry ∷ zs)
+    dues : (zs : List Entry) → (Each (IsDue d x.cycle x.cycle) p.younger → Each (IsDue d x.cycle x.cycle) zs) → Each (IsDue d x.cycle x.cycle) (Marked zs)
     dues zs v =
-        let all = subst (Each (IsDue d x.cycle x.cycle)) place h.dues in
-        let behind = each_right (IsDue d x.cycle x.cycle) older _ all in
-        each_join (IsDue d x.cycle x.cycle) older _ (each_left (IsDue d x.cycle x.cycle) older _ all) (behind.0, v behind.1)
+        let all = subst (Each (IsDue d x.cycle x.cycle)) t.window h.dues in
+        let behind = each_right (IsDue d x.cycle x.cycle) (reverse p.before) _ all in
+        each_join (IsDue d x.cycle x.cycle) (reverse p.before) _ (each_left (IsDue d x.cycle x.cycle) (reverse p.before) _ all) (behind.0, v behind.1)
 
-    either : (b : Bool) (c : List ℕ) (t : List (Option Target)) → Timely d (if b then squash p (with_predictor x c t) else keep p (with_predictor x c t)).machine
-    unfolding older
-    either true c t = record {
+    squashed : Timely d (squash d p (taught d p x)).machine
+    squashed = record {
       serials = serials [] tt;
       dues = dues [] (λ k. tt);
       misses = h.misses;
       lines = h.lines;
       divider = freed_in (is_from (p.entry.serial + 1) x.divider.user) x.divider (x.cycle + longest_division) h.divider;
       fetches = λ n.
-          last_join (is_some x.end) older (resolved_one p.entry ∷ [])
-          ∙ last_resolved (is_stop p.entry.item.kind) (is_done p.entry.state) (is_faulty p.entry) done (nowhere_after (is_faulty p.entry) (next_of p.entry.outcome) n);
+          last_join (is_some x.end) (reverse p.before) (resolved_one p.entry ∷ [])
+          ∙ last_resolved (is_stop p.entry.item.kind) (is_done p.entry.state) (is_faulty p.entry) t.parts.done (nowhere_after (is_faulty p.entry) (next_of p.entry.outcome) n);
       zero = h.zero;
     }
-    either false c t = record {
+
+    kept : Timely d (keep p (taught d p x)).machine
+    kept = record {
       serials = serials p.younger (evolves_same p.younger);
       dues = dues p.younger (λ k. k);
       misses = h.misses;
@@ -130,18 +124,15 @@ module _ (d : Desc) where
       divider = h.divider;
       fetches = λ n.
           ap (λ b. last_item_from b x.queue)
-          (last_join (is_some x.end) older (resolved_one p.entry ∷ p.younger)
-          ∙ sym (last_join (is_some x.end) older (p.entry ∷ p.younger))
-          ∙ ap (last_from (is_some x.end)) (sym place))
+          (last_join (is_some x.end) (reverse p.before) (resolved_one p.entry ∷ p.younger)
+          ∙ sym (last_join (is_some x.end) (reverse p.before) (p.entry ∷ p.younger))
+          ∙ ap (last_from (is_some x.end)) (sym t.window))
           ∙ h.fetches n;
       zero = h.zero;
     }
 
-    at_place : Timely d (resolve_at d (Some p) x).machine
-    at_place = either (squashes p.entry) _ _
-
 pub timely_resolve : (d : Desc) (x : Machine) → IsDesc d → Timely d x → Timely d (resolve d x).machine
-timely_resolve d x i h = by_place (may_resolve d) x.window (λ o. Timely d (resolve_at d o x).machine) h (at_place d x h)
+timely_resolve d x i = resolve_keep d (Timely d) (λ x p t q h. squashed d x h p t) (λ x p t q h. kept d x h p t) x
 
 -- ---- retire
 
@@ -180,24 +171,29 @@ timely_retire d x i h = heads_keep d (Timely d) (λ x e rest w l t k. leaves d x
 
 -- ---- issue
 
+after_soon : (d : Desc) (x : Machine) (o : Option Place) → IsDesc d → Timely d x → MissesSoon d x.cycle (after_load d o x).misses
+after_soon d x None i h = record { misses = h.misses; lines = h.lines }
+after_soon d x (Some p) i h = taken_soon d (around x) i (record { misses = h.misses; lines = h.lines }) p.before p.entry
+
 issue_done : (d : Desc) (x : Machine) (o : Option Place) (w : List Entry) (v : Divider) → IsDesc d → Rises 0 w x.next_serial → Each (IsDue d x.cycle x.cycle) w → v.free_from ≤ x.cycle + longest_division →
     (x.fetch_pc ≡ None → last_item_from (last_from (is_some x.end) w) x.queue ≡ true) → Timely d x → Timely d (record (after_load d o x) { window = w; divider = v })
-issue_done d x None w v i r u f n h = record { serials = r; dues = u; misses = h.misses; lines = h.lines; divider = f; fetches = n; zero = h.zero }
-issue_done d x (Some p) w v i r u f n h =
-    let m = taken_soon d x i (record { misses = h.misses; lines = h.lines }) p.before p.entry in
-    record { serials = r; dues = u; misses = m.misses; lines = m.lines; divider = f; fetches = n; zero = h.zero }
+issue_done d x o w v i r u f n h =
+    let soon = after_soon d x o i h in
+    by_after_load d x (λ y. MissesSoon d x.cycle y.misses → Timely d (record y { window = w; divider = v }))
+    (λ c m s. record { serials = r; dues = u; misses = s.misses; lines = s.lines; divider = f; fetches = n; zero = h.zero }) o soon
 
 pub timely_issue : (d : Desc) (x : Machine) → IsDesc d → Timely d x → Timely d (issue d x).machine
 timely_issue d x i h =
-    issue_done d x (first (tried d (is_free x)) x.window) _ _ i
-    (rises_on 0 x.next_serial x.window _ (issue_evolves d x [] x.window) h.serials)
-    (dues_issued d x i h.misses [] x.window h.dues)
-    (divider_soon d x i (first (divides d (is_free x)) x.window) h.divider)
-    (λ n. items_more _ _ (last_issued d x [] (is_some x.end) (is_some x.end) (λ h. h) x.window) x.queue (h.fetches n)) h
+    let now = around x in
+    issue_done d x (first (may_at d now LoadPort) x.window) _ _ i
+    (rises_on 0 x.next_serial x.window _ (issue_evolves d now [] x.window) h.serials)
+    (dues_issued d now i h.misses [] x.window h.dues)
+    (divider_soon x (first (may_at d now DivPort) x.window) h.divider)
+    (λ n. items_more _ _ (last_issued d now [] (is_some x.end) (is_some x.end) (λ h. h) x.window) x.queue (h.fetches n)) h
 
 -- ---- rename and fetch
 
-rename_item : (d : Desc) (x : Machine) (j : Item) (rest : List Item) → x.queue ≡ j ∷ rest → fits d x.window j ≡ true → Timely d x → Timely d (rename_one j rest x).machine
+rename_item : (d : Desc) (x : Machine) (j : Item) (rest : List Item) → x.queue ≡ j ∷ rest → fits d x.window j ≡ true → Timely d x → Timely d (rename_one d j rest x).machine
 rename_item d x j rest q f h = record {
   serials = rises_push 0 x.next_serial x.window (renamed x.next_serial j) refl h.serials;
   dues = each_push (IsDue d x.cycle x.cycle) x.window (renamed x.next_serial j) h.dues (due_new d x.cycle x.cycle x.next_serial j);
@@ -213,7 +209,7 @@ rename_item d x j rest q f h = record {
 pub timely_rename : (d : Desc) (x : Machine) → IsDesc d → Timely d x → Timely d (rename d x).machine
 timely_rename d x i h = rename_keep d (Timely d) (rename_item d) x h
 
-fetch_item : (d : Desc) (code : Code) (x : Machine) (pc : ℕ) → x.fetch_pc ≡ Some pc → nat_lt (length x.queue) d.core_queue ≡ true → Timely d x → Timely d (fetch_one (item_at d code x pc) x).machine
+fetch_item : (d : Desc) (code : Code) (x : Machine) (pc : ℕ) → x.fetch_pc ≡ Some pc → nat_lt (length x.queue) d.core_queue ≡ true → Timely d x → Timely d (fetch_one d (item_at d code x pc) x).machine
 fetch_item d code x pc q r h = record {
   serials = h.serials;
   dues = h.dues;

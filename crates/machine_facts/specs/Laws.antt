@@ -1,15 +1,18 @@
 -- What the phases, a cycle and every run keep (docs/theorems.md, "What every state keeps").
-use Rattle.std.specs.Prelude.{ℕ, ◌≤◌, length}
+use Rattle.std.specs.Prelude.{ℕ, ◌+◌, ◌≤◌, length}
+use Rattle.std.specs.List.{AllByRecursion as Each}
 use Rattle.rv_types.specs.Memory.{Code, Ram}
 use Rattle.machine_desc.specs.declared.Desc.{Desc}
 use Rattle.machine_desc.specs.Ranges.{IsDesc}
 use Rattle.window_model.specs.Shape.{SameShape}
 use Rattle.window_model.specs.State.{Machine}
+use Rattle.window_model.specs.Fill.{fill, complete}
+use Rattle.window_model.specs.Resolve.{resolve}
 use Rattle.window_model.specs.Retire.{retire}
 use Rattle.window_model.specs.Cycle.{at, cycle}
 use Rattle.window_model.specs.Row.{most_events}
 use Rattle.machine_facts.specs.Sized.{Sized}
-use Rattle.machine_facts.specs.Timely.{Timely, Counted}
+use Rattle.machine_facts.specs.Timely.{Timely, Counted, WaitsOrDone}
 
 -- every state of a run has its sizes
 abbrev pub StatesAreSized : Type 0
@@ -18,6 +21,12 @@ StatesAreSized = (d : Desc) (code : Code) (entry : ℕ) (ram : Ram) (k : ℕ) �
 -- in every state of a run serials rise, all that is under way ends soon, and fetching stops only for a reason
 abbrev pub StatesAreTimely : Type 0
 StatesAreTimely = (d : Desc) (code : Code) (entry : ℕ) (ram : Ram) (k : ℕ) → IsDesc d → Timely d (at d code entry ram k)
+
+-- from a state between two cycles on, a store takes one cycle to execute: so none is busy in what Issue finds
+abbrev pub NoStoreIsBusy : Type 0
+NoStoreIsBusy = (d : Desc) (x : Machine) → Timely d x →
+    let done = (complete (fill d (record x { cycle = x.cycle + 1 })).machine).machine in
+    Each WaitsOrDone (retire d (resolve d done).machine).machine.window
 
 -- in every state of a run at most four instructions a cycle were renamed, and at most four retired
 abbrev pub StatesAreCounted : Type 0

@@ -1,6 +1,6 @@
 -- What every state keeps of times: serials rise, all that is under way ends soon, and fetching stops only for a reason
 -- (docs/theorems.md, "What every state keeps").
-use Rattle.std.specs.Prelude.{◌≡◌, ◌≢◌, ℕ, suc, ◌+◌, ◌*◌, ◌<◌, ◌≤◌, Bool, true, ◌&&◌, ◌||◌, List, [], ◌∷◌, None, is_some}
+use Rattle.std.specs.Prelude.{◌≡◌, ◌≢◌, ℕ, suc, ◌+◌, ◌*◌, ◌<◌, ◌≤◌, Bool, true, false, ◌&&◌, ◌||◌, List, [], ◌∷◌, None, is_some}
 use Rattle.std.specs.List.{AllByRecursion as Each}
 use Rattle.rv_types.specs.Isa.{reg}
 use Rattle.rv_types.specs.declared.Kind.{Kind}
@@ -9,10 +9,10 @@ use Rattle.machine_desc.specs.declared.Desc.{Desc}
 use Rattle.window_model.specs.declared.Entry.{Entry}
 use Rattle.window_model.specs.declared.Item.{Item}
 use Rattle.window_model.specs.declared.Miss.{Miss}
-use Rattle.window_model.specs.declared.State.{State}
-use Rattle.window_model.specs.declared.State.TheVariants.{Busy}
+use Rattle.window_model.specs.declared.Progress.{Progress}
+use Rattle.window_model.specs.declared.Progress.TheVariants.{Busy}
 use Rattle.window_model.specs.State.{Machine}
-use Rattle.window_model.specs.Order.{is_done, is_faulty}
+use Rattle.window_model.specs.Order.{is_done, is_faulty, is_store}
 use Rattle.window_model.specs.Front.{is_stop}
 
 -- serials rise from one on, and all stay below another
@@ -36,9 +36,18 @@ abbrev pub IsSoon : ℕ → ℕ → ℕ → ℕ → Type 0
 IsSoon past cycle longest due = (past < due) × (due ≤ cycle + longest)
 
 -- what is busy becomes done soon
-abbrev pub DueSoon : ℕ → ℕ → ℕ → State → Type 0
+abbrev pub DueSoon : ℕ → ℕ → ℕ → Progress → Type 0
 DueSoon past cycle longest (Busy due) = IsSoon past cycle longest due
 DueSoon past cycle longest _ = Unit {0}
+
+-- it executes
+abbrev pub is_busy : Progress → Bool
+is_busy (Busy due) = true
+is_busy _ = false
+
+-- an entry that is a store waits, or is Done
+abbrev pub WaitsOrDone : Entry → Type 0
+WaitsOrDone e = is_store e.item.kind ≡ true → is_busy e.state ≡ false
 
 -- an entry becomes done within its kind's latency
 abbrev pub IsDue : Desc → ℕ → ℕ → Entry → Type 0

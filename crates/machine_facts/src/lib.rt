@@ -5,6 +5,7 @@
 
 ghost use Rattle.machine_facts.specs.Laws.{
   CycleKeepsShape,
+  NoStoreIsBusy,
   RetireKeepsShape,
   RowsAreShort,
   StatesAreCounted,
@@ -14,11 +15,12 @@ ghost use Rattle.machine_facts.specs.Laws.{
 };
 
 /// Every state of a run has the sizes of its description, all that is under way in it ends soon, and serials and the count of
-/// the retired are at most four times its cycle. No cycle has more than 99 events, and neither Retire nor a cycle moves memory
+/// the retired are at most four times its cycle. Between two cycles and the next Issue no store stays busy. No cycle has more than 99 events, and neither Retire nor a cycle moves memory
 /// or changes its size (`docs/theorems.md`, "What every state keeps").
 pub fn states_keep()
     ensures sized { StatesAreSized }
     ensures timely { StatesAreTimely }
+    ensures no_busy_store { NoStoreIsBusy }
     ensures counted { StatesAreCounted }
     ensures events { RowsAreShort }
     ensures retire_memory { RetireKeepsShape }

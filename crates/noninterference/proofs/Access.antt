@@ -15,7 +15,8 @@ use Rattle.window_model.specs.State.{Machine}
 use Rattle.window_model.specs.Order.{fault_of, is_load, is_store}
 use Rattle.window_model.specs.Retire.{addr_of, op_of, width_of}
 use Rattle.window_model.specs.Taint.{any_tainted, address_tainted}
-use Rattle.window_model.specs.Issue.{effect_at, time_of, access_of}
+use Rattle.window_model.specs.Around.{Around, around}
+use Rattle.window_model.specs.Issue.{effect_of, time_of, access_of}
 use Rattle.window_model.specs.Access.{access, access_at, reaches, covers, all_covered, any_store_hidden}
 use Rattle.window_model.specs.Shape.{SameShape}
 use Rattle.window_model.proofs.Booleans.{neither}
@@ -93,12 +94,10 @@ same_forward model b b2 a n s =
     forward_if (all_covered b a n) (all_covered b2 a n) (any_store_hidden model b) (any_store_hidden model b2) (same_hidden model b b2 s)
     (λ h. all_same_list (λ r. is_some (find (covers r) b)) (λ r. is_some (find (covers r) b2)) (range a n) (λ r. same_covered model b b2 r s h))
 
-same_at : (d : Desc) (x x2 : Machine) (b b2 : List Entry) (a n : ℕ) (f : Option Cause) → SameOutcomes d.stt_model b b2 → Alike x x2 → access_at d x b a n f ≡ access_at d x2 b2 a n f
-same_at d x x2 b b2 a n (Some c) s r = refl
-same_at d x x2 b b2 a n None s r =
+same_at : (d : Desc) (now now2 : Around) (b b2 : List Entry) (a n : ℕ) (f : Option Cause) → SameOutcomes d.stt_model b b2 → now.cache ≡ now2.cache → now.misses ≡ now2.misses → access_at d now b a n f ≡ access_at d now2 b2 a n f
+same_at d now now2 b b2 a n (Some c) s q r = refl
+same_at d now now2 b b2 a n None s q r =
     let w = same_forward d.stt_model b b2 a n s in
-    let c = ap (λ (m : Machine). m.cache) r in
-    let q = ap (λ (m : Machine). m.misses) r in
     cc
 
 -- ---- of a load and of a division
@@ -108,17 +107,19 @@ module _ (d : Desc) (code : Code) (x x2 : Machine) (r : Alike x x2) (place : Sam
   regs_same = ap (λ (m : Machine). m.regs) r
 
   -- a load that issues has one access
-  pub same_access_of : IsItem code e.item → is_load e.item.kind ≡ true → address_tainted d.stt_model b e ≡ false → access_of d x b e ≡ access_of d x2 b2 e2
+  pub same_access_of : IsItem code e.item → is_load e.item.kind ≡ true → address_tainted d.stt_model b e ≡ false → access_of d (around x) b e ≡ access_of d (around x2) b2 e2
   same_access_of item k t =
       let a = addresses_alike d.stt_model x x2 regs_same b b2 same e e2 h (by_base code e item (ap (λ l. l || is_store e.item.kind) k)) t in
       let w : width_of e ≡ width_of e2 = ap width_of h in
       let n = width_of e2 in
-      let a2 = (effect_at x2 b2 e2).addr in
+      let now = around x in
+      let a2 = (effect_of x2.regs b2 e2).addr in
       let f = sym (same_fault load_misaligned load_outside x.ram x2.ram a2 n place) in
-      ap (λ a. access d x b a (width_of e)) a ∙ ap (access d x b a2) w ∙ ap (access_at d x b a2 n) f ∙ same_at d x x2 b b2 a2 n (load_fault x2.ram a2 n) same r
+      let at = same_at d now (around x2) b b2 a2 n (load_fault x2.ram a2 n) same (ap (λ (m : Machine). m.cache) r) (ap (λ (m : Machine). m.misses) r) in
+      ap (λ a. access d now b a (width_of e)) a ∙ ap (access d now b a2) w ∙ ap (access_at d now b a2 n) f ∙ at
 
   -- and a division one time
-  pub same_time : any_tainted d.stt_model b e ≡ false → time_of x b e ≡ time_of x2 b2 e2
+  pub same_time : any_tainted d.stt_model b e ≡ false → time_of x.regs b e ≡ time_of x2.regs b2 e2
   same_time t =
       let f = base_alike d.stt_model x x2 regs_same b b2 same e e2 h (untainted_base_of d.stt_model x x2 regs_same b b2 same e e2 h t) in
       let o : op_of e.item.instr ≡ op_of e2.item.instr = ap (λ (t : Entry). op_of t.item.instr) h in

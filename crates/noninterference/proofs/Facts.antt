@@ -1,24 +1,23 @@
 -- Each phase keeps what a run keeps for itself.
-use Rattle.std.proofs.Common.{◌≡◌, ℕ, ◌+◌, ◌≤◌, Bool, true, false, not, ◌&&◌, List, [], ◌∷◌, ◌++◌, length, map, Option, Some, None, sym, subst, arith, length-append}
-use Rattle.std.specs.Prelude.{if◌then◌else◌, nat_lt, reverse}
+use Rattle.std.proofs.Common.{◌≡◌, ℕ, ◌+◌, ◌≤◌, true, not, ◌&&◌, List, [], ◌∷◌, ◌++◌, length, map, None, arith, length-append}
+use Rattle.std.specs.Prelude.{nat_lt, reverse}
 use Rattle.std.specs.List.{list_any}
 use Rattle.rv_types.specs.Memory.{Code, Ram}
 use Rattle.machine_desc.specs.declared.Desc.{Desc}
 use Rattle.window_model.specs.declared.Entry.{Entry}
 use Rattle.window_model.specs.declared.Item.{Item}
-use Rattle.window_model.specs.declared.Target.{Target}
 use Rattle.window_model.specs.State.{Machine, opening}
-use Rattle.window_model.specs.Order.{Place}
+use Rattle.window_model.specs.Around.{around}
 use Rattle.window_model.specs.Fill.{fill, complete, completed}
-use Rattle.window_model.specs.Resolve.{resolve, resolve_at, may_resolve, with_predictor, squash, keep, squashes}
+use Rattle.window_model.specs.Resolve.{resolve}
 use Rattle.window_model.specs.Retire.{retire}
 use Rattle.window_model.specs.Issue.{issue}
 use Rattle.window_model.specs.Front.{rename, renamed, fits, fits_as, is_call, fetch}
 use Rattle.window_model.specs.Committed.{Aligned}
 use Rattle.window_model.proofs.Booleans.{both, below}
 use Rattle.window_model.proofs.Counts.{Evolves, evolves_same, evolves_thins, thins_length, map_evolves, place_evolves, completed_goes}
-use Rattle.window_model.proofs.Resolving.{resolved_goes}
-use Rattle.window_model.proofs.Places.{Found, by_place, older_is}
+use Rattle.window_model.proofs.Placing.{place_keep}
+use Rattle.window_model.proofs.Resolving.{resolved_goes, resolved_one}
 use Rattle.window_model.proofs.Walks.{head_drops, retire_keep, rename_keep, fetch_keep}
 use Rattle.window_model.proofs.Issuing.{issue_evolves}
 use Rattle.committed_state.proofs.Complete.{consistent_fill, consistent_complete}
@@ -46,29 +45,12 @@ module _ (d : Desc) where
   complete_room x h = evolves_room x.window (map (completed x.cycle) x.window) (map_evolves (completed x.cycle) (completed_goes x.cycle) x.window) h
 
   issue_room : (x : Machine) → HasRoom x → HasRoom (issue d x).machine
-  issue_room x h = evolves_room x.window _ (issue_evolves d x [] x.window) h
-
-  abbrev resolved_one : Entry → Entry
-  resolved_one e = record e { resolved = true }
-
-  place_room : (x : Machine) → HasRoom x → (p : Place) → Found (may_resolve d) [] x.window p → HasRoom (resolve_at d (Some p) x).machine
-  place_room x h p f = either (squashes p.entry) _ _
-    where
-      older : reverse p.before ≡ f.older
-      older = older_is (may_resolve d) x.window p f
-
-      left : (zs : List Entry) → Evolves p.younger zs → Room (reverse p.before ++ resolved_one p.entry ∷ zs)
-      left zs v =
-          let w = f.older ++ p.entry ∷ p.younger in
-          subst (λ o. Room (o ++ resolved_one p.entry ∷ zs)) (sym older)
-          (evolves_room w _ (place_evolves f.older p.entry (resolved_one p.entry) p.younger zs (resolved_goes p.entry) v) (subst Room f.all h))
-
-      either : (b : Bool) (c : List ℕ) (t : List (Option Target)) → Room (if b then squash p (with_predictor x c t) else keep p (with_predictor x c t)).machine.window
-      either true c t = left [] tt
-      either false c t = left p.younger (evolves_same p.younger)
+  issue_room x h = evolves_room x.window _ (issue_evolves d (around x) [] x.window) h
 
   resolve_room : (x : Machine) → HasRoom x → HasRoom (resolve d x).machine
-  resolve_room x h = by_place (may_resolve d) x.window (λ o. HasRoom (resolve_at d o x).machine) h (place_room x h)
+  resolve_room =
+      place_keep d Room (λ front back h. let l = length-append front back in omega arith)
+      (λ b e ys m h. evolves_room (reverse b ++ e ∷ ys) _ (place_evolves (reverse b) e (resolved_one e) ys ys (resolved_goes e) (evolves_same ys)) h)
 
   retire_room : (x : Machine) → HasRoom x → HasRoom (retire d x).machine
   retire_room = retire_keep d HasRoom (head_drops Room (λ e rest h. omega arith) d) (λ x end h. h)
@@ -101,7 +83,7 @@ module _ (d : Desc) (code : Code) where
   facts_fill x f = record { consistent = consistent_fill code d x f.consistent; guarded = guarded_fill d x f.guarded; fits = f.fits }
 
   pub facts_complete : (x : Machine) → OwnFacts d code x → OwnFacts d code (complete x).machine
-  facts_complete x f = record { consistent = consistent_complete code x f.consistent; guarded = guarded_complete d x f.guarded; fits = complete_room d x f.fits }
+  facts_complete x f = record { consistent = consistent_complete code d x f.consistent; guarded = guarded_complete d x f.guarded; fits = complete_room d x f.fits }
 
   pub facts_resolve : (x : Machine) → OwnFacts d code x → OwnFacts d code (resolve d x).machine
   facts_resolve x f = record { consistent = consistent_resolve code d x f.consistent; guarded = guarded_resolve d x f.guarded; fits = resolve_room d x f.fits }

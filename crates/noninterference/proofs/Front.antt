@@ -47,22 +47,22 @@ same_fits d w i =
     let e = same_count (λ e. is_waiting e.state) (λ e. refl) w in
     cc
 
-renamed_shown : (i : Item) (rest : List Item) (x : Machine) → shown (rename_one i rest x).machine ≡ (rename_one i rest (shown x)).machine
-renamed_shown i rest x =
+renamed_shown : (d : Desc) (i : Item) (rest : List Item) (x : Machine) → shown (rename_one d i rest x).machine ≡ (rename_one d i rest (shown x)).machine
+renamed_shown d i rest x =
     ap (λ w. let m : Machine = record x { window = w; ram = record (x.ram) { bytes = [] }; queue = rest; next_serial = x.next_serial + 1 } in m) (map-append without_outcome x.window (renamed x.next_serial i ∷ []))
 
-rename_if : (more : Machine → After) → Commutes more → (b b2 : Bool) (i : Item) (rest : List Item) (x : Machine) → b ≡ b2 →
-    shown_after (if b then then_does (rename_one i rest x) more else nothing x) ≡ (if b2 then then_does (rename_one i rest (shown x)) more else nothing (shown x))
-rename_if more h true true i rest x q =
-    ap (λ (a : After). then_does (rename_one i rest x) (λ m. a)) (h (rename_one i rest x).machine)
-    ∙ ap (λ (m : Machine). then_does (rename_one i rest x) (λ t. more m)) (renamed_shown i rest x)
-rename_if more h false false i rest x q = refl
-rename_if more h true false i rest x q = absurd (cc)
-rename_if more h false true i rest x q = absurd (cc)
+rename_if : (d : Desc) (more : Machine → After) → Commutes more → (b b2 : Bool) (i : Item) (rest : List Item) (x : Machine) → b ≡ b2 →
+    shown_after (if b then then_does (rename_one d i rest x) more else nothing x) ≡ (if b2 then then_does (rename_one d i rest (shown x)) more else nothing (shown x))
+rename_if d more h true true i rest x q =
+    ap (λ (a : After). then_does (rename_one d i rest x) (λ m. a)) (h (rename_one d i rest x).machine)
+    ∙ ap (λ (m : Machine). then_does (rename_one d i rest x) (λ t. more m)) (renamed_shown d i rest x)
+rename_if d more h false false i rest x q = refl
+rename_if d more h true false i rest x q = absurd (cc)
+rename_if d more h false true i rest x q = absurd (cc)
 
 from_queue : (d : Desc) (more : Machine → After) → Commutes more → (q : List Item) (x : Machine) → shown_after (rename_from d q x more) ≡ rename_from d q (shown x) more
 from_queue d more h [] x = refl
-from_queue d more h (i ∷ rest) x = rename_if more h (fits d x.window i) (fits d (map without_outcome x.window) i) i rest x (sym (same_fits d x.window i))
+from_queue d more h (i ∷ rest) x = rename_if d more h (fits d x.window i) (fits d (map without_outcome x.window) i) i rest x (sym (same_fits d x.window i))
 
 rename_times : (d : Desc) (n : ℕ) → Commutes (rename_up_to d n)
 rename_times d zero x = refl
@@ -77,14 +77,14 @@ rename_tells_nothing d x x2 r = rename_shown d x ∙ ap (rename d) r ∙ sym (re
 
 -- ---- fetch
 
-fetch_if : (more : Machine → After) → Commutes more → (b : Bool) (item : Item) (x : Machine) →
-    shown_after (if b then then_does (fetch_one item x) more else nothing x) ≡ (if b then then_does (fetch_one item (shown x)) more else nothing (shown x))
-fetch_if more h true item x = ap (λ (a : After). then_does (fetch_one item x) (λ m. a)) (h (fetch_one item x).machine)
-fetch_if more h false item x = refl
+fetch_if : (d : Desc) (more : Machine → After) → Commutes more → (b : Bool) (item : Item) (x : Machine) →
+    shown_after (if b then then_does (fetch_one d item x) more else nothing x) ≡ (if b then then_does (fetch_one d item (shown x)) more else nothing (shown x))
+fetch_if d more h true item x = ap (λ (a : After). then_does (fetch_one d item x) (λ m. a)) (h (fetch_one d item x).machine)
+fetch_if d more h false item x = refl
 
 from_pc : (d : Desc) (code : Code) (more : Machine → After) → Commutes more → (o : Option ℕ) (x : Machine) → shown_after (fetch_from d code o x more) ≡ fetch_from d code o (shown x) more
 from_pc d code more h None x = refl
-from_pc d code more h (Some pc) x = fetch_if more h (nat_lt (length x.queue) d.core_queue) (item_at d code x pc) x
+from_pc d code more h (Some pc) x = fetch_if d more h (nat_lt (length x.queue) d.core_queue) (item_at d code x pc) x
 
 fetch_times : (d : Desc) (code : Code) (n : ℕ) → Commutes (fetch_up_to d code n)
 fetch_times d code zero x = refl

@@ -1,5 +1,5 @@
 -- Issue tells nothing: who issues, what it accesses and how long it takes is equal in both runs.
-use Rattle.std.proofs.Common.{subst, ◌≡◌, ℕ, ◌+◌, Bool, true, false, List, [], ◌∷◌, ◌++◌, map, reverse, Option, Some, None, refl, ap, sym, ◌∙◌}
+use Rattle.std.proofs.Common.{subst, ◌≡◌, ℕ, ◌+◌, Bool, true, false, List, [], ◌∷◌, ◌++◌, map, reverse, Option, Some, None, refl, ap, ap₂, sym, ◌∙◌}
 use Rattle.std.specs.Prelude.{if◌then◌else◌}
 use Rattle.std.specs.List.{flat_map}
 use mathlib.Core.List.{reverse_aux}
@@ -10,20 +10,20 @@ use Rattle.rv_types.specs.declared.Kind.TheVariants.{Mul, Div, Load, Store}
 use Rattle.machine_desc.specs.declared.Desc.{Desc}
 use Rattle.window_model.specs.declared.Entry.{Entry}
 use Rattle.window_model.specs.declared.Event.{Event}
-use Rattle.window_model.specs.declared.State.TheVariants.{Busy}
+use Rattle.window_model.specs.declared.Progress.TheVariants.{Busy}
 use Rattle.window_model.specs.State.{Machine, After}
 use Rattle.window_model.specs.declared.Divider.{Divider}
 use Rattle.window_model.specs.Order.{Place, each, each_from, first, is_load}
-use Rattle.window_model.specs.Access.{Access, Faults, Forwards, Hits, Joins, Misses, Waits}
-use Rattle.window_model.specs.Issue.{issue, issue_entry, begin_as, Begun, waits, load_as, access_of, value_loaded, effect_at, is_granted, is_free, may_issue, may_issue_as, tried, divides, is_division, after_load, divider_after, cache_after, misses_after}
-use Rattle.window_model.specs.declared.Look.TheVariants.{Hit, Miss, Join}
+use Rattle.window_model.specs.Around.{Around, around, is_free}
+use Rattle.window_model.specs.Access.{Access, Faults, Forwards, Looks, Waits, Line, Hits, Joins, Takes, cache_after, due_of, latest, look_events, misses_after}
+use Rattle.window_model.specs.Issue.{Port, DivPort, LoadPort, issue, issue_entry, begin_as, Begun, waits, load_as, access_of, value_loaded, effect_of, is_granted, may_at, may_issue, may_issue_as, port_of, is_division, after_load, divider_after}
 use Rattle.window_model.specs.Along.{Along}
 use Rattle.window_model.specs.Shape.{SameShape}
-use Rattle.window_model.specs.Retire.{hart_of, touched}
+use Rattle.window_model.specs.Retire.{hart_of}
 use Rattle.window_model.specs.declared.Event.TheVariants as event
 use Rattle.window_model.proofs.Booleans.{both}
 use Rattle.window_model.proofs.Places.{Found, found}
-use Rattle.window_model.proofs.Issuing.{may_parts, load_clean, division_clean}
+use Rattle.window_model.proofs.Issuing.{at_division_port, at_load_port, may_parts, load_clean, division_clean}
 use Rattle.committed_state.specs.Consistent.{IsItem, Stands, bank_in}
 use Rattle.noninterference.specs.Alike.{Alike, shown, shown_after, without_outcome}
 use Rattle.noninterference.specs.Outcomes.{SameOutcomes}
@@ -40,41 +40,56 @@ abbrev begun_without : Begun → Begun
 begun_without b = record b { entry = without_outcome b.entry }
 
 -- an entry that begins, whatever its outcome
-abbrev beginning : Entry → ℕ → Event → Begun
-beginning t n v = record { entry = record t { state = Busy n; outcome = None }; events = v ∷ [] }
+abbrev beginning : Entry → ℕ → List Event → Begun
+beginning t n vs = record { entry = record t { state = Busy n; outcome = None }; events = vs }
 
-same_begins : (e e2 : Entry) (due due2 : ℕ) (v v2 : Event) → without_outcome e ≡ without_outcome e2 → due ≡ due2 → v ≡ v2 → beginning (without_outcome e) due v ≡ beginning (without_outcome e2) due2 v2
-same_begins e e2 due due2 v v2 h q g = ap (λ t. beginning t due v) h ∙ ap (λ n. beginning (without_outcome e2) n v) q ∙ ap (beginning (without_outcome e2) due2) g
+same_begins : (e e2 : Entry) (due due2 : ℕ) (vs vs2 : List Event) → without_outcome e ≡ without_outcome e2 → due ≡ due2 → vs ≡ vs2 → beginning (without_outcome e) due vs ≡ beginning (without_outcome e2) due2 vs2
+same_begins e e2 due due2 vs vs2 h q g = ap (λ t. beginning t due vs) h ∙ ap (λ n. beginning (without_outcome e2) n vs) q ∙ ap (beginning (without_outcome e2) due2) g
 
 same_waits : (e e2 : Entry) → without_outcome e ≡ without_outcome e2 → begun_without (waits e) ≡ begun_without (waits e2)
 same_waits e e2 h = ap (λ t. let b : Begun = record { entry = t; events = [] } in b) h
 
-same_load_as : (a : Access) (d : Desc) (x x2 : Machine) (e e2 : Entry) (f f2 : Effect) (v v2 : ℕ) → without_outcome e ≡ without_outcome e2 → x.cycle ≡ x2.cycle → begun_without (load_as a d x e f v) ≡ begun_without (load_as a d x2 e2 f2 v2)
-same_load_as (Faults c) d x x2 e e2 f f2 v v2 h q = same_begins e e2 _ _ _ _ h (ap (λ n. n + 1) q) (ap (λ (t : Entry). event.LdFault t.serial) h)
-same_load_as Forwards d x x2 e e2 f f2 v v2 h q = same_begins e e2 _ _ _ _ h (ap (λ n. n + 1) q) (ap (λ (t : Entry). event.LdForward t.serial) h)
-same_load_as (Hits line) d x x2 e e2 f f2 v v2 h q = same_begins e e2 _ _ _ _ h (ap (λ n. n + d.cache_hit_latency) q) (ap (λ (t : Entry). event.Ld t.serial line Hit) h)
-same_load_as (Joins line due) d x x2 e e2 f f2 v v2 h q = same_begins e e2 _ _ _ _ h refl (ap (λ (t : Entry). event.Ld t.serial line Join) h)
-same_load_as (Misses line) d x x2 e e2 f f2 v v2 h q = same_begins e e2 _ _ _ _ h (ap (λ n. n + d.cache_miss_latency) q) (ap (λ (t : Entry). event.Ld t.serial line Miss) h)
-same_load_as Waits d x x2 e e2 f f2 v v2 h q = same_waits e e2 h
+same_due : (d : Desc) (now now2 : Around) (l : Line) → now.cycle ≡ now2.cycle → due_of d now l ≡ due_of d now2 l
+same_due d now now2 (Hits line) q = ap (λ n. n + d.cache_hit_latency) q
+same_due d now now2 (Joins line due) q = refl
+same_due d now now2 (Takes line) q = ap (λ n. n + d.cache_miss_latency) q
+
+same_dues : (d : Desc) (now now2 : Around) (found : List Line) → now.cycle ≡ now2.cycle → map (due_of d now) found ≡ map (due_of d now2) found
+same_dues d now now2 [] q = refl
+same_dues d now now2 (l ∷ found) q = ap₂ (λ due dues. due ∷ dues) (same_due d now now2 l q) (same_dues d now now2 found q)
+
+same_load_as : (a : Access) (d : Desc) (now now2 : Around) (e e2 : Entry) (f f2 : Effect) (v v2 : ℕ) → without_outcome e ≡ without_outcome e2 → now.cycle ≡ now2.cycle → begun_without (load_as a d now e f v) ≡ begun_without (load_as a d now2 e2 f2 v2)
+same_load_as (Faults c) d now now2 e e2 f f2 v v2 h q = same_begins e e2 _ _ _ _ h (ap (λ n. n + 1) q) (ap (λ (t : Entry). event.LdFault t.serial ∷ []) h)
+same_load_as Forwards d now now2 e e2 f f2 v v2 h q = same_begins e e2 _ _ _ _ h (ap (λ n. n + 1) q) (ap (λ (t : Entry). event.LdForward t.serial ∷ []) h)
+same_load_as (Looks found) d now now2 e e2 f f2 v v2 h q = same_begins e e2 _ _ _ _ h (ap latest (same_dues d now now2 found q)) (ap (λ (t : Entry). look_events t.serial found) h)
+same_load_as Waits d now now2 e e2 f f2 v v2 h q = same_waits e e2 h
 
 module _ (d : Desc) (code : Code) (x x2 : Machine) (r : Alike x x2) (place : SameShape x.ram x2.ram) where
+  abbrev now : Around
+  now = around x
+
+  abbrev now2 : Around
+  now2 = around x2
+
   cycle_same : x.cycle ≡ x2.cycle
   cycle_same = ap (λ (m : Machine). m.cycle) r
 
-  free_same : is_free x ≡ is_free x2
-  free_same = ap is_free r
+  free_same : is_free now ≡ is_free now2
+  free_same = ap (λ (m : Machine). is_free (around m)) r
 
-  begin_alike : (k : Kind) (b b2 : List Entry) (e e2 : Entry) → e.item.kind ≡ k → SameOutcomes d.stt_model b b2 → without_outcome e ≡ without_outcome e2 → IsItem code e.item → may_issue_as k d (is_free x) b e ≡ true → begun_without (begin_as k d x b e) ≡ begun_without (begin_as k d x2 b2 e2)
+  begin_alike : (k : Kind) (b b2 : List Entry) (e e2 : Entry) → e.item.kind ≡ k → SameOutcomes d.stt_model b b2 → without_outcome e ≡ without_outcome e2 → IsItem code e.item → may_issue_as k d now b e ≡ true → begun_without (begin_as k d now b e) ≡ begun_without (begin_as k d now2 b2 e2)
   begin_alike Load b b2 e e2 q s h item m =
-      let a = same_access_of d code x x2 r place b b2 s e e2 h item (ap is_load q) (load_clean Load d (is_free x) b e m refl) in
-      ap (λ a. begun_without (load_as a d x e (effect_at x b e) (value_loaded x b e (effect_at x b e).addr))) a
-      ∙ same_load_as (access_of d x2 b2 e2) d x x2 e e2 (effect_at x b e) (effect_at x2 b2 e2) (value_loaded x b e (effect_at x b e).addr) (value_loaded x2 b2 e2 (effect_at x2 b2 e2).addr) h cycle_same
+      let a = same_access_of d code x x2 r place b b2 s e e2 h item (ap is_load q) (load_clean Load d now b e m refl) in
+      let f = effect_of x.regs b e in
+      let f2 = effect_of x2.regs b2 e2 in
+      ap (λ a. begun_without (load_as a d now e f (value_loaded x.ram b e f.addr))) a
+      ∙ same_load_as (access_of d now2 b2 e2) d now now2 e e2 f f2 (value_loaded x.ram b e f.addr) (value_loaded x2.ram b2 e2 f2.addr) h cycle_same
   begin_alike Div b b2 e e2 q s h item m =
-      let t = same_time d code x x2 r place b b2 s e e2 h (division_clean Div d (is_free x) b e m refl) in
+      let t = same_time d code x x2 r place b b2 s e e2 h (division_clean Div d now b e m refl) in
       same_begins e e2 _ _ _ _ h (let c = cycle_same in cc) (let g = ap (λ (t : Entry). t.serial) h in cc)
-  begin_alike Mul b b2 e e2 q s h item m = same_begins e e2 _ _ _ _ h (ap (λ n. n + d.units_mul_latency) cycle_same) (ap (λ (t : Entry). event.Mul t.serial) h)
-  begin_alike Store b b2 e e2 q s h item m = same_begins e e2 _ _ _ _ h (ap (λ n. n + 1) cycle_same) (ap (λ (t : Entry). event.Agu t.serial) h)
-  begin_alike k b b2 e e2 q s h item m = same_begins e e2 _ _ _ _ h (ap (λ n. n + 1) cycle_same) (ap (λ (t : Entry). event.Alu t.serial) h)
+  begin_alike Mul b b2 e e2 q s h item m = same_begins e e2 _ _ _ _ h (ap (λ n. n + d.units_mul_latency) cycle_same) (ap (λ (t : Entry). event.Mul t.serial ∷ []) h)
+  begin_alike Store b b2 e e2 q s h item m = same_begins e e2 _ _ _ _ h (ap (λ n. n + 1) cycle_same) (ap (λ (t : Entry). event.Agu t.serial ∷ []) h)
+  begin_alike k b b2 e e2 q s h item m = same_begins e e2 _ _ _ _ h (ap (λ n. n + 1) cycle_same) (ap (λ (t : Entry). event.Alu t.serial ∷ []) h)
 
   entry_if : (g g2 : Bool) (e e2 : Entry) (o o2 : Begun) → g ≡ g2 → without_outcome e ≡ without_outcome e2 → (g ≡ true → begun_without o ≡ begun_without o2) → begun_without (if g then o else waits e) ≡ begun_without (if g2 then o2 else waits e2)
   entry_if true true e e2 o o2 q h p = p refl
@@ -82,66 +97,59 @@ module _ (d : Desc) (code : Code) (x x2 : Machine) (r : Alike x x2) (place : Sam
   entry_if true false e e2 o o2 q h p = absurd (cc)
   entry_if false true e e2 o o2 q h p = absurd (cc)
 
-  entry_alike : (b b2 : List Entry) (e e2 : Entry) → SameOutcomes d.stt_model b b2 → without_outcome e ≡ without_outcome e2 → IsItem code e.item → begun_without (issue_entry d x b e) ≡ begun_without (issue_entry d x2 b2 e2)
+  entry_alike : (b b2 : List Entry) (e e2 : Entry) → SameOutcomes d.stt_model b b2 → without_outcome e ≡ without_outcome e2 → IsItem code e.item → begun_without (issue_entry d now b e) ≡ begun_without (issue_entry d now2 b2 e2)
   entry_alike b b2 e e2 s h item =
-      let g = same_granted d (is_free x) (is_free x2) b b2 e e2 free_same s h in
-      entry_if (is_granted d (is_free x) b e) (is_granted d (is_free x2) b2 e2) e e2 (begin_as e.item.kind d x b e) (begin_as e2.item.kind d x2 b2 e2) g h
-      (λ t. begin_alike e.item.kind b b2 e e2 refl s h item (may_parts d (is_free x) b e (both (may_issue d (is_free x) b e) _ t).0).kind ∙ ap (λ k. begun_without (begin_as k d x2 b2 e2)) (same_kind e e2 h))
+      let port = port_of e.item.kind in
+      let k = same_kind e e2 h in
+      let g = same_granted d now now2 free_same port b b2 e e2 s h ∙ ap (λ k. is_granted d now2 (port_of k) b2 e2) k in
+      entry_if (is_granted d now port b e) (is_granted d now2 (port_of e2.item.kind) b2 e2) e e2 (begin_as e.item.kind d now b e) (begin_as e2.item.kind d now2 b2 e2) g h
+      (λ t. begin_alike e.item.kind b b2 e e2 refl s h item (may_parts d now b e (both (may_issue d now b e) _ (both (may_at d now port b e) _ t).0).0).kind ∙ ap (λ k. begun_without (begin_as k d now2 b2 e2)) k)
 
   each_alike : (es es2 b b2 : List Entry) → map without_outcome es ≡ map without_outcome es2 → SameOutcomes d.stt_model (reverse_aux es b) (reverse_aux es2 b2) → Along (Stands code (bank_in (hart_of x))) b es →
-      map begun_without (each_from (issue_entry d x) b es) ≡ map begun_without (each_from (issue_entry d x2) b2 es2)
+      map begun_without (each_from (issue_entry d now) b es) ≡ map begun_without (each_from (issue_entry d now2) b2 es2)
   each_alike [] [] b b2 l s i = refl
   each_alike (e ∷ es) (e2 ∷ es2) b b2 l s i =
       let l2 : map without_outcome es ≡ map without_outcome es2 = cc in
       let here = peel d.stt_model es es2 (e ∷ b) (e2 ∷ b2) l2 s in
       let one = entry_alike b b2 e e2 here.1 here.0.but_outcome i.0.item in
       let rest = each_alike es es2 (e ∷ b) (e2 ∷ b2) l2 s i.1 in
-      ap (λ t. t ∷ map begun_without (each_from (issue_entry d x) (e ∷ b) es)) one ∙ ap (λ ts. begun_without (issue_entry d x2 b2 e2) ∷ ts) rest
+      ap (λ t. t ∷ map begun_without (each_from (issue_entry d now) (e ∷ b) es)) one ∙ ap (λ ts. begun_without (issue_entry d now2 b2 e2) ∷ ts) rest
   each_alike [] (e2 ∷ es2) b b2 l s i = absurd (cc)
   each_alike (e ∷ es) [] b b2 l s i = absurd (cc)
 
   -- ---- the load that is tried, and the division
 
-  tried_alike : SeenAlike d.stt_model (tried d (is_free x))
-  tried_alike b b2 e e2 s h =
-      let k : is_load e.item.kind ≡ is_load e2.item.kind = ap is_load (same_kind e e2 h.but_outcome) in
-      let m = same_may d (is_free x) (is_free x) b b2 e e2 refl s h.but_outcome in
-      cc
+  at_port : (port : Port) → SeenAlike d.stt_model (may_at d now port) (may_at d now2 port)
+  at_port port b b2 e e2 s h = same_may d now now2 free_same port b b2 e e2 s h.but_outcome
 
-  divides_alike : SeenAlike d.stt_model (divides d (is_free x))
-  divides_alike b b2 e e2 s h =
-      let k : is_division e.item.kind ≡ is_division e2.item.kind = ap is_division (same_kind e e2 h.but_outcome) in
-      let m = same_may d (is_free x) (is_free x) b b2 e e2 refl s h.but_outcome in
-      cc
-
-  load_shown : (a : Access) (m m2 : Machine) → Alike m m2 → shown (record m { cache = cache_after a d m.cache; misses = misses_after a d m }) ≡ shown (record m2 { cache = cache_after a d m2.cache; misses = misses_after a d m2 })
-  load_shown (Hits line) m m2 q = ap (λ (t : Machine). let u : Machine = record t { cache = touched d t.cache line } in u) q
-  load_shown (Misses line) m m2 q = ap (λ (t : Machine). let u : Machine = record t { misses = misses_after (Misses line) d t } in u) q
-  load_shown _ m m2 q = q
+  load_shown : (a : Access) (m m2 : Machine) → Alike m m2 →
+      shown (record m { cache = cache_after a d m.cache; misses = misses_after a d m.cycle m.misses }) ≡ shown (record m2 { cache = cache_after a d m2.cache; misses = misses_after a d m2.cycle m2.misses })
+  load_shown a m m2 q = ap (λ (t : Machine). let u : Machine = record t { cache = cache_after a d t.cache; misses = misses_after a d t.cycle t.misses } in u) q
 
   -- the place that is found is an instruction of the program
   item_at : (b older es : List Entry) (e : Entry) → Along (Stands code (bank_in (hart_of x))) b (older ++ e ∷ es) → IsItem code e.item
   item_at b [] es e i = i.0.item
   item_at b (o ∷ older) es e i = item_at (o ∷ b) older es e i.1
 
-  tried_alike_at : (o o2 : Option Place) → SamePlaces d.stt_model o o2 → Along (Stands code (bank_in (hart_of x))) [] x.window → ((p : Place) → o ≡ Some p → Found (tried d (is_free x)) [] x.window p) → shown (after_load d o x) ≡ shown (after_load d o2 x2)
+  tried_alike_at : (o o2 : Option Place) → SamePlaces d.stt_model o o2 → Along (Stands code (bank_in (hart_of x))) [] x.window → ((p : Place) → o ≡ Some p → Found (may_at d now LoadPort) [] x.window p) → shown (after_load d o x) ≡ shown (after_load d o2 x2)
   tried_alike_at None None s i f = r
   tried_alike_at (Some p) (Some p2) s i f =
       let at = f p refl in
-      let t = both (is_load p.entry.item.kind) _ at.has in
+      let t = both (may_issue d now p.before p.entry) _ at.has in
+      let l : is_load p.entry.item.kind ≡ true = ap is_load (at_load_port p.entry.item.kind t.1) in
       let item = item_at [] at.older p.younger p.entry (subst (Along (Stands code (bank_in (hart_of x))) []) at.all i) in
-      let m = load_clean p.entry.item.kind d (is_free x) p.before p.entry (may_parts d (is_free x) p.before p.entry t.1).kind t.0 in
-      let a = same_access_of d code x x2 r place p.before p2.before s.before p.entry p2.entry s.here.but_outcome item t.0 m in
-      load_shown (access_of d x p.before p.entry) x x2 r
-      ∙ ap (λ a. shown (record x2 { cache = cache_after a d x2.cache; misses = misses_after a d x2 })) a
+      let m = load_clean p.entry.item.kind d now p.before p.entry (may_parts d now p.before p.entry t.0).kind l in
+      let a = same_access_of d code x x2 r place p.before p2.before s.before p.entry p2.entry s.here.but_outcome item l m in
+      load_shown (access_of d now p.before p.entry) x x2 r
+      ∙ ap (λ a. shown (record x2 { cache = cache_after a d x2.cache; misses = misses_after a d x2.cycle x2.misses })) a
   tried_alike_at None (Some p2) s i f = absurd s
   tried_alike_at (Some p) None s i f = absurd s
 
-  divider_alike : (o o2 : Option Place) → SamePlaces d.stt_model o o2 → ((p : Place) → o ≡ Some p → divides d (is_free x) p.before p.entry ≡ true) → divider_after x o ≡ divider_after x2 o2
+  divider_alike : (o o2 : Option Place) → SamePlaces d.stt_model o o2 → ((p : Place) → o ≡ Some p → may_at d now DivPort p.before p.entry ≡ true) → divider_after x o ≡ divider_after x2 o2
   divider_alike None None s f = ap (λ (m : Machine). m.divider) r
   divider_alike (Some p) (Some p2) s f =
-      let t = both (is_division p.entry.item.kind) _ (f p refl) in
-      let m = division_clean p.entry.item.kind d (is_free x) p.before p.entry (may_parts d (is_free x) p.before p.entry t.1).kind t.0 in
+      let t = both (may_issue d now p.before p.entry) _ (f p refl) in
+      let m = division_clean p.entry.item.kind d now p.before p.entry (may_parts d now p.before p.entry t.0).kind (ap is_division (at_division_port p.entry.item.kind t.1)) in
       let a = same_time d code x x2 r place p.before p2.before s.before p.entry p2.entry s.here.but_outcome m in
       let c = cycle_same in
       let g = ap (λ (t : Entry). t.serial) s.here.but_outcome in
@@ -160,22 +168,22 @@ module _ (d : Desc) (code : Code) (x x2 : Machine) (r : Alike x x2) (place : Sam
   issue_alike : SameOutcomes d.stt_model (reverse x.window) (reverse x2.window) → Along (Stands code (bank_in (hart_of x))) [] x.window → shown_after (issue d x) ≡ shown_after (issue d x2)
   issue_alike s i =
       let l : map without_outcome x.window ≡ map without_outcome x2.window = ap (λ (m : Machine). m.window) r in
-      let bs = each (issue_entry d x) x.window in
-      let bs2 = each (issue_entry d x2) x2.window in
+      let bs = each (issue_entry d now) x.window in
+      let bs2 = each (issue_entry d now2) x2.window in
       let q = each_alike x.window x2.window [] [] l s i in
       let w = entries_begun bs ∙ ap (map (λ (b : Begun). b.entry)) q ∙ sym (entries_begun bs2) in
       let v = events_begun bs ∙ ap (flat_map (λ (b : Begun). b.events)) q ∙ sym (events_begun bs2) in
-      let fr = free_same in
-      let t1 = tried_alike_at _ _ (first_same d.stt_model (tried d (is_free x)) tried_alike x.window x2.window [] [] l s) i (found (tried d (is_free x)) [] x.window) in
-      let t2 = divider_alike _ _ (first_same d.stt_model (divides d (is_free x)) divides_alike x.window x2.window [] [] l s) (λ p e. (found (divides d (is_free x)) [] x.window p e).has) in
+      let load = first (may_at d now LoadPort) x.window in
+      let load2 = first (may_at d now2 LoadPort) x2.window in
+      let division = first (may_at d now DivPort) x.window in
+      let division2 = first (may_at d now2 DivPort) x2.window in
+      let u1 = tried_alike_at load load2 (first_same d.stt_model _ _ (at_port LoadPort) x.window x2.window [] [] l s) i (found (may_at d now LoadPort) [] x.window) in
+      let u2 = divider_alike division division2 (first_same d.stt_model _ _ (at_port DivPort) x.window x2.window [] [] l s) (λ p e. (found (may_at d now DivPort) [] x.window p e).has) in
       let G : Machine → List Entry → Divider → List Event → After = λ m w v evs. record { machine = record m { window = w; divider = v }; events = evs } in
-      let y2 = after_load d (first (tried d (is_free x2)) x2.window) x2 in
-      let u1 = t1 ∙ ap (λ f. shown (after_load d (first (tried d f) x2.window) x2)) fr in
-      let u2 = t2 ∙ ap (λ f. divider_after x2 (first (divides d f) x2.window)) fr in
-      ap (λ m. G m (map without_outcome (map (λ b. b.entry) bs)) (divider_after x (first (divides d (is_free x)) x.window)) (flat_map (λ b. b.events) bs)) u1
-      ∙ ap (λ w. G (shown y2) w (divider_after x (first (divides d (is_free x)) x.window)) (flat_map (λ b. b.events) bs)) w
-      ∙ ap (λ v. G (shown y2) (map without_outcome (map (λ b. b.entry) bs2)) v (flat_map (λ b. b.events) bs)) u2
-      ∙ ap (G (shown y2) (map without_outcome (map (λ b. b.entry) bs2)) (divider_after x2 (first (divides d (is_free x2)) x2.window))) v
+      ap (λ m. G m (map without_outcome (map (λ b. b.entry) bs)) (divider_after x division) (flat_map (λ b. b.events) bs)) u1
+      ∙ ap (λ w. G (shown (after_load d load2 x2)) w (divider_after x division) (flat_map (λ b. b.events) bs)) w
+      ∙ ap (λ v. G (shown (after_load d load2 x2)) (map without_outcome (map (λ b. b.entry) bs2)) v (flat_map (λ b. b.events) bs)) u2
+      ∙ ap (G (shown (after_load d load2 x2)) (map without_outcome (map (λ b. b.entry) bs2)) (divider_after x2 division2)) v
 
 pub issue_tells_nothing : IssueTellsNothing
 issue_tells_nothing d code x x2 c r o p = issue_alike d code x x2 r p o c.entries

@@ -1,16 +1,15 @@
 -- What the instructions of loads and stores say.
-use Rattle.std.proofs.Common.{◌≡◌, ℕ, Bool, true, false, List, Option, Some, None, refl, ap, sym, ◌∙◌, ◌||◌}
+use Rattle.std.proofs.Common.{◌≡◌, ℕ, Bool, true, false, List, Option, Some, None, refl, ap, sym, ◌∙◌, ◌||◌, subst}
 use Rattle.std.specs.Prelude.{if◌then◌else◌, ◌%◌, ◌==◌}
 use Rattle.std.specs.List.{list_any, AllByRecursion as All}
-use Rattle.rv_types.specs.Value.{size_of, extend}
-use Rattle.rv_types.specs.Word.{from_le, word}
+use Rattle.rv_types.specs.Word.{word}
 use Rattle.rv_types.specs.Decode.{decode}
 use Rattle.rv_types.specs.Kind.{kind_of, op_kind}
 use Rattle.rv_types.specs.Regs.{reads_of}
-use Rattle.rv_types.specs.Causes.{load_misaligned, load_outside, jump_misaligned, outside_code}
+use Rattle.rv_types.specs.Causes.{jump_misaligned, outside_code}
 use Rattle.rv_types.specs.Memory.{Code, load_fault, range, bytes_at}
 use Rattle.rv_types.specs.Path.{loads_of, unless_fault}
-use Rattle.rv_types.specs.Isa.{effect}
+use Rattle.rv_types.specs.Isa.{Effect, effect}
 use Rattle.rv_types.specs.declared.Cause.{Cause}
 use Rattle.rv_types.specs.declared.Instr.{Instr}
 use Rattle.rv_types.specs.declared.Op.{Op}
@@ -21,37 +20,28 @@ use Rattle.rv_types.specs.declared.Op.TheVariants as op
 use Rattle.machine_desc.specs.declared.SttModel.{SttModel}
 use Rattle.window_model.specs.declared.Entry.{Entry}
 use Rattle.window_model.specs.Order.{is_load, is_store}
-use Rattle.window_model.specs.Retire.{width_of, op_of}
+use Rattle.window_model.specs.Retire.{width_of, width_in}
 use Rattle.window_model.specs.Taint.{base_of, tainted, any_tainted, address_tainted}
 use Rattle.window_model.specs.Front.{instr_at, kind_at}
 use Rattle.window_model.specs.Shape.{SameShape}
-use Rattle.window_model.proofs.Memory.{same_fault, inside}
-use Rattle.committed_state.specs.Replay.{Bank, effect_on, replayed_as, loaded_or}
+use Rattle.window_model.proofs.Memory.{inside}
+use Rattle.committed_state.specs.Computed.{Bank, outcome_as}
+use Rattle.committed_state.specs.Replay.{effect_on, replayed_as}
+use Rattle.committed_state.proofs.Computed.{outcome_same}
 use Rattle.committed_state.specs.Consistent.{IsItem}
 use Rattle.noninterference.specs.InStep.{byte}
 use Rattle.noninterference.proofs.SameBytes.{same_bytes}
 
--- a load of equal bytes has one value
-load_value : (f f2 : Option Cause) (s s2 : Bank) (e e2 : Entry) (a : ℕ) → load_fault s.ram a (width_of e) ≡ f → f ≡ f2 → SameShape s.ram s2.ram → op_of e.item.instr ≡ op_of e2.item.instr →
-    All (λ a. byte s.ram a ≡ byte s2.ram a) (unless_fault f (range a (width_of e))) → loaded_or f s e a ≡ loaded_or f2 s2 e2 a
-load_value (Some c) (Some c2) s s2 e e2 a h q p o b = refl
-load_value None None s s2 e e2 a h q p o b =
-    let r = inside _ _ s.ram a (width_of e) h in
-    let v = same_bytes s.ram s2.ram a (width_of e) p r.0 r.1 b in
-    ap (λ bs. extend (op_of e.item.instr) (from_le bs)) v ∙ ap (λ t. extend t (from_le (bytes_at s2.ram a (size_of t)))) o
-load_value (Some c) None s s2 e e2 a h q p o b = absurd (cc)
-load_value None (Some c) s s2 e e2 a h q p o b = absurd (cc)
-
--- and so one outcome, at one address
-pub load_same : (s s2 : Bank) (e e2 : Entry) → SameShape s.ram s2.ram → op_of e.item.instr ≡ op_of e2.item.instr → effect_on s e ≡ effect_on s2 e2 →
+-- a load of equal bytes has one outcome
+pub load_same : (s s2 : Bank) (e e2 : Entry) → SameShape s.ram s2.ram → e.item.instr ≡ e2.item.instr → effect_on s e ≡ effect_on s2 e2 →
     All (λ a. byte s.ram a ≡ byte s2.ram a) (unless_fault (load_fault s.ram (effect_on s e).addr (width_of e)) (range (effect_on s e).addr (width_of e))) → replayed_as Load s e ≡ replayed_as Load s2 e2
-load_same s s2 e e2 p o f b =
+load_same s s2 e e2 p i f b =
     let a = (effect_on s e).addr in
-    let c = sym (same_fault load_misaligned load_outside s.ram s2.ram a (width_of e) p) in
-    let w : width_of e ≡ width_of e2 = ap size_of o in
-    let c2 : load_fault s.ram a (width_of e) ≡ load_fault s2.ram a (width_of e2) = c ∙ ap (load_fault s2.ram a) w in
-    let v = load_value (load_fault s.ram a (width_of e)) (load_fault s2.ram a (width_of e2)) s s2 e e2 a refl c2 p o b in
-    cc
+    let w = width_of e in
+    let bytes = λ (n : load_fault s.ram a w ≡ None).
+    let r = inside _ _ s.ram a w n in
+    ap (λ (f : Effect). bytes_at s2.ram f.addr w) (sym f) ∙ sym (same_bytes s.ram s2.ram a w p r.0 r.1 (subst (λ c. All (λ a. byte s.ram a ≡ byte s2.ram a) (unless_fault c (range a w))) n b)) in
+    sym (outcome_same s.ram s2.ram e.item.instr p Load (effect_on s e) (effect_on s2 e2) _ _ (sym f) (λ l n. bytes n)) ∙ ap (λ i. outcome_as Load s2.ram i (effect_on s2 e2) (bytes_at s2.ram (effect_on s2 e2).addr (width_in i))) i
 
 -- kinds of JAL and of OP
 pub jal_kind : (f : Kind → Bool) (b : Bool) (c : Cause) → f Jal ≡ false → f (Stop c) ≡ false → f (if b then Jal else Stop c) ≡ false

@@ -1,6 +1,6 @@
 -- What two runs see alike when they look back.
-use Rattle.std.proofs.Common.{Option, map, ◌≡◌, ℕ, Bool, true, false, ◌&&◌, ◌||◌, List, [], ◌∷◌, refl, ap, sym, ◌∙◌, arith}
-use Rattle.std.specs.List.{list_any, list_all}
+use Rattle.std.proofs.Common.{Option, map, ◌≡◌, ℕ, Bool, true, false, ◌&&◌, List, [], ◌∷◌, refl, ap, sym, ◌∙◌, arith}
+use Rattle.std.specs.List.{list_any}
 use Rattle.rv_types.specs.declared.Kind.{Kind}
 use Rattle.rv_types.specs.declared.Kind.TheVariants.{Load, Store, Branch, Jalr}
 use Rattle.machine_desc.specs.declared.SttModel.{SttModel}
@@ -8,9 +8,9 @@ use Rattle.machine_desc.specs.declared.SttModel.TheVariants.{Spectre, Futuristic
 use Rattle.window_model.specs.declared.Entry.{Entry}
 use Rattle.window_model.specs.declared.Outcome.{Outcome}
 use Rattle.window_model.specs.Order.{writes, sources, is_load, fault_of}
-use Rattle.window_model.specs.Taint.{visible, tainted, any_tainted, address_tainted, base_of, safe, safe_as, settled}
+use Rattle.window_model.specs.Taint.{address_tainted, any_tainted, base_of, passes, safe, safe_as, settled, tainted, visible}
 use Rattle.window_model.proofs.Booleans.{both}
-use Rattle.window_model.proofs.Taints.{tainted_cons, none_any}
+use Rattle.window_model.proofs.Taints.{any_agree, tainted_cons, none_any}
 use Rattle.noninterference.specs.Outcomes.{SameEntry, SameOutcome, SameOutcomes}
 use Rattle.noninterference.specs.Alike.{without_outcome}
 
@@ -42,15 +42,11 @@ same_rest model (e ∷ b) [] s = absurd s
 
 -- ---- what is visible is not tainted
 
-visible_older : (model : SttModel) (e : Entry) (before : List Entry) → visible model (e ∷ before) ≡ true → visible model before ≡ true
-visible_older Spectre e before h = (both (settled e) (list_all settled before) h).1
-visible_older Futuristic e before h = (both (safe e) (list_all safe before) h).1
-
--- so neither is a register, a base, nor any operand
+-- neither a register, nor a base, nor any operand
 pub untainted_where_visible : (model : SttModel) (before : List Entry) (r : ℕ) → visible model before ≡ true → tainted model before r ≡ false
 untainted_where_visible model [] r h = refl
 untainted_where_visible model (e ∷ before) r h =
-    let older = visible_older model e before h in
+    let older = (both (passes model e) (visible model before) h).1 in
     let by = none_any (tainted model before) (sources e) (λ s. untainted_where_visible model before s older) in
     let rest = untainted_where_visible model before r older in
     tainted_cons model e before r ∙ grind (arith, by, rest, older)
@@ -79,8 +75,9 @@ same_safe model before e e2 s h =
     ap (λ k. safe_as k e) (same_kind e e2 s.but_outcome)
     ∙ safe_by e2.item.kind e e2 (ap (λ (t : Entry). t.state) s.but_outcome) (ap (λ (t : Entry). t.resolved) s.but_outcome) (faults_alike e.item.kind model before e e2 s.outcomes h)
 
-same_settled : (e e2 : Entry) → without_outcome e ≡ without_outcome e2 → settled e ≡ settled e2
-same_settled e e2 h = ap settled h
+same_passes : (model : SttModel) (before : List Entry) (e e2 : Entry) → SameEntry model before e e2 → visible model before ≡ true → passes model e ≡ passes model e2
+same_passes Spectre before e e2 s h = ap settled s.but_outcome
+same_passes Futuristic before e e2 s h = same_safe Futuristic before e e2 s h
 
 and_same : (a a2 b b2 : Bool) → b ≡ b2 → (b ≡ true → a ≡ a2) → (a && b) ≡ (a2 && b2)
 and_same true true b b2 p h = p
@@ -92,21 +89,14 @@ and_same false true false b2 p h = p
 
 -- both runs see alike what is visible
 pub same_visible : (model : SttModel) (before before2 : List Entry) → SameOutcomes model before before2 → visible model before ≡ visible model before2
-same_visible Spectre [] [] s = refl
-same_visible Futuristic [] [] s = refl
-same_visible Spectre (e ∷ before) (e2 ∷ before2) s =
-    and_same (settled e) (settled e2) (list_all settled before) (list_all settled before2) (same_visible Spectre before before2 s.1) (λ h. same_settled e e2 s.0.but_outcome)
-same_visible Futuristic (e ∷ before) (e2 ∷ before2) s =
-    and_same (safe e) (safe e2) (list_all safe before) (list_all safe before2) (same_visible Futuristic before before2 s.1) (λ h. same_safe Futuristic before e e2 s.0 h)
+same_visible model [] [] s = refl
+same_visible model (e ∷ before) (e2 ∷ before2) s =
+    and_same (passes model e) (passes model e2) (visible model before) (visible model before2) (same_visible model before before2 s.1) (same_passes model before e e2 s.0)
 same_visible model [] (e2 ∷ before2) s = absurd s
 same_visible model (e ∷ before) [] s = absurd s
 
 pub any_same_list : (f g : ℕ → Bool) (rs rs2 : List ℕ) → rs ≡ rs2 → ((r : ℕ) → f r ≡ g r) → list_any f rs ≡ list_any g rs2
-any_same_list f g rs rs2 p h = ap (list_any f) p ∙ any_ext f g rs2 h
-  where
-    any_ext : (f g : ℕ → Bool) (rs : List ℕ) → ((r : ℕ) → f r ≡ g r) → list_any f rs ≡ list_any g rs
-    any_ext f g [] h = refl
-    any_ext f g (r ∷ rs) h = ap (λ b. b || list_any f rs) (h r) ∙ ap (λ b. g r || b) (any_ext f g rs h)
+any_same_list f g rs rs2 p h = ap (list_any f) p ∙ any_agree f g rs2 h
 
 -- and what is tainted
 pub same_tainted : (model : SttModel) (before before2 : List Entry) (r : ℕ) → SameOutcomes model before before2 → tainted model before r ≡ tainted model before2 r

@@ -5,16 +5,15 @@ use mathlib.Core.List.{reverse_aux}
 use Rattle.rv_types.specs.Memory.{Code}
 use Rattle.machine_desc.specs.declared.Desc.{Desc}
 use Rattle.machine_desc.specs.declared.SttModel.{SttModel}
-use Rattle.machine_desc.specs.declared.SttModel.TheVariants.{Spectre, Futuristic}
 use Rattle.window_model.specs.declared.Entry.{Entry}
 use Rattle.window_model.specs.declared.Item.{Item}
-use Rattle.window_model.specs.declared.State.{State}
-use Rattle.window_model.specs.declared.State.TheVariants.{Waiting}
+use Rattle.window_model.specs.declared.Progress.{Progress}
+use Rattle.window_model.specs.declared.Progress.TheVariants.{Waiting}
 use Rattle.window_model.specs.State.{Machine}
 use Rattle.window_model.specs.Order.{is_waiting}
-use Rattle.window_model.specs.Taint.{visible}
 use Rattle.window_model.specs.Retire.{hart_of}
-use Rattle.window_model.specs.Along.{Fact, Along, Behind}
+use Rattle.window_model.specs.Along.{Behind}
+use Rattle.window_model.proofs.EntryByEntry.{behind_of}
 use Rattle.committed_state.specs.Consistent.{FitsState, Stands, bank_in}
 use Rattle.committed_state.specs.Guarded.{IsGuarded}
 use Rattle.committed_state.specs.Links.{entry_link, Chain, links}
@@ -37,10 +36,6 @@ linked_of : (pc : ℕ) (before es : List Entry) (queue : List Item) (to : Option
 linked_of pc before [] queue to c l = l
 linked_of pc before (e ∷ es) queue to c l = linked_of pc (e ∷ before) es queue to c.1 (c.0, l)
 
-behind_of : (P : Fact) (before es : List Entry) → Along P before es → Behind P before → Behind P (reverse_aux es before)
-behind_of P before [] a b = b
-behind_of P before (e ∷ es) a b = behind_of P (e ∷ before) es a.1 (a.0, b)
-
 -- ---- all that is known
 
 -- these entries stand over the retired state, are guarded, and follow one another
@@ -61,18 +56,12 @@ whole_window d code x f = record {
   linked = linked_of x.pc [] x.window x.queue x.fetch_pc f.consistent.chain tt;
 }
 
--- nothing hides what comes first
-pub visible_none : (model : SttModel) → visible model [] ≡ true
-visible_none Spectre = refl
-visible_none Futuristic = refl
-
-waits_unresolved : (t : State) (e : Entry) → FitsState t e → is_waiting t ≡ true → e.resolved ≡ false
+waits_unresolved : (t : Progress) (e : Entry) → FitsState t e → is_waiting t ≡ true → e.resolved ≡ false
 waits_unresolved Waiting e f h = f.1
 waits_unresolved _ e f h = absurd (cc)
 
 -- and of the head alone: nothing is older, so none of its operands is tainted
 pub head_alone : (code : Code) (model : SttModel) (x : Machine) (e : Entry) → Stands code (bank_in (hart_of x)) [] e → x.pc ≡ e.item.pc → OneRun code model x (e ∷ [])
 head_alone code model x e st pc =
-    let v = visible_none model in
-    let guarded : IsGuarded model [] e = record { load = λ i l. untainted_base model [] e v; division = λ i l. untainted_sources model [] e v; fresh = waits_unresolved e.state e st.state } in
+    let guarded : IsGuarded model [] e = record { load = λ i l. untainted_base model [] e refl; division = λ i l. untainted_sources model [] e refl; fresh = waits_unresolved e.state e st.state } in
     record { stands = (st, tt); guarded = (guarded, tt); linked = (ap Some pc, tt) }

@@ -1,5 +1,5 @@
 -- A step of the path at an entry that it passes is what the replay says.
-use Rattle.std.proofs.Common.{◌≡◌, ℕ, Bool, true, false, not, ◌&&◌, ◌||◌, [], Option, Some, None, refl, ap, sym, ◌∙◌, subst}
+use Rattle.std.proofs.Common.{◌≡◌, ℕ, Bool, true, false, not, ◌&&◌, [], Option, Some, None, refl, ap, sym, ◌∙◌, subst}
 use Rattle.std.specs.Prelude.{if◌then◌else◌, is_some}
 use Rattle.rv_types.specs.Decode.{decode}
 use Rattle.rv_types.specs.Kind.{kind_of}
@@ -15,33 +15,29 @@ use Rattle.machine_desc.specs.declared.SttModel.TheVariants.{Spectre, Futuristic
 use Rattle.window_model.specs.declared.Entry.{Entry}
 use Rattle.window_model.specs.declared.Item.{Item}
 use Rattle.window_model.specs.declared.Outcome.{Outcome}
-use Rattle.window_model.specs.declared.State.{State}
-use Rattle.window_model.specs.declared.State.TheVariants.{Waiting, Busy, Done}
+use Rattle.window_model.specs.declared.Progress.{Progress}
+use Rattle.window_model.specs.declared.Progress.TheVariants.{Waiting, Busy, Done}
 use Rattle.window_model.specs.Order.{fault_of, is_control, is_done, is_faulty, sources}
 use Rattle.window_model.specs.Resolve.{next_of}
-use Rattle.window_model.specs.Taint.{settled, safe, safe_as}
+use Rattle.window_model.specs.Taint.{passes, safe_as, settled_as}
 use Rattle.window_model.specs.Front.{at_once}
 use Rattle.window_model.specs.Committed.{Aligned}
 use Rattle.window_model.specs.Path.{path}
 use Rattle.window_model.proofs.Booleans.{both, not_true, some_of}
 use Rattle.committed_state.specs.Consistent.{FitsState, IsItem, Predicts}
 use Rattle.committed_state.specs.Links.{entry_link}
-use Rattle.committed_state.specs.Replay.{Bank, IsReplayed, bank_after, replayed}
+use Rattle.committed_state.specs.Computed.{Bank, ComesTo}
+use Rattle.committed_state.specs.Replay.{bank_after, replayed}
 use Rattle.committed_state.proofs.Bytes.{some_is}
 use Rattle.committed_state.proofs.Heads.{item_of, goes_on}
 use Rattle.committed_state.proofs.Known.{done_has}
-use Rattle.committed_state.proofs.Onward.{of_item, by_item, after_item}
+use Rattle.committed_state.proofs.Onward.{of_item}
 use Rattle.committed_state.proofs.Turn.{item_eq, step_as, replayed_next}
 use Rattle.noninterference.proofs.Loads.{is_access, word_of}
 use Rattle.noninterference.proofs.Paths.{path_goes}
 use Rattle.noninterference.proofs.Faults.{hart, entry_of, no_fault, passed_over}
 
--- what stands behind the entry may still be visible
-abbrev pub passes : SttModel → Entry → Bool
-passes Spectre e = settled e
-passes Futuristic e = safe e
-
-module _ (code : Code) (aligned : Aligned code) (s : Bank) (e : Entry) (n : ℕ) (item : IsItem code e.item) (f : FitsState e.state e) (r : IsReplayed e.outcome s e) (g : at_once e.item.kind ≡ false) (l : (entry_link e).next ≡ Some n) where
+module _ (code : Code) (aligned : Aligned code) (s : Bank) (e : Entry) (n : ℕ) (item : IsItem code e.item) (f : FitsState e.state e) (r : ComesTo e.outcome (replayed s e)) (g : at_once e.item.kind ≡ false) (l : (entry_link e).next ≡ Some n) where
   abbrev O : Outcome
   O = replayed s e
 
@@ -64,10 +60,10 @@ module _ (code : Code) (aligned : Aligned code) (s : Bank) (e : Entry) (n : ℕ)
   item_is = item_eq e.item e.item.pc i refl word_there.2 word_there.3
 
   outcome_is : O ≡ replayed s (entry_of s e.item.pc e.item.predicted i)
-  outcome_is = by_item e.item.kind s e ∙ ap (λ t. replayed s (of_item t)) item_is
+  outcome_is = ap (λ t. replayed s (of_item t)) item_is
 
   -- what isn't a branch or JALR goes on at its prediction, and so does the replay
-  unresolved : (t : State) (b : Bool) → is_control e.item.kind ≡ false → FitsState t (record e { resolved = b }) → b ≡ false
+  unresolved : (t : Progress) (b : Bool) → is_control e.item.kind ≡ false → FitsState t (record e { resolved = b }) → b ≡ false
   unresolved Waiting b c f = f.1
   unresolved (Busy due) b c f = f.1
   unresolved Done false c f = refl
@@ -84,7 +80,7 @@ module _ (code : Code) (aligned : Aligned code) (s : Bank) (e : Entry) (n : ℕ)
       some_of n O.next (sym l ∙ q ∙ to ∙ ap (λ j. Some (effect e.item.pc j a b).next) (sym word_there.2) ∙ ap Some (sym (replayed_next e.item.kind s e)))
 
   -- a branch or JALR that is resolved has the replay's outcome
-  issued_when : (t : State) → FitsState t e → e.resolved ≡ true → is_some e.outcome ≡ true
+  issued_when : (t : Progress) → FitsState t e → e.resolved ≡ true → is_some e.outcome ≡ true
   issued_when Waiting f q = absurd (let d = f.1 in cc)
   issued_when (Busy due) f q = absurd (let d = f.1 in cc)
   issued_when Done f q = f.0 ∙ ap not g
@@ -95,7 +91,7 @@ module _ (code : Code) (aligned : Aligned code) (s : Bank) (e : Entry) (n : ℕ)
 
   resolved_goes : (model : SttModel) → e.resolved ≡ true → Steps model
   resolved_goes model q =
-      let o = some_is e.outcome s e r (issued_when e.state f q) in
+      let o = some_is e.outcome O r (issued_when e.state f q) in
       let to : (entry_link e).next ≡ (if is_some (fault_of e.outcome) then None else Some (next_of e.outcome)) = rw q refl in
       let there = no_fault_if O.fault O.next (ap (λ t. if is_some (fault_of t) then None else Some (next_of t)) (sym o) ∙ sym to ∙ l) in
       of_isa model there.0 there.1
@@ -108,7 +104,7 @@ module _ (code : Code) (aligned : Aligned code) (s : Bank) (e : Entry) (n : ℕ)
   safe_goes : (model : SttModel) → is_control e.item.kind ≡ false → (is_done e.state && not (is_faulty e)) ≡ true → Steps model
   safe_goes model c v =
       let ds = both (is_done e.state) _ v in
-      let o = some_is e.outcome s e r ((done_has e.state e f ds.0).0 ∙ ap not g) in
+      let o = some_is e.outcome O r ((done_has e.state e f ds.0).0 ∙ ap not g) in
       of_isa model (ap fault_of (sym o) ∙ none_of (fault_of e.outcome) (not_true _ ds.1)) (predicted_next c)
 
   -- under the spectre model it is passed over where it faults
@@ -122,7 +118,7 @@ module _ (code : Code) (aligned : Aligned code) (s : Bank) (e : Entry) (n : ℕ)
           let over = passed_over s e.item.pc e.item.predicted i cause (ap is_access (sym word_there.3) ∙ k) (ap (λ (o : Outcome). o.fault) (sym outcome_is) ∙ h) in
           ap (λ o. pass_at o (hart e.item.pc s)) word_there.1 ∙ over
           ∙ ap (λ m. Goes (hart m (bank_after (entry_of s e.item.pc e.item.predicted i) s)) []) (ap (λ (o : Outcome). o.next) (sym outcome_is) ∙ sym (predicted_next c))
-          ∙ ap (λ b. Goes (hart n b) []) (ap (λ t. bank_after (of_item t) s) (sym item_is) ∙ sym (after_item s e))
+          ∙ ap (λ b. Goes (hart n b) []) (ap (λ t. bank_after (of_item t) s) (sym item_is))
 
   plain_goes : (model : SttModel) → is_control e.item.kind ≡ false → is_access e.item.kind ≡ false → Steps model
   plain_goes model c k =
@@ -130,7 +126,7 @@ module _ (code : Code) (aligned : Aligned code) (s : Bank) (e : Entry) (n : ℕ)
       of_isa model (ap (λ (o : Outcome). o.fault) outcome_is ∙ h) (predicted_next c)
 
   abbrev passes_as : SttModel → Kind → Bool
-  passes_as Spectre k = not (is_control k) || e.resolved
+  passes_as Spectre k = settled_as k e.resolved
   passes_as Futuristic k = safe_as k e
 
   by_kind : (model : SttModel) (k : Kind) → e.item.kind ≡ k → passes_as model k ≡ true → Steps model

@@ -1,64 +1,42 @@
--- Outcomes of two replays.
-use Rattle.std.proofs.Common.{◌≡◌, ℕ, true, false, List, Option, Some, None, refl, ap, sym, ◌∙◌}
+-- Outcomes of two runs: what equal effects, addresses or bytes make equal of them.
+use Rattle.std.proofs.Common.{◌≡◌, ℕ, true, false, List, Option, Some, None, refl, ap, sym, ◌∙◌, subst}
 use Rattle.std.specs.Prelude.{is_some}
 use Rattle.std.specs.Option.{unwrap_or, option_map}
 use Rattle.rv_types.specs.Isa.{Effect}
 use Rattle.rv_types.specs.Causes.{load_misaligned, load_outside, store_misaligned, store_outside}
+use Rattle.rv_types.specs.Memory.{Ram}
 use Rattle.rv_types.specs.declared.Cause.{Cause}
+use Rattle.rv_types.specs.declared.Instr.{Instr}
 use Rattle.rv_types.specs.declared.Kind.{Kind}
 use Rattle.rv_types.specs.declared.Kind.TheVariants.{Load, Store}
 use Rattle.machine_desc.specs.declared.SttModel.{SttModel}
 use Rattle.window_model.specs.declared.Entry.{Entry}
 use Rattle.window_model.specs.declared.Outcome.{Outcome}
 use Rattle.window_model.specs.Order.{is_load, is_store, fault_of}
-use Rattle.window_model.specs.Retire.{addr_of, width_of}
+use Rattle.window_model.specs.Retire.{addr_of, width_in}
 use Rattle.window_model.specs.Taint.{visible, any_tainted, address_tainted}
 use Rattle.window_model.specs.Shape.{SameShape}
 use Rattle.window_model.proofs.Memory.{same_fault}
-use Rattle.committed_state.specs.Replay.{Bank, effect_on, replayed, replayed_as, IsReplayed}
-use Rattle.noninterference.specs.Alike.{without_outcome}
+use Rattle.window_model.specs.Issue.{effect_of}
+use Rattle.committed_state.specs.Computed.{Bank, ComesTo, bytes_over, computed, outcome_as}
+use Rattle.committed_state.proofs.Computed.{outcome_same}
 use Rattle.noninterference.specs.Outcomes.{but_value, SameOutcome}
 
-widths : (e e2 : Entry) → without_outcome e ≡ without_outcome e2 → width_of e ≡ width_of e2
-widths e e2 h = ap width_of h
-
-other_as : (k : Kind) (s s2 : Bank) (e e2 : Entry) → is_load k ≡ false → SameShape s.ram s2.ram → width_of e ≡ width_of e2 → effect_on s e ≡ effect_on s2 e2 → replayed_as k s e ≡ replayed_as k s2 e2
-other_as Load s s2 e e2 n p w f = absurd (cc)
-other_as Store s s2 e e2 n p w f =
-    let c = sym (same_fault store_misaligned store_outside s.ram s2.ram (effect_on s2 e2).addr (width_of e2) p) in
-    let a = ap (λ (f : Effect). f.addr) f in
-    cc
-other_as _ s s2 e e2 n p w f = cc
-
--- a load's outcome but its value
-load_as : (s s2 : Bank) (e e2 : Entry) → SameShape s.ram s2.ram → width_of e ≡ width_of e2 → effect_on s e ≡ effect_on s2 e2 → but_value (replayed_as Load s e) ≡ but_value (replayed_as Load s2 e2)
-load_as s s2 e e2 p w f =
-    let c = sym (same_fault load_misaligned load_outside s.ram s2.ram (effect_on s2 e2).addr (width_of e2) p) in
-    cc
-
 -- two outcomes, or none twice, of which something is equal
-by_replays : {A : Type 0} (g : Outcome → A) (o o2 : Option Outcome) (s s2 : Bank) (e e2 : Entry) → is_some o ≡ is_some o2 → IsReplayed o s e → IsReplayed o2 s2 e2 → (is_some o ≡ true → is_some o2 ≡ true → g (replayed s e) ≡ g (replayed s2 e2)) → option_map g o ≡ option_map g o2
-by_replays g None None s s2 e e2 h r r2 p = refl
-by_replays g (Some o) (Some o2) s s2 e e2 h r r2 p = ap (λ o. Some (g o)) r ∙ ap Some (p refl refl) ∙ ap (λ o. Some (g o)) (sym r2)
-by_replays g None (Some o2) s s2 e e2 h r r2 p = absurd (cc)
-by_replays g (Some o) None s s2 e e2 h r r2 p = absurd (cc)
+by_outcomes : {A : Type 0} (g : Outcome → A) (o o2 : Option Outcome) (v v2 : Outcome) → is_some o ≡ is_some o2 → ComesTo o v → ComesTo o2 v2 → (is_some o ≡ true → g v ≡ g v2) → option_map g o ≡ option_map g o2
+by_outcomes g None None v v2 h r r2 p = refl
+by_outcomes g (Some o) (Some o2) v v2 h r r2 p = ap (λ o. Some (g o)) r ∙ ap Some (p refl) ∙ ap (λ o. Some (g o)) (sym r2)
+by_outcomes g None (Some o2) v v2 h r r2 p = absurd (cc)
+by_outcomes g (Some o) None v v2 h r r2 p = absurd (cc)
 
--- two outcomes that the replays make equal
-pub same_replay : (o o2 : Option Outcome) (s s2 : Bank) (e e2 : Entry) → is_some o ≡ is_some o2 → IsReplayed o s e → IsReplayed o2 s2 e2 → (is_some o ≡ true → is_some o2 ≡ true → replayed s e ≡ replayed s2 e2) → o ≡ o2
-same_replay None None s s2 e e2 h r r2 p = refl
-same_replay (Some o) (Some o2) s s2 e e2 h r r2 p = ap Some (r ∙ p refl refl ∙ sym r2)
-same_replay None (Some o2) s s2 e e2 h r r2 p = absurd (cc)
-same_replay (Some o) None s s2 e e2 h r r2 p = absurd (cc)
+-- two outcomes that are equal
+pub same_outcome : (o o2 : Option Outcome) (v v2 : Outcome) → is_some o ≡ is_some o2 → ComesTo o v → ComesTo o2 v2 → (is_some o ≡ true → v ≡ v2) → o ≡ o2
+same_outcome None None v v2 h r r2 p = refl
+same_outcome (Some o) (Some o2) v v2 h r r2 p = ap Some (r ∙ p refl ∙ sym r2)
+same_outcome None (Some o2) v v2 h r r2 p = absurd (cc)
+same_outcome (Some o) None v v2 h r r2 p = absurd (cc)
 
--- ---- every entry
-
--- an untainted entry that is no load has one outcome
-other : (k : Kind) (s s2 : Bank) (e e2 : Entry) → e.item.kind ≡ k → e2.item.kind ≡ k → is_load k ≡ false → without_outcome e ≡ without_outcome e2 → SameShape s.ram s2.ram → is_some e.outcome ≡ is_some e2.outcome →
-    IsReplayed e.outcome s e → IsReplayed e2.outcome s2 e2 → (is_some e.outcome ≡ true → is_some e2.outcome ≡ true → effect_on s e ≡ effect_on s2 e2) → e.outcome ≡ e2.outcome
-other k s s2 e e2 q q2 n h p o i1 i2 ef =
-    same_replay e.outcome e2.outcome s s2 e e2 o i1 i2
-    (λ y y2. ap (λ k. replayed_as k s e) q ∙ other_as k s s2 e e2 n p (widths e e2 h) (ef y y2) ∙ ap (λ k. replayed_as k s2 e2) (sym q2))
-
+-- address and fault
 part : Outcome → ℕ × Option Cause
 part o = (o.addr, o.fault)
 
@@ -71,28 +49,48 @@ from_part (Some o) (Some o2) h =
 from_part None (Some o2) h = absurd (cc)
 from_part (Some o) None h = absurd (cc)
 
-store_part : (s s2 : Bank) (e e2 : Entry) → SameShape s.ram s2.ram → width_of e ≡ width_of e2 → (effect_on s e).addr ≡ (effect_on s2 e2).addr → part (replayed_as Store s e) ≡ part (replayed_as Store s2 e2)
-unfolding part
-store_part s s2 e e2 p w a =
-    let c = sym (same_fault store_misaligned store_outside s.ram s2.ram (effect_on s2 e2).addr (width_of e2) p) in
-    cc
+-- in memory of one place: a load's outcome but its value, and a store's address and fault
+module _ (ram ram2 : Ram) (p : SameShape ram ram2) (i : Instr) where
+  load_but_value : (f f2 : Effect) (bytes bytes2 : List ℕ) → f ≡ f2 → but_value (outcome_as Load ram i f bytes) ≡ but_value (outcome_as Load ram2 i f2 bytes2)
+  load_but_value f f2 bytes bytes2 q = let c = sym (same_fault load_misaligned load_outside ram ram2 f2.addr (width_in i) p) in cc
 
--- two entries of one kind that have issued both or neither: what makes their outcomes equal where they may be looked at
-pub entry_same : (k : Kind) (model : SttModel) (s s2 : Bank) (b : List Entry) (e e2 : Entry) → e.item.kind ≡ k → e2.item.kind ≡ k → without_outcome e ≡ without_outcome e2 → SameShape s.ram s2.ram → is_some e.outcome ≡ is_some e2.outcome →
-    IsReplayed e.outcome s e → IsReplayed e2.outcome s2 e2 →
-    (is_load k ≡ true → visible model b ≡ true → e.outcome ≡ e2.outcome) →
-    (is_load k ≡ true → is_some e.outcome ≡ true → any_tainted model b e ≡ false) →
-    (is_some e.outcome ≡ true → is_some e2.outcome ≡ true → any_tainted model b e ≡ false → effect_on s e ≡ effect_on s2 e2) →
-    (is_store k ≡ true → is_some e.outcome ≡ true → is_some e2.outcome ≡ true → address_tainted model b e ≡ false → (effect_on s e).addr ≡ (effect_on s2 e2).addr) →
-    SameOutcome k model b e e2
-entry_same Load model s s2 b e e2 q q2 h p o i1 i2 seen clean ef ad = (
-  by_replays but_value e.outcome e2.outcome s s2 e e2 o i1 i2
-      (λ y y2. ap (λ k. but_value (replayed_as k s e)) q ∙ load_as s s2 e e2 p (widths e e2 h) (ef y y2 (clean refl y)) ∙ ap (λ k. but_value (replayed_as k s2 e2)) (sym q2)),
-  seen refl,
-)
-entry_same Store model s s2 b e e2 q q2 h p o i1 i2 seen clean ef ad = (
-  λ t. from_part e.outcome e2.outcome (by_replays part e.outcome e2.outcome s s2 e e2 o i1 i2
-      (λ y y2. ap (λ k. part (replayed_as k s e)) q ∙ store_part s s2 e e2 p (widths e e2 h) (ad refl y y2 t) ∙ ap (λ k. part (replayed_as k s2 e2)) (sym q2))),
-  λ t. other Store s s2 e e2 q q2 refl h p o i1 i2 (λ y y2. ef y y2 t),
-)
-entry_same k model s s2 b e e2 q q2 h p o i1 i2 seen clean ef ad = λ t. other k s s2 e e2 q q2 refl h p o i1 i2 (λ y y2. ef y y2 t)
+  store_part : (f f2 : Effect) (bytes bytes2 : List ℕ) → f.addr ≡ f2.addr → part (outcome_as Store ram i f bytes) ≡ part (outcome_as Store ram2 i f2 bytes2)
+  unfolding part
+  store_part f f2 bytes bytes2 q = let c = sym (same_fault store_misaligned store_outside ram ram2 f2.addr (width_in i) p) in cc
+
+-- ---- every entry
+
+-- two entries of one instruction that have issued both or neither, each behind its older ones: what makes their outcomes equal
+-- where they may be looked at
+module _ (model : SttModel) (s s2 : Bank) (b b2 : List Entry) (e e2 : Entry) (p : SameShape s.ram s2.ram) (o : is_some e.outcome ≡ is_some e2.outcome)
+    (c : ComesTo e.outcome (computed s b e)) (c2 : ComesTo e2.outcome (computed s2 b2 e))
+    (seen : is_load e.item.kind ≡ true → visible model b ≡ true → e.outcome ≡ e2.outcome)
+    (clean : is_load e.item.kind ≡ true → is_some e.outcome ≡ true → any_tainted model b e ≡ false)
+    (effects : any_tainted model b e ≡ false → effect_of s.regs b e ≡ effect_of s2.regs b2 e)
+    (addresses : is_store e.item.kind ≡ true → address_tainted model b e ≡ false → (effect_of s.regs b e).addr ≡ (effect_of s2.regs b2 e).addr) where
+  abbrev F : Bank → List Entry → Effect
+  F s b = effect_of s.regs b e
+
+  abbrev Found : Bank → List Entry → List ℕ
+  Found s b = bytes_over s b e (F s b).addr
+
+  abbrev As : Kind → Bank → List Entry → Outcome
+  As k s b = outcome_as k s.ram e.item.instr (F s b) (Found s b)
+
+  -- what is equal of what they compute is equal of their outcomes
+  by_kind : {A : Type 0} (g : Outcome → A) (k : Kind) → e.item.kind ≡ k → (is_some e.outcome ≡ true → g (As k s b) ≡ g (As k s2 b2)) → option_map g e.outcome ≡ option_map g e2.outcome
+  by_kind g k q m = by_outcomes g e.outcome e2.outcome _ _ o c c2 (λ i. subst (λ k. g (As k s b) ≡ g (As k s2 b2)) (sym q) (m i))
+
+  -- what is no load has one outcome where no operand is tainted
+  other : (k : Kind) → e.item.kind ≡ k → is_load k ≡ false → any_tainted model b e ≡ false → e.outcome ≡ e2.outcome
+  other k q n t =
+      same_outcome e.outcome e2.outcome _ _ o c c2
+      (λ i. sym (outcome_same s.ram s2.ram e.item.instr p e.item.kind _ _ _ _ (sym (effects t)) (λ l f. absurd (let z = sym l ∙ ap is_load q ∙ n in cc))))
+
+  entry_as : (k : Kind) → e.item.kind ≡ k → SameOutcome k model b e e2
+  entry_as Load q = (by_kind but_value Load q (λ i. load_but_value s.ram s2.ram p e.item.instr (F s b) (F s2 b2) (Found s b) (Found s2 b2) (effects (clean (ap is_load q) i))), seen (ap is_load q))
+  entry_as Store q = (λ t. from_part e.outcome e2.outcome (by_kind part Store q (λ i. store_part s.ram s2.ram p e.item.instr (F s b) (F s2 b2) (Found s b) (Found s2 b2) (addresses (ap is_store q) t))), other Store q refl)
+  entry_as k q = other k q refl
+
+  pub entry_same : SameOutcome e.item.kind model b e e2
+  entry_same = entry_as e.item.kind refl

@@ -23,7 +23,7 @@ use Rattle.noninterference.proofs.Looking.{same_any, same_entry, same_rest, same
 
 -- ---- which entry
 
-may_resolve_alike : (d : Desc) → SeenAlike d.stt_model (may_resolve d)
+may_resolve_alike : (d : Desc) → SeenAlike d.stt_model (may_resolve d) (may_resolve d)
 may_resolve_alike d b b2 e e2 s h =
     let k = same_kind e e2 h.but_outcome in
     let t = same_any d.stt_model b b2 e e2 s h in
@@ -47,9 +47,9 @@ left_over b b2 e y y2 h l =
     ∙ ap (λ t. map without_outcome (reverse b2) ++ without_outcome e ∷ t) l
     ∙ sym (map-append without_outcome (reverse b2) (e ∷ y2))
 
-squash_tells : (b b2 : List Entry) (e : Entry) (y y2 : List Entry) (m m2 : Machine) → map without_outcome b ≡ map without_outcome b2 → map without_outcome y ≡ map without_outcome y2 → shown m ≡ shown m2 →
-    shown_after (squash (record { before = b; entry = e; younger = y }) m) ≡ shown_after (squash (record { before = b2; entry = e; younger = y2 }) m2)
-squash_tells b b2 e y y2 m m2 h l q =
+squash_tells : (d : Desc) (b b2 : List Entry) (e : Entry) (y y2 : List Entry) (m m2 : Machine) → map without_outcome b ≡ map without_outcome b2 → map without_outcome y ≡ map without_outcome y2 → shown m ≡ shown m2 →
+    shown_after (squash d (record { before = b; entry = e; younger = y }) m) ≡ shown_after (squash d (record { before = b2; entry = e; younger = y2 }) m2)
+squash_tells d b b2 e y y2 m m2 h l q =
     let w = left_over b b2 (record e { resolved = true }) [] [] h refl in
     let n = same_length y y2 l in
     let G : Machine → List Entry → ℕ → After = λ m w n. record {
@@ -82,9 +82,9 @@ at_tells d b b2 e y y2 x x2 h l q =
     let qm : shown m ≡ shown m2 = ap (λ l. W l (shown x)) learnt ∙ ap (W (L x2)) q in
     let p : Place = record { before = b; entry = e; younger = y } in
     let p2 : Place = record { before = b2; entry = e; younger = y2 } in
-    let left = either_tells (squashes e) (squash p m) (squash p2 m2) (keep p m) (keep p2 m2) (squash_tells b b2 e y y2 m m2 h l qm) (keep_tells b b2 e y y2 m m2 h l qm) in
+    let left = either_tells (squashes e) (squash d p m) (squash d p2 m2) (keep p m) (keep p2 m2) (squash_tells d b b2 e y y2 m m2 h l qm) (keep_tells b b2 e y y2 m m2 h l qm) in
     let G : List Event → After → After = λ evs a. record { machine = a.machine; events = evs ++ a.events } in
-    ap (λ evs. G evs (shown_after (if squashes e then squash p m else keep p m))) (ap (λ (l : Learnt). l.events) learnt) ∙ ap (G (L x2).events) left
+    ap (λ evs. G evs (shown_after (if squashes e then squash d p m else keep p m))) (ap (λ (l : Learnt). l.events) learnt) ∙ ap (G (L x2).events) left
 
 places_tell : (d : Desc) (o o2 : Option Place) (x x2 : Machine) → SamePlaces d.stt_model o o2 → ((p : Place) → o ≡ Some p → may_resolve d p.before p.entry ≡ true) → Alike x x2 → shown_after (resolve_at d o x) ≡ shown_after (resolve_at d o2 x2)
 places_tell d None None x x2 s f q = ap (λ (m : Machine). let a : After = record { machine = m; events = [] } in a) q
@@ -104,4 +104,4 @@ places_tell d (Some p) None x x2 s f q = absurd s
 pub resolve_tells_nothing : ResolveTellsNothing
 resolve_tells_nothing d x x2 r o =
     let w : map without_outcome x.window ≡ map without_outcome x2.window = ap (λ (m : Machine). m.window) r in
-    places_tell d _ _ x x2 (first_same d.stt_model (may_resolve d) (may_resolve_alike d) x.window x2.window [] [] w o) (λ p e. (found (may_resolve d) [] x.window p e).has) r
+    places_tell d _ _ x x2 (first_same d.stt_model (may_resolve d) (may_resolve d) (may_resolve_alike d) x.window x2.window [] [] w o) (λ p e. (found (may_resolve d) [] x.window p e).has) r

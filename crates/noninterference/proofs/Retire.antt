@@ -29,7 +29,7 @@ use Rattle.noninterference.proofs.Paths.{path_calls}
 use Rattle.noninterference.proofs.Looking.{untainted_sources, same_entry}
 use Rattle.noninterference.proofs.Operand.{known_outcome}
 use Rattle.noninterference.proofs.SameReads.{same_window}
-use Rattle.noninterference.proofs.OneRun.{head_alone, visible_none}
+use Rattle.noninterference.proofs.OneRun.{head_alone}
 use Rattle.noninterference.proofs.Turns.{Follows, stays_alike, left_turn, call_turn}
 use Rattle.committed_state.proofs.Retire.{call_kind}
 
@@ -41,9 +41,8 @@ module _ (d : Desc) (code : Code) (aligned : Aligned code) (total : ℕ) where
   head_same : (x x2 : Machine) (e e2 : Entry) → InStepUpTo d.stt_model code total x x2 → 1 + x.retired ≤ total → length x.regs ≡ 32 → length x2.regs ≡ 32 → Stands code (bank_in (hart_of x)) [] e → Stands code (bank_in (hart_of x2)) [] e2 → x.pc ≡ e.item.pc → x2.pc ≡ e2.item.pc → without_outcome e ≡ without_outcome e2 → e ≡ e2
   head_same x x2 e e2 a lt n n2 st st2 pc pc2 h =
       let s = same_window d.stt_model code aligned x x2 1 n n2 (λ k le. a k (omega (arith, le, lt))) (e ∷ []) (e2 ∷ []) (omega arith) (head_alone code d.stt_model x e st pc) (head_alone code d.stt_model x2 e2 st2 pc2) (ap (λ t. t ∷ []) h) in
-      let v = visible_none d.stt_model in
-      let u = untainted_sources d.stt_model [] e v in
-      same_entry e e2 h (known_outcome e.item.kind d.stt_model [] e e2 s.0.outcomes (off (is_load e.item.kind) _ _ v u))
+      let u = untainted_sources d.stt_model [] e refl in
+      same_entry e e2 h (known_outcome e.item.kind d.stt_model [] e e2 s.0.outcomes (off (is_load e.item.kind) _ _ refl u))
     where
       off : (l v u : Bool) → v ≡ true → u ≡ false → (l && not v || u) ≡ false
       off true true false p q = refl

@@ -26,14 +26,14 @@ use Rattle.noninterference.proofs.Cycle.{cycle_tells_nothing}
 
 module _ (d : Desc) (code : Code) (total : ℕ) (aligned : Aligned code) where
   -- what has retired stays so
-  retired_stays : (n : ℕ) (x : Machine) → (x.end ≡ None → Consistent code x) → x.retired ≤ (after_cycles d code n x).retired
+  retired_stays : (n : ℕ) (x : Machine) → (x.end ≡ None → Consistent d code x) → x.retired ≤ (after_cycles d code n x).retired
   retired_stays zero x f = omega arith
   retired_stays (suc n) x f = by_end x.end refl (λ g. retired_stays n (cycle d code x).machine g)
     where
       c : Machine
       c = (cycle d code x).machine
 
-      by_end : (o : Option End) → x.end ≡ o → ((c.end ≡ None → Consistent code c) → c.retired ≤ (after_cycles d code n c).retired) → x.retired ≤ (unless_ended o x (after_cycles d code n c)).retired
+      by_end : (o : Option End) → x.end ≡ o → ((c.end ≡ None → Consistent d code c) → c.retired ≤ (after_cycles d code n c).retired) → x.retired ≤ (unless_ended o x (after_cycles d code n c)).retired
       by_end (Some e) q more = omega arith
       by_end None q more =
           let up = (cycle_commits d code x aligned (f q) q).rises in

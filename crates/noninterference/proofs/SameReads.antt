@@ -9,17 +9,18 @@ use Rattle.rv_types.specs.Path.{loads_at}
 use Rattle.rv_types.specs.declared.Kind.TheVariants.{Load}
 use Rattle.machine_desc.specs.declared.SttModel.{SttModel}
 use Rattle.window_model.specs.declared.Entry.{Entry}
-use Rattle.window_model.specs.declared.State.{State}
-use Rattle.window_model.specs.declared.State.TheVariants.{Waiting, Busy, Done}
+use Rattle.window_model.specs.declared.Progress.{Progress}
+use Rattle.window_model.specs.declared.Progress.TheVariants.{Waiting, Busy, Done}
 use Rattle.window_model.specs.State.{Machine}
 use Rattle.window_model.specs.Order.{is_load}
-use Rattle.window_model.specs.Retire.{hart_of, op_of}
+use Rattle.window_model.specs.Retire.{hart_of}
 use Rattle.window_model.specs.Taint.{visible}
 use Rattle.window_model.specs.Front.{at_once}
 use Rattle.window_model.specs.Committed.{Aligned}
 use Rattle.window_model.specs.Path.{path}
 use Rattle.window_model.proofs.Lists.{each_left}
-use Rattle.committed_state.specs.Replay.{Bank, bank, effect_on, replayed_as}
+use Rattle.committed_state.specs.Replay.{Bank, bank, effect_on, replayed, replayed_as}
+use Rattle.committed_state.proofs.Known.{replayed_behind}
 use Rattle.committed_state.specs.Consistent.{FitsState, bank_in}
 use Rattle.noninterference.specs.Alike.{without_outcome}
 use Rattle.noninterference.specs.Outcomes.{SameOutcomes}
@@ -31,10 +32,10 @@ use Rattle.noninterference.proofs.OneRun.{OneRun, older}
 use Rattle.noninterference.proofs.Onward.{leads_on}
 use Rattle.noninterference.proofs.PathLink.{leads_to}
 use Rattle.noninterference.proofs.Faults.{hart}
-use Rattle.noninterference.proofs.Replays.{same_replay}
+use Rattle.noninterference.proofs.Replays.{same_outcome}
 
 -- the same entries have been issued
-issued_alike : (st : State) (e e2 : Entry) → FitsState st e → FitsState st e2 → at_once e.item.kind ≡ at_once e2.item.kind → is_some e.outcome ≡ is_some e2.outcome
+issued_alike : (st : Progress) (e e2 : Entry) → FitsState st e → FitsState st e2 → at_once e.item.kind ≡ at_once e2.item.kind → is_some e.outcome ≡ is_some e2.outcome
 issued_alike Waiting e e2 f f2 k = ap is_some (f.0 ∙ sym f2.0)
 issued_alike (Busy due) e e2 f f2 k = f.0 ∙ sym f2.0
 issued_alike Done e e2 f f2 k = f.0 ∙ ap not k ∙ sym f2.0
@@ -57,8 +58,8 @@ module _ (model : SttModel) (code : Code) (aligned : Aligned code) (x x2 : Machi
   visible_load b b2 e e2 lt w w2 l h i v v2 k =
       let t = hart e.item.pc (bank s b) in
       let t2 = hart e2.item.pc (bank s2 b2) in
-      let one = leads_to model code aligned s x.pc b e.item.pc w.stands.1 w.linked.1 w.stands.0.through v w.linked.0 in
-      let two = leads_to model code aligned s2 x2.pc b2 e2.item.pc w2.stands.1 w2.linked.1 w2.stands.0.through v2 w2.linked.0 in
+      let one = leads_to model code aligned s n x.pc b e.item.pc w.stands.1 w.linked.1 w.stands.0.through v w.linked.0 in
+      let two = leads_to model code aligned s2 n2 x2.pc b2 e2.item.pc w2.stands.1 w2.linked.1 w2.stands.0.through v2 w2.linked.0 in
       let there = leads_on model code 1 (length b) (hart_of x) (hart_of x2) t t2 (in_step (length b + 1) lt) one (rw l two) in
       let f : effect_on (bank s b) e ≡ effect_on (bank s2 b2) e2 = (let g = there.regs in let q = ap (λ (x : Entry). x.item) h in cc) in
       let word = word_of code e is_load w.stands.0.item (λ c. refl) k in
@@ -66,12 +67,12 @@ module _ (model : SttModel) (code : Code) (aligned : Aligned code) (x x2 : Machi
       let kl2 : e2.item.kind ≡ Load = sym (ap (λ (x : Entry). x.item.kind) h) ∙ kl in
       let q = ap (λ o. loads_at o t) word.1 ∙ is_load_instr (decode word.0) (sym word.3 ∙ kl) (bank s b) e word.2 in
       let bytes = subst (All (λ a. byte (bank s b).ram a ≡ byte (bank s2 b2).ram a)) q (each_left _ (loads_at (code e.item.pc) t) _ there.bytes) in
-      let same = load_same (bank s b) (bank s2 b2) e e2 there.place (ap (λ (x : Entry). op_of x.item.instr) h) f bytes in
-      same_replay e.outcome e2.outcome (bank s b) (bank s2 b2) e e2 i w.stands.0.replayed w2.stands.0.replayed
-      (λ y y2. ap (λ k. replayed_as k (bank s b) e) kl ∙ same ∙ ap (λ k. replayed_as k (bank s2 b2) e2) (sym kl2))
+      let same = load_same (bank s b) (bank s2 b2) e e2 there.place (ap (λ (x : Entry). x.item.instr) h) f bytes in
+      same_outcome e.outcome e2.outcome (replayed (bank s b) e) (replayed (bank s2 b2) e2) i (replayed_behind code s n (e ∷ b) w.stands).0 (replayed_behind code s2 n2 (e2 ∷ b2) w2.stands).0
+      (λ y. ap (λ k. replayed_as k (bank s b) e) kl ∙ same ∙ ap (λ k. replayed_as k (bank s2 b2) e2) (sym kl2))
 
   derived : (b b2 : List Entry) → One b → Two b2 → AllSameReads model b b2 → SameOutcomes model b b2
-  derived b b2 w w2 a = let now = in_step 0 (omega arith) in derive model code x x2 n n2 now.regs now.place b b2 a w w2
+  derived b b2 w w2 a = let now = in_step 0 (omega arith) in derive model code x x2 now.regs now.place b b2 a w w2
 
   same_reads : (b b2 : List Entry) → length b ≤ limit → One b → Two b2 → map without_outcome b ≡ map without_outcome b2 → AllSameReads model b b2
   same_reads [] [] lt w w2 h = tt

@@ -56,7 +56,7 @@ module _ (d : Desc) (code : Code) (total : ℕ) where
 
   -- what follows a turn
   abbrev pub Follows : (Machine → Retired) → Type 0
-  Follows more = (y y2 : Machine) → y.end ≡ None → Consistent code y → Consistent code y2 → y.retired + length y.window ≤ total → Alike y y2 → InStepUpTo d.stt_model code total y y2 → R (more y) (more y2)
+  Follows more = (y y2 : Machine) → y.end ≡ None → Consistent d code y → Consistent d code y2 → y.retired + length y.window ≤ total → Alike y y2 → InStepUpTo d.stt_model code total y y2 → R (more y) (more y2)
 
   -- a step of both keeps them in step
   in_step_after : (x x2 y y2 : Machine) (p p2 : List ℕ) → InStepUpTo d.stt_model code total x x2 → isa_step code (hart_of x) ≡ Goes (hart_of y) p → isa_step code (hart_of x2) ≡ Goes (hart_of y2) p2 → y.retired ≡ x.retired + 1 → InStepUpTo d.stt_model code total y y2

@@ -39,12 +39,12 @@ ResolveTellsNothing = (d : Desc) (x x2 : Machine) → Alike x x2 → OutcomesAgr
 
 -- nor Retire, where the path of both runs goes on in step past the window
 abbrev pub RetireTellsNothing : Type 0
-RetireTellsNothing = (d : Desc) (code : Code) (total : ℕ) (x x2 : Machine) → Aligned code → x.end ≡ None → Consistent code x → Consistent code x2 → x.retired + length x.window ≤ total → Alike x x2 →
+RetireTellsNothing = (d : Desc) (code : Code) (total : ℕ) (x x2 : Machine) → Aligned code → x.end ≡ None → Consistent d code x → Consistent d code x2 → x.retired + length x.window ≤ total → Alike x x2 →
     InStepUpTo d.stt_model code total x x2 → RetiresAlike d.stt_model code total (retire d x) (retire d x2)
 
 -- nor Issue, which also looks at memory's place
 abbrev pub IssueTellsNothing : Type 0
-IssueTellsNothing = (d : Desc) (code : Code) (x x2 : Machine) → Consistent code x → Alike x x2 → OutcomesAgree d.stt_model x x2 → SameShape x.ram x2.ram → TellsNothing (issue d x) (issue d x2)
+IssueTellsNothing = (d : Desc) (code : Code) (x x2 : Machine) → Consistent d code x → Alike x x2 → OutcomesAgree d.stt_model x x2 → SameShape x.ram x2.ram → TellsNothing (issue d x) (issue d x2)
 
 -- nor Rename
 abbrev pub RenameTellsNothing : Type 0

@@ -13,7 +13,7 @@ use Rattle.noninterference.specs.InStep.{InStepUpTo}
 
 -- what each run keeps for itself
 pub record OwnFacts (d : Desc) (code : Code) (x : Machine) : Type 0 where
-  pub consistent : Consistent code x
+  pub consistent : Consistent d code x
   pub guarded : AllGuarded d.stt_model x.window
   pub fits : length x.window ≤ d.core_rob
 

@@ -20,15 +20,17 @@ use Rattle.lsq.specs.Queues.{known_at, older, youngest_root}
 use Rattle.visibility.specs.Point.{Point, HasAdvanced, is_hidden}
 use Rattle.parts_stand.specs.Parts.{Parts, Stand, RootsStand, oldest_of}
 use Rattle.parts_stand.specs.Steps.{GoesOn}
-use Rattle.parts_stand.specs.Addresses.{Addressed, AddressesAdd, AddressesAddOther, AddressesGoOn, AddressesKnow, AddressesOpen, AddressesRetire, AddressesSquash, AddressesStand, TellsStores, address_in, addresses_of, base_root}
+use Rattle.parts_stand.specs.Addresses.{Addressed, AddressesStand, TellsStores, address_in, addresses_of, base_root}
 use Rattle.window_model.specs.Serials.{Rise}
 use Rattle.window_model.proofs.Serials.{Falls, place_of, rise_head, splits}
 use Rattle.parts_stand.proofs.Youngest.{Tells, map_same, map_twice}
 use Rattle.parts_stand.proofs.Tables.{as_many, keeps_all}
 use Rattle.parts_stand.proofs.Standing.{halves, keeps_older, take_first, take_length}
 use Rattle.parts_stand.proofs.Answering.{operands_told, told}
+use Rattle.lsq.specs.declared.store.Known.{Known}
 
-pub addresses_open : AddressesOpen
+-- no stores, and no entries
+pub addresses_open : AddressesStand [] [] []
 addresses_open = refl
 
 addresses_join : (a b : List Entry) (ra rb : List (List (Option ℕ))) → length ra ≡ length a → addresses_of (a ++ b) (ra ++ rb) ≡ addresses_of a ra ++ addresses_of b rb
@@ -70,13 +72,17 @@ addresses_push : (p : Parts) (stores : List Store) (e : Entry) (rs : List (Optio
 addresses_push p stores e rs s h =
     addresses_join p.window (e ∷ []) p.roots (rs ∷ []) (as_many (oldest_of p.next p.window) [] p.window p.roots s.roots) ∙ ap (λ ads. ads ++ addresses_of (e ∷ []) (rs ∷ [])) (sym h)
 
-pub addresses_add : AddressesAdd
+-- a store is renamed
+pub addresses_add : (p : Parts) (stores : List Store) (e : Entry) (rs : List (Option ℕ)) → Stand p → AddressesStand p.window p.roots stores → is_store e.item.kind ≡ true →
+    AddressesStand (p.window ++ e ∷ []) (p.roots ++ rs ∷ []) (stores ++ record { serial = e.serial; root = base_root rs; known = None } ∷ [])
 addresses_add p stores e rs s h t =
     map-append address_in stores (record { serial = e.serial; root = base_root rs; known = None } ∷ [])
     ∙ ap (λ b. map address_in stores ++ (if b then record { serial = e.serial; root = base_root rs } ∷ [] else [])) (sym t)
     ∙ sym (addresses_push p stores e rs s h)
 
-pub addresses_add_other : AddressesAddOther
+-- another entry is
+pub addresses_add_other : (p : Parts) (stores : List Store) (e : Entry) (rs : List (Option ℕ)) → Stand p → AddressesStand p.window p.roots stores → is_store e.item.kind ≡ false →
+    AddressesStand (p.window ++ e ∷ []) (p.roots ++ rs ∷ []) stores
 addresses_add_other p stores e rs s h t =
     sym (append-nil (map address_in stores))
     ∙ ap (λ b. map address_in stores ++ (if b then record { serial = e.serial; root = base_root rs } ∷ [] else [])) (sym t)
@@ -107,7 +113,9 @@ retire_addresses f (x ∷ es) (rs ∷ roots) stores h r s a q =
         ap (λ b. cond (not b) (v ∷ filter (λ (a : Addressed). not (a.serial == h.serial)) (addresses_of es roots)) (filter (λ (a : Addressed). not (a.serial == h.serial)) (addresses_of es roots))) f ∙ others
     by_store false = others
 
-pub addresses_retire : AddressesRetire
+-- the oldest entry retires
+pub addresses_retire : (p : Parts) (stores : List Store) (head : Entry) → Stand p → AddressesStand p.window p.roots stores → slice_get p.window 0 ≡ Some head →
+    AddressesStand (drop 1 p.window) (drop 1 p.roots) (filter (λ s. not (s.serial == head.serial)) stores)
 addresses_retire p stores head s a h = retire_addresses (oldest_of p.next p.window) p.window p.roots stores head s.rise s.roots a h
 
 -- of the entries below a serial
@@ -125,7 +133,9 @@ addresses_below p stores first s a =
     ∙ keeps_older (λ (a : Addressed). a.serial) first (addresses_of (below first p.window) (take (length (below first p.window)) p.roots)) (addresses_of t.gone (drop (length (below first p.window)) p.roots))
     (addresses_have (λ n. n < first) (below first p.window) (take (length (below first p.window)) p.roots) t.older) (addresses_have (λ n. first ≤ n) t.gone (drop (length (below first p.window)) p.roots) t.younger)
 
-pub addresses_squash : AddressesSquash
+-- the entries from a serial on are dropped
+pub addresses_squash : (p : Parts) (stores : List Store) (first : ℕ) → Stand p → AddressesStand p.window p.roots stores →
+    AddressesStand (below first p.window) (take (length (below first p.window)) p.roots) (filter (λ s. nat_lt s.serial first) stores)
 addresses_squash p stores first s a = addresses_below p stores first s a
 
 same_addresses : (es es2 : List Entry) (roots : List (List (Option ℕ))) → AllZip GoesOn es es2 → addresses_of es2 roots ≡ addresses_of es roots
@@ -137,10 +147,14 @@ same_addresses (e ∷ es) (e2 ∷ es2) (rs ∷ roots) v =
     ap₂ (λ (s : ℕ) (i : Item). if is_store i.kind then record { serial = s; root = base_root rs } ∷ addresses_of es2 roots else addresses_of es2 roots) v.0.serial v.0.item
     ∙ ap (λ ads. if is_store e.item.kind then record { serial = e.serial; root = base_root rs } ∷ ads else ads) (same_addresses es es2 roots v.1)
 
-pub addresses_go_on : AddressesGoOn
+-- entries go on
+pub addresses_go_on : (p : Parts) (stores : List Store) (window : List Entry) → AddressesStand p.window p.roots stores → AllZip GoesOn p.window window →
+    AddressesStand window p.roots stores
 addresses_go_on p stores window a v = a ∙ sym (same_addresses p.window window p.roots v)
 
-pub addresses_know : AddressesKnow
+-- a store becomes known
+pub addresses_know : (p : Parts) (stores : List Store) (serial : ℕ) (known : Known) → AddressesStand p.window p.roots stores →
+    AddressesStand p.window p.roots (map (known_at serial known) stores)
 addresses_know p stores serial known a = map_twice address_in (known_at serial known) stores ∙ map_same (λ s. address_in (known_at serial known s)) address_in stores each ∙ a
   where
     by_test : (b : Bool) (s : Store) → address_in (if b then record s { known = Some known } else s) ≡ address_in s

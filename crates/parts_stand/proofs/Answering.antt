@@ -13,7 +13,8 @@ use Rattle.rv_types.specs.Regs.{two}
 use Rattle.machine_desc.specs.declared.Desc.{Desc}
 use Rattle.window_model.specs.declared.Entry.{Entry}
 use Rattle.window_model.specs.Along.{Along, Behind, Fact}
-use Rattle.window_model.specs.Order.{Place, before_at, first_from, is_control, is_done, is_known, is_waiting, sources, writer}
+use Rattle.window_model.specs.Around.{Around, is_free}
+use Rattle.window_model.specs.Order.{Place, before_at, first_from, is_control, is_done, is_known, is_waiting, sources, writer, writes}
 use Rattle.window_model.specs.Resolve.{may_resolve}
 use Rattle.window_model.specs.Issue.{may_issue_as, stores_done}
 use Rattle.window_model.specs.Taint.{tainted, any_tainted, address_tainted, base_of}
@@ -122,22 +123,26 @@ stations_younger window i m e e2 lt h w n =
     let k = fewer window i m e e2 lt h w n in
     omega (arith, a, b, k)
 
-none_awaited : (o : Option Entry) → is_none (awaited_of o) ≡ is_known o
-none_awaited None = refl
-none_awaited (Some e) = by_done (is_done e.state)
+none_awaited : (before : List Entry) (r : ℕ) → is_none (awaited_of (writer before r)) ≡ is_known before r
+none_awaited [] r = refl
+none_awaited (e ∷ before) r = by_writer (writes r e) (none_awaited before r)
   where
-    by_done : (b : Bool) → is_none (if b then None else Some e.serial) ≡ b
+    by_done : (d : Bool) → is_none (if d then None else Some e.serial) ≡ d
     by_done true = refl
     by_done false = refl
+
+    by_writer : (w : Bool) → is_none (awaited_of (writer before r)) ≡ is_known before r → is_none (awaited_of (if w then Some e else writer before r)) ≡ (if w then is_done e.state else is_known before r)
+    by_writer true h = by_done (is_done e.state)
+    by_writer false h = h
 
 and_true : (b : Bool) → (b && true) ≡ b
 and_true true = refl
 and_true false = refl
 
-ready_by : (before : List Entry) (rs : List ℕ) → length rs ≤ 2 → list_all is_none (map (awaited before) (two rs)) ≡ list_all (λ r. is_known (writer before r)) rs
+ready_by : (before : List Entry) (rs : List ℕ) → length rs ≤ 2 → list_all is_none (map (awaited before) (two rs)) ≡ list_all (is_known before) rs
 ready_by before [] le = refl
-ready_by before (a ∷ []) le = ap (λ b. b && true) (none_awaited (writer before a))
-ready_by before (a ∷ b ∷ []) le = ap₂ (λ p q. p && (q && true)) (none_awaited (writer before a)) (none_awaited (writer before b))
+ready_by before (a ∷ []) le = ap (λ b. b && true) (none_awaited before a)
+ready_by before (a ∷ b ∷ []) le = ap₂ (λ p q. p && (q && true)) (none_awaited before a) (none_awaited before b)
 ready_by before (a ∷ b ∷ c ∷ rs) le = absurd (omega (arith, le))
 
 awaits_as : (o : Option Station) → option_map awaits_none o ≡ option_map (λ (w : Waiter). list_all is_none w.awaits) (option_map waiter_in o)
@@ -222,14 +227,14 @@ tells_operands p point i e roots s m h k = by_window p.window s.rise m h (roots_
         let t = told point p.next d es r m in
         operands_told point d.serial (before_at (d ∷ es) i) e roots (behind_at (Tells point) [] (d ∷ es) i tt t.tells) (behind_at Falls [] (d ∷ es) i tt t.falls) t.retired k
 
-issue_by : (d : Desc) (point : Point) (before : List Entry) (e : Entry) (roots : List (Option ℕ)) (free : Bool) → point.model ≡ d.stt_model → OperandsTold point before e roots → (k : Kind) →
-    may_issue_as k d free before e ≡ (may_transmit k point.serial roots && asks_besides k free before)
-issue_by d point before e roots free q t Load = ap (λ b. not b && stores_done before) (ap (λ m. address_tainted m before e) (sym q) ∙ sym t.base)
-issue_by d point before e roots free q t Div = ap (λ b. not b && free) (ap (λ m. any_tainted m before e) (sym q) ∙ sym t.any)
-issue_by d point before e roots free q t _ = refl
+issue_by : (d : Desc) (point : Point) (before : List Entry) (e : Entry) (roots : List (Option ℕ)) (now : Around) → point.model ≡ d.stt_model → OperandsTold point before e roots → (k : Kind) →
+    may_issue_as k d now before e ≡ (may_transmit k point.serial roots && asks_besides k (is_free now) before)
+issue_by d point before e roots now q t Load = ap (λ b. not b && stores_done before) (ap (λ m. address_tainted m before e) (sym q) ∙ sym t.base)
+issue_by d point before e roots now q t Div = ap (λ b. not b && is_free now) (ap (λ m. any_tainted m before e) (sym q) ∙ sym t.any)
+issue_by d point before e roots now q t _ = refl
 
 pub tells_issue : TellsIssue
-tells_issue d p point i e roots free s m q h k = issue_by d point (before_at p.window i) e roots free q (tells_operands p point i e roots s m h k) e.item.kind
+tells_issue d p point i e roots now s m q h k = issue_by d point (before_at p.window i) e roots now q (tells_operands p point i e roots s m h k) e.item.kind
 
 -- ---- the entry that resolves
 

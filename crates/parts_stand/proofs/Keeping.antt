@@ -9,7 +9,7 @@ use mathlib.Core.List.{reverse_aux}
 use Rattle.rv_types.specs.Regs.{reads_of, writes_of, two}
 use Rattle.window_model.specs.declared.Entry.{Entry}
 use Rattle.window_model.specs.declared.Item.{Item}
-use Rattle.window_model.specs.declared.State.TheVariants.{Done}
+use Rattle.window_model.specs.declared.Progress.TheVariants.{Done}
 use Rattle.window_model.specs.Order.{is_waiting, is_done, is_register, writer, writes, sources}
 use Rattle.window_model.proofs.Counts.{count}
 use Rattle.window_model.proofs.EntryByEntry.{zip_same}

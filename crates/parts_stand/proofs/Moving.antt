@@ -10,7 +10,7 @@ use Rattle.machine_desc.specs.declared.SttModel.{SttModel}
 use Rattle.machine_desc.specs.declared.SttModel.TheVariants.{Spectre, Futuristic}
 use Rattle.window_model.specs.declared.Entry.{Entry}
 use Rattle.window_model.specs.declared.Outcome.{Outcome}
-use Rattle.window_model.specs.declared.State.TheVariants.{Done}
+use Rattle.window_model.specs.declared.Progress.TheVariants.{Done}
 use Rattle.window_model.specs.Order.{is_control, is_done, is_faulty, is_waiting}
 use Rattle.window_model.specs.Issue.{begun}
 use Rattle.window_model.specs.Taint.{safe_as}
@@ -18,10 +18,11 @@ use Rattle.window_model.proofs.Booleans.{both, waiting_done}
 use Rattle.rob_ring.specs.Ring.{below}
 use Rattle.visibility.specs.Point.{Point, HasMoved, moved_over, next_after, passes}
 use Rattle.visibility.proofs.Moving.{has_advanced}
-use Rattle.visibility.proofs.Stopping.{unresolved_fails}
-use Rattle.parts_stand.specs.Points.{Below, PointAdvances, PointCompletes, PointIssues, PointOpens, PointRenames, PointResolves, PointRetires, PointSquashes, PointStands, PointStops}
+use Rattle.window_model.proofs.Passing.{passes_begun, passes_done, passes_resolved, unresolved_fails}
+use Rattle.parts_stand.specs.Points.{Below, PointStands}
 use Rattle.window_model.specs.Serials.{Rise}
 use Rattle.window_model.proofs.Serials.{all_at, all_left, none_below, rise_head, rise_tail, splits}
+use Rattle.std.specs.Prelude.{drop}
 
 -- an entry below the point passes
 abbrev Passes : Point → Entry → Type 0
@@ -31,7 +32,8 @@ Passes p e = e.serial < p.serial → passes p.model e ≡ true
 abbrev Unresolved : Entry → Type 0
 Unresolved e = is_waiting e.state ≡ true → e.resolved ≡ false
 
-pub point_opens : PointOpens
+-- with nothing in flight
+pub point_opens : (model : SttModel) (next : ℕ) → PointStands (record { serial = 0; model = model }) next []
 point_opens model next = record {
   can = record { passed = All-nil (Passes (record { serial = 0; model = model })); near = omega arith };
   past = omega arith;
@@ -70,7 +72,9 @@ next_below s (x ∷ es) (suc i) e r h =
 
 -- ---- it moves, and entries come and go
 
-pub point_advances : PointAdvances
+-- it moves
+pub point_advances : (point : Point) (next : ℕ) (window : List Entry) → PointStands point next window → Rise window → Below next window →
+    PointStands (moved_over window point) next window
 point_advances point next [] s r b = record {
   can = record { passed = All-nil (Passes (moved_over [] point)); near = omega arith };
   past = s.past;
@@ -82,7 +86,9 @@ point_advances point next (e ∷ es) s r b =
     let least = next_least next (moved_over (e ∷ es) point).serial e es b in
     record { can = m.again; past = omega (arith, near, least); unresolved = s.unresolved }
 
-pub point_renames : PointRenames
+-- an entry with the next serial is renamed
+pub point_renames : (point : Point) (next : ℕ) (window : List Entry) (e : Entry) → PointStands point next window → e.serial ≡ next → e.resolved ≡ false →
+    PointStands point (next + 1) (window ++ e ∷ [])
 point_renames point next window e s is u =
     let past = s.past in
     let after = next_push point.serial window e in
@@ -95,7 +101,8 @@ point_renames point next window e s is u =
       unresolved = All-push Unresolved window e s.unresolved (λ w. u);
     }
 
-pub point_retires : PointRetires
+-- the oldest retires
+pub point_retires : (point : Point) (next : ℕ) (window : List Entry) → PointStands point next window → PointStands point next (drop 1 window)
 point_retires point next [] s = s
 point_retires point next (e ∷ es) s = record {
   can = record { passed = All-tail (Passes point) e es s.can.passed; near = by_rest es s.can.near };
@@ -123,64 +130,28 @@ sets point next window i e e2 s h q p u =
       unresolved = All-set Unresolved window i e2 u s.unresolved;
     }
 
--- what waits and passes still does once it has issued
-issued_as : (k : Kind) (e : Entry) (due : ℕ) (o : Outcome) → is_done e.state ≡ false → e.resolved ≡ false → safe_as k e ≡ true → safe_as k (begun e due o) ≡ true
-issued_as Load e due o d u h = let b = (both (is_done e.state) (not (is_faulty e)) h).0 in absurd (cc)
-issued_as Store e due o d u h = let b = (both (is_done e.state) (not (is_faulty e)) h).0 in absurd (cc)
-issued_as Branch e due o d u h = let b = (both e.resolved (not (is_faulty e)) h).0 in absurd (cc)
-issued_as Jalr e due o d u h = let b = (both e.resolved (not (is_faulty e)) h).0 in absurd (cc)
-issued_as Call e due o d u h = h
-issued_as (Stop cause) e due o d u h = h
-issued_as _ e due o d u h = refl
-
-issued : (m : SttModel) (e : Entry) (due : ℕ) (o : Outcome) → is_done e.state ≡ false → e.resolved ≡ false → passes m e ≡ true → passes m (begun e due o) ≡ true
-issued Spectre e due o d u h = h
-issued Futuristic e due o d u h = issued_as e.item.kind e due o d u h
-
-done_as : (k : Kind) (e : Entry) → safe_as k e ≡ true → safe_as k (record e { state = Done }) ≡ true
-done_as Load e h = (both (is_done e.state) (not (is_faulty e)) h).1
-done_as Store e h = (both (is_done e.state) (not (is_faulty e)) h).1
-done_as Branch e h = h
-done_as Jalr e h = h
-done_as Call e h = h
-done_as (Stop cause) e h = h
-done_as _ e h = refl
-
-done : (m : SttModel) (e : Entry) → passes m e ≡ true → passes m (record e { state = Done }) ≡ true
-done Spectre e h = h
-done Futuristic e h = done_as e.item.kind e h
-
-resolved_as : (k : Kind) (e : Entry) → safe_as k e ≡ true → safe_as k (record e { resolved = true }) ≡ true
-resolved_as Load e h = h
-resolved_as Store e h = h
-resolved_as Branch e h = (both e.resolved (not (is_faulty e)) h).1
-resolved_as Jalr e h = (both e.resolved (not (is_faulty e)) h).1
-resolved_as Call e h = h
-resolved_as (Stop cause) e h = h
-resolved_as _ e h = refl
-
-resolved : (m : SttModel) (e : Entry) → passes m e ≡ true → passes m (record e { resolved = true }) ≡ true
-resolved Spectre e h = or_true (not (is_control e.item.kind))
-  where
-    or_true : (b : Bool) → (b || true) ≡ true
-    or_true true = refl
-    or_true false = refl
-resolved Futuristic e h = resolved_as e.item.kind e h
-
-pub point_issues : PointIssues
+-- an entry issues
+pub point_issues : (point : Point) (next : ℕ) (window : List Entry) (i due : ℕ) (e : Entry) (o : Outcome) → PointStands point next window →
+    slice_get window i ≡ Some e → is_waiting e.state ≡ true → PointStands point next (slice_set window i (begun e due o))
 point_issues point next window i due e o s h w =
     let u = all_at Unresolved window i e s.unresolved h w in
-    sets point next window i e (begun e due o) s h refl (issued point.model e due o (waiting_done e.state w) u) (λ w. absurd (cc))
+    sets point next window i e (begun e due o) s h refl (λ p. passes_begun point.model e due o w u ∙ p) (λ w. absurd (cc))
 
-pub point_completes : PointCompletes
-point_completes point next window i e s h = sets point next window i e (record e { state = Done }) s h refl (done point.model e) (λ w. absurd (cc))
+-- it becomes Done
+pub point_completes : (point : Point) (next : ℕ) (window : List Entry) (i : ℕ) (e : Entry) → PointStands point next window →
+    slice_get window i ≡ Some e → PointStands point next (slice_set window i (record e { state = Done }))
+point_completes point next window i e s h = sets point next window i e (record e { state = Done }) s h refl (passes_done point.model e) (λ w. absurd (cc))
 
-pub point_resolves : PointResolves
-point_resolves point next window i e s h w = sets point next window i e (record e { resolved = true }) s h refl (resolved point.model e) (λ v. absurd (cc))
+-- it is resolved
+pub point_resolves : (point : Point) (next : ℕ) (window : List Entry) (i : ℕ) (e : Entry) → PointStands point next window →
+    slice_get window i ≡ Some e → is_waiting e.state ≡ false → PointStands point next (slice_set window i (record e { resolved = true }))
+point_resolves point next window i e s h w = sets point next window i e (record e { resolved = true }) s h refl (passes_resolved point.model e) (λ v. absurd (cc))
 
 -- ---- a branch or JALR that is not resolved
 
-pub point_stops : PointStops
+-- the point isn't past a branch or JALR that is not resolved
+pub point_stops : (point : Point) (next : ℕ) (window : List Entry) (i : ℕ) (e : Entry) → PointStands point next window →
+    slice_get window i ≡ Some e → is_control e.item.kind ≡ true → e.resolved ≡ false → point.serial ≤ e.serial
 point_stops point next window i e s h c u = by_test (nat_le point.serial e.serial) refl
   where
     by_test : (b : Bool) → nat_le point.serial e.serial ≡ b → point.serial ≤ e.serial
@@ -191,7 +162,9 @@ point_stops point next window i e s h c u = by_test (nat_le point.serial e.seria
         let f = unresolved_fails point.model e c u in
         absurd (cc)
 
-pub point_squashes : PointSquashes
+-- so all that is younger than such an entry can be dropped
+pub point_squashes : (point : Point) (next : ℕ) (window : List Entry) (i : ℕ) (e : Entry) → PointStands point next window → Rise window →
+    slice_get window i ≡ Some e → point.serial ≤ e.serial → PointStands point next (below (e.serial + 1) window)
 point_squashes point next window i e s r h le =
     let t = splits (e.serial + 1) window r in
     let after = next_below point.serial window i e r h in

@@ -7,7 +7,7 @@ use Rattle.std.proofs.lemmas.List.{map-append, append-nil, length-append}
 use Rattle.std.proofs.lemmas.List.Elements.{All-nil, All-head, All-tail, All-weaker, All-push, filter-append}
 use Rattle.rv_types.specs.Regs.{two}
 use Rattle.window_model.specs.declared.Entry.{Entry}
-use Rattle.window_model.specs.declared.State.TheVariants.{Done}
+use Rattle.window_model.specs.declared.Progress.TheVariants.{Done}
 use Rattle.window_model.specs.Order.{is_waiting, is_done, sources}
 use Rattle.window_model.specs.Issue.{begun}
 use Rattle.window_model.proofs.Booleans.{done_waits, waiting_done}
@@ -18,15 +18,20 @@ use Rattle.rename_taint.specs.Writes.{root_at, root_of, without_retired, before_
 use Rattle.stations.specs.Stations.{Station, struck}
 use Rattle.parts_stand.specs.Roots.{youngest_root, root_of_source, source_roots, unretired}
 use Rattle.parts_stand.specs.Parts.{Stand, RootsStand, Waiter, oldest_of, waiter_in, waiter_of, waiters_from, writes_in}
-use Rattle.parts_stand.specs.Steps.{GoesOn, OpensEmpty, RenamesIn, RetiresHead, SquashesFrom, EntriesGoOn, ChangesUnseen, CompletesAt, IssuesAt, seated, station_of}
+use Rattle.parts_stand.specs.Steps.{GoesOn, seated, station_of}
 use Rattle.window_model.specs.Serials.{Rise}
 use Rattle.window_model.proofs.Serials.{rise_nil, rise_head, rise_tail, rise_push, rise_left, all_left, splits}
 use Rattle.parts_stand.proofs.Serials.{oldest_least}
 use Rattle.parts_stand.proofs.Youngest.{map_same, map_twice}
 use Rattle.parts_stand.proofs.Tables.{root_is, as_many, writes_join, writes_one, writes_have, keeps_all, keeps_none, without_head}
 use Rattle.parts_stand.proofs.Keeping.{roots_push, roots_left, roots_rest, roots_on, writes_on, all_on, rise_on, oldest_on, goes_same, zip_set, waiters_join, waiters_have, waiters_rest, Steady, Still, still_same, still_goes, waiters_still, map_remove, waiters_issue, struck_waiter, set_done, alone, waiters_done}
+use Rattle.parts_stand.specs.Steps.{empty, with_entry}
+use Rattle.parts_stand.specs.Parts.{Parts, awaits_of}
+use Rattle.std.specs.List.{AllZip}
+use Rattle.window_model.specs.declared.Outcome.{Outcome}
 
-pub opens_empty : OpensEmpty
+-- empty parts stand for the empty window
+pub opens_empty : (next : ℕ) → Stand (empty next)
 opens_empty next = record { rise = rise_nil; next = All-nil (λ e. e.serial < next); roots = tt; writes = refl; held = refl }
 
 -- ---- an entry is renamed
@@ -53,7 +58,10 @@ asked f before ws os h = map_twice (unretired f) (root_at ws) os ∙ map_same (�
     each None = refl
     each (Some r) = h r
 
-pub renames_in : RenamesIn
+-- an entry with the next serial is renamed, with the roots that the table names for its sources
+pub renames_in : (p : Parts) (e : Entry) (roots awaits : List (Option ℕ)) (place : ℕ) → Stand p → e.serial ≡ p.next →
+    roots ≡ map (root_at p.writes) (two (sources e)) → awaits ≡ awaits_of (reverse p.window) e →
+    Stand (with_entry place roots awaits e p)
 renames_in p e roots awaits place s is rs aw =
     let w = p.window in
     let f = oldest_of p.next p.window in
@@ -99,7 +107,9 @@ retires next (x ∷ es) (rs ∷ roots) ws held h s q d =
           s.held ∙ ap (λ b. if b then waiter_of [] x ∷ waiters_from (x ∷ []) es else waiters_from (x ∷ []) es) (done_waits x.state done) ∙ waiters_rest [] es x done;
     }
 
-pub retires_head : RetiresHead
+-- the oldest entry, which is Done, retires
+pub retires_head : (p : Parts) (head : Entry) → Stand p → slice_get p.window 0 ≡ Some head → is_done head.state ≡ true →
+    Stand (record p { window = drop 1 p.window; roots = drop 1 p.roots; writes = without_retired head.serial p.writes })
 retires_head p h s q d = retires p.next p.window p.roots p.writes p.held h s q d
 
 -- ---- entries are dropped
@@ -169,7 +179,14 @@ squashes next first older gone ro rg ws held s n a b = record {
         of_none (r ∷ ro) k = absurd k
     by_older (e ∷ older) k = k
 
-pub squashes_from : SquashesFrom
+-- the entries from a serial on are dropped
+pub squashes_from : (p : Parts) (first : ℕ) → Stand p →
+    Stand (record p {
+      window = below first p.window;
+      roots = take (length (below first p.window)) p.roots;
+      writes = before_serial first p.writes;
+      held = filter (λ s. nat_lt s.serial first) p.held;
+    })
 squashes_from p first s =
     let t = splits first p.window s.rise in
     let n = length (below first p.window) in
@@ -183,7 +200,9 @@ squashes_from p first s =
 
 -- ---- entries go on
 
-pub go_on : EntriesGoOn
+-- entries go on, and the stations are those of the entries that then wait
+pub go_on : (p : Parts) (window : List Entry) (held : List Station) → Stand p → AllZip GoesOn p.window window →
+    map waiter_in held ≡ waiters_from [] window → Stand (record p { window = window; held = held })
 go_on p window held s v h = record {
   rise = rise_on p.window window v s.rise;
   next = all_on (λ n. n < p.next) p.window window v s.next;
@@ -192,7 +211,9 @@ go_on p window held s v h = record {
   held = h;
 }
 
-pub changes_unseen : ChangesUnseen
+-- an entry's outcome or mark changes, as where a branch is resolved
+pub changes_unseen : (p : Parts) (i : ℕ) (e e2 : Entry) → Stand p → slice_get p.window i ≡ Some e → GoesOn e e2 → e2.state ≡ e.state →
+    Stand (record p { window = slice_set p.window i e2 })
 changes_unseen p i e e2 s h g q =
     let still : Still e e2 = record { steady = record { on = g; done = ap is_done q }; waits = ap is_waiting q } in
     let v = zip_set Still still_same p.window i e e2 h still in
@@ -201,14 +222,18 @@ changes_unseen p i e e2 s h g q =
 struck_held : (serial : ℕ) (held : List Station) → map waiter_in (map (struck serial) held) ≡ map (struck_waiter serial) (map waiter_in held)
 struck_held serial held = map_twice waiter_in (struck serial) held ∙ sym (map_twice (struck_waiter serial) waiter_in held)
 
-pub completes_at : CompletesAt
+-- an entry that doesn't wait becomes Done, and the stations are told
+pub completes_at : (p : Parts) (i : ℕ) (e : Entry) → Stand p → slice_get p.window i ≡ Some e → is_waiting e.state ≡ false →
+    Stand (record p { window = slice_set p.window i (record e { state = Done }); held = map (struck e.serial) p.held })
 completes_at p i e s h w =
     let v = zip_set GoesOn goes_same p.window i e (record e { state = Done }) h (record { serial = refl; item = refl }) in
     go_on p (slice_set p.window i (record e { state = Done })) (map (struck e.serial) p.held) s v
     (struck_held e.serial p.held ∙ ap (map (struck_waiter e.serial)) s.held
     ∙ sym (waiters_done e.serial [] p.window (alone p.window i e s.rise h w)) ∙ ap (waiters_from []) (sym (set_done p.window i e s.rise h)))
 
-pub issues_at : IssuesAt
+-- an entry that waits issues, and its station is freed
+pub issues_at : (p : Parts) (i due : ℕ) (e : Entry) (o : Outcome) → Stand p → slice_get p.window i ≡ Some e → is_waiting e.state ≡ true →
+    Stand (record p { window = slice_set p.window i (begun e due o); held = remove p.held (station_of i p.window) })
 issues_at p i due e o s h w =
     let v = zip_set GoesOn goes_same p.window i e (begun e due o) h (record { serial = refl; item = refl }) in
     let steady : Steady e (begun e due o) = record { on = record { serial = refl; item = refl }; done = sym (waiting_done e.state w) } in

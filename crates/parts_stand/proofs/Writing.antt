@@ -16,7 +16,7 @@ use Rattle.parts_stand.specs.Roots.{unretired}
 use Rattle.parts_stand.specs.Parts.{oldest_of}
 use Rattle.parts_stand.specs.Steps.{GoesOn}
 use Rattle.parts_stand.specs.Telling.{source_by}
-use Rattle.parts_stand.specs.Writers.{CountsWriters, TellsWriters, WritersGoOn, WritersOf, WritersOpen, WritersRename, WritersRetire, WritersSquash, WritersStand, if_serial, in_flight, named, serial_in, source_writers, writer_of, writer_of_source}
+use Rattle.parts_stand.specs.Writers.{CountsWriters, TellsWriters, WritersOf, WritersStand, if_serial, in_flight, named, serial_in, source_writers, writer_of, writer_of_source}
 use Rattle.window_model.specs.Serials.{Rise}
 use Rattle.window_model.proofs.Serials.{all_at, none_below, place_of, rise_tail, splits}
 use Rattle.parts_stand.proofs.Serials.{oldest_least}
@@ -25,8 +25,11 @@ use Rattle.parts_stand.proofs.Tables.{stands_in, writer_place}
 use Rattle.parts_stand.proofs.Standing.{halves, oldest_above, oldest_push, take_length}
 use Rattle.parts_stand.proofs.Keeping.{oldest_on}
 use Rattle.parts_stand.proofs.Answering.{names_writer}
+use Rattle.parts_stand.specs.Parts.{Parts, Stand}
+use Rattle.std.specs.Prelude.{◌+◌}
 
-pub writers_open : WritersOpen
+-- nothing in flight
+pub writers_open : (next : ℕ) → WritersOf next [] []
 writers_open next = tt
 
 many : (f : ℕ) (before es : List Entry) (writers : List (List (Option ℕ))) → WritersStand f before es writers → length writers ≡ length es
@@ -47,7 +50,9 @@ push f before [] (w ∷ writers) e ws s h = absurd s
 push f before (x ∷ es) [] e ws s h = absurd s
 push f before (x ∷ es) (w ∷ writers) e ws s h = (s.0, push f (x ∷ before) es writers e ws s.1 h)
 
-pub writers_rename : WritersRename
+-- an entry is renamed, with the writers that the table names for its sources
+pub writers_rename : (p : Parts) (writers : List (List (Option ℕ))) (e : Entry) (ws : List (Option ℕ)) → Stand p → WritersOf p.next p.window writers →
+    e.serial ≡ p.next → ws ≡ map (named p.writes) (two (sources e)) → WritersOf (p.next + 1) (p.window ++ e ∷ []) (writers ++ ws ∷ [])
 writers_rename p writers e ws s k is q =
     subst (λ f. WritersStand f [] (p.window ++ e ∷ []) (writers ++ ws ∷ [])) (sym (oldest_push p.next p.window e is))
     (push (oldest_of p.next p.window) [] p.window writers e ws k
@@ -100,7 +105,8 @@ retire next (x ∷ es) (ws ∷ writers) r b s =
     let above = oldest_above next x es r (All-head (λ e. e.serial < next) x es b) in
     rest x.serial (oldest_of next es) [] es writers x (omega (arith, above)) (All-nil (λ e. oldest_of next es ≤ e.serial)) (oldest_least next es (rise_tail x es r)) above s.1
 
-pub writers_retire : WritersRetire
+-- the oldest entry retires
+pub writers_retire : (p : Parts) (writers : List (List (Option ℕ))) → Stand p → WritersOf p.next p.window writers → WritersOf p.next (drop 1 p.window) (drop 1 writers)
 writers_retire p writers s k = retire p.next p.window writers s.rise s.next k
 
 -- ---- entries are dropped
@@ -116,7 +122,9 @@ dropped next [] gone [] wg n s = tt
 dropped next [] gone (w ∷ wo) wg n s = absurd (omega (arith, n))
 dropped next (e ∷ older) gone wo wg n s = left e.serial [] (e ∷ older) gone wo wg n s
 
-pub writers_squash : WritersSquash
+-- the entries from a serial on are dropped
+pub writers_squash : (p : Parts) (writers : List (List (Option ℕ))) (first : ℕ) → Stand p → WritersOf p.next p.window writers →
+    WritersOf p.next (below first p.window) (take (length (below first p.window)) writers)
 writers_squash p writers first s k =
     let t = splits first p.window s.rise in
     let m = counts_writers p.next p.window writers k in
@@ -153,7 +161,9 @@ on f b b2 (e ∷ es) (e2 ∷ es2) (ws ∷ writers) u v s = (
   on f (e ∷ b) (e2 ∷ b2) es es2 writers (v.0, u) v.1 s.1,
 )
 
-pub writers_go_on : WritersGoOn
+-- entries go on
+pub writers_go_on : (p : Parts) (writers : List (List (Option ℕ))) (window : List Entry) → WritersOf p.next p.window writers → AllZip GoesOn p.window window →
+    WritersOf p.next window writers
 writers_go_on p writers window k v =
     subst (λ f. WritersStand f [] window writers) (sym (oldest_on p.next p.window window v)) (on (oldest_of p.next p.window) [] [] p.window window writers tt v k)
 

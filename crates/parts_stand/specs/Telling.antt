@@ -6,6 +6,7 @@ use Rattle.rv_types.specs.declared.Kind.{Kind}
 use Rattle.rv_types.specs.declared.Kind.TheVariants.{Load, Div}
 use Rattle.machine_desc.specs.declared.Desc.{Desc}
 use Rattle.window_model.specs.declared.Entry.{Entry}
+use Rattle.window_model.specs.Around.{Around, is_free}
 use Rattle.window_model.specs.Order.{before_at, first, is_waiting, ready, writer}
 use Rattle.window_model.specs.Resolve.{may_resolve}
 use Rattle.window_model.specs.Issue.{may_issue_as, stores_done}
@@ -135,9 +136,9 @@ asks_besides _ free before = true
 
 -- with what `may_transmit` answers it is what Issue asks for
 abbrev pub TellsIssue : Type 0
-TellsIssue = (d : Desc) (p : Parts) (point : Point) (i : ℕ) (e : Entry) (roots : List (Option ℕ)) (free : Bool) → Stand p → HasAdvanced point p.window →
+TellsIssue = (d : Desc) (p : Parts) (point : Point) (i : ℕ) (e : Entry) (roots : List (Option ℕ)) (now : Around) → Stand p → HasAdvanced point p.window →
     point.model ≡ d.stt_model → slice_get p.window i ≡ Some e → slice_get p.roots i ≡ Some roots →
-    may_issue_as e.item.kind d free (before_at p.window i) e ≡ (may_transmit e.item.kind point.serial roots && asks_besides e.item.kind free (before_at p.window i))
+    may_issue_as e.item.kind d now (before_at p.window i) e ≡ (may_transmit e.item.kind point.serial roots && asks_besides e.item.kind (is_free now) (before_at p.window i))
 
 -- what `pick` answers is the position of the entry that resolves
 abbrev pub PicksFirst : Type 0

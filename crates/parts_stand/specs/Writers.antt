@@ -59,10 +59,6 @@ TellsWriters = (p : Parts) (writers : List (List (Option ℕ))) (i : ℕ) (e : E
 
 -- ---- which steps keep them
 
--- nothing in flight
-abbrev pub WritersOpen : Type 0
-WritersOpen = (next : ℕ) → WritersOf next [] []
-
 -- the serial that the table names, if it names one
 abbrev pub serial_in : Source → Option ℕ
 serial_in source.Committed = None
@@ -72,25 +68,6 @@ serial_in (source.Entry serial) = Some serial
 abbrev pub named : List Write → Option ℕ → Option ℕ
 named writes None = None
 named writes (Some r) = serial_in (source_of writes r)
-
--- an entry is renamed, with the writers that the table names for its sources
-abbrev pub WritersRename : Type 0
-WritersRename = (p : Parts) (writers : List (List (Option ℕ))) (e : Entry) (ws : List (Option ℕ)) → Stand p → WritersOf p.next p.window writers →
-    e.serial ≡ p.next → ws ≡ map (named p.writes) (two (sources e)) → WritersOf (p.next + 1) (p.window ++ e ∷ []) (writers ++ ws ∷ [])
-
--- the oldest entry retires
-abbrev pub WritersRetire : Type 0
-WritersRetire = (p : Parts) (writers : List (List (Option ℕ))) → Stand p → WritersOf p.next p.window writers → WritersOf p.next (drop 1 p.window) (drop 1 writers)
-
--- the entries from a serial on are dropped
-abbrev pub WritersSquash : Type 0
-WritersSquash = (p : Parts) (writers : List (List (Option ℕ))) (first : ℕ) → Stand p → WritersOf p.next p.window writers →
-    WritersOf p.next (below first p.window) (take (length (below first p.window)) writers)
-
--- entries go on
-abbrev pub WritersGoOn : Type 0
-WritersGoOn = (p : Parts) (writers : List (List (Option ℕ))) (window : List Entry) → WritersOf p.next p.window writers → AllZip GoesOn p.window window →
-    WritersOf p.next window writers
 
 -- as many pairs as entries
 abbrev pub CountsWriters : Type 0

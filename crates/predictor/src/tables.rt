@@ -44,7 +44,11 @@ impl Predictor {
     /// A predictor of this description that has learnt nothing: every counter is 1, and there is no target. It takes all
     /// memory that the predictor takes; the one error is want of it.
     pub fn new(alloc: Global, desc: &Desc) -> Result<Predictor, NoMemory>
-        ensures { IfOk result (λ p. p ≡ record { desc = desc.now; counters = replicate desc.now.predictor_counters 1; targets = replicate desc.now.predictor_btb None }) }
+        ensures { IfOk result (λ p. p ≡ record {
+          desc = desc.now;
+          counters = replicate desc.now.predictor_counters 1;
+          targets = replicate desc.now.predictor_btb None;
+        }) }
     {
         let counters = vec![in alloc; COUNTER_START; desc.predictor_counters as usize]?;
         let targets = vec![in alloc; None; desc.predictor_btb as usize]?;
@@ -73,7 +77,9 @@ impl Predictor {
     /// Learns how the branch at this address went: its counter goes one up where it was taken, to at most 3, else one
     /// down, to at least 0. No other counter changes, and no target. Answers the event that tells the counter's value.
     pub fn learn_branch(&mut self, pc: u32, taken: bool) -> Event
-        ensures moved { self.new ≡ record self.old { counters = slice_set self.old.counters (counter_place self.old pc) (counter_after self.old pc taken) } }
+        ensures moved { self.new ≡ record self.old {
+          counters = slice_set self.old.counters (counter_place self.old pc) (counter_after self.old pc taken);
+        } }
         ensures event { result ≡ event.Bp (counter_place self.old pc) (counter_after self.old pc taken) }
     {
         let place = index(pc, self.desc.predictor_counters);
@@ -85,7 +91,10 @@ impl Predictor {
     /// Learns where the JALR at this address went: address and target take its place. No other target changes, and no
     /// counter. Answers the event that tells the target.
     pub fn learn_target(&mut self, pc: u32, target: u32) -> Event
-        ensures stored { self.new ≡ record self.old { targets = slice_set self.old.targets (target_place self.old pc) (Some (record { pc = pc; target = target })) } }
+        ensures stored { self.new ≡ record self.old {
+          targets = slice_set self.old.targets (target_place self.old pc)
+              (Some (record { pc = pc; target = target }));
+        } }
         ensures event { result ≡ event.Bt (target_place self.old pc) target }
     {
         let place = index(pc, self.desc.predictor_btb);

@@ -9,7 +9,7 @@ use Rattle.window_model.specs.declared.Divider.{Divider}
 use Rattle.window_model.specs.declared.Entry.{Entry}
 use Rattle.window_model.specs.declared.Item.{Item}
 use Rattle.window_model.specs.declared.Miss.{Miss}
-use Rattle.window_model.specs.declared.State.TheVariants.{Waiting, Done}
+use Rattle.window_model.specs.declared.Progress.TheVariants.{Waiting, Done}
 use Rattle.window_model.specs.State.{Machine}
 use Rattle.window_model.specs.Order.{is_done}
 use Rattle.window_model.specs.Fill.{completed, completes}
@@ -66,7 +66,7 @@ item_there : (d : Desc) (code : Code) (j : Item) (rest : List Item) (x : Machine
 item_there d code j rest x i s t h =
     let x0 : Machine = record x { window = []; queue = j ∷ rest } in
     let b = before_retire d x0 in
-    let r = (rename_one j rest b).machine in
+    let r = (rename_one d j rest b).machine in
     let z = (rename d b).machine in
     let y = (fetch d code z).machine in
     let p = appends_then r z y (rename_first d i j rest b) (fetch_fetches d code z).appends in
@@ -102,7 +102,7 @@ entry_there d code e es x i s t h =
     let waits : is_done (completed c e).state ≡ false = not_done (is_done (completed c e).state) (λ p. sym (o.leaves p) ∙ stuck) in
     let spare : completed c e ≡ e = spared (completes c e) e waits in
     let f = resolve_resolves d a in
-    let began : Began d x0 b2 = record { cycle = f.cycle; misses = f.misses; divider = f.divider; registers = s.misses } in
+    let began : Began d x0 b2 = record { cycle = f.cycle; misses = f.misses; divider = f.divider } in
     let nearer = oldest_nearer d x0 b2 o.entry o.rest (ap is_done o.state ∙ waits) i u began in
     let y1 = (issue d b2).machine in
     let z = (rename d y1).machine in

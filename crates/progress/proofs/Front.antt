@@ -40,14 +40,14 @@ nat_lt_is m n h = grind (arith, nat_tests)
 -- ---- rename
 
 module _ (d : Desc) where
-  one_renamed : (i : Item) (rest : List Item) (x : Machine) → Appends x (rename_one i rest x).machine
+  one_renamed : (i : Item) (rest : List Item) (x : Machine) → Appends x (rename_one d i rest x).machine
   one_renamed i rest x = record { cycle = refl; misses = refl; divider = refl; window = (renamed x.next_serial i ∷ [], refl) }
 
   -- any number of items, as few as come behind a first one
   renamed_up_to : (n : ℕ) (x : Machine) → Appends x (rename_up_to d n x).machine
   renamed_up_to =
       by_renamed d (λ n x a. Appends x a.machine) (λ n x. appends_same x)
-      (λ n x i rest q f more. let y = (rename_one i rest x).machine in appends_then x y (rename_up_to d n y).machine (one_renamed i rest x) more)
+      (λ n x i rest q f more. let y = (rename_one d i rest x).machine in appends_then x y (rename_up_to d n y).machine (one_renamed i rest x) more)
 
   pub rename_appends : (x : Machine) → Appends x (rename d x).machine
   unfolding rename
@@ -77,15 +77,15 @@ module _ (d : Desc) where
         (or_true (at_once j.kind) (nat_lt 0 d.core_stations) (nat_lt_is 0 d.core_stations (omega (arith, i.stations.0))))
 
     first_up_to : (n : ℕ) (j : Item) (rest : List Item) (x : Machine) → 1 ≤ n →
-        Appends (rename_one j rest (record x { window = []; queue = j ∷ rest })).machine (rename_up_to d n (record x { window = []; queue = j ∷ rest })).machine
+        Appends (rename_one d j rest (record x { window = []; queue = j ∷ rest })).machine (rename_up_to d n (record x { window = []; queue = j ∷ rest })).machine
     first_up_to zero j rest x h = absurd (omega arith)
     first_up_to (suc n) j rest x h =
         let alone : Machine = record x { window = []; queue = j ∷ rest } in
-        let y = (rename_one j rest alone).machine in
+        let y = (rename_one d j rest alone).machine in
         rw (first_fits j) (renamed_up_to n y)
 
     pub rename_first : (j : Item) (rest : List Item) (x : Machine) →
-        Appends (rename_one j rest (record x { window = []; queue = j ∷ rest })).machine (rename d (record x { window = []; queue = j ∷ rest })).machine
+        Appends (rename_one d j rest (record x { window = []; queue = j ∷ rest })).machine (rename d (record x { window = []; queue = j ∷ rest })).machine
     unfolding rename
     rename_first j rest x = first_up_to d.core_fetch_width j rest x i.fetch_width.0
 
@@ -108,7 +108,7 @@ fetches_then x y z p q = record {
 }
 
 module _ (d : Desc) (code : Code) where
-  one_fetched : (i : Item) (x : Machine) → Fetches x (fetch_one i x).machine
+  one_fetched : (i : Item) (x : Machine) → Fetches x (fetch_one d i x).machine
   one_fetched i x = record {
     appends = record { cycle = refl; misses = refl; divider = refl; window = ([], sym (append-nil x.window)) };
     window = refl;
@@ -119,7 +119,7 @@ module _ (d : Desc) (code : Code) where
   fetched_up_to : (n : ℕ) (x : Machine) → Fetches x (fetch_up_to d code n x).machine
   fetched_up_to =
       by_fetched d code (λ n x a. Fetches x a.machine) (λ n x. fetches_same x)
-      (λ n x pc q r more. let i = item_at d code x pc in let y = (fetch_one i x).machine in fetches_then x y (fetch_up_to d code n y).machine (one_fetched i x) more)
+      (λ n x pc q r more. let i = item_at d code x pc in let y = (fetch_one d i x).machine in fetches_then x y (fetch_up_to d code n y).machine (one_fetched i x) more)
 
   pub fetch_fetches : (x : Machine) → Fetches x (fetch d code x).machine
   unfolding fetch
@@ -127,13 +127,13 @@ module _ (d : Desc) (code : Code) where
 
   -- where there is a fetch pc, something comes into a queue with no item
   some_up_to : (n pc : ℕ) (x : Machine) → 1 ≤ d.core_queue → 1 ≤ n →
-      Fetches (fetch_one (item_at d code x pc) (record x { queue = []; fetch_pc = Some pc })).machine (fetch_up_to d code n (record x { queue = []; fetch_pc = Some pc })).machine
+      Fetches (fetch_one d (item_at d code x pc) (record x { queue = []; fetch_pc = Some pc })).machine (fetch_up_to d code n (record x { queue = []; fetch_pc = Some pc })).machine
   some_up_to zero pc x q h = absurd (omega arith)
   some_up_to (suc n) pc x q h =
-      let y = (fetch_one (item_at d code x pc) (record x { queue = []; fetch_pc = Some pc })).machine in
+      let y = (fetch_one d (item_at d code x pc) (record x { queue = []; fetch_pc = Some pc })).machine in
       rw (nat_lt_is 0 d.core_queue (omega arith)) (fetched_up_to n y)
 
   pub fetch_some : (pc : ℕ) (x : Machine) → IsDesc d →
-      Fetches (fetch_one (item_at d code x pc) (record x { queue = []; fetch_pc = Some pc })).machine (fetch d code (record x { queue = []; fetch_pc = Some pc })).machine
+      Fetches (fetch_one d (item_at d code x pc) (record x { queue = []; fetch_pc = Some pc })).machine (fetch d code (record x { queue = []; fetch_pc = Some pc })).machine
   unfolding fetch
   fetch_some pc x i = some_up_to d.core_fetch_width pc x i.queue.0 i.fetch_width.0

@@ -1,7 +1,7 @@
 -- An oldest entry that isn't done comes nearer to it in Issue.
 use Rattle.std.proofs.Common.{◌≡◌, ℕ, ◌+◌, ◌-◌, ◌≤◌, ◌<◌, max, Bool, true, false, not, ◌&&◌, List, [], ◌∷◌, length, Option, Some, None, refl, ap, sym, ◌∙◌, subst, arith}
 use Rattle.std.proofs.lemmas.Bool.Decides.{nat_tests}
-use Rattle.std.specs.Prelude.{if◌then◌else◌, nat_lt, nat_le, ◌==◌}
+use Rattle.std.specs.Prelude.{if◌then◌else◌, nat_lt, nat_le}
 use Rattle.std.specs.Cmp.Derive.{both_true}
 use Rattle.std.specs.List.{filter, AllByRecursion as Each}
 use Rattle.rv_types.specs.Isa.{Effect}
@@ -11,20 +11,21 @@ use Rattle.machine_desc.specs.declared.Desc.{Desc}
 use Rattle.machine_desc.specs.Ranges.{IsDesc}
 use Rattle.window_model.specs.declared.Entry.{Entry}
 use Rattle.window_model.specs.declared.Miss.{Miss}
-use Rattle.window_model.specs.declared.State.{State}
-use Rattle.window_model.specs.declared.State.TheVariants.{Waiting, Busy, Done}
+use Rattle.window_model.specs.declared.Progress.{Progress}
+use Rattle.window_model.specs.declared.Progress.TheVariants.{Waiting, Busy, Done}
 use Rattle.window_model.specs.State.{Machine}
 use Rattle.window_model.specs.Order.{Place, first, first_from, is_waiting, is_done, ready}
 use Rattle.window_model.specs.Taint.{any_tainted}
 use Rattle.window_model.specs.Fill.{is_due}
-use Rattle.window_model.specs.Access.{Access, Faults, Forwards, Hits, Joins, Misses, Waits}
-use Rattle.window_model.specs.Issue.{Begun, issue, issue_entry, begin_as, load_as, access_of, waits, effect_at, value_loaded, time_of, is_granted, is_free, may_issue_as, after_load, misses_after, tried, divides, is_division, divider_after, ports, port_of}
-use Rattle.window_model.proofs.Lists.{OfSome, find_each}
-use Rattle.window_model.proofs.Issuing.{by_load}
-use Rattle.machine_facts.specs.Timely.{Timely, IsSoon, IsPending, longest_division}
+use Rattle.window_model.specs.Around.{Around, around, is_free}
+use Rattle.window_model.specs.Access.{Access, Faults, Forwards, Looks, Waits, misses_after}
+use Rattle.window_model.specs.Issue.{Begun, DivPort, LoadPort, issue, issue_entry, begin_as, load_as, access_of, waits, effect_of, value_loaded, time_of, is_granted, may_at, may_issue_as, after_load, divider_after, ports, port_of, same_port}
+use Rattle.window_model.proofs.Issuing.{by_load, same_self}
+use Rattle.machine_facts.specs.Timely.{Timely, IsPending, longest_division}
+use Rattle.machine_facts.proofs.Dues.{LooksSoon, looks_soon}
 use Rattle.machine_facts.proofs.Ports.{issue_adds}
-use Rattle.progress.specs.Measure.{wait_for_register, takes}
-use Rattle.progress.proofs.Bounds.{register_at_least, register_nearer, miss_takes_time}
+use Rattle.progress.specs.Measure.{wait, takes}
+use Rattle.progress.proofs.Bounds.{register_nearer, miss_takes_time}
 use Rattle.progress.proofs.Front.{nat_lt_is}
 use Rattle.progress.proofs.Oldest.{oldest_ready, oldest_untainted, oldest_address}
 
@@ -37,10 +38,9 @@ pub record Began (d : Desc) (x0 x : Machine) : Type 0 where
   pub cycle : x.cycle ≡ x0.cycle + 1
   pub misses : x.misses ≡ filter (λ m. not (is_due (x0.cycle + 1) m)) x0.misses
   pub divider : x.divider.free_from ≤ x0.divider.free_from
-  pub registers : length x0.misses ≤ d.cache_mshrs
 
 -- an entry in a state and of a kind, and a window that begins with an entry
-abbrev pub made : State → Kind → Entry → Entry
+abbrev pub made : Progress → Kind → Entry → Entry
 made s k e = record e { state = s; item = record (e.item) { kind = k } }
 
 abbrev pub headed : Machine → Entry → List Entry → Machine
@@ -49,16 +49,16 @@ headed x e es = record x { window = e ∷ es }
 -- ---- the oldest may issue
 
 -- an oldest entry that may issue has a port
-granted : (k : Kind) (d : Desc) (free : Bool) (e : Entry) → may_issue_as k d free [] (made Waiting k e) ≡ true → 1 ≤ ports d (port_of k) → is_granted d free [] (made Waiting k e) ≡ true
-granted k d free e m p =
-    both_true (both_true (oldest_ready (made Waiting k e)) m) (nat_lt_is 0 (ports d (port_of k)) (omega arith))
+granted : (k : Kind) (d : Desc) (now : Around) (e : Entry) → may_issue_as k d now [] (made Waiting k e) ≡ true → 1 ≤ ports d (port_of k) → is_granted d now (port_of k) [] (made Waiting k e) ≡ true
+granted k d now e m p =
+    both_true (both_true (both_true (oldest_ready (made Waiting k e)) m) (same_self (port_of k))) (nat_lt_is 0 (ports d (port_of k)) (omega arith))
 
 -- a load may issue, and a division where the divider is free
-load_may : (d : Desc) (free : Bool) (e : Entry) → may_issue_as Load d free [] (made Waiting Load e) ≡ true
-load_may d free e = both_true (ap not (oldest_address d (made Waiting Load e))) refl
+load_may : (d : Desc) (now : Around) (e : Entry) → may_issue_as Load d now [] (made Waiting Load e) ≡ true
+load_may d now e = both_true (ap not (oldest_address d (made Waiting Load e))) refl
 
-division_may : (d : Desc) (free : Bool) (e : Entry) → free ≡ true → may_issue_as Div d free [] (made Waiting Div e) ≡ true
-division_may d free e h = both_true (ap not (oldest_untainted d (made Waiting Div e))) h
+division_may : (d : Desc) (now : Around) (e : Entry) → is_free now ≡ true → may_issue_as Div d now [] (made Waiting Div e) ≡ true
+division_may d now e h = both_true (ap not (oldest_untainted d (made Waiting Div e))) h
 
 -- ---- numbers
 
@@ -78,87 +78,82 @@ one_nearer due y c0 e h = omega arith
 
 -- ---- a load
 
--- a register that is joined is freed soon, and a load waits only where all are taken
-abbrev Served : Desc → Machine → Access → Type 0
-Served d x (Joins line due) = IsSoon x.cycle x.cycle d.cache_miss_latency due
-Served d x Waits = d.cache_mshrs ≤ length x.misses
-Served d x _ = Unit {0}
+-- a load waits only where all registers are taken
+abbrev WaitsFull : Desc → Around → Access → Type 0
+WaitsFull d now Waits = d.cache_mshrs ≤ length now.misses
+WaitsFull d now _ = Unit {0}
 
-served : (d : Desc) (x : Machine) → Each (IsPending d x.cycle x.cycle) x.misses → (b : List Entry) (e : Entry) → Served d x (access_of d x b e)
-served d x h =
-    by_load d x (Served d x) tt (λ line. tt) (λ line m q. subst (OfSome (IsPending d x.cycle x.cycle)) q (find_each (IsPending d x.cycle x.cycle) (λ m. m.line == line) x.misses h))
-    (λ line q r. tt) (λ r. r) (λ c. tt)
+waits_full : (d : Desc) (now : Around) (b : List Entry) (e : Entry) → WaitsFull d now (access_of d now b e)
+waits_full d now = by_load d now (WaitsFull d now) tt (λ line room. tt) (λ full. full) (λ c. tt)
 
--- a load that is served, or waits while all registers are taken
-load_nearer : (a : Access) (d : Desc) (x0 x : Machine) (e : Entry) (f : Effect) (v y : ℕ) (ms : List Miss) (g : ℕ) → IsDesc d → Timely d x → Began d x0 x → Served d x a → y ≡ x.cycle → ms ≡ misses_after a d x →
-    needs (load_as a d x (made Waiting Load e) f v).entry d y ms g < wait_for_register d x0.cycle x0.misses + d.cache_miss_latency
-load_nearer (Faults c) d x0 x e f v y ms g i s o a q m = let w = register_at_least d x0.cycle x0.misses in let l = miss_takes_time d i in soon x.cycle y 1 _ q (omega arith)
-load_nearer Forwards d x0 x e f v y ms g i s o a q m = let w = register_at_least d x0.cycle x0.misses in let l = miss_takes_time d i in soon x.cycle y 1 _ q (omega arith)
-load_nearer (Hits line) d x0 x e f v y ms g i s o a q m = let w = register_at_least d x0.cycle x0.misses in let l = i.miss_latency.1 in soon x.cycle y d.cache_hit_latency _ q (omega arith)
-load_nearer (Joins line due) d x0 x e f v y ms g i s o a q m = let w = register_at_least d x0.cycle x0.misses in let n = a.1 in omega arith
-load_nearer (Misses line) d x0 x e f v y ms g i s o a q m = let w = register_at_least d x0.cycle x0.misses in soon x.cycle y d.cache_miss_latency _ q (omega arith)
-load_nearer Waits d x0 x e f v y ms g i s o a q m =
+-- a load whose lines come soon, or waits while all registers are taken
+load_nearer : (a : Access) (d : Desc) (x0 x : Machine) (e : Entry) (f : Effect) (v y : ℕ) (ms : List Miss) (g : ℕ) → IsDesc d → Timely d x → Began d x0 x → LooksSoon d (around x) a → WaitsFull d (around x) a → y ≡ x.cycle →
+    ms ≡ misses_after a d x.cycle x.misses → needs (load_as a d (around x) (made Waiting Load e) f v).entry d y ms g < wait Load x0.cycle x0.misses g + d.cache_miss_latency
+load_nearer (Faults c) d x0 x e f v y ms g i s o l a q m = let l = miss_takes_time d i in soon x.cycle y 1 _ q (omega arith)
+load_nearer Forwards d x0 x e f v y ms g i s o l a q m = let l = miss_takes_time d i in soon x.cycle y 1 _ q (omega arith)
+load_nearer (Looks found) d x0 x e f v y ms g i s o l a q m = let n = l.1 in omega arith
+load_nearer Waits d x0 x e f v y ms g i s o l a q m =
     let t : Miss → Bool = λ m. not (is_due (x0.cycle + 1) m) in
     let n : d.cache_mshrs ≤ length (filter t x0.misses) = subst (λ (v : List Miss). d.cache_mshrs ≤ length v) o.misses a in
     let p : Each (IsPending d (x0.cycle + 1) (x0.cycle + 1)) (filter t x0.misses) =
     subst (λ (c : ℕ). Each (IsPending d c c) (filter t x0.misses)) o.cycle (subst (λ (v : List Miss). Each (IsPending d x.cycle x.cycle) v) o.misses s.misses) in
-    let w = register_nearer d x0.cycle t x0.misses i.mshrs.0 o.registers n p in
-    let r : wait_for_register d y ms < wait_for_register d x0.cycle x0.misses = rw (m ∙ o.misses) (rw (q ∙ o.cycle) w) in
+    let w = register_nearer d x0.cycle t x0.misses (omega (arith, n, i.mshrs.0)) p in
+    let r : wait Load y ms g < wait Load x0.cycle x0.misses g = rw (m ∙ o.misses) (rw (q ∙ o.cycle) w) in
     omega arith
 
-misses_of_tried : (b : Bool) (p : Place) (o : Option Place) (d : Desc) (x : Machine) → b ≡ true → (after_load d (if b then Some p else o) x).misses ≡ misses_after (access_of d x p.before p.entry) d x
+misses_of_tried : (b : Bool) (p : Place) (o : Option Place) (d : Desc) (x : Machine) → b ≡ true → (after_load d (if b then Some p else o) x).misses ≡ misses_after (access_of d (around x) p.before p.entry) d x.cycle x.misses
 misses_of_tried true p o d x h = refl
 misses_of_tried false p o d x h = absurd (cc)
 
 -- ---- a division: where the divider is busy, none issues
 
-busy_divider : (k : Kind) (d : Desc) (before : List Entry) (e : Entry) → (is_division k && (is_waiting e.state && ready before e && may_issue_as k d false before e)) ≡ false
-busy_divider Div d before e = by (is_waiting e.state) (ready before e) (not (any_tainted d.stt_model before e))
+none_and : (m s : Bool) → s ≡ false → (m && s) ≡ false
+none_and true s h = h
+none_and false s h = refl
+
+busy_divider : (k : Kind) (d : Desc) (now : Around) (before : List Entry) (e : Entry) → is_free now ≡ false → ((is_waiting e.state && ready before e && may_issue_as k d now before e) && same_port (port_of k) DivPort) ≡ false
+busy_divider Div d now before e f = by (is_waiting e.state) (ready before e) (not (any_tainted d.stt_model before e)) (is_free now) f
   where
-    by : (w r t : Bool) → (w && r && (t && false)) ≡ false
-    by true true true = refl
-    by true true false = refl
-    by true false t = refl
-    by false r t = refl
-busy_divider _ d before e = refl
+    by : (w r t n : Bool) → n ≡ false → ((w && r && (t && n)) && true) ≡ false
+    by true true true n f = ap (λ b. b && true) f
+    by true true false n f = refl
+    by true false t n f = refl
+    by false r t n f = refl
+busy_divider Load d now before e f = none_and _ _ refl
+busy_divider Store d now before e f = none_and _ _ refl
+busy_divider Mul d now before e f = none_and _ _ refl
+busy_divider _ d now before e f = none_and _ _ refl
 
 none_if : (b : Bool) (p : Place) (o : Option Place) → b ≡ false → o ≡ None → (if b then Some p else o) ≡ None
 none_if false p o h k = k
 none_if true p o h k = absurd (cc)
 
-none_divides : (d : Desc) (before es : List Entry) → first_from (divides d false) before es ≡ None
-none_divides d before [] = refl
-none_divides d before (e ∷ es) = none_if (divides d false before e) (record { before = before; entry = e; younger = es }) _ (busy_divider e.item.kind d before e) (none_divides d (e ∷ before) es)
+none_divides : (d : Desc) (now : Around) (before es : List Entry) → is_free now ≡ false → first_from (may_at d now DivPort) before es ≡ None
+none_divides d now before [] f = refl
+none_divides d now before (e ∷ es) f = none_if (may_at d now DivPort before e) (record { before = before; entry = e; younger = es }) _ (busy_divider e.item.kind d now before e f) (none_divides d now (e ∷ before) es f)
 
-same_divider : (d : Desc) (x : Machine) (w : List Entry) (b : Bool) → b ≡ false → (divider_after x (first (divides d b) w)).free_from ≡ x.divider.free_from
-same_divider d x w true h = absurd (cc)
-same_divider d x w false h = ap (λ (o : Option Place). (divider_after x o).free_from) (none_divides d [] w)
+same_divider : (d : Desc) (x : Machine) → is_free (around x) ≡ false → (divider_after x (first (may_at d (around x) DivPort) x.window)).free_from ≡ x.divider.free_from
+same_divider d x h = ap (λ (o : Option Place). (divider_after x o).free_from) (none_divides d (around x) [] x.window h)
 
-not_granted : (r t n : Bool) → ((r && (t && false)) && n) ≡ false
-not_granted true true n = refl
-not_granted true false n = refl
-not_granted false t n = refl
-
-refused : (d : Desc) (b : Bool) (e : Entry) → b ≡ false → is_granted d b [] (made Waiting Div e) ≡ false
-refused d true e h = absurd (cc)
-refused d false e h = not_granted (ready [] (made Waiting Div e)) (not (any_tainted d.stt_model [] (made Waiting Div e))) (nat_lt 0 1)
+refused : (d : Desc) (now : Around) (e : Entry) → is_free now ≡ false → is_granted d now DivPort [] (made Waiting Div e) ≡ false
+refused d now e h = ap (λ b. b && nat_lt 0 1) (busy_divider Div d now [] (made Waiting Div e) h)
 
 -- ---- by state and kind
 
 -- after Issue the oldest entry needs less than at the cycle's beginning
-abbrev pub Nearer : State → Kind → Desc → Machine → Machine → Entry → List Entry → Type 0
+abbrev pub Nearer : Progress → Kind → Desc → Machine → Machine → Entry → List Entry → Type 0
 Nearer s k d x0 x e es =
     IsDesc d → Timely d (headed x (made s k e) es) → Began d x0 (headed x (made s k e) es) →
     let y = (issue d (headed x (made s k e) es)).machine in
-    needs (issue_entry d (headed x (made s k e) es) [] (made s k e)).entry d y.cycle y.misses y.divider.free_from < takes s k d x0.cycle x0.misses x0.divider.free_from
+    needs (issue_entry d (around x) [] (made s k e)).entry d y.cycle y.misses y.divider.free_from < takes s k d x0.cycle x0.misses x0.divider.free_from
 
 -- an entry that issues and is then busy for so long
-plain_nearer : (k : Kind) (n m : ℕ) (d : Desc) (x : Machine) (e : Entry) (es : List Entry) (b : Begun) (c y g : ℕ) (ms : List Miss) →
-    b.entry.state ≡ Busy (c + n) → is_granted d (is_free x) [] (made Waiting k e) ≡ true → y ≡ c → n < m →
-    needs (if is_granted d (is_free x) [] (made Waiting k e) then b else waits (made Waiting k e)).entry d y ms g < m
-plain_nearer k n m d x e es b c y g ms t h q l =
-    needs_then (is_granted d (is_free x) [] (made Waiting k e)) b (waits (made Waiting k e)) d y ms g m h
-    (subst (λ (s : State). takes s b.entry.item.kind d y ms g < m) (sym t) (soon c y n m q l))
+plain_nearer : (k : Kind) (n m : ℕ) (d : Desc) (now : Around) (e : Entry) (b : Begun) (c y g : ℕ) (ms : List Miss) →
+    b.entry.state ≡ Busy (c + n) → is_granted d now (port_of k) [] (made Waiting k e) ≡ true → y ≡ c → n < m →
+    needs (if is_granted d now (port_of k) [] (made Waiting k e) then b else waits (made Waiting k e)).entry d y ms g < m
+plain_nearer k n m d now e b c y g ms t h q l =
+    needs_then (is_granted d now (port_of k) [] (made Waiting k e)) b (waits (made Waiting k e)) d y ms g m h
+    (subst (λ (s : Progress). takes s b.entry.item.kind d y ms g < m) (sym t) (soon c y n m q l))
 
 later : (f g y c c0 n : ℕ) → g ≡ f → y ≡ c → c ≡ c0 + 1 → f ≤ n → c < f → max 1 (g - y) + longest_division < max 1 (n - c0) + longest_division
 later f g y c c0 n e q r l h = omega arith
@@ -166,46 +161,48 @@ later f g y c c0 n e q r l h = omega arith
 not_free : (f c : ℕ) → nat_le f c ≡ false → c < f
 not_free f c h = grind (arith, nat_tests)
 
-division_nearer : (d : Desc) (x0 x : Machine) (e : Entry) (es : List Entry) (b : Bool) → is_free (headed x (made Waiting Div e) es) ≡ b → Nearer Waiting Div d x0 x e es
+division_nearer : (d : Desc) (x0 x : Machine) (e : Entry) (es : List Entry) (b : Bool) → is_free (around x) ≡ b → Nearer Waiting Div d x0 x e es
 division_nearer d x0 x e es true h i s o =
     let x2 = headed x (made Waiting Div e) es in
     let a = made Waiting Div e in
+    let now = around x in
     let y = (issue d x2).machine in
-    let t : time_of x2 [] a ≤ longest_division = omega arith in
-    needs_then (is_granted d (is_free x2) [] a) (begin_as Div d x2 [] a) (waits a) d y.cycle y.misses y.divider.free_from _ (granted Div d (is_free x2) e (division_may d (is_free x2) e h) (omega arith))
-    (soon x.cycle y.cycle (time_of x2 [] a) _ (issue_adds d x2).cycle (omega arith))
+    let t : time_of x.regs [] a ≤ longest_division = omega arith in
+    needs_then (is_granted d now DivPort [] a) (begin_as Div d now [] a) (waits a) d y.cycle y.misses y.divider.free_from _ (granted Div d now e (division_may d now e h) (omega arith))
+    (soon x.cycle y.cycle (time_of x.regs [] a) _ (issue_adds d x2).cycle (omega arith))
 division_nearer d x0 x e es false h i s o =
     let x2 = headed x (made Waiting Div e) es in
     let a = made Waiting Div e in
+    let now = around x in
     let y = (issue d x2).machine in
-    needs_else (is_granted d (is_free x2) [] a) (begin_as Div d x2 [] a) (waits a) d y.cycle y.misses y.divider.free_from _ (refused d (is_free x2) e h)
-    (later x.divider.free_from y.divider.free_from y.cycle x.cycle x0.cycle x0.divider.free_from (same_divider d x2 x2.window (is_free x2) h) (issue_adds d x2).cycle o.cycle o.divider (not_free x.divider.free_from x.cycle h))
+    needs_else (is_granted d now DivPort [] a) (begin_as Div d now [] a) (waits a) d y.cycle y.misses y.divider.free_from _ (refused d now e h)
+    (later x.divider.free_from y.divider.free_from y.cycle x.cycle x0.cycle x0.divider.free_from (same_divider d x2 h) (issue_adds d x2).cycle o.cycle o.divider (not_free x.divider.free_from x.cycle h))
 
 -- where it waits: it issues, or a register or the divider comes nearer
 waiting_nearer : (k : Kind) (d : Desc) (x0 x : Machine) (e : Entry) (es : List Entry) → Nearer Waiting k d x0 x e es
 waiting_nearer Load d x0 x e es i s o =
     let x2 = headed x (made Waiting Load e) es in
     let a = made Waiting Load e in
+    let now = around x in
     let y = (issue d x2).machine in
-    let free = is_free x2 in
-    let may = load_may d free e in
-    let f = effect_at x2 [] a in
-    let m : y.misses ≡ misses_after (access_of d x2 [] a) d x2 =
-    misses_of_tried (ready [] a && may_issue_as Load d free [] a) (record { before = []; entry = a; younger = es }) (first_from (tried d free) (a ∷ []) es) d x2 (both_true (oldest_ready a) may) in
-    needs_then (is_granted d free [] a) (begin_as Load d x2 [] a) (waits a) d y.cycle y.misses y.divider.free_from _ (granted Load d free e may (omega arith))
-    (load_nearer (access_of d x2 [] a) d x0 x2 e f (value_loaded x2 [] a f.addr) y.cycle y.misses y.divider.free_from i s o (served d x2 s.misses [] a) (issue_adds d x2).cycle m)
-waiting_nearer Div d x0 x e es i s o = division_nearer d x0 x e es (is_free (headed x (made Waiting Div e) es)) refl i s o
+    let may = load_may d now e in
+    let f = effect_of x.regs [] a in
+    let m : y.misses ≡ misses_after (access_of d now [] a) d x.cycle x.misses =
+    misses_of_tried (may_at d now LoadPort [] a) (record { before = []; entry = a; younger = es }) (first_from (may_at d now LoadPort) (a ∷ []) es) d x2 (both_true (both_true (oldest_ready a) may) refl) in
+    needs_then (is_granted d now LoadPort [] a) (begin_as Load d now [] a) (waits a) d y.cycle y.misses y.divider.free_from _ (granted Load d now e may (omega arith))
+    (load_nearer (access_of d now [] a) d x0 x2 e f (value_loaded x.ram [] a f.addr) y.cycle y.misses y.divider.free_from i s o (looks_soon d now i s.misses [] a) (waits_full d now [] a) (issue_adds d x2).cycle m)
+waiting_nearer Div d x0 x e es i s o = division_nearer d x0 x e es (is_free (around x)) refl i s o
 waiting_nearer Mul d x0 x e es i s o =
     let x2 = headed x (made Waiting Mul e) es in
-    plain_nearer Mul d.units_mul_latency _ d x2 e es _ x.cycle _ _ _ refl (granted Mul d (is_free x2) e refl (omega arith)) (issue_adds d x2).cycle (omega arith)
+    plain_nearer Mul d.units_mul_latency _ d (around x) e _ x.cycle _ _ _ refl (granted Mul d (around x) e refl (omega arith)) (issue_adds d x2).cycle (omega arith)
 waiting_nearer Store d x0 x e es i s o =
     let x2 = headed x (made Waiting Store e) es in
-    plain_nearer Store 1 2 d x2 e es _ x.cycle _ _ _ refl (granted Store d (is_free x2) e refl (omega arith)) (issue_adds d x2).cycle (omega arith)
+    plain_nearer Store 1 2 d (around x) e _ x.cycle _ _ _ refl (granted Store d (around x) e refl (omega arith)) (issue_adds d x2).cycle (omega arith)
 waiting_nearer k d x0 x e es i s o =
     let x2 = headed x (made Waiting k e) es in
-    plain_nearer k 1 2 d x2 e es _ x.cycle _ _ _ refl (granted k d (is_free x2) e refl i.alus.0) (issue_adds d x2).cycle (omega arith)
+    plain_nearer k 1 2 d (around x) e _ x.cycle _ _ _ refl (granted k d (around x) e refl i.alus.0) (issue_adds d x2).cycle (omega arith)
 
-state_nearer : (s : State) (k : Kind) (d : Desc) (x0 x : Machine) (e : Entry) (es : List Entry) → is_done s ≡ false → Nearer s k d x0 x e es
+state_nearer : (s : Progress) (k : Kind) (d : Desc) (x0 x : Machine) (e : Entry) (es : List Entry) → is_done s ≡ false → Nearer s k d x0 x e es
 state_nearer Waiting k d x0 x e es h i s o = waiting_nearer k d x0 x e es i s o
 state_nearer Done k d x0 x e es h i s o = absurd (cc)
 state_nearer (Busy due) k d x0 x e es h i s o =

@@ -6,13 +6,13 @@ use Rattle.std.proofs.lemmas.List.{reverse-reverse}
 use Rattle.machine_desc.specs.declared.Desc.{Desc}
 use Rattle.window_model.specs.declared.Entry.{Entry}
 use Rattle.window_model.specs.declared.Divider.{Divider}
-use Rattle.window_model.specs.declared.Target.{Target}
 use Rattle.window_model.specs.State.{Machine}
-use Rattle.window_model.specs.Order.{Place, first, first_from, is_done, is_control, is_known, writer, ready, sources}
+use Rattle.window_model.specs.Order.{Place, first_from, is_done, is_control, is_known, ready, sources}
 use Rattle.window_model.specs.Taint.{any_tainted, address_tainted, tainted, base_of}
 use Rattle.window_model.specs.Resolve.{resolve, resolve_at, may_resolve, learn, squash, keep, squashes, is_from, with_predictor}
 use Rattle.window_model.specs.Retire.{may_leave}
 use Rattle.window_model.proofs.Places.{found}
+use Rattle.window_model.proofs.Placing.{resolve_keep}
 use Rattle.window_model.proofs.Taints.{none_any}
 
 -- ---- nothing is before it
@@ -23,7 +23,7 @@ all_of f (r ∷ rs) h = ap (λ b. b && list_all f rs) (h r) ∙ all_of f rs h
 
 -- so its operands are known, and none is tainted
 pub oldest_ready : (e : Entry) → ready [] e ≡ true
-oldest_ready e = all_of (λ r. is_known (writer [] r)) (sources e) (λ r. refl)
+oldest_ready e = all_of (is_known []) (sources e) (λ r. refl)
 
 pub oldest_untainted : (d : Desc) (e : Entry) → any_tainted d.stt_model [] e ≡ false
 oldest_untainted d e = none_any (tainted d.stt_model []) (sources e) (λ r. refl)
@@ -43,9 +43,9 @@ pub record StaysOldest (h : Entry) (w : List Entry) : Type 0 where
   pub leaves : is_done h.state ≡ true → may_leave entry ≡ true
 
 -- after a place is resolved, its entry and the older ones are still there
-window_after : (b : Bool) (p : Place) (x : Machine) → (r : List Entry) × ((if b then squash p x else keep p x).machine.window ≡ reverse p.before ++ record (p.entry) { resolved = true } ∷ r)
-window_after true p x = ([], refl)
-window_after false p x = (p.younger, refl)
+window_after : (d : Desc) (b : Bool) (p : Place) (x : Machine) → (r : List Entry) × ((if b then squash d p x else keep p x).machine.window ≡ reverse p.before ++ record (p.entry) { resolved = true } ∷ r)
+window_after d true p x = ([], refl)
+window_after d false p x = (p.younger, refl)
 
 resolved_leaves : (t c : Bool) → t ≡ true → (t && (not c || true)) ≡ true
 resolved_leaves true true h = refl
@@ -74,7 +74,7 @@ module _ (d : Desc) (h : Entry) (younger : List Entry) (x : Machine) where
       let whole : Machine = record x { window = h ∷ younger } in
       let l = learn d p.entry x.counters x.targets in
       let f = found (may_resolve d) (h ∷ []) younger p q in
-      let a = window_after (squashes p.entry) p (with_predictor whole l.counters l.targets) in
+      let a = window_after d (squashes p.entry) p (with_predictor whole l.counters l.targets) in
       let older : reverse p.before ≡ h ∷ f.older = ap reverse f.back ∙ reverse-reverse (h ∷ f.older) in
       record {
         entry = h;
@@ -91,7 +91,7 @@ module _ (d : Desc) (h : Entry) (younger : List Entry) (x : Machine) where
       let p : Place = record { before = []; entry = h; younger = younger } in
       let l = learn d h x.counters x.targets in
       let whole : Machine = record x { window = h ∷ younger } in
-      let a = window_after (squashes h) p (with_predictor whole l.counters l.targets) in
+      let a = window_after d (squashes h) p (with_predictor whole l.counters l.targets) in
       record { entry = record h { resolved = true }; rest = a.0; shape = a.1; state = refl; item = refl; leaves = resolved_leaves (is_done h.state) (is_control h.item.kind) }
 
   pub resolve_oldest : StaysOldest h (resolve d (record x { window = h ∷ younger })).machine.window
@@ -107,13 +107,9 @@ freed_no_later : (v : Divider) (b : Bool) → (if b then record { free_from = 0;
 freed_no_later v true = omega arith
 freed_no_later v false = omega arith
 
-place_resolves : (b : Bool) (p : Place) (x : Machine) (c : List ℕ) (t : List (Option Target)) → Resolves x (if b then squash p (with_predictor x c t) else keep p (with_predictor x c t)).machine
-place_resolves true p x c t = record { cycle = refl; misses = refl; divider = freed_no_later x.divider (is_from (p.entry.serial + 1) x.divider.user) }
-place_resolves false p x c t = record { cycle = refl; misses = refl; divider = omega arith }
-
-resolves_at : (d : Desc) (o : Option Place) (x : Machine) → Resolves x (resolve_at d o x).machine
-resolves_at d None x = record { cycle = refl; misses = refl; divider = omega arith }
-resolves_at d (Some p) x = place_resolves (squashes p.entry) p x _ _
-
 pub resolve_resolves : (d : Desc) (x : Machine) → Resolves x (resolve d x).machine
-resolve_resolves d x = resolves_at d (first (may_resolve d) x.window) x
+resolve_resolves d x =
+    resolve_keep d (Resolves x)
+    (λ y p t q k. record { cycle = k.cycle; misses = k.misses; divider = let f = freed_no_later y.divider (is_from (p.entry.serial + 1) y.divider.user) in omega (arith, f, k.divider) })
+    (λ y p t q k. record { cycle = k.cycle; misses = k.misses; divider = k.divider })
+    x (record { cycle = refl; misses = refl; divider = omega arith })

@@ -1,5 +1,5 @@
 -- In how many cycles the next instruction retires at the latest (docs/theorems.md, "Progress").
-use Rattle.std.specs.Prelude.{ℕ, ◌+◌, ◌-◌, min, max, nat_lt, if◌then◌else◌, List, [], ◌∷◌, length}
+use Rattle.std.specs.Prelude.{ℕ, ◌+◌, ◌-◌, max, List, [], ◌∷◌}
 use Rattle.rv_types.specs.declared.Kind.{Kind}
 use Rattle.rv_types.specs.declared.Kind.TheVariants.{Div, Load}
 use Rattle.machine_desc.specs.declared.Desc.{Desc}
@@ -7,32 +7,27 @@ use Rattle.machine_desc.specs.Ranges.{bound}
 use Rattle.window_model.specs.declared.Entry.{Entry}
 use Rattle.window_model.specs.declared.Item.{Item}
 use Rattle.window_model.specs.declared.Miss.{Miss}
-use Rattle.window_model.specs.declared.State.{State}
-use Rattle.window_model.specs.declared.State.TheVariants.{Waiting, Busy, Done}
+use Rattle.window_model.specs.declared.Progress.{Progress}
+use Rattle.window_model.specs.declared.Progress.TheVariants.{Waiting, Busy, Done}
 use Rattle.window_model.specs.State.{Machine}
 use Rattle.machine_facts.specs.Timely.{latency}
 
--- the first of this cycle and those in which these miss registers are freed
-abbrev pub first_due : ℕ → List Miss → ℕ
-first_due due [] = due
-first_due due (m ∷ ms) = min m.due (first_due due ms)
+-- the cycle in which the last of these miss registers is freed
+abbrev pub last_due : List Miss → ℕ
+last_due [] = 0
+last_due (m ∷ ms) = max m.due (last_due ms)
 
--- the cycles until a load that misses finds a register free
-abbrev pub wait_for_register : Desc → ℕ → List Miss → ℕ
-wait_for_register d cycle [] = 1
-wait_for_register d cycle (m ∷ ms) = if nat_lt (length (m ∷ ms)) d.cache_mshrs then 1 else max 1 (first_due m.due ms - cycle)
-
--- the cycles until a waiting entry issues, if it is the oldest: a load waits for a register, a division for the divider
-abbrev pub wait : Kind → Desc → ℕ → List Miss → ℕ → ℕ
-wait Load d cycle misses free_from = wait_for_register d cycle misses
-wait Div d cycle misses free_from = max 1 (free_from - cycle)
-wait _ d cycle misses free_from = 1
+-- the cycles until a waiting entry issues, if it is the oldest: a load has a register once all are free, a division the divider
+abbrev pub wait : Kind → ℕ → List Miss → ℕ → ℕ
+wait Load cycle misses free_from = max 1 (last_due misses - cycle)
+wait Div cycle misses free_from = max 1 (free_from - cycle)
+wait _ cycle misses free_from = 1
 
 -- the cycles until an entry is done, if it is the oldest; one that is done retires in the next cycle
-abbrev pub takes : State → Kind → Desc → ℕ → List Miss → ℕ → ℕ
+abbrev pub takes : Progress → Kind → Desc → ℕ → List Miss → ℕ → ℕ
 takes Done k d cycle misses free_from = 1
 takes (Busy due) k d cycle misses free_from = due - cycle
-takes Waiting k d cycle misses free_from = wait k d cycle misses free_from + latency k d
+takes Waiting k d cycle misses free_from = wait k cycle misses free_from + latency k d
 
 -- the bound where nothing is fetched yet, and a cycle less where something is
 abbrev pub until_renamed : Desc → List Item → ℕ

@@ -6,14 +6,18 @@ use Rattle.std.proofs.lemmas.List.{map-append}
 use Rattle.std.proofs.lemmas.List.Elements.{filter-append, All-head, All-tail}
 use Rattle.std.proofs.lemmas.Bool.Decides.{nat_tests}
 use Rattle.window_model.specs.declared.Entry.{Entry}
-use Rattle.window_model.specs.declared.State.TheVariants.{Done}
+use Rattle.window_model.specs.declared.Progress.TheVariants.{Done}
 use Rattle.window_model.specs.Order.{fault_of, is_load, is_store, is_waiting}
 use Rattle.window_model.specs.Retire.{addr_of, stored_of}
 use Rattle.lsq.specs.declared.store.Known.{Known}
 use Rattle.lsq.specs.declared.store.Store.{Store}
 use Rattle.lsq.specs.Queues.{known_at}
 use Rattle.queue_laws.specs.Window.{Others, Shown, StoresStandFor, Write, known_of, loads_in, shown_entry, shown_store, stores_in, write_in, write_of}
-use Rattle.queue_laws.specs.Laws.{CompletesOther, CompletesStore}
+use Rattle.lsq.specs.Queues.{Queues}
+use Rattle.rv_types.specs.Value.{bytes_in}
+use Rattle.rv_types.specs.declared.Width.{Width}
+use Rattle.window_model.specs.Retire.{width_of}
+use Rattle.queue_laws.specs.Window.{StandFor}
 
 -- ---- a store that becomes known, as it is shown
 
@@ -59,7 +63,9 @@ loads_same old e young =
 none_of : (e : Entry) → is_store e.item.kind ≡ false → stores_in (e ∷ []) ≡ []
 none_of e h = ap (λ s. map shown_entry (cond s (e ∷ []) [])) h
 
-pub other_completes : CompletesOther
+-- any other entry becomes Done
+pub other_completes : (q : Queues) (old young : List Entry) (e : Entry) → StandFor q (old ++ e ∷ young) → is_store e.item.kind ≡ false →
+    StandFor q (old ++ record e { state = Done } ∷ young)
 other_completes q old young e s h = record {
   loads = s.loads ∙ loads_same old e young;
   stores = s.stores ∙ stores_around old e young
@@ -101,7 +107,11 @@ known_stands ss k old young e w u h o y =
     (map-append f (stores_in (e ∷ [])) (stores_in young) ∙ ap₂ (λ a b. a ++ b) (own_one e k (is_store e.item.kind) w u) (others_same e.serial (write_of k) young y))
     ∙ sym (stores_around old (record e { state = Done }) young)
 
-pub store_completes : CompletesStore
+-- a store that executes becomes Done and is made known with the width of its access
+pub store_completes : (q : Queues) (old young : List Entry) (e : Entry) (w : Width) → StandFor q (old ++ e ∷ young) → is_store e.item.kind ≡ true →
+    is_waiting e.state ≡ false → bytes_in w ≡ width_of e →
+    Others e.serial old → Others e.serial young →
+    StandFor (record q { stores = map (known_at e.serial (known_of w e)) q.stores }) (old ++ record e { state = Done } ∷ young)
 store_completes q old young e w s h u size o y = record {
   loads = s.loads ∙ loads_same old e young;
   stores = known_stands q.stores (known_of w e) old young e

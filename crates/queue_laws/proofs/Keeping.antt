@@ -9,7 +9,9 @@ use Rattle.window_model.specs.declared.Entry.{Entry}
 use Rattle.window_model.specs.Order.{is_load, is_store}
 use Rattle.lsq.specs.declared.store.Store.{Store}
 use Rattle.queue_laws.specs.Window.{NotOlder, Older, Others, Shown, StoresStandFor, loads_in, shown_entry, shown_store, stores_in}
-use Rattle.queue_laws.specs.Laws.{CutsWithWindow, HoldsOlder, PopsWithHead}
+use Rattle.queue_laws.specs.Laws.{HoldsOlder}
+use Rattle.lsq.specs.Queues.{Queues}
+use Rattle.queue_laws.specs.Window.{StandFor}
 
 -- ---- a filter by serials
 
@@ -116,7 +118,9 @@ pub older_stands : HoldsOlder
 older_stands q old rest serial s h k =
     reversed (filter (λ s. nat_lt s.serial serial) q.stores) old (stores_kept (λ n. nat_lt n serial) q.stores (old ++ rest) s.stores ∙ ap stores_in (split_by serial old rest h k))
 
-pub cut_stands : CutsWithWindow
+-- entries from a serial on are dropped and cut
+pub cut_stands : (q : Queues) (first : ℕ) (old rest : List Entry) → StandFor q (old ++ rest) → Older first old → NotOlder first rest →
+    StandFor (record q { loads = filter (λ l. nat_lt l first) q.loads; stores = filter (λ s. nat_lt s.serial first) q.stores }) old
 cut_stands q first old rest s h k =
     let p : ℕ → Bool = λ n. nat_lt n first in
     let e = split_by first old rest h k in
@@ -125,7 +129,9 @@ cut_stands q first old rest s h k =
       stores = stores_kept p q.stores (old ++ rest) s.stores ∙ ap stores_in e;
     }
 
-pub pop_stands : PopsWithHead
+-- the oldest entry retires and is popped
+pub pop_stands : (q : Queues) (head : Entry) (rest : List Entry) → StandFor q (head ∷ rest) → Others head.serial rest →
+    StandFor (record q { loads = filter (λ l. not (l == head.serial)) q.loads; stores = filter (λ s. not (s.serial == head.serial)) q.stores }) rest
 pop_stands q head rest s h =
     let p : ℕ → Bool = λ n. not (n == head.serial) in
     let own : (head.serial == head.serial) ≡ true = grind (arith, nat_tests) in

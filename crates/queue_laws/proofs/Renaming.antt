@@ -11,7 +11,11 @@ use Rattle.window_model.specs.declared.Entry.{Entry}
 use Rattle.window_model.specs.Order.{is_load, is_store}
 use Rattle.window_model.proofs.Booleans.{waiting_done}
 use Rattle.queue_laws.specs.Window.{Seen, Shown, loads_in, seen, shown_entry, shown_store, stores_in, write_in}
-use Rattle.queue_laws.specs.Laws.{AddsLoad, AddsOther, AddsStore, ChangesUnseen, OpensEmpty, RoomAsCounted}
+use Rattle.queue_laws.specs.Laws.{RoomAsCounted}
+use Rattle.lsq.specs.Queues.{Queues, empty}
+use Rattle.queue_laws.specs.Window.{StandFor}
+use Rattle.machine_desc.specs.declared.Desc.{Desc}
+use Rattle.window_model.specs.Order.{is_waiting}
 
 -- ---- an entry behind the youngest
 
@@ -47,16 +51,21 @@ store_no_load : (k : Kind) → is_store k ≡ true → is_load k ≡ false
 store_no_load Load h = absurd (cc)
 store_no_load _ h = refl
 
-pub opens : OpensEmpty
+-- no loads and stores, and no entries
+pub opens : (d : Desc) → StandFor (empty d) []
 opens d = record { loads = refl; stores = refl }
 
-pub adds_load : AddsLoad
+-- a load is renamed
+pub adds_load : (q : Queues) (window : List Entry) (e : Entry) → StandFor q window → is_load e.item.kind ≡ true →
+    StandFor (record q { loads = q.loads ++ e.serial ∷ [] }) (window ++ e ∷ [])
 adds_load q window e s h = record {
   loads = ap (λ ls. ls ++ e.serial ∷ []) s.loads ∙ sym (loads_push window e true h);
   stores = s.stores ∙ sym (no_store window e (load_no_store e.item.kind h));
 }
 
-pub adds_store : AddsStore
+-- a store is renamed, which waits, whatever its root
+pub adds_store : (q : Queues) (window : List Entry) (e : Entry) (root : Option ℕ) → StandFor q window → is_store e.item.kind ≡ true → is_waiting e.state ≡ true →
+    StandFor (record q { stores = q.stores ++ record { serial = e.serial; root = root; known = None } ∷ [] }) (window ++ e ∷ [])
 adds_store q window e root s h w = let d = waiting_done e.state w in record {
   loads = s.loads ∙ sym (no_load window e (store_no_load e.item.kind h));
   stores = map-append shown_store q.stores _ ∙ ap (λ ws. ws ++ record { serial = e.serial; write = None; computed = true } ∷ []) s.stores
@@ -64,7 +73,9 @@ adds_store q window e root s h w = let d = waiting_done e.state w in record {
       ∙ sym (stores_push window e true h);
 }
 
-pub adds_other : AddsOther
+-- any other entry is renamed
+pub adds_other : (q : Queues) (window : List Entry) (e : Entry) → StandFor q window → is_load e.item.kind ≡ false → is_store e.item.kind ≡ false →
+    StandFor q (window ++ e ∷ [])
 adds_other q window e s l h = record { loads = s.loads ∙ sym (no_load window e l); stores = s.stores ∙ sym (no_store window e h) }
 
 -- ---- what the queues see
@@ -98,7 +109,8 @@ loads_seen [] = refl
 loads_seen (e ∷ ws) =
     load_seen (is_load e.item.kind) e (filter (λ e. is_load e.item.kind) ws) _ (loads_seen ws) ∙ some_more (seen e).load (map (λ (s : Seen). s.load) (map seen ws))
 
-pub unseen_stands : ChangesUnseen
+-- entries change in what the queues don't see, as one that issues or is resolved
+pub unseen_stands : (q : Queues) (window new : List Entry) → StandFor q window → map seen new ≡ map seen window → StandFor q new
 unseen_stands q window new s h = record {
   loads = s.loads ∙ loads_seen window ∙ ap (λ ss. somes (map (λ (s : Seen). s.load) ss)) (sym h) ∙ sym (loads_seen new);
   stores = s.stores ∙ stores_seen window ∙ ap (λ ss. somes (map (λ (s : Seen). s.store) ss)) (sym h) ∙ sym (stores_seen new);

@@ -7,8 +7,8 @@ use Rattle.rv_types.specs.Word.{to_le}
 use Rattle.rv_types.specs.Memory.{Ram}
 use Rattle.window_model.specs.declared.Entry.{Entry}
 use Rattle.window_model.specs.declared.Outcome.{Outcome}
-use Rattle.window_model.specs.declared.State.{State}
-use Rattle.window_model.specs.declared.State.TheVariants.{Waiting, Busy, Done}
+use Rattle.window_model.specs.declared.Progress.{Progress}
+use Rattle.window_model.specs.declared.Progress.TheVariants.{Waiting, Busy, Done}
 use Rattle.window_model.specs.Order.{fault_of, is_done, is_store, is_waiting}
 use Rattle.window_model.specs.Access.{byte_from, byte_of, covers, reaches}
 use Rattle.window_model.specs.Issue.{stores_done}
@@ -75,7 +75,7 @@ queue_computed [] = refl
 queue_computed (s ∷ ss) = queue_computed ss
 
 -- a Done one has its outcome
-has_outcome : (s : State) (o : Option Outcome) → is_done s ≡ true → (is_waiting s || is_some o) ≡ true → is_some o ≡ true
+has_outcome : (s : Progress) (o : Option Outcome) → is_done s ≡ true → (is_waiting s || is_some o) ≡ true → is_some o ≡ true
 has_outcome Done o d h = h
 has_outcome Waiting o d h = absurd (cc)
 has_outcome (Busy due) o d h = absurd (cc)

@@ -1,4 +1,4 @@
--- What queues that stand for a window tell of it, and that they go on to stand for it.
+-- What queues that stand for a window tell of it.
 use Rattle.std.specs.Prelude.{◌≡◌, ℕ, ◌≤◌, Bool, true, false, not, ◌==◌, nat_lt, List, [], ◌∷◌, ◌++◌, length, map, reverse, Option, None}
 use Rattle.std.specs.List.{count_by, filter, list_all}
 use Rattle.rv_types.specs.Memory.{Ram}
@@ -7,7 +7,7 @@ use Rattle.rv_types.specs.declared.Width.{Width}
 use Rattle.machine_desc.specs.declared.Desc.{Desc}
 use Rattle.machine_desc.specs.declared.SttModel.{SttModel}
 use Rattle.window_model.specs.declared.Entry.{Entry}
-use Rattle.window_model.specs.declared.State.TheVariants.{Done}
+use Rattle.window_model.specs.declared.Progress.TheVariants.{Done}
 use Rattle.window_model.specs.Order.{is_load, is_store, is_waiting}
 use Rattle.window_model.specs.Access.{all_covered, any_store_hidden, load_bytes}
 use Rattle.window_model.specs.Issue.{stores_done}
@@ -16,8 +16,6 @@ use Rattle.lsq.specs.declared.store.Store.{Store}
 use Rattle.lsq.specs.Queues.{Queues, empty, is_known, known_at, older, youngest_root}
 use Rattle.lsq.specs.Merging.{all_forwarded, merged_bytes}
 use Rattle.queue_laws.specs.Window.{NotOlder, Older, Others, StandFor, StoresStandFor, hides, known_of, seen, tainted_stores}
-
--- ---- what the queues tell
 
 -- as many loads and stores are held as the window has
 abbrev pub RoomAsCounted : Type 0
@@ -49,50 +47,3 @@ abbrev pub HiddenAsTainted : Type 0
 HiddenAsTainted = (model : SttModel) (visible : ℕ → Bool) → ((a b : ℕ) → a ≤ b → visible b ≡ true → visible a ≡ true) →
     (stores : List Store) (before : List Entry) → map (λ s. hides visible s.root) stores ≡ tainted_stores model before →
     hides visible (youngest_root stores) ≡ any_store_hidden model before
-
--- ---- as the window changes
-
--- no loads and stores, and no entries
-abbrev pub OpensEmpty : Type 0
-OpensEmpty = (d : Desc) → StandFor (empty d) []
-
--- a load is renamed
-abbrev pub AddsLoad : Type 0
-AddsLoad = (q : Queues) (window : List Entry) (e : Entry) → StandFor q window → is_load e.item.kind ≡ true →
-    StandFor (record q { loads = q.loads ++ e.serial ∷ [] }) (window ++ e ∷ [])
-
--- a store is renamed, which waits, whatever its root
-abbrev pub AddsStore : Type 0
-AddsStore = (q : Queues) (window : List Entry) (e : Entry) (root : Option ℕ) → StandFor q window → is_store e.item.kind ≡ true → is_waiting e.state ≡ true →
-    StandFor (record q { stores = q.stores ++ record { serial = e.serial; root = root; known = None } ∷ [] }) (window ++ e ∷ [])
-
--- any other entry is renamed
-abbrev pub AddsOther : Type 0
-AddsOther = (q : Queues) (window : List Entry) (e : Entry) → StandFor q window → is_load e.item.kind ≡ false → is_store e.item.kind ≡ false →
-    StandFor q (window ++ e ∷ [])
-
--- entries change in what the queues don't see, as one that issues or is resolved
-abbrev pub ChangesUnseen : Type 0
-ChangesUnseen = (q : Queues) (window new : List Entry) → StandFor q window → map seen new ≡ map seen window → StandFor q new
-
--- a store that executes becomes Done and is made known with the width of its access
-abbrev pub CompletesStore : Type 0
-CompletesStore = (q : Queues) (old young : List Entry) (e : Entry) (w : Width) → StandFor q (old ++ e ∷ young) → is_store e.item.kind ≡ true →
-    is_waiting e.state ≡ false → bytes_in w ≡ width_of e →
-    Others e.serial old → Others e.serial young →
-    StandFor (record q { stores = map (known_at e.serial (known_of w e)) q.stores }) (old ++ record e { state = Done } ∷ young)
-
--- any other entry becomes Done
-abbrev pub CompletesOther : Type 0
-CompletesOther = (q : Queues) (old young : List Entry) (e : Entry) → StandFor q (old ++ e ∷ young) → is_store e.item.kind ≡ false →
-    StandFor q (old ++ record e { state = Done } ∷ young)
-
--- entries from a serial on are dropped and cut
-abbrev pub CutsWithWindow : Type 0
-CutsWithWindow = (q : Queues) (first : ℕ) (old rest : List Entry) → StandFor q (old ++ rest) → Older first old → NotOlder first rest →
-    StandFor (record q { loads = filter (λ l. nat_lt l first) q.loads; stores = filter (λ s. nat_lt s.serial first) q.stores }) old
-
--- the oldest entry retires and is popped
-abbrev pub PopsWithHead : Type 0
-PopsWithHead = (q : Queues) (head : Entry) (rest : List Entry) → StandFor q (head ∷ rest) → Others head.serial rest →
-    StandFor (record q { loads = filter (λ l. not (l == head.serial)) q.loads; stores = filter (λ s. not (s.serial == head.serial)) q.stores }) rest

@@ -1,24 +1,15 @@
 //! The two queues of `lsq` stand for a window's loads and stores.
 //!
 //! `specs/Window.antt` says what that is; `specs/Laws.antt` that queues which stand for a window tell of it what the machine's
-//! definitions find in it, and that each call keeps them with the window as its phase changes it.
+//! definitions find in it. That each step of a cycle keeps them with the window is told by `core_parts`, over the lemmas of `proofs/`.
 #![tactic(auto)]
 
 ghost use Rattle.queue_laws.specs.Laws.{
-  AddsLoad,
-  AddsOther,
-  AddsStore,
   BytesAsLoaded,
-  ChangesUnseen,
-  CompletesOther,
-  CompletesStore,
   CoveredAsAsked,
-  CutsWithWindow,
   HiddenAsTainted,
   HoldsOlder,
   KnownAsDone,
-  OpensEmpty,
-  PopsWithHead,
   RoomAsCounted,
 };
 
@@ -32,18 +23,4 @@ pub fn queues_tell_of_window()
     ensures bytes { BytesAsLoaded }
     ensures covered { CoveredAsAsked }
     ensures hidden { HiddenAsTainted }
-{}
-
-/// Queues go on to stand for the window as it changes: as entries are renamed into it, issue, complete and are resolved, are
-/// dropped, and retire (`docs/machine.md`, "A cycle").
-pub fn queues_stay_with_window()
-    ensures opens { OpensEmpty }
-    ensures load { AddsLoad }
-    ensures store { AddsStore }
-    ensures other { AddsOther }
-    ensures unseen { ChangesUnseen }
-    ensures completes_store { CompletesStore }
-    ensures completes_other { CompletesOther }
-    ensures cut { CutsWithWindow }
-    ensures pop { PopsWithHead }
 {}

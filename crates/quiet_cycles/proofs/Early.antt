@@ -9,8 +9,8 @@ use Rattle.machine_desc.specs.declared.Desc.{Desc}
 use Rattle.window_model.specs.declared.Entry.{Entry}
 use Rattle.window_model.specs.declared.Event.TheVariants as event
 use Rattle.window_model.specs.declared.Miss.{Miss}
-use Rattle.window_model.specs.declared.State.{State}
-use Rattle.window_model.specs.declared.State.TheVariants.{Waiting, Busy, Done}
+use Rattle.window_model.specs.declared.Progress.{Progress}
+use Rattle.window_model.specs.declared.Progress.TheVariants.{Waiting, Busy, Done}
 use Rattle.window_model.specs.declared.Target.{Target}
 use Rattle.window_model.specs.declared.Way.TheVariants.{Jump}
 use Rattle.window_model.specs.State.{Machine, After}
@@ -64,7 +64,7 @@ complete_nothing x h =
     let left : List Entry → List Entry → After = λ done window. record { machine = record x { window = window }; events = map (λ (e : Entry). event.Done e.serial) done } in
     ap (λ done. left done (map (completed x.cycle) x.window)) (none_kept (completes x.cycle) x.window h) ∙ ap (left []) (stays_busy x.cycle x.window h)
 
-not_done_now : (n before cycle : ℕ) (s : State) → NotDoneBefore n before s → before < cycle → cycle < n → completes_at cycle s ≡ false
+not_done_now : (n before cycle : ℕ) (s : Progress) → NotDoneBefore n before s → before < cycle → cycle < n → completes_at cycle s ≡ false
 not_done_now n before cycle (Busy due) h l m = not_now n before cycle due h l m
 not_done_now n before cycle Waiting h l m = refl
 not_done_now n before cycle Done h l m = refl

@@ -11,8 +11,8 @@ use Rattle.quiet_cycles.specs.Still.{at_cycle}
 -- ---- rename
 
 module _ (d : Desc) (c : ℕ) where
-  by_fit : (n : ℕ) (b : Bool) (i : Item) (rest : List Item) (x : Machine) → (if b then then_does (rename_one i rest x) (rename_up_to d n) else nothing x).events ≡ [] →
-      (if b then then_does (rename_one i rest (at_cycle c x)) (rename_up_to d n) else nothing (at_cycle c x)) ≡ nothing (at_cycle c x)
+  by_fit : (n : ℕ) (b : Bool) (i : Item) (rest : List Item) (x : Machine) → (if b then then_does (rename_one d i rest x) (rename_up_to d n) else nothing x).events ≡ [] →
+      (if b then then_does (rename_one d i rest (at_cycle c x)) (rename_up_to d n) else nothing (at_cycle c x)) ≡ nothing (at_cycle c x)
   by_fit n true i rest x h = absurd (cc)
   by_fit n false i rest x h = refl
 
@@ -32,8 +32,8 @@ module _ (d : Desc) (c : ℕ) where
 -- ---- fetch
 
 module _ (d : Desc) (code : Code) (c : ℕ) where
-  by_room : (n : ℕ) (b : Bool) (pc : ℕ) (x : Machine) → (if b then then_does (fetch_one (item_at d code x pc) x) (fetch_up_to d code n) else nothing x).events ≡ [] →
-      (if b then then_does (fetch_one (item_at d code (at_cycle c x) pc) (at_cycle c x)) (fetch_up_to d code n) else nothing (at_cycle c x)) ≡ nothing (at_cycle c x)
+  by_room : (n : ℕ) (b : Bool) (pc : ℕ) (x : Machine) → (if b then then_does (fetch_one d (item_at d code x pc) x) (fetch_up_to d code n) else nothing x).events ≡ [] →
+      (if b then then_does (fetch_one d (item_at d code (at_cycle c x) pc) (at_cycle c x)) (fetch_up_to d code n) else nothing (at_cycle c x)) ≡ nothing (at_cycle c x)
   by_room n true pc x h = absurd (cc)
   by_room n false pc x h = refl
 

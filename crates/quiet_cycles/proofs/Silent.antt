@@ -6,6 +6,7 @@ use Rattle.rv_types.specs.declared.End.{End}
 use Rattle.machine_desc.specs.declared.Desc.{Desc}
 use Rattle.window_model.specs.declared.Event.{Event}
 use Rattle.window_model.specs.State.{Machine, After}
+use Rattle.window_model.specs.Around.{around}
 use Rattle.window_model.specs.Order.{first}
 use Rattle.window_model.specs.Fill.{fill, complete}
 use Rattle.window_model.specs.Resolve.{resolve, may_resolve}
@@ -26,7 +27,7 @@ use Rattle.quiet_cycles.proofs.Later.{free_as_before, none_begins_later}
 
 -- nothing issues, and whatever the cycle nothing is renamed or fetched
 pub record SilentBack (d : Desc) (code : Code) (x : Machine) : Type 0 where
-  pub begins : NoneBegins d x [] x.window
+  pub begins : NoneBegins d (around x) [] x.window
   pub renames : (c : ℕ) → rename d (at_cycle c x) ≡ nothing (at_cycle c x)
   pub fetches : (c : ℕ) → fetch d code (at_cycle c x) ≡ nothing (at_cycle c x)
 

@@ -4,15 +4,14 @@ use Rattle.std.specs.Prelude.{All}
 use Rattle.std.proofs.lemmas.List.Elements.{All-weaker, All-more}
 use Rattle.window_model.specs.declared.Entry.{Entry}
 use Rattle.window_model.specs.declared.Miss.{Miss}
-use Rattle.window_model.specs.declared.State.{State}
-use Rattle.window_model.specs.declared.State.TheVariants.{Waiting, Busy, Done}
-use Rattle.window_model.specs.State.{Machine}
-use Rattle.quiet_cycles.specs.Still.{NotDueBefore, NotDoneBefore, NothingDueBefore}
+use Rattle.window_model.specs.declared.Progress.{Progress}
+use Rattle.window_model.specs.declared.Progress.TheVariants.{Waiting, Busy, Done}
+use Rattle.quiet_cycles.specs.Still.{NotDueBefore, NotDoneBefore}
 
 pub due_sooner : (m n cycle due : ℕ) → m ≤ n → NotDueBefore n cycle due → NotDueBefore m cycle due
 due_sooner m n cycle due l h = λ k. let p = h k in omega arith
 
-pub done_sooner : (m n cycle : ℕ) (s : State) → m ≤ n → NotDoneBefore n cycle s → NotDoneBefore m cycle s
+pub done_sooner : (m n cycle : ℕ) (s : Progress) → m ≤ n → NotDoneBefore n cycle s → NotDoneBefore m cycle s
 done_sooner m n cycle (Busy due) l h = due_sooner m n cycle due l h
 done_sooner m n cycle Waiting l h = tt
 done_sooner m n cycle Done l h = tt
@@ -22,13 +21,6 @@ entries_sooner m n cycle es l h = All-weaker _ _ (λ (e : Entry) k. done_sooner 
 
 pub lines_sooner : (m n cycle : ℕ) (ms : List Miss) → m ≤ n → All (λ r. NotDueBefore n cycle r.due) ms → All (λ r. NotDueBefore m cycle r.due) ms
 lines_sooner m n cycle ms l h = All-weaker _ _ (λ (r : Miss) k. due_sooner m n cycle r.due l k) ms h
-
-pub nothing_sooner : (m n : ℕ) (x : Machine) → m ≤ n → NothingDueBefore n x → NothingDueBefore m x
-nothing_sooner m n x l h = record {
-  entries = entries_sooner m n x.cycle x.window l h.entries;
-  lines = lines_sooner m n x.cycle x.misses l h.lines;
-  divider = due_sooner m n x.cycle x.divider.free_from l h.divider;
-}
 
 -- ---- a walk goes on, and the least is now m
 

@@ -59,4 +59,4 @@ module _ (d : Desc) (c : ℕ) where
 -- Retire keeps an end
 pub retire_ended : (d : Desc) (x : Machine) (end : End) → x.end ≡ Some end → (retire d x).machine.end ≡ Some end
 retire_ended d x end h =
-    retire_by d (λ n x r. x.end ≡ Some end → r.machine.end ≡ Some end) (λ n x h. h) (λ n stored x e rest u q l t more h. absurd (cc)) (λ n x e rest cause u q l t h. absurd (cc)) x h
+    retire_by d (λ n stored x r. x.end ≡ Some end → r.machine.end ≡ Some end) (λ n stored x s h. h) (λ n stored x e rest u q l t w more h. absurd (cc)) (λ n stored x e rest cause u q l t h. absurd (cc)) x h

@@ -2,8 +2,8 @@
 use Rattle.std.specs.Prelude.{◌≡◌, ℕ, zero, suc, ◌+◌, ◌<◌, ◌≤◌, List, [], ◌∷◌, All}
 use Rattle.rv_types.specs.Memory.{Code}
 use Rattle.machine_desc.specs.declared.Desc.{Desc}
-use Rattle.window_model.specs.declared.State.{State}
-use Rattle.window_model.specs.declared.State.TheVariants.{Busy}
+use Rattle.window_model.specs.declared.Progress.{Progress}
+use Rattle.window_model.specs.declared.Progress.TheVariants.{Busy}
 use Rattle.window_model.specs.State.{Machine}
 use Rattle.window_model.specs.Row.{Row}
 use Rattle.window_model.specs.Cycle.{cycle}
@@ -38,7 +38,7 @@ abbrev pub NotDueBefore : ℕ → ℕ → ℕ → Type 0
 NotDueBefore n cycle due = cycle < due → n ≤ due
 
 -- the same of what an entry is busy with
-abbrev pub NotDoneBefore : ℕ → ℕ → State → Type 0
+abbrev pub NotDoneBefore : ℕ → ℕ → Progress → Type 0
 NotDoneBefore n cycle (Busy due) = NotDueBefore n cycle due
 NotDoneBefore n cycle _ = Unit {0}
 

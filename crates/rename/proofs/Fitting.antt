@@ -8,7 +8,7 @@ use Rattle.rv_types.specs.declared.Kind.TheVariants.{Load, Store, Call}
 use Rattle.machine_desc.specs.declared.Desc.{Desc}
 use Rattle.window_model.specs.declared.Entry.{Entry}
 use Rattle.window_model.specs.declared.Item.{Item}
-use Rattle.window_model.specs.declared.State.TheVariants.{Waiting, Done}
+use Rattle.window_model.specs.declared.Progress.TheVariants.{Waiting, Done}
 use Rattle.window_model.specs.Order.{is_load, is_store, is_waiting}
 use Rattle.window_model.specs.Front.{is_call, at_once, fits, fits_as, renamed, CallAlone, calls}
 use Rattle.window_model.proofs.Booleans.{both, neither, not_true, below}
@@ -16,7 +16,7 @@ use Rattle.window_model.proofs.Counts.{count, count_is, count_pushed, none_count
 use Rattle.lsq.specs.Queues.{Queues}
 use Rattle.queue_laws.specs.Window.{StandFor}
 use Rattle.queue_laws.proofs.Renaming.{room_is}
-use Rattle.rename.specs.Parts.{fitting}
+use Rattle.rename.specs.Fitting.{fitting}
 
 -- ---- a call stands alone
 
@@ -98,29 +98,3 @@ load_room _ d w h l = absurd (cc)
 pub store_room : (k : Kind) (d : Desc) (w : List Entry) → fits_as k d w ≡ true → is_store k ≡ true → count_by (λ e. is_store e.item.kind) w < d.core_stores
 store_room Store d w h s = below _ _ h
 store_room _ d w h s = absurd (cc)
-
--- ---- with a call no other entry is there
-
-empty_for : (k : Kind) (d : Desc) (w : List Entry) → fits_as k d w ≡ true → is_call k ≡ true → length w ≡ 0
-empty_for Call d [] h c = refl
-empty_for Call d (e ∷ w) h c = absurd (cc)
-empty_for _ d w h c = absurd (cc)
-
-no_more_if : (b : Bool) (n : ℕ) → b ≡ false → n + cond b 1 0 ≡ n
-no_more_if false n h = omega arith
-no_more_if true n h = absurd (cc)
-
-alone_by : (d : Desc) (w : List Entry) (e : Entry) (b : Bool) → is_call e.item.kind ≡ b → fits_as e.item.kind d w ≡ true → list_any calls w ≡ false → CallAlone (w ++ e ∷ [])
-alone_by d w e true h f n one =
-    let z = empty_for e.item.kind d w f h in
-    let l = length-append w (e ∷ []) in
-    omega (arith, z, l)
-alone_by d w e false h f n one =
-    let p = count_pushed calls w e in
-    let c = count_is calls w in
-    let z = none_counted calls w n in
-    let v = no_more_if (is_call e.item.kind) (count_by calls w) h in
-    absurd (omega (arith, p, c, z, v, one))
-
-pub alone_more : (d : Desc) (w : List Entry) (item : Item) (serial : ℕ) → Fits d w item → CallAlone (w ++ renamed serial item ∷ [])
-alone_more d w item serial f = alone_by d w (renamed serial item) (is_call item.kind) refl f.kind f.no_call

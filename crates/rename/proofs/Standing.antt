@@ -1,166 +1,172 @@
--- The parts stand for the window again once an entry has come in.
-use Rattle.std.proofs.Common.{◌≡◌, ℕ, ◌+◌, true, List, [], ◌∷◌, ◌++◌, Option, refl, ap, sym, ◌∙◌, subst, arith}
-use Rattle.std.specs.Prelude.{if◌then◌else◌, reverse}
+-- The parts once an entry has come in.
+use Rattle.std.proofs.Common.{◌≡◌, ℕ, ◌+◌, true, false, List, [], ◌∷◌, ◌++◌, Option, Some, refl, ap, sym, ◌∙◌, subst, arith}
+use Rattle.std.specs.Prelude.{◌<◌, if◌then◌else◌, drop, length, map, reverse, slice_get}
 use Rattle.std.specs.Option.{option_to_list}
 use Rattle.circular_buffer.specs.Buffer.{Buffer, buffer}
+use Rattle.rv_types.specs.Regs.{two}
 use Rattle.rv_types.specs.declared.Kind.{Kind}
 use Rattle.rv_types.specs.declared.Kind.TheVariants.{Load, Store}
 use Rattle.machine_desc.specs.declared.Desc.{Desc}
 use Rattle.window_model.specs.declared.Entry.{Entry}
 use Rattle.window_model.specs.declared.Item.{Item}
-use Rattle.window_model.specs.declared.State.TheVariants.{Waiting, Done}
-use Rattle.window_model.specs.Order.{is_load, is_store, is_waiting}
-use Rattle.window_model.specs.Front.{at_once, renamed, CallAlone}
+use Rattle.window_model.specs.declared.Progress.TheVariants.{Waiting, Done}
+use Rattle.window_model.specs.Order.{is_load, is_store, is_waiting, sources}
+use Rattle.window_model.specs.Front.{at_once, renamed}
+use Rattle.machine_facts.specs.Sized.{Sized}
+use Rattle.machine_facts.proofs.SizedPhases.{rename_item}
 use Rattle.rob_ring.specs.Ring.{Ring}
 use Rattle.rename_taint.specs.declared.Write.{Write}
+use Rattle.rename_taint.specs.Writes.{root_at}
 use Rattle.stations.specs.Stations.{Stations}
 use Rattle.lsq.specs.Queues.{Queues}
-use Rattle.queue_laws.specs.Window.{StandFor}
-use Rattle.queue_laws.proofs.Renaming.{adds_load, adds_other, adds_store, room_is}
-use Rattle.parts_stand.specs.Addresses.{AddressesStand}
-use Rattle.parts_stand.specs.Parts.{Parts, Stand, awaits_of, write_of}
-use Rattle.parts_stand.specs.Steps.{seated, with_entry}
-use Rattle.parts_stand.specs.Writers.{WritersOf}
-use Rattle.parts_stand.proofs.Addressing.{addresses_add, addresses_add_other}
+use Rattle.fetch_unit.specs.Front.{Front}
+use Rattle.queue_laws.proofs.Renaming.{room_is}
+use Rattle.parts_stand.specs.Addresses.{base_root}
+use Rattle.parts_stand.specs.Parts.{awaits_of, write_of}
+use Rattle.parts_stand.specs.Steps.{seated}
 use Rattle.parts_stand.proofs.Answering.{counts_room}
-use Rattle.parts_stand.proofs.Standing.{renames_in}
-use Rattle.parts_stand.proofs.Writing.{counts_writers, writers_rename}
-use Rattle.rename.specs.Parts.{Counted, HasRooms, parts_of}
-use Rattle.rename.specs.Entering.{HasRoomFor, roots_at, with_access, writers_at}
-use Rattle.rename.proofs.Fitting.{Fits, alone_more, load_room, station_room, store_room}
-
--- the parts that stand for the window, and the serial that the next entry gets
-pub record Held : Type 0 where
-  pub rob : Ring
-  pub roots : Buffer (List (Option ℕ))
-  pub writers : Buffer (List (Option ℕ))
-  pub writes : List Write
-  pub table_room : ℕ
-  pub stations : Stations
-  pub queues : Queues
-  pub next : ℕ
-
--- they stand for it, and have the description's room
-pub record Tied (d : Desc) (h : Held) : Type 0 where
-  pub stands : Stand (parts_of h.next h.rob h.roots h.writes h.stations)
-  pub writers : WritersOf h.next h.rob.entries h.writers.items
-  pub queues : StandFor h.queues h.rob.entries
-  pub addresses : AddressesStand h.rob.entries h.roots.items h.queues.stores
-  pub alone : CallAlone h.rob.entries
-  pub rooms : HasRooms d h.rob h.roots h.writers h.table_room h.stations h.queues
+use Rattle.parts_stand.proofs.Writing.{counts_writers}
+use Rattle.core_parts.specs.Described.{Described}
+use Rattle.core_parts.specs.Held.{Held, Sizes, Whole, described, in_flight, machine_of, sizes}
+use Rattle.core_parts.specs.Steps.{queued}
+use Rattle.core_parts.proofs.Steps.{stands_renamed}
+use Rattle.rename.proofs.Awaiting.{writers_at}
+use Rattle.rename.specs.Fitting.{Counted, fitting, with_oldest}
+use Rattle.rename.proofs.Fitting.{Fits, fits_all, fitting_is, load_room, station_room, store_room}
 
 -- ---- what they tell of room
 
-pub counted : (d : Desc) (h : Held) → Tied d h → Counted d h.rob.entries h.stations h.queues
-counted d h t =
-    record { waiting = (counts_room _ t.stands).held; places = t.rooms.places; accesses = t.queues; loads = t.rooms.loads; stores = t.rooms.stores }
+pub counted : (h : Held) → Whole h → Counted h.desc h.rob.entries h.stations h.queues
+counted h w = record {
+  waiting = (counts_room _ w.stands.stand).held;
+  places = ap (λ (s : Sizes). s.places) w.made;
+  accesses = w.stands.queues;
+  loads = ap (λ (s : Sizes). s.loads) w.made;
+  stores = ap (λ (s : Sizes). s.stores) w.made;
+}
 
-pub room_for : (d : Desc) (h : Held) (item : Item) → Tied d h → Fits d h.rob.entries item → HasRoomFor (renamed h.next item) h.rob h.roots h.writers h.writes h.table_room h.stations h.queues
-room_for d h item t f =
-    let c = counts_room _ t.stands in
-    let n = counts_writers h.next h.rob.entries h.writers.items t.writers in
-    let q = room_is h.queues h.rob.entries t.queues in
-    let r = t.rooms in
+-- there is room for an entry in each part that is to hold it
+pub record HasRoomFor (h : Held) (e : Entry) : Type 0 where
+  pub entry : length h.rob.entries < h.rob.room
+  pub pair : length h.roots.items < h.roots.capacity
+  pub writers : length h.writers.items < h.writers.capacity
+  pub write : length h.writes < h.table_room
+  pub station : is_waiting e.state ≡ true → length h.stations.held < h.stations.room
+  pub load : is_load e.item.kind ≡ true → length h.queues.loads < h.queues.max_loads
+  pub store : is_store e.item.kind ≡ true → length h.queues.stores < h.queues.max_stores
+
+pub room_for : (h : Held) (item : Item) → Whole h → fitting h.desc h.rob.entries (slice_get h.front.queue 0) ≡ Some item → HasRoomFor h (renamed h.next_serial item)
+room_for h item w q =
+    let f = fits_all h.desc h.rob.entries item (fitting_is h.desc h.rob.entries (slice_get h.front.queue 0) item q).1 in
+    let c = counts_room _ w.stands.stand in
+    let n = counts_writers h.next_serial h.rob.entries h.writers.items w.stands.writers in
+    let k = room_is h.queues h.rob.entries w.stands.queues in
+    let a = ap (λ (s : Sizes). s.entries) w.made in
+    let b = ap (λ (s : Sizes). s.pairs) w.made in
+    let e = ap (λ (s : Sizes). s.writers) w.made in
+    let g = ap (λ (s : Sizes). s.writes) w.made in
+    let p = ap (λ (s : Sizes). s.places) w.made in
+    let m = ap (λ (s : Sizes). s.loads) w.made in
+    let t = ap (λ (s : Sizes). s.stores) w.made in
     record {
-      entry = omega (arith, f.entries, r.entries);
-      pair = omega (arith, f.entries, c.roots, r.pairs);
-      writers = omega (arith, f.entries, n, r.writers);
-      write = omega (arith, f.entries, c.writes, r.writes);
-      station = λ w. let l = station_room (at_once item.kind) _ _ f.station w in omega (arith, l, c.held, r.places);
-      load = λ k. let l = load_room item.kind d h.rob.entries f.kind k in omega (arith, l, q.0, r.loads);
-      store = λ k. let l = store_room item.kind d h.rob.entries f.kind k in omega (arith, l, q.1, r.stores);
+      entry = omega (arith, f.entries, a);
+      pair = omega (arith, f.entries, c.roots, b);
+      writers = omega (arith, f.entries, n, e);
+      write = omega (arith, f.entries, c.writes, g);
+      station = λ wait. let l = station_room (at_once item.kind) _ _ f.station wait in omega (arith, l, c.held, p);
+      load = λ is. let l = load_room item.kind h.desc h.rob.entries f.kind is in omega (arith, l, k.0, m);
+      store = λ is. let l = store_room item.kind h.desc h.rob.entries f.kind is in omega (arith, l, k.1, t);
     }
 
 -- ---- an entry more
 
+-- the youngest roots of an entry's sources, as the table names them
+abbrev pub roots_at : List Write → Entry → List (Option ℕ)
+roots_at writes e = map (root_at writes) (two (sources e))
+
 -- an entry has come in, with the next serial
-pub record Entered (e : Entry) (h h2 : Held) : Type 0 where
-  pub rob : h2.rob ≡ record h.rob { entries = h.rob.entries ++ e ∷ [] }
-  pub roots : h2.roots ≡ buffer (h.roots.items ++ roots_at h.writes e ∷ []) h.roots.capacity
-  pub writers : h2.writers ≡ buffer (h.writers.items ++ writers_at h.writes e ∷ []) h.writers.capacity
-  pub writes : h2.writes ≡ h.writes ++ option_to_list (write_of e (roots_at h.writes e))
-  pub table_room : h2.table_room ≡ h.table_room
-  pub stations : (place : ℕ) × (h2.stations ≡ record h.stations { held = seated place (awaits_of (reverse h.rob.entries) e) e h.stations.held })
-  pub queues : h2.queues ≡ with_access e.item.kind e.serial (roots_at h.writes e) h.queues
-  pub next : h2.next ≡ h.next + 1
+pub record Entered (e : Entry) (h : Held) (rob : Ring) (roots writers : Buffer (List (Option ℕ))) (writes : List Write) (room : ℕ) (stations : Stations) (q : Queues) (front : Front) : Type 0 where
+  pub window : rob ≡ record (h.rob) { entries = h.rob.entries ++ e ∷ [] }
+  pub pairs : roots ≡ buffer (h.roots.items ++ roots_at h.writes e ∷ []) h.roots.capacity
+  pub sources : writers ≡ buffer (h.writers.items ++ writers_at h.writes e ∷ []) h.writers.capacity
+  pub table : writes ≡ h.writes ++ option_to_list (write_of e (roots_at h.writes e))
+  pub same_room : room ≡ h.table_room
+  pub places : (place : ℕ) × (stations ≡ record (h.stations) { held = seated place (awaits_of (reverse h.rob.entries) e) e h.stations.held })
+  pub loads_and_stores : q ≡ queued e.item.kind e.serial (base_root (roots_at h.writes e)) h.queues
+  pub fetched : front ≡ record (h.front) { queue = drop 1 h.front.queue }
 
-stands_more : (e : Entry) (h h2 : Held) → Entered e h h2 → e.serial ≡ h.next → Stand (parts_of h.next h.rob h.roots h.writes h.stations) → Stand (parts_of h2.next h2.rob h2.roots h2.writes h2.stations)
-stands_more e h h2 g n s =
-    let p = parts_of h.next h.rob h.roots h.writes h.stations in
-    let place = g.stations.0 in
-    let new = with_entry place (roots_at h.writes e) (awaits_of (reverse h.rob.entries) e) e p in
-    let a = ap (λ (r : Ring). r.entries) g.rob in
-    let b = ap (λ (b : Buffer (List (Option ℕ))). b.items) g.roots in
-    let c = ap (λ (s : Stations). s.held) g.stations.1 in
-    let same : parts_of h2.next h2.rob h2.roots h2.writes h2.stations ≡ new =
-    ap (λ n. parts_of n h2.rob h2.roots h2.writes h2.stations) g.next
-    ∙ ap (λ ws. record { next = h.next + 1; window = h2.rob.entries; roots = h2.roots.items; writes = ws; held = h2.stations.held }) g.writes
-    ∙ ap (λ es. record { next = h.next + 1; window = es; roots = h2.roots.items; writes = new.writes; held = h2.stations.held }) a
-    ∙ ap (λ rs. record { next = h.next + 1; window = new.window; roots = rs; writes = new.writes; held = h2.stations.held }) b
-    ∙ ap (λ hs. record { next = h.next + 1; window = new.window; roots = new.roots; writes = new.writes; held = hs }) c in
-    subst Stand (sym same) (renames_in p e (roots_at h.writes e) (awaits_of (reverse h.rob.entries) e) place s n refl refl)
+-- all parts, with it
+abbrev entered : ℕ → Entry → Held → Held
+entered place e h = record h {
+  rob = record (h.rob) { entries = h.rob.entries ++ e ∷ [] };
+  roots = buffer (h.roots.items ++ roots_at h.writes e ∷ []) h.roots.capacity;
+  writers = buffer (h.writers.items ++ writers_at h.writes e ∷ []) h.writers.capacity;
+  writes = h.writes ++ option_to_list (write_of e (roots_at h.writes e));
+  stations = record (h.stations) { held = seated place (awaits_of (reverse h.rob.entries) e) e h.stations.held };
+  queues = queued e.item.kind e.serial (base_root (roots_at h.writes e)) h.queues;
+  front = record (h.front) { queue = drop 1 h.front.queue };
+  next_serial = h.next_serial + 1;
+}
 
-writers_more : (e : Entry) (h h2 : Held) → Entered e h h2 → e.serial ≡ h.next → Stand (parts_of h.next h.rob h.roots h.writes h.stations) → WritersOf h.next h.rob.entries h.writers.items → WritersOf h2.next h2.rob.entries h2.writers.items
-writers_more e h h2 g n s k =
-    let ws = writers_at h.writes e in
-    let a = ap (λ (r : Ring). r.entries) g.rob in
-    let b = ap (λ (b : Buffer (List (Option ℕ))). b.items) g.writers in
-    subst (λ n. WritersOf n h2.rob.entries h2.writers.items) (sym g.next)
-    (subst (λ es. WritersOf (h.next + 1) es h2.writers.items) (sym a)
-    (subst (λ writers. WritersOf (h.next + 1) (h.rob.entries ++ e ∷ []) writers) (sym b)
-    (writers_rename (parts_of h.next h.rob h.roots h.writes h.stations) h.writers.items e ws s k n refl)))
+-- the queues' room stays
+keeps_loads : (k : Kind) (serial : ℕ) (root : Option ℕ) (q : Queues) → (queued k serial root q).max_loads ≡ q.max_loads
+keeps_loads Load serial root q = refl
+keeps_loads Store serial root q = refl
+keeps_loads _ serial root q = refl
+
+keeps_stores : (k : Kind) (serial : ℕ) (root : Option ℕ) (q : Queues) → (queued k serial root q).max_stores ≡ q.max_stores
+keeps_stores Load serial root q = refl
+keeps_stores Store serial root q = refl
+keeps_stores _ serial root q = refl
+
+entered_sizes : (h : Held) (place : ℕ) (e : Entry) → sizes (entered place e h) ≡ sizes h
+entered_sizes h place e =
+    let a = keeps_loads e.item.kind e.serial (base_root (roots_at h.writes e)) h.queues in
+    let b = keeps_stores e.item.kind e.serial (base_root (roots_at h.writes e)) h.queues in
+    cc
 
 -- a store waits for its operands
-waits : (k : Kind) → is_store k ≡ true → is_waiting (if at_once k then Done else Waiting) ≡ true
+waits : (k : Kind) → k ≡ Store → is_waiting (if at_once k then Done else Waiting) ≡ true
 waits Store s = refl
 waits _ s = absurd (cc)
 
-queues_by : (k : Kind) (q : Queues) (w : List Entry) (e : Entry) (roots : List (Option ℕ)) → e.item.kind ≡ k → (is_store k ≡ true → is_waiting e.state ≡ true) → StandFor q w → StandFor (with_access k e.serial roots q) (w ++ e ∷ [])
-queues_by Load q w e roots h d s = adds_load q w e s (ap is_load h)
-queues_by Store q w e roots h d s = adds_store q w e _ s (ap is_store h) (d refl)
-queues_by _ q w e roots h d s = adds_other q w e s (ap is_load h) (ap is_store h)
+pub first_rest : (q : List Item) (item : Item) → slice_get q 0 ≡ Some item → q ≡ item ∷ drop 1 q
+first_rest [] item h = absurd (cc)
+first_rest (x ∷ q) item h = cc
 
-addresses_by : (k : Kind) (p : Parts) (q : Queues) (e : Entry) (roots : List (Option ℕ)) → e.item.kind ≡ k → Stand p → AddressesStand p.window p.roots q.stores →
-    AddressesStand (p.window ++ e ∷ []) (p.roots ++ roots ∷ []) (with_access k e.serial roots q).stores
-addresses_by Store p q e roots h s a = addresses_add p q.stores e roots s a (ap is_store h)
-addresses_by _ p q e roots h s a = addresses_add_other p q.stores e roots s a (ap is_store h)
-
--- the queues' room stays
-keeps_loads : (k : Kind) (serial : ℕ) (roots : List (Option ℕ)) (q : Queues) → (with_access k serial roots q).max_loads ≡ q.max_loads
-keeps_loads Load serial roots q = refl
-keeps_loads Store serial roots q = refl
-keeps_loads _ serial roots q = refl
-
-keeps_stores : (k : Kind) (serial : ℕ) (roots : List (Option ℕ)) (q : Queues) → (with_access k serial roots q).max_stores ≡ q.max_stores
-keeps_stores Load serial roots q = refl
-keeps_stores Store serial roots q = refl
-keeps_stores _ serial roots q = refl
-
-pub tied_more : (d : Desc) (h h2 : Held) (item : Item) → Tied d h → Fits d h.rob.entries item → Entered (renamed h.next item) h h2 → Tied d h2
-tied_more d h h2 item t f g =
-    let e = renamed h.next item in
-    let k = item.kind in
-    let roots = roots_at h.writes e in
-    let p = parts_of h.next h.rob h.roots h.writes h.stations in
-    let w : h.rob.entries ++ e ∷ [] ≡ h2.rob.entries = sym (ap (λ (r : Ring). r.entries) g.rob) in
-    let rs : h.roots.items ++ roots ∷ [] ≡ h2.roots.items = sym (ap (λ (b : Buffer (List (Option ℕ))). b.items) g.roots) in
-    let q : with_access k h.next roots h.queues ≡ h2.queues = sym g.queues in
+entered_whole : (h : Held) (item : Item) (place : ℕ) → Whole h → fitting h.desc h.rob.entries (slice_get h.front.queue 0) ≡ Some item → Whole (entered place (renamed h.next_serial item) h)
+entered_whole h item place w q =
+    let e = renamed h.next_serial item in
+    let found = fitting_is h.desc h.rob.entries (slice_get h.front.queue 0) item q in
     record {
-      stands = stands_more e h h2 g refl t.stands;
-      writers = writers_more e h h2 g refl t.stands t.writers;
-      queues = subst (λ w. StandFor h2.queues w) w (subst (λ q. StandFor q (h.rob.entries ++ e ∷ [])) q (queues_by k h.queues h.rob.entries e roots refl (waits k) t.queues));
-      addresses =
-          subst (λ w. AddressesStand w h2.roots.items h2.queues.stores) w
-          (subst (λ rs. AddressesStand (h.rob.entries ++ e ∷ []) rs h2.queues.stores) rs
-          (subst (λ (q : Queues). AddressesStand (h.rob.entries ++ e ∷ []) (h.roots.items ++ roots ∷ []) q.stores) q (addresses_by k p h.queues e roots refl t.stands t.addresses)));
-      alone = subst CallAlone w (alone_more d h.rob.entries item h.next f);
-      rooms = record {
-        entries = ap (λ (r : Ring). r.room) g.rob ∙ t.rooms.entries;
-        pairs = ap (λ (b : Buffer (List (Option ℕ))). b.capacity) g.roots ∙ t.rooms.pairs;
-        writers = ap (λ (b : Buffer (List (Option ℕ))). b.capacity) g.writers ∙ t.rooms.writers;
-        writes = g.table_room ∙ t.rooms.writes;
-        places = ap (λ (s : Stations). s.room) g.stations.1 ∙ t.rooms.places;
-        loads = ap (λ (q : Queues). q.max_loads) g.queues ∙ keeps_loads k h.next roots h.queues ∙ t.rooms.loads;
-        stores = ap (λ (q : Queues). q.max_stores) g.queues ∙ keeps_stores k h.next roots h.queues ∙ t.rooms.stores;
-      };
+      sized = rename_item h.desc (machine_of h) item (drop 1 h.front.queue) (first_rest h.front.queue item found.0) found.1 w.sized;
+      stands = stands_renamed (in_flight h) e (roots_at h.writes e) (writers_at h.writes e) (awaits_of (reverse h.rob.entries) e) place w.stands (record { serial = refl; unresolved = refl; waits = waits item.kind }) refl refl refl;
+      made = entered_sizes h place e ∙ w.made;
     }
+
+module _ (h : Held) (item : Item) (rob : Ring) (roots writers : Buffer (List (Option ℕ))) (writes : List Write) (room : ℕ) (stations : Stations) (q : Queues) (front : Front) (next : ℕ) (w : Whole h)
+    (g : Entered (renamed h.next_serial item) h rob roots writers writes room stations q front) (n : next ≡ h.next_serial + 1) where
+  are : record h { rob = rob; roots = roots; writers = writers; writes = writes; table_room = room; stations = stations; queues = q; front = front; next_serial = next } ≡ entered g.places.0 (renamed h.next_serial item) h
+  are =
+      let e1 = g.window in
+      let e2 = g.pairs in
+      let e3 = g.sources in
+      let e4 = g.table in
+      let e5 = g.same_room in
+      let e6 = g.places.1 in
+      let e7 = g.loads_and_stores in
+      let e8 = g.fetched in
+      cc
+
+  pub enter_whole : fitting h.desc h.rob.entries (slice_get h.front.queue 0) ≡ Some item →
+      Whole (record h { rob = rob; roots = roots; writers = writers; writes = writes; table_room = room; stations = stations; queues = q; front = front; next_serial = next })
+  enter_whole f = subst Whole (sym are) (entered_whole h item g.places.0 w f)
+
+  pub enter_shown : (v : Described) → described h ≡ v →
+      described (record h { rob = rob; roots = roots; writers = writers; writes = writes; table_room = room; stations = stations; queues = q; front = front; next_serial = next })
+      ≡ record v { machine = with_oldest v.desc item v.machine }
+  enter_shown v s = ap described are ∙ ap (λ (v : Described). record v { machine = with_oldest v.desc item v.machine }) s
+
+-- what is told of the oldest item is told of the machine's
+pub fits_here : (h : Held) (v : Described) (o : Option Item) → Whole h → described h ≡ v → o ≡ fitting h.desc h.rob.entries (slice_get h.front.queue 0) → o ≡ fitting v.desc v.machine.window (slice_get v.machine.queue 0)
+fits_here h v o w s e = e ∙ ap (λ (v : Described). fitting v.desc v.machine.window (slice_get v.machine.queue 0)) s

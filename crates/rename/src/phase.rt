@@ -1,76 +1,72 @@
 //! The phase: item by item.
-ghost use Rattle.std.specs.Prelude.{◌≡◌, ◌≤◌, ◌<◌, ◌+◌, ◌^◌, None, IfSome, is_some, drop, slice_get};
+ghost use Rattle.std.specs.Prelude.{◌≡◌, ◌<◌, ◌+◌, ◌^◌, None, IfSome, is_some, drop, slice_get};
+ghost use Rattle.window_model.specs.Front.{rename, CallAlone};
 ghost use Rattle.window_model.specs.Row.{HasRoom, IsLonger, most_fetched, with_events};
-ghost use Rattle.window_model.specs.State.{Machine};
-ghost use Rattle.queue_laws.specs.Window.{StandFor};
-ghost use Rattle.visibility.specs.Point.{Point};
-ghost use Rattle.parts_stand.specs.Parts.{Stand};
-ghost use Rattle.parts_stand.specs.Addresses.{AddressesStand};
-ghost use Rattle.parts_stand.specs.Points.{PointStands};
-ghost use Rattle.parts_stand.specs.Writers.{WritersOf};
-ghost use Rattle.window_model.specs.Front.{CallAlone};
-ghost use Rattle.rename.specs.Parts.{Counted, HasRooms, fitting, parts_of, renames, with_parts};
+ghost use Rattle.rename.specs.Fitting.{Counted, fitting, with_oldest};
 
-use crate::entering::add_entry;
+use crate::entering::{add_access, add_station, add_write, push_within, renamed};
 use crate::room::fits;
-use circular_buffer::HeapCircularBuffer;
+use crate::sources::{awaits_of, writers_of};
+use core_parts::Parts;
 use fetch_unit::Fetch;
 use lsq::Lsq;
 use machine_desc::Desc;
-use rename_taint::RenameTaint;
+use rename_taint::{RenameTaint, roots_of};
 use rob_ring::RobRing;
 use stations::Stations;
 use window_model::{Event, Item, Row};
 
 /// Phase Rename: up to the description's width of fetching, the oldest fetched items come into the window, each with the next
-/// serial and with its event in the row, as long as they fit.
-///
-/// What it leaves is what the definition leaves of every machine with this window, queue, fetch pc and next serial. The other
-/// parts have stood for the window, and do so again: the youngest roots and the writers of each entry's first and second source
-/// stand at the entry's position, the table holds its write, the stations hold it where it waits, and the queues hold it where
-/// it is a load or a store. The visibility point stays where it is, and can move on from there.
-pub fn rename<R: RenameTaint>(
-    rob: &mut RobRing,
-    roots: &mut HeapCircularBuffer<[Option<u64>; 2]>,
-    writers: &mut HeapCircularBuffer<[Option<u64>; 2]>,
-    table: &mut R,
-    stations: &mut Stations,
-    lsq: &mut Lsq,
-    front: &mut Fetch,
-    next_serial: &mut u64,
-    desc: &Desc,
-    row: &mut Row,
-)
-    requires stands { Stand (parts_of next_serial.old rob.old roots.old (R.writes table.old) stations.old) }
-    requires writers { WritersOf next_serial.old rob.old.entries writers.old.items }
-    requires queues { StandFor lsq.old rob.old.entries }
-    requires addresses { AddressesStand rob.old.entries roots.old.items lsq.old.stores }
-    requires call_alone { CallAlone rob.old.entries }
-    requires rooms { HasRooms desc.now rob.old roots.old writers.old (R.room table.old) stations.old lsq.old }
-    requires serials { next_serial.old + most_fetched < 2 ^ 64 }
+/// serial and with its event in the row, as long as they fit. The visibility point doesn't yet say whether what comes in is
+/// visible.
+pub fn rename<R: RenameTaint>(parts: &mut Parts<R>, row: &mut Row)
+    requires serials { parts.old.machine.next_serial + most_fetched < 2 ^ 64 }
     requires room { HasRoom most_fetched row.old }
-    ensures state { (x : Machine) → with_parts rob.new front.new next_serial.new x ≡ (renames desc.now rob.old front.old next_serial.old x).machine }
-    ensures row { (x : Machine) → row.new ≡ with_events row.old (renames desc.now rob.old front.old next_serial.old x).events }
-    ensures stands { Stand (parts_of next_serial.new rob.new roots.new (R.writes table.new) stations.new) }
-    ensures writers { WritersOf next_serial.new rob.new.entries writers.new.items }
-    ensures queues { StandFor lsq.new rob.new.entries }
-    ensures addresses { AddressesStand rob.new.entries roots.new.items lsq.new.stores }
-    ensures call_alone { CallAlone rob.new.entries }
-    ensures rooms { HasRooms desc.now rob.new roots.new writers.new (R.room table.new) stations.new lsq.new }
-    ensures point { (p : Point) → PointStands p next_serial.old rob.old.entries → PointStands p next_serial.new rob.new.entries }
-    ensures front_desc { front.new.desc ≡ front.old.desc }
-    ensures serials { next_serial.new ≤ next_serial.old + most_fetched }
+    ensures machine { parts.new ≡ record parts.old { machine = (rename parts.old.desc parts.old.machine).machine } }
+    ensures row { row.new ≡ with_events row.old (rename parts.old.desc parts.old.machine).events }
     ensures few { IsLonger most_fetched row.old row.new }
 {
-    for _ in 0..desc.core_fetch_width {
-        let Some(item) = take_fitting(front, desc, rob, stations, lsq) else {
+    for _ in 0..parts.desc.core_fetch_width {
+        let serial = parts.next_serial;
+        let Some(item) = enter_next(parts) else {
             return;
         };
-        let serial = *next_serial;
-        add_entry(serial, &item, rob, roots, writers, table, stations, lsq);
-        *next_serial += 1;
         row.push(Event::Ren(serial, item.pc));
     }
+}
+
+// The oldest fetched item comes into the window with the next serial, and its entry into all parts: with the youngest roots and
+// the writers of its sources beside it, its write in the table, a station where it waits, and a load or a store in its queue. The
+// sources are looked up before the entry's own write is held. The answer is the item, None where there is none or it can't go into
+// the window; nothing changes then.
+fn enter_next<R: RenameTaint>(parts: &mut Parts<R>) -> Option<Item>
+    requires serials { parts.old.machine.next_serial + 1 < 2 ^ 64 }
+    ensures item { result ≡ fitting parts.old.desc parts.old.machine.window (slice_get parts.old.machine.queue 0) }
+    ensures entered { IfSome result
+        (λ item. parts.new ≡ record parts.old { machine = with_oldest parts.old.desc item parts.old.machine }) }
+    ensures stays { result ≡ None → parts.new ≡ parts.old }
+{
+    let Some(item) = take_fitting(
+        &mut parts.front,
+        &parts.desc,
+        &parts.rob,
+        &parts.stations,
+        &parts.lsq,
+    ) else {
+        return None;
+    };
+    let serial = parts.next_serial;
+    let writers = writers_of(&parts.table, &item.instr);
+    let awaits = awaits_of(writers, &parts.rob);
+    let roots = roots_of(&parts.table, &item.instr);
+    add_write(serial, &item, roots, &mut parts.table);
+    add_station(serial, &item, awaits, &mut parts.stations);
+    add_access(serial, item.kind, roots, &mut parts.lsq);
+    push_within(&mut parts.roots, roots);
+    push_within(&mut parts.writers, writers);
+    parts.rob.push(renamed(serial, item));
+    parts.next_serial += 1;
+    Some(item)
 }
 
 // Takes the oldest fetched item out of the queue and answers it. None where there is none or it can't go into the window; nothing

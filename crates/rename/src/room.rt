@@ -4,7 +4,7 @@ ghost use Rattle.std.specs.List.{list_any};
 ghost use Rattle.machine_desc.specs.declared.Desc.{Desc};
 ghost use Rattle.window_model.specs.Front.{at_once, fits, fits_as, is_call, CallAlone, calls};
 ghost use Rattle.queue_laws.specs.Window.{StandFor};
-ghost use Rattle.rename.specs.Parts.{Counted};
+ghost use Rattle.rename.specs.Fitting.{Counted};
 
 use lsq::Lsq;
 use machine_desc::Desc;
@@ -64,7 +64,8 @@ fn is_call(kind: Kind) -> bool
 // goes alone.
 fn has_place(kind: Kind, rob: &RobRing, lsq: &Lsq) -> bool
     requires { StandFor lsq.now rob.now.entries }
-    ensures { (d : Desc) → lsq.now.max_loads ≡ d.core_loads → lsq.now.max_stores ≡ d.core_stores → result ≡ fits_as kind d rob.now.entries }
+    ensures { (d : Desc) → lsq.now.max_loads ≡ d.core_loads → lsq.now.max_stores ≡ d.core_stores
+        → result ≡ fits_as kind d rob.now.entries }
 {
     match kind {
         Kind::Load => lsq.has_load_room(),

@@ -68,7 +68,8 @@ pub trait RenameTaint: Sized {
     fn write(&mut self, register: Reg, serial: u64, root: Option<u64>)
         requires room { length (writes self.old) < room self.old }
         requires youngest { All (λ w. w.serial < serial) (writes self.old) }
-        ensures written { writes self.new ≡ writes self.old ++ record { serial = serial; register = register.number; root = root } ∷ [] }
+        ensures written { writes self.new
+            ≡ writes self.old ++ record { serial = serial; register = register.number; root = root } ∷ [] }
         ensures same_room { room self.new ≡ room self.old };
 
     /// Lets go of the write with this serial and of all older ones, as the entry has retired. Changes nothing where no

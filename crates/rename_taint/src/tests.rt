@@ -2,13 +2,10 @@
 ghost use Rattle.std.specs.Prelude.{◌≡◌};
 
 use crate::{ByScan, ByTable, RenameTaint, Source, root_written, roots_of};
-use machine_desc::{Desc, read_desc};
+use machine_desc::{Desc, EXAMPLE, read_desc};
 use rv_types::{Instr, Kind, NoMemory, Op, Reg};
 use std::alloc::Global;
 use std::test::Fail;
-
-const DESC: &str =
-    "[core]\nfetch_width = 2\nretire_width = 2\nrob = 4\nstations = 8\nloads = 4\nstores = 4\nqueue = 8\n[units]\nalus = 2\nmul_latency = 3\n[predictor]\ncounters = 16\nbtb = 4\n[cache]\nsets = 2\nways = 2\nline = 16\nhit_latency = 2\nmiss_latency = 10\nmshrs = 2\n[ram]\nbase = 65536\nsize = 65536\n[stt]\nmodel = \"spectre\"\n";
 
 fn x5() -> Reg
     ensures { result.number ≡ 5 }
@@ -69,7 +66,7 @@ fn answers<R: RenameTaint + Drop>(
 #[test]
 fn both_tables_answer_alike(rt: HostRuntime) -> Result<(), Fail> {
     let alloc = rt.alloc();
-    let desc = read_desc(alloc, DESC.as_bytes())?;
+    let desc = read_desc(alloc, EXAMPLE.as_bytes())?;
     let expected = [
         [None, None, None, None],
         [Some(4), Some(3), Some(3), Some(3)],

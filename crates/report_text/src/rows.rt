@@ -19,20 +19,25 @@ fn row_of(bytes: &[u8], row: usize) -> &[u8]
 }
 
 #[tactic(auto, unfolding(crate::specs::Report::row_line))]
-fn row_line(addr: u32, bytes: &[u8]) -> Line
+fn fill_row(line: &mut Line, addr: u32, bytes: &[u8])
     requires { length bytes.now ≡ 16 }
-    ensures { result ≡ row_line addr bytes.now }
+    ensures { line.new ≡ row_line addr bytes.now }
 {
-    let mut line = Line::new();
+    line.clear();
     line.add(b"mem ");
     line.add_hex8(addr);
     line.add(b" ");
     line.add_hex_bytes(bytes);
     line.add(b"\n");
-    line
 }
 
-fn write_row<S: Sink>(before: &Ram, after: &Ram, row: usize, out: &mut S) -> Result<(), Failed>
+fn write_row<S: Sink>(
+    before: &Ram,
+    after: &Ram,
+    row: usize,
+    line: &mut Line,
+    out: &mut S,
+) -> Result<(), Failed>
     requires size { length before.now.bytes ≡ length after.now.bytes }
     requires inside { 16 * row + 16 ≤ length after.now.bytes }
     ensures { Writes (row_text before.now after.now row) (S.told out.old) (S.told out.new) result }
@@ -42,17 +47,23 @@ fn write_row<S: Sink>(before: &Ram, after: &Ram, row: usize, out: &mut S) -> Res
         return Ok(());
     }
     let addr = after.base() + (ROW * row) as u32;
-    out.put(row_line(addr, bytes).as_slice())
+    fill_row(line, addr, bytes);
+    out.put(line.as_slice())
 }
 
-/// Writes the lines of the rows that differ, by rising address, one put a line.
-pub(crate) fn write_rows<S: Sink>(before: &Ram, after: &Ram, out: &mut S) -> Result<(), Failed>
+/// Writes the lines of the rows that differ, by rising address, one put a line, each in the line that is lent.
+pub(crate) fn write_rows<S: Sink>(
+    before: &Ram,
+    after: &Ram,
+    line: &mut Line,
+    out: &mut S,
+) -> Result<(), Failed>
     requires { length before.now.bytes ≡ length after.now.bytes }
     ensures { Writes (row_lines before.now after.now) (S.told out.old) (S.told out.new) result }
 {
     let rows = after.size() as usize / ROW;
     for row in 0..rows {
-        write_row(before, after, row, out)?;
+        write_row(before, after, row, line, out)?;
     }
     Ok(())
 }

@@ -10,47 +10,52 @@ use rv_types::{Ending, REGISTERS};
 use tool_io::{Failed, Sink};
 
 #[tactic(auto, unfolding(crate::specs::Report::register_line))]
-fn register_line(number: usize, value: u32) -> Line
-    ensures { result ≡ register_line number value }
+fn fill_register(line: &mut Line, number: usize, value: u32)
+    ensures { line.new ≡ register_line number value }
 {
-    let mut line = Line::new();
+    line.clear();
     line.add(b"x");
     line.add_decimal(number as u64);
     line.add(b" ");
     line.add_hex8(value);
     line.add(b"\n");
-    line
 }
 
 #[tactic(auto, unfolding(crate::specs::Report::pc_line))]
-fn pc_line(pc: u32) -> Line
-    ensures { result ≡ pc_line pc }
+fn fill_pc(line: &mut Line, pc: u32)
+    ensures { line.new ≡ pc_line pc }
 {
-    let mut line = Line::new();
+    line.clear();
     line.add(b"pc ");
     line.add_hex8(pc);
     line.add(b"\n");
-    line
 }
 
-fn write_register<S: Sink>(number: usize, value: u32, out: &mut S) -> Result<(), Failed>
+fn write_register<S: Sink>(
+    number: usize,
+    value: u32,
+    line: &mut Line,
+    out: &mut S,
+) -> Result<(), Failed>
     ensures { Writes (register_line number value) (S.told out.old) (S.told out.new) result }
 {
-    out.put(register_line(number, value).as_slice())
+    fill_register(line, number, value);
+    out.put(line.as_slice())
 }
 
-fn write_pc<S: Sink>(pc: u32, out: &mut S) -> Result<(), Failed>
+fn write_pc<S: Sink>(pc: u32, line: &mut Line, out: &mut S) -> Result<(), Failed>
     ensures { Writes (pc_line pc) (S.told out.old) (S.told out.new) result }
 {
-    out.put(pc_line(pc).as_slice())
+    fill_pc(line, pc);
+    out.put(line.as_slice())
 }
 
-fn write_registers<S: Sink>(regs: &[u32], out: &mut S) -> Result<(), Failed>
+fn write_registers<S: Sink>(regs: &[u32], line: &mut Line, out: &mut S) -> Result<(), Failed>
     requires { length regs.now ≡ 32 }
     ensures { Writes (register_lines regs.now) (S.told out.old) (S.told out.new) result }
 {
     for number in 0..REGISTERS {
-        write_register(number, regs[number], out)?;
+        write_register(number, regs[number], line, out)?;
     }
     Ok(())
 }
@@ -71,8 +76,9 @@ pub fn write_report<S: Sink>(
     requires size { length before.now.bytes ≡ length after.now.bytes }
     ensures { Writes (state_text (record { pc = pc; regs = regs.now; ram = after.now }) before.now ending.now) (S.told out.old) (S.told out.new) result }
 {
-    write_registers(regs, out)?;
-    write_pc(pc, out)?;
-    write_rows(before, after, out)?;
+    let mut line = Line::new();
+    write_registers(regs, &mut line, out)?;
+    write_pc(pc, &mut line, out)?;
+    write_rows(before, after, &mut line, out)?;
     write_end(ending, out)
 }

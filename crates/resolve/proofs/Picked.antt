@@ -1,6 +1,7 @@
 -- The entry that is picked, at its position in the window.
 use Rattle.std.proofs.Common.{◌≡◌, ℕ, ◌<◌, List, [], ◌∷◌, ◌++◌, length, Option, Some, None, refl, ap, sym, ◌∙◌, arith, slice_get}
 use Rattle.std.specs.Prelude.{reverse, slice_set}
+use Rattle.std.specs.Option.{option_map}
 use Rattle.std.proofs.Math.Seq.{set-append_seam}
 use Rattle.std.proofs.lemmas.List.{length-append, length-reverse}
 use Rattle.machine_desc.specs.declared.Desc.{Desc}
@@ -10,7 +11,7 @@ use Rattle.window_model.specs.Resolve.{may_resolve}
 use Rattle.window_model.proofs.Booleans.{some_of}
 use Rattle.window_model.proofs.Places.{found}
 use Rattle.window_model.proofs.Resolving.{placed}
-use Rattle.resolve.specs.Parts.{position}
+use Rattle.resolve.specs.Taken.{resolving}
 
 -- an entry at a position that resolves
 pub record Picked (d : Desc) (w : List Entry) (i : ℕ) : Type 0 where
@@ -19,10 +20,10 @@ pub record Picked (d : Desc) (w : List Entry) (i : ℕ) : Type 0 where
   pub at : length (reverse place.before) ≡ i
   pub whole : w ≡ reverse place.before ++ place.entry ∷ place.younger
 
-pub picked : (d : Desc) (w : List Entry) (i : ℕ) → Some i ≡ position (first (may_resolve d) w) → Picked d w i
+pub picked : (d : Desc) (w : List Entry) (i : ℕ) → Some i ≡ resolving d w → Picked d w i
 picked d w i h = by_first (first (may_resolve d) w) refl h
   where
-    by_first : (o : Option Place) → first (may_resolve d) w ≡ o → Some i ≡ position o → Picked d w i
+    by_first : (o : Option Place) → first (may_resolve d) w ≡ o → Some i ≡ option_map (λ p. length p.before) o → Picked d w i
     by_first None q h = absurd (cc)
     by_first (Some p) q h =
         let n : length p.before ≡ i = some_of _ _ (sym h) in
@@ -50,7 +51,7 @@ pub record Taken (d : Desc) (w : List Entry) (i : ℕ) (e : Entry) : Type 0 wher
   pub at : length (reverse before) ≡ i
   pub whole : w ≡ reverse before ++ e ∷ younger
 
-pub taken : (d : Desc) (w : List Entry) (i : ℕ) (e : Entry) → Some i ≡ position (first (may_resolve d) w) → slice_get w i ≡ Some e → Taken d w i e
+pub taken : (d : Desc) (w : List Entry) (i : ℕ) (e : Entry) → Some i ≡ resolving d w → slice_get w i ≡ Some e → Taken d w i e
 taken d w i e h at =
     let k = picked d w i h in
     let p = k.place in

@@ -38,8 +38,10 @@ pub(crate) fn commit(
     requires empty { piece.old ≡ [] }
     requires sets { tags.old.desc.cache_sets ≡ desc.now.cache_sets }
     requires line { tags.old.desc.cache_line ≡ desc.now.cache_line }
-    requires inside { head.now.item.kind ≡ Store → store_fault ram.old (addr_of head.now.outcome) (width_of head.now) ≡ None }
-    ensures state { IsLeft (head_retires desc.now head.now tags.old ram.old regs.old pc.old) tags.new ram.new regs.new pc.new result }
+    requires inside { head.now.item.kind ≡ Store
+        → store_fault ram.old (addr_of head.now.outcome) (width_of head.now) ≡ None }
+    ensures state { IsLeft (head_retires desc.now head.now tags.old ram.old regs.old pc.old)
+        tags.new ram.new regs.new pc.new result }
     ensures row { TellsHead (head_retires desc.now head.now tags.old ram.old regs.old pc.old) row.old row.new }
     ensures piece { PrintsHead (head_retires desc.now head.now tags.old ram.old regs.old pc.old) piece.new }
     ensures desc { tags.new.desc ≡ tags.old.desc }
@@ -86,8 +88,11 @@ fn commit_store(
     requires sets { tags.old.desc.cache_sets ≡ desc.now.cache_sets }
     requires line { tags.old.desc.cache_line ≡ desc.now.cache_line }
     requires inside { store_fault ram.old (addr_of head.now.outcome) (width_of head.now) ≡ None }
-    ensures ram { ram.new ≡ with_bytes ram.old (addr_of head.now.outcome) (to_le (width_of head.now) (stored_of head.now.outcome)) }
-    ensures tags { tags.new ≡ record tags.old { sets = touched desc.now tags.old.sets (line_of desc.now (addr_of head.now.outcome)) } }
+    ensures ram { ram.new
+        ≡ with_bytes ram.old (addr_of head.now.outcome) (to_le (width_of head.now) (stored_of head.now.outcome)) }
+    ensures tags { tags.new ≡ record tags.old {
+      sets = touched desc.now tags.old.sets (line_of desc.now (addr_of head.now.outcome));
+    } }
     ensures regs { regs.new ≡ with_reg regs.old (writes_of head.now.item.instr) (value_of head.now.outcome) }
     ensures pc { pc.new ≡ next_of head.now.outcome }
     ensures row { row.new ≡ with_events row.old (store_told desc.now tags.old head.now) }
@@ -103,7 +108,8 @@ fn commit_store(
 // A store's bytes are written.
 fn write_store(ram: &mut Ram, store: &Entry)
     requires inside { store_fault ram.old (addr_of store.now.outcome) (width_of store.now) ≡ None }
-    ensures { ram.new ≡ with_bytes ram.old (addr_of store.now.outcome) (to_le (width_of store.now) (stored_of store.now.outcome)) }
+    ensures { ram.new
+        ≡ with_bytes ram.old (addr_of store.now.outcome) (to_le (width_of store.now) (stored_of store.now.outcome)) }
 {
     let width = width_of(store.op());
     let _ = ram.put(store.addr(), width, store.stored());
@@ -120,7 +126,8 @@ fn commit_call(
 ) -> Option<u32>
     requires room { HasRoom 2 row.old }
     requires empty { piece.old ≡ [] }
-    ensures stepped { stepped_as (record { pc = pc.new; regs = regs.new; ram = ram.now }) piece.new result ≡ call (record { pc = pc.old; regs = regs.old; ram = ram.now }) }
+    ensures stepped { stepped_as (record { pc = pc.new; regs = regs.new; ram = ram.now }) piece.new result
+        ≡ call (record { pc = pc.old; regs = regs.old; ram = ram.now }) }
     ensures exit { IfSome result (λ v. piece.new ≡ []) }
     ensures row { row.new ≡ with_events row.old (call_told head.now (length piece.new)) }
 {

@@ -44,7 +44,10 @@ pub fn retire<R: RenameTaint>(
     requires line { tags.old.desc.cache_line ≡ desc.now.cache_line }
     requires call_alone { CallAlone rob.old.entries }
     requires stores_fit { Each (TakesStore ram.old) rob.old.entries }
-    ensures state { (x : Machine) → counted (length rob.old.entries - length rob.new.entries) (with_parts rob.new tags.new ram.new regs.new pc.new result x) ≡ (retires desc.now rob.old tags.old ram.old regs.old pc.old x).machine }
+    ensures state { (x : Machine) →
+        counted (length rob.old.entries - length rob.new.entries)
+        (with_parts rob.new tags.new ram.new regs.new pc.new result x)
+        ≡ (retires desc.now rob.old tags.old ram.old regs.old pc.old x).machine }
     ensures row { Tells (retires desc.now rob.old tags.old ram.old regs.old pc.old) row.old row.new }
     ensures piece { (x : Machine) → piece.new ≡ (retires desc.now rob.old tags.old ram.old regs.old pc.old x).piece }
     ensures left { rob.old.entries ≡ gone rob.old rob.new ++ rob.new.entries }

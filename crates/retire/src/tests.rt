@@ -1,25 +1,20 @@
 //! Reorder buffers that are filled by hand; the expected values follow from `docs/machine.md`, "Retire".
 ghost use Rattle.std.specs.Prelude.{◌≡◌, Some, None, true};
 ghost use Rattle.rv_types.specs.Memory.{store_fault};
-ghost use Rattle.window_model.specs.declared.State.TheVariants.{Done};
+ghost use Rattle.window_model.specs.declared.Progress.TheVariants.{Done};
 
 use crate::retire;
 use byte_ram::Ram;
 use cache_tags::Tags;
 use lsq::Lsq;
-use machine_desc::{Desc, read_desc};
+use machine_desc::{EXAMPLE, read_desc};
 use rename_taint::{ByScan, ByTable, RenameTaint, Source};
 use rob_ring::RobRing;
 use rv_types::{End, Instr, Kind, Op, Piece, Reg, Width};
-use std::alloc::Global;
 use std::test::Fail;
-use window_model::{Entry, Event, Item, Outcome, State, empty_row};
+use window_model::{Entry, Event, Item, Outcome, Progress, empty_row};
 
 const BASE: u32 = 65536;
-
-// The example of `docs/formats.md`, "Machine descriptions": two entries retire a cycle.
-const EXAMPLE: &str =
-    "[core]\nfetch_width = 2\nretire_width = 2\nrob = 16\nstations = 8\nloads = 4\nstores = 4\nqueue = 8\n[units]\nalus = 2\nmul_latency = 3\n[predictor]\ncounters = 16\nbtb = 4\n[cache]\nsets = 2\nways = 2\nline = 16\nhit_latency = 2\nmiss_latency = 10\nmshrs = 2\n[ram]\nbase = 65536\nsize = 65536\n[stt]\nmodel = \"spectre\"\n";
 
 fn x5() -> Reg
     ensures { result.number ≡ 5 }
@@ -32,7 +27,8 @@ fn done(serial: u64, instr: Instr, kind: Kind, value: u32, addr: u32, stored: u3
     ensures serial { result.serial ≡ serial }
     ensures kind { result.item.kind ≡ kind }
     ensures instr { result.item.instr ≡ instr }
-    ensures outcome { result.outcome ≡ Some (record { value = value; next = 65544; addr = addr; stored = stored; fault = None }) }
+    ensures outcome { result.outcome
+        ≡ Some (record { value = value; next = 65544; addr = addr; stored = stored; fault = None }) }
 {
     Entry {
         serial,
@@ -42,7 +38,7 @@ fn done(serial: u64, instr: Instr, kind: Kind, value: u32, addr: u32, stored: u3
             kind,
             predicted: Some(BASE + 4),
         },
-        state: State::Done,
+        state: Progress::Done,
         outcome: Some(Outcome {
             value,
             next: BASE + 8,

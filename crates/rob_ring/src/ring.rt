@@ -10,7 +10,7 @@ use machine_desc::Desc;
 use rv_types::NoMemory;
 use std::alloc::Global;
 use std::marker::Model;
-use window_model::{Entry, Outcome, State, Window, position_of};
+use window_model::{Entry, Outcome, Progress, Window, position_of};
 
 /// The entries in flight, oldest first, and room for `core.rob` of them. Positions count from the oldest, which has 0.
 #[derive(Drop)]
@@ -90,10 +90,11 @@ impl RobRing {
     /// The entry at a position begins to execute, until a cycle and with an outcome.
     pub fn begin(&mut self, i: u32, due: u64, outcome: Outcome)
         requires { i < length self.old.entries }
-        ensures { (e : Entry) → slice_get self.old.entries i ≡ Some e → self.new ≡ record self.old { entries = slice_set self.old.entries i (begun e due outcome) } }
+        ensures { (e : Entry) → slice_get self.old.entries i ≡ Some e
+            → self.new ≡ record self.old { entries = slice_set self.old.entries i (begun e due outcome) } }
     {
         if let Some(entry) = self.items.get_mut(i as usize) {
-            entry.state = State::Busy(due);
+            entry.state = Progress::Busy(due);
             entry.outcome = Some(outcome);
         }
     }

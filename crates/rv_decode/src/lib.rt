@@ -9,8 +9,10 @@ mod decoding;
 mod encoding;
 mod fields;
 mod opcodes;
+mod operations;
 #[cfg(test)]
 mod tests;
 
 pub use decoding::decode;
 pub use encoding::encode;
+pub use operations::{Decoded, Operation};

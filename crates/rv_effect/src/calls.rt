@@ -49,7 +49,8 @@ fn answer(pc: &mut u32, regs: &mut [u32; 32], value: u32)
 fn write(pc: &mut u32, regs: &mut [u32; 32], ram: &Ram, from: u32, count: u32, out: &mut Piece)
     requires empty { out.old ≡ [] }
     requires few { count ≤ 1024 }
-    ensures { Goes (record { pc = pc.new; regs = regs.new; ram = ram.now }) out.new ≡ write_of (record { pc = pc.old; regs = regs.old; ram = ram.now }) from count }
+    ensures { Goes (record { pc = pc.new; regs = regs.new; ram = ram.now }) out.new
+        ≡ write_of (record { pc = pc.old; regs = regs.old; ram = ram.now }) from count }
 {
     if count == 0 {
         answer(pc, regs, 0);
@@ -68,7 +69,8 @@ fn write(pc: &mut u32, regs: &mut [u32; 32], ram: &Ram, from: u32, count: u32, o
 /// value that is answered. `out` holds the bytes that a write call puts out, else none.
 pub fn call(pc: &mut u32, regs: &mut [u32; 32], ram: &Ram, out: &mut Piece) -> Option<u32>
     requires { out.old ≡ [] }
-    ensures stepped { stepped_as (record { pc = pc.new; regs = regs.new; ram = ram.now }) out.new result ≡ call (record { pc = pc.old; regs = regs.old; ram = ram.now }) }
+    ensures stepped { stepped_as (record { pc = pc.new; regs = regs.new; ram = ram.now }) out.new result
+        ≡ call (record { pc = pc.old; regs = regs.old; ram = ram.now }) }
     ensures exit { IfSome result (λ v. out.new ≡ []) }
 {
     let number = regs[NUMBER];

@@ -27,8 +27,13 @@ pub fn squash_after<R: RenameTaint>(
     ensures rob { rob.new ≡ record rob.old { entries = below first rob.old.entries } }
     ensures names { R.writes table.new ≡ before_serial first (R.writes table.old) }
     ensures same_room { R.room table.new ≡ R.room table.old }
-    ensures stations { stations.new ≡ record stations.old { held = filter (λ s. nat_lt s.serial first) stations.old.held } }
-    ensures lsq { lsq.new ≡ record lsq.old { loads = filter (λ l. nat_lt l first) lsq.old.loads; stores = filter (λ s. nat_lt s.serial first) lsq.old.stores } }
+    ensures stations { stations.new ≡ record stations.old {
+      held = filter (λ s. nat_lt s.serial first) stations.old.held;
+    } }
+    ensures lsq { lsq.new ≡ record lsq.old {
+      loads = filter (λ l. nat_lt l first) lsq.old.loads;
+      stores = filter (λ s. nat_lt s.serial first) lsq.old.stores;
+    } }
     ensures ports { ports.new ≡ record ports.old { divider = freed_from first ports.old.divider } }
 {
     let len = rob.len();

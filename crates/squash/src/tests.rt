@@ -3,7 +3,7 @@ ghost use Rattle.std.specs.Prelude.{◌≡◌};
 
 use crate::squash_after;
 use lsq::Lsq;
-use machine_desc::{Desc, read_desc};
+use machine_desc::{Desc, EXAMPLE, read_desc};
 use rename_taint::{ByScan, ByTable, RenameTaint, Source};
 use rob_ring::RobRing;
 use rv_types::Reg;
@@ -14,12 +14,9 @@ use std::test::Fail;
 use unit_ports::Ports;
 use window_model::Entry;
 
-// A description with room for one store.
-const DESC: &str =
-    "[core]\nfetch_width = 2\nretire_width = 2\nrob = 4\nstations = 2\nloads = 1\nstores = 1\nqueue = 8\n[units]\nalus = 2\nmul_latency = 3\n[predictor]\ncounters = 16\nbtb = 4\n[cache]\nsets = 2\nways = 2\nline = 16\nhit_latency = 2\nmiss_latency = 10\nmshrs = 2\n[ram]\nbase = 65536\nsize = 65536\n[stt]\nmodel = \"spectre\"\n";
-
+// The example, which has room for four loads.
 fn desc(alloc: Global) -> Result<Desc, Fail> {
-    Ok(read_desc(alloc, DESC.as_bytes())?)
+    Ok(read_desc(alloc, EXAMPLE.as_bytes())?)
 }
 
 // An entry with this serial.
@@ -31,7 +28,16 @@ fn entry(serial: u64) -> Entry
     entry
 }
 
-// A load of a register with serial 3 stays. A division into the same register, which awaits it, and a store go.
+// Loads up to serial 3 take the room that there is for loads.
+fn fill_loads(lsq: &mut Lsq) {
+    for serial in 0..4 {
+        if lsq.has_load_room() {
+            lsq.add_load(serial);
+        }
+    }
+}
+
+// The loads stay, of which the one with serial 3 writes a register. A division into the same register, which awaits it, and a store go.
 #[tactic(auto, using(window_model::proofs::Serials::rise_push))]
 fn squash_keeps_the_load<R: RenameTaint + Drop>(
     rt: &impl Abort,
@@ -46,14 +52,18 @@ fn squash_keeps_the_load<R: RenameTaint + Drop>(
     let register = Reg { number: 5 };
     rob.push(entry(3));
     rename.write(register, 3, Some(3));
-    lsq.add_load(3);
+    fill_loads(&mut lsq);
     rob.push(entry(5));
     rename.write(register, 5, Some(3));
     stations.insert(5, [Some(3), None]);
     ports.divide(30, 5);
     rob.push(entry(6));
     stations.insert(6, [Some(5), None]);
+    if !lsq.has_store_room() {
+        panic!(rt; "no room");
+    }
     lsq.add_store(6, Some(3));
+    assert_eq!(rt; lsq.all_older_known(9), false);
     let dropped = squash_after(
         5,
         &mut rob,
@@ -67,7 +77,7 @@ fn squash_keeps_the_load<R: RenameTaint + Drop>(
     assert_eq!(rt; rename.source(register), Source::Entry(3));
     assert_eq!(rt; stations.len(), 0);
     assert_eq!(rt; lsq.has_load_room(), false);
-    assert_eq!(rt; lsq.has_store_room(), true);
+    assert_eq!(rt; lsq.all_older_known(9), true);
     assert_eq!(rt; ports.free_div(), true);
     Ok(())
 }

@@ -64,7 +64,9 @@ impl Stations {
     pub fn insert(&mut self, serial: u64, awaits: [Option<u64>; 2])
         requires room { length self.old.held < self.old.room }
         requires youngest { All (λ s. s.serial < serial) self.old.held }
-        ensures { (place : ℕ) × (self.new ≡ record self.old { held = self.old.held ++ record { serial = serial; awaits = awaits; place = place } ∷ [] }) }
+        ensures { (place : ℕ) × (self.new ≡ record self.old {
+          held = self.old.held ++ record { serial = serial; awaits = awaits; place = place } ∷ [];
+        }) }
     {
         let place = take_free(&mut self.free);
         self.places[place as usize] = Occupant::new(serial, awaits);

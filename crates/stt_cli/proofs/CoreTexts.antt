@@ -19,7 +19,8 @@ use Rattle.trace_text.specs.TraceText.{rows_text, trace_text}
 use Rattle.trace_text.proofs.Growing.{trace_parts}
 use Rattle.tool_io.specs.Outside.{Told, Wrote, WrotePart}
 use Rattle.tool_io.proofs.Writing.{part_more, wrote_then, wrote_then_part}
-use Rattle.stt_cli.specs.Clocking.{trace_from, run_from, report_from, ending_at, CameTo}
+use Rattle.pair_run.specs.Running.{trace_from, ending_at}
+use Rattle.stt_cli.specs.Clocking.{run_from, report_from, CameTo}
 use Rattle.stt_cli.proofs.Turns.{same_hart}
 
 -- ---- The trace

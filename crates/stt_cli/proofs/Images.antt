@@ -1,5 +1,5 @@
 -- What the loader's clauses say of the image of a file.
-use Rattle.std.specs.Prelude.{IsSome}
+use Rattle.std.specs.Prelude.{IsSome, Result, MatchResult, IfOk}
 use Rattle.std.proofs.Common.{◌≡◌, ℕ, List, [], ◌∷◌, Some, None, Ok, Err, Option, length, refl, sym, ap, ap₂, ◌∙◌, ◌⊎◌, inl, inr}
 use Rattle.std.proofs.lemmas.List.FromFn.{length-map-range_with_len}
 use Rattle.rv_types.specs.Memory.{Ram, Code, zeros, length_zeros}
@@ -12,7 +12,10 @@ use Rattle.elf_loader.specs.declared.faults.ElfFault.{ElfFault}
 use Rattle.elf_loader.specs.declared.loading.Image.{Image}
 use Rattle.elf_loader.specs.Code.{word_at}
 use Rattle.elf_loader.specs.declared.faults.ElfFault.TheVariants as elf
-use Rattle.stt_cli.specs.Input.{loaded, refusal_of, LoadRefused}
+use Rattle.pair_run.specs.Starts.{loaded}
+use Rattle.stt_cli.specs.declared.outcome.Which.{Which}
+use Rattle.stt_cli.specs.declared.outcome.Refusal.{Refusal}
+use Rattle.stt_cli.specs.Input.{refusal_of, LoadRefused}
 
 -- memory that is all 0
 abbrev pub empty : ℕ → ℕ → Ram
@@ -40,11 +43,11 @@ loads file s base size ram i q h r f m e c =
     image_without file base size h (sym (ap₂ ram_fault q r) ∙ f) ∙ ap Ok (same_image _ _ _ _ _ _ e' c' m')
 
 -- a fault of loading is want of memory, or the file's first
-pub load_refused : (file s : List ℕ) (base size : ℕ) (ram : Ram) (e : ElfFault) → s ≡ file → header_fault file ≡ None → ram ≡ empty base size
-    → ((e ≡ elf.NoMemory) × (ram_fault s ram ≡ None)) ⊎ (ram_fault s ram ≡ Some e) → LoadRefused file base size (refusal_of e)
-load_refused file s base size ram elf.NoMemory q h r f = tt
-load_refused file s base size ram e q h r (inl m) = let k = m.0 in absurd (cc)
-load_refused file s base size ram e q h r (inr f) = memory_refuses file s base size ram _ q h r f
+pub load_refused : (which : Which) (file s : List ℕ) (base size : ℕ) (ram : Ram) (e : ElfFault) → s ≡ file → header_fault file ≡ None → ram ≡ empty base size
+    → ((e ≡ elf.NoMemory) × (ram_fault s ram ≡ None)) ⊎ (ram_fault s ram ≡ Some e) → LoadRefused which file base size (refusal_of which e)
+load_refused which file s base size ram elf.NoMemory q h r f = tt
+load_refused which file s base size ram e q h r (inl m) = let k = m.0 in absurd (cc)
+load_refused which file s base size ram e q h r (inr f) = (refl, memory_refuses file s base size ram _ q h r f)
 
 -- ---- Where an image lies
 
@@ -66,6 +69,17 @@ image_stays file base size i e =
     let r : i.ram ≡ ram_after file ram = sym (ap (λ (x : ImageText). x.ram) same) in
     let s = ram_stays file ram in
     (ap (λ (m : Ram). m.base) r ∙ s.0, ap (λ (m : Ram). length m.bytes) r ∙ (s.1 ∙ length_zeros size))
+
+-- so does one that is loaded, if any is
+pub loaded_base : (file : List ℕ) (base size : ℕ) (r : Result Image Refusal) (Q : Refusal → Type 0) → MatchResult r (λ i. image_of file base size ≡ Ok (loaded i)) Q
+    → IfOk r (λ i. i.ram.base ≡ base)
+loaded_base file base size (Ok i) Q h = (image_stays file base size (loaded i) h).0
+loaded_base file base size (Err e) Q h = tt
+
+pub loaded_size : (file : List ℕ) (base size : ℕ) (r : Result Image Refusal) (Q : Refusal → Type 0) → MatchResult r (λ i. image_of file base size ≡ Ok (loaded i)) Q
+    → IfOk r (λ i. length i.ram.bytes ≡ size)
+loaded_size file base size (Ok i) Q h = (image_stays file base size (loaded i) h).1
+loaded_size file base size (Err e) Q h = tt
 
 some_is : {T : Type 0} (o : Option T) (t : T) → o ≡ Some t → IsSome o
 some_is None t e = absurd (cc)

@@ -3,6 +3,8 @@ pub mod Turns
 pub mod Cycles
 pub mod CoreTexts
 pub mod Told
+pub mod InTurn
+pub mod Tasks
 pub mod Outcomes
 pub mod Statuses
 pub mod Promised

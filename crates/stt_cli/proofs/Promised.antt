@@ -1,5 +1,5 @@
 -- A machine's run keeps its promises: by the laws of committed state, progress and noninterference.
-use Rattle.std.proofs.Common.{◌≡◌, ◌≤◌, ℕ, List, [], Option, Some, None, Result, sym, ap, ◌∙◌, subst}
+use Rattle.std.proofs.Common.{◌≡◌, ◌≤◌, ℕ, List, Some, None, Result, sym, ap, ◌∙◌, subst}
 use Rattle.rv_types.specs.Memory.{Code}
 use Rattle.rv_types.specs.Isa.{Run, start}
 use Rattle.elf_loader.specs.Image.{ImageText}
@@ -12,17 +12,22 @@ use Rattle.progress.proofs.Run.{retires_within_bound, retires_in_budget}
 use Rattle.noninterference.proofs.Runs.{same_trace}
 use Rattle.report_text.specs.Report.{report_text}
 use Rattle.trace_text.specs.TraceText as text
-use Rattle.tool_io.specs.Outside.{Told, Shelf, Wrote}
-use Rattle.tool_words.specs.Words.{CommandText, isa_text, run_text, trace_text, bench_text}
-use Rattle.stt_cli.specs.Input.{HasDesc}
+use Rattle.tool_io.specs.Outside.{Told, Wrote}
+use Rattle.pair_run.specs.Answer.{Answers}
+use Rattle.pair_run.specs.Starts.{trace_of}
+use Rattle.pair_run.specs.declared.answer.PairAnswer.{PairAnswer}
+use Rattle.pair_run.proofs.Answering.{one_trace, premise_traces}
+use Rattle.pair_text.specs.Comparison.{comparison}
 use Rattle.stt_cli.specs.Clocking.{run_from}
-use Rattle.stt_cli.specs.Running.{opening_of, trace_of}
+use Rattle.stt_cli.specs.Running.{opening_of}
 use Rattle.stt_cli.specs.declared.outcome.Ended.{Ended}
 use Rattle.stt_cli.specs.declared.outcome.Refusal.{Refusal}
 use Rattle.stt_cli.specs.Outcome.{status_of}
-use Rattle.stt_cli.specs.Top.{Runs, Ends, Statuses, work_of}
-use Rattle.stt_cli.specs.Promises.{Commits, MovesOn, Hides, Keeps, Promises, TracesAgree, retired_run, state_at}
+use Rattle.stt_cli.specs.Work.{TaskText, isa_task, report_task, trace_task, pair_task, Work, ComesTo, run_work}
+use Rattle.stt_cli.specs.Top.{World, Ends, Statuses}
+use Rattle.stt_cli.specs.Promises.{Commits, MovesOn, Hides, Compares, Keeps, Promises, TracesAgree, retired_run, state_at}
 use Rattle.stt_cli.proofs.Images.{image_aligned}
+use Rattle.stt_cli.proofs.Tasks.{AlignedTask, task_aligned}
 use Rattle.stt_cli.proofs.Statuses.{statuses_at}
 
 -- ---- Committed state
@@ -33,7 +38,7 @@ committed : (d : Desc) (image : ImageText) (n : ℕ) → Aligned image.code
 committed d image n al = run_commits d image.code image.entry image.ram n al
 
 -- so the machine's report is that of the instruction set's run
-commits : (d : Desc) (image : ImageText) (n : ℕ) (out out' : Told) → Aligned image.code → Wrote (work_of (run_text [] [] n) (Some d) image).text out out' → Commits d image n out out'
+commits : (d : Desc) (image : ImageText) (n : ℕ) (out out' : Told) → Aligned image.code → Wrote (run_work d image n).text out out' → Commits d image n out out'
 commits d image n out out' al w =
     let c = committed d image n al in
     let end = (trace_of d image n).end in
@@ -68,33 +73,32 @@ traces_agree d a b one two n f g e c agree =
     let first : trace_of d two n ≡ trace d one.code one.entry two.ram n = ap (λ (x : ℕ). trace d two.code x two.ram n) e ∙ ap (λ (x : Code). trace d x one.entry two.ram n) c in
     ap text.trace_text (first ∙ same_trace d one.code one.entry one.ram two.ram n (image_aligned a _ _ one f) agree)
 
+-- and so the answer on two images whose premise is true is that their runs are the same
+compares : (d : Desc) (one two : ImageText) (n : ℕ) (answer : PairAnswer) (out out' : Told) → Aligned one.code → Answers d one two n answer → Wrote (comparison answer) out out'
+    → Compares d one two n out out'
+compares d one two n answer out out' al a w = record {
+  answer = answer;
+  answers = a;
+  text = w;
+  equal = λ t. one_trace (trace_of d one n) (trace_of d two n) answer.first (premise_traces d one two n al (a.premise.0 t)) a.first;
+}
+
 -- ---- The program
 
--- a machine's run has a description
-no_desc : (old : Shelf) (name : List ℕ) → HasDesc old (Some name) None → ⊥
-no_desc old name h = let e = h.4 in absurd (cc)
+-- a task whose whole text is written keeps what is promised besides
+keeps : (task : TaskText) (work : Work) (out out' : Told) → AlignedTask task → ComesTo task work → Wrote work.text out out' → Keeps task out out'
+keeps (isa_task image steps) work out out' al c w = tt
+keeps (report_task d image n) work out out' al c w = (commits d image n out out' al (subst (λ (k : Work). Wrote k.text out out') c w), moves_on d image n)
+keeps (trace_task d image n) work out out' al c w = (hides d image n out out' al (subst (λ (k : Work). Wrote k.text out out') c w), moves_on d image n)
+keeps (pair_task d one two n) work out out' al c w = compares d one two n c.0 out out' al c.1 (subst (λ (k : Work). Wrote k.text out out') c.2 w)
 
--- a command whose whole text is written keeps what it promises besides
-keeps : (command : CommandText) (old new : Shelf) (desc : Option Desc) (image : ImageText) (out out' : Told) → Runs command old new desc image
-    → Wrote (work_of command desc image).text out out' → Keeps command desc image out out'
-keeps (isa_text name steps description) old new desc image out out' r w = tt
-keeps (run_text description name n) old new (Some d) image out out' r w =
-    (commits d image n out out' (image_aligned r.file _ _ image r.loads) w, moves_on d image n)
-keeps (run_text description name n) old new None image out out' r w = absurd (no_desc old description r.input.described)
-keeps (trace_text description name n) old new (Some d) image out out' r w =
-    (hides d image n out out' (image_aligned r.file _ _ image r.loads) w, moves_on d image n)
-keeps (trace_text description name n) old new None image out out' r w = absurd (no_desc old description r.input.described)
-keeps (bench_text description seed blocks n) old new (Some d) image out out' r w =
-    (commits d image n out out' (image_aligned r.file _ _ image r.loads) w, moves_on d image n)
-keeps (bench_text description seed blocks n) old new None image out out' r w = absurd (no_desc old description r.input.described)
-
--- with the status of a run that is written whole
-pub promises : (words : List (List ℕ)) (old new : Shelf) (out out' : Told) (status : ℕ) → Statuses words old new out out' status → Promises words old new out out' status
-promises words old new out out' status s = record {
-  kept = λ h. let a = s.ran h in let p = a.2 in (a.0, a.1, (p.0, p.1, p.2, keeps a.0 old new p.0 p.1 out out' p.2 p.3));
+-- with the status of a text that is written whole
+pub promises : (words : List (List ℕ)) (old new : World) (status : ℕ) → Statuses words old new status → Promises words old new status
+promises words old new status s = record {
+  kept = λ h. let a = s.ran h in let d = a.2.0 in
+      (a.0, a.1, (d.task, d.runs, keeps d.task d.work old.out new.out (task_aligned a.0 old.files new.files d.task d.runs) d.comes_to a.2.1));
 }
 
 -- so does the program, with the status of how it ended
-pub promises_at : (words : List (List ℕ)) (old new : Shelf) (out out' : Told) (r : Result Ended Refusal) (status : ℕ) → Ends words old new out out' r → status ≡ status_of r
-    → Promises words old new out out' status
-promises_at words old new out out' r status e s = promises words old new out out' status (statuses_at words old new out out' r status e s)
+pub promises_at : (words : List (List ℕ)) (old new : World) (r : Result Ended Refusal) (status : ℕ) → Ends words old new r → status ≡ status_of r → Promises words old new status
+promises_at words old new r status e s = promises words old new status (statuses_at words old new r status e s)

@@ -2,23 +2,16 @@
 use Rattle.std.specs.Prelude.{◌≡◌, ℕ, List, Some, Result, MatchResult}
 use Rattle.rv_types.specs.Memory.{Code, Ram}
 use Rattle.rv_types.specs.Isa.{Run}
-use Rattle.rv_types.specs.declared.Ending.{Ending}
 use Rattle.machine_desc.specs.declared.Desc.{Desc}
 use Rattle.window_model.specs.State.{Machine}
 use Rattle.window_model.specs.Retire.{hart_of}
-use Rattle.window_model.specs.Cycle.{Trace, rows, pieces, after_cycles}
+use Rattle.window_model.specs.Cycle.{rows, pieces, after_cycles}
 use Rattle.report_text.specs.Report.{piece_lines, report_text}
 use Rattle.trace_text.specs.TraceText.{rows_text}
 use Rattle.tool_io.specs.Outside.{Told, Wrote, WrotePart}
 use Rattle.tool_io.specs.declared.Failed.{Failed}
 
--- a run of at most n cycles from a state, as a trace
-abbrev pub trace_from : Desc → Code → ℕ → Machine → Trace
-trace_from d code n x =
-    let last = after_cycles d code n x in
-    record { rows = rows d code n x; end = last.end; retired = last.retired; cycles = last.cycle }
-
--- the same run as a report tells it: its steps are the instructions that retired
+-- a run of at most n cycles from a state, as a report tells it: its steps are the instructions that retired
 abbrev pub run_from : Desc → Code → ℕ → Machine → Run
 run_from d code n x =
     let last = after_cycles d code n x in
@@ -27,10 +20,6 @@ run_from d code n x =
 -- its report, which counts the cycles
 abbrev pub report_from : Ram → Desc → Code → ℕ → Machine → List ℕ
 report_from before d code n x = report_text before (run_from d code n x) (Some (after_cycles d code n x).cycle)
-
--- what the last line of a state says
-abbrev pub ending_at : Machine → Ending
-ending_at x = record { end = x.end; retired = x.retired; cycles = Some x.cycle }
 
 -- a core came from x to the state after at most n cycles, and this text is written
 pub record CameTo (text : List ℕ) (d : Desc) (code : Code) (n : ℕ) (x y : Machine) (old new : Told) : Type 0 where

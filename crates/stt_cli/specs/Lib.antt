@@ -3,5 +3,6 @@ pub mod Note
 pub mod Input
 pub mod Clocking
 pub mod Running
+pub mod Work
 pub mod Top
 pub mod Promises

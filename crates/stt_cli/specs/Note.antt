@@ -7,6 +7,8 @@ use Rattle.machine_desc.specs.Table.{key_text, subject_text}
 use Rattle.machine_desc.specs.declared.fault.DescFault.{DescFault}
 use Rattle.machine_desc.specs.declared.fault.DescFault.TheVariants as desc
 use Rattle.tool_io.specs.Outside.{Told, Wrote, WrotePart}
+use Rattle.stt_cli.specs.declared.outcome.Which.{Which}
+use Rattle.stt_cli.specs.declared.outcome.Which.TheVariants.{First, Second}
 use Rattle.stt_cli.specs.declared.outcome.Ended.{Ended}
 use Rattle.stt_cli.specs.declared.outcome.Refusal.{Refusal}
 use Rattle.stt_cli.specs.declared.outcome.Refusal.TheVariants.{Words, ReadDescription, DescriptionTooLong, Description, ReadImage, ImageTooLong, Image, Write, Memory}
@@ -51,14 +53,19 @@ description_fault (desc.Range key value) = codes "K5 " ++ key_text key ++ codes 
 description_fault (desc.Shape key) = codes "K6 " ++ key_text key
 description_fault desc.NoMemory = codes "K7"
 
+-- the word of each image
+abbrev pub image_word : Which → List ℕ
+image_word First = codes "image"
+image_word Second = codes "image2"
+
 abbrev pub refusal_words : Refusal → List ℕ
 refusal_words Words = codes "words"
 refusal_words ReadDescription = codes "read description"
 refusal_words DescriptionTooLong = codes "description too long"
 refusal_words (Description fault) = codes "description " ++ description_fault fault
-refusal_words ReadImage = codes "read image"
-refusal_words ImageTooLong = codes "image too long"
-refusal_words (Image fault) = codes "image " ++ image_fault fault
+refusal_words (ReadImage which) = codes "read " ++ image_word which
+refusal_words (ImageTooLong which) = image_word which ++ codes " too long"
+refusal_words (Image which fault) = image_word which ++ codes " " ++ image_fault fault
 refusal_words Write = codes "write"
 refusal_words Memory = codes "memory"
 

@@ -1,6 +1,6 @@
 -- What may be relied on of a machine's run besides its text: what it has retired, how soon, and what it shows
 -- (docs/theorems.md, "Committed state", "Progress", "Noninterference").
-use Rattle.std.specs.Prelude.{◌≡◌, ℕ, ◌+◌, ◌*◌, ◌<◌, ◌≤◌, ◌⊎◌, List, Option, Some, None, Ok}
+use Rattle.std.specs.Prelude.{◌≡◌, ℕ, ◌+◌, ◌*◌, ◌<◌, ◌≤◌, List, Some, None, Ok, IsTrue}
 use Rattle.rv_types.specs.Isa.{Run}
 use Rattle.rv_types.specs.Memory.{Ram, Agree}
 use Rattle.elf_loader.specs.Image.{ImageText, image_of}
@@ -12,10 +12,14 @@ use Rattle.window_model.specs.Path.{reads_of_trace}
 use Rattle.window_model.specs.Committed.{exit_of, TrapsNext}
 use Rattle.report_text.specs.Report.{report_text}
 use Rattle.trace_text.specs.TraceText as trace
-use Rattle.tool_io.specs.Outside.{Told, Shelf, Wrote}
-use Rattle.tool_words.specs.Words.{CommandText, isa_text, run_text, trace_text, bench_text}
-use Rattle.stt_cli.specs.Running.{run_of, trace_of}
-use Rattle.stt_cli.specs.Top.{Asks, Runs}
+use Rattle.tool_io.specs.Outside.{Told, Wrote}
+use Rattle.pair_run.specs.Answer.{Answers}
+use Rattle.pair_run.specs.Starts.{trace_of}
+use Rattle.pair_run.specs.declared.answer.Differ.TheVariants.{Same}
+use Rattle.pair_run.specs.declared.answer.PairAnswer.{PairAnswer}
+use Rattle.pair_text.specs.Comparison.{comparison}
+use Rattle.stt_cli.specs.Work.{TaskText, isa_task, report_task, trace_task, pair_task, run_of}
+use Rattle.stt_cli.specs.Top.{Asks, Runs, World, IsRun}
 
 -- ---- Committed state
 
@@ -63,20 +67,22 @@ abbrev pub TracesAgree : Type 0
 TracesAgree = (d : Desc) (a b : List ℕ) (one two : ImageText) (n : ℕ) → IsImageOf d a one → IsImageOf d b two → two.entry ≡ one.entry
     → two.code ≡ one.code → Agree one.ram two.ram (reads_of_trace d one.code one.entry one.ram n) → trace.trace_text (trace_of d two n) ≡ trace.trace_text (trace_of d one n)
 
+-- what is written is the answer on the runs of two images; and with the premise true it is that they are the same
+pub record Compares (d : Desc) (one two : ImageText) (n : ℕ) (out out' : Told) : Type 0 where
+  pub answer : PairAnswer
+  pub answers : Answers d one two n answer
+  pub text : Wrote (comparison answer) out out'
+  pub equal : IsTrue answer.premise → answer.first ≡ Same
+
 -- ---- The program
 
--- what a command with this description and image keeps besides
-abbrev pub Keeps : CommandText → Option Desc → ImageText → Told → Told → Type 0
-Keeps (isa_text name steps description) desc image out out' = Unit {0}
-Keeps (run_text description name n) (Some d) image out out' = Commits d image n out out' × MovesOn d image n
-Keeps (trace_text description name n) (Some d) image out out' = Hides d image n out out' × MovesOn d image n
-Keeps (bench_text description seed blocks n) (Some d) image out out' = Commits d image n out out' × MovesOn d image n
-Keeps command None image out out' = ⊥
+-- what a command that asks for this keeps besides
+abbrev pub Keeps : TaskText → Told → Told → Type 0
+Keeps (isa_task image steps) out out' = Unit {0}
+Keeps (report_task d image n) out out' = Commits d image n out out' × MovesOn d image n
+Keeps (trace_task d image n) out out' = Hides d image n out out' × MovesOn d image n
+Keeps (pair_task d one two n) out out' = Compares d one two n out out'
 
--- the status of a run that is written whole: it ended by an exit, by a trap, or not within its budget
-abbrev pub IsRun : ℕ → Type 0
-IsRun status = (status ≡ 0) ⊎ (status ≡ 1) ⊎ (status ≡ 3)
-
--- with such a status the command keeps its promises
-pub record Promises (words : List (List ℕ)) (old new : Shelf) (out out' : Told) (status : ℕ) : Type 0 where
-  pub kept : IsRun status → Asks words (λ command. (desc : Option Desc) × (image : ImageText) × Runs command old new desc image × Keeps command desc image out out')
+-- with the status of a text that is written whole the command keeps its promises
+pub record Promises (words : List (List ℕ)) (old new : World) (status : ℕ) : Type 0 where
+  pub kept : IsRun status → Asks words (λ command. (task : TaskText) × Runs command old.files new.files task × Keeps task old.out new.out)

@@ -2,15 +2,17 @@
 ghost use Rattle.std.specs.Prelude.{◌≡◌, ◌<◌, ◌+◌, ◌^◌, length, Some};
 ghost use Rattle.machine_facts.specs.Sized.{Sized};
 ghost use Rattle.trace_text.specs.TraceText.{trace_text};
-ghost use Rattle.stt_cli.specs.Clocking.{WritesRows, WritesPieces, ending_at, trace_from, run_from, report_from};
+ghost use Rattle.pair_run.specs.Running.{ending_at, trace_from};
+ghost use Rattle.stt_cli.specs.Clocking.{WritesRows, WritesPieces, run_from, report_from};
 ghost use Rattle.stt_cli.specs.Running.{Tells};
 
 use crate::outcome::{Ended, ended_of};
 use byte_ram::Ram;
+use line_text::Line;
 use report_text::{write_piece, write_report};
 use rv_types::{Ending, Piece};
 use tool_io::{Failed, Sink};
-use trace_text::{write_end, write_row};
+use trace_text::{write_end, write_row_with};
 use window_model::{Clocked, empty_row};
 
 // At most so many cycles: the row of each by one put.
@@ -20,12 +22,13 @@ fn write_rows<C: Clocked, S: Sink>(core: &mut C, cycles: u32, out: &mut S) -> Re
 {
     let mut row = empty_row();
     let mut piece = Piece::new();
+    let mut line = Line::new();
     for _done in 0..cycles {
         if core.end().is_some() {
             return Ok(());
         }
         core.cycle(&mut row, &mut piece);
-        write_row(&row, out)?;
+        write_row_with(&row, &mut line, out)?;
     }
     Ok(())
 }

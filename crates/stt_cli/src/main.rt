@@ -5,13 +5,16 @@
 
 mod building;
 mod clocking;
-mod input;
+mod description;
 mod loading;
 mod note;
 mod outcome;
+mod performing;
 mod reading;
 mod region;
 mod running;
+mod sources;
+mod task;
 #[cfg(test)]
 mod tests;
 mod top;

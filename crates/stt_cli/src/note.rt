@@ -1,9 +1,9 @@
 //! The line that a refusal writes to the note (`docs/formats.md`, "Notes").
 ghost use Rattle.std.specs.Prelude.{◌≡◌, ◌≤◌, ◌+◌, ◌++◌, length, codes};
-ghost use Rattle.stt_cli.specs.Note.{numbered, image_fault, printable, printed, description_fault, refusal_words, note_line};
+ghost use Rattle.stt_cli.specs.Note.{numbered, image_fault, printable, printed, description_fault, image_word, refusal_words, note_line};
 ghost use Rattle.std.specs.Fmt.{signed_decimal};
 
-use crate::outcome::Refusal;
+use crate::outcome::{Refusal, Which};
 use elf_loader::ElfFault;
 use line_text::Line;
 use machine_desc::DescFault;
@@ -113,6 +113,16 @@ fn add_description_fault(line: &mut Line, fault: &DescFault)
     }
 }
 
+// The word of an image.
+fn image_word(which: Which) -> &'static [u8]
+    ensures { result.now ≡ image_word which }
+{
+    match which {
+        Which::First => b"image",
+        Which::Second => b"image2",
+    }
+}
+
 fn add_refusal(line: &mut Line, refusal: &Refusal)
     requires { length line.old ≡ 0 }
     ensures text { line.new ≡ line.old ++ refusal_words refusal.now }
@@ -126,10 +136,17 @@ fn add_refusal(line: &mut Line, refusal: &Refusal)
             line.add(b"description ");
             add_description_fault(line, fault);
         }
-        Refusal::ReadImage => line.add(b"read image"),
-        Refusal::ImageTooLong => line.add(b"image too long"),
-        Refusal::Image(fault) => {
-            line.add(b"image ");
+        Refusal::ReadImage(which) => {
+            line.add(b"read ");
+            line.add(image_word(*which));
+        }
+        Refusal::ImageTooLong(which) => {
+            line.add(image_word(*which));
+            line.add(b" too long");
+        }
+        Refusal::Image(which, fault) => {
+            line.add(image_word(*which));
+            line.add(b" ");
             add_image_fault(line, fault);
         }
         Refusal::Write => line.add(b"write"),

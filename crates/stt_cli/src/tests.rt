@@ -12,6 +12,7 @@ mod failing;
 mod hostile;
 mod images;
 mod machine;
+mod pairs;
 mod programs;
 mod texts;
 mod traces;
@@ -76,7 +77,20 @@ const NOTHING: Failures = Failures {
     noted: 0,
 };
 
-// Runs the program on these words, with p.elf and d.toml, and with what is to fail.
+// Runs the program on these words, with these files, and with what of its puts is to fail.
+fn run_with(
+    alloc: Global,
+    words: &[&str],
+    files: &mut MemFiles,
+    failing: Failures,
+) -> Result<Left, Fail> {
+    let mut out = sink_of(alloc, failing.put, failing.sent)?;
+    let mut note = sink_of(alloc, failing.note, failing.noted)?;
+    let status = stt_top(alloc, words, files, &mut out, &mut note);
+    Ok(Left { status, out, note })
+}
+
+// The same with p.elf and d.toml, and with what is to fail.
 fn run_failing(
     alloc: Global,
     words: &[&str],
@@ -85,10 +99,7 @@ fn run_failing(
     failing: Failures,
 ) -> Result<Left, Fail> {
     let mut files = files_of(alloc, image, description, failing.read)?;
-    let mut out = sink_of(alloc, failing.put, failing.sent)?;
-    let mut note = sink_of(alloc, failing.note, failing.noted)?;
-    let status = stt_top(alloc, words, &mut files, &mut out, &mut note);
-    Ok(Left { status, out, note })
+    run_with(alloc, words, &mut files, failing)
 }
 
 // The same, where nothing fails.
@@ -275,7 +286,7 @@ fn writes_its_output(rt: HostRuntime) -> Result<(), Fail> {
 #[test]
 fn refuses_words_and_names(rt: HostRuntime) -> Result<(), Fail> {
     let alloc = rt.alloc();
-    let rows: [(&[&str], u8, &str); 31] = [
+    let rows: [(&[&str], u8, &str); 36] = [
         (&["run", "d.toml", "p.elf"], 2, "words\n"),
         (&["trace", "p.elf", "--cycles", "5"], 2, "words\n"),
         (
@@ -292,6 +303,27 @@ fn refuses_words_and_names(rt: HostRuntime) -> Result<(), Fail> {
             &["trace", "p.elf", "p.elf", "--cycles", "5"],
             4,
             "description K1\n",
+        ),
+        (&["pair", "d.toml", "p.elf", "--cycles", "5"], 2, "words\n"),
+        (
+            &["pair", "d.toml", "p.elf", "p.elf", "--cycles", "0"],
+            2,
+            "words\n",
+        ),
+        (
+            &["pair", "e.toml", "q.elf", "q.elf", "--cycles", "5"],
+            6,
+            "read description\n",
+        ),
+        (
+            &["pair", "d.toml", "q.elf", "p.elf", "--cycles", "5"],
+            6,
+            "read image\n",
+        ),
+        (
+            &["pair", "d.toml", "p.elf", "q.elf", "--cycles", "5"],
+            6,
+            "read image2\n",
         ),
         (&[], 2, "words\n"),
         (&["isa"], 2, "words\n"),

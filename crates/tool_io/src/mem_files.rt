@@ -51,7 +51,13 @@ impl MemFiles {
     /// These files, of which no read has failed, and the numbers of the reads that are to fail. The one error is want of
     /// memory.
     pub fn new(alloc: Global, files: Vec<MemFile>, fails: Vec<u64>) -> Result<MemFiles, NoMemory>
-        ensures { IfOk result (λ s. s ≡ record { files = files.items; fails = fails.items; reads = 0; counts = replicate (length files.items) 0; others = 0 }) }
+        ensures { IfOk result (λ s. s ≡ record {
+          files = files.items;
+          fails = fails.items;
+          reads = 0;
+          counts = replicate (length files.items) 0;
+          others = 0;
+        }) }
     {
         let counts = vec![in alloc; 0u64; files.len()]?;
         Ok(MemFiles {

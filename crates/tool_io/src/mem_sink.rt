@@ -71,7 +71,9 @@ impl Sink for MemSink {
     ghost told = { λ s. record { written = Some s.bytes; faults = s.count } };
 
     fn put(&mut self, piece: &[u8]) -> Result<(), Failed>
-        ensures writes { Writes piece.now (record { written = Some self.old.bytes; faults = self.old.count }) (record { written = Some self.new.bytes; faults = self.new.count }) result }
+        ensures writes { Writes piece.now
+            (record { written = Some self.old.bytes; faults = self.old.count })
+            (record { written = Some self.new.bytes; faults = self.new.count }) result }
         ensures exactly { IsErr result ↔ IsSinkFault self.old piece.now }
         ensures after { self.new ≡ sink_after self.old piece.now }
     {

@@ -40,7 +40,9 @@ impl<W: Write + Drop> Sink for RealSink<W> {
     ghost told = { λ s. record { written = None; faults = s.faults } };
 
     fn put(&mut self, piece: &[u8]) -> Result<(), Failed>
-        ensures writes { Writes piece.now (record { written = None; faults = self.old.faults }) (record { written = None; faults = self.new.faults }) result }
+        ensures writes { Writes piece.now
+            (record { written = None; faults = self.old.faults })
+            (record { written = None; faults = self.new.faults }) result }
         ensures stream { PutsAll piece.now self.old.held self.new.held result }
     {
         match put_all(&mut self.stream, piece) {

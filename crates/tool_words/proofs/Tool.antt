@@ -12,7 +12,7 @@ use Rattle.std.proofs.Common.{codes}
 use Rattle.clap.proofs.OnLiterals.{clap_on_literals}
 use Rattle.clap.proofs.ValueTestLemmas.{accepts-Accepts, Accepts-accepts}
 use Rattle.clap.specs.declared.builder.value_parser.ValueParser.TheVariants as parser
-use Rattle.tool_words.specs.Words.{isa_text, run_text, trace_text, bench_text, tool_app, faults, rows_in, number_between, number_of, word_of, blocks_of, CommandText, command_in, command_of, if_none}
+use Rattle.tool_words.specs.Words.{isa_text, run_text, trace_text, bench_text, pair_text, tool_app, faults, rows_in, number_between, number_of, word_of, blocks_of, CommandText, command_in, command_of, if_none}
 
 pub tool_is_free : is_simple_and_free tool_app ≡ true
 tool_is_free = refl
@@ -151,3 +151,7 @@ trace_is_read = refl
 bench_is_read : command_of (codes "bench" ∷ codes "d.toml" ∷ codes "--seed" ∷ codes "7" ∷ codes "--blocks" ∷ codes "64" ∷ codes "--cycles" ∷ codes "9" ∷ []) ≡ Some (bench_text (codes "d.toml") 7 64 9)
 unfolding command_of faults rows_in number_of word_of blocks_of clap_on_literals
 bench_is_read = refl
+
+pair_is_read : command_of (codes "pair" ∷ codes "d.toml" ∷ codes "p.elf" ∷ codes "q.elf" ∷ codes "--cycles" ∷ codes "9" ∷ []) ≡ Some (pair_text (codes "d.toml") (codes "p.elf") (codes "q.elf") 9)
+unfolding command_of faults rows_in word_of clap_on_literals
+pair_is_read = refl

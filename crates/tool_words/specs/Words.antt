@@ -6,7 +6,7 @@ use Rattle.std.specs.Str.Parse.{digits_value, without_leading_plus}
 use Rattle.clap.specs.ValueTests.{accepts}
 use Rattle.clap.specs.declared.builder.value_parser.ValueParser.TheVariants as parser
 use Rattle.tool_words.specs.declared.Command.{Command}
-use Rattle.tool_words.specs.declared.Command.TheVariants.{Isa, Run, Trace, Bench}
+use Rattle.tool_words.specs.declared.Command.TheVariants.{Isa, Run, Trace, Bench, Pair}
 
 -- a required name at its place
 abbrev pub name_rule : Text → Rule
@@ -42,6 +42,12 @@ bench_shape =
     (with_rule (with_rule (with_rule (with_rule (new_app (codes "bench")) (name_rule (codes "description")))
     (number_rule (codes "seed") 0 18446744073709551615)) (number_rule (codes "blocks") 1 4096)) cycles_rule).top
 
+-- pair D IMAGE IMAGE2 --cycles N
+abbrev pub pair_shape : Shape
+pair_shape =
+    (with_rule (with_rule (with_rule (with_rule (new_app (codes "pair")) (name_rule (codes "description"))) (name_rule (codes "image")))
+    (name_rule (codes "image2"))) cycles_rule).top
+
 -- no help, no version, and the words begin with the command
 abbrev pub bare_app : App
 bare_app = let a = new_app (codes "stt") in record a {
@@ -50,7 +56,9 @@ bare_app = let a = new_app (codes "stt") in record a {
 
 -- the tool's commands
 abbrev pub tool_app : App
-tool_app = with_subcommand (with_subcommand (with_subcommand (with_subcommand bare_app isa_shape) (cycles_shape (codes "run"))) (cycles_shape (codes "trace"))) bench_shape
+tool_app =
+    with_subcommand (with_subcommand (with_subcommand (with_subcommand (with_subcommand bare_app isa_shape) (cycles_shape (codes "run"))) (cycles_shape (codes "trace"))) bench_shape)
+    pair_shape
 
 -- the kinds of fault that clap finds in the words
 unfoldable pub faults : List Text → Kinds
@@ -62,18 +70,21 @@ rows_in ws = subcommand_of tool_app ws
 
 -- a command with its values, as contracts see it: for isa the image's name, the number of steps, and the description's
 -- name, if one is given; for run and trace the description's name, the image's, and the number of cycles; for bench the
--- description's name, the seed, the number of blocks, and that of cycles
+-- description's name, the seed, the number of blocks, and that of cycles; for pair the description's name, those of the two
+-- images, and the number of cycles
 pub data CommandText : Type 0 where
   isa_text : Text → ℕ → Option Text → CommandText
   run_text : Text → Text → ℕ → CommandText
   trace_text : Text → Text → ℕ → CommandText
   bench_text : Text → ℕ → ℕ → ℕ → CommandText
+  pair_text : Text → Text → Text → ℕ → CommandText
 
 abbrev pub command_text : Command → CommandText
 command_text (Isa image steps description) = isa_text image.now steps (option_map (λ t. t.now) description)
 command_text (Run description image cycles) = run_text description.now image.now cycles
 command_text (Trace description image cycles) = trace_text description.now image.now cycles
 command_text (Bench description seed blocks cycles) = bench_text description.now seed blocks.count cycles
+command_text (Pair description image image2 cycles) = pair_text description.now image.now image2.now cycles
 
 -- the number of a text that clap takes as one in this range
 abbrev pub number_between : ℕ → ℕ → Text → Option ℕ
@@ -114,6 +125,11 @@ bench_in rows =
     option_and_then (λ description. option_and_then (λ seed. option_and_then (λ blocks. option_map (λ cycles. bench_text description seed blocks cycles)
     (word_in (codes "cycles") rows)) (blocks_in (codes "blocks") rows)) (number_in (codes "seed") rows)) (first_of (codes "description") rows)
 
+abbrev pub pair_in : List Row → Option CommandText
+pair_in rows =
+    option_and_then (λ description. option_and_then (λ image. option_and_then (λ image2. option_map (λ cycles. pair_text description image image2 cycles)
+    (word_in (codes "cycles") rows)) (first_of (codes "image2") rows)) (first_of (codes "image") rows)) (first_of (codes "description") rows)
+
 abbrev pub command_in : Option (Text × List Row) → Option CommandText
 command_in None = None
 command_in (Some p) =
@@ -121,6 +137,7 @@ command_in (Some p) =
     else if bytes_eq p.0 (codes "run") then cycles_in run_text p.1
     else if bytes_eq p.0 (codes "trace") then cycles_in trace_text p.1
     else if bytes_eq p.0 (codes "bench") then bench_in p.1
+    else if bytes_eq p.0 (codes "pair") then pair_in p.1
     else None
 
 abbrev pub if_none : Kinds → Option CommandText → Option CommandText

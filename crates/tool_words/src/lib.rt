@@ -7,7 +7,7 @@
 ghost use Rattle.std.specs.Prelude.{◌≡◌, IfOk, map, IfErr, ◌≢◌, None, Some, [], option_map, false};
 ghost use Rattle.clap.specs.Words.{rule_of, shape_of, app_of, subcommand_rows_of, rows_of, found_of, first_of};
 ghost use Rattle.clap.specs.declared.builder.command.Command.TheViews.{out-Command};
-ghost use Rattle.tool_words.specs.Words.{name_rule, number_rule, text_rule, run_text, trace_text, isa_shape, cycles_rule, cycles_shape, bench_shape, bare_app, tool_app, faults, rows_in, command_text, number_of, number_in, word_of, word_in, blocks_of, blocks_in, isa_in, cycles_in, bench_in, command_in, command_of};
+ghost use Rattle.tool_words.specs.Words.{name_rule, number_rule, text_rule, run_text, trace_text, isa_shape, cycles_rule, cycles_shape, bench_shape, pair_shape, bare_app, tool_app, faults, rows_in, command_text, number_of, number_in, word_of, word_in, blocks_of, blocks_in, isa_in, cycles_in, bench_in, pair_in, command_in, command_of};
 
 mod blocks;
 
@@ -48,6 +48,13 @@ pub enum Command<'a> {
         description: &'a str,
         seed: u64,
         blocks: Blocks,
+        cycles: u32,
+    },
+    /// `pair D IMAGE IMAGE2 --cycles N`: the run of `run` on two images, and where the two first differ.
+    Pair {
+        description: &'a str,
+        image: &'a str,
+        image2: &'a str,
         cycles: u32,
     },
 }
@@ -130,6 +137,17 @@ fn bench_parser<'a>(alloc: Global) -> Result<Parser<'a>, AllocError>
         .arg(cycles_arg(alloc))
 }
 
+fn pair_parser<'a>(alloc: Global) -> Result<Parser<'a>, AllocError>
+    ensures shape { IfOk result (λ c. shape_of c ≡ pair_shape) }
+    ensures here { IfOk result (λ c. (out-Command c).has_globals ≡ false) }
+{
+    Parser::new(alloc, "pair")
+        .arg(name_arg(alloc, "description"))?
+        .arg(name_arg(alloc, "image"))?
+        .arg(name_arg(alloc, "image2"))?
+        .arg(cycles_arg(alloc))
+}
+
 // A parser with no command so far: no help, no version, and the words begin with the command.
 fn bare_parser<'a>(alloc: Global) -> Parser<'a>
     ensures { app_of result ≡ bare_app }
@@ -149,7 +167,8 @@ fn tool_parser<'a>(alloc: Global) -> Result<Parser<'a>, AllocError>
         .subcommand(isa_parser(alloc)?)?
         .subcommand(cycles_parser(alloc, "run")?)?
         .subcommand(cycles_parser(alloc, "trace")?)?
-        .subcommand(bench_parser(alloc)?)
+        .subcommand(bench_parser(alloc)?)?
+        .subcommand(pair_parser(alloc)?)
 }
 
 // What clap finds in the words.
@@ -293,6 +312,21 @@ fn bench_in<'a>(matches: &ArgMatches<'a>) -> Option<Command<'a>>
     })
 }
 
+fn pair_in<'a>(matches: &ArgMatches<'a>) -> Option<Command<'a>>
+    ensures { option_map command_text result ≡ pair_in (rows_of (found_of matches.now)) }
+{
+    let description = text_in(matches, "description")?;
+    let image = text_in(matches, "image")?;
+    let image2 = text_in(matches, "image2")?;
+    let cycles = word_in(matches, "cycles")?;
+    Some(Command::Pair {
+        description,
+        image,
+        image2,
+        cycles,
+    })
+}
+
 fn command_in<'a>(matches: &ArgMatches<'a>) -> Option<Command<'a>>
     ensures { option_map command_text result ≡ command_in (subcommand_rows_of matches.now) }
 {
@@ -302,6 +336,7 @@ fn command_in<'a>(matches: &ArgMatches<'a>) -> Option<Command<'a>>
         "run" => run_in(inner),
         "trace" => trace_in(inner),
         "bench" => bench_in(inner),
+        "pair" => pair_in(inner),
         _ => None,
     }
 }

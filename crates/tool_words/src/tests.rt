@@ -3,8 +3,8 @@ use crate::{Blocks, Command, read_words};
 use std::alloc::Global;
 
 // The number of a command on p.elf: that of the steps, or 1000 more than the cycles, and 2000 more where they are traced;
-// 100 more with the description d.toml; for a generated image 3000, the seed, 10 for each block, and the cycles. 0 where the
-// words are refused.
+// 100 more with the description d.toml; for a generated image 3000, the seed, 10 for each block, and the cycles; for a pair
+// with q.elf 4000 more than the cycles. 0 where the words are refused.
 fn number_of(alloc: Global, words: &[&str]) -> u64 {
     match read_words(alloc, words) {
         Ok(
@@ -40,6 +40,14 @@ fn number_of(alloc: Global, words: &[&str]) -> u64 {
                 cycles,
             },
         ) => (cycles as u64 + 10 * count as u64 + 3000).saturating_add(seed),
+        Ok(
+            Command::Pair {
+                description: "d.toml",
+                image: "p.elf",
+                image2: "q.elf",
+                cycles,
+            },
+        ) => (cycles as u64).saturating_add(4000),
         _ => 0,
     }
 }
@@ -47,7 +55,7 @@ fn number_of(alloc: Global, words: &[&str]) -> u64 {
 #[test]
 fn reads_the_words(rt: HostRuntime) {
     let alloc = rt.alloc();
-    let rows: [(&[&str], u64); 43] = [
+    let rows: [(&[&str], u64); 51] = [
         (&["isa", "p.elf", "--steps", "5"], 5),
         (&["isa", "--steps", "5", "p.elf"], 5),
         (&["isa", "p.elf", "--steps=5"], 5),
@@ -135,6 +143,23 @@ fn reads_the_words(rt: HostRuntime) {
         (&["bench", "d.toml", "--blocks", "1", "--cycles", "5"], 0),
         (
             &["bench", "--seed", "1", "--blocks", "1", "--cycles", "5"],
+            0,
+        ),
+        (&["pair", "d.toml", "p.elf", "q.elf", "--cycles", "5"], 4005),
+        (
+            &["pair", "--cycles=4294967295", "d.toml", "p.elf", "q.elf"],
+            4294971295,
+        ),
+        (&["pair", "d.toml", "q.elf", "p.elf", "--cycles", "5"], 0),
+        (&["pair", "d.toml", "p.elf", "--cycles", "5"], 0),
+        (&["pair", "d.toml", "p.elf", "q.elf"], 0),
+        (&["pair", "d.toml", "p.elf", "q.elf", "--cycles", "0"], 0),
+        (
+            &["pair", "d.toml", "p.elf", "q.elf", "--cycles", "4294967296"],
+            0,
+        ),
+        (
+            &["pair", "d.toml", "p.elf", "q.elf", "r.elf", "--cycles", "5"],
             0,
         ),
         (&["isa", "--help"], 0),

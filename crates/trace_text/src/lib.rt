@@ -8,7 +8,7 @@ mod events;
 mod lines;
 
 pub use line_text::write_end;
-pub use lines::write_row;
+pub use lines::{write_row, write_row_with};
 pub use rv_types::{End, Ending};
 
 #[cfg(test)]

@@ -37,14 +37,13 @@ fn add_events(line: &mut Line, events: &[Event])
 }
 
 #[tactic(auto, unfolding(crate::specs::TraceText::row_text))]
-fn row_line(row: &Row) -> Line
-    ensures { result ≡ row_text row.now }
+fn fill_line(row: &Row, line: &mut Line)
+    ensures { line.new ≡ row_text row.now }
 {
-    let mut line = Line::new();
+    line.clear();
     line.add_decimal_word(row.cycle());
-    add_events(&mut line, row.events());
+    add_events(line, row.events());
     line.add(b"\n");
-    line
 }
 
 /// Writes the line of a cycle, by one put. Error: `Failed`, only where the sink's count of faults rose; then the first
@@ -52,5 +51,14 @@ fn row_line(row: &Row) -> Line
 pub fn write_row<S: Sink>(row: &Row, out: &mut S) -> Result<(), Failed>
     ensures { Writes (row_text row.now) (S.told out.old) (S.told out.new) result }
 {
-    out.put(row_line(row).as_slice())
+    let mut line = Line::new();
+    write_row_with(row, &mut line, out)
+}
+
+/// The same by a line that is lent, so that many rows are written with one line. What it held before doesn't matter.
+pub fn write_row_with<S: Sink>(row: &Row, line: &mut Line, out: &mut S) -> Result<(), Failed>
+    ensures { Writes (row_text row.now) (S.told out.old) (S.told out.new) result }
+{
+    fill_line(row, line);
+    out.put(line.as_slice())
 }

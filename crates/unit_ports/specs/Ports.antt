@@ -2,7 +2,7 @@
 use Rattle.std.specs.Prelude.{ℕ, ◌-◌, None}
 use Rattle.machine_desc.specs.declared.Desc.{Desc}
 use Rattle.window_model.specs.declared.Divider.{Divider}
-use Rattle.window_model.specs.Issue.{Port, AluPort, MulPort, DivPort, StorePort, LoadPort}
+use Rattle.window_model.specs.Issue.{Port, AluPort, MulPort, DivPort, AddressPort, LoadPort}
 
 -- how many arithmetic units there are, the cycle, how many ports of each kind are left in it, and the divider
 pub record Ports : Type 0 where
@@ -32,7 +32,7 @@ abbrev pub left_at : Port → Ports → ℕ
 left_at AluPort p = p.alu
 left_at MulPort p = p.mul
 left_at DivPort p = p.div
-left_at StorePort p = p.store
+left_at AddressPort p = p.store
 left_at LoadPort p = p.load
 
 -- one fewer of a port, where one is left
@@ -40,5 +40,5 @@ abbrev pub taken_at : Port → Ports → Ports
 taken_at AluPort p = record p { alu = p.alu - 1 }
 taken_at MulPort p = record p { mul = p.mul - 1 }
 taken_at DivPort p = record p { div = p.div - 1 }
-taken_at StorePort p = record p { store = p.store - 1 }
+taken_at AddressPort p = record p { store = p.store - 1 }
 taken_at LoadPort p = record p { load = p.load - 1 }

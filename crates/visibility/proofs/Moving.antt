@@ -1,12 +1,11 @@
 -- Where the point is to stand over a window whose serials rise.
 use Rattle.std.proofs.Common.{◌≡◌, ℕ, zero, suc, ◌+◌, ◌<◌, ◌≤◌, Bool, true, false, not, ◌&&◌, List, [], ◌∷◌, length, Option, Some, None, refl, ap, ap₂, sym, ◌∙◌, subst, arith, slice_get}
-use Rattle.std.specs.Prelude.{reverse, nat_le}
+use Rattle.std.specs.Prelude.{nat_le}
 use Rattle.std.specs.List.{find, list_all, All}
 use Rattle.std.specs.Option.{option_map, unwrap_or}
 use Rattle.std.proofs.lemmas.Bool.Decides.{nat_tests}
 use Rattle.std.proofs.lemmas.List.Elements.{All-nil, All-cons, All-head, All-tail, All-weaker}
 use Rattle.machine_desc.specs.declared.SttModel.{SttModel}
-use Rattle.machine_desc.specs.declared.SttModel.TheVariants.{Spectre, Futuristic}
 use Rattle.window_model.specs.declared.Entry.{Entry}
 use Rattle.window_model.specs.Along.{Along}
 use Rattle.window_model.specs.Taint.{visible}
@@ -14,20 +13,6 @@ use Rattle.window_model.proofs.Before.{all_reverse}
 use Rattle.window_model.specs.Serials.{Rise}
 use Rattle.window_model.proofs.Serials.{rise_head, rise_tail}
 use Rattle.visibility.specs.Point.{Point, passes, next_after, serial_of, moved_over, Passed, IsPoint, CanAdvance, HasMoved, HasAdvanced}
-
--- ---- visible, entry by entry
-
-visible_cons : (model : SttModel) (e : Entry) (before : List Entry) → visible model (e ∷ before) ≡ (passes model e && visible model before)
-visible_cons Spectre e before = refl
-visible_cons Futuristic e before = refl
-
-visible_none : (model : SttModel) → visible model [] ≡ true
-visible_none Spectre = refl
-visible_none Futuristic = refl
-
-visible_is : (model : SttModel) (before : List Entry) → visible model before ≡ list_all (passes model) before
-visible_is Spectre before = refl
-visible_is Futuristic before = refl
 
 -- ---- what the search finds
 
@@ -85,7 +70,7 @@ hidden p before [] v a = tt
 hidden p before (e ∷ es) v a =
     let l : p.serial < e.serial = All-head (λ e. p.serial < e.serial) e es a in
     let n : nat_le e.serial p.serial ≡ false = grind (arith, nat_tests) in
-    let c : visible p.model (e ∷ before) ≡ false = visible_cons p.model e before ∙ ap (λ b. passes p.model e && b) v ∙ and_false (passes p.model e) in
+    let c : visible p.model (e ∷ before) ≡ false = ap (λ b. passes p.model e && b) v ∙ and_false (passes p.model e) in
     (n ∙ sym v, hidden p (e ∷ before) es c (All-tail (λ e. p.serial < e.serial) e es a))
   where
     and_false : (b : Bool) → (b && false) ≡ false
@@ -102,12 +87,12 @@ stops p f before (e ∷ es) v h q r = by_test (passes p.model e) refl (stops p f
         let s = on p.model e f es h t in
         let l : e.serial < f.serial = found_has p.model (λ b. e.serial < b.serial) f es (rise_head e es r) s in
         let n : nat_le e.serial p.serial ≡ true = grind (arith, nat_tests) in
-        let c : visible p.model (e ∷ before) ≡ true = visible_cons p.model e before ∙ ap₂ (λ a b. a && b) t v in
+        let c : visible p.model (e ∷ before) ≡ true = ap₂ (λ a b. a && b) t v in
         (n ∙ sym v, more c s q (rise_tail e es r))
     by_test false t more =
         let m : e.serial ≡ p.serial = ap (λ (e : Entry). e.serial) (here p.model e f es h t) ∙ q in
         let n : nat_le e.serial p.serial ≡ true = grind (arith, nat_tests) in
-        let c : visible p.model (e ∷ before) ≡ false = visible_cons p.model e before ∙ ap₂ (λ a b. a && b) t v in
+        let c : visible p.model (e ∷ before) ≡ false = ap₂ (λ a b. a && b) t v in
         (n ∙ sym v, hidden p (e ∷ before) es c (subst (λ n. All (λ b. n < b.serial) es) m (rise_head e es r)))
 
 -- all pass, and the point is past them
@@ -117,7 +102,7 @@ passes_all p before (e ∷ es) v h a =
     let t = past p.model e es h (passes p.model e) refl in
     let l : e.serial < p.serial = All-head (λ e. e.serial < p.serial) e es a in
     let n : nat_le e.serial p.serial ≡ true = grind (arith, nat_tests) in
-    let c : visible p.model (e ∷ before) ≡ true = visible_cons p.model e before ∙ ap₂ (λ a b. a && b) t.0 v in
+    let c : visible p.model (e ∷ before) ≡ true = ap₂ (λ a b. a && b) t.0 v in
     (n ∙ sym v, passes_all p (e ∷ before) es c t.1 (All-tail (λ e. e.serial < p.serial) e es a))
 
 -- what stands before the one that doesn't pass passes
@@ -146,14 +131,14 @@ below_next s e (f ∷ es) r =
 
 smaller : (p : Point) (e : Entry) (es : List Entry) → IsPoint p (e ∷ es) → (s : ℕ) → All (λ e. s < e.serial) (e ∷ es) → s ≤ p.serial
 smaller p e es i s a =
-    let t : nat_le e.serial p.serial ≡ true = i.0 ∙ visible_none p.model in
+    let t : nat_le e.serial p.serial ≡ true = i.0 in
     let n : e.serial ≤ p.serial = grind (arith, nat_tests) in
     let l = All-head (λ e. s < e.serial) e es a in
     omega arith
 
 moved_to : (p : Point) (f e : Entry) (es : List Entry) → Rise (e ∷ es) → stop p.model (e ∷ es) ≡ Some f → f.serial ≡ p.serial → HasMoved p (e ∷ es)
 moved_to p f e es r h q =
-    let i = stops p f [] (e ∷ es) (visible_none p.model) h q r in
+    let i = stops p f [] (e ∷ es) refl h q r in
     record {
       each = i;
       smaller = smaller p e es i;
@@ -166,11 +151,11 @@ moved_to p f e es r h q =
 
 moved_past : (p : Point) (old : ℕ) (e : Entry) (es : List Entry) → Rise (e ∷ es) → stop p.model (e ∷ es) ≡ None → next_after old (e ∷ es) ≡ p.serial → HasMoved p (e ∷ es)
 moved_past p old e es r h q =
-    let i = passes_all p [] (e ∷ es) (visible_none p.model) h (subst (λ n. All (λ b. b.serial < n) (e ∷ es)) q (below_next old e es r)) in
+    let i = passes_all p [] (e ∷ es) refl h (subst (λ n. All (λ b. b.serial < n) (e ∷ es)) q (below_next old e es r)) in
     record {
       each = i;
       smaller = smaller p e es i;
-      next = λ s a le. visible_is p.model (reverse (e ∷ es)) ∙ all_reverse (passes p.model) (e ∷ es) ∙ none_stops p.model (e ∷ es) h;
+      next = λ s a le. all_reverse (passes p.model) (e ∷ es) ∙ none_stops p.model (e ∷ es) h;
       again = record {
         passed = All-weaker (λ b. passes p.model b ≡ true) (λ b. b.serial < p.serial → passes p.model b ≡ true) (λ b t lt. t) (e ∷ es) (all_pass p.model (e ∷ es) h);
         near = omega (arith, q);

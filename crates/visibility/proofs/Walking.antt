@@ -1,7 +1,7 @@
 -- Walking a list by position, from its first element on.
-use Rattle.std.proofs.Common.{◌≡◌, ℕ, zero, suc, ◌+◌, ◌≤◌, Bool, true, false, not, List, [], ◌∷◌, length, drop, take, Some, None, refl, ap, sym, ◌∙◌, slice_get}
+use Rattle.std.proofs.Common.{◌≡◌, ℕ, zero, suc, ◌+◌, Bool, true, false, not, List, [], ◌∷◌, drop, take, Some, refl, ap, ◌∙◌, slice_get}
 use Rattle.std.specs.List.{find, All}
-use Rattle.std.proofs.lemmas.List.{drop_more, drop_all}
+use Rattle.std.proofs.lemmas.List.{drop_more}
 use Rattle.std.proofs.lemmas.List.Elements.{All-head, All-tail}
 use Rattle.std.proofs.lemmas.Option.{slice_get_within, get_or_from_slice_get}
 
@@ -15,9 +15,6 @@ find_on p xs i x h f r = let e = ap (find p) (drop_here xs i x h) in cc
 
 pub find_here : {X : Type 0} (p : X → Bool) (xs : List X) (i : ℕ) (x : X) → slice_get xs i ≡ Some x → p x ≡ true → find p (drop i xs) ≡ find p xs → Some x ≡ find p xs
 find_here p xs i x h t r = let e = ap (find p) (drop_here xs i x h) in cc
-
-pub find_end : {X : Type 0} (p : X → Bool) (xs : List X) (i : ℕ) → length xs ≤ i → find p (drop i xs) ≡ find p xs → None ≡ find p xs
-find_end p xs i le r = sym (ap (find p) (drop_all i xs le)) ∙ r
 
 -- a search that begins behind elements that it would pass over
 pub find_from : {X : Type 0} (t : X → Bool) (n : ℕ) (xs : List X) → All (λ x. t x ≡ true) (take n xs) → find (λ x. not (t x)) (drop n xs) ≡ find (λ x. not (t x)) xs

@@ -2,20 +2,15 @@
 use Rattle.std.specs.Prelude.{◌≡◌, ℕ, ◌+◌, ◌<◌, ◌≤◌, Bool, true, false, not, nat_le, List, [], ◌∷◌, Option, Some, None, reverse}
 use Rattle.std.specs.List.{All, find}
 use Rattle.machine_desc.specs.declared.SttModel.{SttModel}
-use Rattle.machine_desc.specs.declared.SttModel.TheVariants.{Spectre, Futuristic}
 use Rattle.window_model.specs.declared.Entry.{Entry}
 use Rattle.window_model.specs.Along.{Along}
-use Rattle.window_model.specs.Taint.{visible, safe, settled}
+use Rattle.window_model.specs.Taint.{visible}
+pub use Rattle.window_model.specs.Taint.{passes}
 
 -- entries up to this serial are visible under this model
 pub record Point : Type 0 where
   pub serial : ℕ
   pub model : SttModel
-
--- the entry doesn't keep younger ones from being visible
-abbrev pub passes : SttModel → Entry → Bool
-passes Spectre e = settled e
-passes Futuristic e = safe e
 
 -- a value with this youngest root is tainted
 abbrev pub is_hidden : ℕ → Option ℕ → Bool

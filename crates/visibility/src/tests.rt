@@ -2,22 +2,10 @@
 ghost use Rattle.std.specs.Prelude.{◌≡◌};
 
 use crate::VisPoint;
-use machine_desc::{Desc, read_desc};
-use rv_types::{Cause, Instr, Kind, Op, Reg, kind_of};
-use std::alloc::Global;
+use machine_desc::{Desc, EXAMPLE, SttModel, read_desc};
+use rv_types::{Cause, Instr, Op, Reg, kind_of};
 use std::test::Fail;
-use window_model::{Entry, Item, Outcome, State, Window};
-
-// A description, up to its model.
-const START: &str =
-    "[core]\nfetch_width = 2\nretire_width = 2\nrob = 16\nstations = 8\nloads = 4\nstores = 4\nqueue = 8\n[units]\nalus = 2\nmul_latency = 3\n[predictor]\ncounters = 16\nbtb = 4\n[cache]\nsets = 2\nways = 2\nline = 16\nhit_latency = 2\nmiss_latency = 10\nmshrs = 2\n[ram]\nbase = 65536\nsize = 65536\n[stt]\nmodel = ";
-
-fn desc(alloc: Global, model: &str) -> Result<Desc, Fail> {
-    let mut text = String::new(alloc);
-    text.push_str(START)?;
-    text.push_str(model)?;
-    Ok(read_desc(alloc, text.as_bytes())?)
-}
+use window_model::{Entry, Item, Outcome, Progress, Window};
 
 // A window of two entries.
 #[derive(Drop)]
@@ -40,7 +28,7 @@ impl Window for Two {
     }
 }
 
-fn entry(serial: u64, instr: Instr, state: State, fault: Option<Cause>, resolved: bool) -> Entry
+fn entry(serial: u64, instr: Instr, state: Progress, fault: Option<Cause>, resolved: bool) -> Entry
     ensures { result.serial ≡ serial }
 {
     let outcome = Outcome {
@@ -65,7 +53,7 @@ fn entry(serial: u64, instr: Instr, state: State, fault: Option<Cause>, resolved
 }
 
 // A branch with serial 2 and a load with serial 5.
-fn window(resolved: bool, state: State, fault: Option<Cause>) -> Two
+fn window(resolved: bool, state: Progress, fault: Option<Cause>) -> Two
     ensures older { result.older.serial ≡ 2 }
     ensures younger { result.younger.serial ≡ 5 }
 {
@@ -83,7 +71,7 @@ fn window(resolved: bool, state: State, fault: Option<Cause>) -> Two
         imm: 0,
     };
     Two {
-        older: entry(2, branch, State::Done, None, resolved),
+        older: entry(2, branch, Progress::Done, None, resolved),
         younger: entry(5, load, state, fault, false),
     }
 }
@@ -101,19 +89,27 @@ fn seen(desc: &Desc, window: &Two) -> [bool; 3]
 #[test]
 fn the_point_stands_at_what_keeps_younger_ones_hidden(rt: HostRuntime) -> Result<(), Fail> {
     let alloc = rt.alloc();
-    let spectre = desc(alloc, "\"spectre\"\n")?;
-    let futuristic = desc(alloc, "\"futuristic\"\n")?;
-    let open = window(false, State::Done, None);
-    assert_eq!(rt; seen(&spectre, &open), [true, false, false]);
-    assert_eq!(rt; seen(&futuristic, &open), [true, false, false]);
-    let waiting = window(true, State::Waiting, None);
-    assert_eq!(rt; seen(&spectre, &waiting), [true, true, true]);
-    assert_eq!(rt; seen(&futuristic, &waiting), [true, true, false]);
-    let faulty = window(true, State::Done, Some(Cause::load_outside()));
-    assert_eq!(rt; seen(&spectre, &faulty), [true, true, true]);
-    assert_eq!(rt; seen(&futuristic, &faulty), [true, true, false]);
-    let done = window(true, State::Done, None);
-    assert_eq!(rt; seen(&futuristic, &done), [true, true, true]);
+    let fault = Some(Cause::load_outside());
+    let (spectre, futuristic) = (SttModel::Spectre, SttModel::Futuristic);
+    let (waiting, done) = (Progress::Waiting, Progress::Done);
+    let rows = [
+        (spectre, false, done, None, [true, false, false]),
+        (futuristic, false, done, None, [true, false, false]),
+        (spectre, true, waiting, None, [true, true, true]),
+        (futuristic, true, waiting, None, [true, true, false]),
+        (spectre, true, done, fault, [true, true, true]),
+        (futuristic, true, done, fault, [true, true, false]),
+        (futuristic, true, done, None, [true, true, true]),
+    ];
+    let mut desc = read_desc(alloc, EXAMPLE.as_bytes())?;
+    for (model, resolved, state, fault, want) in rows {
+        desc.stt_model = model;
+        assert_eq!(rt;
+            seen(&desc, &window(resolved, state, fault)),
+            want,
+            "{model:?} {state:?}"
+        );
+    }
     Ok(())
 }
 
@@ -130,18 +126,26 @@ fn reached(desc: &Desc, window: &Two) -> u32
 #[test]
 fn the_entries_before_its_position_are_below_it(rt: HostRuntime) -> Result<(), Fail> {
     let alloc = rt.alloc();
-    let spectre = desc(alloc, "\"spectre\"\n")?;
-    let futuristic = desc(alloc, "\"futuristic\"\n")?;
-    assert_eq!(rt; reached(&spectre, &window(false, State::Done, None)), 0);
-    let waiting = window(true, State::Waiting, None);
-    assert_eq!(rt; reached(&futuristic, &waiting), 1);
-    assert_eq!(rt; reached(&spectre, &waiting), 2);
+    let rows = [
+        (SttModel::Spectre, false, Progress::Done, 0),
+        (SttModel::Futuristic, true, Progress::Waiting, 1),
+        (SttModel::Spectre, true, Progress::Waiting, 2),
+    ];
+    let mut desc = read_desc(alloc, EXAMPLE.as_bytes())?;
+    for (model, resolved, state, want) in rows {
+        desc.stt_model = model;
+        assert_eq!(rt;
+            reached(&desc, &window(resolved, state, None)),
+            want,
+            "{model:?}"
+        );
+    }
     Ok(())
 }
 
 #[test]
 fn before_anything_serial_0_alone_is_visible(rt: HostRuntime) -> Result<(), Fail> {
-    let point = VisPoint::new(&desc(rt.alloc(), "\"spectre\"\n")?);
+    let point = VisPoint::new(&read_desc(rt.alloc(), EXAMPLE.as_bytes())?);
     assert_eq!(rt; point.visible(0), true);
     assert_eq!(rt; point.visible(1), false);
     assert_eq!(rt; point.tainted(None), false);

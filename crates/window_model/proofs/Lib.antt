@@ -1,6 +1,7 @@
 pub mod Worked
 pub mod Before
 pub mod Taints
+pub mod Passing
 pub mod Booleans
 pub mod Lists
 pub mod Serials
@@ -13,6 +14,7 @@ pub mod Calls
 pub mod Registers
 pub mod Issuing
 pub mod Resolving
+pub mod Placing
 pub mod Leaving
 pub mod Walks
 pub mod Quiet

@@ -1,20 +1,21 @@
 -- What every phase but Retire leaves alone: the retired state, the count of the retired, and the end.
-use Rattle.std.proofs.Common.{◌≡◌, ℕ, ◌+◌, Bool, true, false, List, Option, Some, None, refl, ◌∙◌}
-use Rattle.std.specs.Prelude.{if◌then◌else◌}
+use Rattle.std.proofs.Common.{◌≡◌, ◌+◌, List, Option, Some, None, refl, ◌∙◌}
 use Rattle.rv_types.specs.Memory.{Code}
 use Rattle.rv_types.specs.declared.End.{End}
 use Rattle.machine_desc.specs.declared.Desc.{Desc}
 use Rattle.window_model.specs.declared.Entry.{Entry}
-use Rattle.window_model.specs.declared.Target.{Target}
 use Rattle.window_model.specs.declared.Divider.{Divider}
 use Rattle.window_model.specs.State.{Machine}
-use Rattle.window_model.specs.Order.{Place, first}
+use Rattle.window_model.specs.Order.{first}
 use Rattle.window_model.specs.Fill.{fill, complete}
-use Rattle.window_model.specs.Resolve.{resolve, resolve_at, may_resolve, with_predictor, squash, keep, squashes}
+use Rattle.window_model.specs.Resolve.{resolve}
 use Rattle.window_model.specs.Retire.{hart_of, retire, unless_ended}
-use Rattle.window_model.specs.Issue.{issue, is_free, after_load, tried, divides, divider_after}
+use Rattle.window_model.specs.Around.{around}
+use Rattle.window_model.specs.Issue.{LoadPort, issue, may_at}
 use Rattle.window_model.specs.Front.{rename, fetch, then_does, nothing}
 use Rattle.window_model.specs.Cycle.{cycle, back}
+use Rattle.window_model.proofs.Issuing.{by_after_load}
+use Rattle.window_model.proofs.Placing.{resolve_keep}
 use Rattle.window_model.proofs.Walks.{rename_keep, fetch_keep}
 
 pub record Quiet (x y : Machine) : Type 0 where
@@ -34,23 +35,13 @@ fill_quiet d x = record { hart = refl; retired = refl; ended = refl }
 pub complete_quiet : (x : Machine) → Quiet x (complete x).machine
 complete_quiet x = record { hart = refl; retired = refl; ended = refl }
 
-place_quiet : (p : Place) (x : Machine) (b : Bool) (c : List ℕ) (t : List (Option Target)) → Quiet x (if b then squash p (with_predictor x c t) else keep p (with_predictor x c t)).machine
-place_quiet p x true c t = record { hart = refl; retired = refl; ended = refl }
-place_quiet p x false c t = record { hart = refl; retired = refl; ended = refl }
-
-resolve_at_quiet : (d : Desc) (o : Option Place) (x : Machine) → Quiet x (resolve_at d o x).machine
-resolve_at_quiet d None x = quiet_same x
-resolve_at_quiet d (Some p) x = place_quiet p x (squashes p.entry) _ _
-
 pub resolve_quiet : (d : Desc) (x : Machine) → Quiet x (resolve d x).machine
-resolve_quiet d x = resolve_at_quiet d (first (may_resolve d) x.window) x
-
-load_quiet : (d : Desc) (o : Option Place) (x : Machine) (w : List Entry) (v : Divider) → Quiet x (record (after_load d o x) { window = w; divider = v })
-load_quiet d None x w v = record { hart = refl; retired = refl; ended = refl }
-load_quiet d (Some p) x w v = record { hart = refl; retired = refl; ended = refl }
+resolve_quiet d x = resolve_keep d (Quiet x) (λ y p t q k. record { hart = k.hart; retired = k.retired; ended = k.ended }) (λ y p t q k. record { hart = k.hart; retired = k.retired; ended = k.ended }) x (quiet_same x)
 
 pub issue_quiet : (d : Desc) (x : Machine) → Quiet x (issue d x).machine
-issue_quiet d x = load_quiet d (first (tried d (is_free x)) x.window) x _ (divider_after x (first (divides d (is_free x)) x.window))
+issue_quiet d x =
+    by_after_load d x (λ y. (w : List Entry) (v : Divider) → Quiet x (record y { window = w; divider = v }))
+    (λ c m w v. record { hart = refl; retired = refl; ended = refl }) (first (may_at d (around x) LoadPort) x.window) _ _
 
 pub rename_quiet : (d : Desc) (x : Machine) → Quiet x (rename d x).machine
 rename_quiet d x = rename_keep d (Quiet x) (λ y i rest q f k. record { hart = k.hart; retired = k.retired; ended = k.ended }) x (quiet_same x)

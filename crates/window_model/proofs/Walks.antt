@@ -34,38 +34,48 @@ module _ (W : List Entry → Type 0) (drops : (e : Entry) (rest : List Entry) �
 
 -- ---- turn by turn, item by item
 
--- what holds of no turn, of an end, and of a turn with what follows it holds of so many turns
-module _ (d : Desc) (Q : ℕ → Machine → Retired → Type 0)
-    (stops : (n : ℕ) (x : Machine) → Q n x (stays x))
-    (leaves : (n : ℕ) (stored : Bool) (x : Machine) (e : Entry) (rest : List Entry) → x.end ≡ None → x.window ≡ e ∷ rest → may_leave e ≡ true → trap_of e ≡ None →
-    (let y = (head_leaves e.item.kind d e rest x).machine in Q n y (turns d n stored y)) → Q (suc n) x (then_retires (head_leaves e.item.kind d e rest x) (turns d n stored)))
-    (ends : (n : ℕ) (x : Machine) (e : Entry) (rest : List Entry) (cause : Cause) → x.end ≡ None → x.window ≡ e ∷ rest → may_leave e ≡ true → trap_of e ≡ Some cause → Q n x (ends_with cause e x)) where
-  by_trap : (n : ℕ) (stored : Bool) (o : Option Cause) (x : Machine) (e : Entry) (rest : List Entry) → x.end ≡ None → x.window ≡ e ∷ rest → may_leave e ≡ true → trap_of e ≡ o → ((b : Bool) (y : Machine) → Q n y (turns d n b y)) →
-      Q (suc n) x (turn d stored o e rest x (turns d n))
-  by_trap n stored (Some cause) x e rest u q l t m = ends (suc n) x e rest cause u q l t
-  by_trap n stored None x e rest u q l t m = waits_or (stored && is_store e.item.kind)
-    where
-      waits_or : (b : Bool) → Q (suc n) x (if b then stays x else then_retires (head_leaves e.item.kind d e rest x) (turns d n (stored || is_store e.item.kind)))
-      waits_or true = stops (suc n) x
-      waits_or false = leaves n (stored || is_store e.item.kind) x e rest u q l t (m (stored || is_store e.item.kind) (head_leaves e.item.kind d e rest x).machine)
+-- why there is no turn, where a store has retired in this cycle or not
+pub data Halts (n : ℕ) (stored : Bool) (x : Machine) : Type 0 where
+  NoTurn : n ≡ 0 → Halts n stored x
+  HasEnded : (e : End) → x.end ≡ Some e → Halts n stored x
+  NoHead : x.window ≡ [] → Halts n stored x
+  HeadStays : (e : Entry) (rest : List Entry) → x.window ≡ e ∷ rest → may_leave e ≡ false → Halts n stored x
+  StoreWaits : (e : Entry) (rest : List Entry) → x.window ≡ e ∷ rest → (stored && is_store e.item.kind) ≡ true → Halts n stored x
 
-  by_head : (n : ℕ) (stored : Bool) (w : List Entry) (x : Machine) → x.end ≡ None → x.window ≡ w → ((b : Bool) (y : Machine) → Q n y (turns d n b y)) → Q (suc n) x (head_turn d stored w x (turns d n))
-  by_head n stored [] x u q m = stops (suc n) x
+-- what holds of no turn, of an end, and of a turn with what follows it holds of so many turns
+module _ (d : Desc) (Q : ℕ → Bool → Machine → Retired → Type 0)
+    (stops : (n : ℕ) (stored : Bool) (x : Machine) → Halts n stored x → Q n stored x (stays x))
+    (leaves : (n : ℕ) (stored : Bool) (x : Machine) (e : Entry) (rest : List Entry) → x.end ≡ None → x.window ≡ e ∷ rest → may_leave e ≡ true → trap_of e ≡ None → (stored && is_store e.item.kind) ≡ false →
+    (let y = (head_leaves e.item.kind d e rest x).machine in let s = stored || is_store e.item.kind in Q n s y (turns d n s y)) → Q (suc n) stored x (then_retires (head_leaves e.item.kind d e rest x) (turns d n (stored || is_store e.item.kind))))
+    (ends : (n : ℕ) (stored : Bool) (x : Machine) (e : Entry) (rest : List Entry) (cause : Cause) → x.end ≡ None → x.window ≡ e ∷ rest → may_leave e ≡ true → trap_of e ≡ Some cause → Q n stored x (ends_with cause e x)) where
+  abbrev Follow : ℕ → Type 0
+  Follow n = (b : Bool) (y : Machine) → Q n b y (turns d n b y)
+
+  by_trap : (n : ℕ) (stored : Bool) (o : Option Cause) (x : Machine) (e : Entry) (rest : List Entry) → x.end ≡ None → x.window ≡ e ∷ rest → may_leave e ≡ true → trap_of e ≡ o → Follow n → Q (suc n) stored x (turn d stored o e rest x (turns d n))
+  by_trap n stored (Some cause) x e rest u q l t m = ends (suc n) stored x e rest cause u q l t
+  by_trap n stored None x e rest u q l t m = waits_or (stored && is_store e.item.kind) refl
+    where
+      waits_or : (b : Bool) → (stored && is_store e.item.kind) ≡ b → Q (suc n) stored x (if b then stays x else then_retires (head_leaves e.item.kind d e rest x) (turns d n (stored || is_store e.item.kind)))
+      waits_or true w = stops (suc n) stored x (StoreWaits e rest q w)
+      waits_or false w = leaves n stored x e rest u q l t w (m (stored || is_store e.item.kind) (head_leaves e.item.kind d e rest x).machine)
+
+  by_head : (n : ℕ) (stored : Bool) (w : List Entry) (x : Machine) → x.end ≡ None → x.window ≡ w → Follow n → Q (suc n) stored x (head_turn d stored w x (turns d n))
+  by_head n stored [] x u q m = stops (suc n) stored x (NoHead q)
   by_head n stored (e ∷ rest) x u q m = leaves_or (may_leave e) refl
     where
-      leaves_or : (b : Bool) → may_leave e ≡ b → Q (suc n) x (if b then turn d stored (trap_of e) e rest x (turns d n) else stays x)
+      leaves_or : (b : Bool) → may_leave e ≡ b → Q (suc n) stored x (if b then turn d stored (trap_of e) e rest x (turns d n) else stays x)
       leaves_or true l = by_trap n stored (trap_of e) x e rest u q l refl m
-      leaves_or false l = stops (suc n) x
+      leaves_or false l = stops (suc n) stored x (HeadStays e rest q l)
 
-  by_turns : (n : ℕ) (stored : Bool) (x : Machine) → Q n x (turns d n stored x)
-  by_turns zero stored x = stops zero x
+  by_turns : (n : ℕ) → Follow n
+  by_turns zero stored x = stops zero stored x (NoTurn refl)
   by_turns (suc n) stored x = by_end x.end refl (by_turns n)
     where
-      by_end : (o : Option End) → x.end ≡ o → ((b : Bool) (y : Machine) → Q n y (turns d n b y)) → Q (suc n) x (unless_ended o (stays x) (head_turn d stored x.window x (turns d n)))
+      by_end : (o : Option End) → x.end ≡ o → Follow n → Q (suc n) stored x (unless_ended o (stays x) (head_turn d stored x.window x (turns d n)))
       by_end None u m = by_head n stored x.window x u refl m
-      by_end (Some e) u m = stops (suc n) x
+      by_end (Some e) u m = stops (suc n) stored x (HasEnded e u)
 
-  pub retire_by : (x : Machine) → Q d.core_retire_width x (retire d x)
+  pub retire_by : (x : Machine) → Q d.core_retire_width false x (retire d x)
   unfolding retire
   retire_by x = by_turns d.core_retire_width false x
 
@@ -73,13 +83,13 @@ module _ (d : Desc) (Q : ℕ → Machine → Retired → Type 0)
 module _ (d : Desc) (Q : ℕ → Machine → After → Type 0)
     (stops : (n : ℕ) (x : Machine) → Q n x (nothing x))
     (renames : (n : ℕ) (x : Machine) (i : Item) (rest : List Item) → x.queue ≡ i ∷ rest → fits d x.window i ≡ true →
-    (let y = (rename_one i rest x).machine in Q n y (rename_up_to d n y)) → Q (suc n) x (then_does (rename_one i rest x) (rename_up_to d n))) where
+    (let y = (rename_one d i rest x).machine in Q n y (rename_up_to d n y)) → Q (suc n) x (then_does (rename_one d i rest x) (rename_up_to d n))) where
   by_front : (n : ℕ) (q : List Item) (x : Machine) → x.queue ≡ q → ((y : Machine) → Q n y (rename_up_to d n y)) → Q (suc n) x (rename_from d q x (rename_up_to d n))
   by_front n [] x q m = stops (suc n) x
   by_front n (i ∷ rest) x q m = by_fit (fits d x.window i) refl
     where
-      by_fit : (b : Bool) → fits d x.window i ≡ b → Q (suc n) x (if b then then_does (rename_one i rest x) (rename_up_to d n) else nothing x)
-      by_fit true f = renames n x i rest q f (m (rename_one i rest x).machine)
+      by_fit : (b : Bool) → fits d x.window i ≡ b → Q (suc n) x (if b then then_does (rename_one d i rest x) (rename_up_to d n) else nothing x)
+      by_fit true f = renames n x i rest q f (m (rename_one d i rest x).machine)
       by_fit false f = stops (suc n) x
 
   pub by_renamed : (n : ℕ) (x : Machine) → Q n x (rename_up_to d n x)
@@ -94,13 +104,13 @@ module _ (d : Desc) (Q : ℕ → Machine → After → Type 0)
 module _ (d : Desc) (code : Code) (Q : ℕ → Machine → After → Type 0)
     (stops : (n : ℕ) (x : Machine) → Q n x (nothing x))
     (fetches : (n : ℕ) (x : Machine) (pc : ℕ) → x.fetch_pc ≡ Some pc → nat_lt (length x.queue) d.core_queue ≡ true →
-    (let y = (fetch_one (item_at d code x pc) x).machine in Q n y (fetch_up_to d code n y)) → Q (suc n) x (then_does (fetch_one (item_at d code x pc) x) (fetch_up_to d code n))) where
+    (let y = (fetch_one d (item_at d code x pc) x).machine in Q n y (fetch_up_to d code n y)) → Q (suc n) x (then_does (fetch_one d (item_at d code x pc) x) (fetch_up_to d code n))) where
   by_pc : (n : ℕ) (o : Option ℕ) (x : Machine) → x.fetch_pc ≡ o → ((y : Machine) → Q n y (fetch_up_to d code n y)) → Q (suc n) x (fetch_from d code o x (fetch_up_to d code n))
   by_pc n None x q m = stops (suc n) x
   by_pc n (Some pc) x q m = by_room (nat_lt (length x.queue) d.core_queue) refl
     where
-      by_room : (b : Bool) → nat_lt (length x.queue) d.core_queue ≡ b → Q (suc n) x (if b then then_does (fetch_one (item_at d code x pc) x) (fetch_up_to d code n) else nothing x)
-      by_room true r = fetches n x pc q r (m (fetch_one (item_at d code x pc) x).machine)
+      by_room : (b : Bool) → nat_lt (length x.queue) d.core_queue ≡ b → Q (suc n) x (if b then then_does (fetch_one d (item_at d code x pc) x) (fetch_up_to d code n) else nothing x)
+      by_room true r = fetches n x pc q r (m (fetch_one d (item_at d code x pc) x).machine)
       by_room false r = stops (suc n) x
 
   pub by_fetched : (n : ℕ) (x : Machine) → Q n x (fetch_up_to d code n x)
@@ -118,7 +128,7 @@ module _ (d : Desc) (P : Machine → Type 0) where
   pub heads_keep : ((x : Machine) (e : Entry) (rest : List Entry) → x.window ≡ e ∷ rest → may_leave e ≡ true → trap_of e ≡ None → P x → P (head_leaves e.item.kind d e rest x).machine) →
       ((x : Machine) (end : End) → P x → P (record x { end = Some end })) → (x : Machine) → P x → P (retire d x).machine
   heads_keep leaves ends x h =
-      retire_by d (λ n x r. P x → P r.machine) (λ n x h. h) (λ n stored x e rest u q l t more h. more (leaves x e rest q l t h)) (λ n x e rest cause u q l t h. ends x (Trap cause e.item.pc) h) x h
+      retire_by d (λ n stored x r. P x → P r.machine) (λ n stored x s h. h) (λ n stored x e rest u q l t w more h. more (leaves x e rest q l t h)) (λ n stored x e rest cause u q l t h. ends x (Trap cause e.item.pc) h) x h
 
   -- the same of a head of any kind
   pub retire_keep : ((k : Kind) (x : Machine) (e : Entry) (rest : List Entry) → x.window ≡ e ∷ rest → P x → P (head_leaves k d e rest x).machine) →
@@ -126,11 +136,11 @@ module _ (d : Desc) (P : Machine → Type 0) where
   retire_keep leaves ends = heads_keep (λ x e rest q l t h. leaves e.item.kind x e rest q h) ends
 
   -- an item is renamed
-  pub rename_keep : ((x : Machine) (i : Item) (rest : List Item) → x.queue ≡ i ∷ rest → fits d x.window i ≡ true → P x → P (rename_one i rest x).machine) → (x : Machine) → P x → P (rename d x).machine
+  pub rename_keep : ((x : Machine) (i : Item) (rest : List Item) → x.queue ≡ i ∷ rest → fits d x.window i ≡ true → P x → P (rename_one d i rest x).machine) → (x : Machine) → P x → P (rename d x).machine
   rename_keep renames x h = rename_by d (λ n x a. P x → P a.machine) (λ n x h. h) (λ n x i rest q f more h. more (renames x i rest q f h)) x h
 
   -- an item is fetched
-  pub fetch_keep : (code : Code) → ((x : Machine) (pc : ℕ) → x.fetch_pc ≡ Some pc → nat_lt (length x.queue) d.core_queue ≡ true → P x → P (fetch_one (item_at d code x pc) x).machine) → (x : Machine) → P x → P (fetch d code x).machine
+  pub fetch_keep : (code : Code) → ((x : Machine) (pc : ℕ) → x.fetch_pc ≡ Some pc → nat_lt (length x.queue) d.core_queue ≡ true → P x → P (fetch_one d (item_at d code x pc) x).machine) → (x : Machine) → P x → P (fetch d code x).machine
   fetch_keep code fetches x h = fetch_by d code (λ n x a. P x → P a.machine) (λ n x h. h) (λ n x pc q r more h. more (fetches x pc q r h)) x h
 
   -- ---- a cycle, and a run

@@ -1,17 +1,22 @@
 -- What a load finds: bytes of older stores, the cache, or a miss (docs/machine.md, "Loads").
-use Rattle.std.specs.Prelude.{ℕ, ◌+◌, ◌-◌, Bool, false, not, ◌&&◌, ◌||◌, ◌==◌, nat_le, nat_lt, List, [], ◌∷◌, length, map, slice_index, Option, Some, None, is_some, if◌then◌else◌}
-use Rattle.std.specs.List.{find, list_all}
+use Rattle.std.specs.Prelude.{ℕ, ◌+◌, ◌-◌, Bool, false, not, ◌&&◌, ◌||◌, ◌==◌, nat_le, nat_lt, max, List, [], ◌∷◌, ◌++◌, length, map, slice_index, Option, Some, None, is_some, if◌then◌else◌}
+use Rattle.std.specs.List.{find, flat_map, fold, list_all}
 use Rattle.rv_types.specs.Word.{to_le}
 use Rattle.rv_types.specs.Memory.{Ram, load_fault, range}
 use Rattle.rv_types.specs.declared.Cause.{Cause}
 use Rattle.machine_desc.specs.declared.Desc.{Desc}
 use Rattle.window_model.specs.declared.Entry.{Entry}
+use Rattle.window_model.specs.declared.Event.{Event}
+use Rattle.window_model.specs.declared.Event.TheVariants as event
+use Rattle.window_model.specs.declared.Look.{Look}
+use Rattle.window_model.specs.declared.Look.TheVariants as look
 use Rattle.window_model.specs.declared.Outcome.{Outcome}
 use Rattle.machine_desc.specs.declared.SttModel.{SttModel}
-use Rattle.window_model.specs.State.{Machine, Miss, line_of}
+use Rattle.window_model.specs.State.{Miss, line_of}
+use Rattle.window_model.specs.Around.{Around}
 use Rattle.window_model.specs.Order.{is_store}
 use Rattle.window_model.specs.Taint.{address_tainted}
-use Rattle.window_model.specs.Retire.{has_line, addr_of, stored_of, width_of}
+use Rattle.window_model.specs.Retire.{has_line, touched, addr_of, stored_of, width_of}
 
 -- an access of n bytes with this outcome reaches the byte at an address: it has no fault, and the byte is one of its own.
 -- Where there is no outcome yet there is no address, and it reaches none
@@ -45,28 +50,106 @@ abbrev pub any_store_hidden : SttModel → List Entry → Bool
 any_store_hidden model [] = false
 any_store_hidden model (e ∷ before) = is_store e.item.kind && address_tainted model before e || any_store_hidden model before
 
--- what an access comes to
+-- ---- what is found
+
+-- what one line comes to: the cache has it, a register waits for it until a cycle, or it takes a register
+pub data Line : Type 0 where
+  Hits : ℕ → Line
+  Joins : ℕ → ℕ → Line
+  Takes : ℕ → Line
+
+-- what an access comes to: a fault, older stores have all its bytes, its lines, or too few registers for them
 pub data Access : Type 0 where
   Faults : Cause → Access
   Forwards : Access
-  Hits : ℕ → Access
-  Joins : ℕ → ℕ → Access
-  Misses : ℕ → Access
+  Looks : List Line → Access
   Waits : Access
 
--- a line that the cache lacks: a register waits for it already, or one is free for it, or none is
-abbrev pub look : Desc → Machine → ℕ → Option Miss → Access
-look d x line (Some m) = Joins line m.due
-look d x line None = if nat_lt (length x.misses) d.cache_mshrs then Misses line else Waits
+-- a line that the cache lacks, by the register that waits for it, if one does
+abbrev pub joined : ℕ → Option Miss → Line
+joined line (Some m) = Joins line m.due
+joined line None = Takes line
 
--- the first that holds: a fault, wholly forwarded, a hit, a join, a miss, no register
-abbrev pub access_at : Desc → Machine → List Entry → ℕ → ℕ → Option Cause → Access
-access_at d x before a n (Some cause) = Faults cause
-access_at d x before a n None =
+-- a line
+abbrev pub look_up : Desc → Around → ℕ → Line
+look_up d now line =
+    if has_line d now.cache line then Hits line else joined line (find (λ m. m.line == line) now.misses)
+
+-- the lines of an access of n bytes: an aligned one stays within the line in which it begins
+abbrev pub lines_of : Desc → ℕ → ℕ → List ℕ
+lines_of d a n = line_of d a ∷ []
+
+-- a line, if it takes a register
+abbrev pub taken_by : Line → List ℕ
+taken_by (Takes line) = line ∷ []
+taken_by _ = []
+
+-- the lines that take registers
+abbrev pub taken_lines : List Line → List ℕ
+taken_lines found = flat_map taken_by found
+
+-- where there are too few registers for them, none is looked up
+abbrev pub unless_lacking : Desc → Around → List Line → Access
+unless_lacking d now found =
+    if nat_le (length now.misses + length (taken_lines found)) d.cache_mshrs then Looks found else Waits
+
+-- the first that holds: a fault, wholly forwarded, or its lines
+abbrev pub access_at : Desc → Around → List Entry → ℕ → ℕ → Option Cause → Access
+access_at d now before a n (Some cause) = Faults cause
+access_at d now before a n None =
     if all_covered before a n && not (any_store_hidden d.stt_model before) then Forwards
-    else if has_line d x.cache (line_of d a) then Hits (line_of d a)
-    else look d x (line_of d a) (find (λ m. m.line == line_of d a) x.misses)
+    else unless_lacking d now (map (look_up d now) (lines_of d a n))
 
 -- the access of n bytes at an address
-abbrev pub access : Desc → Machine → List Entry → ℕ → ℕ → Access
-access d x before a n = access_at d x before a n (load_fault x.ram a n)
+abbrev pub access : Desc → Around → List Entry → ℕ → ℕ → Access
+access d now before a n = access_at d now before a n (load_fault now.ram a n)
+
+-- ---- when it is done, and its events
+
+-- the line that was looked up
+abbrev pub line_at : Line → ℕ
+line_at (Hits line) = line
+line_at (Joins line due) = line
+line_at (Takes line) = line
+
+-- where it was found
+abbrev pub look_at : Line → Look
+look_at (Hits line) = look.Hit
+look_at (Joins line due) = look.Join
+look_at (Takes line) = look.Miss
+
+-- a register that takes a line in this cycle
+abbrev pub register : Desc → ℕ → ℕ → Miss
+register d cycle line = record { line = line; due = cycle + d.cache_miss_latency }
+
+-- the cycle in which a line is there
+abbrev pub due_of : Desc → Around → Line → ℕ
+due_of d now (Hits line) = now.cycle + d.cache_hit_latency
+due_of d now (Joins line due) = due
+due_of d now (Takes line) = (register d now.cycle line).due
+
+-- the latest of these cycles
+abbrev pub latest : List ℕ → ℕ
+latest [] = 0
+latest (due ∷ []) = due
+latest (due ∷ dues) = max due (latest dues)
+
+-- the cycle in which all lines are there
+abbrev pub due_by : Desc → Around → List Line → ℕ
+due_by d now found = latest (map (due_of d now) found)
+
+-- an event for each line
+abbrev pub look_events : ℕ → List Line → List Event
+look_events serial found = map (λ l. event.Ld serial (line_at l) (look_at l)) found
+
+-- ---- what it leaves
+
+-- each line moves to the front of its set, where the cache has it
+abbrev pub cache_after : Access → Desc → List (List ℕ) → List (List ℕ)
+cache_after (Looks found) d cache = fold (touched d) cache (map line_at found)
+cache_after _ d cache = cache
+
+-- each line that takes a register has one
+abbrev pub misses_after : Access → Desc → ℕ → List Miss → List Miss
+misses_after (Looks found) d cycle misses = misses ++ map (register d cycle) (taken_lines found)
+misses_after _ d cycle misses = misses

@@ -15,7 +15,7 @@ use Rattle.machine_desc.specs.declared.Desc.{Desc}
 use Rattle.window_model.specs.declared.Entry.{Entry}
 use Rattle.window_model.specs.declared.Event.TheVariants as event
 use Rattle.window_model.specs.declared.Item.{Item}
-use Rattle.window_model.specs.declared.State.TheVariants.{Waiting, Done}
+use Rattle.window_model.specs.declared.Progress.TheVariants.{Waiting, Done}
 use Rattle.window_model.specs.State.{Machine, After, Target}
 use Rattle.window_model.specs.Order.{is_waiting, is_load, is_store}
 use Rattle.window_model.specs.Resolve.{index}
@@ -74,8 +74,8 @@ renamed serial item =
     record { serial = serial; item = item; state = if at_once item.kind then Done else Waiting; outcome = None; resolved = false }
 
 -- the item goes behind the youngest entry, with the next serial
-abbrev pub rename_one : Item → List Item → Machine → After
-rename_one item rest x = record {
+abbrev pub rename_one : Desc → Item → List Item → Machine → After
+rename_one d item rest x = record {
   machine = record x { window = x.window ++ renamed x.next_serial item ∷ []; queue = rest; next_serial = x.next_serial + 1 };
   events = event.Ren x.next_serial item.pc ∷ [];
 }
@@ -83,7 +83,7 @@ rename_one item rest x = record {
 -- the front of the queue goes, and then more, unless it can't go
 abbrev pub rename_from : Desc → List Item → Machine → (Machine → After) → After
 rename_from d [] x more = nothing x
-rename_from d (item ∷ rest) x more = if fits d x.window item then then_does (rename_one item rest x) more else nothing x
+rename_from d (item ∷ rest) x more = if fits d x.window item then then_does (rename_one d item rest x) more else nothing x
 
 -- up to n items
 abbrev pub rename_up_to : Desc → ℕ → Machine → After
@@ -133,8 +133,8 @@ item_at d code x pc =
     record { pc = pc; instr = instr_at w; kind = kind_at w; predicted = predicted (kind_at w) d x.counters x.targets pc (instr_at w) }
 
 -- the item goes to the end of the queue, and fetching goes on at its predicted next
-abbrev pub fetch_one : Item → Machine → After
-fetch_one item x = record {
+abbrev pub fetch_one : Desc → Item → Machine → After
+fetch_one d item x = record {
   machine = record x { queue = x.queue ++ item ∷ []; fetch_pc = item.predicted };
   events = event.Fet item.pc ∷ [];
 }
@@ -143,7 +143,7 @@ fetch_one item x = record {
 abbrev pub fetch_from : Desc → Code → Option ℕ → Machine → (Machine → After) → After
 fetch_from d code None x more = nothing x
 fetch_from d code (Some pc) x more =
-    if nat_lt (length x.queue) d.core_queue then then_does (fetch_one (item_at d code x pc) x) more else nothing x
+    if nat_lt (length x.queue) d.core_queue then then_does (fetch_one d (item_at d code x pc) x) more else nothing x
 
 -- up to n items
 abbrev pub fetch_up_to : Desc → Code → ℕ → Machine → After

@@ -1,3 +1,4 @@
+pub mod Sets
 pub mod State
 pub mod Order
 pub mod Serials
@@ -5,6 +6,7 @@ pub mod Taint
 pub mod Fill
 pub mod Resolve
 pub mod Retire
+pub mod Around
 pub mod Access
 pub mod Issue
 pub mod Front

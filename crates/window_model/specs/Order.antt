@@ -9,8 +9,8 @@ use Rattle.rv_types.specs.declared.Kind.{Kind}
 use Rattle.rv_types.specs.declared.Kind.TheVariants.{Load, Store, Branch, Jalr}
 use Rattle.window_model.specs.declared.Entry.{Entry}
 use Rattle.window_model.specs.declared.Outcome.{Outcome}
-use Rattle.window_model.specs.declared.State.{State}
-use Rattle.window_model.specs.declared.State.TheVariants.{Waiting, Done}
+use Rattle.window_model.specs.declared.Progress.{Progress}
+use Rattle.window_model.specs.declared.Progress.TheVariants.{Waiting, Done}
 
 -- the entries older than position i
 abbrev pub before_at : List Entry → ℕ → List Entry
@@ -43,12 +43,12 @@ first p window = first_from p [] window
 -- ---- what an entry is
 
 -- not yet issued
-abbrev pub is_waiting : State → Bool
+abbrev pub is_waiting : Progress → Bool
 is_waiting Waiting = true
 is_waiting _ = false
 
 -- executed
-abbrev pub is_done : State → Bool
+abbrev pub is_done : Progress → Bool
 is_done Done = true
 is_done _ = false
 
@@ -110,11 +110,11 @@ from_writer (Some e) v = value_of e.outcome
 abbrev pub operand : List ℕ → List Entry → ℕ → ℕ
 operand regs before r = from_writer (writer before r) (reg regs r)
 
--- the writer has its value, or there is none
-abbrev pub is_known : Option Entry → Bool
-is_known None = true
-is_known (Some e) = is_done e.state
+-- the register's writer has its value, or there is none
+abbrev pub is_known : List Entry → ℕ → Bool
+is_known [] r = true
+is_known (e ∷ before) r = if writes r e then is_done e.state else is_known before r
 
 -- the writer of each source has its value, or there is none
 abbrev pub ready : List Entry → Entry → Bool
-ready before e = list_all (λ r. is_known (writer before r)) (sources e)
+ready before e = list_all (is_known before) (sources e)

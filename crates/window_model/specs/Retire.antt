@@ -1,6 +1,5 @@
 -- The fourth phase: the oldest entries take effect, in order (docs/machine.md, "Retire").
-use Rattle.std.specs.Prelude.{ℕ, zero, suc, ◌+◌, Bool, false, not, ◌&&◌, ◌||◌, ◌==◌, List, [], ◌∷◌, ◌++◌, length, slice_set, slice_index_or, Option, Some, None, if◌then◌else◌}
-use Rattle.std.specs.List.{filter, list_any}
+use Rattle.std.specs.Prelude.{ℕ, zero, suc, ◌+◌, Bool, false, not, ◌&&◌, ◌||◌, List, [], ◌∷◌, ◌++◌, length, Option, Some, None, if◌then◌else◌}
 use Rattle.rv_types.specs.Word.{to_le}
 use Rattle.rv_types.specs.Value.{size_of}
 use Rattle.rv_types.specs.Isa.{Hart, Step, Goes, Exits, Traps, call, with_reg}
@@ -21,6 +20,7 @@ use Rattle.window_model.specs.declared.Event.{Event}
 use Rattle.window_model.specs.declared.Event.TheVariants as event
 use Rattle.window_model.specs.declared.Outcome.{Outcome}
 use Rattle.window_model.specs.State.{Machine, set_of, line_of}
+use Rattle.window_model.specs.Sets.{is_in, moved_up}
 use Rattle.window_model.specs.Order.{is_done, is_control, is_store, fault_of, value_of}
 use Rattle.window_model.specs.Resolve.{next_of}
 
@@ -70,22 +70,23 @@ op_of (instr.OpImm op rd rs1 imm) = op
 op_of (instr.OpReg op rd rs1 rs2) = op
 op_of _ = Sb
 
--- the bytes that a load or store moves
+-- the bytes that an instruction moves as a load or store
+abbrev pub width_in : Instr → ℕ
+width_in i = size_of (op_of i)
+
+-- and an entry
 abbrev pub width_of : Entry → ℕ
-width_of e = size_of (op_of e.item.instr)
+width_of e = width_in e.item.instr
 
 -- ---- the cache
 
 -- the line is in the cache
 abbrev pub has_line : Desc → List (List ℕ) → ℕ → Bool
-has_line d cache line = list_any (λ l. l == line) (slice_index_or cache (set_of d line) [])
+has_line d cache line = is_in cache (set_of d line) line
 
 -- the line moves to the front of its set, where it is there
 abbrev pub touched : Desc → List (List ℕ) → ℕ → List (List ℕ)
-touched d cache line =
-    if has_line d cache line
-    then (let s = set_of d line in slice_set cache s (line ∷ filter (λ l. not (l == line)) (slice_index_or cache s [])))
-    else cache
+touched d cache line = moved_up cache (set_of d line) line
 
 -- ---- what each kind of head does
 

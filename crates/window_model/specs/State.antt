@@ -1,5 +1,5 @@
 -- The machine's state: one list of instructions in program order, and what they share (docs/machine.md, "State").
-use Rattle.std.specs.Prelude.{ℕ, ◌*◌, ◌/◌, ◌%◌, List, [], replicate, Option, Some, None}
+use Rattle.std.specs.Prelude.{ℕ, ◌*◌, ◌/◌, List, [], replicate, Option, Some, None}
 use Rattle.rv_types.specs.Memory.{Ram}
 use Rattle.rv_types.specs.Isa.{start}
 use Rattle.rv_types.specs.declared.End.{End}
@@ -7,6 +7,7 @@ use Rattle.machine_desc.specs.declared.Desc.{Desc}
 use Rattle.window_model.specs.declared.Entry.{Entry}
 use Rattle.window_model.specs.declared.Item.{Item}
 use Rattle.window_model.specs.declared.Event.{Event}
+use Rattle.window_model.specs.Sets.{set_in}
 pub use Rattle.window_model.specs.declared.Miss.{Miss}
 pub use Rattle.window_model.specs.declared.Target.{Target}
 pub use Rattle.window_model.specs.declared.Divider.{Divider}
@@ -67,4 +68,4 @@ line_of d a = a / d.cache_line * d.cache_line
 
 -- the set that a line belongs to
 abbrev pub set_of : Desc → ℕ → ℕ
-set_of d line = line / d.cache_line % d.cache_sets
+set_of d line = set_in d.cache_line d.cache_sets line

@@ -1,13 +1,13 @@
 -- Speculative taint: what a load reads may be secret until the load is visible (docs/machine.md, "Writers and roots",
 -- "Safe and visible").
-use Rattle.std.specs.Prelude.{ℕ, ◌-◌, Bool, true, false, not, ◌&&◌, ◌||◌, List, [], ◌∷◌, ◌++◌, length, drop, if◌then◌else◌}
+use Rattle.std.specs.Prelude.{ℕ, ◌-◌, Bool, true, false, not, ◌&&◌, List, [], ◌∷◌, ◌++◌, length, drop, if◌then◌else◌}
 use Rattle.std.specs.List.{list_all, list_any, flat_map}
 use Rattle.rv_types.specs.declared.Kind.{Kind}
 use Rattle.rv_types.specs.declared.Kind.TheVariants.{Load, Store, Branch, Jalr, Call, Stop}
 use Rattle.window_model.specs.declared.Entry.{Entry}
 use Rattle.machine_desc.specs.declared.SttModel.{SttModel}
 use Rattle.machine_desc.specs.declared.SttModel.TheVariants.{Spectre, Futuristic}
-use Rattle.window_model.specs.Order.{is_done, is_load, is_control, is_faulty, writes, sources}
+use Rattle.window_model.specs.Order.{is_done, is_load, is_faulty, writes, sources}
 
 -- nothing squashes what comes after it
 abbrev pub safe_as : Kind → Entry → Bool
@@ -23,14 +23,24 @@ safe_as _ e = true
 abbrev pub safe : Entry → Bool
 safe e = safe_as e.item.kind e
 
+-- nothing but a fault squashes what comes after it, by its kind and whether it is resolved
+abbrev pub settled_as : Kind → Bool → Bool
+settled_as Branch resolved = resolved
+settled_as Jalr resolved = resolved
+settled_as _ resolved = true
+
 -- the entry is no branch or JALR, or it is resolved
 abbrev pub settled : Entry → Bool
-settled e = not (is_control e.item.kind) || e.resolved
+settled e = settled_as e.item.kind e.resolved
 
--- what stands after these entries has reached its visibility point
+-- the entry doesn't keep what comes after it from being visible
+abbrev pub passes : SttModel → Entry → Bool
+passes Spectre e = settled e
+passes Futuristic e = safe e
+
+-- what stands after these entries has reached its visibility point: all of them pass
 abbrev pub visible : SttModel → List Entry → Bool
-visible Spectre before = list_all settled before
-visible Futuristic before = list_all safe before
+visible model before = list_all (passes model) before
 
 -- the oldest j of these entries
 abbrev pub oldest : ℕ → List Entry → List Entry

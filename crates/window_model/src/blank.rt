@@ -3,9 +3,9 @@ ghost use Rattle.std.specs.Prelude.{◌≡◌, None, false};
 ghost use Rattle.rv_types.specs.Causes.{illegal};
 ghost use Rattle.rv_types.specs.declared.Instr.TheVariants as instr;
 ghost use Rattle.rv_types.specs.declared.Kind.TheVariants as kind;
-ghost use Rattle.window_model.specs.declared.State.TheVariants as state;
+ghost use Rattle.window_model.specs.declared.Progress.TheVariants as state;
 
-use crate::{Entry, Item, Miss, State};
+use crate::{Entry, Item, Miss, Progress};
 use rv_types::{Cause, Instr, Kind};
 
 impl Default for Item {
@@ -25,12 +25,18 @@ impl Default for Item {
 impl Default for Entry {
     /// An entry that is done, with serial 0.
     fn default() -> Self
-        ensures { result ≡ record { serial = 0; item = record { pc = 0; instr = instr.Illegal 0; kind = kind.Stop illegal; predicted = None }; state = state.Done; outcome = None; resolved = false } }
+        ensures { result ≡ record {
+          serial = 0;
+          item = record { pc = 0; instr = instr.Illegal 0; kind = kind.Stop illegal; predicted = None };
+          state = state.Done;
+          outcome = None;
+          resolved = false;
+        } }
     {
         Entry {
             serial: 0,
             item: Item::default(),
-            state: State::Done,
+            state: Progress::Done,
             outcome: None,
             resolved: false,
         }

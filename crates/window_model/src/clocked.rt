@@ -28,7 +28,8 @@ pub trait Clocked {
     fn cycle(&mut self, row: &mut Row, piece: &mut Piece)
         requires running { (machine self.old).end ≡ None }
         requires few { (machine self.old).cycle < 2 ^ 32 - 1 }
-        ensures cycled { record { machine = machine self.new; row = row.new; piece = piece.new } ≡ cycle (desc self.old) (code self.old) (machine self.old) }
+        ensures cycled { record { machine = machine self.new; row = row.new; piece = piece.new }
+            ≡ cycle (desc self.old) (code self.old) (machine self.old) }
         ensures commits { Commits (code self.old) (machine self.old) (machine self.new) piece.new }
         ensures desc { desc self.new ≡ desc self.old }
         ensures code { code self.new ≡ code self.old }

@@ -1,5 +1,5 @@
 //! What one entry is and comes to (`docs/machine.md`, "Entries", "Safe and visible", "Resolve", "Retire").
-use crate::{Entry, State};
+use crate::{Entry, Progress};
 use rv_types::{Cause, Instr, Kind, Op, Width};
 
 impl Entry {
@@ -13,7 +13,7 @@ impl Entry {
     pub fn is_done(&self) -> bool
         ensures { result ≡ is_done self.now.state }
     {
-        self.state == State::Done
+        self.state == Progress::Done
     }
 
     /// Whether the entry is a load.
@@ -124,7 +124,10 @@ impl Entry {
     pub fn is_settled(&self) -> bool
         ensures { result ≡ settled self.now }
     {
-        !self.is_control() || self.resolved
+        match self.item.kind {
+            Kind::Branch | Kind::Jalr => self.resolved,
+            _ => true,
+        }
     }
 
     /// Whether all that is younger is dropped as the entry is resolved: it was wrongly predicted, or traps.

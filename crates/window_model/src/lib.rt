@@ -36,7 +36,7 @@ pub struct Item {
 
 /// How far an instruction in flight is.
 #[derive(Clone, Copy, Debug, PartialEq, Eq)]
-pub enum State {
+pub enum Progress {
     /// It waits for its operands, for a port, or for what its kind asks for besides.
     Waiting,
     /// It executes, and is done in this cycle.
@@ -68,7 +68,7 @@ pub struct Entry {
     /// What was fetched.
     pub item: Item,
     /// How far it is.
-    pub state: State,
+    pub state: Progress,
     /// What it comes to: there from the cycle in which it issues.
     pub outcome: Option<Outcome>,
     /// A branch or JALR that has taken effect.

@@ -14,12 +14,13 @@ use Rattle.machine_desc.specs.declared.SttModel.TheVariants.{Spectre, Futuristic
 use Rattle.window_model.specs.declared.Entry.{Entry}
 use Rattle.window_model.specs.declared.Event.TheVariants.{Res, Bp, Ret, St}
 use Rattle.window_model.specs.declared.Item.{Item}
-use Rattle.window_model.specs.declared.State.TheVariants.{Waiting, Done}
+use Rattle.window_model.specs.declared.Progress.TheVariants.{Waiting, Done}
 use Rattle.window_model.specs.declared.Way.TheVariants.{Taken, Jump}
 use Rattle.window_model.specs.State.{Machine, opening}
 use Rattle.window_model.specs.Access.{covers, load_bytes, any_store_hidden}
 use Rattle.window_model.specs.Front.{fits}
-use Rattle.window_model.specs.Issue.{may_issue, issue, is_granted}
+use Rattle.window_model.specs.Around.{Around, around}
+use Rattle.window_model.specs.Issue.{LoadPort, may_issue, issue, is_granted}
 use Rattle.window_model.specs.Resolve.{may_resolve, learn, freed_from}
 use Rattle.window_model.specs.Retire.{retire}
 use Rattle.window_model.specs.Taint.{tainted, safe, visible}
@@ -73,13 +74,17 @@ second_operand_of_a_branch : may_resolve example (load ∷ branch ∷ []) (done_
 unfolding decode
 second_operand_of_a_branch = refl
 
+-- the example's machine as it begins, with a divider that is free
+abbrev start : Around
+start = around (opening example 0x10000 (memory 0 0))
+
 -- a division by a tainted divisor (div x7,x2,x6) doesn't issue, and the sum of the same registers does
-divisor_alone : may_issue example true (load ∷ branch ∷ []) (waiting 2 0x026143b3) ≡ false
-unfolding decode
+divisor_alone : may_issue example start (load ∷ branch ∷ []) (waiting 2 0x026143b3) ≡ false
+unfolding decode memory
 divisor_alone = refl
 
-sum_of_tainted_issues : may_issue example true (load ∷ branch ∷ []) (waiting 2 0x006103b3) ≡ true
-unfolding decode
+sum_of_tainted_issues : may_issue example start (load ∷ branch ∷ []) (waiting 2 0x006103b3) ≡ true
+unfolding decode memory
 sum_of_tainted_issues = refl
 
 -- a store (sw x5,4(x2)) or load with a fault isn't safe, and one without is
@@ -130,8 +135,8 @@ full_registers : (issue example (record (with_window (waiting 0 0x00814303 ∷ w
 unfolding decode memory
 full_registers = refl
 
-younger_load_is_not_tried : is_granted example true (waiting 0 0x00814303 ∷ []) (waiting 1 0x00012283) ≡ false
-unfolding decode
+younger_load_is_not_tried : is_granted example start LoadPort (waiting 0 0x00814303 ∷ []) (waiting 1 0x00012283) ≡ false
+unfolding decode memory
 younger_load_is_not_tried = refl
 
 -- a branch that faults moves its counter, and a JALR that faults stores no target

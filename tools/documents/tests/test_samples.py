@@ -35,7 +35,7 @@ class Samples(unittest.TestCase):
     def test_readme(self):
         with open(os.path.join(TOP, "README.md"), encoding="utf-8") as file:
             found = samples(file.read())
-        self.assertEqual([command[1] for command, _ in found], ["isa", "run", "trace", "bench"])
+        self.assertEqual([command[1] for command, _ in found], ["isa", "run", "trace", "bench", "pair"])
         for command, lines in found:
             with self.subTest(command=" ".join(command)):
                 written = subprocess.run(command, cwd=TOP, capture_output=True, text=True, timeout=60)

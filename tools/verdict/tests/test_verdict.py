@@ -1,7 +1,7 @@
 """The command: verdicts on the gadgets, statuses, refusals (docs/using.md, "Read a verdict")."""
 import unittest
 
-from material import BOUND_0, CODE, CORE, CORE_FUTURISTIC, command, gadget, gadget_file, needs_program, support
+from material import BOUND_0, BOUND_1, CODE, CORE, CORE_FUTURISTIC, command, gadget, gadget_file, needs_program, support
 from verdict import judge, report, simulator
 from view.description import read_description
 
@@ -15,24 +15,25 @@ OTHER = TEXT.replace("20 done:8 ret:8", "20 ret:8")
 class Words(unittest.TestCase):
     """The five words: premises met or not, traces equal or not, something held or not."""
 
-    def case(self, data, premise=None):
+    def case(self, data, premise=True, unequal=None):
         images = [gadget("bounds_check", each) for each in data]
-        return judge.judged("core.toml", read_description(CORE), *images, simulator.pair_of(TEXT, TEXT)._replace(premise=premise))
+        traces = [text.splitlines(keepends=True) for text in (TEXT, OTHER if unequal else TEXT)]
+        return judge.judged("core.toml", read_description(CORE), *images, simulator.Pair(*traces, premise, unequal))
 
     def test_words(self):
-        for data, word in [(HIDES, "hidden"), (SPARE, "vacuous"), (LOADS, "same")]:
-            self.assertEqual(self.case(data).word(), word)
-        for data, word in [(HIDES, "refuted"), (LOADS, "differs")]:
-            self.assertEqual(self.case(data)._replace(pair=simulator.pair_of(TEXT, OTHER)).word(), word)
+        for data, premise, unequal, word in [(HIDES, True, None, "hidden"), (SPARE, True, None, "vacuous"), (LOADS, False, None, "same"),
+                                             (HIDES, True, 20, "refuted"), (LOADS, False, 20, "differs")]:
+            self.assertEqual(self.case(data, premise, unequal).word(), word)
 
     def test_premise_of_the_simulator(self):
-        """Where the simulator itself tells of the premises, that counts."""
+        """What the simulator says of the premises counts, and not what this tool finds."""
         self.assertEqual((self.case(HIDES, False).word(), self.case(LOADS, True).word()), ("same", "vacuous"))
 
-    def test_first_unequal(self):
-        """The first cycle whose lines aren't equal; the last one where only the last lines aren't."""
-        for old, new, cycle in [("3 ld:0", "3 ld:9", 3), ("end exit 0", "end exit 1", 21), ("", "", None)]:
-            self.assertEqual(simulator.pair_of(TEXT, TEXT.replace(old, new, 1)).unequal, cycle)
+    def test_compared(self):
+        """The three lines of the simulator: docs/formats.md, "The comparison"."""
+        for lines, told in [("premise yes\nequal\n", (True, None)), ("premise no\nequal\n", (False, None)),
+                            ("premise no\nunequal 17\n", (False, 17)), ("premise no\nunequal end\n", (False, 28))]:
+            self.assertEqual(simulator.compared(lines + "retired 9 cycles 28\n"), told)
 
     def test_lines(self):
         told = list(report.lines(self.case(HIDES)))
@@ -69,6 +70,18 @@ class Gadgets(unittest.TestCase):
                 self.assertEqual(told.returncode, report.STATUS[word])
                 if held:
                     self.assertRegex(told.stdout, rf"\nheld          {held[0]:08x} .*: {held[1]}, ")
+
+    def test_reasons_agree(self):
+        """What this tool finds of the premises, and where the lines of the traces part, is what the simulator says."""
+        for name, one, two, description, *_ in self.CASES:
+            for bound in (BOUND_0, BOUND_1):
+                images = [gadget_file(name, bound + bytes([secret])) for secret in (one, two)]
+                case = judge.case_of(support.PROGRAM, description, *images, 1000)
+                lines = [[*trace, None] for trace in (case.pair.one, case.pair.two)]
+                parted = next((number for number, (a, b) in enumerate(zip(*lines), 1) if a != b), None)
+                with self.subTest(name=name, description=description, bound=bound):
+                    self.assertEqual(case.premises.met, case.pair.premise)
+                    self.assertEqual(case.pair.unequal, parted)
 
     def test_fault_shadow_parts(self):
         """The first unequal event is the load behind the secret, in cycle 16: docs/machine.md, "Fault shadow"."""

@@ -1,4 +1,6 @@
 use Rattle.parts_stand.proofs.Answering.{counts_room, counts_stations, finds_awaited, finds_writer, has_station, holds_older, names_entry, names_root, names_writer, picks_first, stations_older, stations_younger, tells_issue, tells_operands, tells_ready, tells_taint, tells_visible}
+use Rattle.parts_stand.proofs.Addressing.{tells_stores}
+use Rattle.parts_stand.proofs.Writing.{counts_writers, tells_writers}
 use Rattle.parts_stand.proofs.parts_tell_of_window.Goals as goal
 
 pub returns : goal.returns
@@ -20,4 +22,7 @@ returns c = record {
   operands = tells_operands;
   issue = tells_issue;
   picks = picks_first;
+  writers = tells_writers;
+  count_writers = counts_writers;
+  stores = tells_stores;
 }

@@ -1,5 +1,5 @@
 //! Reads and puts that fail, each in turn: of the smallest program, of output written on the instruction set, of dependent
-//! loads traced, and of forwarding run.
+//! loads traced, of forwarding run, and of a run compared with itself.
 use super::images::{EXIT_IN_TWO, WRITES, image_with_data};
 use super::{Failures, Left, NOTHING, expect, programs, run_failing};
 use machine_desc::EXAMPLE;
@@ -111,4 +111,12 @@ fn of_a_trace(rt: HostRuntime) -> Result<(), Fail> {
 fn of_a_run(rt: HostRuntime) -> Result<(), Fail> {
     let words = ["run", "d.toml", "p.elf", "--cycles", "100"];
     each_fails(&rt, rt.alloc(), &words, &programs::FORWARDING, &BOTH)
+}
+
+#[test]
+fn of_a_comparison(rt: HostRuntime) -> Result<(), Fail> {
+    let words = ["pair", "d.toml", "p.elf", "p.elf", "--cycles", "100"];
+    let [description, image] = BOTH;
+    let notes = [description, image, "read image2\n"];
+    each_fails(&rt, rt.alloc(), &words, &programs::FORWARDING, &notes)
 }

@@ -15,17 +15,19 @@ const DESCRIPTION_BYTES: usize = 65_536;
 const IMAGE_BYTES: usize = 33_554_432;
 
 /// Each command that reads p.elf under d.toml.
-const COMMANDS: [&[&str]; 3] = [
+const COMMANDS: [&[&str]; 4] = [
     &["isa", "p.elf", "--steps", "5", "--desc", "d.toml"],
     &["run", "d.toml", "p.elf", "--cycles", "5"],
     &["trace", "d.toml", "p.elf", "--cycles", "5"],
+    &["pair", "d.toml", "p.elf", "p.elf", "--cycles", "5"],
 ];
 
-/// Each command that reads d.toml. The image of the first three isn't there: the description is refused before it is read.
-const DESCRIBED: [&[&str]; 4] = [
+/// Each command that reads d.toml. The image of the first four isn't there: the description is refused before it is read.
+const DESCRIBED: [&[&str]; 5] = [
     &["isa", "q.elf", "--steps", "5", "--desc", "d.toml"],
     &["run", "d.toml", "q.elf", "--cycles", "5"],
     &["trace", "d.toml", "q.elf", "--cycles", "5"],
+    &["pair", "d.toml", "q.elf", "q.elf", "--cycles", "5"],
     &[
         "bench", "d.toml", "--seed", "1", "--blocks", "1", "--cycles", "5",
     ],

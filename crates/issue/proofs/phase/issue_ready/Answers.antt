@@ -1,29 +1,78 @@
--- What is written comes to what the definition leaves.
-use Rattle.std.proofs.Common.{sym, subst, ◌<◌, length}
-use Rattle.issue.specs.Parts.{with_parts}
-use Rattle.issue.specs.State.{nothing}
-use Rattle.issue.proofs.Leaving.{has_room, has_user, written}
+-- What is decided is what the definition decides, and what is written comes to what it leaves.
+use Rattle.std.proofs.Common.{ap, ◌∙◌}
+use Rattle.rob_ring.specs.Ring.{Ring}
+use Rattle.cache_tags.specs.Sets.{Cache}
+use Rattle.mshr_file.specs.Registers.{Registers}
+use Rattle.unit_ports.specs.Ports.{Ports}
+use Rattle.core_parts.specs.Held.{Sizes}
+use Rattle.issue.proofs.Issued.{advanced, all_left, decides, few_left, issued_advanced, issued_machine, issued_row, issued_shown, issued_whole, register_left, standing, user_told}
 use Rattle.issue.proofs.phase.issue_ready.Goals as goal
 
+pub decide-requires-clause-stands : goal.decide-requires-clause-stands
+decide-requires-clause-stands g c =
+    let w = c.parts.invariant in
+    record {
+      next = _;
+      writes = _;
+      parts = w.stands.stand;
+      writers = w.stands.writers;
+      queues = w.stands.queues;
+      addresses = w.stands.addresses;
+      advanced = advanced _ _ w c.parts.view_is c.requires.advanced;
+      model = ap (λ (s : Sizes). s.model) w.made;
+      cache = ap (λ (s : Sizes). s.tags) w.made;
+      registers = ap (λ (s : Sizes). s.registers) w.made;
+    }
+
+pub decide-requires-clause-left : goal.decide-requires-clause-left
+decide-requires-clause-left g c = all_left _ _ _ _ c.parts.invariant c.begin.ensures
+
+pub decide-requires-clause-few : goal.decide-requires-clause-few
+decide-requires-clause-few g c = few_left _ _ _ c.parts.invariant c.begin.ensures
+
 pub place-requires-clause-stands : goal.place-requires-clause-stands
-place-requires-clause-stands c =
-    let s = c.requires.stands in
-    (record { next = s.next; window = c.args.rob.now.entries; roots = c.args.roots.now.items; writes = s.writes; held = c.args.stations.now.held }, s.parts)
+place-requires-clause-stands g c = standing _ c.parts.invariant
 
 pub take_register-requires : goal.take_register-requires
-take_register-requires c =
-    let a = c.args in
-    let x = with_parts a.rob.now a.tags.now a.mshrs.now a.ports.now a.ram.now a.regs.now a.cycle nothing in
-    record { room = λ m. subst (λ n. length a.mshrs.now.misses < n) (sym c.requires.made.registers) (has_room a.desc.now x c.decide.new.decided (c.decide.ensures.decided nothing) m) }
+take_register-requires g c =
+    let w = c.parts.invariant in
+    let k = decides _ _ c.decide.new.decided w c.divider-before.ensures c.decide.ensures.window c.decide.ensures.load c.decide.ensures.division in
+    record { room = λ m. register_left _ c.decide.new.decided w k m }
 
 pub take_divider-requires : goal.take_divider-requires
-take_divider-requires c =
-    let a = c.args in
-    let x = with_parts a.rob.now a.tags.now a.mshrs.now a.ports.now a.ram.now a.regs.now a.cycle nothing in
-    record { used = has_user a.desc.now x c.decide.new.decided (c.decide.ensures.decided nothing) }
+take_divider-requires g c =
+    let w = c.parts.invariant in
+    let k = decides _ _ c.decide.new.decided w c.divider-before.ensures c.decide.ensures.window c.decide.ensures.load c.decide.ensures.division in
+    record { used = user_told _ c.decide.new.decided w k }
 
-pub returns-clause-state : goal.returns-clause-state
-returns-clause-state c =
-    written c.args.desc.now c.args.rob.now c.args.tags.now c.args.mshrs.now c.args.ports.now c.args.ram.now c.args.regs.now c.args.cycle c.decide.new.decided
-    c.place.new.rob c.touch.new.tags c.take_register.new.mshrs c.decide.new.ports c.take_divider.new.ports c.requires.made.cache c.decide.ensures.decided
-    c.place.ensures.window c.touch.ensures c.take_register.ensures c.decide.ensures.only.divider c.take_divider.ensures
+pub invariant_of-parts : goal.invariant_of-parts
+invariant_of-parts g c =
+    let w = c.parts.invariant in
+    let k = decides _ _ c.decide.new.decided w c.divider-before.ensures c.decide.ensures.window c.decide.ensures.load c.decide.ensures.division in
+    let divider = c.decide.ensures.only.divider ∙ ap (λ (p : Ports). p.divider) c.begin.ensures in
+    let machine = issued_machine _ c.decide.new.decided c.place.new.rob c.place.new.stations c.touch.new.tags c.take_register.new.mshrs c.decide.new.ports c.take_divider.new.ports w k
+    c.place.ensures.window c.touch.ensures c.take_register.ensures divider c.take_divider.ensures in
+    let alus = ap (λ (p : Ports). p.alus) c.take_divider.ensures ∙ c.decide.ensures.only.alus ∙ ap (λ (p : Ports). p.alus) c.begin.ensures in
+    issued_whole _ c.place.new.rob c.place.new.stations c.touch.new.tags c.take_register.new.mshrs c.take_divider.new.ports w machine c.place.ensures.stands
+    (ap (λ (r : Ring). r.room) c.place.ensures.window) c.place.ensures.same_places (ap (λ (t : Cache). t.desc) c.touch.ensures) (ap (λ (m : Registers). m.room) c.take_register.ensures) alus
+
+pub returns-clause-machine : goal.returns-clause-machine
+returns-clause-machine g c =
+    let w = c.parts.invariant in
+    let k = decides _ _ c.decide.new.decided w c.divider-before.ensures c.decide.ensures.window c.decide.ensures.load c.decide.ensures.division in
+    let divider = c.decide.ensures.only.divider ∙ ap (λ (p : Ports). p.divider) c.begin.ensures in
+    let machine = issued_machine _ c.decide.new.decided c.place.new.rob c.place.new.stations c.touch.new.tags c.take_register.new.mshrs c.decide.new.ports c.take_divider.new.ports w k
+    c.place.ensures.window c.touch.ensures c.take_register.ensures divider c.take_divider.ensures in
+    issued_shown _ c.place.new.rob c.place.new.stations c.touch.new.tags c.take_register.new.mshrs c.take_divider.new.ports _ w machine c.parts.view_is
+
+pub returns-clause-row : goal.returns-clause-row
+returns-clause-row g c = issued_row _ _ _ _ _ c.parts.invariant c.divider-before.ensures c.decide.ensures.row c.parts.view_is
+
+pub returns-clause-advanced : goal.returns-clause-advanced
+returns-clause-advanced g c =
+    let w = c.parts.invariant in
+    let k = decides _ _ c.decide.new.decided w c.divider-before.ensures c.decide.ensures.window c.decide.ensures.load c.decide.ensures.division in
+    let divider = c.decide.ensures.only.divider ∙ ap (λ (p : Ports). p.divider) c.begin.ensures in
+    let machine = issued_machine _ c.decide.new.decided c.place.new.rob c.place.new.stations c.touch.new.tags c.take_register.new.mshrs c.decide.new.ports c.take_divider.new.ports w k
+    c.place.ensures.window c.touch.ensures c.take_register.ensures divider c.take_divider.ensures in
+    issued_advanced _ c.place.new.rob c.place.new.stations c.touch.new.tags c.take_register.new.mshrs c.take_divider.new.ports _ w machine c.parts.view_is c.requires.advanced

@@ -2,7 +2,8 @@
 use Rattle.std.proofs.Common.{◌≡◌, ◌∙◌, ap₂, None, arith}
 use Rattle.std.proofs.lemmas.Result.{MatchResult-from_err}
 use Rattle.window_model.specs.Cycle.{cycle}
-use Rattle.stt_cli.proofs.Cycles.{ended_at, running_at, pieces_next, pieces_part, pieces_ended, pieces_done}
+use Rattle.pair_run.proofs.Cycles.{ended_at, running_at}
+use Rattle.stt_cli.proofs.Cycles.{pieces_next, pieces_part, pieces_ended, pieces_done}
 use Rattle.stt_cli.proofs.clocking.write_pieces.Goals as goal
 
 pub returns-then-is_some : goal.returns-then-is_some

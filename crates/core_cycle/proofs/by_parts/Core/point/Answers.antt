@@ -1,7 +1,7 @@
 use Rattle.std.proofs.Common.{subst}
 use Rattle.core_cycle.specs.Programmed.{Programmed}
-use Rattle.core_cycle.specs.Lent.{ShowsOlder, TellsVisible}
-use Rattle.core_cycle.proofs.Lending.{point_visible, point_older}
+use Rattle.core_parts.specs.Lent.{ShowsOlder, TellsVisible}
+use Rattle.core_parts.proofs.Lending.{point_visible, point_older}
 use Rattle.core_cycle.proofs.by_parts.Core.point.Goals as goal
 
 pub returns-clause-visible : goal.returns-clause-visible

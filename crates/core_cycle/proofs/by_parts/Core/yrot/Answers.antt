@@ -1,6 +1,6 @@
 use Rattle.std.proofs.Common.{subst}
 use Rattle.core_cycle.specs.Programmed.{Programmed}
-use Rattle.core_cycle.specs.Lent.{HasRoots}
+use Rattle.core_parts.specs.Lent.{HasRoots}
 use Rattle.core_cycle.proofs.by_parts.Core.yrot.Goals as goal
 
 pub returns : goal.returns

@@ -1,14 +1,11 @@
-use Rattle.std.proofs.Common.{◌≡◌, ◌≤◌, ◌+◌, ◌++◌, [], length, ap, sym, subst, ◌∙◌, arith, refl, true}
-use Rattle.std.specs.Prelude.{nat_le}
+use Rattle.std.proofs.Common.{◌≡◌, ◌≤◌, ◌+◌, ◌++◌, length, ap, sym, ◌∙◌, arith, refl, true}
 use Rattle.std.specs.Option.{option_map}
 use Rattle.std.proofs.lemmas.Option.{slice_get_within}
 use Rattle.window_model.specs.Order.{before_at, is_waiting}
-use Rattle.window_model.specs.Issue.{is_free}
+use Rattle.window_model.specs.Issue.{issue_entry}
 use Rattle.window_model.specs.Row.{Row}
-use Rattle.unit_ports.specs.Laws.{LeftAfter}
 use Rattle.issue.specs.Accesses.{as_access}
-use Rattle.issue.specs.Deciding.{turn_of}
-use Rattle.issue.specs.State.{machine_with, parts_of, window_of}
+use Rattle.issue.specs.State.{around_of, parts_of, window_of}
 use Rattle.issue.proofs.Noting.{as_many_events, as_many_puts, only_both, row_is}
 use Rattle.issue.proofs.Testing.{ready_is}
 use Rattle.issue.proofs.Waiting.{all_wait, at_end, at_next, station_more, waits_at}
@@ -18,12 +15,11 @@ use Rattle.issue.proofs.seen.Seen.decide.Goals as goal
 pub loop-station-init : goal.loop-station-init
 loop-station-init c =
     let s = c.args.self.now in
-    let free : c.free_div-free.result ≡ is_free (machine_with c.args.ports.now s) = c.free_div-free.ensures ∙ ap (nat_le c.args.ports.now.divider.free_from) c.requires.cycle in
     let nothing = c.requires.nothing in
     let none = ap length nothing.puts in
     let few = c.requires.few in
     record {
-      walked = walked_none s c.free_div-free.result c.args.ports.now _ _ _ _ nothing.puts (ap (option_map as_access) nothing.load) nothing.division (subst (λ free. LeftAfter s.desc.now free [] c.args.ports.now) (sym free) c.requires.left);
+      walked = walked_none s c.args.ports.now _ _ _ _ nothing.puts (ap (option_map as_access) nothing.load) nothing.division c.requires.left;
       only = record { alus = refl; cycle = refl; divider = refl };
       few = omega (arith, none, few);
       room = omega (arith, few);
@@ -33,21 +29,20 @@ loop-station-init c =
 pub loop-station-preserved-then-not-ready : goal.loop-station-preserved-then-not-ready
 loop-station-preserved-then-not-ready c =
     let s = c.args.self.now in
-    let free = c.free_div-free.result in
     let t = c.loop-station.invariant in
     let stands = c.requires.stands in
     let len : c.len-station-end.result ≡ length s.stations.now.held = c.len-station-end.ensures.len in
     let in_range = c.loop-station-test.true in
     let w = waits_at (parts_of stands.next stands.writes s) stands.parts c.loop-station.station (omega (arith, len, in_range)) in
     let is = ready_is s w.position w.entry stands w.is c.loop-station.station c.ready.result w.waits (sym w.station) c.ready.ensures in
-    let none = not_ready s free w.position w.entry w.is w.waits (sym is ∙ c.if-not-ready.true) in
-    let walked = at_next _ (window_of s) c.loop-station.station w.position w.entry (keeps s free c.loop-station.ports _ _ _ _ _) t.walked w.is w.waits w.station in
+    let none = not_ready s w.position w.entry w.is w.waits (sym is ∙ c.if-not-ready.true) in
+    let walked = at_next _ (window_of s) c.loop-station.station w.position w.entry (keeps s c.loop-station.ports _ _ _ _ _) t.walked w.is w.waits w.station in
     record {
       walked = record {
         position = w.position + 1;
         within = let lt = slice_get_within (window_of s) w.position w.entry w.is in omega (arith, lt);
         station = station_more (window_of s) w.position w.entry w.is w.waits ∙ ap (λ n. n + 1) w.station;
-        holds = walked_past s free c.loop-station.ports _ _ _ _ _ w.position w.entry w.is none walked;
+        holds = walked_past s c.loop-station.ports _ _ _ _ _ w.position w.entry w.is none walked;
       };
       only = t.only;
       few = t.few;
@@ -75,22 +70,21 @@ decide_entry-requires-clause-left c =
     let i = c.position_at-position.result in
     let e = c.lend-entry.result.now in
     let waits : is_waiting e.state ≡ true = waits_here (window_of s) i _ e c.lend-entry.ensures c.position_at-position.ensures.waits in
-    (at_next _ (window_of s) c.loop-station.station i e (keeps s c.free_div-free.result c.loop-station.ports _ _ _ _ _) c.loop-station.invariant.walked c.lend-entry.ensures waits c.position_at-position.ensures.station).left
+    (at_next _ (window_of s) c.loop-station.station i e (keeps s c.loop-station.ports _ _ _ _ _) c.loop-station.invariant.walked c.lend-entry.ensures waits c.position_at-position.ensures.station).left
 
 pub loop-station-preserved : goal.loop-station-preserved
 loop-station-preserved c =
     let s = c.args.self.now in
-    let free = c.free_div-free.result in
     let i = c.position_at-position.result in
     let station = c.position_at-position.ensures.station in
     let t = c.loop-station.invariant in
     let e = c.lend-entry.result.now in
     let h = c.lend-entry.ensures in
     let waits : is_waiting e.state ≡ true = waits_here (window_of s) i _ e h c.position_at-position.ensures.waits in
-    let walked = at_next _ (window_of s) c.loop-station.station i e (keeps s free c.loop-station.ports _ _ _ _ _) t.walked h waits station in
-    let events : c.decide_entry.new.row.events ≡ c.loop-station.row.events ++ (turn_of s free (before_at (window_of s) i) e).events = ap (λ (r : Row). r.events) c.decide_entry.ensures.row in
-    let puts = as_many_puts c.loop-station.decided.puts.items c.decide_entry.new.decided.puts.items i c.loop-station.station (turn_of s free (before_at (window_of s) i) e) c.decide_entry.ensures.puts in
-    let more = as_many_events c.loop-station.row.events c.decide_entry.new.row.events (turn_of s free (before_at (window_of s) i) e) events in
+    let walked = at_next _ (window_of s) c.loop-station.station i e (keeps s c.loop-station.ports _ _ _ _ _) t.walked h waits station in
+    let events : c.decide_entry.new.row.events ≡ c.loop-station.row.events ++ (issue_entry s.desc.now (around_of s) (before_at (window_of s) i) e).events = ap (λ (r : Row). r.events) c.decide_entry.ensures.row in
+    let puts = as_many_puts c.loop-station.decided.puts.items c.decide_entry.new.decided.puts.items i c.loop-station.station (issue_entry s.desc.now (around_of s) (before_at (window_of s) i) e) c.decide_entry.ensures.puts in
+    let more = as_many_events c.loop-station.row.events c.decide_entry.new.row.events (issue_entry s.desc.now (around_of s) (before_at (window_of s) i) e) events in
     let fewer = c.decide_entry.ensures.fewer in
     let few = t.few in
     let room = t.room in
@@ -100,8 +94,8 @@ loop-station-preserved c =
         within = let lt = slice_get_within (window_of s) i e h in omega (arith, lt);
         station = station_more (window_of s) i e h waits ∙ ap (λ n. n + 1) station;
         holds = record {
-          decided = decided_more s free i e h c.loop-station.station _ _ _ _ _ _ _ _ _ (sym station) c.decide_entry.ensures.puts events c.decide_entry.ensures.load c.decide_entry.ensures.division walked.decided;
-          left = left_on s free i e h _ c.decide_entry.ensures.left;
+          decided = decided_more s i e h c.loop-station.station _ _ _ _ _ _ _ _ _ (sym station) c.decide_entry.ensures.puts events c.decide_entry.ensures.load c.decide_entry.ensures.division walked.decided;
+          left = left_on s i e h _ c.decide_entry.ensures.left;
         };
       };
       only = only_both _ _ _ t.only c.decide_entry.ensures.only;
@@ -118,11 +112,10 @@ returns c =
     let len : c.len-station-end.result ≡ length s.stations.now.held = c.len-station-end.ensures.len in
     let end : c.len-station-end.result ≤ c.loop-station.station = c.loop-station-test.false in
     let up_to : c.loop-station.station ≤ c.len-station-end.result = c.loop-station.auto.station-end in
-    let free : c.free_div-free.result ≡ is_free (machine_with c.args.ports.now s) = c.free_div-free.ensures ∙ ap (nat_le c.args.ports.now.divider.free_from) c.requires.cycle in
     let room = t.room in
     let many = all_wait (parts_of stands.next stands.writes s) stands.parts in
-    let walked = at_end _ (window_of s) c.loop-station.station (keeps s c.free_div-free.result c.loop-station.ports _ _ _ _ _) t.walked (omega (arith, many, len, end, up_to)) in
-    let all = decided_all s c.args.ports.now c.free_div-free.result (length (window_of s)) _ _ _ _ _ free (omega arith) walked.decided in
+    let walked = at_end _ (window_of s) c.loop-station.station (keeps s c.loop-station.ports _ _ _ _ _) t.walked (omega (arith, many, len, end, up_to)) in
+    let all = decided_all s (length (window_of s)) _ _ _ _ _ (omega arith) walked.decided in
     record {
       puts = all.puts_are;
       window = all.window_is;

@@ -1,0 +1,51 @@
+-- What an entry that has issued computed: what Issue makes of its operands in the window, over the retired registers and memory
+-- (docs/theorems.md, "Committed state").
+use Rattle.std.specs.Prelude.{◌≡◌, ℕ, List, Option, Some, None}
+use Rattle.rv_types.specs.Word.{from_le}
+use Rattle.rv_types.specs.Value.{extend}
+use Rattle.rv_types.specs.Memory.{Ram, load_fault, store_fault}
+use Rattle.rv_types.specs.Isa.{Effect}
+use Rattle.rv_types.specs.declared.Cause.{Cause}
+use Rattle.rv_types.specs.declared.Instr.{Instr}
+use Rattle.rv_types.specs.declared.Kind.{Kind}
+use Rattle.rv_types.specs.declared.Kind.TheVariants.{Mul, Div, Load, Store}
+use Rattle.window_model.specs.declared.Entry.{Entry}
+use Rattle.window_model.specs.declared.Outcome.{Outcome}
+use Rattle.window_model.specs.Retire.{op_of, width_in}
+use Rattle.window_model.specs.Access.{load_bytes}
+use Rattle.window_model.specs.Issue.{effect_of, outcome, fault_if}
+
+-- registers and memory
+pub record Bank : Type 0 where
+  pub regs : List ℕ
+  pub ram : Ram
+
+-- ---- outcomes, by the instruction, what it makes of its operands, and the bytes that a load finds
+
+-- a load's value, 0 where it faults
+abbrev pub loaded_or : Option Cause → Instr → List ℕ → ℕ
+loaded_or (Some c) i bytes = 0
+loaded_or None i bytes = extend (op_of i) (from_le bytes)
+
+-- an outcome by kind, as Issue has it
+abbrev pub outcome_as : Kind → Ram → Instr → Effect → List ℕ → Outcome
+outcome_as Load ram i f bytes = let c = load_fault ram f.addr (width_in i) in outcome f (loaded_or c i bytes) c
+outcome_as Store ram i f bytes = outcome f 0 (store_fault ram f.addr (width_in i))
+outcome_as Mul ram i f bytes = outcome f f.value None
+outcome_as Div ram i f bytes = outcome f f.value None
+outcome_as _ ram i f bytes = outcome f f.value (fault_if f.misaligned)
+
+-- an outcome, where there is one, is this
+abbrev pub ComesTo : Option Outcome → Outcome → Type 0
+ComesTo None v = Unit {0}
+ComesTo (Some o) v = o ≡ v
+
+-- ---- in the window
+
+-- the bytes that a load of this address finds
+abbrev pub bytes_over : Bank → List Entry → Entry → ℕ → List ℕ
+bytes_over s before e a = load_bytes s.ram before a (width_in e.item.instr)
+
+-- the outcome of an entry behind others
+abbrev pub computed : Bank → List Entry → Entry → Outcome
+computed s before e = let f = effect_of s.regs before e in outcome_as e.item.kind s.ram e.item.instr f (bytes_over s before e f.addr)

@@ -1,8 +1,0 @@
-use Rattle.core_cycle.proofs.Lending.{lent_names, lent_name_roots}
-use Rattle.core_cycle.proofs.state.State.table.Goals as goal
-
-pub returns-clause-writers : goal.returns-clause-writers
-returns-clause-writers g c = lent_names _ _ c.self.invariant c.self.view_is
-
-pub returns-clause-roots : goal.returns-clause-roots
-returns-clause-roots g c = lent_name_roots _ _ c.self.invariant c.self.view_is

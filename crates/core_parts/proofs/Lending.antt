@@ -1,0 +1,95 @@
+-- What the parts that are lent tell of the machine that is shown.
+use Rattle.std.proofs.Common.{◌≡◌, ℕ, ◌<◌, Bool, true, false, List, [], ◌∷◌, length, map, Option, Some, refl, ap, ap₂, sym, ◌∙◌, subst, arith, slice_get}
+use Rattle.std.specs.Prelude.{if◌then◌else◌}
+use Rattle.machine_desc.specs.declared.SttModel.{SttModel}
+use Rattle.window_model.specs.declared.Entry.{Entry}
+use Rattle.lsq.specs.declared.store.Store.{Store}
+use Rattle.queue_laws.specs.Window.{StandFor}
+use Rattle.window_model.specs.Order.{is_store}
+use Rattle.visibility.specs.Point.{Point, HasAdvanced}
+use Rattle.parts_stand.proofs.Answering.{counts_room, names_root, names_writer, tells_ready, tells_visible}
+use Rattle.parts_stand.proofs.Writing.{counts_writers}
+use Rattle.parts_stand.specs.Addresses.{Addressed, address_in, addresses_of, base_root}
+use Rattle.parts_stand.specs.Parts.{RootsStand, oldest_of}
+use Rattle.parts_stand.specs.Roots.{source_roots, unretired}
+use Rattle.parts_stand.proofs.Keeping.{roots_at}
+use Rattle.core_parts.specs.Described.{Described}
+use Rattle.core_parts.specs.Held.{Held, Whole, described}
+use Rattle.core_parts.specs.Lent.{HasAddressRoots, HasRoots, HoldsWaiting, NamesRoots, NamesWriters, ShowsOlder, TellsReady, TellsVisible, address_roots}
+
+pub lent_names : (h : Held) (v : Described) → Whole h → described h ≡ v → NamesWriters h.writes v.machine.window
+lent_names h v w s = subst (λ (v : Described). NamesWriters h.writes v.machine.window) s (λ r. names_writer _ r w.stands.stand)
+
+pub lent_name_roots : (h : Held) (v : Described) → Whole h → described h ≡ v → NamesRoots v.machine.next_serial h.writes v.machine.window
+lent_name_roots h v w s = subst (λ (v : Described). NamesRoots v.machine.next_serial h.writes v.machine.window) s (λ r. names_root _ r w.stands.stand)
+
+pub lent_waiting : (h : Held) (v : Described) → Whole h → described h ≡ v → HoldsWaiting h.stations v.machine.window
+lent_waiting h v w s = subst (λ (v : Described). HoldsWaiting h.stations v.machine.window) s w.stands.stand.held
+
+pub lent_ready : (h : Held) (v : Described) → Whole h → described h ≡ v → TellsReady h.stations v.machine.window
+lent_ready h v w s = subst (λ (v : Described). TellsReady h.stations v.machine.window) s (λ i e a b. tells_ready _ i e w.stands.stand a b)
+
+pub lent_queues : (h : Held) (v : Described) → Whole h → described h ≡ v → StandFor h.queues v.machine.window
+lent_queues h v w s = subst (λ (v : Described). StandFor h.queues v.machine.window) s w.stands.queues
+
+-- ---- the roots of the stores' addresses
+
+first_shown : (f : ℕ) (rs : List (Option ℕ)) → unretired f (base_root rs) ≡ base_root (map (unretired f) rs)
+first_shown f [] = refl
+first_shown f (r ∷ rs) = refl
+
+-- by the roots at the entries' positions
+shown_roots : (f : ℕ) (before es : List Entry) (roots : List (List (Option ℕ))) → RootsStand f before es roots →
+    map (λ (a : Addressed). unretired f a.root) (addresses_of es roots) ≡ address_roots before es
+shown_roots f before [] roots s = refl
+shown_roots f before (e ∷ es) [] s = absurd s
+shown_roots f before (e ∷ es) (rs ∷ roots) s = by_store (is_store e.item.kind) (shown_roots f (e ∷ before) es roots s.1)
+  where
+    by_store : (b : Bool) → map (λ (a : Addressed). unretired f a.root) (addresses_of es roots) ≡ address_roots (e ∷ before) es →
+        map (λ (a : Addressed). unretired f a.root) (if b then record { serial = e.serial; root = base_root rs } ∷ addresses_of es roots else addresses_of es roots)
+        ≡ (if b then base_root (source_roots before e) ∷ address_roots (e ∷ before) es else address_roots (e ∷ before) es)
+    by_store true k = ap₂ (λ o os. o ∷ os) (first_shown f rs ∙ ap base_root s.0) k
+    by_store false k = k
+
+roots_in : (f : ℕ) (stores : List Store) → map (λ (s : Store). unretired f s.root) stores ≡ map (λ (a : Addressed). unretired f a.root) (map address_in stores)
+roots_in f [] = refl
+roots_in f (s ∷ stores) = ap (λ os. unretired f s.root ∷ os) (roots_in f stores)
+
+pub lent_addresses : (h : Held) (v : Described) → Whole h → described h ≡ v → HasAddressRoots v.machine.next_serial h.queues.stores v.machine.window
+lent_addresses h v w s =
+    let f = oldest_of h.next_serial h.rob.entries in
+    subst (λ (v : Described). HasAddressRoots v.machine.next_serial h.queues.stores v.machine.window) s
+    (roots_in f h.queues.stores
+    ∙ ap (map (λ (a : Addressed). unretired f a.root)) w.stands.addresses
+    ∙ shown_roots f [] h.rob.entries h.roots.items w.stands.stand.roots)
+
+-- ---- the point, once it has advanced
+
+visible_by : (model : SttModel) (p : Point) (window : List Entry) → p.model ≡ model → HasAdvanced p window → TellsVisible model p window
+visible_by model p window m a = subst (λ m. TellsVisible m p window) m (λ i e h. tells_visible p window i e a h)
+
+older_by : (p : Point) (window : List Entry) → HasAdvanced p window → ShowsOlder p window
+older_by p [] a s some all = absurd (omega (arith, some))
+older_by p (e ∷ es) a s some all = a.smaller s all
+
+pub point_visible : (model : SttModel) (q p : Point) (window : List Entry) → q ≡ p → q.model ≡ model → HasAdvanced p window → TellsVisible model q window
+point_visible model q p window e m a = visible_by model q window m (subst (λ p. HasAdvanced p window) (sym e) a)
+
+pub point_older : (q p : Point) (window : List Entry) → q ≡ p → HasAdvanced p window → ShowsOlder q window
+point_older q p window e a = older_by q window (subst (λ p. HasAdvanced p window) (sym e) a)
+
+-- ---- the pair at a position
+
+-- there is one of roots and one of writers
+pub lent_counts : (h : Held) (v : Described) (i : ℕ) → Whole h → described h ≡ v → i < length v.machine.window → (i < length h.roots.items) × (i < length h.writers.items)
+lent_counts h v i w s l =
+    let n = (counts_room _ w.stands.stand).roots in
+    let k = counts_writers h.next_serial h.rob.entries h.writers.items w.stands.writers in
+    let m = ap (λ (v : Described). length v.machine.window) s in
+    (omega (arith, n, m, l), omega (arith, k, m, l))
+
+pub lent_roots : (h : Held) (v : Described) (i : ℕ) (pair : List (Option ℕ)) → Whole h → described h ≡ v → slice_get h.roots.items i ≡ Some pair →
+    HasRoots v.machine.next_serial v.machine.window i pair
+lent_roots h v i pair w s g =
+    subst (λ (v : Described). HasRoots v.machine.next_serial v.machine.window i pair) s
+    (λ e a. roots_at (oldest_of h.next_serial h.rob.entries) [] h.rob.entries h.roots.items i e pair w.stands.stand.roots a g)

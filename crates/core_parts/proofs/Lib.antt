@@ -1,0 +1,8 @@
+pub mod Steps
+pub mod Opening
+pub mod Whole
+pub mod Fetched
+pub mod Lending
+pub mod Younger
+pub mod Sizes
+pub mod Advancing

@@ -1,0 +1,214 @@
+-- Each step keeps the parts standing for the window.
+use Rattle.std.proofs.Common.{◌≡◌, ◌≢◌, ℕ, zero, suc, ◌+◌, ◌<◌, Bool, true, false, List, [], ◌∷◌, ◌++◌, map, Option, Some, None, refl, ap, ap₂, sym, ◌∙◌, subst, arith, slice_get}
+use Rattle.std.specs.Prelude.{if◌then◌else◌, is_some, slice_set, nat_lt, not, ◌==◌, ◌||◌, drop, take}
+use Rattle.std.specs.List.{All, AllZip, filter}
+use Rattle.std.proofs.lemmas.List.{set_split}
+use Rattle.std.proofs.lemmas.List.Elements.{All-cons, All-head, All-nil, All-weaker}
+use Rattle.std.proofs.lemmas.Option.{slice_get_within}
+use Rattle.rv_types.specs.Value.{bytes_in}
+use Rattle.rv_types.specs.declared.Width.{Width}
+use Rattle.window_model.specs.Retire.{width_of}
+use Rattle.rv_types.specs.declared.Kind.{Kind}
+use Rattle.rv_types.specs.declared.Kind.TheVariants.{Load, Store}
+use Rattle.window_model.specs.declared.Entry.{Entry}
+use Rattle.window_model.specs.declared.Outcome.{Outcome}
+use Rattle.window_model.specs.declared.Progress.{Progress}
+use Rattle.window_model.specs.declared.Progress.TheVariants.{Waiting, Busy, Done}
+use Rattle.window_model.specs.Issue.{begun}
+use Rattle.window_model.specs.Order.{is_done, is_load, is_store, is_waiting}
+use Rattle.rob_ring.specs.Ring.{below}
+use Rattle.lsq.specs.Queues.{Queues, known_at}
+use Rattle.lsq.specs.declared.store.Store.{Store as Queued}
+use Rattle.queue_laws.proofs.Completing.{other_completes, store_completes}
+use Rattle.queue_laws.specs.Window.{Others, StandFor, known_of, seen, write_in}
+use Rattle.queue_laws.proofs.Keeping.{cut_stands, pop_stands}
+use Rattle.queue_laws.proofs.Renaming.{adds_load, adds_other, adds_store, opens, unseen_stands}
+use Rattle.parts_stand.specs.Addresses.{AddressesStand, base_root}
+use Rattle.parts_stand.specs.Parts.{Parts, Stand}
+use Rattle.parts_stand.specs.Steps.{GoesOn}
+use Rattle.parts_stand.proofs.Addressing.{addresses_add, addresses_add_other, addresses_go_on, addresses_know, addresses_open, addresses_retire, addresses_squash}
+use Rattle.parts_stand.proofs.Keeping.{goes_same, zip_set}
+use Rattle.parts_stand.proofs.Moving.{point_advances, point_completes, point_issues, point_opens, point_renames, point_resolves, point_retires, point_squashes, point_stops}
+use Rattle.window_model.specs.Serials.{Rise}
+use Rattle.window_model.proofs.Serials.{all_right, rise_head, rise_tail, splits}
+use Rattle.parts_stand.proofs.Standing.{changes_unseen, completes_at, issues_at, opens_empty, renames_in, retires_head, squashes_from}
+use Rattle.parts_stand.proofs.Writing.{writers_go_on, writers_open, writers_rename, writers_retire, writers_squash}
+use Rattle.core_parts.specs.Stands.{table_and_stations}
+use Rattle.core_parts.specs.Steps.{BeginsAt, CompletesAt, DropsYounger, OpensEmpty, PointMoves, PointStops, RenamesIn, ResolvesAt, RetiresHead, known_with, queued}
+
+pub stands_empty : OpensEmpty
+stands_empty d = record { stand = opens_empty 0; writers = writers_open 0; queues = opens d; addresses = addresses_open; point = point_opens d.stt_model 0 }
+
+-- ---- an entry is renamed
+
+queues_by : (k : Kind) (q : Queues) (w : List Entry) (e : Entry) (root : Option ℕ) → e.item.kind ≡ k → (k ≡ Store → is_waiting e.state ≡ true) → StandFor q w → StandFor (queued k e.serial root q) (w ++ e ∷ [])
+queues_by Load q w e root h d s = adds_load q w e s (ap is_load h)
+queues_by Store q w e root h d s = adds_store q w e root s (ap is_store h) (d refl)
+queues_by _ q w e root h d s = adds_other q w e s (ap is_load h) (ap is_store h)
+
+addresses_by : (k : Kind) (p : Parts) (q : Queues) (e : Entry) (roots : List (Option ℕ)) → e.item.kind ≡ k → Stand p → AddressesStand p.window p.roots q.stores →
+    AddressesStand (p.window ++ e ∷ []) (p.roots ++ roots ∷ []) (queued k e.serial (base_root roots) q).stores
+addresses_by Store p q e roots h s a = addresses_add p q.stores e roots s a (ap is_store h)
+addresses_by _ p q e roots h s a = addresses_add_other p q.stores e roots s a (ap is_store h)
+
+pub stands_renamed : RenamesIn
+stands_renamed p e roots writers awaits place s f rs ws aw =
+    let parts = table_and_stations p in
+    record {
+      stand = renames_in parts e roots awaits place s.stand f.serial rs aw;
+      writers = writers_rename parts p.writers e writers s.stand s.writers f.serial ws;
+      queues = queues_by e.item.kind p.queues p.window e (base_root roots) refl f.waits s.queues;
+      addresses = addresses_by e.item.kind parts p.queues e roots refl s.stand s.addresses;
+      point = point_renames p.point p.next p.window e s.point f.serial f.unresolved;
+    }
+
+-- ---- the entry at a position goes on
+
+goes_at : (w : List Entry) (i : ℕ) (e e2 : Entry) → slice_get w i ≡ Some e → GoesOn e e2 → AllZip GoesOn w (slice_set w i e2)
+goes_at w i e e2 h g = zip_set GoesOn goes_same w i e e2 h g
+
+map_set : (w : List Entry) (i : ℕ) (e e2 : Entry) → slice_get w i ≡ Some e → seen e2 ≡ seen e → map seen (slice_set w i e2) ≡ map seen w
+map_set [] i e e2 h q = absurd (cc)
+map_set (x ∷ w) zero e e2 h q = let same : x ≡ e = cc in ap (λ s. s ∷ map seen w) (q ∙ ap seen (sym same))
+map_set (x ∷ w) (suc i) e e2 h q = ap (λ ss. seen x ∷ ss) (map_set w i e e2 h q)
+
+-- the queues see of an entry that begins that it isn't Done
+waits_undone : (s : Progress) → is_waiting s ≡ true → is_done s ≡ false
+waits_undone Waiting h = refl
+waits_undone (Busy due) h = refl
+waits_undone Done h = absurd (cc)
+
+begun_seen : (e : Entry) (due : ℕ) (o : Outcome) → is_waiting e.state ≡ true → seen (begun e due o) ≡ seen e
+begun_seen e due o w =
+    ap₂ (λ b w. record {
+      load = if is_load e.item.kind then Some e.serial else None;
+      store = if is_store e.item.kind then Some (record { serial = e.serial; write = if b then Some (write_in e) else None; computed = w || is_some e.outcome }) else None;
+    }) (sym (waits_undone e.state w)) (sym w)
+
+pub stands_begun : BeginsAt
+stands_begun p i due e o s h w =
+    let parts = table_and_stations p in
+    let new = slice_set p.window i (begun e due o) in
+    let on = goes_at p.window i e (begun e due o) h (record { serial = refl; item = refl }) in
+    record {
+      stand = issues_at parts i due e o s.stand h w;
+      writers = writers_go_on parts p.writers new s.writers on;
+      queues = unseen_stands p.queues p.window new s.queues (map_set p.window i e (begun e due o) h (begun_seen e due o w));
+      addresses = addresses_go_on parts p.queues.stores new s.addresses on;
+      point = point_issues p.point p.next p.window i due e o s.point h w;
+    }
+
+others_older : (older : List Entry) (e : Entry) (younger : List Entry) → Rise (older ++ e ∷ younger) → Others e.serial older
+others_older [] e younger r = All-nil (λ d. d.serial ≢ e.serial)
+others_older (x ∷ older) e younger r =
+    let lt : x.serial < e.serial = All-head (λ d. x.serial < d.serial) e younger (all_right (λ d. x.serial < d.serial) older (e ∷ younger) (rise_head x (older ++ e ∷ younger) r)) in
+    All-cons (λ d. d.serial ≢ e.serial) x older (omega (arith, lt)) (others_older older e younger (rise_tail x (older ++ e ∷ younger) r))
+
+others_younger : (older : List Entry) (e : Entry) (younger : List Entry) → Rise (older ++ e ∷ younger) → Others e.serial younger
+others_younger [] e younger r = All-weaker (λ d. e.serial < d.serial) (λ d. d.serial ≢ e.serial) (λ d lt. omega (arith, lt)) younger (rise_head e younger r)
+others_younger (x ∷ older) e younger r = others_younger older e younger (rise_tail x (older ++ e ∷ younger) r)
+
+-- an entry in its place
+split_at : (entries : List Entry) (i : ℕ) (e : Entry) → slice_get entries i ≡ Some e → entries ≡ take i entries ++ e ∷ drop (suc i) entries
+split_at [] i e h = absurd (cc)
+split_at (x ∷ entries) zero e h = let q : x ≡ e = cc in ap (λ x. x ∷ entries) q
+split_at (x ∷ entries) (suc i) e h = ap (λ es. x ∷ es) (split_at entries i e h)
+
+done_by : (q : Queues) (older younger : List Entry) (e : Entry) (w : Width) (b : Bool) → is_store e.item.kind ≡ b → is_waiting e.state ≡ false → bytes_in w ≡ width_of e → Rise (older ++ e ∷ younger) → StandFor q (older ++ e ∷ younger) →
+    StandFor (record q { stores = if b then map (known_at e.serial (known_of w e)) q.stores else q.stores }) (older ++ record e { state = Done } ∷ younger)
+done_by q older younger e w true k n b r s = store_completes q older younger e w s k n b (others_older older e younger r) (others_younger older e younger r)
+done_by q older younger e w false k n b r s = other_completes q older younger e s k
+
+queues_done : (q : Queues) (entries : List Entry) (i : ℕ) (e : Entry) (w : Width) → slice_get entries i ≡ Some e → is_waiting e.state ≡ false → bytes_in w ≡ width_of e → Rise entries → StandFor q entries →
+    StandFor (record q { stores = known_with w e q.stores }) (slice_set entries i (record e { state = Done }))
+queues_done q entries i e w h n b r s =
+    let whole = split_at entries i e h in
+    subst (StandFor (record q { stores = known_with w e q.stores })) (sym (set_split entries i (record e { state = Done }) (slice_get_within entries i e h)))
+    (done_by q (take i entries) (drop (suc i) entries) e w (is_store e.item.kind) refl n b (subst Rise whole r) (subst (StandFor q) whole s))
+
+addresses_known : (p : Parts) (stores : List Queued) (e : Entry) (w : Width) (b : Bool) → AddressesStand p.window p.roots stores →
+    AddressesStand p.window p.roots (if b then map (known_at e.serial (known_of w e)) stores else stores)
+addresses_known p stores e w true s = addresses_know p stores e.serial (known_of w e) s
+addresses_known p stores e w false s = s
+
+pub stands_done : CompletesAt
+stands_done p i e w s h n b =
+    let parts = table_and_stations p in
+    let e2 = record e { state = Done } in
+    let on = goes_at p.window i e e2 h (record { serial = refl; item = refl }) in
+    record {
+      stand = completes_at parts i e s.stand h n;
+      writers = writers_go_on parts p.writers (slice_set p.window i e2) s.writers on;
+      queues = queues_done p.queues p.window i e w h n b s.stand.rise s.queues;
+      addresses = addresses_go_on parts (known_with w e p.queues.stores) (slice_set p.window i e2) (addresses_known parts p.queues.stores e w (is_store e.item.kind) s.addresses) on;
+      point = point_completes p.point p.next p.window i e s.point h;
+    }
+
+pub stands_resolved : ResolvesAt
+stands_resolved p i e s h w =
+    let parts = table_and_stations p in
+    let e2 = record e { resolved = true } in
+    let new = slice_set p.window i e2 in
+    let go : GoesOn e e2 = record { serial = refl; item = refl } in
+    let on = goes_at p.window i e e2 h go in
+    record {
+      stand = changes_unseen parts i e e2 s.stand h go refl;
+      writers = writers_go_on parts p.writers new s.writers on;
+      queues = unseen_stands p.queues p.window new s.queues (map_set p.window i e e2 h refl);
+      addresses = addresses_go_on parts p.queues.stores new s.addresses on;
+      point = point_resolves p.point p.next p.window i e s.point h w;
+    }
+
+-- ---- entries go
+
+queues_cut : (first : ℕ) (w : List Entry) (q : Queues) → Rise w → StandFor q w →
+    StandFor (record q { loads = filter (λ l. nat_lt l first) q.loads; stores = filter (λ s. nat_lt s.serial first) q.stores }) (below first w)
+queues_cut first w q r s = let t = splits first w r in cut_stands q first (below first w) t.gone (subst (StandFor q) t.whole s) t.older t.younger
+
+pub stands_dropped : DropsYounger
+stands_dropped p i e s h l =
+    let parts = table_and_stations p in
+    let first = e.serial + 1 in
+    record {
+      stand = squashes_from parts first s.stand;
+      writers = writers_squash parts p.writers first s.stand s.writers;
+      queues = queues_cut first p.window p.queues s.stand.rise s.queues;
+      addresses = addresses_squash parts p.queues.stores first s.stand s.addresses;
+      point = point_squashes p.point p.next p.window i e s.point s.stand.rise h l;
+    }
+
+-- none of those that are younger has its serial
+younger_differ : (e : Entry) (es : List Entry) → All (λ d. e.serial < d.serial) es → Others e.serial es
+younger_differ e es a = All-weaker (λ (d : Entry). e.serial < d.serial) (λ (d : Entry). d.serial ≢ e.serial) (λ d l. omega (arith, l)) es a
+
+queues_pop : (w : List Entry) (head : Entry) (q : Queues) → slice_get w 0 ≡ Some head → Rise w → StandFor q w →
+    StandFor (record q { loads = filter (λ l. not (l == head.serial)) q.loads; stores = filter (λ s. not (s.serial == head.serial)) q.stores }) (drop 1 w)
+queues_pop [] head q h r s = absurd (cc)
+queues_pop (x ∷ es) head q h r s =
+    let same : x ≡ head = cc in
+    subst (λ (h : Entry). StandFor (record q { loads = filter (λ l. not (l == h.serial)) q.loads; stores = filter (λ s. not (s.serial == h.serial)) q.stores }) es) same (pop_stands q x es s (younger_differ x es (rise_head x es r)))
+
+pub stands_retired : RetiresHead
+stands_retired p head s h d =
+    let parts = table_and_stations p in
+    record {
+      stand = retires_head parts head s.stand h d;
+      writers = writers_retire parts p.writers s.stand s.writers;
+      queues = queues_pop p.window head p.queues h s.stand.rise s.queues;
+      addresses = addresses_retire parts p.queues.stores head s.stand s.addresses h;
+      point = point_retires p.point p.next p.window s.point;
+    }
+
+-- ---- the point
+
+pub stands_moved : PointMoves
+stands_moved p s = record {
+  stand = s.stand;
+  writers = s.writers;
+  queues = s.queues;
+  addresses = s.addresses;
+  point = point_advances p.point p.next p.window s.point s.stand.rise s.stand.next;
+}
+
+pub stops_at : PointStops
+stops_at p i e s h c r = point_stops p.point p.next p.window i e s.point h c r

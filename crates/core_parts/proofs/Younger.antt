@@ -1,0 +1,134 @@
+-- The parts once all that is younger than an entry is gone.
+use Rattle.std.proofs.Common.{◌≡◌, ℕ, ◌+◌, ◌<◌, ◌≤◌, List, [], ◌∷◌, ◌++◌, length, take, Option, refl, ap, sym, ◌∙◌, subst, arith}
+use Rattle.std.specs.Prelude.{◌^◌, ◌-◌, nat_lt}
+use Rattle.std.specs.List.{All, AllByRecursion as Each, filter}
+use Rattle.std.proofs.lemmas.List.{length-append}
+use Rattle.circular_buffer.specs.Buffer.{Buffer, buffer}
+use Rattle.machine_desc.specs.declared.Desc.{Desc}
+use Rattle.window_model.specs.declared.Entry.{Entry}
+use Rattle.window_model.specs.Resolve.{freed_from}
+use Rattle.window_model.specs.declared.Divider.{Divider}
+use Rattle.window_model.specs.State.{Machine}
+use Rattle.window_model.proofs.Counts.{Evolves, evolves_thins, goes_same}
+use Rattle.window_model.proofs.Lists.{each_left}
+use Rattle.machine_facts.specs.Sized.{Sized}
+use Rattle.machine_facts.proofs.Parts.{IsEntry, WindowFits, parts, whole}
+use Rattle.machine_facts.proofs.SizedWindow.{thinner}
+use Rattle.rob_ring.specs.Ring.{Ring, below}
+use Rattle.rename_taint.specs.declared.Write.{Write}
+use Rattle.rename_taint.specs.Writes.{before_serial}
+use Rattle.stations.specs.Stations.{Stations}
+use Rattle.lsq.specs.Queues.{Queues}
+use Rattle.unit_ports.specs.Ports.{Ports}
+use Rattle.fetch_unit.specs.Front.{Front}
+use Rattle.visibility.specs.Point.{Point}
+use Rattle.window_model.proofs.Serials.{all_at, splits}
+use Rattle.core_parts.specs.Described.{Described}
+use Rattle.core_parts.specs.Held.{Held, Whole, described, in_flight, machine_of}
+use Rattle.core_parts.specs.Stands.{Stands}
+use Rattle.core_parts.specs.Dropped.{StopsAt, cut_after}
+use Rattle.core_parts.specs.Steps.{below_serial}
+use Rattle.core_parts.proofs.Steps.{stands_dropped}
+
+-- ---- a window that is cut has no more of anything
+
+evolves_left : (a b : List Entry) → Evolves (a ++ b) a
+evolves_left [] b = tt
+evolves_left (e ∷ a) b = (goes_same e, evolves_left a b)
+
+pub sized_dropped : (d : Desc) (x : Machine) (a b : List Entry) (pc : Option ℕ) (v : Divider) → x.window ≡ a ++ b → Sized d x → Sized d (record x { window = a; queue = []; fetch_pc = pc; divider = v })
+sized_dropped d x a b pc v e s =
+    let f = parts d x s in
+    whole d (record x { window = a; queue = []; fetch_pc = pc; divider = v }) (record {
+      window = thinner d (a ++ b) a (evolves_thins (a ++ b) a (evolves_left a b)) (subst (WindowFits d) e f.window);
+      entries = each_left (IsEntry x.ram) a b (subst (Each (IsEntry x.ram)) e f.entries);
+      queue = record { queue = omega arith; item_kinds = tt };
+      predictor = f.predictor;
+      cache = f.cache;
+      misses = f.misses;
+      registers = f.registers;
+    })
+
+-- ---- what each part is left with
+
+pub record Dropped (h : Held) (serial : ℕ) (next : Option ℕ) (rob : Ring) (roots writers : Buffer (List (Option ℕ))) (writes : List Write) (room : ℕ) (stations : Stations) (q : Queues) (ports : Ports) (front : Front) : Type 0 where
+  pub window : rob ≡ record (h.rob) { entries = below (serial + 1) h.rob.entries }
+  pub pairs : roots ≡ buffer (take (length rob.entries) h.roots.items) h.roots.capacity
+  pub sources : writers ≡ buffer (take (length rob.entries) h.writers.items) h.writers.capacity
+  pub table : writes ≡ before_serial (serial + 1) h.writes
+  pub same_room : room ≡ h.table_room
+  pub places : stations ≡ record (h.stations) { held = filter (λ s. nat_lt s.serial (serial + 1)) h.stations.held }
+  pub loads_and_stores : q ≡ record (h.queues) { loads = filter (λ l. nat_lt l (serial + 1)) h.queues.loads; stores = filter (λ s. nat_lt s.serial (serial + 1)) h.queues.stores }
+  pub divider : ports ≡ record (h.ports) { divider = freed_from (serial + 1) h.ports.divider }
+  pub fetches : front ≡ record (h.front) { queue = []; fetch_pc = next }
+
+-- all parts, so cut
+abbrev pub dropped : Held → ℕ → Option ℕ → Held
+dropped h serial next = record h {
+  rob = record (h.rob) { entries = below (serial + 1) h.rob.entries };
+  roots = buffer (take (length (below (serial + 1) h.rob.entries)) h.roots.items) h.roots.capacity;
+  writers = buffer (take (length (below (serial + 1) h.rob.entries)) h.writers.items) h.writers.capacity;
+  writes = before_serial (serial + 1) h.writes;
+  stations = record (h.stations) { held = filter (λ s. nat_lt s.serial (serial + 1)) h.stations.held };
+  queues = record (h.queues) { loads = filter (λ l. nat_lt l (serial + 1)) h.queues.loads; stores = filter (λ s. nat_lt s.serial (serial + 1)) h.queues.stores };
+  ports = record (h.ports) { divider = freed_from (serial + 1) h.ports.divider };
+  front = record (h.front) { queue = []; fetch_pc = next };
+}
+
+dropped_whole : (h : Held) (serial : ℕ) (next : Option ℕ) → Whole h → StopsAt serial h.point h.rob.entries → Whole (dropped h serial next)
+dropped_whole h serial next w s =
+    let t = splits (serial + 1) h.rob.entries w.stands.stand.rise in
+    record {
+      sized = sized_dropped h.desc (machine_of h) (below (serial + 1) h.rob.entries) t.gone next (freed_from (serial + 1) h.ports.divider) t.whole w.sized;
+      stands =
+          subst (λ n. Stands (below_serial (n + 1) (in_flight h))) s.is
+          (stands_dropped (in_flight h) s.position s.entry w.stands s.here (subst (λ n. h.point.serial ≤ n) (sym s.is) s.not_past));
+      made = w.made;
+    }
+
+module _ (h : Held) (serial : ℕ) (next : Option ℕ) (rob : Ring) (roots writers : Buffer (List (Option ℕ))) (writes : List Write) (room : ℕ) (stations : Stations) (q : Queues) (ports : Ports) (front : Front)
+    (w : Whole h) (l : Dropped h serial next rob roots writers writes room stations q ports front) where
+  are : record h { rob = rob; roots = roots; writers = writers; writes = writes; table_room = room; stations = stations; queues = q; ports = ports; front = front } ≡ dropped h serial next
+  are =
+      let e1 = l.window in
+      let e2 = l.pairs in
+      let e3 = l.sources in
+      let e4 = l.table in
+      let e5 = l.same_room in
+      let e6 = l.places in
+      let e7 = l.loads_and_stores in
+      let e8 = l.divider in
+      let e9 = l.fetches in
+      let n = ap (λ (r : Ring). length r.entries) l.window in
+      cc
+
+  pub drop_whole : StopsAt serial h.point h.rob.entries → Whole (record h { rob = rob; roots = roots; writers = writers; writes = writes; table_room = room; stations = stations; queues = q; ports = ports; front = front })
+  drop_whole s = subst Whole (sym are) (dropped_whole h serial next w s)
+
+  pub drop_shown : (v : Described) → described h ≡ v →
+      described (record h { rob = rob; roots = roots; writers = writers; writes = writes; table_room = room; stations = stations; queues = q; ports = ports; front = front })
+      ≡ record v { machine = cut_after serial next v.machine }
+  drop_shown v s =
+      ap described are
+      ∙ ap (λ (v : Described). record v { machine = cut_after serial next v.machine }) s
+
+-- ---- what is asked
+
+-- the serial after it fits
+pub serial_fits : (h : Held) (v : Described) (serial : ℕ) → Whole h → described h ≡ v → StopsAt serial v.point v.machine.window → h.next_serial < 2 ^ 64 → serial + 1 < 2 ^ 64
+serial_fits h v serial w s t n =
+    let t2 : StopsAt serial h.point h.rob.entries = subst (λ (v : Described). StopsAt serial v.point v.machine.window) (sym s) t in
+    let l = all_at (λ (e : Entry). e.serial < h.next_serial) h.rob.entries t2.position t2.entry w.stands.stand.next t2.here in
+    omega (arith, l, n, t2.is)
+
+pub stops_here : (h : Held) (v : Described) (serial : ℕ) → Whole h → described h ≡ v → StopsAt serial v.point v.machine.window → StopsAt serial h.point h.rob.entries
+stops_here h v serial w s t = subst (λ (v : Described). StopsAt serial v.point v.machine.window) (sym s) t
+
+-- all of them can be counted
+pub few_dropped : (h : Held) → Whole h → length h.rob.entries + length h.front.queue < 2 ^ 32
+few_dropped h w =
+    let a = w.sized.entries in
+    let b = w.sized.queue in
+    let c = h.desc.few_entries in
+    let d = h.desc.short_queue in
+    omega (arith, a, b, c, d)

@@ -1,0 +1,147 @@
+-- What the parts of a core hold, of which machine they are, and what holds of them in every state (docs/machine.md, "State",
+-- docs/architecture.md, "How they stand for it").
+use Rattle.std.specs.Prelude.{◌≡◌, ℕ, List, Option}
+use Rattle.circular_buffer.specs.Buffer.{Buffer}
+use Rattle.rv_types.specs.Memory.{Ram}
+use Rattle.rv_types.specs.declared.End.{End}
+use Rattle.elf_loader.specs.Code.{CodeText}
+use Rattle.machine_desc.specs.declared.Desc.{Desc}
+use Rattle.machine_desc.specs.declared.SttModel.{SttModel}
+use Rattle.window_model.specs.State.{Machine}
+use Rattle.machine_facts.specs.Sized.{Sized}
+use Rattle.rob_ring.specs.Ring.{Ring}
+use Rattle.rename_taint.specs.declared.Write.{Write}
+use Rattle.stations.specs.Stations.{Stations}
+use Rattle.lsq.specs.Queues.{Queues}
+use Rattle.cache_tags.specs.Sets.{Cache}
+use Rattle.mshr_file.specs.Registers.{Registers}
+use Rattle.unit_ports.specs.Ports.{Ports}
+use Rattle.predictor.specs.Tables.{Tables}
+use Rattle.fetch_unit.specs.Front.{Front}
+use Rattle.visibility.specs.Point.{Point}
+use Rattle.core_parts.specs.Described.{Described}
+use Rattle.core_parts.specs.Stands.{InFlight, Stands}
+
+-- all parts
+pub record Held : Type 0 where
+  pub desc : Desc
+  pub code : CodeText
+  pub cycle : ℕ
+  pub regs : List ℕ
+  pub pc : ℕ
+  pub ram : Ram
+  pub rob : Ring
+  -- at each entry's position the youngest roots of its sources, and their writers
+  pub roots : Buffer (List (Option ℕ))
+  pub writers : Buffer (List (Option ℕ))
+  -- the rename table's writes, and for how many it has room
+  pub writes : List Write
+  pub table_room : ℕ
+  pub stations : Stations
+  pub queues : Queues
+  pub tags : Cache
+  pub mshrs : Registers
+  pub ports : Ports
+  pub tables : Tables
+  pub front : Front
+  pub point : Point
+  pub retired : ℕ
+  pub next_serial : ℕ
+  pub end : Option End
+
+-- the machine that they hold
+abbrev pub machine_of : Held → Machine
+machine_of h = record {
+  cycle = h.cycle;
+  regs = h.regs;
+  pc = h.pc;
+  ram = h.ram;
+  window = h.rob.entries;
+  queue = h.front.queue;
+  fetch_pc = h.front.fetch_pc;
+  counters = h.tables.counters;
+  targets = h.tables.targets;
+  cache = h.tags.sets;
+  misses = h.mshrs.misses;
+  divider = h.ports.divider;
+  retired = h.retired;
+  next_serial = h.next_serial;
+  end = h.end;
+}
+
+-- with its description, its code and its point
+abbrev pub described : Held → Described
+described h = record { desc = h.desc; code = h.code; machine = machine_of h; point = h.point }
+
+-- what they hold of the entries in flight
+abbrev pub in_flight : Held → InFlight
+in_flight h = record {
+  next = h.next_serial;
+  window = h.rob.entries;
+  roots = h.roots.items;
+  writers = h.writers.items;
+  writes = h.writes;
+  held = h.stations.held;
+  queues = h.queues;
+  point = h.point;
+}
+
+-- how large each part is, and for which description it was made
+pub record Sizes : Type 0 where
+  pub entries : ℕ
+  pub pairs : ℕ
+  pub writers : ℕ
+  pub writes : ℕ
+  pub places : ℕ
+  pub loads : ℕ
+  pub stores : ℕ
+  pub registers : ℕ
+  pub tags : Desc
+  pub tables : Desc
+  pub front : Desc
+  pub alus : ℕ
+  pub model : SttModel
+
+abbrev pub sizes : Held → Sizes
+sizes h = record {
+  entries = h.rob.room;
+  pairs = h.roots.capacity;
+  writers = h.writers.capacity;
+  writes = h.table_room;
+  places = h.stations.room;
+  loads = h.queues.max_loads;
+  stores = h.queues.max_stores;
+  registers = h.mshrs.room;
+  tags = h.tags.desc;
+  tables = h.tables.desc;
+  front = h.front.desc;
+  alus = h.ports.alus;
+  model = h.point.model;
+}
+
+-- those of a description
+abbrev pub sizes_for : Desc → Sizes
+sizes_for d = record {
+  entries = d.core_rob;
+  pairs = d.core_rob;
+  writers = d.core_rob;
+  writes = d.core_rob;
+  places = d.core_stations;
+  loads = d.core_loads;
+  stores = d.core_stores;
+  registers = d.cache_mshrs;
+  tags = d;
+  tables = d;
+  front = d;
+  alus = d.units_alus;
+  model = d.stt_model;
+}
+
+-- what holds of them in every state
+pub record Whole (h : Held) : Type 0 where
+  -- each part holds at most what the description says
+  pub sized : Sized h.desc (machine_of h)
+  -- what stands beside the window so that it needn't be searched stands for it
+  pub stands : Stands (in_flight h)
+  -- and each part is made for the description
+  pub made : sizes h ≡ sizes_for h.desc

@@ -1,0 +1,137 @@
+-- What becomes of the parts in each step of a cycle, and that they go on to stand for the window (docs/architecture.md, "How they
+-- stand for it").
+use Rattle.std.specs.Prelude.{◌≡◌, ℕ, ◌+◌, ◌≤◌, not, ◌==◌, nat_lt, true, false, List, [], ◌∷◌, ◌++◌, length, map, reverse, take, drop, slice_get, slice_set, Option, Some, None, if◌then◌else◌}
+use Rattle.std.specs.List.{filter, remove}
+use Rattle.std.specs.Option.{option_to_list}
+use Rattle.rv_types.specs.Regs.{two}
+use Rattle.rv_types.specs.Value.{bytes_in}
+use Rattle.rv_types.specs.declared.Width.{Width}
+use Rattle.rv_types.specs.declared.Kind.{Kind}
+use Rattle.rv_types.specs.declared.Kind.TheVariants.{Load, Store}
+use Rattle.machine_desc.specs.declared.Desc.{Desc}
+use Rattle.window_model.specs.declared.Entry.{Entry}
+use Rattle.window_model.specs.declared.Outcome.{Outcome}
+use Rattle.window_model.specs.declared.Progress.TheVariants.{Done}
+use Rattle.window_model.specs.Issue.{begun}
+use Rattle.window_model.specs.Order.{is_control, is_done, is_store, is_waiting, sources}
+use Rattle.window_model.specs.Retire.{width_of}
+use Rattle.rob_ring.specs.Ring.{below}
+use Rattle.rename_taint.specs.Writes.{before_serial, root_at, without_retired}
+use Rattle.stations.specs.Stations.{struck}
+use Rattle.lsq.specs.Queues as queues
+use Rattle.lsq.specs.Queues.{Queues, known_at}
+use Rattle.lsq.specs.declared.store.Store.{Store as Queued}
+use Rattle.queue_laws.specs.Window.{known_of}
+use Rattle.visibility.specs.Point.{moved_over}
+use Rattle.parts_stand.specs.Parts.{awaits_of, write_of}
+use Rattle.parts_stand.specs.Addresses.{base_root}
+use Rattle.parts_stand.specs.Steps.{seated, station_of}
+use Rattle.parts_stand.specs.Writers.{named}
+use Rattle.core_parts.specs.Stands.{InFlight, Stands}
+
+-- ---- before the first cycle
+
+abbrev pub empty : Desc → InFlight
+empty d = record { next = 0; window = []; roots = []; writers = []; writes = []; held = []; queues = queues.empty d; point = record { serial = 0; model = d.stt_model } }
+
+abbrev pub OpensEmpty : Type 0
+OpensEmpty = (d : Desc) → Stands (empty d)
+
+-- ---- an entry is renamed
+
+-- the queues with a load or store more, with the youngest root of its address
+abbrev pub queued : Kind → ℕ → Option ℕ → Queues → Queues
+queued Load serial root q = record q { loads = q.loads ++ serial ∷ [] }
+queued Store serial root q = record q { stores = q.stores ++ record { serial = serial; root = root; known = None } ∷ [] }
+queued _ serial root q = q
+
+-- with the roots and writers that the table names for its sources, what they await, and a place for its station
+abbrev pub with_entry : ℕ → List (Option ℕ) → List (Option ℕ) → List (Option ℕ) → Entry → InFlight → InFlight
+with_entry place roots writers awaits e p = record p {
+  next = p.next + 1;
+  window = p.window ++ e ∷ [];
+  roots = p.roots ++ roots ∷ [];
+  writers = p.writers ++ writers ∷ [];
+  writes = p.writes ++ option_to_list (write_of e roots);
+  held = seated place awaits e p.held;
+  queues = queued e.item.kind e.serial (base_root roots) p.queues;
+}
+
+-- it has the next serial, and isn't resolved; a store waits
+pub record Fresh (p : InFlight) (e : Entry) : Type 0 where
+  pub serial : e.serial ≡ p.next
+  pub unresolved : e.resolved ≡ false
+  pub waits : e.item.kind ≡ Store → is_waiting e.state ≡ true
+
+abbrev pub RenamesIn : Type 0
+RenamesIn = (p : InFlight) (e : Entry) (roots writers awaits : List (Option ℕ)) (place : ℕ) → Stands p → Fresh p e → roots ≡ map (root_at p.writes) (two (sources e)) →
+    writers ≡ map (named p.writes) (two (sources e)) → awaits ≡ awaits_of (reverse p.window) e → Stands (with_entry place roots writers awaits e p)
+
+-- ---- the entry at a position goes on
+
+-- it begins, and its station is freed
+abbrev pub with_begun : ℕ → ℕ → Outcome → Entry → InFlight → InFlight
+with_begun i due o e p = record p { window = slice_set p.window i (begun e due o); held = remove p.held (station_of i p.window) }
+
+abbrev pub BeginsAt : Type 0
+BeginsAt = (p : InFlight) (i due : ℕ) (e : Entry) (o : Outcome) → Stands p → slice_get p.window i ≡ Some e → is_waiting e.state ≡ true → Stands (with_begun i due o e p)
+
+-- it becomes Done: no station awaits it any more, and what it writes is known, if it is a store, with the width of its access
+abbrev pub known_with : Width → Entry → List Queued → List Queued
+known_with w e stores = if is_store e.item.kind then map (known_at e.serial (known_of w e)) stores else stores
+
+abbrev pub with_done : ℕ → Width → Entry → InFlight → InFlight
+with_done i w e p = record p {
+  window = slice_set p.window i (record e { state = Done });
+  held = map (struck e.serial) p.held;
+  queues = record (p.queues) { stores = known_with w e p.queues.stores };
+}
+
+abbrev pub CompletesAt : Type 0
+CompletesAt = (p : InFlight) (i : ℕ) (e : Entry) (w : Width) → Stands p → slice_get p.window i ≡ Some e → is_waiting e.state ≡ false → bytes_in w ≡ width_of e → Stands (with_done i w e p)
+
+-- it is marked as resolved
+abbrev pub with_resolved : ℕ → Entry → InFlight → InFlight
+with_resolved i e p = record p { window = slice_set p.window i (record e { resolved = true }) }
+
+abbrev pub ResolvesAt : Type 0
+ResolvesAt = (p : InFlight) (i : ℕ) (e : Entry) → Stands p → slice_get p.window i ≡ Some e → is_waiting e.state ≡ false → Stands (with_resolved i e p)
+
+-- ---- entries go
+
+-- those from a serial on
+abbrev pub below_serial : ℕ → InFlight → InFlight
+below_serial first p = record p {
+  window = below first p.window;
+  roots = take (length (below first p.window)) p.roots;
+  writers = take (length (below first p.window)) p.writers;
+  writes = before_serial first p.writes;
+  held = filter (λ s. nat_lt s.serial first) p.held;
+  queues = record (p.queues) { loads = filter (λ l. nat_lt l first) p.queues.loads; stores = filter (λ s. nat_lt s.serial first) p.queues.stores };
+}
+
+-- all that is younger than an entry which the point isn't past
+abbrev pub DropsYounger : Type 0
+DropsYounger = (p : InFlight) (i : ℕ) (e : Entry) → Stands p → slice_get p.window i ≡ Some e → p.point.serial ≤ e.serial → Stands (below_serial (e.serial + 1) p)
+
+-- the oldest
+abbrev pub without_head : Entry → InFlight → InFlight
+without_head head p = record p {
+  window = drop 1 p.window;
+  roots = drop 1 p.roots;
+  writers = drop 1 p.writers;
+  writes = without_retired head.serial p.writes;
+  queues = record (p.queues) { loads = filter (λ l. not (l == head.serial)) p.queues.loads; stores = filter (λ s. not (s.serial == head.serial)) p.queues.stores };
+}
+
+abbrev pub RetiresHead : Type 0
+RetiresHead = (p : InFlight) (head : Entry) → Stands p → slice_get p.window 0 ≡ Some head → is_done head.state ≡ true → Stands (without_head head p)
+
+-- ---- the point moves
+
+abbrev pub PointMoves : Type 0
+PointMoves = (p : InFlight) → Stands p → Stands (record p { point = moved_over p.window p.point })
+
+-- it stops at a branch or JALR that isn't resolved
+abbrev pub PointStops : Type 0
+PointStops = (p : InFlight) (i : ℕ) (e : Entry) → Stands p → slice_get p.window i ≡ Some e → is_control e.item.kind ≡ true → e.resolved ≡ false → p.point.serial ≤ e.serial

@@ -1,0 +1,60 @@
+//! The parts that are lent: what each tells of the machine.
+ghost use Rattle.std.specs.Prelude.{◌≡◌, ◌<◌, length};
+ghost use Rattle.queue_laws.specs.Window.{StandFor};
+ghost use Rattle.core_parts.specs.Lent.{HasAddressRoots, HasRoots, HoldsWaiting, NamesRoots, NamesWriters, TellsReady};
+
+use crate::parts::Parts;
+use lsq::Lsq;
+use rename_taint::RenameTaint;
+use rob_ring::{RobRing, pair_at};
+use stations::Stations;
+use visibility::VisPoint;
+
+impl<R: RenameTaint> Parts<R> {
+    /// The reorder buffer: it has the window.
+    pub fn rob(&self) -> &RobRing
+        ensures { result.now.entries ≡ self.now.machine.window }
+    {
+        &self.rob
+    }
+
+    /// The rename table: it names each register's writer, and its youngest root.
+    pub fn table(&self) -> &R
+        ensures writers { NamesWriters (R.writes result.now) self.now.machine.window }
+        ensures roots { NamesRoots self.now.machine.next_serial (R.writes result.now) self.now.machine.window }
+    {
+        &self.table
+    }
+
+    /// The stations: they hold the entries that wait, and tell which are ready.
+    pub fn stations(&self) -> &Stations
+        ensures waiting { HoldsWaiting result.now self.now.machine.window }
+        ensures ready { TellsReady result.now self.now.machine.window }
+    {
+        &self.stations
+    }
+
+    /// The queues: they hold the window's loads and stores by age, the stores with the youngest roots of their addresses.
+    pub fn lsq(&self) -> &Lsq
+        ensures queues { StandFor result.now self.now.machine.window }
+        ensures roots { HasAddressRoots self.now.machine.next_serial result.now.stores self.now.machine.window }
+    {
+        &self.lsq
+    }
+
+    /// The visibility point.
+    pub fn point(&self) -> &VisPoint
+        ensures same { result.now ≡ self.now.point }
+        ensures model { result.now.model ≡ self.now.desc.stt_model }
+    {
+        &self.point
+    }
+
+    /// The pair of youngest roots at a position.
+    pub fn yrot_at(&self, i: u32) -> [Option<u64>; 2]
+        requires { i < length self.now.machine.window }
+        ensures { HasRoots self.now.machine.next_serial self.now.machine.window i result }
+    {
+        pair_at(&self.roots, i)
+    }
+}

@@ -1,0 +1,26 @@
+//! The steps that are no phase: the cycle is counted, and the visibility point moves.
+ghost use Rattle.std.specs.Prelude.{◌≡◌, ◌<◌, ◌+◌, ◌-◌, ◌^◌};
+ghost use Rattle.visibility.specs.Point.{HasAdvanced, moved_over};
+
+use crate::parts::Parts;
+use rename_taint::RenameTaint;
+
+impl<R: RenameTaint> Parts<R> {
+    /// The next cycle begins.
+    pub fn begin(&mut self)
+        requires few { self.old.machine.cycle < 2 ^ 32 - 1 }
+        ensures { self.new ≡ record self.old {
+          machine = record self.old.machine { cycle = self.old.machine.cycle + 1 };
+        } }
+    {
+        self.cycle += 1;
+    }
+
+    /// The point moves over the window: then it says which entries are visible.
+    pub fn advance(&mut self)
+        ensures moved { self.new ≡ record self.old { point = moved_over self.old.machine.window self.old.point } }
+        ensures advanced { HasAdvanced self.new.point self.new.machine.window }
+    {
+        self.point.advance(&self.rob);
+    }
+}

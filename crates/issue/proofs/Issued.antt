@@ -1,0 +1,120 @@
+-- The phase leaves parts that hold what the machine then holds, and stand for it.
+use Rattle.std.proofs.Common.{◌≡◌, ℕ, ◌<◌, ◌≤◌, length, [], map, ap, sym, ◌∙◌, subst, arith}
+use Rattle.std.specs.List.{flat_map}
+use Rattle.std.specs.Option.{option_map}
+use Rattle.machine_desc.proofs.EveryDesc.{every_desc}
+use Rattle.window_model.specs.declared.Divider.{Divider}
+use Rattle.window_model.specs.Around.{Around}
+use Rattle.window_model.specs.Issue.{DivPort, LoadPort, access_of, issue, issue_entry, may_at, taken_for}
+use Rattle.window_model.specs.Order.{each, first}
+use Rattle.window_model.specs.State.{Machine}
+use Rattle.window_model.specs.Row.{Row, most_issued, with_events}
+use Rattle.machine_facts.specs.Sized.{Sized}
+use Rattle.machine_facts.proofs.SizedPhases.{sized_issue}
+use Rattle.rob_ring.specs.Ring.{Ring}
+use Rattle.stations.specs.Stations.{Stations}
+use Rattle.cache_tags.specs.Sets.{Cache}
+use Rattle.mshr_file.specs.Registers.{Registers}
+use Rattle.unit_ports.specs.Ports.{Ports, begun_at}
+use Rattle.unit_ports.specs.Laws.{LeftAfter}
+use Rattle.unit_ports.proofs.Granting.{left_first}
+use Rattle.visibility.specs.Point.{HasAdvanced}
+use Rattle.core_parts.specs.Described.{Described}
+use Rattle.core_parts.specs.Held.{Held, Sizes, Whole, described, in_flight, machine_of, sizes}
+use Rattle.core_parts.specs.Stands.{InFlight, Stands}
+use Rattle.core_parts.proofs.Whole.{shown_by, told_by}
+use Rattle.issue.specs.declared.decide.Decided.{Decided}
+use Rattle.issue.specs.Accesses.{as_access}
+use Rattle.issue.specs.Decisions.{Decides}
+use Rattle.issue.specs.Parts.{holding}
+use Rattle.issue.specs.Ports.{left_in_all}
+use Rattle.issue.specs.Puts.{placed}
+use Rattle.issue.specs.Shared.{HasUser, IsMiss, cache_left, divider_left, misses_left}
+use Rattle.issue.proofs.Advanced.{issue_advanced}
+use Rattle.issue.proofs.Leaving.{has_room, has_user, leaves}
+
+-- ---- before the phase
+
+-- the point said which entries are visible
+pub advanced : (h : Held) (v : Described) → Whole h → described h ≡ v → HasAdvanced v.point v.machine.window → HasAdvanced h.point h.rob.entries
+advanced h v w s a = subst (λ (v : Described). HasAdvanced v.point v.machine.window) (sym s) a
+
+-- as the cycle of the ports begins at most so many are left
+pub few_left : (h : Held) (cycle : ℕ) (ports : Ports) → Whole h → ports ≡ begun_at cycle h.ports → left_in_all ports ≤ most_issued
+few_left h cycle ports w b =
+    let n = ap left_in_all b in
+    let alus = ap (λ (s : Sizes). s.alus) w.made in
+    let few = (every_desc h.desc).alus.1 in
+    omega (arith, n, alus, few)
+
+-- and all of them are
+pub all_left : (h : Held) (cycle : ℕ) (now : Around) (ports : Ports) → Whole h → ports ≡ begun_at cycle h.ports → LeftAfter h.desc now [] ports
+all_left h cycle now ports w b = subst (LeftAfter h.desc now []) (sym b) (left_first h.desc now cycle h.ports (ap (λ (s : Sizes). s.alus) w.made))
+
+-- the parts stand for the window
+pub standing : (h : Held) → Whole h → (p : InFlight) × Stands (holding h.rob h.stations p)
+standing h w = (in_flight h, w.stands)
+
+-- what an entry looks at, with this divider
+abbrev pub now_with : Held → Divider → Around
+now_with h v = record { cycle = h.cycle; regs = h.regs; ram = h.ram; cache = h.tags.sets; misses = h.mshrs.misses; free_from = v.free_from }
+
+-- what is decided for what is seen is decided for the machine
+pub decides : (h : Held) (v : Divider) (decided : Decided) → Whole h → v ≡ h.ports.divider →
+    placed decided.puts.items h.rob.entries ≡ map (λ b. b.entry) (each (issue_entry h.desc (now_with h v)) h.rob.entries) →
+    option_map as_access decided.load ≡ option_map (λ p. access_of h.desc (now_with h v) p.before p.entry) (first (may_at h.desc (now_with h v) LoadPort) h.rob.entries) →
+    decided.division ≡ option_map (λ p. taken_for (now_with h v) p.before p.entry) (first (may_at h.desc (now_with h v) DivPort) h.rob.entries) → Decides h.desc (machine_of h) decided
+decides h v decided w q a b c = subst (λ (v : Divider). Decides h.desc (record (machine_of h) { divider = v }) decided) q (record { window = a; load = b; division = c })
+
+-- a load takes a register where one is left, and a division is its divider's user
+pub register_left : (h : Held) (decided : Decided) → Whole h → Decides h.desc (machine_of h) decided → IsMiss decided.load → length h.mshrs.misses < h.mshrs.room
+register_left h decided w k m = subst (λ n. length h.mshrs.misses < n) (sym (ap (λ (s : Sizes). s.registers) w.made)) (has_room h.desc (machine_of h) decided k m)
+
+pub user_told : (h : Held) (decided : Decided) → Whole h → Decides h.desc (machine_of h) decided → HasUser decided.division
+user_told h decided w k = has_user h.desc (machine_of h) decided k
+
+-- and so are its events
+pub issued_row : (h : Held) (divider : Divider) (v : Described) (old new : Row) → Whole h → divider ≡ h.ports.divider →
+    new ≡ with_events old (flat_map (λ b. b.events) (each (issue_entry h.desc (now_with h divider)) h.rob.entries)) → described h ≡ v → new ≡ with_events old (issue v.desc v.machine).events
+issued_row h divider v old new w q e s =
+    told_by (λ d x. issue d x) h v old new
+    (subst (λ (v : Divider). new ≡ with_events old (issue h.desc (record (machine_of h) { divider = v })).events) q e) s
+
+-- ---- what the phase leaves
+
+-- the parts that are written hold what the definition leaves
+pub issued_machine : (h : Held) (decided : Decided) (rob : Ring) (stations : Stations) (tags : Cache) (mshrs : Registers) (ports new_ports : Ports) → Whole h → Decides h.desc (machine_of h) decided →
+    rob ≡ record (h.rob) { entries = placed decided.puts.items h.rob.entries } →
+    tags ≡ record (h.tags) { sets = cache_left h.tags.desc (option_map as_access decided.load) h.tags.sets } →
+    mshrs ≡ record (h.mshrs) { misses = misses_left h.desc h.cycle (option_map as_access decided.load) h.mshrs.misses } →
+    ports.divider ≡ h.ports.divider → new_ports ≡ record ports { divider = divider_left decided.division ports.divider } →
+    machine_of (record h { rob = rob; stations = stations; tags = tags; mshrs = mshrs; ports = new_ports }) ≡ (issue h.desc (machine_of h)).machine
+issued_machine h decided rob stations tags mshrs ports new_ports w k r t m v n =
+    leaves h.desc (machine_of h) rob.entries (option_map as_access decided.load) decided.division tags.sets mshrs.misses new_ports.divider
+    (ap (λ (r : Ring). r.entries) r ∙ k.window) k.load k.division
+    (ap (λ (t : Cache). t.sets) t ∙ ap (λ (s : Sizes). cache_left s.tags (option_map as_access decided.load) h.tags.sets) w.made)
+    (ap (λ (m : Registers). m.misses) m)
+    (ap (λ (p : Ports). p.divider) n ∙ ap (divider_left decided.division) v)
+
+module _ (h : Held) (rob : Ring) (stations : Stations) (tags : Cache) (mshrs : Registers) (ports : Ports) where
+  abbrev new : Held
+  new = record h { rob = rob; stations = stations; tags = tags; mshrs = mshrs; ports = ports }
+
+  issued_sizes : rob.room ≡ h.rob.room → stations.room ≡ h.stations.room → tags.desc ≡ h.tags.desc → mshrs.room ≡ h.mshrs.room → ports.alus ≡ h.ports.alus → sizes new ≡ sizes h
+  issued_sizes r s t m p = cc
+
+  pub issued_whole : Whole h → machine_of new ≡ (issue h.desc (machine_of h)).machine → ((p : InFlight) → Stands (holding h.rob h.stations p) → Stands (holding rob stations p)) →
+      rob.room ≡ h.rob.room → stations.room ≡ h.stations.room → tags.desc ≡ h.tags.desc → mshrs.room ≡ h.mshrs.room → ports.alus ≡ h.ports.alus → Whole new
+  issued_whole w f stands r s t m p = record {
+    sized = subst (Sized h.desc) (sym f) (sized_issue h.desc (machine_of h) (every_desc h.desc) w.sized);
+    stands = stands (in_flight h) w.stands;
+    made = issued_sizes r s t m p ∙ w.made;
+  }
+
+  pub issued_shown : (v : Described) → Whole h → machine_of new ≡ (issue h.desc (machine_of h)).machine → described h ≡ v → described new ≡ record v { machine = (issue v.desc v.machine).machine }
+  issued_shown v w f s = shown_by (λ d x. (issue d x).machine) h (machine_of new) v f s
+
+  -- and the point goes on to say which entries are visible
+  pub issued_advanced : (v : Described) → Whole h → machine_of new ≡ (issue h.desc (machine_of h)).machine → described h ≡ v → HasAdvanced v.point v.machine.window → HasAdvanced h.point rob.entries
+  issued_advanced v w f s a =
+      subst (HasAdvanced h.point) (sym (ap (λ (x : Machine). x.window) f)) (issue_advanced h.desc h.point (machine_of h) w.stands.point.unresolved (advanced h v w s a))

@@ -1,0 +1,179 @@
+-- The parts once an entry is marked as resolved and has taught the predictor.
+use Rattle.std.proofs.Common.{◌≡◌, ℕ, zero, suc, ◌+◌, ◌-◌, ◌<◌, ◌≤◌, true, List, [], ◌∷◌, ◌++◌, length, Option, Some, None, refl, ap, ap₂, sym, ◌∙◌, subst, arith, slice_get}
+use Rattle.std.specs.Prelude.{slice_set}
+use Rattle.std.proofs.lemmas.List.{append-nil, append_assoc}
+use Rattle.std.specs.Option.{option_map}
+use Rattle.std.specs.List.{AllByRecursion as Each}
+use Rattle.machine_desc.specs.declared.Desc.{Desc}
+use Rattle.window_model.specs.declared.Entry.{Entry}
+use Rattle.window_model.specs.Order.{Place, first, is_waiting}
+use Rattle.window_model.specs.Resolve.{learn, may_resolve, resolve, resolve_at}
+use Rattle.window_model.specs.Row.{Row}
+use Rattle.window_model.specs.declared.Event.TheVariants as event
+use Rattle.window_model.specs.State.{After, Machine}
+use Rattle.window_model.proofs.Booleans.{done_waits}
+use Rattle.window_model.proofs.Counts.{evolves_thins}
+use Rattle.window_model.proofs.Places.{found}
+use Rattle.window_model.proofs.Resolving.{MayResolve, resolve_parts, resolved_goes}
+use Rattle.machine_facts.specs.Sized.{Sized}
+use Rattle.machine_facts.proofs.Parts.{IsEntry, parts, whole}
+use Rattle.machine_facts.proofs.SizedPhases.{learns_in}
+use Rattle.machine_facts.proofs.SizedWindow.{thinner}
+use Rattle.rob_ring.specs.Ring.{Ring, below}
+use Rattle.predictor.specs.Tables.{Tables}
+use Rattle.visibility.specs.Point.{HasAdvanced}
+use Rattle.branch_resolve.specs.Effect.{resolution_of, taught, told}
+use Rattle.branch_resolve.specs.declared.effect.Resolution.TheVariants.{Right}
+use Rattle.branch_resolve.specs.Pick.{pick_from}
+use Rattle.parts_stand.proofs.Answering.{counts_room, picks_first}
+use Rattle.parts_stand.proofs.Writing.{counts_writers}
+use Rattle.core_parts.specs.Described.{Described}
+use Rattle.core_parts.specs.Held.{Held, Sizes, Whole, described, in_flight, machine_of, sizes}
+use Rattle.core_parts.specs.Dropped.{StopsAt, cut_after, younger_count}
+use Rattle.core_parts.proofs.Sizes.{each_set, evolves_set}
+use Rattle.core_parts.proofs.Steps.{stands_resolved, stops_at}
+use Rattle.resolve.specs.Taken.{resolving, true_next}
+use Rattle.resolve.proofs.Effects.{marked, resolved_one, right_is, wrong_is}
+use Rattle.window_model.specs.Serials.{Rise}
+use Rattle.resolve.proofs.Picked.{Taken, picked, inside, taken}
+
+-- ---- what is asked
+
+pub picks : (h : Held) (v : Described) (o : Option ℕ) → Whole h → described h ≡ v → HasAdvanced v.point v.machine.window → o ≡ pick_from h.point.serial 0 h.rob.entries h.roots.items → o ≡ resolving v.desc v.machine.window
+picks h v o w s a e =
+    let here : HasAdvanced h.point h.rob.entries = subst (λ (v : Described). HasAdvanced v.point v.machine.window) (sym s) a in
+    e ∙ picks_first h.desc _ h.point w.stands.stand here (ap (λ (s : Sizes). s.model) w.made) ∙ ap (λ (v : Described). resolving v.desc v.machine.window) s
+
+no_place : (d : Desc) (x : Machine) (o : Option Place) → first (may_resolve d) x.window ≡ o → None ≡ option_map (λ (p : Place). length p.before) o → resolve d x ≡ record { machine = x; events = [] }
+no_place d x None q h = ap (λ o. resolve_at d o x) q
+no_place d x (Some p) q h = absurd (cc)
+
+-- where none is taken nothing happens
+pub none_is : (d : Desc) (x : Machine) → None ≡ resolving d x.window → resolve d x ≡ record { machine = x; events = [] }
+none_is d x h = no_place d x (first (may_resolve d) x.window) refl h
+
+pub none_shown : (v : Described) → None ≡ resolving v.desc v.machine.window → v ≡ record v { machine = (resolve v.desc v.machine).machine }
+none_shown v h = ap (λ (a : After). record v { machine = a.machine }) (sym (none_is v.desc v.machine h))
+
+pub none_row : (v : Described) (row : Row) → None ≡ resolving v.desc v.machine.window → row ≡ record row { events = row.events ++ (resolve v.desc v.machine).events }
+none_row v row h = ap (λ es. record row { events = es }) (sym (append-nil row.events)) ∙ ap (λ (a : After). record row { events = row.events ++ a.events }) (sym (none_is v.desc v.machine h))
+
+-- at each position there are roots and writers
+pub each_has : (h : Held) → Whole h → (length h.roots.items ≡ length h.rob.entries) × (length h.writers.items ≡ length h.rob.entries)
+each_has h w = ((counts_room _ w.stands.stand).roots, counts_writers h.next_serial h.rob.entries h.writers.items w.stands.writers)
+
+pub is_inside : (h : Held) (v : Described) (i : ℕ) → Whole h → described h ≡ v → Some i ≡ resolving v.desc v.machine.window → i < length h.rob.entries
+is_inside h v i w s p = subst (λ (v : Described). i < length v.machine.window) (sym s) (inside v.desc v.machine.window i (picked v.desc v.machine.window i p))
+
+-- ---- sizes stay
+
+set_here : (w : List Entry) (i : ℕ) (e e2 : Entry) → slice_get w i ≡ Some e → slice_get (slice_set w i e2) i ≡ Some e2
+set_here [] i e e2 h = absurd (cc)
+set_here (x ∷ w) zero e e2 h = refl
+set_here (x ∷ w) (suc i) e e2 h = set_here w i e e2 h
+
+sized_marked : (d : Desc) (x : Machine) (i : ℕ) (e : Entry) → slice_get x.window i ≡ Some e → Sized d x → Sized d (marked d i e x)
+sized_marked d x i e h s =
+    let f = parts d x s in
+    whole d (marked d i e x) (record {
+      window = thinner d x.window _ (evolves_thins x.window _ (evolves_set x.window i e (resolved_one e) h (resolved_goes e))) f.window;
+      entries = each_set (IsEntry x.ram) x.window i e (resolved_one e) h (λ k. record { kind = k.kind; memory = k.memory; outcome = k.outcome }) f.entries;
+      queue = f.queue;
+      predictor = learns_in d e.item.kind e x.counters x.targets f.predictor;
+      cache = f.cache;
+      misses = f.misses;
+      registers = f.registers;
+    })
+
+-- ---- the parts
+
+-- the entry that is taken may be
+takes : (d : Desc) (w : List Entry) (i : ℕ) (e : Entry) (k : Taken d w i e) → MayResolve d k.before e
+takes d w i e k = resolve_parts d k.before e (found (may_resolve d) [] w (record { before = k.before; entry = e; younger = k.younger }) k.is).has
+
+module _ (h : Held) (v : Described) (i : ℕ) (e : Entry) (rob : Ring) (tables : Tables) (w : Whole h) (s : described h ≡ v) (p : Some i ≡ resolving v.desc v.machine.window) (here : slice_get h.rob.entries i ≡ Some e)
+    (marks : rob ≡ record (h.rob) { entries = slice_set h.rob.entries i (resolved_one e) }) (teaches : tables ≡ taught h.tables e) where
+  there : slice_get v.machine.window i ≡ Some e
+  there = subst (λ (v : Described). slice_get v.machine.window i ≡ Some e) s here
+
+  may : MayResolve h.desc (taken h.desc h.rob.entries i e (subst (λ (v : Described). Some i ≡ resolving v.desc v.machine.window) (sym s) p) here).before e
+  may = takes h.desc h.rob.entries i e (taken h.desc h.rob.entries i e (subst (λ (v : Described). Some i ≡ resolving v.desc v.machine.window) (sym s) p) here)
+
+  are : record h { rob = rob; tables = tables } ≡ record h { rob = record (h.rob) { entries = slice_set h.rob.entries i (resolved_one e) }; tables = taught h.tables e }
+  are = ap₂ (λ (r : Ring) (t : Tables). record h { rob = r; tables = t }) marks teaches
+
+  machine_is : machine_of (record h { rob = record (h.rob) { entries = slice_set h.rob.entries i (resolved_one e) }; tables = taught h.tables e }) ≡ marked h.desc i e (machine_of h)
+  machine_is = ap (λ (s : Sizes). marked s.tables i e (machine_of h)) w.made
+
+  pub marked_whole : Whole (record h { rob = rob; tables = tables })
+  marked_whole = subst Whole (sym are) (record {
+    sized = subst (Sized h.desc) (sym machine_is) (sized_marked h.desc (machine_of h) i e here w.sized);
+    stands = stands_resolved (in_flight h) i e w.stands here (done_waits e.state may.done);
+    made = w.made;
+  })
+
+  pub marked_shown : described (record h { rob = rob; tables = tables }) ≡ record v { machine = marked v.desc i e v.machine }
+  marked_shown =
+      ap described are
+      ∙ ap (λ x. record { desc = h.desc; code = h.code; machine = x; point = h.point }) machine_is
+      ∙ ap (λ (v : Described). record v { machine = marked v.desc i e v.machine }) s
+
+  -- the visibility point stops at it
+  pub marked_stops : h.point.serial ≤ e.serial
+  marked_stops = stops_at (in_flight h) i e w.stands here may.control may.fresh
+
+  told_is : told h.tables e ≡ (learn v.desc e v.machine.counters v.machine.targets).events
+  told_is =
+      ap (λ (s : Sizes). (learn s.tables e h.tables.counters h.tables.targets).events) w.made
+      ∙ ap (λ (v : Described). (learn v.desc e v.machine.counters v.machine.targets).events) s
+
+  -- ---- it was rightly predicted
+
+  module _ (right : resolution_of e ≡ Right) where
+    pub right_shown : described (record h { rob = rob; tables = tables }) ≡ record v { machine = (resolve v.desc v.machine).machine }
+    right_shown = marked_shown ∙ ap (λ (a : After). record v { machine = a.machine }) (sym (right_is v.desc v.machine i e p there right))
+
+    pub right_row : (old new : Row) → new ≡ record old { events = old.events ++ told h.tables e } → new ≡ record old { events = old.events ++ (resolve v.desc v.machine).events }
+    right_row old new t = t ∙ ap (λ es. record old { events = old.events ++ es }) (told_is ∙ sym (ap (λ (a : After). a.events) (right_is v.desc v.machine i e p there right)))
+
+  -- ---- it was not
+
+  module _ (wrong : resolution_of e ≡ Right → ⊥) where
+    rises : Rise v.machine.window
+    rises = subst (λ (v : Described). Rise v.machine.window) s w.stands.stand.rise
+
+    all : resolve v.desc v.machine
+        ≡ record {
+          machine = cut_after e.serial (true_next (resolution_of e)) (marked v.desc i e v.machine);
+          events = (learn v.desc e v.machine.counters v.machine.targets).events ++ event.Sq (younger_count e.serial (marked v.desc i e v.machine)) ∷ [];
+        }
+    all = wrong_is v.desc v.machine i e p there wrong rises
+
+    pub wrong_shown : (last : Described) (next : Option ℕ) → next ≡ true_next (resolution_of e) →
+        last ≡ (let d = described (record h { rob = rob; tables = tables }) in record d { machine = cut_after e.serial next d.machine }) → last ≡ record v { machine = (resolve v.desc v.machine).machine }
+    wrong_shown last next n l =
+        l
+        ∙ ap (λ (d : Described). record d { machine = cut_after e.serial next d.machine }) marked_shown
+        ∙ ap (λ next. record v { machine = cut_after e.serial next (marked v.desc i e v.machine) }) n
+        ∙ ap (λ (a : After). record v { machine = a.machine }) (sym all)
+
+    pub wrong_row : (old then new : Row) (n : ℕ) → then ≡ record old { events = old.events ++ told h.tables e } →
+        n ≡ (let d = described (record h { rob = rob; tables = tables }) in younger_count e.serial d.machine) →
+        new ≡ record then { events = then.events ++ event.Sq n ∷ [] } → new ≡ record old { events = old.events ++ (resolve v.desc v.machine).events }
+    wrong_row old then new n t d r =
+        r
+        ∙ ap (λ n. record then { events = then.events ++ event.Sq n ∷ [] }) (d ∙ ap (λ (d : Described). younger_count e.serial d.machine) marked_shown)
+        ∙ ap (λ (r : Row). record r { events = r.events ++ event.Sq (younger_count e.serial (marked v.desc i e v.machine)) ∷ [] }) t
+        ∙ ap (λ es. record old { events = es }) (append_assoc old.events (told h.tables e) (event.Sq (younger_count e.serial (marked v.desc i e v.machine)) ∷ []))
+        ∙ ap (λ es. record old { events = old.events ++ (es ++ event.Sq (younger_count e.serial (marked v.desc i e v.machine)) ∷ []) }) told_is
+        ∙ ap (λ (a : After). record old { events = old.events ++ a.events }) (sym all)
+
+  -- all that is younger may go
+  pub marked_stops_at : StopsAt e.serial h.point rob.entries
+  marked_stops_at = record {
+    position = i;
+    entry = resolved_one e;
+    here = ap (λ (r : Ring). slice_get r.entries i) marks ∙ set_here h.rob.entries i e (resolved_one e) here;
+    is = refl;
+    not_past = marked_stops;
+  }

@@ -1,0 +1,133 @@
+-- What is read in turn: a description, and images one after the other.
+use Rattle.std.proofs.Common.{◌≡◌, ◌≤◌, ℕ, List, [], ◌∷◌, take, Option, Some, None, subst, sym, ◌∙◌, arith}
+use Rattle.std.specs.Prelude.{slice_get}
+use Rattle.elf_loader.specs.Image.{ImageText}
+use Rattle.machine_desc.specs.declared.Desc.{Desc}
+use Rattle.tool_io.specs.declared.Got.TheVariants.{Bytes, TooLong}
+use Rattle.tool_io.specs.Outside.{Shelf, GetsTold, SameCounts, SameContents, NameFailed, Rose}
+use Rattle.stt_cli.specs.declared.outcome.Which.{Which}
+use Rattle.stt_cli.specs.declared.outcome.Refusal.{Refusal}
+use Rattle.stt_cli.specs.declared.outcome.Refusal.TheVariants.{Words, ReadDescription, DescriptionTooLong, Description, ReadImage, ImageTooLong, Image, Write, Memory}
+use Rattle.stt_cli.specs.Outcome.{place_of}
+use Rattle.stt_cli.specs.Input.{image_max, ImageFrom, from_file, from_seed, HasBytes, HasDesc, DescriptionRefused, NamedRefused, IsImage, FailsToRead, HasTooMany, BytesRefused, ImageRefused, LoadRefused, AreImages, IsRead, Refuses, base_of, size_of}
+
+-- ---- What the files tell before and after
+
+pub counts_after : (old mid new : Shelf) → SameCounts old mid → SameCounts mid new → SameCounts old new
+counts_after old mid new s t n = t n ∙ s n
+
+pub contents_after : (old mid new : Shelf) → SameContents old mid → SameContents mid new → SameContents old new
+contents_after old mid new s t n = t n ∙ s n
+
+failed_after : (name : List ℕ) (old mid new : Shelf) → SameCounts old mid → NameFailed name mid new → NameFailed name old new
+failed_after name old mid new s f =
+    let P : ℕ → Type 0 = λ k. Rose k (new.faults name) in
+    record {
+      rose = subst P (s name) f.rose;
+      later = λ n. let a : mid.faults n ≡ old.faults n = s n in let b : mid.faults n ≤ new.faults n = f.later n in omega (arith, a, b);
+    }
+
+-- what is told of an image is told before
+bytes_before : (old mid : Shelf) (from : ImageFrom) (file : List ℕ) → SameContents old mid → HasBytes mid from file → HasBytes old from file
+bytes_before old mid (from_file name) file s h = let P : Option (List ℕ) → Type 0 = λ o. GetsTold o image_max (Bytes file) in subst P (s name) h
+bytes_before old mid (from_seed seed blocks) file s h = h
+
+too_many_before : (old mid : Shelf) (from : ImageFrom) → SameContents old mid → HasTooMany mid from → HasTooMany old from
+too_many_before old mid (from_file name) s h = let P : Option (List ℕ) → Type 0 = λ o. GetsTold o image_max TooLong in subst P (s name) h
+too_many_before old mid (from_seed seed blocks) s h = h
+
+fails_before : (old mid new : Shelf) (from : ImageFrom) → SameCounts old mid → FailsToRead mid new from → FailsToRead old new from
+fails_before old mid new (from_file name) s h = failed_after name old mid new s h
+fails_before old mid new (from_seed seed blocks) s h = h
+
+pub image_before : (old mid : Shelf) (desc : Option Desc) (from : ImageFrom) (image : ImageText) → SameContents old mid → IsImage mid desc from image → IsImage old desc from image
+image_before old mid desc from image s i = record { file = i.file; content = bytes_before old mid from i.file s i.content; loads = i.loads }
+
+-- ---- An image
+
+-- there are no bytes of it
+pub bytes_refused : (which : Which) (desc : Option Desc) (from : ImageFrom) (old new : Shelf) (e : Refusal) → BytesRefused which from old new e → ImageRefused which desc from old new e
+bytes_refused which desc from old new (Image w fault) h = absurd h
+bytes_refused which desc from old new Words h = h
+bytes_refused which desc from old new ReadDescription h = h
+bytes_refused which desc from old new DescriptionTooLong h = h
+bytes_refused which desc from old new (Description fault) h = h
+bytes_refused which desc from old new (ReadImage w) h = h
+bytes_refused which desc from old new (ImageTooLong w) h = h
+bytes_refused which desc from old new Write h = h
+bytes_refused which desc from old new Memory h = h
+
+-- its bytes are no image
+pub load_refused : (which : Which) (desc : Option Desc) (from : ImageFrom) (old new : Shelf) (file read : List ℕ) (e : Refusal) → HasBytes old from file → SameCounts old new → read ≡ file
+    → LoadRefused which read (base_of desc) (size_of desc) e → ImageRefused which desc from old new e
+load_refused which desc from old new file read (Image w fault) b s q h =
+    let P : List ℕ → Type 0 = HasBytes old from in
+    (h.0, record { file = read; content = subst P (sym q) b; refused = h.1 }, s)
+load_refused which desc from old new file read Memory b s q h = s
+load_refused which desc from old new file read _ b s q h = absurd h
+
+-- ---- Refusals in turn
+
+-- a description is refused before any image is read
+pub description_refused : (old new : Shelf) (name : List ℕ) (sources : List ImageFrom) (e : Refusal) → DescriptionRefused name old new e → Refuses (Some name) sources old new e
+description_refused old new name sources ReadDescription h = h
+description_refused old new name sources DescriptionTooLong h = h
+description_refused old new name sources (Description fault) h = h
+description_refused old new name sources Memory h = h
+description_refused old new name sources _ h = absurd h
+
+pub named_refused : (old new : Shelf) (name : Option (List ℕ)) (sources : List ImageFrom) (e : Refusal) → NamedRefused name old new e → Refuses name sources old new e
+named_refused old new None sources e h = absurd h
+named_refused old new (Some name) sources e h = description_refused old new name sources e h
+
+-- what was read before an image: the description, and the images before it
+pub record ReadBefore (old mid : Shelf) (name : Option (List ℕ)) (sources : List ImageFrom) (place : ℕ) (desc : Option Desc) : Type 0 where
+  pub described : HasDesc old name desc
+  pub earlier : List ImageText
+  pub are_images : AreImages old desc (take place sources) earlier
+  pub counts : SameCounts old mid
+  pub contents : SameContents old mid
+
+-- an image is refused at its place
+pub image_refused : (old mid new : Shelf) (name : Option (List ℕ)) (sources : List ImageFrom) (which : Which) (desc : Option Desc) (from : ImageFrom) (e : Refusal)
+    → ReadBefore old mid name sources (place_of which) desc → slice_get sources (place_of which) ≡ Some from → ImageRefused which desc from mid new e → Refuses name sources old new e
+image_refused old mid new name sources which desc from (ReadImage w) r t h =
+    let P : Which → Type 0 = λ w. Refuses name sources old new (ReadImage w) in
+    subst P (sym h.0) (record { desc = desc; described = r.described; earlier = r.earlier; are_images = r.are_images; from = from; there = t; cause = fails_before old mid new from r.counts h.1 })
+image_refused old mid new name sources which desc from (ImageTooLong w) r t h =
+    let P : Which → Type 0 = λ w. Refuses name sources old new (ImageTooLong w) in
+    subst P (sym h.0) (
+      record { desc = desc; described = r.described; earlier = r.earlier; are_images = r.are_images; from = from; there = t; cause = too_many_before old mid from r.contents h.1 },
+      counts_after old mid new r.counts h.2,
+    )
+image_refused old mid new name sources which desc from (Image w fault) r t h =
+    let P : Which → Type 0 = λ w. Refuses name sources old new (Image w fault) in
+    let f = h.1 in
+    subst P (sym h.0) (
+      record {
+        desc = desc;
+        described = r.described;
+        earlier = r.earlier;
+        are_images = r.are_images;
+        from = from;
+        there = t;
+        cause = record { file = f.file; content = bytes_before old mid from f.file r.contents f.content; refused = f.refused };
+      },
+      counts_after old mid new r.counts h.2,
+    )
+image_refused old mid new name sources which desc from Memory r t h = counts_after old mid new r.counts h
+image_refused old mid new name sources which desc from _ r t h = absurd h
+
+-- ---- What is read
+
+-- a description, and then one image
+pub one_read : (old mid new : Shelf) (name : Option (List ℕ)) (desc : Option Desc) (from : ImageFrom) (image : ImageText) → HasDesc old name desc → SameCounts old mid → SameContents old mid
+    → IsImage mid desc from image → SameCounts mid new → IsRead old new name (from ∷ []) desc (image ∷ [])
+one_read old mid new name desc from image d s c i t =
+    record { described = d; are_images = (image_before old mid desc from image c i, tt); counts = counts_after old mid new s t }
+
+-- and then a second one
+pub two_read : (old mid new : Shelf) (name : Option (List ℕ)) (desc : Option Desc) (from from2 : ImageFrom) (one two : ImageText) → IsRead old mid name (from ∷ []) desc (one ∷ [])
+    → SameContents old mid → IsImage mid desc from2 two → SameCounts mid new → IsRead old new name (from ∷ from2 ∷ []) desc (one ∷ two ∷ [])
+two_read old mid new name desc from from2 one two r c i t =
+    record { described = r.described; are_images = (r.are_images.0, (image_before old mid desc from2 two c i, tt)); counts = counts_after old mid new r.counts t }
