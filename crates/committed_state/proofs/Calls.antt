@@ -15,7 +15,7 @@ use Rattle.window_model.specs.declared.Item.{Item}
 use Rattle.window_model.specs.State.{Machine}
 use Rattle.window_model.specs.Order.{is_done, is_control}
 use Rattle.window_model.specs.Retire.{Retired, turns, head_turn, call_leaves, as_hart, then_retires, stays, unless_ended, hart_of, may_leave}
-use Rattle.window_model.specs.Front.{at_once}
+use Rattle.window_model.specs.Rename.{at_once}
 use Rattle.committed_state.specs.Links.{Chain, links, true_next}
 use Rattle.window_model.specs.declared.Event.{Event}
 use Rattle.window_model.specs.Committed.{TrapsNext, exit_of}

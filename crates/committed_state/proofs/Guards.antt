@@ -10,7 +10,8 @@ use Rattle.window_model.specs.Resolve.{resolve}
 use Rattle.window_model.specs.Retire.{retire}
 use Rattle.window_model.specs.Around.{around}
 use Rattle.window_model.specs.Issue.{Begun, issue, issue_entry}
-use Rattle.window_model.specs.Front.{rename, fetch}
+use Rattle.window_model.specs.Rename.{rename}
+use Rattle.window_model.specs.Fetch.{fetch}
 use Rattle.window_model.proofs.EntryByEntry.{map_each, map_is_each, each_on, along_front}
 use Rattle.window_model.proofs.Placing.{place_keep}
 use Rattle.window_model.proofs.Walks.{head_drops, retire_keep, rename_keep, fetch_keep, cycle_keep, run_keep}

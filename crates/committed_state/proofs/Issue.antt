@@ -17,7 +17,7 @@ use Rattle.window_model.specs.Retire.{width_of, hart_of}
 use Rattle.window_model.specs.Access.{access_at}
 use Rattle.window_model.specs.Around.{Around, around}
 use Rattle.window_model.specs.Issue.{DivPort, LoadPort, issue, issue_entry, begin_as, begun, divider_after, effect_of, load_as, may_at, outcome, stores_done, Begun}
-use Rattle.window_model.specs.Front.{at_once}
+use Rattle.window_model.specs.Rename.{at_once}
 use Rattle.committed_state.specs.Computed.{Bank, bytes_over, computed, loaded_or, outcome_as}
 use Rattle.window_model.specs.Along.{Behind}
 use Rattle.committed_state.specs.Links.{Link, true_next}

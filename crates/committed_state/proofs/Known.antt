@@ -10,7 +10,7 @@ use Rattle.window_model.specs.declared.Entry.{Entry}
 use Rattle.window_model.specs.declared.Progress.{Progress}
 use Rattle.window_model.specs.declared.Progress.TheVariants.{Waiting, Busy, Done}
 use Rattle.window_model.specs.Along.{Behind}
-use Rattle.window_model.specs.Front.{at_once}
+use Rattle.window_model.specs.Rename.{at_once}
 use Rattle.window_model.specs.Issue.{effect_of, stores_done}
 use Rattle.window_model.specs.Order.{is_control, writes, writer, is_known, is_done, is_store, ready}
 use Rattle.window_model.specs.Retire.{hart_of, width_in}

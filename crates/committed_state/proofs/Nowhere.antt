@@ -8,7 +8,7 @@ use Rattle.window_model.specs.declared.Entry.{Entry}
 use Rattle.window_model.specs.declared.Item.{Item}
 use Rattle.window_model.specs.Order.{is_faulty}
 use Rattle.window_model.specs.Resolve.{next_of}
-use Rattle.window_model.specs.Front.{is_stop}
+use Rattle.window_model.specs.Rename.{is_stop}
 use Rattle.committed_state.specs.Computed.{Bank}
 use Rattle.window_model.specs.Along.{Along}
 use Rattle.committed_state.specs.Links.{Chain, links, entry_link}

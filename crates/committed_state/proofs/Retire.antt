@@ -5,14 +5,14 @@ use Rattle.rv_types.specs.Isa.{Hart, Goes, isa_step, with_reg}
 use Rattle.rv_types.specs.Regs.{writes_of}
 use Rattle.rv_types.specs.declared.Cause.{Cause}
 use Rattle.rv_types.specs.declared.Kind.{Kind}
-use Rattle.rv_types.specs.declared.Kind.TheVariants.{Alu, Mul, Div, Load, Store, Branch, Jalr, Jal, Call, Stop}
+use Rattle.rv_types.specs.declared.Kind.TheVariants.{Store, Call}
 use Rattle.machine_desc.specs.declared.Desc.{Desc}
 use Rattle.window_model.specs.declared.Entry.{Entry}
 use Rattle.window_model.specs.State.{Machine}
 use Rattle.window_model.specs.Order.{is_store, value_of}
 use Rattle.window_model.specs.Resolve.{next_of}
 use Rattle.window_model.specs.Retire.{Retired, retire, turns, head_leaves, then_retires, ends_with, hart_of, may_leave, trap_of}
-use Rattle.window_model.specs.Front.{is_call}
+use Rattle.window_model.specs.Rename.{is_call}
 use Rattle.committed_state.specs.Consistent.{Holds, Consistent}
 use Rattle.window_model.specs.Committed.{Aligned}
 use Rattle.committed_state.proofs.Turn.{head_ram, head_leaves_so}
@@ -22,13 +22,14 @@ use Rattle.committed_state.proofs.Calls.{call_turn, only_call, turns_empty}
 use Rattle.committed_state.proofs.Steps.{Retires, no_turn, one_more}
 use Rattle.window_model.proofs.Walks.{retire_by}
 
-abbrev hart_as : Kind → Hart → Entry → Hart
+-- the state behind a head of this kind
+abbrev pub hart_as : Kind → Hart → Entry → Hart
 hart_as k s e = record { pc = next_of e.outcome; regs = with_reg s.regs (writes_of e.item.instr) (value_of e.outcome); ram = head_ram k s.ram e e.outcome }
 
 -- what a head of this kind leaves, and that it is a step
-record LeftAs (code : Code) (k : Kind) (x : Machine) (e : Entry) (rest : List Entry) : Type 0 where
-  holds : Holds code (hart_as k (hart_of x) e) rest x.queue x.fetch_pc
-  step : isa_step code (hart_of x) ≡ Goes (hart_as k (hart_of x) e) []
+pub record LeftAs (code : Code) (k : Kind) (x : Machine) (e : Entry) (rest : List Entry) : Type 0 where
+  pub holds : Holds code (hart_as k (hart_of x) e) rest x.queue x.fetch_pc
+  pub step : isa_step code (hart_of x) ≡ Goes (hart_as k (hart_of x) e) []
 
 -- what is a call has the kind of one
 pub call_kind : (k : Kind) → is_call k ≡ true → k ≡ Call
@@ -47,14 +48,7 @@ module _ (code : Code) (aligned : Aligned code) (d : Desc) where
   left_turn : (k : Kind) (n : ℕ) (stored : Bool) (x : Machine) (e : Entry) (rest : List Entry) → is_call k ≡ false → LeftAs code k x e rest → x.end ≡ None → Follows k n stored x e rest → Retires d code x (then_retires (head_leaves k d e rest x) (turns d n stored))
   left_turn Call n stored x e rest c l u m = absurd (cc)
   left_turn Store n stored x e rest c l u m = let r = head_leaves Store d e rest x in one_more d code x r.machine r.events (turns d n stored) l.step refl (m l.holds u)
-  left_turn Alu n stored x e rest c l u m = let r = head_leaves Alu d e rest x in one_more d code x r.machine r.events (turns d n stored) l.step refl (m l.holds u)
-  left_turn Mul n stored x e rest c l u m = let r = head_leaves Mul d e rest x in one_more d code x r.machine r.events (turns d n stored) l.step refl (m l.holds u)
-  left_turn Div n stored x e rest c l u m = let r = head_leaves Div d e rest x in one_more d code x r.machine r.events (turns d n stored) l.step refl (m l.holds u)
-  left_turn Load n stored x e rest c l u m = let r = head_leaves Load d e rest x in one_more d code x r.machine r.events (turns d n stored) l.step refl (m l.holds u)
-  left_turn Branch n stored x e rest c l u m = let r = head_leaves Branch d e rest x in one_more d code x r.machine r.events (turns d n stored) l.step refl (m l.holds u)
-  left_turn Jalr n stored x e rest c l u m = let r = head_leaves Jalr d e rest x in one_more d code x r.machine r.events (turns d n stored) l.step refl (m l.holds u)
-  left_turn Jal n stored x e rest c l u m = let r = head_leaves Jal d e rest x in one_more d code x r.machine r.events (turns d n stored) l.step refl (m l.holds u)
-  left_turn (Stop a) n stored x e rest c l u m = let r = head_leaves (Stop a) d e rest x in one_more d code x r.machine r.events (turns d n stored) l.step refl (m l.holds u)
+  left_turn k n stored x e rest c l u m = let r = head_leaves k d e rest x in one_more d code x r.machine r.events (turns d n stored) l.step refl (m l.holds u)
 
   by_call : (b : Bool) (n : ℕ) (stored : Bool) (x : Machine) (e : Entry) (rest : List Entry) → is_call e.item.kind ≡ b → x.end ≡ None → Holds code (hart_of x) (e ∷ rest) x.queue x.fetch_pc → may_leave e ≡ true → trap_of e ≡ None →
       Follows e.item.kind n stored x e rest → Retires d code x (then_retires (head_leaves e.item.kind d e rest x) (turns d n stored))

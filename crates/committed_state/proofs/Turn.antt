@@ -17,7 +17,8 @@ use Rattle.window_model.specs.declared.Outcome.{Outcome}
 use Rattle.window_model.specs.Order.{is_done, is_control, value_of, fault_of, sources}
 use Rattle.window_model.specs.Resolve.{next_of}
 use Rattle.window_model.specs.Retire.{may_leave, trap_of, trap_as, addr_of, stored_of, width_of}
-use Rattle.window_model.specs.Front.{instr_at, kind_at, at_once, is_call}
+use Rattle.window_model.specs.Rename.{at_once, is_call}
+use Rattle.window_model.specs.Fetch.{instr_at, kind_at}
 use Rattle.committed_state.specs.Replay.{Bank, replayed, replayed_as, ram_after, effect_on}
 use Rattle.window_model.specs.Along.{Along}
 use Rattle.committed_state.specs.Links.{Chain, links}

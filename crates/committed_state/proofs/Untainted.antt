@@ -11,7 +11,7 @@ use Rattle.window_model.specs.Order.{is_done, sources}
 use Rattle.window_model.specs.Taint.{tainted, any_tainted, address_tainted, base_of}
 use Rattle.window_model.specs.Fill.{completed, completes}
 use Rattle.window_model.specs.Issue.{issue_entry, begun}
-use Rattle.window_model.specs.Front.{renamed}
+use Rattle.window_model.specs.Rename.{renamed}
 use Rattle.window_model.specs.Cycle.{cycle}
 use Rattle.window_model.specs.Along.{Along}
 use Rattle.window_model.proofs.Booleans.{waiting_done}

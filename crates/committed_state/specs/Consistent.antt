@@ -16,7 +16,8 @@ use Rattle.window_model.specs.State.{Machine}
 use Rattle.window_model.specs.Order.{is_load, is_control, is_faulty, ready}
 use Rattle.window_model.specs.Retire.{hart_of}
 use Rattle.window_model.specs.Issue.{stores_done}
-use Rattle.window_model.specs.Front.{instr_at, kind_at, target_of, at_once, is_call, is_stop}
+use Rattle.window_model.specs.Rename.{at_once, is_call, is_stop}
+use Rattle.window_model.specs.Fetch.{instr_at, kind_at, target_of}
 use Rattle.committed_state.specs.Computed.{Bank, ComesTo, computed}
 use Rattle.window_model.specs.Along.{Along}
 use Rattle.committed_state.specs.Links.{Chain, links}

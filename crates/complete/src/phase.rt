@@ -14,7 +14,6 @@ use core_parts::Parts;
 use lsq::Lsq;
 use rename_taint::RenameTaint;
 use rob_ring::RobRing;
-use rv_types::Width;
 use window_model::{Entry, Event, Progress, Row};
 
 /// Phase Complete: each entry that is Busy until this cycle becomes Done, oldest first, with its event.
@@ -76,6 +75,7 @@ fn done(entry: &Entry) -> Entry
 }
 
 // What an entry writes that is Done is known to the queue of stores, if it is a store.
+#[tactic(auto, using(crate::proofs::Width::width_is))]
 fn note_store(entry: &Entry, lsq: &mut Lsq)
     ensures { lsq.new ≡ record lsq.old {
       stores = known_with (width_for (width_of entry.now)) entry.now lsq.old.stores;
@@ -85,17 +85,9 @@ fn note_store(entry: &Entry, lsq: &mut Lsq)
         lsq.store_known(
             entry.serial,
             entry.addr(),
-            width_of(entry),
+            entry.width(),
             entry.stored(),
             entry.fault(),
         );
     }
-}
-
-// The width of the entry's access.
-#[tactic(auto, using(crate::proofs::Width::width_is))]
-fn width_of(entry: &Entry) -> Width
-    ensures { result ≡ width_for (width_of entry.now) }
-{
-    rv_types::width_of(entry.op())
 }

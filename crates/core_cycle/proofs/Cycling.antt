@@ -10,17 +10,17 @@ use Rattle.window_model.specs.State.{Machine, After}
 use Rattle.window_model.specs.Row.{Row}
 use Rattle.window_model.specs.Fill.{fill, complete}
 use Rattle.window_model.specs.Retire.{Retired, retire}
-use Rattle.window_model.specs.Front.{fetch}
-use Rattle.window_model.specs.Cycle.{Cycled, cycle, back}
+use Rattle.window_model.specs.Fetch.{fetch}
+use Rattle.window_model.specs.Cycle.{Cycled, after_retire, begins_cycle, cycle}
 use Rattle.window_model.specs.Committed.{Aligned, Commits}
-use Rattle.window_model.proofs.Quiet.{before_retire, front_quiet}
+use Rattle.window_model.proofs.Quiet.{at_retire, before_quiet}
 use Rattle.window_model.proofs.Walks.{fetch_keep}
 use Rattle.machine_facts.proofs.Adds.{fill_adds, complete_adds, resolve_adds, retire_turns}
 use Rattle.quiet_cycles.specs.Still.{NothingDueBefore, StillUntil, empty_row}
 use Rattle.visibility.specs.Point.{HasAdvanced}
 use Rattle.core_parts.specs.Described.{Described, fetch_of}
 use Rattle.core_cycle.specs.Kept.{Kept, KeptUntil}
-use Rattle.core_cycle.specs.Phases.{back_of, front_of}
+use Rattle.core_cycle.specs.Phases.{phases_after, phases_before}
 use Rattle.core_cycle.proofs.Passing.{commits_after, kept_after, still_after}
 
 -- ---- fetching leaves the window as it is
@@ -34,17 +34,14 @@ fetched_advanced s s1 e a =
 
 -- ---- what each step of a cycle leaves
 
-abbrev begun : Machine → Machine
-begun x = record x { cycle = x.cycle + 1 }
-
 -- it begins
 abbrev starts : Described → Described
-starts s = record s { machine = begun s.machine }
+starts s = record s { machine = begins_cycle s.machine }
 
 -- and the phases before Retire go
 pub record Fronts (s s1 s2 : Described) : Type 0 where
   pub begins : s1 ≡ starts s
-  pub goes : s2 ≡ record s1 { machine = (front_of s1).machine; point = s2.point }
+  pub goes : s2 ≡ record s1 { machine = (phases_before s1).machine; point = s2.point }
 
 -- Retire goes
 abbrev pub Leaves : Described → Described → Type 0
@@ -52,14 +49,14 @@ Leaves s2 s3 = s3 ≡ record s2 { machine = (retire s2.desc s2.machine).machine 
 
 -- and those after it
 abbrev pub Backs : Described → Described → Type 0
-Backs s3 s4 = s4 ≡ record s3 { machine = (back_of s3).machine; point = s4.point }
+Backs s3 s4 = s4 ≡ record s3 { machine = (phases_after s3).machine; point = s4.point }
 
 -- a row without events, and what each of these adds to it
 pub record Writes (s s1 s2 s3 : Described) (r1 r2 r3 r4 : Row) : Type 0 where
   pub begins : r1 ≡ empty_row (s.machine.cycle + 1)
-  pub fronts : r2 ≡ record r1 { events = r1.events ++ (front_of s1).events }
+  pub fronts : r2 ≡ record r1 { events = r1.events ++ (phases_before s1).events }
   pub retires : r3 ≡ record r2 { events = r2.events ++ (retire s2.desc s2.machine).events }
-  pub backs : r4 ≡ record r3 { events = r3.events ++ (back_of s3).events }
+  pub backs : r4 ≡ record r3 { events = r3.events ++ (phases_after s3).events }
 
 abbrev written : ℕ → List Event → List Event → List Event → Row
 written number f r b = record { cycle = number; events = f ++ r ++ b }
@@ -71,9 +68,9 @@ joined number f r b r1 r2 r3 r4 e1 e2 e3 e4 = cc
 -- all of them are the written cycle
 abbrev all : Described → Cycled
 all s =
-    let f = front_of (starts s) in
+    let f = phases_before (starts s) in
     let r = retire s.desc f.machine in
-    let b = back s.desc (word_at s.code) r.machine in
+    let b = after_retire s.desc (word_at s.code) r.machine in
     record { machine = b.machine; row = written (s.machine.cycle + 1) f.events r.events b.events; piece = r.piece }
 
 whole : (s : Described) → all s ≡ cycle s.desc (word_at s.code) s.machine
@@ -89,19 +86,19 @@ module _ (s s1 s2 : Described) (p : Fronts s s1 s2) where
   code_fronted : s2.code ≡ s.code
   code_fronted = ap (λ (s : Described). s.code) p.goes ∙ ap (λ (s : Described). s.code) p.begins
 
-  fronted : front_of s1 ≡ front_of (starts s)
-  fronted = ap front_of p.begins
+  fronted : phases_before s1 ≡ phases_before (starts s)
+  fronted = ap phases_before p.begins
 
-  machine_fronted : s2.machine ≡ before_retire s.desc s.machine
+  machine_fronted : s2.machine ≡ at_retire s.desc s.machine
   machine_fronted = ap (λ (s : Described). s.machine) p.goes ∙ ap (λ (a : After). a.machine) fronted
 
   pub end_stays : s2.machine.end ≡ s.machine.end
-  end_stays = ap (λ (x : Machine). x.end) machine_fronted ∙ (front_quiet s.desc s.machine).ended
+  end_stays = ap (λ (x : Machine). x.end) machine_fronted ∙ (before_quiet s.desc s.machine).ended
 
   pub count_stays : s2.machine.retired ≡ s.machine.retired
-  count_stays = ap (λ (x : Machine). x.retired) machine_fronted ∙ (front_quiet s.desc s.machine).retired
+  count_stays = ap (λ (x : Machine). x.retired) machine_fronted ∙ (before_quiet s.desc s.machine).retired
 
-  retired : retire s2.desc s2.machine ≡ retire s.desc (before_retire s.desc s.machine)
+  retired : retire s2.desc s2.machine ≡ retire s.desc (at_retire s.desc s.machine)
   retired = ap₂ retire desc_fronted machine_fronted
 
   -- and so is the next serial until Rename
@@ -112,7 +109,7 @@ module _ (s s1 s2 : Described) (p : Fronts s s1 s2) where
     code_left : s3.code ≡ s.code
     code_left = ap (λ (s : Described). s.code) q ∙ code_fronted
 
-    machine_left : s3.machine ≡ (retire s.desc (before_retire s.desc s.machine)).machine
+    machine_left : s3.machine ≡ (retire s.desc (at_retire s.desc s.machine)).machine
     machine_left = ap (λ (s : Described). s.machine) q ∙ ap (λ (r : Retired). r.machine) retired
 
     pub serial_stays : s3.machine.next_serial ≡ s.machine.next_serial
@@ -121,7 +118,7 @@ module _ (s s1 s2 : Described) (p : Fronts s s1 s2) where
         let y = (fill s.desc x).machine in
         let z = (complete y).machine in
         ap (λ (x : Machine). x.next_serial) machine_left
-        ∙ (retire_turns s.desc (before_retire s.desc s.machine)).serials
+        ∙ (retire_turns s.desc (at_retire s.desc s.machine)).serials
         ∙ (resolve_adds s.desc z).serials
         ∙ (complete_adds y).serials
         ∙ (fill_adds s.desc x).serials
@@ -129,11 +126,11 @@ module _ (s s1 s2 : Described) (p : Fronts s s1 s2) where
     -- ---- what a cycle comes to, what it keeps, and what it retires
 
     module _ (s4 : Described) (k : Backs s3 s4) where
-      backed : back_of s3 ≡ back s.desc (word_at s.code) (retire s.desc (before_retire s.desc s.machine)).machine
+      backed : phases_after s3 ≡ after_retire s.desc (word_at s.code) (retire s.desc (at_retire s.desc s.machine)).machine
       backed =
-          ap (λ d. back d (word_at s3.code) s3.machine) desc_left
-          ∙ ap (λ code. back s.desc (word_at code) s3.machine) code_left
-          ∙ ap (back s.desc (word_at s.code)) machine_left
+          ap (λ d. after_retire d (word_at s3.code) s3.machine) desc_left
+          ∙ ap (λ code. after_retire s.desc (word_at code) s3.machine) code_left
+          ∙ ap (after_retire s.desc (word_at s.code)) machine_left
 
       desc_backed : s4.desc ≡ s.desc
       desc_backed = ap (λ (s : Described). s.desc) k ∙ desc_left
@@ -150,11 +147,11 @@ module _ (s s1 s2 : Described) (p : Fronts s s1 s2) where
       row_is : (r1 r2 r3 r4 : Row) → Writes s s1 s2 s3 r1 r2 r3 r4 → r4 ≡ (cycle s.desc (word_at s.code) s.machine).row
       row_is r1 r2 r3 r4 w =
           let number = s.machine.cycle + 1 in
-          let f = front_of (starts s) in
-          let r = retire s.desc (before_retire s.desc s.machine) in
-          joined number (front_of s1).events (retire s2.desc s2.machine).events (back_of s3).events r1 r2 r3 r4 w.begins w.fronts w.retires w.backs
-          ∙ ap (λ (f : After). written number f.events (retire s2.desc s2.machine).events (back_of s3).events) fronted
-          ∙ ap (λ (r : Retired). written number f.events r.events (back_of s3).events) retired
+          let f = phases_before (starts s) in
+          let r = retire s.desc (at_retire s.desc s.machine) in
+          joined number (phases_before s1).events (retire s2.desc s2.machine).events (phases_after s3).events r1 r2 r3 r4 w.begins w.fronts w.retires w.backs
+          ∙ ap (λ (f : After). written number f.events (retire s2.desc s2.machine).events (phases_after s3).events) fronted
+          ∙ ap (λ (r : Retired). written number f.events r.events (phases_after s3).events) retired
           ∙ ap (λ (b : After). written number f.events r.events b.events) backed
           ∙ ap (λ (c : Cycled). c.row) (whole s)
 

@@ -6,12 +6,12 @@ use Rattle.std.specs.List.{AllByRecursion as Each}
 use Rattle.machine_desc.specs.declared.Desc.{Desc}
 use Rattle.window_model.specs.declared.Event.{Event}
 use Rattle.window_model.specs.Fill.{complete}
-use Rattle.window_model.specs.Front.{rename, CallAlone}
+use Rattle.window_model.specs.Rename.{rename, CallAlone}
 use Rattle.window_model.specs.Resolve.{resolve}
 use Rattle.window_model.specs.Row.{Row}
 use Rattle.window_model.specs.State.{Machine, After}
 use Rattle.quiet_cycles.proofs.Early.{complete_nothing, none_done, none_resolves, resolve_nothing}
-use Rattle.quiet_cycles.proofs.Front.{rename_nothing}
+use Rattle.quiet_cycles.proofs.RenameFetch.{rename_nothing}
 use Rattle.visibility.specs.Point.{HasAdvanced, Point}
 use Rattle.rob_ring.specs.Ring.{Ring}
 use Rattle.retire.specs.Gone.{gone, MayRetire}

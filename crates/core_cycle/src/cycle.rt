@@ -1,8 +1,8 @@
 //! A cycle's phases in their order (`docs/machine.md`, "A cycle").
 ghost use Rattle.std.specs.Prelude.{◌≡◌, ◌<◌, ◌+◌, ◌^◌};
 ghost use Rattle.visibility.specs.Point.{HasAdvanced};
-ghost use Rattle.window_model.specs.Row.{HasRoom, IsLonger, most_before_retire, most_fetched, with_events};
-ghost use Rattle.core_cycle.specs.Phases.{back_of, front_of, most_after_retire};
+ghost use Rattle.window_model.specs.Row.{HasRoom, IsLonger, most_after_retire, most_before_retire, most_fetched, with_events};
+ghost use Rattle.core_cycle.specs.Phases.{phases_after, phases_before};
 
 use crate::moves::{advance_after, advance_after_complete};
 use complete::complete;
@@ -19,8 +19,8 @@ use window_model::Row;
 pub(crate) fn before_retire<R: RenameTaint>(parts: &mut Parts<R>, row: &mut Row)
     requires advanced { HasAdvanced parts.old.point parts.old.machine.window }
     requires room { HasRoom most_before_retire row.old }
-    ensures machine { parts.new ≡ record parts.old { machine = (front_of parts.old).machine; point = parts.new.point } }
-    ensures row { row.new ≡ with_events row.old (front_of parts.old).events }
+    ensures machine { parts.new ≡ record parts.old { machine = (phases_before parts.old).machine; point = parts.new.point } }
+    ensures row { row.new ≡ with_events row.old (phases_before parts.old).events }
     ensures advanced { HasAdvanced parts.new.point parts.new.machine.window }
     ensures few { IsLonger most_before_retire row.old row.new }
 {
@@ -39,8 +39,8 @@ pub(crate) fn after_retire<R: RenameTaint>(parts: &mut Parts<R>, row: &mut Row)
     requires advanced { HasAdvanced parts.old.point parts.old.machine.window }
     requires serials { parts.old.machine.next_serial + most_fetched < 2 ^ 64 }
     requires room { HasRoom most_after_retire row.old }
-    ensures machine { parts.new ≡ record parts.old { machine = (back_of parts.old).machine; point = parts.new.point } }
-    ensures row { row.new ≡ with_events row.old (back_of parts.old).events }
+    ensures machine { parts.new ≡ record parts.old { machine = (phases_after parts.old).machine; point = parts.new.point } }
+    ensures row { row.new ≡ with_events row.old (phases_after parts.old).events }
     ensures advanced { HasAdvanced parts.new.point parts.new.machine.window }
     ensures few { IsLonger most_after_retire row.old row.new }
 {

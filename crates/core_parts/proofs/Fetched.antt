@@ -5,7 +5,7 @@ use Rattle.rv_types.specs.Memory.{Code}
 use Rattle.elf_loader.specs.Code.{word_at}
 use Rattle.machine_desc.specs.declared.Desc.{Desc}
 use Rattle.machine_desc.proofs.EveryDesc.{every_desc}
-use Rattle.window_model.specs.Front.{fetch}
+use Rattle.window_model.specs.Fetch.{fetch}
 use Rattle.window_model.specs.Row.{Row}
 use Rattle.window_model.specs.State.{Machine}
 use Rattle.machine_facts.specs.Sized.{Sized}

@@ -21,7 +21,7 @@ use Rattle.window_model.specs.declared.Item.{Item}
 use Rattle.window_model.specs.declared.Miss.{Miss}
 use Rattle.window_model.specs.declared.Target.{Target}
 use Rattle.window_model.specs.State.{After, Machine, opening}
-use Rattle.window_model.specs.Front.{fetch}
+use Rattle.window_model.specs.Fetch.{fetch}
 use Rattle.visibility.specs.Point.{Point}
 
 -- a machine, the description that it runs under, the words that it may fetch, and how far its entries are visible

@@ -7,10 +7,10 @@ use Rattle.machine_desc.specs.declared.Desc.{Desc}
 use Rattle.window_model.specs.declared.Event.{Event}
 use Rattle.window_model.specs.declared.Event.TheVariants as event
 use Rattle.window_model.specs.declared.Item.{Item}
-use Rattle.window_model.specs.State.{Machine, After}
+use Rattle.window_model.specs.State.{Machine, After, then_does, nothing}
 use Rattle.window_model.specs.Row.{Row}
 use Rattle.window_model.specs.Resolve.{with_predictor}
-use Rattle.window_model.specs.Front.{fetch, fetch_up_to, fetch_from, fetch_one, item_at, then_does, nothing}
+use Rattle.window_model.specs.Fetch.{fetch, fetch_up_to, fetch_from, fetch_one, item_at}
 use Rattle.predictor.specs.Tables.{Tables}
 use Rattle.fetch_unit.specs.Front.{Front, with_front, fetches, next_fetch}
 

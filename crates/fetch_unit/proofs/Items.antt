@@ -8,7 +8,7 @@ use Rattle.rv_types.specs.declared.Instr.{Instr}
 use Rattle.machine_desc.specs.declared.Desc.{Desc}
 use Rattle.window_model.specs.declared.Item.{Item}
 use Rattle.window_model.specs.State.{Machine}
-use Rattle.window_model.specs.Front.{item_at, predicted, instr_at, kind_at}
+use Rattle.window_model.specs.Fetch.{item_at, predicted, instr_at, kind_at}
 
 -- the item of an instruction
 abbrev item_of : Desc → Machine → ℕ → Instr → Item

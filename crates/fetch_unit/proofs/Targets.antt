@@ -3,7 +3,7 @@ use Rattle.std.proofs.Common.{◌≡◌, ℕ, Bool, true, false, Option, Some, N
 use Rattle.std.specs.Prelude.{if◌then◌else◌, unwrap_or, ◌==◌}
 use Rattle.rv_types.specs.Word.{word_add}
 use Rattle.window_model.specs.declared.Target.{Target}
-use Rattle.window_model.specs.Front.{stored_target}
+use Rattle.window_model.specs.Fetch.{stored_target}
 use Rattle.predictor.specs.Tables.{target_if}
 
 by_address : (b : Bool) (pc t : ℕ) → unwrap_or (if b then Some t else None) (word_add pc 4) ≡ (if b then t else word_add pc 4)

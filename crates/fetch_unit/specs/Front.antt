@@ -7,7 +7,7 @@ use Rattle.machine_desc.specs.declared.Desc.{Desc}
 use Rattle.window_model.specs.contracts.Item as item
 use Rattle.window_model.specs.declared.Item.{Item}
 use Rattle.window_model.specs.State.{Machine, After}
-use Rattle.window_model.specs.Front.{fetch}
+use Rattle.window_model.specs.Fetch.{fetch}
 use Rattle.predictor.specs.Tables.{Tables}
 
 -- in a machine of this description, the queue, and the fetch pc

@@ -4,10 +4,11 @@ ghost use Rattle.elf_loader.specs.Code.{word_at};
 ghost use Rattle.predictor.specs.Tables.{target_place};
 ghost use Rattle.window_model.specs.State.{Machine};
 ghost use Rattle.window_model.specs.Resolve.{with_predictor};
-ghost use Rattle.window_model.specs.Front.{item_at, predicted, stored_target, target_of};
+ghost use Rattle.window_model.specs.Fetch.{item_at, predicted, stored_target, target_of};
 
 use elf_loader::Code;
 use predictor::Predictor;
+use rv_effect::relative;
 use rv_types::{Cause, Instr, Kind, kind_of};
 use window_model::Item;
 
@@ -16,8 +17,8 @@ fn target_of(pc: u32, instr: &Instr) -> u32
     ensures { result ≡ target_of pc instr.now }
 {
     match *instr {
-        Instr::Jal { imm, .. } => pc.wrapping_add(imm.cast_unsigned()),
-        Instr::Branch { imm, .. } => pc.wrapping_add(imm.cast_unsigned()),
+        Instr::Jal { imm, .. } => relative(pc, imm),
+        Instr::Branch { imm, .. } => relative(pc, imm),
         _ => pc.wrapping_add(4),
     }
 }
@@ -52,7 +53,8 @@ fn predicted(predictor: &Predictor, pc: u32, instr: &Instr, kind: Kind) -> Optio
 /// The item of an address. Outside code it is a stop.
 #[tactic(auto, using(crate::proofs::Items::item_there, crate::proofs::Items::nothing_there))]
 pub(crate) fn item_at(predictor: &Predictor, code: &Code, pc: u32) -> Item
-    ensures { (x : Machine) → result ≡ item_at predictor.now.desc (word_at code.now) (with_predictor x predictor.now.counters predictor.now.targets) pc }
+    ensures { (x : Machine) → result ≡ item_at predictor.now.desc (word_at code.now)
+        (with_predictor x predictor.now.counters predictor.now.targets) pc }
 {
     match code.instr(pc) {
         Some(instr) => {

@@ -56,8 +56,10 @@ impl Fetch {
     pub fn fetch(&mut self, code: &Code, predictor: &Predictor, row: &mut Row)
         requires room { HasRoom most_fetched row.old }
         requires one_description { predictor.now.desc ≡ self.old.desc }
-        ensures front { (x : Machine) → with_front self.new predictor.now x ≡ (fetches (word_at code.now) self.old predictor.now x).machine }
-        ensures row { (x : Machine) → row.new ≡ with_events row.old (fetches (word_at code.now) self.old predictor.now x).events }
+        ensures front { (x : Machine) → with_front self.new predictor.now x
+            ≡ (fetches (word_at code.now) self.old predictor.now x).machine }
+        ensures row { (x : Machine) → row.new
+            ≡ with_events row.old (fetches (word_at code.now) self.old predictor.now x).events }
         ensures desc { self.new.desc ≡ self.old.desc }
         ensures few { IsLonger most_fetched row.old row.new }
     {

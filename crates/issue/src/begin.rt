@@ -161,7 +161,7 @@ impl<'a> Seen<'a> {
         ensures begun { as_tried entry.now result.begun ≡ begin_as kind.Load self.now.desc.now (around_of self.now) (before_at (window_of self.now) position) entry.now }
     {
         let made = self.effect(position, entry);
-        match self.ram.load_fault(made.addr, entry.width()) {
+        match self.ram.load_fault(made.addr, entry.bytes()) {
             None => self.begin_sound(position, entry, &made),
             Some(cause) => BegunLoad {
                 access: Access::Faults(cause),
@@ -207,7 +207,7 @@ impl<'a> Seen<'a> {
     fn begin_store(&self, entry: &Entry, made: &Effect) -> Begun
         ensures { as_begun entry.now result ≡ begins entry.now (self.now.cycle + 1) (outcome (seen made.now) 0 (store_fault self.now.ram.now made.now.addr (width_of entry.now))) (event.Agu entry.now.serial ∷ []) }
     {
-        let fault = self.ram.store_fault(made.addr, entry.width());
+        let fault = self.ram.store_fault(made.addr, entry.bytes());
         let due = self.cycle as u64 + 1;
         begins(due, outcome(made, 0, fault), Event::Agu(entry.serial))
     }

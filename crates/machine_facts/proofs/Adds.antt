@@ -18,7 +18,8 @@ use Rattle.window_model.specs.Order.{Place, first, is_faulty}
 use Rattle.window_model.specs.Fill.{fill, complete, completes, is_due}
 use Rattle.window_model.specs.Resolve.{resolve, resolve_at, may_resolve, Learnt, learn, learn_as, with_predictor, squash, keep, squashes}
 use Rattle.window_model.specs.Retire.{Retired, retire, head_leaves, call_leaves, hart_of}
-use Rattle.window_model.specs.Front.{rename, rename_up_to, rename_one, fetch, fetch_up_to, fetch_one, item_at}
+use Rattle.window_model.specs.Rename.{rename, rename_up_to, rename_one}
+use Rattle.window_model.specs.Fetch.{fetch, fetch_up_to, fetch_one, item_at}
 use Rattle.window_model.proofs.Lists.{filter_shortens}
 use Rattle.window_model.proofs.Walks.{retire_by, rename_by, fetch_by}
 

@@ -44,5 +44,10 @@ touched_if true d cache line q h =
     let le = each_at (λ lines. length lines ≤ d.cache_ways) cache s [] (omega arith) h.ways in
     record { sets = length-set cache s v ∙ h.sets; ways = each_set (λ lines. length lines ≤ d.cache_ways) cache s v (omega (arith, lt, le)) h.ways }
 
-pub touched_fits : (d : Desc) (cache : List (List ℕ)) (line : ℕ) → CacheFits d cache → CacheFits d (touched d cache line)
+touched_fits : (d : Desc) (cache : List (List ℕ)) (line : ℕ) → CacheFits d cache → CacheFits d (touched d cache line)
 touched_fits d cache line h = touched_if (has_line d cache line) d cache line refl h
+
+-- so do several
+pub lines_fit : (d : Desc) (lines : List ℕ) (cache : List (List ℕ)) → CacheFits d cache → CacheFits d (fold (touched d) cache lines)
+lines_fit d [] cache c = c
+lines_fit d (line ∷ lines) cache c = lines_fit d lines (touched d cache line) (touched_fits d cache line c)

@@ -19,7 +19,7 @@ use Rattle.window_model.specs.Fill.{is_due, completed, completes, completes_at}
 use Rattle.window_model.specs.Around.{Around}
 use Rattle.window_model.specs.Access.{Access, Faults, Forwards, Looks, Waits, due_by, misses_after, register}
 use Rattle.window_model.specs.Issue.{Begun, issue_entry, begin_as, load_as, access_of, time_of, divider_after}
-use Rattle.window_model.specs.Front.{renamed, at_once}
+use Rattle.window_model.specs.Rename.{renamed, at_once}
 use Rattle.window_model.proofs.Lists.{each_then, each_map, each_push, each_filter, OfSome, find_each}
 use Rattle.window_model.proofs.Issuing.{by_issue, begin_goes, by_line, by_load}
 use Rattle.machine_facts.specs.Timely.{IsSoon, DueSoon, IsDue, IsPending, Apart, latency, longest_division}

@@ -4,14 +4,16 @@ use Rattle.rv_types.specs.Memory.{Code, Ram}
 use Rattle.rv_types.specs.declared.End.{End}
 use Rattle.machine_desc.specs.declared.Desc.{Desc}
 use Rattle.machine_desc.specs.Ranges.{IsDesc}
-use Rattle.window_model.specs.State.{Machine, After, opening}
+use Rattle.window_model.specs.State.{Machine, After, opening, then_does, nothing}
 use Rattle.window_model.specs.Fill.{fill, complete}
 use Rattle.window_model.specs.Resolve.{resolve}
 use Rattle.window_model.specs.Retire.{retire, unless_ended}
 use Rattle.window_model.specs.Issue.{issue}
-use Rattle.window_model.specs.Front.{rename, fetch, then_does, nothing}
-use Rattle.window_model.specs.Cycle.{cycle, back, at}
+use Rattle.window_model.specs.Rename.{rename}
+use Rattle.window_model.specs.Fetch.{fetch}
+use Rattle.window_model.specs.Cycle.{after_retire, at, before_retire, begins_cycle, cycle}
 use Rattle.window_model.specs.Row.{most_events}
+use Rattle.window_model.proofs.Quiet.{at_retire}
 use Rattle.window_model.proofs.Walks.{run_keep}
 use Rattle.machine_facts.specs.Sized.{Sized}
 use Rattle.machine_facts.specs.Timely.{Counted}
@@ -20,8 +22,8 @@ use Rattle.machine_facts.proofs.Ports.{issue_adds}
 
 -- ---- the phases before Retire, and those after it
 
-front_adds : (d : Desc) (x : Machine) → Adds (length x.misses + (length x.window + 3)) x (then_does (fill d x) (λ y. then_does (complete y) (resolve d)))
-front_adds d x =
+before_adds : (d : Desc) (x : Machine) → Adds (length x.misses + (length x.window + 3)) x (before_retire d x)
+before_adds d x =
     let a = fill d x in
     let b = complete a.machine in
     let c = resolve d b.machine in
@@ -36,15 +38,15 @@ front_adds d x =
     }
 
 -- the phases after Retire, with as many events besides those of Rename
-record Backs (most n : ℕ) (x : Machine) (a : After) : Type 0 where
+record AddsAfter (most n : ℕ) (x : Machine) (a : After) : Type 0 where
   events : length a.events ≤ most
   cycle : a.machine.cycle ≡ x.cycle
   serials : a.machine.next_serial ≤ x.next_serial + n
   retired : a.machine.retired ≡ x.retired
 
-back_adds : (d : Desc) (code : Code) (o : Option End) (x : Machine) → Backs (d.units_alus + 4 + (d.core_fetch_width + d.core_fetch_width)) d.core_fetch_width x (unless_ended o (nothing x) (then_does (issue d x) (λ y. then_does (rename d y) (fetch d code))))
-back_adds d code (Some e) x = record { events = omega arith; cycle = refl; serials = omega arith; retired = refl }
-back_adds d code None x =
+after_adds : (d : Desc) (code : Code) (o : Option End) (x : Machine) → AddsAfter (d.units_alus + 4 + (d.core_fetch_width + d.core_fetch_width)) d.core_fetch_width x (unless_ended o (nothing x) (then_does (issue d x) (λ y. then_does (rename d y) (fetch d code))))
+after_adds d code (Some e) x = record { events = omega arith; cycle = refl; serials = omega arith; retired = refl }
+after_adds d code None x =
     let i = issue d x in
     let r = rename d i.machine in
     let f = fetch d code r.machine in
@@ -63,13 +65,13 @@ back_adds d code None x =
 pub few_events : (d : Desc) (code : Code) (x : Machine) → IsDesc d → Sized d x → length (cycle d code x).row.events ≤ most_events
 unfolding cycle
 few_events d code x i s =
-    let x1 : Machine = record x { cycle = x.cycle + 1 } in
-    let f = then_does (fill d x1) (λ y. then_does (complete y) (resolve d)) in
+    let x1 = begins_cycle x in
+    let f = before_retire d x1 in
     let r = retire d f.machine in
-    let k = back d code r.machine in
+    let k = after_retire d code r.machine in
     let n = length x.misses + (length x.window + 3) in
-    let w = joined n (2 * d.core_retire_width) f.events r.events (front_adds d x1).events (retire_turns d f.machine).events in
-    let all = joined (n + 2 * d.core_retire_width) (d.units_alus + 4 + (d.core_fetch_width + d.core_fetch_width)) (f.events ++ r.events) k.events w (back_adds d code r.machine.end r.machine).events in
+    let w = joined n (2 * d.core_retire_width) f.events r.events (before_adds d x1).events (retire_turns d f.machine).events in
+    let all = joined (n + 2 * d.core_retire_width) (d.units_alus + 4 + (d.core_fetch_width + d.core_fetch_width)) (f.events ++ r.events) k.events w (after_adds d code r.machine.end r.machine).events in
     small (length ((f.events ++ r.events) ++ k.events)) (length x.misses) (length x.window) d.core_retire_width d.units_alus d.core_fetch_width all
     (omega (arith, s.misses, i.mshrs.1)) (omega (arith, s.entries, i.rob.1)) i.retire_width.1 i.alus.1 i.fetch_width.1
   where
@@ -79,20 +81,20 @@ few_events d code x i s =
 pub cycle_number : (d : Desc) (code : Code) (x : Machine) → (cycle d code x).machine.cycle ≡ x.cycle + 1
 unfolding cycle
 cycle_number d code x =
-    let x1 : Machine = record x { cycle = x.cycle + 1 } in
-    let y = (then_does (fill d x1) (λ y. then_does (complete y) (resolve d))).machine in
+    let x1 = begins_cycle x in
+    let y = at_retire d x in
     let z = (retire d y).machine in
-    (back_adds d code z.end z).cycle ∙ (retire_turns d y).cycle ∙ (front_adds d x1).cycle
+    (after_adds d code z.end z).cycle ∙ (retire_turns d y).cycle ∙ (before_adds d x1).cycle
 
 pub counts_cycle : (d : Desc) (code : Code) (x : Machine) → IsDesc d → Counted x → Counted (cycle d code x).machine
 unfolding cycle
 counts_cycle d code x i h =
-    let x1 : Machine = record x { cycle = x.cycle + 1 } in
-    let y = (then_does (fill d x1) (λ y. then_does (complete y) (resolve d))).machine in
+    let x1 = begins_cycle x in
+    let y = at_retire d x in
     let z = (retire d y).machine in
-    let p = front_adds d x1 in
+    let p = before_adds d x1 in
     let q = retire_turns d y in
-    let r = back_adds d code z.end z in
+    let r = after_adds d code z.end z in
     record {
       serials = more y.next_serial x.next_serial z.next_serial _ y.cycle z.cycle _ x.cycle d.core_fetch_width p.cycle q.cycle r.cycle i.fetch_width.1 h.serials p.serials (omega (arith, q.serials)) r.serials;
       retired = less y.retired x.retired z.retired _ y.cycle z.cycle _ x.cycle d.core_retire_width p.cycle q.cycle r.cycle i.retire_width.1 h.retired p.retired q.retired r.retired;

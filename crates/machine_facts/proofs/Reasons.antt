@@ -15,7 +15,8 @@ use Rattle.window_model.specs.Fill.{completed, completes}
 use Rattle.window_model.specs.Retire.{trap_of}
 use Rattle.window_model.specs.Around.{Around}
 use Rattle.window_model.specs.Issue.{Begun, issue_entry, begin_as}
-use Rattle.window_model.specs.Front.{is_stop, predicted, renamed}
+use Rattle.window_model.specs.Rename.{is_stop, renamed}
+use Rattle.window_model.specs.Fetch.{predicted}
 use Rattle.window_model.proofs.Issuing.{by_issue, begin_goes}
 use Rattle.machine_facts.specs.Timely.{is_last, last_from, last_item_from}
 use Rattle.window_model.proofs.Booleans.{waiting_done}

@@ -2,7 +2,7 @@
 use Rattle.std.proofs.Common.{◌≡◌, ℕ, ◌+◌, ◌≤◌, Bool, true, false, not, List, [], ◌∷◌, ◌++◌, length, Option, Some, None, refl, ap, sym, ◌∙◌, subst, arith, length-append}
 use Rattle.std.proofs.lemmas.List.{length-map, length-set, length-replicate}
 use Rattle.std.specs.Prelude.{if◌then◌else◌, map, nat_lt, reverse, is_some}
-use Rattle.std.specs.List.{filter, fold, AllByRecursion as Each}
+use Rattle.std.specs.List.{filter, AllByRecursion as Each}
 use Rattle.rv_types.specs.Decode.{decode}
 use Rattle.rv_types.specs.Value.{size_of}
 use Rattle.rv_types.specs.Kind.{kind_of}
@@ -22,11 +22,12 @@ use Rattle.window_model.specs.State.{Machine, opening}
 use Rattle.window_model.specs.Order.{Place, first, each_from, is_waiting, is_faulty, is_store}
 use Rattle.window_model.specs.Fill.{fill, complete, completed, completes, completes_at, is_due}
 use Rattle.window_model.specs.Resolve.{resolve, Learnt, learn, learn_as, squash, keep}
-use Rattle.window_model.specs.Retire.{op_of, touched, width_of}
+use Rattle.window_model.specs.Retire.{op_of, width_of}
 use Rattle.window_model.specs.Around.{Around, around}
 use Rattle.window_model.specs.Access.{cache_after, line_at, look_up, misses_after, register, taken_lines}
 use Rattle.window_model.specs.Issue.{Begun, LoadPort, issue, issue_entry, begin_as, access_of, after_load, may_at}
-use Rattle.window_model.specs.Front.{rename, rename_one, renamed, fits, fetch, fetch_one, item_at, instr_at, kind_at, at_once}
+use Rattle.window_model.specs.Rename.{rename, rename_one, renamed, fits, at_once}
+use Rattle.window_model.specs.Fetch.{fetch, fetch_one, item_at, instr_at, kind_at}
 use Rattle.window_model.proofs.Booleans.{below}
 use Rattle.window_model.proofs.Lists.{each_then, each_map, each_join, each_left, each_right, each_push, each_replicate, filter_shortens}
 use Rattle.window_model.proofs.Placing.{Taken, resolve_keep, taught}
@@ -35,7 +36,7 @@ use Rattle.window_model.proofs.Issuing.{by_issue, begin_goes, issue_evolves, by_
 use Rattle.window_model.proofs.Walks.{rename_keep, fetch_keep}
 use Rattle.machine_facts.specs.Sized.{Sized, HasKind, FitsKind, FaultIs}
 use Rattle.machine_facts.proofs.Parts.{WindowFits, IsEntry, PredictorFits, CacheFits, Fits, parts, whole}
-use Rattle.machine_facts.proofs.Caches.{filled_fits, touched_fits}
+use Rattle.machine_facts.proofs.Caches.{filled_fits, lines_fit}
 use Rattle.machine_facts.proofs.SizedWindow.{thinner, renamed_fits}
 use Rattle.window_model.proofs.Resolving.{resolved_one, resolved_goes}
 
@@ -176,10 +177,6 @@ issue_entries d now b (e ∷ es) h = (issue_sizes d now b e h.0, issue_entries d
 record SharedFits (d : Desc) (lines : List (List ℕ)) (taken : List Miss) : Type 0 where
   cache : CacheFits d lines
   misses : length taken ≤ d.cache_mshrs
-
-lines_fit : (d : Desc) (lines : List ℕ) (cache : List (List ℕ)) → CacheFits d cache → CacheFits d (fold (touched d) cache lines)
-lines_fit d [] cache c = c
-lines_fit d (line ∷ lines) cache c = lines_fit d lines (touched d cache line) (touched_fits d cache line c)
 
 load_shares : (d : Desc) (now : Around) → CacheFits d now.cache → length now.misses ≤ d.cache_mshrs → (b : List Entry) (e : Entry) →
     let a = access_of d now b e in SharedFits d (cache_after a d now.cache) (misses_after a d now.cycle now.misses)

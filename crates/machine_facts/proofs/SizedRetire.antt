@@ -11,9 +11,9 @@ use Rattle.machine_desc.specs.Ranges.{IsDesc}
 use Rattle.window_model.specs.declared.Entry.{Entry}
 use Rattle.window_model.specs.declared.Outcome.{Outcome}
 use Rattle.window_model.specs.Shape.{SameShape}
-use Rattle.window_model.specs.State.{Machine, line_of}
+use Rattle.window_model.specs.State.{Machine}
 use Rattle.window_model.specs.Order.{is_store, is_done, value_of, fault_of}
-use Rattle.window_model.specs.Retire.{retire, head_leaves, addr_of, stored_of, width_of, may_leave, trap_of}
+use Rattle.window_model.specs.Retire.{retire, head_leaves, addr_of, lines_in, stored_of, width_of, may_leave, trap_of}
 use Rattle.window_model.proofs.Booleans.{both, done_waits}
 use Rattle.window_model.proofs.Lists.{each_then}
 use Rattle.window_model.proofs.Memory.{same_shape, shape_then, store_keeps, same_fault}
@@ -22,7 +22,7 @@ use Rattle.window_model.proofs.Counts.{rest_thins}
 use Rattle.window_model.proofs.Walks.{heads_keep}
 use Rattle.machine_facts.specs.Sized.{Sized, FaultIs}
 use Rattle.machine_facts.proofs.Parts.{WindowFits, IsEntry, CacheFits, parts, whole}
-use Rattle.machine_facts.proofs.Caches.{touched_fits}
+use Rattle.machine_facts.proofs.Caches.{lines_fit}
 use Rattle.machine_facts.proofs.SizedWindow.{thinner}
 use Rattle.window_model.proofs.Leaving.{gone, head_by, no_trap}
 
@@ -82,7 +82,7 @@ module _ (d : Desc) (ram : Ram) where
       (lies_gone x e rest _ _ _ _ _ _ w n (same_shape x.ram) cache h)
       e.item.kind (λ q.
       let inside = stores x e rest q w (both (is_done e.state) _ l).0 (no_trap e.item.kind e t).1 h in
-      lies_gone x e rest _ _ _ _ _ _ w n (store_keeps x.ram (addr_of e.outcome) (width_of e) (stored_of e.outcome) inside) (touched_fits d x.cache (line_of d (addr_of e.outcome)) cache) h)
+      lies_gone x e rest _ _ _ _ _ _ w n (store_keeps x.ram (addr_of e.outcome) (width_of e) (stored_of e.outcome) inside) (lines_fit d (lines_in d e) x.cache cache) h)
 
   ends : (x : Machine) (end : End) → Lies d ram x → Lies d ram (record x { end = Some end })
   ends x end h =

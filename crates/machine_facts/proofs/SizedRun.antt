@@ -10,7 +10,7 @@ use Rattle.window_model.proofs.Walks.{cycle_keep, run_keep}
 use Rattle.window_model.specs.Fill.{fill, complete}
 use Rattle.window_model.specs.Retire.{retire}
 use Rattle.rv_types.specs.Isa.{Hart}
-use Rattle.window_model.proofs.Quiet.{before_retire, cycle_is, front_quiet, back_quiet}
+use Rattle.window_model.proofs.Quiet.{at_retire, cycle_is, before_quiet, after_quiet}
 use Rattle.machine_facts.specs.Sized.{Sized}
 use Rattle.machine_facts.proofs.SizedPhases.{sized_opening, sized_begin, sized_fill, sized_complete, sized_resolve, sized_issue, sized_rename, sized_fetch}
 use Rattle.machine_facts.proofs.SizedRetire.{sized_retire, memory_stays_retire}
@@ -28,16 +28,16 @@ sized_at d code entry ram k i = run_keep d (Sized d) code (λ x. sized_cycle d c
 
 pub memory_stays_cycle : (d : Desc) (code : Code) (x : Machine) → IsDesc d → Sized d x → SameShape x.ram (cycle d code x).machine.ram
 memory_stays_cycle d code x i s =
-    let y = before_retire d x in
+    let y = at_retire d x in
     let z = (retire d y).machine in
-    let front = ap (λ (h : Hart). h.ram) (front_quiet d x).hart in
-    let back = ap (λ (h : Hart). h.ram) (back_quiet d code z).hart in
+    let before = ap (λ (h : Hart). h.ram) (before_quiet d x).hart in
+    let after = ap (λ (h : Hart). h.ram) (after_quiet d code z).hart in
     let x1 : Machine = record x { cycle = x.cycle + 1 } in
     let x2 = (fill d x1).machine in
     let x3 = (complete x2).machine in
     let t : Sized d y = sized_resolve d x3 i (sized_complete d x2 i (sized_fill d x1 i (sized_begin d x i s))) in
-    let stays = subst (λ m. SameShape m z.ram) front (memory_stays_retire d y i t) in
-    subst (λ (u : Machine). SameShape x.ram u.ram) (sym (cycle_is d code x)) (subst (SameShape x.ram) (sym back) stays)
+    let stays = subst (λ m. SameShape m z.ram) before (memory_stays_retire d y i t) in
+    subst (λ (u : Machine). SameShape x.ram u.ram) (sym (cycle_is d code x)) (subst (SameShape x.ram) (sym after) stays)
 
 -- sizes, and memory where it was at first
 record Lies (d : Desc) (ram : Ram) (x : Machine) : Type 0 where

@@ -9,7 +9,7 @@ use Rattle.window_model.specs.declared.Entry.{Entry}
 use Rattle.window_model.specs.declared.Item.{Item}
 use Rattle.window_model.specs.declared.Progress.TheVariants.{Waiting, Done}
 use Rattle.window_model.specs.Order.{is_load, is_store, is_waiting}
-use Rattle.window_model.specs.Front.{is_call, at_once, fits, fits_as, renamed}
+use Rattle.window_model.specs.Rename.{is_call, at_once, fits, fits_as, renamed}
 use Rattle.window_model.proofs.Booleans.{both, not_true, below}
 use Rattle.window_model.proofs.Counts.{Thins, thins_length, thins_count, count_is, count_pushed, none_counted, of_item, of_waiting}
 use Rattle.machine_facts.specs.Sized.{awaits, loads, stores, calls}

@@ -18,7 +18,8 @@ use Rattle.window_model.specs.Resolve.{resolve, squash, keep, is_from, next_of}
 use Rattle.window_model.specs.Retire.{retire, head_leaves, trap_of}
 use Rattle.window_model.specs.Around.{around}
 use Rattle.window_model.specs.Issue.{DivPort, LoadPort, issue, after_load, may_at}
-use Rattle.window_model.specs.Front.{rename, rename_one, renamed, fits, fetch, fetch_one, item_at, instr_at, kind_at, is_stop}
+use Rattle.window_model.specs.Rename.{rename, rename_one, renamed, fits, is_stop}
+use Rattle.window_model.specs.Fetch.{fetch, fetch_one, item_at, instr_at, kind_at}
 use Rattle.window_model.proofs.Lists.{each_join, each_left, each_right, each_push}
 use Rattle.window_model.proofs.Placing.{Taken, resolve_keep, taught}
 use Rattle.window_model.proofs.Registers.{read_other, writes_not_zero}

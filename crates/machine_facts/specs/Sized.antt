@@ -14,8 +14,8 @@ use Rattle.window_model.specs.declared.Outcome.{Outcome}
 use Rattle.window_model.specs.State.{Machine}
 use Rattle.window_model.specs.Order.{is_waiting, is_load, is_store}
 use Rattle.window_model.specs.Retire.{width_of}
-use Rattle.window_model.specs.Front.{CallAlone}
-pub use Rattle.window_model.specs.Front.{calls}
+use Rattle.window_model.specs.Rename.{CallAlone}
+pub use Rattle.window_model.specs.Rename.{calls}
 
 -- an entry that waits for its issue
 abbrev pub awaits : Entry → Bool

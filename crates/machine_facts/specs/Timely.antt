@@ -13,7 +13,7 @@ use Rattle.window_model.specs.declared.Progress.{Progress}
 use Rattle.window_model.specs.declared.Progress.TheVariants.{Busy}
 use Rattle.window_model.specs.State.{Machine}
 use Rattle.window_model.specs.Order.{is_done, is_faulty, is_store}
-use Rattle.window_model.specs.Front.{is_stop}
+use Rattle.window_model.specs.Rename.{is_stop}
 
 -- serials rise from one on, and all stay below another
 abbrev pub Rises : ℕ → List Entry → ℕ → Type 0

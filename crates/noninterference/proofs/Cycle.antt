@@ -4,17 +4,18 @@ use Rattle.rv_types.specs.Memory.{Code}
 use Rattle.rv_types.specs.declared.End.{End}
 use Rattle.machine_desc.specs.declared.Desc.{Desc}
 use Rattle.window_model.specs.declared.Event.{Event}
-use Rattle.window_model.specs.State.{Machine, After}
+use Rattle.window_model.specs.State.{Machine, After, then_does, nothing}
 use Rattle.window_model.specs.Fill.{fill, complete}
 use Rattle.window_model.specs.Resolve.{resolve}
 use Rattle.window_model.specs.Retire.{retire, unless_ended, hart_of}
 use Rattle.window_model.specs.Issue.{issue}
-use Rattle.window_model.specs.Front.{rename, fetch, then_does, nothing}
+use Rattle.window_model.specs.Rename.{rename}
+use Rattle.window_model.specs.Fetch.{fetch}
 use Rattle.window_model.specs.Row.{Row}
-use Rattle.window_model.specs.Cycle.{cycle}
+use Rattle.window_model.specs.Cycle.{before_retire, begins_cycle, cycle}
 use Rattle.window_model.specs.Committed.{Aligned}
 use Rattle.window_model.specs.Path.{path}
-use Rattle.window_model.proofs.Quiet.{Quiet, front_quiet, back_quiet, fill_quiet, complete_quiet, resolve_quiet, issue_quiet, rename_quiet, fetch_quiet}
+use Rattle.window_model.proofs.Quiet.{Quiet, before_quiet, after_quiet, fill_quiet, complete_quiet, resolve_quiet, issue_quiet, rename_quiet, fetch_quiet}
 use Rattle.committed_state.proofs.Retire.{retire_commits}
 use Rattle.noninterference.specs.Alike.{Alike, TellsNothing}
 use Rattle.noninterference.specs.InStep.{InStep, InStepUpTo}
@@ -25,7 +26,7 @@ use Rattle.noninterference.proofs.Complete.{fill_tells_nothing, complete_tells_n
 use Rattle.noninterference.proofs.Resolve.{resolve_tells_nothing}
 use Rattle.noninterference.proofs.Retire.{retire_tells_nothing}
 use Rattle.noninterference.proofs.Issue.{issue_tells_nothing}
-use Rattle.noninterference.proofs.Front.{rename_tells_nothing, fetch_tells_nothing}
+use Rattle.noninterference.proofs.RenameFetch.{rename_tells_nothing, fetch_tells_nothing}
 use Rattle.noninterference.proofs.Agree.{together_agree}
 
 -- the row of a cycle: what happened before Retire, in it and after it
@@ -59,14 +60,14 @@ module _ (d : Desc) (code : Code) (total : ℕ) (aligned : Aligned code) where
   -- ---- the phases before Retire
 
   begun : Machine → Machine
-  begun x = record x { cycle = x.cycle + 1 }
+  begun x = begins_cycle x
 
-  front : Machine → After
-  front x = then_does (fill d (begun x)) (λ y. then_does (complete y) (resolve d))
+  before : Machine → After
+  before x = before_retire d (begun x)
 
-  front_alike : (x x2 : Machine) → T x x2 → x.retired + d.core_rob ≤ total → T (front x).machine (front x2).machine × ((front x).events ≡ (front x2).events)
-  unfolding begun front
-  front_alike x x2 p le =
+  before_alike : (x x2 : Machine) → T x x2 → x.retired + d.core_rob ≤ total → T (before x).machine (before x2).machine × ((before x).events ≡ (before x2).events)
+  unfolding begun before
+  before_alike x x2 p le =
       let p0 : T (begun x) (begun x2) = record { alike = ap begun p.alike; facts = facts_begin d code x p.facts; facts2 = facts_begin d code x2 p.facts2; in_step = p.in_step } in
       let t1 = fill_tells_nothing d (begun x) (begun x2) p0.alike in
       let p1 = phase (fill d) (facts_fill d code) (fill_quiet d) (begun x) (begun x2) p0 t1 in
@@ -105,37 +106,37 @@ module _ (d : Desc) (code : Code) (total : ℕ) (aligned : Aligned code) where
       let e3 = same_events (fetch d code z) (fetch d code z2) t3 in
       (phase (fetch d code) (facts_fetch d code) (fetch_quiet d code) z z2 p2 t3, cc)
 
-  record Backs (a a2 : After) : Type 0 where
+  record AfterAlike (a a2 : After) : Type 0 where
     alike : Alike a.machine a2.machine
     events : a.events ≡ a2.events
     together : a.machine.end ≡ None → T a.machine a2.machine
 
-  back_alike : (o o2 : Option End) (x x2 : Machine) → o ≡ o2 → x.end ≡ o → Alike x x2 → (o ≡ None → T x x2) → (o ≡ None → x.retired + d.core_rob ≤ total) → Backs (unless_ended o (nothing x) (rest x)) (unless_ended o2 (nothing x2) (rest x2))
-  back_alike None None x x2 q n r p le =
+  after_alike : (o o2 : Option End) (x x2 : Machine) → o ≡ o2 → x.end ≡ o → Alike x x2 → (o ≡ None → T x x2) → (o ≡ None → x.retired + d.core_rob ≤ total) → AfterAlike (unless_ended o (nothing x) (rest x)) (unless_ended o2 (nothing x2) (rest x2))
+  after_alike None None x x2 q n r p le =
       let a = rest_alike x x2 (p refl) (le refl) in
       record { alike = a.0.alike; events = a.1; together = λ z. a.0 }
-  back_alike (Some e) (Some e2) x x2 q n r p le = record { alike = r; events = refl; together = λ z. absurd (cc) }
-  back_alike None (Some e) x x2 q n r p le = absurd (cc)
-  back_alike (Some e) None x x2 q n r p le = absurd (cc)
+  after_alike (Some e) (Some e2) x x2 q n r p le = record { alike = r; events = refl; together = λ z. absurd (cc) }
+  after_alike None (Some e) x x2 q n r p le = absurd (cc)
+  after_alike (Some e) None x x2 q n r p le = absurd (cc)
 
   -- ---- all of them
 
   cycle_alike : (x x2 : Machine) → x.end ≡ None → T x x2 → (cycle d code x).machine.retired + d.core_rob ≤ total → CyclesAlike d code total x x2
-  unfolding cycle begun front rest
+  unfolding cycle begun before rest
   cycle_alike x x2 n p le =
-      let y = (front x).machine in
-      let y2 = (front x2).machine in
+      let y = (before x).machine in
+      let y2 = (before x2).machine in
       let r = (retire d y).machine in
       let r2 = (retire d y2).machine in
-      let fq = front_quiet d x in
-      let bq = back_quiet d code r in
+      let fq = before_quiet d x in
+      let bq = after_quiet d code r in
       let ne : y.end ≡ None = fq.ended ∙ n in
-      let count = (retire_commits code aligned d y (front_facts x p.facts).consistent ne).committed.counted in
-      let f = front_alike x x2 p (omega (arith, le, fq.retired, bq.retired, count)) in
+      let count = (retire_commits code aligned d y (before_facts x p.facts).consistent ne).committed.counted in
+      let f = before_alike x x2 p (omega (arith, le, fq.retired, bq.retired, count)) in
       let fits = f.0.facts.fits in
       let ne2 : y2.end ≡ None = sym (ap (λ (m : Machine). m.end) f.0.alike) ∙ ne in
       let t = retire_tells_nothing d code total y y2 aligned ne f.0.facts.consistent f.0.facts2.consistent (omega (arith, fq.retired, bq.retired, count, le, fits)) f.0.alike f.0.in_step in
-      let b = back_alike r.end r2.end r r2 (ap (λ (m : Machine). m.end) t.alike) refl t.alike
+      let b = after_alike r.end r2.end r r2 (ap (λ (m : Machine). m.end) t.alike) refl t.alike
       (λ z. record { alike = t.alike; facts = facts_retire d code aligned y ne f.0.facts; facts2 = facts_retire d code aligned y2 ne2 f.0.facts2; in_step = t.in_step z })
       (λ z. omega (arith, bq.retired, le)) in
       let cy = ap (λ (m : Machine). m.cycle) p.alike in
@@ -144,8 +145,8 @@ module _ (d : Desc) (code : Code) (total : ℕ) (aligned : Aligned code) where
       let e3 = b.events in
       record { alike = b.alike; row = row_of x.cycle x2.cycle _ _ _ _ _ _ cy e1 e2 e3; together = b.together }
     where
-      front_facts : (x : Machine) → OwnFacts d code x → OwnFacts d code (front x).machine
-      front_facts x f = facts_resolve d code _ (facts_complete d code _ (facts_fill d code _ (facts_begin d code x f)))
+      before_facts : (x : Machine) → OwnFacts d code x → OwnFacts d code (before x).machine
+      before_facts x f = facts_resolve d code _ (facts_complete d code _ (facts_fill d code _ (facts_begin d code x f)))
 
 pub cycle_tells_nothing : CycleTellsNothing
 cycle_tells_nothing d code total x x2 aligned n p le = cycle_alike d code total aligned x x2 n p le

@@ -1,5 +1,5 @@
 -- What both runs may look at is equal: it comes from equal registers and from visible loads.
-use Rattle.std.proofs.Common.{◌≡◌, Bool, ◌||◌, true, false, List, [], ◌∷◌, refl, ap, sym, ◌∙◌, subst}
+use Rattle.std.proofs.Common.{◌≡◌, true, List, [], ◌∷◌, ap, sym, ◌∙◌, subst}
 use Rattle.std.specs.Prelude.{is_some}
 use Rattle.rv_types.specs.Memory.{Code}
 use Rattle.rv_types.specs.Isa.{Effect}
@@ -11,6 +11,7 @@ use Rattle.window_model.specs.Retire.{hart_of}
 use Rattle.window_model.specs.Taint.{visible}
 use Rattle.window_model.specs.Issue.{effect_of}
 use Rattle.window_model.specs.Shape.{SameShape}
+use Rattle.window_model.proofs.Booleans.{or_true}
 use Rattle.committed_state.specs.Computed.{Bank, ComesTo, computed}
 use Rattle.committed_state.specs.Consistent.{bank_in}
 use Rattle.committed_state.proofs.Onward.{of_item}
@@ -33,10 +34,6 @@ AllSameReads model [] [] = Unit {0}
 AllSameReads model (e ∷ before) (e2 ∷ before2) = SameReads model before e e2 × AllSameReads model before before2
 AllSameReads model [] (e2 ∷ before2) = ⊥
 AllSameReads model (e ∷ before) [] = ⊥
-
-store_access : (l s : Bool) → s ≡ true → (l || s) ≡ true
-store_access true s h = refl
-store_access false s h = h
 
 module _ (model : SttModel) (code : Code) (x x2 : Machine) (regs : x.regs ≡ x2.regs) (place : SameShape x.ram x2.ram) where
   abbrev s : Bank
@@ -61,7 +58,7 @@ module _ (model : SttModel) (code : Code) (x x2 : Machine) (regs : x.regs ≡ x2
           outcomes = entry_same model s s2 b b2 e e2 place a.0.issued st.computed c2 a.0.reads
               (λ l i. load_untainted code model b e st.item l (w.guarded.0.load i l))
               (λ t. effects_alike model x x2 regs b b2 same e e2 h t ∙ of_x2)
-              (λ k t. addresses_alike model x x2 regs b b2 same e e2 h (by_base code e st.item (store_access (is_load e.item.kind) (is_store e.item.kind) k)) t ∙ ap (λ (f : Effect). f.addr) of_x2);
+              (λ k t. addresses_alike model x x2 regs b b2 same e e2 h (by_base code e st.item (or_true (is_load e.item.kind) (is_store e.item.kind) k)) t ∙ ap (λ (f : Effect). f.addr) of_x2);
         },
         same,
       )

@@ -12,7 +12,8 @@ use Rattle.window_model.specs.Fill.{fill, complete, completed}
 use Rattle.window_model.specs.Resolve.{resolve}
 use Rattle.window_model.specs.Retire.{retire}
 use Rattle.window_model.specs.Issue.{issue}
-use Rattle.window_model.specs.Front.{rename, renamed, fits, fits_as, is_call, fetch}
+use Rattle.window_model.specs.Rename.{rename, renamed, fits, fits_as, is_call}
+use Rattle.window_model.specs.Fetch.{fetch}
 use Rattle.window_model.specs.Committed.{Aligned}
 use Rattle.window_model.proofs.Booleans.{both, below}
 use Rattle.window_model.proofs.Counts.{Evolves, evolves_same, evolves_thins, thins_length, map_evolves, place_evolves, completed_goes}
@@ -24,7 +25,7 @@ use Rattle.committed_state.proofs.Complete.{consistent_fill, consistent_complete
 use Rattle.committed_state.proofs.Resolve.{consistent_resolve}
 use Rattle.committed_state.proofs.Retire.{consistent_retire}
 use Rattle.committed_state.proofs.Issue.{consistent_issue}
-use Rattle.committed_state.proofs.Front.{consistent_rename, consistent_fetch}
+use Rattle.committed_state.proofs.RenameFetch.{consistent_rename, consistent_fetch}
 use Rattle.committed_state.proofs.Run.{consistent_opening}
 use Rattle.committed_state.proofs.Guards.{guarded_fill, guarded_complete, guarded_resolve, guarded_retire, guarded_issue, guarded_rename, guarded_fetch}
 use Rattle.noninterference.specs.Together.{OwnFacts}

@@ -1,7 +1,7 @@
 pub mod Looking
 pub mod Operand
 pub mod Complete
-pub mod Front
+pub mod RenameFetch
 pub mod SameBytes
 pub mod StepsAlike
 pub mod Onward

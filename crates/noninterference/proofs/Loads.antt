@@ -22,7 +22,7 @@ use Rattle.window_model.specs.declared.Entry.{Entry}
 use Rattle.window_model.specs.Order.{is_load, is_store}
 use Rattle.window_model.specs.Retire.{width_of, width_in}
 use Rattle.window_model.specs.Taint.{base_of, tainted, any_tainted, address_tainted}
-use Rattle.window_model.specs.Front.{instr_at, kind_at}
+use Rattle.window_model.specs.Fetch.{instr_at, kind_at}
 use Rattle.window_model.specs.Shape.{SameShape}
 use Rattle.window_model.proofs.Memory.{inside}
 use Rattle.committed_state.specs.Computed.{Bank, outcome_as}

@@ -20,7 +20,7 @@ use Rattle.window_model.specs.declared.Progress.TheVariants.{Waiting, Busy, Done
 use Rattle.window_model.specs.Order.{fault_of, is_control, is_done, is_faulty, sources}
 use Rattle.window_model.specs.Resolve.{next_of}
 use Rattle.window_model.specs.Taint.{passes, safe_as, settled_as}
-use Rattle.window_model.specs.Front.{at_once}
+use Rattle.window_model.specs.Rename.{at_once}
 use Rattle.window_model.specs.Committed.{Aligned}
 use Rattle.window_model.specs.Path.{path}
 use Rattle.window_model.proofs.Booleans.{both, not_true, some_of}

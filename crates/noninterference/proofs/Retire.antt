@@ -11,7 +11,7 @@ use Rattle.window_model.specs.Retire.{Retired, retire, turns, turn, head_turn, h
 use Rattle.window_model.specs.declared.Entry.{Entry}
 use Rattle.window_model.specs.State.{Machine}
 use Rattle.window_model.specs.Order.{is_load, is_store}
-use Rattle.window_model.specs.Front.{is_call}
+use Rattle.window_model.specs.Rename.{is_call}
 use Rattle.window_model.specs.Committed.{Aligned}
 use Rattle.window_model.specs.Path.{path}
 use Rattle.window_model.proofs.Booleans.{some_of}

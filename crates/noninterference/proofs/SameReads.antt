@@ -15,7 +15,7 @@ use Rattle.window_model.specs.State.{Machine}
 use Rattle.window_model.specs.Order.{is_load}
 use Rattle.window_model.specs.Retire.{hart_of}
 use Rattle.window_model.specs.Taint.{visible}
-use Rattle.window_model.specs.Front.{at_once}
+use Rattle.window_model.specs.Rename.{at_once}
 use Rattle.window_model.specs.Committed.{Aligned}
 use Rattle.window_model.specs.Path.{path}
 use Rattle.window_model.proofs.Lists.{each_left}

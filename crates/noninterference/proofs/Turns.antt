@@ -1,5 +1,6 @@
 -- What a head leaves in two runs in which it is one entry.
 use Rattle.std.proofs.Common.{◌≡◌, ℕ, suc, ◌+◌, ◌≤◌, Bool, false, List, [], ◌∷◌, ◌++◌, length, map, Option, Some, None, refl, ap, sym, ◌∙◌, subst, arith}
+use Rattle.std.specs.List.{fold}
 use Rattle.std.proofs.lemmas.List.{length-append}
 use Rattle.rv_types.specs.Regs.{writes_of}
 use Rattle.rv_types.specs.Memory.{Code}
@@ -9,32 +10,23 @@ use Rattle.rv_types.specs.declared.End.TheVariants.{Exit}
 use Rattle.rv_types.specs.declared.Kind.{Kind}
 use Rattle.rv_types.specs.declared.Kind.TheVariants.{Store, Call}
 use Rattle.machine_desc.specs.declared.Desc.{Desc}
-use Rattle.window_model.specs.Retire.{has_line, Retired, turns, head_leaves, call_leaves, as_hart, then_retires, stays, hart_of, addr_of, touched}
+use Rattle.window_model.specs.Retire.{has_line, Retired, turns, head_leaves, call_leaves, as_hart, then_retires, stays, hart_of, lines_in, touched}
 use Rattle.window_model.specs.declared.Entry.{Entry}
-use Rattle.window_model.specs.State.{Machine, line_of}
+use Rattle.window_model.specs.State.{Machine}
 use Rattle.window_model.specs.Order.{value_of}
 use Rattle.window_model.specs.Resolve.{next_of}
-use Rattle.window_model.specs.Front.{is_call}
+use Rattle.window_model.specs.Rename.{is_call}
 use Rattle.window_model.specs.declared.Event.TheVariants as event
 use Rattle.window_model.proofs.Calls.{CallDoes}
-use Rattle.committed_state.specs.Consistent.{Holds, Consistent}
-use Rattle.committed_state.proofs.Turn.{head_ram}
+use Rattle.committed_state.specs.Consistent.{Consistent}
 use Rattle.committed_state.proofs.Calls.{turns_empty}
+use Rattle.committed_state.proofs.Retire.{LeftAs}
 use Rattle.noninterference.specs.Alike.{Alike, shown, without_outcome}
 use Rattle.noninterference.specs.InStep.{InStepUpTo}
 use Rattle.noninterference.specs.Together.{RetiresAlike}
 use Rattle.noninterference.proofs.StepsAlike.{Moved, StepsAlike}
 use Rattle.noninterference.proofs.Onward.{goes_on}
 use Rattle.noninterference.proofs.Paths.{path_goes}
-
--- the state behind a head of this kind
-abbrev pub hart_as : Kind → Hart → Entry → Hart
-hart_as k s e = record { pc = next_of e.outcome; regs = with_reg s.regs (writes_of e.item.instr) (value_of e.outcome); ram = head_ram k s.ram e e.outcome }
-
--- what a head of this kind leaves, and that it is a step
-pub record LeftAs (code : Code) (k : Kind) (x : Machine) (e : Entry) (rest : List Entry) : Type 0 where
-  pub holds : Holds code (hart_as k (hart_of x) e) rest x.queue x.fetch_pc
-  pub step : isa_step code (hart_of x) ≡ Goes (hart_as k (hart_of x) e) []
 
 module _ (d : Desc) (code : Code) (total : ℕ) where
   -- two ends of turns
@@ -69,7 +61,7 @@ module _ (d : Desc) (code : Code) (total : ℕ) where
   left e w m = record m { window = w; regs = with_reg m.regs (writes_of e.item.instr) (value_of e.outcome); pc = next_of e.outcome; retired = m.retired + 1 }
 
   abbrev left_store : Entry → List Entry → Machine → Machine
-  left_store e w m = record (left e w m) { cache = touched d m.cache (line_of d (addr_of e.outcome)) }
+  left_store e w m = record (left e w m) { cache = fold (touched d) m.cache (lines_in d e) }
 
   -- a head that is no call leaves both alike
   pub left_turn : (k : Kind) (x x2 : Machine) (e : Entry) (rest rest2 : List Entry) (more : Machine → Retired) → is_call k ≡ false → LeftAs code k x e rest → LeftAs code k x2 e rest2 → x.end ≡ None → map without_outcome rest ≡ map without_outcome rest2 → x.retired + suc (length rest) ≤ total → Alike x x2 → InStepUpTo d.stt_model code total x x2 → Follows more →
@@ -79,7 +71,7 @@ module _ (d : Desc) (code : Code) (total : ℕ) where
       let t = head_leaves Store d e rest x in
       let t2 = head_leaves Store d e rest2 x2 in
       then_alike t t2 more more
-      (ap (λ (u : Machine). event.Ret e.serial ∷ event.St e.serial (line_of d (addr_of e.outcome)) (has_line d u.cache (line_of d (addr_of e.outcome))) ∷ []) r) refl
+      (ap (λ (u : Machine). event.Ret e.serial ∷ map (λ line. event.St e.serial line (has_line d u.cache line)) (lines_in d e)) r) refl
       (m t.machine t2.machine n l.holds l2.holds (omega (arith, le)) (ap (left_store e (map without_outcome rest)) r ∙ ap (λ w. left_store e w (shown x2)) w) (in_step_after x x2 t.machine t2.machine [] [] a l.step l2.step refl))
   left_turn k x x2 e rest rest2 more c l l2 n w le r a m =
       let t = head_leaves k d e rest x in

@@ -9,7 +9,8 @@ use Rattle.window_model.specs.Fill.{fill, complete}
 use Rattle.window_model.specs.Resolve.{resolve}
 use Rattle.window_model.specs.Retire.{retire}
 use Rattle.window_model.specs.Issue.{issue}
-use Rattle.window_model.specs.Front.{rename, fetch}
+use Rattle.window_model.specs.Rename.{rename}
+use Rattle.window_model.specs.Fetch.{fetch}
 use Rattle.window_model.specs.Cycle.{cycle, trace}
 use Rattle.window_model.specs.Path.{reads_of_trace}
 use Rattle.committed_state.specs.Consistent.{Consistent}

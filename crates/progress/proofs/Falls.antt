@@ -15,22 +15,23 @@ use Rattle.window_model.specs.Order.{is_done}
 use Rattle.window_model.specs.Fill.{completed, completes}
 use Rattle.window_model.specs.Retire.{may_leave}
 use Rattle.window_model.specs.Issue.{issue}
-use Rattle.window_model.specs.Front.{rename, fetch, at_once, rename_one, item_at}
+use Rattle.window_model.specs.Rename.{rename, at_once, rename_one}
+use Rattle.window_model.specs.Fetch.{fetch, item_at}
 use Rattle.window_model.specs.Cycle.{cycle}
-use Rattle.window_model.proofs.Quiet.{before_retire}
+use Rattle.window_model.proofs.Quiet.{at_retire}
 use Rattle.machine_facts.specs.Sized.{Sized}
 use Rattle.machine_facts.specs.Timely.{Timely}
 use Rattle.progress.specs.Measure.{takes, until_renamed, time_left, measure}
 use Rattle.progress.proofs.Bounds.{waiting_at_most, miss_takes_time}
-use Rattle.progress.proofs.Front.{Appends, appends_then, rename_appends, rename_none, rename_first, fetch_fetches, fetch_some}
+use Rattle.progress.proofs.RenameFetch.{Appends, appends_then, rename_appends, rename_none, rename_first, fetch_fetches, fetch_some}
 use Rattle.progress.proofs.Oldest.{resolve_oldest, resolve_resolves}
 use Rattle.progress.proofs.Stops.{Stuck}
 use Rattle.progress.proofs.IssueOldest.{needs, Began, oldest_nearer}
-use Rattle.progress.proofs.Idle.{Idle, idle, before_resolve, after_retire, timely_before_retire}
+use Rattle.progress.proofs.Idle.{Idle, idle, before_resolve, after_fetch, timely_at_retire}
 
 -- the measure falls from x, whose window and queue the lemmas below take apart
 abbrev FallsAt : Desc → Code → Machine → Type 0
-FallsAt d code x = IsDesc d → Sized d x → Timely d x → Idle d code x → measure d (after_retire d code (before_retire d x)) < measure d x
+FallsAt d code x = IsDesc d → Sized d x → Timely d x → Idle d code x → measure d (after_fetch d code (at_retire d x)) < measure d x
 
 same_left : (d : Desc) (c c2 : ℕ) (ms ms2 : List Miss) (v v2 : Divider) (q : List Item) (w : List Entry) → c ≡ c2 → ms ≡ ms2 → v ≡ v2 → time_left d c ms v.free_from q w ≡ time_left d c2 ms2 v2.free_from q w
 same_left d c c2 ms ms2 v v2 q w p r t = rw p (rw r (rw t refl))
@@ -51,7 +52,7 @@ shorter d y j r w q =
 nothing_there : (d : Desc) (code : Code) (o : Option ℕ) (x : Machine) → FallsAt d code (record x { window = []; queue = []; fetch_pc = o })
 nothing_there d code None x i s t h = let f = t.fetches refl in let e = h.end in absurd (cc)
 nothing_there d code (Some pc) x i s t h =
-    let b = before_retire d (record x { window = []; queue = []; fetch_pc = Some pc }) in
+    let b = at_retire d (record x { window = []; queue = []; fetch_pc = Some pc }) in
     let f = fetch_some d code pc b i in
     let y = (fetch d code b).machine in
     subst (λ (m : Machine). measure d (fetch d code m).machine < bound d) (sym (rename_none d b)) (shorter d y (item_at d code b pc) f.queue.0 f.window f.queue.1)
@@ -65,12 +66,12 @@ new_takes false k d c ms f h = h
 item_there : (d : Desc) (code : Code) (j : Item) (rest : List Item) (x : Machine) → FallsAt d code (record x { window = []; queue = j ∷ rest })
 item_there d code j rest x i s t h =
     let x0 : Machine = record x { window = []; queue = j ∷ rest } in
-    let b = before_retire d x0 in
+    let b = at_retire d x0 in
     let r = (rename_one d j rest b).machine in
     let z = (rename d b).machine in
     let y = (fetch d code z).machine in
     let p = appends_then r z y (rename_first d i j rest b) (fetch_fetches d code z).appends in
-    let u = timely_before_retire d x0 i t in
+    let u = timely_at_retire d x0 i t in
     let l = new_takes (at_once j.kind) j.kind d b.cycle b.misses b.divider.free_from (waiting_at_most d b.cycle b.misses b.divider.free_from j.kind (miss_takes_time d i) u.misses u.divider) in
     let m : measure d y ≡ takes (if at_once j.kind then Done else Waiting) j.kind d b.cycle b.misses b.divider.free_from = measure_appended d r y p in
     omega arith
@@ -94,10 +95,10 @@ entry_there d code e es x i s t h =
     let a = before_resolve d x0 in
     let c = x.cycle + 1 in
     let o = resolve_oldest d (completed c e) _ a in
-    let b = before_retire d x0 in
+    let b = at_retire d x0 in
     let b2 : Machine = record b { window = o.entry ∷ o.rest } in
     let same : b ≡ b2 = ap (λ w. let m : Machine = record b { window = w } in m) o.shape in
-    let u : Timely d b2 = subst (Timely d) same (timely_before_retire d x0 i t) in
+    let u : Timely d b2 = subst (Timely d) same (timely_at_retire d x0 i t) in
     let stuck : may_leave o.entry ≡ false = subst Stuck o.shape h.stuck in
     let waits : is_done (completed c e).state ≡ false = not_done (is_done (completed c e).state) (λ p. sym (o.leaves p) ∙ stuck) in
     let spare : completed c e ≡ e = spared (completes c e) e waits in
@@ -113,7 +114,7 @@ entry_there d code e es x i s t h =
     ap (λ v. takes v o.entry.item.kind d x.cycle x.misses x.divider.free_from) (o.state ∙ ap (λ (e : Entry). e.state) spare)
     ∙ ap (λ (v : Item). takes e.state v.kind d x.cycle x.misses x.divider.free_from) (o.item ∙ ap (λ (e : Entry). e.item) spare) in
     let g : measure d y < measure d x0 = less (measure d y) _ _ (measure d x0) m nearer n in
-    subst (λ (m : Machine). measure d (after_retire d code m) < measure d x0) (sym same) g
+    subst (λ (m : Machine). measure d (after_fetch d code m) < measure d x0) (sym same) g
 
 by_window : (d : Desc) (code : Code) (w : List Entry) (q : List Item) (x : Machine) → FallsAt d code (record x { window = w; queue = q })
 by_window d code [] [] x = nothing_there d code x.fetch_pc x

@@ -4,13 +4,14 @@ use Rattle.rv_types.specs.Memory.{Code}
 use Rattle.rv_types.specs.declared.End.{End}
 use Rattle.machine_desc.specs.declared.Desc.{Desc}
 use Rattle.machine_desc.specs.Ranges.{IsDesc}
-use Rattle.window_model.specs.State.{Machine}
+use Rattle.window_model.specs.State.{Machine, then_does, nothing}
 use Rattle.window_model.specs.Fill.{fill, complete}
 use Rattle.window_model.specs.Retire.{retire, unless_ended}
 use Rattle.window_model.specs.Issue.{issue}
-use Rattle.window_model.specs.Front.{rename, fetch, then_does, nothing}
-use Rattle.window_model.specs.Cycle.{cycle, back}
-use Rattle.window_model.proofs.Quiet.{Quiet, quiet_then, before_retire, cycle_is, front_quiet, back_quiet, issue_quiet, rename_quiet, fetch_quiet}
+use Rattle.window_model.specs.Rename.{rename}
+use Rattle.window_model.specs.Fetch.{fetch}
+use Rattle.window_model.specs.Cycle.{cycle, after_retire}
+use Rattle.window_model.proofs.Quiet.{Quiet, quiet_then, at_retire, cycle_is, before_quiet, after_quiet, issue_quiet, rename_quiet, fetch_quiet}
 use Rattle.machine_facts.specs.Timely.{Timely}
 use Rattle.machine_facts.proofs.TimelyPhases.{timely_begin, timely_fill, timely_complete, timely_resolve}
 use Rattle.progress.proofs.Stops.{Stuck, retire_turned}
@@ -19,54 +20,54 @@ use Rattle.progress.proofs.Stops.{Stuck, retire_turned}
 abbrev pub before_resolve : Desc → Machine → Machine
 before_resolve d x = (complete (fill d (record x { cycle = x.cycle + 1 })).machine).machine
 
-abbrev pub after_retire : Desc → Code → Machine → Machine
-after_retire d code x = (fetch d code (rename d (issue d x).machine).machine).machine
+abbrev pub after_fetch : Desc → Code → Machine → Machine
+after_fetch d code x = (fetch d code (rename d (issue d x).machine).machine).machine
 
 -- what is under way before Retire ends in a later cycle
-pub timely_before_retire : (d : Desc) (x : Machine) → IsDesc d → Timely d x → Timely d (before_retire d x)
-timely_before_retire d x i h =
+pub timely_at_retire : (d : Desc) (x : Machine) → IsDesc d → Timely d x → Timely d (at_retire d x)
+timely_at_retire d x i h =
     let x1 : Machine = record x { cycle = x.cycle + 1 } in
     timely_resolve d (before_resolve d x) i (timely_complete x.cycle d (fill d x1).machine i refl (timely_fill x.cycle x.cycle d x1 i refl (timely_begin d x i h)))
 
 -- what has retired stays so
 pub cycle_retires : (d : Desc) (code : Code) (x : Machine) → x.retired ≤ (cycle d code x).machine.retired
 cycle_retires d code x =
-    let y = before_retire d x in
+    let y = at_retire d x in
     let z = (retire d y).machine in
-    let f = (front_quiet d x).retired in
+    let f = (before_quiet d x).retired in
     let r = (retire_turned d y).retired in
-    let b = (back_quiet d code z).retired in
+    let b = (after_quiet d code z).retired in
     rw (cycle_is d code x) (omega arith)
 
-after_retire_quiet : (d : Desc) (code : Code) (x : Machine) → Quiet x (after_retire d code x)
-after_retire_quiet d code x =
+after_fetch_quiet : (d : Desc) (code : Code) (x : Machine) → Quiet x (after_fetch d code x)
+after_fetch_quiet d code x =
     let y = (issue d x).machine in
     let z = (rename d y).machine in
     quiet_then x y (fetch d code z).machine (issue_quiet d x) (quiet_then y z (fetch d code z).machine (rename_quiet d y) (fetch_quiet d code z))
 
 -- Retire changes nothing, and the cycle goes on to its end
 pub record Idle (d : Desc) (code : Code) (x : Machine) : Type 0 where
-  pub stuck : Stuck (before_retire d x).window
+  pub stuck : Stuck (at_retire d x).window
   pub end : x.end ≡ None
-  pub after : (cycle d code x).machine ≡ after_retire d code (before_retire d x)
+  pub after : (cycle d code x).machine ≡ after_fetch d code (at_retire d x)
 
 -- r is what Retire leaves of x
 idle_by : (d : Desc) (code : Code) (x r : Machine) (o : Option End) → r.end ≡ o → (r.end ≡ None → r.retired ≡ x.retired → (r ≡ x) × Stuck x.window) →
     let y = (unless_ended o (nothing r) (then_does (issue d r) (λ y. then_does (rename d y) (fetch d code)))).machine in
-    y.end ≡ None → y.retired ≡ x.retired → (r ≡ x) × Stuck x.window × (y ≡ after_retire d code x) × (r.end ≡ None)
+    y.end ≡ None → y.retired ≡ x.retired → (r ≡ x) × Stuck x.window × (y ≡ after_fetch d code x) × (r.end ≡ None)
 idle_by d code x r (Some e) h k p q = absurd (cc)
 idle_by d code x r None h k p q =
-    let b = after_retire_quiet d code r in
+    let b = after_fetch_quiet d code r in
     let t = k h (sym b.retired ∙ q) in
-    (t.0, t.1, ap (after_retire d code) t.0, h)
+    (t.0, t.1, ap (after_fetch d code) t.0, h)
 
 pub idle : (d : Desc) (code : Code) (x : Machine) → IsDesc d → (cycle d code x).machine.end ≡ None → (cycle d code x).machine.retired ≡ x.retired → Idle d code x
 idle d code x i p q =
-    let b = before_retire d x in
+    let b = at_retire d x in
     let r = (retire d b).machine in
-    let f = front_quiet d x in
-    let p2 : (back d code r).machine.end ≡ None = ap (λ (m : Machine). m.end) (sym (cycle_is d code x)) ∙ p in
-    let q2 : (back d code r).machine.retired ≡ b.retired = ap (λ (m : Machine). m.retired) (sym (cycle_is d code x)) ∙ q ∙ sym f.retired in
+    let f = before_quiet d x in
+    let p2 : (after_retire d code r).machine.end ≡ None = ap (λ (m : Machine). m.end) (sym (cycle_is d code x)) ∙ p in
+    let q2 : (after_retire d code r).machine.retired ≡ b.retired = ap (λ (m : Machine). m.retired) (sym (cycle_is d code x)) ∙ q ∙ sym f.retired in
     let k = idle_by d code b r r.end refl (λ u v. (retire_turned d b).stops i.retire_width.0 refl u v) p2 q2 in
     record {
       stuck = k.1;

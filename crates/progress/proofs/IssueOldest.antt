@@ -21,12 +21,12 @@ use Rattle.window_model.specs.Around.{Around, around, is_free}
 use Rattle.window_model.specs.Access.{Access, Faults, Forwards, Looks, Waits, misses_after}
 use Rattle.window_model.specs.Issue.{Begun, DivPort, LoadPort, issue, issue_entry, begin_as, load_as, access_of, waits, effect_of, value_loaded, time_of, is_granted, may_at, may_issue_as, after_load, divider_after, ports, port_of, same_port}
 use Rattle.window_model.proofs.Issuing.{by_load, same_self}
+use Rattle.window_model.proofs.Booleans.{is_below}
 use Rattle.machine_facts.specs.Timely.{Timely, IsPending, longest_division}
 use Rattle.machine_facts.proofs.Dues.{LooksSoon, looks_soon}
 use Rattle.machine_facts.proofs.Ports.{issue_adds}
 use Rattle.progress.specs.Measure.{wait, takes}
 use Rattle.progress.proofs.Bounds.{register_nearer, miss_takes_time}
-use Rattle.progress.proofs.Front.{nat_lt_is}
 use Rattle.progress.proofs.Oldest.{oldest_ready, oldest_untainted, oldest_address}
 
 -- the cycles until the entry is done
@@ -51,7 +51,7 @@ headed x e es = record x { window = e ∷ es }
 -- an oldest entry that may issue has a port
 granted : (k : Kind) (d : Desc) (now : Around) (e : Entry) → may_issue_as k d now [] (made Waiting k e) ≡ true → 1 ≤ ports d (port_of k) → is_granted d now (port_of k) [] (made Waiting k e) ≡ true
 granted k d now e m p =
-    both_true (both_true (both_true (oldest_ready (made Waiting k e)) m) (same_self (port_of k))) (nat_lt_is 0 (ports d (port_of k)) (omega arith))
+    both_true (both_true (both_true (oldest_ready (made Waiting k e)) m) (same_self (port_of k))) (is_below 0 (ports d (port_of k)) (omega arith))
 
 -- a load may issue, and a division where the divider is free
 load_may : (d : Desc) (now : Around) (e : Entry) → may_issue_as Load d now [] (made Waiting Load e) ≡ true

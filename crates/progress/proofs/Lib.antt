@@ -1,5 +1,5 @@
 pub mod Bounds
-pub mod Front
+pub mod RenameFetch
 pub mod Oldest
 pub mod Stops
 pub mod IssueOldest

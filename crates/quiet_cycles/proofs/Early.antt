@@ -13,11 +13,10 @@ use Rattle.window_model.specs.declared.Progress.{Progress}
 use Rattle.window_model.specs.declared.Progress.TheVariants.{Waiting, Busy, Done}
 use Rattle.window_model.specs.declared.Target.{Target}
 use Rattle.window_model.specs.declared.Way.TheVariants.{Jump}
-use Rattle.window_model.specs.State.{Machine, After}
+use Rattle.window_model.specs.State.{Machine, After, nothing}
 use Rattle.window_model.specs.Order.{Place, first, is_faulty}
 use Rattle.window_model.specs.Fill.{fill, is_due, with_line, complete, completed, completes, completes_at}
 use Rattle.window_model.specs.Resolve.{resolve, resolve_at, may_resolve, learn, learn_as, learn_target, next_of}
-use Rattle.window_model.specs.Front.{nothing}
 use Rattle.window_model.proofs.Lists.{each_then}
 use Rattle.quiet_cycles.specs.Still.{NotDueBefore, NotDoneBefore}
 use Rattle.quiet_cycles.proofs.Nothing.{both_empty, map_empty, Lacks, none_left, none_kept, all_kept}

@@ -1,7 +1,7 @@
 pub mod Nothing
 pub mod Early
 pub mod Turns
-pub mod Front
+pub mod RenameFetch
 pub mod Waiting
 pub mod Later
 pub mod Silent

@@ -2,8 +2,7 @@
 use Rattle.std.proofs.Common.{◌≡◌, Bool, true, false, not, cond, List, [], ◌∷◌, ◌++◌, refl, ap, ◌∙◌, subst}
 use Rattle.std.specs.Prelude.{map}
 use Rattle.std.specs.List.{filter, AllByRecursion as Each}
-use Rattle.window_model.specs.State.{Machine, After}
-use Rattle.window_model.specs.Front.{then_does, nothing}
+use Rattle.window_model.specs.State.{Machine, After, then_does, nothing}
 
 -- ---- lists
 

@@ -7,7 +7,7 @@ use Rattle.machine_desc.specs.declared.Desc.{Desc}
 use Rattle.window_model.specs.State.{Machine}
 use Rattle.window_model.specs.Retire.{retire, unless_ended}
 use Rattle.window_model.specs.Cycle.{Cycled, cycle, after_cycles, rows, pieces}
-use Rattle.window_model.proofs.Quiet.{before_retire, back_quiet, cycle_is, front_quiet}
+use Rattle.window_model.proofs.Quiet.{at_retire, after_quiet, cycle_is, before_quiet}
 use Rattle.quiet_cycles.specs.Still.{NothingDueBefore, StillUntil, at_cycle, empty_row, empty_rows}
 use Rattle.quiet_cycles.specs.Laws.{EmptyRowStands, PassesOver, StandsAfterEmptyRow, StandsUntilDue, StillGoesOn}
 use Rattle.quiet_cycles.proofs.Silent.{silent_if, silent_later, still_if}
@@ -22,9 +22,9 @@ not_ended d code x h = by_end x.end refl
     by_end : (o : Option End) → x.end ≡ o → o ≡ None
     by_end None q = refl
     by_end (Some e) q =
-        let y = before_retire d x in
-        let r = retire_ended d y e ((front_quiet d x).ended ∙ q) in
-        let b = (back_quiet d code (retire d y).machine).ended in
+        let y = at_retire d x in
+        let r = retire_ended d y e ((before_quiet d x).ended ∙ q) in
+        let b = (after_quiet d code (retire d y).machine).ended in
         let c = ap (λ (m : Machine). m.end) (cycle_is d code x) in
         absurd (cc)
 

@@ -5,28 +5,29 @@ use Rattle.rv_types.specs.Memory.{Code}
 use Rattle.rv_types.specs.declared.End.{End}
 use Rattle.machine_desc.specs.declared.Desc.{Desc}
 use Rattle.window_model.specs.declared.Event.{Event}
-use Rattle.window_model.specs.State.{Machine, After}
+use Rattle.window_model.specs.State.{Machine, After, then_does, nothing}
 use Rattle.window_model.specs.Around.{around}
 use Rattle.window_model.specs.Order.{first}
 use Rattle.window_model.specs.Fill.{fill, complete}
 use Rattle.window_model.specs.Resolve.{resolve, may_resolve}
 use Rattle.window_model.specs.Retire.{Retired, retire, stays, unless_ended}
 use Rattle.window_model.specs.Issue.{issue}
-use Rattle.window_model.specs.Front.{rename, fetch, then_does, nothing}
-use Rattle.window_model.specs.Cycle.{Cycled, cycle, back}
-use Rattle.window_model.proofs.Quiet.{back_quiet}
+use Rattle.window_model.specs.Rename.{rename}
+use Rattle.window_model.specs.Fetch.{fetch}
+use Rattle.window_model.specs.Cycle.{Cycled, after_retire, before_retire, cycle}
+use Rattle.window_model.proofs.Quiet.{after_quiet}
 use Rattle.quiet_cycles.specs.Still.{NothingDueBefore, Still, at_cycle}
 use Rattle.quiet_cycles.proofs.Nothing.{both_empty, nothing_first, nothing_then}
 use Rattle.quiet_cycles.proofs.Early.{NoLine, no_line, fill_nothing, no_line_later, NoneDone, none_done, complete_nothing, none_done_later, none_resolves, resolve_nothing}
 use Rattle.quiet_cycles.proofs.Turns.{retire_nothing}
-use Rattle.quiet_cycles.proofs.Front.{rename_nothing, fetch_nothing}
+use Rattle.quiet_cycles.proofs.RenameFetch.{rename_nothing, fetch_nothing}
 use Rattle.quiet_cycles.proofs.Waiting.{NoneBegins, none_begins, issue_nothing}
 use Rattle.quiet_cycles.proofs.Later.{free_as_before, none_begins_later}
 
 -- ---- the facts
 
 -- nothing issues, and whatever the cycle nothing is renamed or fetched
-pub record SilentBack (d : Desc) (code : Code) (x : Machine) : Type 0 where
+pub record SilentAfter (d : Desc) (code : Code) (x : Machine) : Type 0 where
   pub begins : NoneBegins d (around x) [] x.window
   pub renames : (c : ℕ) → rename d (at_cycle c x) ≡ nothing (at_cycle c x)
   pub fetches : (c : ℕ) → fetch d code (at_cycle c x) ≡ nothing (at_cycle c x)
@@ -37,17 +38,13 @@ pub record Silent (d : Desc) (code : Code) (x : Machine) : Type 0 where
   pub dones : NoneDone x.cycle x.window
   pub resolves : first (may_resolve d) x.window ≡ None
   pub retires : (c : ℕ) → retire d (at_cycle c x) ≡ stays (at_cycle c x)
-  pub goes_on : x.end ≡ None → SilentBack d code x
+  pub goes_on : x.end ≡ None → SilentAfter d code x
 
 module _ (d : Desc) (code : Code) where
-  -- the phases before Retire
-  abbrev front : Machine → After
-  front x = then_does (fill d x) (λ y. then_does (complete y) (resolve d))
-
   -- ---- from the facts to the cycle
 
-  front_nothing : (x : Machine) → Silent d code x → front x ≡ nothing x
-  front_nothing x s =
+  before_nothing : (x : Machine) → Silent d code x → before_retire d x ≡ nothing x
+  before_nothing x s =
       nothing_then x (fill d x) (λ y. then_does (complete y) (resolve d)) (fill_nothing d x s.lines)
       (nothing_then x (complete x) (resolve d) (complete_nothing x s.dones) (resolve_nothing d x s.resolves))
 
@@ -58,15 +55,15 @@ module _ (d : Desc) (code : Code) where
       nothing_then x (issue d x) (λ y. then_does (rename d y) (fetch d code)) (issue_nothing d x b.begins)
       (nothing_then x (rename d x) (fetch d code) (b.renames x.cycle) (b.fetches x.cycle))
 
-  back_nothing : (x : Machine) → Silent d code x → back d code x ≡ nothing x
-  back_nothing x s = by_end x.end x refl s
+  after_nothing : (x : Machine) → Silent d code x → after_retire d code x ≡ nothing x
+  after_nothing x s = by_end x.end x refl s
 
   -- a cycle from what its first phases leave, what Retire does, and the phases after it
   abbrev ends_as : ℕ → List Event → Retired → After → Cycled
   ends_as c events r b = record { machine = b.machine; row = record { cycle = c; events = events ++ r.events ++ b.events }; piece = r.piece }
 
   abbrev retires_as : ℕ → List Event → Retired → Cycled
-  retires_as c events r = ends_as c events r (back d code r.machine)
+  retires_as c events r = ends_as c events r (after_retire d code r.machine)
 
   abbrev begins_as : ℕ → After → Cycled
   begins_as c f = retires_as c f.events (retire d f.machine)
@@ -76,12 +73,12 @@ module _ (d : Desc) (code : Code) where
   still_if x s =
       let c = x.cycle + 1 in
       let y = at_cycle c x in
-      ap (begins_as c) (front_nothing y s) ∙ ap (retires_as c []) (s.retires c) ∙ ap (ends_as c [] (stays y)) (back_nothing y s)
+      ap (begins_as c) (before_nothing y s) ∙ ap (retires_as c []) (s.retires c) ∙ ap (ends_as c [] (stays y)) (after_nothing y s)
 
   -- ---- from the cycle to the facts
 
-  back_silent : (x : Machine) → (back d code x).events ≡ [] → x.end ≡ None → SilentBack d code x
-  back_silent x h q =
+  after_silent : (x : Machine) → (after_retire d code x).events ≡ [] → x.end ≡ None → SilentAfter d code x
+  after_silent x h q =
       let h2 : (then_does (issue d x) (λ y. then_does (rename d y) (fetch d code))).events ≡ [] =
       subst (λ o. (unless_ended o (nothing x) (then_does (issue d x) (λ y. then_does (rename d y) (fetch d code)))).events ≡ []) q h in
       let i = nothing_first x (issue d x) (λ y. then_does (rename d y) (fetch d code)) h2 (λ e. issue_nothing d x (none_begins d x e)) in
@@ -92,38 +89,38 @@ module _ (d : Desc) (code : Code) where
         fetches = λ c. fetch_nothing d code c x r.1;
       }
 
-  -- where front and back have no event and the end stays
-  silent_by : (x : Machine) → (front x).events ≡ [] → (retire d (front x).machine).events ≡ [] → (back d code (retire d (front x).machine).machine).events ≡ [] →
-      (back d code (retire d (front x).machine).machine).machine.end ≡ x.end → Silent d code x
+  -- where the phases before Retire, Retire and those after it have no event and the end stays
+  silent_by : (x : Machine) → (before_retire d x).events ≡ [] → (retire d (before_retire d x).machine).events ≡ [] → (after_retire d code (retire d (before_retire d x).machine).machine).events ≡ [] →
+      (after_retire d code (retire d (before_retire d x).machine).machine).machine.end ≡ x.end → Silent d code x
   silent_by x h k l m =
       let f = nothing_first x (fill d x) (λ y. then_does (complete y) (resolve d)) h (λ e. fill_nothing d x (no_line d x e)) in
       let g = nothing_first x (complete x) (resolve d) f.1 (λ e. complete_nothing x (none_done x e)) in
       let r = none_resolves d x g.1 in
-      let n : front x ≡ nothing x =
+      let n : before_retire d x ≡ nothing x =
       nothing_then x (fill d x) (λ y. then_does (complete y) (resolve d)) (fill_nothing d x (no_line d x f.0))
       (nothing_then x (complete x) (resolve d) (complete_nothing x (none_done x g.0)) (resolve_nothing d x r)) in
       let k2 : (retire d x).events ≡ [] = subst (λ (a : After). (retire d a.machine).events ≡ []) n k in
-      let l2 : (back d code (retire d x).machine).events ≡ [] = subst (λ (a : After). (back d code (retire d a.machine).machine).events ≡ []) n l in
-      let m2 : (back d code (retire d x).machine).machine.end ≡ x.end = subst (λ (a : After). (back d code (retire d a.machine).machine).machine.end ≡ x.end) n m in
-      let e : (retire d x).machine.end ≡ x.end = sym (back_quiet d code (retire d x).machine).ended ∙ m2 in
+      let l2 : (after_retire d code (retire d x).machine).events ≡ [] = subst (λ (a : After). (after_retire d code (retire d a.machine).machine).events ≡ []) n l in
+      let m2 : (after_retire d code (retire d x).machine).machine.end ≡ x.end = subst (λ (a : After). (after_retire d code (retire d a.machine).machine).machine.end ≡ x.end) n m in
+      let e : (retire d x).machine.end ≡ x.end = sym (after_quiet d code (retire d x).machine).ended ∙ m2 in
       let t : retire d x ≡ stays x = retire_nothing d x.cycle x k2 e in
-      let l3 : (back d code x).events ≡ [] = subst (λ (r : Retired). (back d code r.machine).events ≡ []) t l2 in
+      let l3 : (after_retire d code x).events ≡ [] = subst (λ (r : Retired). (after_retire d code r.machine).events ≡ []) t l2 in
       record {
         lines = no_line d x f.0;
         dones = none_done x g.0;
         resolves = r;
         retires = λ c. retire_nothing d c x k2 e;
-        goes_on = back_silent x l3;
+        goes_on = after_silent x l3;
       }
 
   pub silent_if : (x : Machine) → (cycle d code x).row.events ≡ [] → (cycle d code x).machine.end ≡ x.end → Silent d code (at_cycle (x.cycle + 1) x)
   unfolding cycle
   silent_if x h k =
       let y = at_cycle (x.cycle + 1) x in
-      let r = retire d (front y).machine in
-      let b = back d code r.machine in
-      let s = both_empty ((front y).events ++ r.events) b.events h in
-      let t = both_empty (front y).events r.events s.0 in
+      let r = retire d (before_retire d y).machine in
+      let b = after_retire d code r.machine in
+      let s = both_empty ((before_retire d y).events ++ r.events) b.events h in
+      let t = both_empty (before_retire d y).events r.events s.0 in
       silent_by y t.0 t.1 s.1 k
 
   -- ---- and on to later cycles

@@ -11,12 +11,11 @@ use Rattle.machine_desc.specs.declared.Desc.{Desc}
 use Rattle.window_model.specs.declared.Entry.{Entry}
 use Rattle.window_model.specs.declared.Event.{Event}
 use Rattle.window_model.specs.Along.{Along, Fact}
-use Rattle.window_model.specs.State.{Machine, After}
+use Rattle.window_model.specs.State.{Machine, After, nothing}
 use Rattle.window_model.specs.Around.{Around, around}
 use Rattle.window_model.specs.Order.{Place, each_from, first, first_from}
 use Rattle.window_model.specs.Access.{Access, Waits, cache_after, misses_after}
 use Rattle.window_model.specs.Issue.{Begun, DivPort, LoadPort, port_of, ports, asking, is_granted, may_at, may_issue, issue, issue_entry, begin_as, load_as, access_of, effect_of, value_loaded, waits, after_load, divider_after}
-use Rattle.window_model.specs.Front.{nothing}
 use Rattle.window_model.proofs.Booleans.{both}
 use Rattle.window_model.proofs.Issuing.{at_division_port, at_load_port, by_load}
 use Rattle.quiet_cycles.proofs.Nothing.{both_empty}

@@ -12,7 +12,8 @@ use Rattle.window_model.specs.State.{Machine}
 use Rattle.window_model.specs.Row.{Row}
 use Rattle.window_model.specs.Cycle.{at, cycle, rows}
 use Rattle.window_model.specs.Retire.{retire}
-use Rattle.window_model.specs.Front.{rename, fetch}
+use Rattle.window_model.specs.Rename.{rename}
+use Rattle.window_model.specs.Fetch.{fetch}
 use Rattle.window_model.proofs.Worked.{code_of, memory, row}
 use Rattle.quiet_cycles.specs.Still.{NotDueBefore, NotDoneBefore, NothingDueBefore, StillUntil, empty_row, empty_rows}
 use Rattle.quiet_cycles.proofs.Repeats.{stands_after_empty_row, passes_over}

@@ -10,7 +10,7 @@ use Rattle.window_model.specs.declared.Entry.{Entry}
 use Rattle.window_model.specs.declared.Item.{Item}
 use Rattle.window_model.specs.declared.Progress.TheVariants.{Waiting, Done}
 use Rattle.window_model.specs.Order.{is_load, is_store, is_waiting}
-use Rattle.window_model.specs.Front.{is_call, at_once, fits, fits_as, renamed, CallAlone, calls}
+use Rattle.window_model.specs.Rename.{is_call, at_once, fits, fits_as, renamed, CallAlone, calls}
 use Rattle.window_model.proofs.Booleans.{both, neither, not_true, below}
 use Rattle.window_model.proofs.Counts.{count, count_is, count_pushed, none_counted}
 use Rattle.lsq.specs.Queues.{Queues}

@@ -5,9 +5,9 @@ use Rattle.std.proofs.lemmas.List.{append-nil, append_assoc, length-append}
 use Rattle.machine_desc.specs.declared.Desc.{Desc}
 use Rattle.window_model.specs.declared.Event.TheVariants as event
 use Rattle.window_model.specs.declared.Item.{Item}
-use Rattle.window_model.specs.Front.{rename, rename_up_to, rename_from, rename_one, fits, then_does, nothing}
+use Rattle.window_model.specs.Rename.{rename, rename_up_to, rename_from, rename_one, fits}
 use Rattle.window_model.specs.Row.{Row}
-use Rattle.window_model.specs.State.{Machine, After}
+use Rattle.window_model.specs.State.{Machine, After, then_does, nothing}
 use Rattle.core_parts.specs.Described.{Described}
 use Rattle.rename.specs.Fitting.{fitting, with_oldest}
 use Rattle.rename.proofs.Fitting.{fitting_is}

@@ -11,7 +11,7 @@ use Rattle.window_model.specs.declared.Entry.{Entry}
 use Rattle.window_model.specs.declared.Item.{Item}
 use Rattle.window_model.specs.declared.Progress.TheVariants.{Waiting, Done}
 use Rattle.window_model.specs.Order.{is_load, is_store, is_waiting, sources}
-use Rattle.window_model.specs.Front.{at_once, renamed}
+use Rattle.window_model.specs.Rename.{at_once, renamed}
 use Rattle.machine_facts.specs.Sized.{Sized}
 use Rattle.machine_facts.proofs.SizedPhases.{rename_item}
 use Rattle.rob_ring.specs.Ring.{Ring}

@@ -3,7 +3,7 @@ use Rattle.std.specs.Prelude.{◌≡◌, Bool, if◌then◌else◌, List, drop, 
 use Rattle.machine_desc.specs.declared.Desc.{Desc}
 use Rattle.window_model.specs.declared.Entry.{Entry}
 use Rattle.window_model.specs.declared.Item.{Item}
-use Rattle.window_model.specs.Front.{fits, rename_one}
+use Rattle.window_model.specs.Rename.{fits, rename_one}
 use Rattle.window_model.specs.Order.{is_waiting}
 use Rattle.window_model.specs.State.{Machine}
 use Rattle.stations.specs.Stations.{Stations}

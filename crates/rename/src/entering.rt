@@ -2,7 +2,7 @@
 ghost use Rattle.std.specs.Prelude.{◌≡◌, ◌<◌, ◌++◌, ◌∷◌, [], ℕ, true, length};
 ghost use Rattle.std.specs.List.{All};
 ghost use Rattle.circular_buffer.specs.Buffer.{buffer};
-ghost use Rattle.window_model.specs.Front.{renamed};
+ghost use Rattle.window_model.specs.Rename.{renamed};
 ghost use Rattle.window_model.specs.Order.{is_load, is_store, is_waiting};
 ghost use Rattle.parts_stand.specs.Addresses.{base_root};
 ghost use Rattle.parts_stand.specs.Parts.{write_of};

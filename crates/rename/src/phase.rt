@@ -1,6 +1,6 @@
 //! The phase: item by item.
 ghost use Rattle.std.specs.Prelude.{◌≡◌, ◌<◌, ◌+◌, ◌^◌, None, IfSome, is_some, drop, slice_get};
-ghost use Rattle.window_model.specs.Front.{rename, CallAlone};
+ghost use Rattle.window_model.specs.Rename.{rename, CallAlone};
 ghost use Rattle.window_model.specs.Row.{HasRoom, IsLonger, most_fetched, with_events};
 ghost use Rattle.rename.specs.Fitting.{Counted, fitting, with_oldest};
 

@@ -2,7 +2,7 @@
 ghost use Rattle.std.specs.Prelude.{◌≡◌};
 ghost use Rattle.std.specs.List.{list_any};
 ghost use Rattle.machine_desc.specs.declared.Desc.{Desc};
-ghost use Rattle.window_model.specs.Front.{at_once, fits, fits_as, is_call, CallAlone, calls};
+ghost use Rattle.window_model.specs.Rename.{at_once, fits, fits_as, is_call, CallAlone, calls};
 ghost use Rattle.queue_laws.specs.Window.{StandFor};
 ghost use Rattle.rename.specs.Fitting.{Counted};
 

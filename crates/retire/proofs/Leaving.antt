@@ -9,7 +9,7 @@ use Rattle.rv_types.specs.declared.End.TheVariants.{Trap}
 use Rattle.rv_types.specs.declared.Kind.TheVariants.{Store, Call}
 use Rattle.machine_desc.specs.declared.Desc.{Desc}
 use Rattle.window_model.specs.declared.Entry.{Entry}
-use Rattle.window_model.specs.Front.{is_call, CallAlone, calls}
+use Rattle.window_model.specs.Rename.{is_call, CallAlone, calls}
 use Rattle.window_model.specs.Order.{is_store, is_done}
 use Rattle.window_model.specs.Retire.{Retired, retire, turns, head_leaves, stays, trap_as, addr_of, width_of}
 use Rattle.window_model.specs.Row.{Row}

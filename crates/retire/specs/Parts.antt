@@ -1,5 +1,5 @@
 -- Phase Retire of a machine that stands in parts (docs/machine.md, "State", "Retire").
-use Rattle.std.specs.Prelude.{◌≡◌, ℕ, ◌+◌, true, List, [], ◌∷◌, Option, None}
+use Rattle.std.specs.Prelude.{◌≡◌, ℕ, ◌+◌, true, List, [], ◌∷◌, map, Option, None}
 use Rattle.rv_types.specs.Memory.{Ram, store_fault}
 use Rattle.rv_types.specs.declared.End.{End}
 use Rattle.machine_desc.specs.declared.Desc.{Desc}
@@ -7,9 +7,9 @@ use Rattle.window_model.specs.declared.Entry.{Entry}
 use Rattle.window_model.specs.declared.Event.{Event}
 use Rattle.window_model.specs.declared.Event.TheVariants as event
 use Rattle.window_model.specs.Order.{is_done, is_store, fault_of}
-use Rattle.window_model.specs.Retire.{Retired, addr_of, has_line, head_leaves, retire, width_of}
+use Rattle.window_model.specs.Retire.{Retired, addr_of, has_line, head_leaves, lines_in, retire, width_of}
 use Rattle.window_model.specs.Row.{Row, with_events}
-use Rattle.window_model.specs.State.{Machine, line_of}
+use Rattle.window_model.specs.State.{Machine}
 use Rattle.rob_ring.specs.Ring.{Ring}
 use Rattle.cache_tags.specs.Sets.{Cache}
 
@@ -52,11 +52,9 @@ TellsHead head old new = (x : Machine) (rest : List Entry) → new ≡ with_even
 abbrev pub PrintsHead : (Machine → List Entry → Retired) → List ℕ → Type 0
 PrintsHead head piece = (x : Machine) (rest : List Entry) → piece ≡ (head x rest).piece
 
--- the events of a store: that it retires, and its line, with whether the cache has it
+-- the events of a store: that it retires, and each of its lines, with whether the cache has it
 abbrev pub store_told : Desc → Cache → Entry → List Event
-store_told d tags e =
-    let line = line_of d (addr_of e.outcome) in
-    event.Ret e.serial ∷ event.St e.serial line (has_line d tags.sets line) ∷ []
+store_told d tags e = event.Ret e.serial ∷ map (λ line. event.St e.serial line (has_line d tags.sets line)) (lines_in d e)
 
 -- and of a call with so many bytes
 abbrev pub call_told : Entry → ℕ → List Event

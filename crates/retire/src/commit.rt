@@ -1,5 +1,6 @@
 //! What a head that retires does to the cache, memory, the registers and the pc (`docs/machine.md`, "Retire").
 ghost use Rattle.std.specs.Prelude.{◌≡◌, [], None, IfSome, length};
+ghost use Rattle.std.specs.List.{fold};
 ghost use Rattle.rv_types.specs.Isa.{call, with_reg};
 ghost use Rattle.rv_types.specs.Memory.{store_fault, with_bytes};
 ghost use Rattle.rv_types.specs.Regs.{writes_of};
@@ -8,18 +9,17 @@ ghost use Rattle.rv_types.specs.declared.Kind.TheVariants.{Store};
 ghost use Rattle.rv_effect.specs.Called.{stepped_as};
 ghost use Rattle.window_model.specs.Order.{value_of};
 ghost use Rattle.window_model.specs.Resolve.{next_of};
-ghost use Rattle.window_model.specs.Retire.{addr_of, stored_of, width_of, touched};
+ghost use Rattle.window_model.specs.Retire.{addr_of, lines_in, stored_of, touched, width_of};
 ghost use Rattle.window_model.specs.Row.{HasRoom, IsLonger, with_events};
 ghost use Rattle.window_model.specs.Shape.{SameShape};
-ghost use Rattle.window_model.specs.State.{line_of};
 ghost use Rattle.retire.specs.Parts.{IsLeft, PrintsHead, TellsHead, call_told, head_retires, store_told};
 ghost use Rattle.retire.specs.Turn.{end_of};
 
 use byte_ram::Ram;
 use cache_tags::Tags;
 use machine_desc::Desc;
-use rv_effect::call;
-use rv_types::{End, Kind, Piece, REGISTERS, width_of, writes_of};
+use rv_effect::{call, write_reg};
+use rv_types::{End, Kind, Piece, REGISTERS, writes_of};
 use window_model::{Entry, Event, Row, line_of};
 
 /// The head takes effect, with its events, and a call with its bytes in the piece. Answers how it ends the run, None where
@@ -67,9 +67,7 @@ fn commit_value(head: &Entry, regs: &mut [u32; REGISTERS], pc: &mut u32)
     ensures regs { regs.new ≡ with_reg regs.old (writes_of head.now.item.instr) (value_of head.now.outcome) }
     ensures pc { pc.new ≡ next_of head.now.outcome }
 {
-    if let Some(register) = writes_of(&head.item.instr) {
-        regs[register.number as usize] = head.value();
-    }
+    write_reg(regs, writes_of(&head.item.instr), head.value());
     *pc = head.next();
 }
 
@@ -91,7 +89,7 @@ fn commit_store(
     ensures ram { ram.new
         ≡ with_bytes ram.old (addr_of head.now.outcome) (to_le (width_of head.now) (stored_of head.now.outcome)) }
     ensures tags { tags.new ≡ record tags.old {
-      sets = touched desc.now tags.old.sets (line_of desc.now (addr_of head.now.outcome));
+      sets = fold (touched desc.now) tags.old.sets (lines_in desc.now head.now);
     } }
     ensures regs { regs.new ≡ with_reg regs.old (writes_of head.now.item.instr) (value_of head.now.outcome) }
     ensures pc { pc.new ≡ next_of head.now.outcome }
@@ -111,8 +109,7 @@ fn write_store(ram: &mut Ram, store: &Entry)
     ensures { ram.new
         ≡ with_bytes ram.old (addr_of store.now.outcome) (to_le (width_of store.now) (stored_of store.now.outcome)) }
 {
-    let width = width_of(store.op());
-    let _ = ram.put(store.addr(), width, store.stored());
+    let _ = ram.put(store.addr(), store.width(), store.stored());
 }
 
 // A call acts on the registers, the pc and memory. Answers the value with which it ends the run, if it does.

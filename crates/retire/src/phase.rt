@@ -4,7 +4,7 @@ ghost use Rattle.std.specs.List.{AllByRecursion as Each};
 ghost use Rattle.window_model.specs.Row.{HasRoom, IsLonger, most_retired};
 ghost use Rattle.window_model.specs.State.{Machine};
 ghost use Rattle.rename_taint.specs.Writes.{without_retired};
-ghost use Rattle.window_model.specs.Front.{CallAlone};
+ghost use Rattle.window_model.specs.Rename.{CallAlone};
 ghost use Rattle.retire.specs.Parts.{TakesStore, Tells, with_parts, counted, retires};
 ghost use Rattle.retire.specs.Gone.{gone, MayRetire, without_each, without, popped};
 

@@ -1,11 +1,27 @@
 //! What each instruction makes of its sources (RISC-V unprivileged manual, chapters RV32I and M).
 ghost use Rattle.std.specs.Prelude.{◌≡◌, ◌==◌, if◌then◌else◌};
-ghost use Rattle.rv_types.specs.Isa.{effect, only, jump, at_address};
+ghost use Rattle.rv_types.specs.Isa.{at_address, effect, is_misaligned, jump, only, relative};
 ghost use Rattle.rv_effect.specs.Seen.{seen};
 
 use crate::fields::Effect;
 use rv_alu::{taken, value};
 use rv_types::Instr;
+
+/// The address that lies so far from this one.
+#[inline]
+pub fn relative(address: u32, offset: i32) -> u32
+    ensures { result ≡ relative address offset }
+{
+    address.wrapping_add(offset.cast_unsigned())
+}
+
+/// Whether no instruction stands at a jump's target, since it is no multiple of 4.
+#[inline]
+pub fn is_misaligned(target: u32) -> bool
+    ensures { result ≡ is_misaligned target }
+{
+    target % 4 != 0
+}
 
 // Computes a value, and goes on behind the instruction.
 #[inline]
@@ -31,7 +47,7 @@ fn jump(value: u32, target: u32) -> Effect
         next: target,
         addr: 0,
         stored: 0,
-        misaligned: target % 4 != 0,
+        misaligned: is_misaligned(target),
     }
 }
 
@@ -67,20 +83,12 @@ pub fn effect(pc: u32, instr: &Instr, first: u32, second: u32) -> Effect
 {
     match *instr {
         Instr::Lui { imm, .. } => only(pc, imm.cast_unsigned()),
-        Instr::Auipc { imm, .. } => only(pc, pc.wrapping_add(imm.cast_unsigned())),
-        Instr::Jal { imm, .. } => jump(pc.wrapping_add(4), pc.wrapping_add(imm.cast_unsigned())),
-        Instr::Jalr { imm, .. } => {
-            jump(
-                pc.wrapping_add(4),
-                first.wrapping_add(imm.cast_unsigned()) / 2 * 2,
-            )
-        }
-        Instr::Branch { op, imm, .. } => {
-            let target = pc.wrapping_add(imm.cast_unsigned());
-            branch(pc, taken(op, first, second), target)
-        }
-        Instr::Load { imm, .. } => access(pc, first.wrapping_add(imm.cast_unsigned()), 0),
-        Instr::Store { imm, .. } => access(pc, first.wrapping_add(imm.cast_unsigned()), second),
+        Instr::Auipc { imm, .. } => only(pc, relative(pc, imm)),
+        Instr::Jal { imm, .. } => jump(pc.wrapping_add(4), relative(pc, imm)),
+        Instr::Jalr { imm, .. } => jump(pc.wrapping_add(4), relative(first, imm) / 2 * 2),
+        Instr::Branch { op, imm, .. } => { branch(pc, taken(op, first, second), relative(pc, imm)) }
+        Instr::Load { imm, .. } => access(pc, relative(first, imm), 0),
+        Instr::Store { imm, .. } => access(pc, relative(first, imm), second),
         Instr::OpImm { op, imm, .. } => only(pc, value(op, first, imm.cast_unsigned())),
         Instr::OpReg { op, .. } => only(pc, value(op, first, second)),
         Instr::Fence(_) | Instr::Ecall | Instr::Ebreak | Instr::Illegal(_) => only(pc, 0),

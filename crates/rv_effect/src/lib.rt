@@ -7,9 +7,11 @@
 mod calls;
 mod effects;
 mod fields;
+mod registers;
 #[cfg(test)]
 mod tests;
 
 pub use calls::call;
-pub use effects::effect;
+pub use effects::{effect, is_misaligned, relative};
 pub use fields::Effect;
+pub use registers::write_reg;

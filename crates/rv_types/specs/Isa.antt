@@ -1,6 +1,6 @@
 -- The instruction set's own machine: one instruction at a time, in order (RISC-V unprivileged manual, chapters RV32I
 -- and M). The calls are this project's own (docs/instruction-set.md, "System calls").
-use Rattle.std.specs.Prelude.{ℕ, zero, suc, ◌+◌, ◌-◌, ◌*◌, ◌/◌, ◌%◌, ◌^◌, min, Bool, false, not, ◌||◌, ◌==◌, if◌then◌else◌, List, [], ◌∷◌, length, replicate, Option, Some, None, slice_index, slice_set}
+use Rattle.std.specs.Prelude.{ℕ, ℤ, zero, suc, ◌+◌, ◌-◌, ◌*◌, ◌/◌, ◌%◌, ◌^◌, min, Bool, false, not, ◌||◌, ◌==◌, if◌then◌else◌, List, [], ◌∷◌, length, replicate, Option, Some, None, slice_index, slice_set}
 use Rattle.rv_types.specs.Word.{word_add, word, from_le, to_le}
 use Rattle.rv_types.specs.Value.{value, taken, size_of, extend}
 use Rattle.rv_types.specs.Decode.{decode}
@@ -23,13 +23,21 @@ pub record Effect : Type 0 where
   -- the target of a jump that is taken is no multiple of 4
   pub misaligned : Bool
 
+-- the address that lies so far from this one
+abbrev pub relative : ℕ → ℤ → ℕ
+relative a offset = word_add a (word offset)
+
+-- no instruction stands there: it is no multiple of 4
+abbrev pub is_misaligned : ℕ → Bool
+is_misaligned target = not (target % 4 == 0)
+
 -- computes a value, and goes on behind the instruction
 abbrev pub only : ℕ → ℕ → Effect
 only pc v = record { value = v; next = word_add pc 4; addr = 0; stored = 0; misaligned = false }
 
 -- jumps, with this value for the register that keeps the return address
 abbrev pub jump : ℕ → ℕ → Effect
-jump v target = record { value = v; next = target; addr = 0; stored = 0; misaligned = not (target % 4 == 0) }
+jump v target = record { value = v; next = target; addr = 0; stored = 0; misaligned = is_misaligned target }
 
 -- accesses this address, to store this value where it is a store
 abbrev pub at_address : ℕ → ℕ → ℕ → Effect
@@ -38,12 +46,12 @@ at_address pc a v = record { value = 0; next = word_add pc 4; addr = a; stored =
 -- the effect of an instruction at this pc, whose first and second source hold a and b
 abbrev pub effect : ℕ → Instr → ℕ → ℕ → Effect
 effect pc (Lui rd imm) a b = only pc (word imm)
-effect pc (Auipc rd imm) a b = only pc (word_add pc (word imm))
-effect pc (Jal rd imm) a b = jump (word_add pc 4) (word_add pc (word imm))
-effect pc (Jalr rd rs1 imm) a b = jump (word_add pc 4) (word_add a (word imm) / 2 * 2)
-effect pc (Branch op rs1 rs2 imm) a b = if taken op a b then jump 1 (word_add pc (word imm)) else only pc 0
-effect pc (Load op rd rs1 imm) a b = at_address pc (word_add a (word imm)) 0
-effect pc (Store op rs1 rs2 imm) a b = at_address pc (word_add a (word imm)) b
+effect pc (Auipc rd imm) a b = only pc (relative pc imm)
+effect pc (Jal rd imm) a b = jump (word_add pc 4) (relative pc imm)
+effect pc (Jalr rd rs1 imm) a b = jump (word_add pc 4) (relative a imm / 2 * 2)
+effect pc (Branch op rs1 rs2 imm) a b = if taken op a b then jump 1 (relative pc imm) else only pc 0
+effect pc (Load op rd rs1 imm) a b = at_address pc (relative a imm) 0
+effect pc (Store op rs1 rs2 imm) a b = at_address pc (relative a imm) b
 effect pc (OpImm op rd rs1 imm) a b = only pc (value op a (word imm))
 effect pc (OpReg op rd rs1 rs2) a b = only pc (value op a b)
 effect pc _ a b = only pc 0

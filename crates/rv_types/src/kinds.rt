@@ -1,7 +1,7 @@
 //! What an instruction is to the pipeline: its kind, its sources, its destination, and how much it moves.
 ghost use Rattle.std.specs.Prelude.{◌≡◌, map, Option};
 ghost use Rattle.std.specs.Option.{option_map};
-ghost use Rattle.rv_types.specs.Regs.{reads_of, writes_of, two};
+ghost use Rattle.rv_types.specs.Regs.{reads_of, writes_of, two, unless_zero};
 ghost use Rattle.rv_types.specs.Kind.{kind_of, op_kind};
 ghost use Rattle.rv_types.specs.Value.{size_of, bytes_in};
 
@@ -36,7 +36,19 @@ pub fn writes_of(instr: &Instr) -> Option<Reg>
         | Instr::OpReg { rd, .. } => rd,
         _ => return None,
     };
-    if rd.number == 0 { None } else { Some(rd) }
+    unless_zero(rd)
+}
+
+/// The register, where an instruction that names it writes it: register 0 is never written.
+#[inline]
+pub fn unless_zero(register: Reg) -> Option<Reg>
+    ensures { option_map (λ r. r.number) result ≡ unless_zero register.number }
+{
+    if register.number == 0 {
+        None
+    } else {
+        Some(register)
+    }
 }
 
 // The kind of an arithmetic instruction.

@@ -11,7 +11,7 @@ mod causes;
 mod kinds;
 mod piece;
 
-pub use kinds::{kind_of, reads_of, width_of, writes_of};
+pub use kinds::{kind_of, reads_of, unless_zero, width_of, writes_of};
 pub use piece::{PIECE_MAX, Piece};
 use std::alloc::{AllocError, AllocFailed};
 use thiserror::Error;
@@ -60,6 +60,25 @@ pub enum Width {
     H,
     /// Four bytes, at a multiple of 4.
     W,
+}
+
+impl Width {
+    ghost use Rattle.std.specs.Prelude.{◌≡◌, ◌≤◌};
+    ghost use Rattle.rv_types.specs.Value.{bytes_in};
+
+    /// How many bytes an access of this width moves: 1, 2 or 4.
+    #[inline]
+    pub fn bytes(self) -> u32
+        ensures value { result ≡ bytes_in self }
+        ensures some { 0 < result }
+        ensures few { result ≤ 4 }
+    {
+        match self {
+            Width::B => 1,
+            Width::H => 2,
+            Width::W => 4,
+        }
+    }
 }
 
 /// What a branch tests, a load or store moves, or an arithmetic instruction computes.

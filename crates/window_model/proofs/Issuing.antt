@@ -1,5 +1,5 @@
 -- What Issue makes of an entry: it remains, or it begins; and what a load's access comes to.
-use Rattle.std.proofs.Common.{◌≡◌, ℕ, ◌+◌, ◌<◌, ◌≤◌, Bool, true, false, not, ◌&&◌, List, [], ◌∷◌, length, Option, Some, None, refl, ap, sym, subst, arith}
+use Rattle.std.proofs.Common.{◌≡◌, ℕ, ◌+◌, ◌<◌, ◌≤◌, Bool, true, false, not, ◌&&◌, List, [], ◌∷◌, length, Option, Some, None, refl, sym, subst, arith}
 use Rattle.std.proofs.lemmas.Bool.Decides.{nat_tests}
 use Rattle.std.specs.List.{find}
 use Rattle.std.specs.Prelude.{if◌then◌else◌, nat_le, nat_lt, ◌==◌, map}
@@ -18,7 +18,7 @@ use Rattle.window_model.specs.Order.{Place, each_from, is_waiting, is_load, read
 use Rattle.window_model.specs.State.{Machine, line_of}
 use Rattle.window_model.specs.Taint.{any_tainted, address_tainted}
 use Rattle.window_model.specs.Access.{Access, Faults, Forwards, Looks, Waits, Line, Hits, Joins, Takes, access_at, look_up, joined, taken_lines, unless_lacking, all_covered, any_store_hidden}
-use Rattle.window_model.specs.Issue.{Begun, Port, AluPort, MulPort, DivPort, AddressPort, LoadPort, issue_entry, may_issue, may_issue_as, stores_done, begin_as, begun, load_as, access_of, effect_of, waits, is_division, asking, is_granted, may_at, port_of, same_port, ports, after_load}
+use Rattle.window_model.specs.Issue.{Begun, Port, AluPort, MulPort, DivPort, AddressPort, LoadPort, issue_entry, may_issue, may_issue_as, stores_done, begin_as, begun, load_as, access_of, effect_of, waits, is_division, asking, may_at, port_of, same_port, ports, after_load}
 use Rattle.window_model.proofs.Booleans.{both, not_true}
 use Rattle.window_model.proofs.Counts.{Goes, goes_same, Evolves}
 
@@ -81,11 +81,6 @@ may_own d now b e = own (may_issue d now b e) _ (same_self (port_of e.item.kind)
     own : (m s : Bool) → s ≡ true → (m && s) ≡ m
     own true s h = h
     own false s h = refl
-
--- so it is granted it where a port is left
-pub granted_own : (d : Desc) (now : Around) (b : List Entry) (e : Entry) →
-    is_granted d now (port_of e.item.kind) b e ≡ (may_issue d now b e && nat_lt (asking d now (port_of e.item.kind) b) (ports d (port_of e.item.kind)))
-granted_own d now b e = ap (λ m. m && nat_lt (asking d now (port_of e.item.kind) b) (ports d (port_of e.item.kind))) (may_own d now b e)
 
 -- ---- what becomes of it
 

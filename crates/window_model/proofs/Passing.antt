@@ -8,7 +8,7 @@ use Rattle.machine_desc.specs.declared.SttModel.TheVariants.{Spectre, Futuristic
 use Rattle.window_model.specs.declared.Entry.{Entry}
 use Rattle.window_model.specs.declared.Outcome.{Outcome}
 use Rattle.window_model.specs.declared.Progress.TheVariants.{Done}
-use Rattle.window_model.specs.Front.{is_call}
+use Rattle.window_model.specs.Rename.{is_call}
 use Rattle.window_model.specs.Issue.{begun}
 use Rattle.window_model.specs.Order.{is_control, is_done, is_faulty, is_waiting}
 use Rattle.window_model.specs.Retire.{may_leave, trap_as, trap_of}

@@ -1,19 +1,20 @@
 -- What every phase but Retire leaves alone: the retired state, the count of the retired, and the end.
-use Rattle.std.proofs.Common.{◌≡◌, ◌+◌, List, Option, Some, None, refl, ◌∙◌}
+use Rattle.std.proofs.Common.{◌≡◌, List, Option, Some, None, refl, ◌∙◌}
 use Rattle.rv_types.specs.Memory.{Code}
 use Rattle.rv_types.specs.declared.End.{End}
 use Rattle.machine_desc.specs.declared.Desc.{Desc}
 use Rattle.window_model.specs.declared.Entry.{Entry}
 use Rattle.window_model.specs.declared.Divider.{Divider}
-use Rattle.window_model.specs.State.{Machine}
+use Rattle.window_model.specs.State.{Machine, then_does, nothing}
 use Rattle.window_model.specs.Order.{first}
 use Rattle.window_model.specs.Fill.{fill, complete}
 use Rattle.window_model.specs.Resolve.{resolve}
 use Rattle.window_model.specs.Retire.{hart_of, retire, unless_ended}
 use Rattle.window_model.specs.Around.{around}
 use Rattle.window_model.specs.Issue.{LoadPort, issue, may_at}
-use Rattle.window_model.specs.Front.{rename, fetch, then_does, nothing}
-use Rattle.window_model.specs.Cycle.{cycle, back}
+use Rattle.window_model.specs.Rename.{rename}
+use Rattle.window_model.specs.Fetch.{fetch}
+use Rattle.window_model.specs.Cycle.{after_retire, before_retire, begins_cycle, cycle}
 use Rattle.window_model.proofs.Issuing.{by_after_load}
 use Rattle.window_model.proofs.Placing.{resolve_keep}
 use Rattle.window_model.proofs.Walks.{rename_keep, fetch_keep}
@@ -51,17 +52,17 @@ fetch_quiet d code x = fetch_keep d (Quiet x) code (λ y pc q r k. record { hart
 
 -- ---- the phases before Retire, and those after it
 
--- the state before Retire
-abbrev pub before_retire : Desc → Machine → Machine
-before_retire d x = (then_does (fill d (record x { cycle = x.cycle + 1 })) (λ y. then_does (complete y) (resolve d))).machine
+-- the state that Retire finds
+abbrev pub at_retire : Desc → Machine → Machine
+at_retire d x = (before_retire d (begins_cycle x)).machine
 
-pub cycle_is : (d : Desc) (code : Code) (x : Machine) → (cycle d code x).machine ≡ (back d code (retire d (before_retire d x)).machine).machine
+pub cycle_is : (d : Desc) (code : Code) (x : Machine) → (cycle d code x).machine ≡ (after_retire d code (retire d (at_retire d x)).machine).machine
 unfolding cycle
 cycle_is d code x = refl
 
-pub front_quiet : (d : Desc) (x : Machine) → Quiet x (before_retire d x)
-front_quiet d x =
-    let x1 : Machine = record x { cycle = x.cycle + 1 } in
+pub before_quiet : (d : Desc) (x : Machine) → Quiet x (at_retire d x)
+before_quiet d x =
+    let x1 = begins_cycle x in
     let x2 = (fill d x1).machine in
     let x3 = (complete x2).machine in
     let begun : Quiet x x1 = record { hart = refl; retired = refl; ended = refl } in
@@ -75,5 +76,5 @@ behind d code None x =
     let z = (rename d y).machine in
     quiet_then x y (fetch d code z).machine (issue_quiet d x) (quiet_then y z (fetch d code z).machine (rename_quiet d y) (fetch_quiet d code z))
 
-pub back_quiet : (d : Desc) (code : Code) (x : Machine) → Quiet x (back d code x).machine
-back_quiet d code x = behind d code x.end x
+pub after_quiet : (d : Desc) (code : Code) (x : Machine) → Quiet x (after_retire d code x).machine
+after_quiet d code x = behind d code x.end x

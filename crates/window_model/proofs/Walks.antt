@@ -11,14 +11,15 @@ use Rattle.rv_types.specs.declared.Kind.TheVariants.{Store, Call}
 use Rattle.machine_desc.specs.declared.Desc.{Desc}
 use Rattle.window_model.specs.declared.Entry.{Entry}
 use Rattle.window_model.specs.declared.Item.{Item}
-use Rattle.window_model.specs.State.{Machine, After}
+use Rattle.window_model.specs.State.{Machine, After, then_does, nothing}
 use Rattle.window_model.specs.Order.{is_store}
 use Rattle.window_model.specs.Fill.{fill, complete}
 use Rattle.window_model.specs.Resolve.{resolve}
 use Rattle.window_model.specs.Issue.{issue}
-use Rattle.window_model.specs.Cycle.{cycle, back, after_cycles}
+use Rattle.window_model.specs.Cycle.{cycle, after_retire, after_cycles}
 use Rattle.window_model.specs.Retire.{Retired, retire, turns, turn, head_turn, head_leaves, call_leaves, hart_of, then_retires, stays, unless_ended, may_leave, trap_of, ends_with}
-use Rattle.window_model.specs.Front.{rename, rename_up_to, rename_from, rename_one, fits, fetch, fetch_up_to, fetch_from, fetch_one, item_at, then_does, nothing}
+use Rattle.window_model.specs.Rename.{rename, rename_up_to, rename_from, rename_one, fits}
+use Rattle.window_model.specs.Fetch.{fetch, fetch_up_to, fetch_from, fetch_one, item_at}
 
 -- a head leaves the rest of the window
 module _ (W : List Entry → Type 0) (drops : (e : Entry) (rest : List Entry) → W (e ∷ rest) → W rest) (d : Desc) where
@@ -154,8 +155,8 @@ module _ (d : Desc) (P : Machine → Type 0) where
     behind_keep (Some e) x h = h
     behind_keep None x h = fetches (rename d (issue d x).machine).machine (renames (issue d x).machine (issues x h))
 
-    pub back_keep : (x : Machine) → P x → P (back d code x).machine
-    back_keep x h = behind_keep x.end x h
+    pub after_keep : (x : Machine) → P x → P (after_retire d code x).machine
+    after_keep x h = behind_keep x.end x h
 
     -- and each from Resolve on
     module _ (resolves : (x : Machine) → P x → P (resolve d x).machine) (retires : (x : Machine) → P x → P (retire d x).machine) where
@@ -164,7 +165,7 @@ module _ (d : Desc) (P : Machine → Type 0) where
       unfolding cycle
       completed_keep x h =
           let y = (resolve d (complete (fill d (record x { cycle = x.cycle + 1 })).machine).machine).machine in
-          back_keep (retire d y).machine (retires y (resolves _ h))
+          after_keep (retire d y).machine (retires y (resolves _ h))
 
       -- and a cycle keeps what the first phases keep, too
       pub cycle_keep : ((x : Machine) → P x → P (record x { cycle = x.cycle + 1 })) → ((x : Machine) → P x → P (fill d x).machine) → ((x : Machine) → P x → P (complete x).machine) → (x : Machine) → P x → P (cycle d code x).machine

@@ -12,7 +12,7 @@ use Rattle.window_model.specs.declared.Look.{Look}
 use Rattle.window_model.specs.declared.Look.TheVariants as look
 use Rattle.window_model.specs.declared.Outcome.{Outcome}
 use Rattle.machine_desc.specs.declared.SttModel.{SttModel}
-use Rattle.window_model.specs.State.{Miss, line_of}
+use Rattle.window_model.specs.State.{Miss, lines_of}
 use Rattle.window_model.specs.Around.{Around}
 use Rattle.window_model.specs.Order.{is_store}
 use Rattle.window_model.specs.Taint.{address_tainted}
@@ -74,10 +74,6 @@ joined line None = Takes line
 abbrev pub look_up : Desc → Around → ℕ → Line
 look_up d now line =
     if has_line d now.cache line then Hits line else joined line (find (λ m. m.line == line) now.misses)
-
--- the lines of an access of n bytes: an aligned one stays within the line in which it begins
-abbrev pub lines_of : Desc → ℕ → ℕ → List ℕ
-lines_of d a n = line_of d a ∷ []
 
 -- a line, if it takes a register
 abbrev pub taken_by : Line → List ℕ

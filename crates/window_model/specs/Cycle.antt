@@ -4,13 +4,14 @@ use Rattle.rv_types.specs.Memory.{Code, Ram}
 use Rattle.rv_types.specs.Isa.{with_piece}
 use Rattle.rv_types.specs.declared.End.{End}
 use Rattle.machine_desc.specs.declared.Desc.{Desc}
-use Rattle.window_model.specs.State.{Machine, After, opening}
+use Rattle.window_model.specs.State.{Machine, After, opening, then_does, nothing}
 use Rattle.window_model.specs.Fill.{fill, complete}
 use Rattle.window_model.specs.Resolve.{resolve}
 use Rattle.window_model.specs.Retire.{retire, unless_ended}
 use Rattle.window_model.specs.Issue.{issue}
 use Rattle.window_model.specs.Row.{Row}
-use Rattle.window_model.specs.Front.{rename, fetch, then_does, nothing}
+use Rattle.window_model.specs.Rename.{rename}
+use Rattle.window_model.specs.Fetch.{fetch}
 
 -- the state, the row and the piece of output
 pub record Cycled : Type 0 where
@@ -18,19 +19,27 @@ pub record Cycled : Type 0 where
   pub row : Row
   pub piece : List ℕ
 
--- the phases after Retire, unless the run has ended
-abbrev pub back : Desc → Code → Machine → After
-back d code x = unless_ended x.end (nothing x) (then_does (issue d x) (λ y. then_does (rename d y) (fetch d code)))
+-- the state as its next cycle begins: the cycle's number rises by one
+abbrev pub begins_cycle : Machine → Machine
+begins_cycle x = record x { cycle = x.cycle + 1 }
 
--- one cycle: its number rises by one, then the seven phases, each on what the one before left
+-- the phases before Retire
+abbrev pub before_retire : Desc → Machine → After
+before_retire d x = then_does (fill d x) (λ y. then_does (complete y) (resolve d))
+
+-- the phases after it, unless the run has ended
+abbrev pub after_retire : Desc → Code → Machine → After
+after_retire d code x = unless_ended x.end (nothing x) (then_does (issue d x) (λ y. then_does (rename d y) (fetch d code)))
+
+-- one cycle: the seven phases, each on what the one before left
 unfoldable pub cycle : Desc → Code → Machine → Cycled
 cycle d code x =
-    let front = then_does (fill d (record x { cycle = x.cycle + 1 })) (λ y. then_does (complete y) (resolve d)) in
-    let r = retire d front.machine in
-    let b = back d code r.machine in
+    let before = before_retire d (begins_cycle x) in
+    let r = retire d before.machine in
+    let after = after_retire d code r.machine in
     record {
-      machine = b.machine;
-      row = record { cycle = x.cycle + 1; events = front.events ++ r.events ++ b.events };
+      machine = after.machine;
+      row = record { cycle = x.cycle + 1; events = before.events ++ r.events ++ after.events };
       piece = r.piece;
     }
 

@@ -9,7 +9,8 @@ pub mod Retire
 pub mod Around
 pub mod Access
 pub mod Issue
-pub mod Front
+pub mod Rename
+pub mod Fetch
 pub mod Row
 pub mod Cycle
 pub mod Path

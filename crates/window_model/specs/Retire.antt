@@ -1,5 +1,6 @@
 -- The fourth phase: the oldest entries take effect, in order (docs/machine.md, "Retire").
-use Rattle.std.specs.Prelude.{ℕ, zero, suc, ◌+◌, Bool, false, not, ◌&&◌, ◌||◌, List, [], ◌∷◌, ◌++◌, length, Option, Some, None, if◌then◌else◌}
+use Rattle.std.specs.Prelude.{ℕ, zero, suc, ◌+◌, Bool, false, not, ◌&&◌, ◌||◌, List, [], ◌∷◌, ◌++◌, length, map, Option, Some, None, if◌then◌else◌}
+use Rattle.std.specs.List.{fold}
 use Rattle.rv_types.specs.Word.{to_le}
 use Rattle.rv_types.specs.Value.{size_of}
 use Rattle.rv_types.specs.Isa.{Hart, Step, Goes, Exits, Traps, call, with_reg}
@@ -19,7 +20,7 @@ use Rattle.window_model.specs.declared.Entry.{Entry}
 use Rattle.window_model.specs.declared.Event.{Event}
 use Rattle.window_model.specs.declared.Event.TheVariants as event
 use Rattle.window_model.specs.declared.Outcome.{Outcome}
-use Rattle.window_model.specs.State.{Machine, set_of, line_of}
+use Rattle.window_model.specs.State.{Machine, set_of, lines_of}
 use Rattle.window_model.specs.Sets.{is_in, moved_up}
 use Rattle.window_model.specs.Order.{is_done, is_control, is_store, fault_of, value_of}
 use Rattle.window_model.specs.Resolve.{next_of}
@@ -99,18 +100,20 @@ leaves e rest x = record x {
   retired = x.retired + 1;
 }
 
--- a store also writes its bytes, and moves its line to the front where the cache has it
+-- the lines of what an entry accesses
+abbrev pub lines_in : Desc → Entry → List ℕ
+lines_in d e = lines_of d (addr_of e.outcome) (width_of e)
+
+-- a store also writes its bytes, and moves each of its lines to the front of its set, where the cache has it
 abbrev pub store_leaves : Desc → Entry → List Entry → Machine → Retired
-store_leaves d e rest x =
-    let line = line_of d (addr_of e.outcome) in
-    record {
-      machine = record (leaves e rest x) {
-        ram = with_bytes x.ram (addr_of e.outcome) (to_le (width_of e) (stored_of e.outcome));
-        cache = touched d x.cache line;
-      };
-      events = event.Ret e.serial ∷ event.St e.serial line (has_line d x.cache line) ∷ [];
-      piece = [];
-    }
+store_leaves d e rest x = record {
+  machine = record (leaves e rest x) {
+    ram = with_bytes x.ram (addr_of e.outcome) (to_le (width_of e) (stored_of e.outcome));
+    cache = fold (touched d) x.cache (lines_in d e);
+  };
+  events = event.Ret e.serial ∷ map (λ line. event.St e.serial line (has_line d x.cache line)) (lines_in d e);
+  piece = [];
+}
 
 -- the state after a step of the instruction set
 abbrev pub as_hart : Hart → List Entry → Option End → Machine → Machine

@@ -57,6 +57,10 @@ most_fetched = 4
 abbrev pub most_before_retire : ℕ
 most_before_retire = most_filled + most_done + most_resolved
 
+-- of those after it: Issue, Rename and Fetch
+abbrev pub most_after_retire : ℕ
+most_after_retire = most_issued + most_fetched + most_fetched
+
 -- of a cycle
 abbrev pub most_events : ℕ
-most_events = most_before_retire + most_retired + most_issued + most_fetched + most_fetched
+most_events = most_before_retire + most_retired + most_after_retire

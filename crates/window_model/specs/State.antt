@@ -1,5 +1,5 @@
 -- The machine's state: one list of instructions in program order, and what they share (docs/machine.md, "State").
-use Rattle.std.specs.Prelude.{ℕ, ◌*◌, ◌/◌, List, [], replicate, Option, Some, None}
+use Rattle.std.specs.Prelude.{ℕ, ◌*◌, ◌/◌, List, [], ◌∷◌, ◌++◌, replicate, Option, Some, None}
 use Rattle.rv_types.specs.Memory.{Ram}
 use Rattle.rv_types.specs.Isa.{start}
 use Rattle.rv_types.specs.declared.End.{End}
@@ -40,6 +40,14 @@ pub record After : Type 0 where
   pub machine : Machine
   pub events : List Event
 
+-- no change and no event
+abbrev pub nothing : Machine → After
+nothing x = record { machine = x; events = [] }
+
+-- one after the other, on what the first left
+abbrev pub then_does : After → (Machine → After) → After
+then_does a more = let b = more a.machine in record { machine = b.machine; events = a.events ++ b.events }
+
 -- the first state: the instruction set's start, counters at 1, and all else empty
 abbrev pub opening : Desc → ℕ → Ram → Machine
 opening d entry ram =
@@ -65,6 +73,10 @@ opening d entry ram =
 -- the first address of an address's line
 abbrev pub line_of : Desc → ℕ → ℕ
 line_of d a = a / d.cache_line * d.cache_line
+
+-- the lines of an access of n bytes: an aligned one stays within the line in which it begins
+abbrev pub lines_of : Desc → ℕ → ℕ → List ℕ
+lines_of d a n = line_of d a ∷ []
 
 -- the set that a line belongs to
 abbrev pub set_of : Desc → ℕ → ℕ

@@ -1,9 +1,10 @@
 //! What one entry is and comes to (`docs/machine.md`, "Entries", "Safe and visible", "Resolve", "Retire").
 use crate::{Entry, Progress};
-use rv_types::{Cause, Instr, Kind, Op, Width};
+use rv_types::{Cause, Instr, Kind, Op, Width, width_of};
 
 impl Entry {
     ghost use Rattle.std.specs.Prelude.{◌≡◌, ◌≤◌, ◌<◌};
+    ghost use Rattle.rv_types.specs.Value.{bytes_in};
     ghost use Rattle.window_model.specs.Order.{is_done, is_load, is_store, is_control, is_faulty, fault_of, value_of};
     ghost use Rattle.window_model.specs.Taint.{safe, settled};
     ghost use Rattle.window_model.specs.Resolve.{next_of, squashes};
@@ -164,16 +165,19 @@ impl Entry {
         }
     }
 
-    /// How many bytes the entry moves as a load or store: 1, 2 or 4.
-    pub fn width(&self) -> u32
+    /// How much the entry moves as a load or store.
+    pub fn width(&self) -> Width
+        ensures { bytes_in result ≡ width_of self.now }
+    {
+        width_of(self.op())
+    }
+
+    /// How many bytes that is: 1, 2 or 4.
+    pub fn bytes(&self) -> u32
         ensures value { result ≡ width_of self.now }
         ensures some { 0 < result }
         ensures few { result ≤ 4 }
     {
-        match rv_types::width_of(self.op()) {
-            Width::B => 1,
-            Width::H => 2,
-            Width::W => 4,
-        }
+        self.width().bytes()
     }
 }

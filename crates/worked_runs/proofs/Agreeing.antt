@@ -21,7 +21,8 @@ use Rattle.elf_loader.specs.Faults.{header_fault}
 use Rattle.elf_loader.specs.Image.{code_of, ram_after, ram_fault, segment_at}
 use Rattle.line_text.specs.EndLine.{end_line}
 use Rattle.window_model.specs.Cycle.{cycle}
-use Rattle.window_model.specs.Front.{fetch, rename}
+use Rattle.window_model.specs.Fetch.{fetch}
+use Rattle.window_model.specs.Rename.{rename}
 use Rattle.window_model.specs.Retire.{retire}
 use Rattle.trace_text.specs.TraceText.{event_text, events_text, row_text, rows_text, trace_text}
 use Rattle.worked_runs.specs.Run01.{run_01}

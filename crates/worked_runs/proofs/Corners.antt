@@ -18,7 +18,7 @@ use Rattle.window_model.specs.declared.Progress.TheVariants.{Waiting, Done}
 use Rattle.window_model.specs.declared.Way.TheVariants.{Taken, Jump}
 use Rattle.window_model.specs.State.{Machine, opening}
 use Rattle.window_model.specs.Access.{covers, load_bytes, any_store_hidden}
-use Rattle.window_model.specs.Front.{fits}
+use Rattle.window_model.specs.Rename.{fits}
 use Rattle.window_model.specs.Around.{Around, around}
 use Rattle.window_model.specs.Issue.{LoadPort, may_issue, issue, is_granted}
 use Rattle.window_model.specs.Resolve.{may_resolve, learn, freed_from}

@@ -2,7 +2,7 @@ use Rattle.noninterference.proofs.Complete.{fill_tells_nothing, complete_tells_n
 use Rattle.noninterference.proofs.Resolve.{resolve_tells_nothing}
 use Rattle.noninterference.proofs.Retire.{retire_tells_nothing}
 use Rattle.noninterference.proofs.Issue.{issue_tells_nothing}
-use Rattle.noninterference.proofs.Front.{rename_tells_nothing, fetch_tells_nothing}
+use Rattle.noninterference.proofs.RenameFetch.{rename_tells_nothing, fetch_tells_nothing}
 use Rattle.noninterference.proofs.Agree.{together_agree}
 use Rattle.noninterference.proofs.Cycle.{cycle_tells_nothing}
 use Rattle.noninterference.proofs.phases_tell_nothing.Goals as goal

@@ -3,7 +3,7 @@ use Rattle.std.proofs.Common.{[], ◌∷◌, ◌++◌, ap, refl, subst, sym, ◌
 use Rattle.std.specs.Prelude.{map}
 use Rattle.std.specs.List.{All}
 use Rattle.circular_buffer.specs.Buffer.{buffer}
-use Rattle.window_model.specs.Front.{renamed}
+use Rattle.window_model.specs.Rename.{renamed}
 use Rattle.parts_stand.specs.Addresses.{base_root}
 use Rattle.parts_stand.specs.Parts.{write_of}
 use Rattle.parts_stand.proofs.Answering.{holds_older}

@@ -1,5 +1,5 @@
 use Rattle.std.proofs.Common.{ap, sym, ◌∙◌}
-use Rattle.window_model.specs.Front.{fits_as}
+use Rattle.window_model.specs.Rename.{fits_as}
 use Rattle.rename.proofs.Fitting.{load_fits, store_fits}
 use Rattle.rename.proofs.room.has_place.Goals as goal
 

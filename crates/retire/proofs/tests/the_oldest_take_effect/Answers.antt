@@ -1,5 +1,5 @@
 -- Memory takes what the entries write.
-use Rattle.std.proofs.Common.{◌≡◌, List, [], ◌∷◌, ◌++◌, ap, sym, ◌∙◌, refl, subst}
+use Rattle.std.proofs.Common.{◌≡◌, [], ◌∷◌, ◌++◌, ap, sym, ◌∙◌, refl, subst}
 use Rattle.std.specs.List.{AllByRecursion as Each}
 use Rattle.rv_types.specs.declared.Kind.TheVariants.{Alu}
 use Rattle.rob_ring.specs.Ring.{Ring}

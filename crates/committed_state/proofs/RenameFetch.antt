@@ -14,7 +14,8 @@ use Rattle.window_model.specs.State.{Machine}
 use Rattle.window_model.specs.declared.Target.{Target}
 use Rattle.window_model.specs.Order.{is_control}
 use Rattle.window_model.specs.Retire.{hart_of}
-use Rattle.window_model.specs.Front.{rename, renamed, fits, fits_as, fetch, fetch_one, item_at, kind_at, predicted, at_once, is_call}
+use Rattle.window_model.specs.Rename.{rename, renamed, fits, fits_as, at_once, is_call}
+use Rattle.window_model.specs.Fetch.{fetch, fetch_one, item_at, kind_at, predicted}
 use Rattle.window_model.proofs.Before.{all_reverse}
 use Rattle.window_model.proofs.Walks.{rename_keep, fetch_keep}
 use Rattle.committed_state.specs.Computed.{Bank}

@@ -1,6 +1,5 @@
 -- What Rename and Fetch leave: the time, what is shared, and the oldest entries; and what comes where there was none.
-use Rattle.std.proofs.Common.{◌≡◌, ℕ, zero, suc, ◌≤◌, ◌<◌, Bool, true, false, ◌||◌, List, [], ◌∷◌, ◌++◌, Some, refl, ap, sym, ◌∙◌, arith, append_assoc, append-nil}
-use Rattle.std.proofs.lemmas.Bool.Decides.{nat_tests}
+use Rattle.std.proofs.Common.{◌≡◌, ℕ, zero, suc, ◌≤◌, true, List, [], ◌∷◌, ◌++◌, Some, refl, ap, sym, ◌∙◌, arith, append_assoc, append-nil}
 use Rattle.std.specs.Prelude.{nat_lt}
 use Rattle.std.specs.Cmp.Derive.{both_true}
 use Rattle.rv_types.specs.Memory.{Code}
@@ -11,8 +10,10 @@ use Rattle.machine_desc.specs.Ranges.{IsDesc}
 use Rattle.window_model.specs.declared.Entry.{Entry}
 use Rattle.window_model.specs.declared.Item.{Item}
 use Rattle.window_model.specs.State.{Machine}
-use Rattle.window_model.specs.Front.{at_once, fits, fits_as, renamed, rename_one, rename_up_to, rename, item_at, fetch_one, fetch_up_to, fetch}
+use Rattle.window_model.specs.Rename.{at_once, fits, fits_as, renamed, rename_one, rename_up_to, rename}
+use Rattle.window_model.specs.Fetch.{item_at, fetch_one, fetch_up_to, fetch}
 use Rattle.window_model.proofs.Walks.{rename_keep, by_renamed, by_fetched}
+use Rattle.window_model.proofs.Booleans.{is_below, or_true}
 
 -- time, miss registers and divider stay, and entries only come behind the others
 pub record Appends (x y : Machine) : Type 0 where
@@ -32,10 +33,6 @@ appends_then x y z p q = record {
   divider = q.divider ∙ p.divider;
   window = (p.window.0 ++ q.window.0, q.window.1 ∙ ap (λ w. w ++ q.window.0) p.window.1 ∙ append_assoc x.window p.window.0 q.window.0);
 }
-
--- what is less passes the test
-pub nat_lt_is : (m n : ℕ) → m < n → nat_lt m n ≡ true
-nat_lt_is m n h = grind (arith, nat_tests)
 
 -- ---- rename
 
@@ -62,19 +59,15 @@ module _ (d : Desc) where
   -- into a window with no entry the first item fits
   module _ (i : IsDesc d) where
     kind_fits : (k : Kind) → fits_as k d [] ≡ true
-    kind_fits Load = nat_lt_is 0 d.core_loads (omega (arith, i.loads.0))
-    kind_fits Store = nat_lt_is 0 d.core_stores (omega (arith, i.stores.0))
+    kind_fits Load = is_below 0 d.core_loads (omega (arith, i.loads.0))
+    kind_fits Store = is_below 0 d.core_stores (omega (arith, i.stores.0))
     kind_fits Call = refl
     kind_fits _ = refl
 
-    or_true : (a s : Bool) → s ≡ true → (a || s) ≡ true
-    or_true true s h = refl
-    or_true false s h = h
-
     first_fits : (j : Item) → fits d [] j ≡ true
     first_fits j =
-        both_true (both_true (both_true (nat_lt_is 0 d.core_rob (omega (arith, i.rob.0))) refl) (kind_fits j.kind))
-        (or_true (at_once j.kind) (nat_lt 0 d.core_stations) (nat_lt_is 0 d.core_stations (omega (arith, i.stations.0))))
+        both_true (both_true (both_true (is_below 0 d.core_rob (omega (arith, i.rob.0))) refl) (kind_fits j.kind))
+        (or_true (at_once j.kind) (nat_lt 0 d.core_stations) (is_below 0 d.core_stations (omega (arith, i.stations.0))))
 
     first_up_to : (n : ℕ) (j : Item) (rest : List Item) (x : Machine) → 1 ≤ n →
         Appends (rename_one d j rest (record x { window = []; queue = j ∷ rest })).machine (rename_up_to d n (record x { window = []; queue = j ∷ rest })).machine
@@ -131,7 +124,7 @@ module _ (d : Desc) (code : Code) where
   some_up_to zero pc x q h = absurd (omega arith)
   some_up_to (suc n) pc x q h =
       let y = (fetch_one d (item_at d code x pc) (record x { queue = []; fetch_pc = Some pc })).machine in
-      rw (nat_lt_is 0 d.core_queue (omega arith)) (fetched_up_to n y)
+      rw (is_below 0 d.core_queue (omega arith)) (fetched_up_to n y)
 
   pub fetch_some : (pc : ℕ) (x : Machine) → IsDesc d →
       Fetches (fetch_one d (item_at d code x pc) (record x { queue = []; fetch_pc = Some pc })).machine (fetch d code (record x { queue = []; fetch_pc = Some pc })).machine

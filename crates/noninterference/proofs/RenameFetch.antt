@@ -9,9 +9,10 @@ use Rattle.rv_types.specs.declared.Kind.TheVariants.{Load, Store, Call}
 use Rattle.machine_desc.specs.declared.Desc.{Desc}
 use Rattle.window_model.specs.declared.Entry.{Entry}
 use Rattle.window_model.specs.declared.Item.{Item}
-use Rattle.window_model.specs.State.{Machine, After}
+use Rattle.window_model.specs.State.{Machine, After, then_does, nothing}
 use Rattle.window_model.specs.Order.{is_load, is_store, is_waiting}
-use Rattle.window_model.specs.Front.{rename, rename_up_to, rename_from, rename_one, renamed, fits, fits_as, is_call, fetch, fetch_up_to, fetch_from, fetch_one, item_at, then_does, nothing}
+use Rattle.window_model.specs.Rename.{rename, rename_up_to, rename_from, rename_one, renamed, fits, fits_as, is_call}
+use Rattle.window_model.specs.Fetch.{fetch, fetch_up_to, fetch_from, fetch_one, item_at}
 use Rattle.noninterference.specs.Alike.{without_outcome, shown, shown_after}
 use Rattle.noninterference.specs.Laws.{RenameTellsNothing, FetchTellsNothing}
 

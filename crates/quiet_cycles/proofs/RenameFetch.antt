@@ -4,8 +4,9 @@ use Rattle.std.specs.Prelude.{if◌then◌else◌, nat_lt}
 use Rattle.rv_types.specs.Memory.{Code}
 use Rattle.machine_desc.specs.declared.Desc.{Desc}
 use Rattle.window_model.specs.declared.Item.{Item}
-use Rattle.window_model.specs.State.{Machine}
-use Rattle.window_model.specs.Front.{rename, rename_up_to, rename_from, rename_one, fits, fetch, fetch_up_to, fetch_from, fetch_one, item_at, then_does, nothing}
+use Rattle.window_model.specs.State.{Machine, then_does, nothing}
+use Rattle.window_model.specs.Rename.{rename, rename_up_to, rename_from, rename_one, fits}
+use Rattle.window_model.specs.Fetch.{fetch, fetch_up_to, fetch_from, fetch_one, item_at}
 use Rattle.quiet_cycles.specs.Still.{at_cycle}
 
 -- ---- rename
