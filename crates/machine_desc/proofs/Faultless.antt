@@ -1,5 +1,5 @@
 -- What a document without fault has.
-use Rattle.std.proofs.Common.{◌≡◌, ◌+◌, ◌^◌, ◌<◌, ◌≤◌, nat_lt, nat_le, Bool, true, false, if◌then◌else◌, List, [], ◌∷◌, map, Option, Some, None, Ok, refl, leb-true, ltb-true}
+use Rattle.std.proofs.Common.{◌≡◌, ◌+◌, ◌^◌, ℕ, ◌<◌, ◌≤◌, nat_lt, nat_le, Bool, true, false, if◌then◌else◌, List, [], ◌∷◌, map, Option, Some, None, Ok, refl, leb-true, ltb-true}
 use Rattle.std.specs.List.{AllByRecursion as Each}
 use Rattle.toml.specs.Data.{Members}
 use Rattle.machine_desc.specs.declared.keys.Key.{Key}
@@ -19,59 +19,59 @@ none_from_if : (b : Bool) (e : DescFault) → (if b then None else Some e) ≡ N
 none_from_if true e h = refl
 none_from_if false e h = absurd (cc)
 
-latencies : (document : Members) → latency_fault document ≡ None → number document CacheHitLatency < number document CacheMissLatency
+latencies : (v : ℕ) (document : Members) → latency_fault v document ≡ None → number v document CacheHitLatency < number v document CacheMissLatency
 unfolding latency_fault
-latencies document h = ltb-true _ _ (none_from_if (nat_lt (number document CacheHitLatency) (number document CacheMissLatency)) _ h)
+latencies v document h = ltb-true _ _ (none_from_if (nat_lt (number v document CacheHitLatency) (number v document CacheMissLatency)) _ h)
 
-ends : (document : Members) → end_fault document ≡ None → number document RamBase + number document RamSize ≤ 2 ^ 32
+ends : (v : ℕ) (document : Members) → end_fault v document ≡ None → number v document RamBase + number v document RamSize ≤ 2 ^ 32
 unfolding end_fault
-ends document h = leb-true _ _ (none_from_if (nat_le (number document RamBase + number document RamSize) (2 ^ 32)) _ h)
+ends v document h = leb-true _ _ (none_from_if (nat_le (number v document RamBase + number v document RamSize) (2 ^ 32)) _ h)
 
-each_key : (document : Members) → keys_fault document ≡ None → Each (λ x. x ≡ None) (map (key_fault document) keys)
+each_key : (v : ℕ) (document : Members) → keys_fault v document ≡ None → Each (λ x. x ≡ None) (map (key_fault v document) keys)
 unfolding keys_fault
-each_key document h = none_first (map (key_fault document) keys) h
+each_key v document h = none_first (map (key_fault v document) keys) h
 
-each_step : (document : Members) → document_fault document ≡ None
-    → Each (λ x. x ≡ None) (top_fault document ∷ sections_fault document ∷ keys_fault document ∷ latency_fault document ∷ end_fault document ∷ [])
+each_step : (v : ℕ) (document : Members) → document_fault v document ≡ None
+    → Each (λ x. x ≡ None) (top_fault document ∷ sections_fault document ∷ keys_fault v document ∷ latency_fault v document ∷ end_fault v document ∷ [])
 unfolding document_fault
-each_step document h =
-    none_first (top_fault document ∷ sections_fault document ∷ keys_fault document ∷ latency_fault document ∷ end_fault document ∷ []) h
+each_step v document h =
+    none_first (top_fault document ∷ sections_fault document ∷ keys_fault v document ∷ latency_fault v document ∷ end_fault v document ∷ []) h
 
 -- so each key has none
-key_clean : (document : Members) → Each (λ x. x ≡ None) (map (key_fault document) keys) → (k : Key) → key_fault document k ≡ None
-key_clean document e CoreFetchWidth = e.0
-key_clean document e CoreRetireWidth = e.1.0
-key_clean document e CoreRob = e.1.1.0
-key_clean document e CoreStations = e.1.1.1.0
-key_clean document e CoreLoads = e.1.1.1.1.0
-key_clean document e CoreStores = e.1.1.1.1.1.0
-key_clean document e CoreQueue = e.1.1.1.1.1.1.0
-key_clean document e UnitsAlus = e.1.1.1.1.1.1.1.0
-key_clean document e UnitsMulLatency = e.1.1.1.1.1.1.1.1.0
-key_clean document e PredictorCounters = e.1.1.1.1.1.1.1.1.1.0
-key_clean document e PredictorBtb = e.1.1.1.1.1.1.1.1.1.1.0
-key_clean document e CacheSets = e.1.1.1.1.1.1.1.1.1.1.1.0
-key_clean document e CacheWays = e.1.1.1.1.1.1.1.1.1.1.1.1.0
-key_clean document e CacheLine = e.1.1.1.1.1.1.1.1.1.1.1.1.1.0
-key_clean document e CacheHitLatency = e.1.1.1.1.1.1.1.1.1.1.1.1.1.1.0
-key_clean document e CacheMissLatency = e.1.1.1.1.1.1.1.1.1.1.1.1.1.1.1.0
-key_clean document e CacheMshrs = e.1.1.1.1.1.1.1.1.1.1.1.1.1.1.1.1.0
-key_clean document e RamBase = e.1.1.1.1.1.1.1.1.1.1.1.1.1.1.1.1.1.0
-key_clean document e RamSize = e.1.1.1.1.1.1.1.1.1.1.1.1.1.1.1.1.1.1.0
-key_clean document e SttModel = e.1.1.1.1.1.1.1.1.1.1.1.1.1.1.1.1.1.1.1.0
+key_clean : (v : ℕ) (document : Members) → Each (λ x. x ≡ None) (map (key_fault v document) keys) → (k : Key) → key_fault v document k ≡ None
+key_clean v document e CoreFetchWidth = e.0
+key_clean v document e CoreRetireWidth = e.1.0
+key_clean v document e CoreRob = e.1.1.0
+key_clean v document e CoreStations = e.1.1.1.0
+key_clean v document e CoreLoads = e.1.1.1.1.0
+key_clean v document e CoreStores = e.1.1.1.1.1.0
+key_clean v document e CoreQueue = e.1.1.1.1.1.1.0
+key_clean v document e UnitsAlus = e.1.1.1.1.1.1.1.0
+key_clean v document e UnitsMulLatency = e.1.1.1.1.1.1.1.1.0
+key_clean v document e PredictorCounters = e.1.1.1.1.1.1.1.1.1.0
+key_clean v document e PredictorBtb = e.1.1.1.1.1.1.1.1.1.1.0
+key_clean v document e CacheSets = e.1.1.1.1.1.1.1.1.1.1.1.0
+key_clean v document e CacheWays = e.1.1.1.1.1.1.1.1.1.1.1.1.0
+key_clean v document e CacheLine = e.1.1.1.1.1.1.1.1.1.1.1.1.1.0
+key_clean v document e CacheHitLatency = e.1.1.1.1.1.1.1.1.1.1.1.1.1.1.0
+key_clean v document e CacheMissLatency = e.1.1.1.1.1.1.1.1.1.1.1.1.1.1.1.0
+key_clean v document e CacheMshrs = e.1.1.1.1.1.1.1.1.1.1.1.1.1.1.1.1.0
+key_clean v document e RamBase = e.1.1.1.1.1.1.1.1.1.1.1.1.1.1.1.1.1.0
+key_clean v document e RamSize = e.1.1.1.1.1.1.1.1.1.1.1.1.1.1.1.1.1.1.0
+key_clean v document e SttModel = e.1.1.1.1.1.1.1.1.1.1.1.1.1.1.1.1.1.1.1.0
 
-pub is_clean : (document : Members) → document_fault document ≡ None → IsClean document
-is_clean document h =
-    let steps = each_step document h in
+pub is_clean : (v : ℕ) (document : Members) → document_fault v document ≡ None → IsClean v document
+is_clean v document h =
+    let steps = each_step v document h in
     record {
-      keys = key_clean document (each_key document steps.1.1.0);
-      latencies = latencies document steps.1.1.1.0;
-      ends = ends document steps.1.1.1.1.0;
+      keys = key_clean v document (each_key v document steps.1.1.0);
+      latencies = latencies v document steps.1.1.1.0;
+      ends = ends v document steps.1.1.1.1.0;
     }
 
 none_from_checked : (x : Option DescFault) → checked x ≡ Ok tt → x ≡ None
 none_from_checked None h = refl
 none_from_checked (Some e) h = absurd (cc)
 
-pub clean_from_checked : (document : Members) → checked (document_fault document) ≡ Ok tt → IsClean document
-clean_from_checked document h = is_clean document (none_from_checked _ h)
+pub clean_from_checked : (v : ℕ) (document : Members) → checked (document_fault v document) ≡ Ok tt → IsClean v document
+clean_from_checked v document h = is_clean v document (none_from_checked _ h)

@@ -1,3 +1,4 @@
+pub mod Versions
 pub mod Unknown
 pub mod Faultless
 pub mod Texts

@@ -29,8 +29,12 @@ above p q u v = is_prop→PathP (λ i. p i < q i) (λ i. le_prop) u v
 ends : {a b c d : ℕ} (p : a ≡ b) (q : c ≡ d) (u : a + c ≤ 2 ^ 32) (v : b + d ≤ 2 ^ 32) → PathP (λ i. p i + q i ≤ 2 ^ 32) u v
 ends p q u v = is_prop→PathP (λ i. p i + q i ≤ 2 ^ 32) (λ i. le_prop) u v
 
+first : {a b : ℕ} (p : a ≡ b) (u : a ≡ 1) (v : b ≡ 1) → PathP (λ i. p i ≡ 1) u v
+first p u v = is_prop→PathP (λ i. p i ≡ 1) (λ i. hedberg ℕ_discrete (p i) 1) u v
+
 pub same_desc : (d e : Desc) → contents d ≡ contents e → d ≡ e
 same_desc d e h =
+    let version : d.version ≡ e.version = ap (λ (c : Contents). c.version) h in
     let core_fetch_width : d.core_fetch_width ≡ e.core_fetch_width = ap (λ (c : Contents). slice_index c.numbers 0) h in
     let core_retire_width : d.core_retire_width ≡ e.core_retire_width = ap (λ (c : Contents). slice_index c.numbers 1) h in
     let core_rob : d.core_rob ≡ e.core_rob = ap (λ (c : Contents). slice_index c.numbers 2) h in
@@ -52,6 +56,7 @@ same_desc d e h =
     let ram_size : d.ram_size ≡ e.ram_size = ap (λ (c : Contents). slice_index c.numbers 18) h in
     let stt_model : d.stt_model ≡ e.stt_model = ap (λ (c : Contents). c.model) h in
     λ i. record {
+      version = version i;
       core_fetch_width = core_fetch_width i;
       core_retire_width = core_retire_width i;
       core_rob = core_rob i;
@@ -72,6 +77,7 @@ same_desc d e h =
       ram_base = ram_base i;
       ram_size = ram_size i;
       stt_model = stt_model i;
+      first_version = first version d.first_version e.first_version i;
       some_fetches = up _ core_fetch_width d.some_fetches e.some_fetches i;
       few_fetches = down _ core_fetch_width d.few_fetches e.few_fetches i;
       some_retires = up _ core_retire_width d.some_retires e.some_retires i;

@@ -26,8 +26,8 @@ abbrev pub PassesAs : Values → ℕ → Type 0
 PassesAs (Numbers least most shape) n = (least ≤ n) × (n ≤ most) × IsTrue (has_shape shape n)
 PassesAs Models n = Unit {0}
 
--- no key has a fault, a miss takes longer than a hit, and RAM ends at or below 2^32
-pub record IsClean (document : Members) : Type 0 where
-  pub keys : (k : Key) → key_fault document k ≡ None
-  pub latencies : number document CacheHitLatency < number document CacheMissLatency
-  pub ends : number document RamBase + number document RamSize ≤ 2 ^ 32
+-- in this version no key has a fault, a miss takes longer than a hit, and RAM ends at or below 2^32
+pub record IsClean (version : ℕ) (document : Members) : Type 0 where
+  pub keys : (k : Key) → key_fault version document k ≡ None
+  pub latencies : number version document CacheHitLatency < number version document CacheMissLatency
+  pub ends : number version document RamBase + number version document RamSize ≤ 2 ^ 32

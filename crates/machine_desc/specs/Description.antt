@@ -14,10 +14,11 @@ use Rattle.machine_desc.specs.declared.keys.Shape.{Shape}
 use Rattle.machine_desc.specs.declared.keys.Shape.TheVariants.{Any, PowerOfTwo, MultipleOf16}
 use Rattle.machine_desc.specs.declared.keys.Values.{Values}
 use Rattle.machine_desc.specs.declared.keys.Values.TheVariants.{Numbers, Models}
-use Rattle.machine_desc.specs.declared.fault.Subject.TheVariants.{Table as OfTable, Key as OfKey}
+use Rattle.machine_desc.specs.declared.fault.Subject.TheVariants.{Version as OfVersion, Table as OfTable, Key as OfKey}
 use Rattle.machine_desc.specs.declared.fault.DescFault.{DescFault}
-use Rattle.machine_desc.specs.declared.fault.DescFault.TheVariants.{Syntax, Unknown, Missing, Kind, Range, Shape as WrongShape}
-use Rattle.machine_desc.specs.Table.{row, section_name, sections, number_keys, keys, some_section, some_key}
+use Rattle.machine_desc.specs.declared.fault.DescFault.TheVariants.{Syntax, Unknown, Missing, Kind, Version, Range, Shape as WrongShape}
+use Rattle.machine_desc.specs.Version.{newest}
+use Rattle.machine_desc.specs.Table.{row, section_of, name_of, section_name, version_name, sections, number_keys, keys, some_top, some_key}
 
 -- the first fault of these places, if there is one
 abbrev pub first : List (Option DescFault) → Option DescFault
@@ -30,6 +31,18 @@ abbrev pub checked : Option DescFault → Result (Unit {0}) DescFault
 checked None = Ok tt
 checked (Some fault) = Err fault
 
+-- ---- the version
+
+-- the version of a value: 1 where there is none, else a whole number, from 1 to the newest
+abbrev pub version_in : Option Data → Result ℕ DescFault
+version_in None = Ok 1
+version_in (Some (integer z)) = if int_le (pos 1) z && int_le z (pos newest) then Ok (nat_abs z) else Err (Version z)
+version_in (Some other) = Err (Kind OfVersion)
+
+-- the version of a document, or its fault
+abbrev pub version : Members → Result ℕ DescFault
+version document = version_in (get_member version_name document)
+
 -- ---- names
 
 -- the first name that isn't known, so the least one: members ascend by the bytes of their names
@@ -39,7 +52,7 @@ unknown known (member name value more) = if known name then unknown known more e
 
 -- of a name at the top, the first 64 bytes are kept
 unfoldable pub top_fault : Members → Option DescFault
-top_fault document = option_map (λ name. Unknown (take 64 name)) (unknown (some_section sections) document)
+top_fault document = option_map (λ name. Unknown (take 64 name)) (unknown (some_top sections) document)
 
 -- of a name in a table too, behind the table's name and a dot
 abbrev pub name_fault : Section → Members → Option DescFault
@@ -64,7 +77,7 @@ sections_fault document = first (map (section_fault document) sections)
 
 -- the value of a key, where it and its table are there
 abbrev pub value_at : Members → Key → Option Data
-value_at document key = option_and_then (get_member (row key).name) (option_and_then as_table (get_member (section_name (row key).section) document))
+value_at document key = option_and_then (get_member (name_of key)) (option_and_then as_table (get_member (section_name (section_of key)) document))
 
 -- a number has a shape
 abbrev pub has_shape : Shape → ℕ → Bool
@@ -107,13 +120,13 @@ abbrev pub value_fault : Key → Values → Option Data → Option DescFault
 value_fault key (Numbers least most shape) value = fault_of (number_in key least most shape value)
 value_fault key Models value = fault_of (model_in key value)
 
--- the fault of a key
-unfoldable pub key_fault : Members → Key → Option DescFault
-key_fault document key = value_fault key (row key).values (value_at document key)
+-- the fault of a key in a version
+unfoldable pub key_fault : ℕ → Members → Key → Option DescFault
+key_fault version document key = value_fault key (row version key).values (value_at document key)
 
 -- the keys in order
-unfoldable pub keys_fault : Members → Option DescFault
-keys_fault document = first (map (key_fault document) keys)
+unfoldable pub keys_fault : ℕ → Members → Option DescFault
+keys_fault version document = first (map (key_fault version document) keys)
 
 -- a number, 0 where there is a fault
 abbrev pub number_or_zero : Result ℕ DescFault → ℕ
@@ -126,42 +139,44 @@ number_of key (Numbers least most shape) value = number_or_zero (number_in key l
 number_of key Models value = 0
 
 -- the number of a key, 0 where it has a fault
-abbrev pub number : Members → Key → ℕ
-number document key = number_of key (row key).values (value_at document key)
+abbrev pub number : ℕ → Members → Key → ℕ
+number version document key = number_of key (row version key).values (value_at document key)
 
 -- the model of a document
 abbrev pub model : Members → Result SttModel DescFault
 model document = model_in ModelKey (value_at document ModelKey)
 
 -- a miss takes longer than a hit
-unfoldable pub latency_fault : Members → Option DescFault
-latency_fault document =
-    if nat_lt (number document CacheHitLatency) (number document CacheMissLatency) then None else Some (WrongShape CacheMissLatency)
+unfoldable pub latency_fault : ℕ → Members → Option DescFault
+latency_fault v document =
+    if nat_lt (number v document CacheHitLatency) (number v document CacheMissLatency) then None else Some (WrongShape CacheMissLatency)
 
 -- RAM ends at or below 2^32
-unfoldable pub end_fault : Members → Option DescFault
-end_fault document =
-    if nat_le (number document RamBase + number document RamSize) (2 ^ 32) then None else Some (WrongShape RamSize)
+unfoldable pub end_fault : ℕ → Members → Option DescFault
+end_fault v document =
+    if nat_le (number v document RamBase + number v document RamSize) (2 ^ 32) then None else Some (WrongShape RamSize)
 
 -- ---- the whole
 
--- the first fault of a document: names at the top, tables, keys, and the two facts on pairs of numbers
-unfoldable pub document_fault : Members → Option DescFault
-document_fault document = first (
+-- the first fault of a document of this version: names at the top, tables, keys, and the two facts on pairs of numbers
+unfoldable pub document_fault : ℕ → Members → Option DescFault
+document_fault version document = first (
     top_fault document ∷
     sections_fault document ∷
-    keys_fault document ∷
-    latency_fault document ∷
-    end_fault document ∷ [])
+    keys_fault version document ∷
+    latency_fault version document ∷
+    end_fault version document ∷ [])
 
--- what a description holds: its numbers in the order of their keys, and its model
+-- what a description holds: its version, its numbers in the order of their keys, and its model
 pub record Contents : Type 0 where
+  pub version : ℕ
   pub numbers : List ℕ
   pub model : SttModel
 
 -- each number in its key's place
 abbrev pub contents : Desc → Contents
 contents d = record {
+  version = d.version;
   numbers =
       d.core_fetch_width ∷ d.core_retire_width ∷ d.core_rob ∷ d.core_stations ∷ d.core_loads ∷ d.core_stores ∷ d.core_queue ∷
       d.units_alus ∷ d.units_mul_latency ∷
@@ -172,14 +187,19 @@ contents d = record {
 }
 
 -- the first fault, or else the contents
-abbrev pub contents_or : Option DescFault → List ℕ → Result SttModel DescFault → Result Contents DescFault
-contents_or (Some fault) numbers model = Err fault
-contents_or None numbers (Err fault) = Err fault
-contents_or None numbers (Ok model) = Ok (record { numbers = numbers; model = model })
+abbrev pub contents_or : Option DescFault → ℕ → List ℕ → Result SttModel DescFault → Result Contents DescFault
+contents_or (Some fault) version numbers model = Err fault
+contents_or None version numbers (Err fault) = Err fault
+contents_or None version numbers (Ok model) = Ok (record { version = version; numbers = numbers; model = model })
 
--- the contents of a document, or its first fault
+-- the contents of a document by its version, or the first fault
+abbrev pub contents_by : Result ℕ DescFault → Members → Result Contents DescFault
+contents_by (Err fault) document = Err fault
+contents_by (Ok v) document = contents_or (document_fault v document) v (map (number v document) number_keys) (model document)
+
+-- the contents of a document, or its first fault: the version is looked at before all else
 abbrev pub document_contents : Members → Result Contents DescFault
-document_contents document = contents_or (document_fault document) (map (number document) number_keys) (model document)
+document_contents document = contents_by (version document) document
 
 -- the contents of what a text is as a TOML document, if it is one
 abbrev pub text_contents : Option Members → Result Contents DescFault

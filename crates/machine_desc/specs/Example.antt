@@ -6,6 +6,7 @@ use Rattle.machine_desc.specs.declared.SttModel.TheVariants.{Spectre}
 -- its numbers, and that each is what its key asks for
 abbrev pub example : Desc
 example = record {
+  version = 1;
   core_fetch_width = 2;
   core_retire_width = 2;
   core_rob = 16;
@@ -26,6 +27,7 @@ example = record {
   ram_base = 65536;
   ram_size = 65536;
   stt_model = Spectre;
+  first_version = refl;
   some_fetches = lit≤ tt;
   few_fetches = lit≤ tt;
   some_retires = lit≤ tt;

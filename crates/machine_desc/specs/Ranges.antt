@@ -1,17 +1,19 @@
 -- What is asked of a description's numbers, and the longest time between two retirements.
-use Rattle.std.specs.Prelude.{ℕ, ◌+◌, ◌*◌, ◌^◌, ◌<◌, ◌≤◌}
+use Rattle.std.specs.Prelude.{◌≡◌, ℕ, ◌+◌, ◌*◌, ◌^◌, ◌<◌, ◌≤◌}
 use Rattle.machine_desc.specs.declared.Desc.{Desc}
 use Rattle.machine_desc.specs.declared.keys.Key.{Key}
 use Rattle.machine_desc.specs.declared.keys.Key.TheVariants.{CoreFetchWidth, CoreRetireWidth, CoreRob, CoreStations, CoreLoads, CoreStores, CoreQueue, UnitsAlus, UnitsMulLatency, PredictorCounters, PredictorBtb, CacheSets, CacheWays, CacheLine, CacheHitLatency, CacheMissLatency, CacheMshrs, RamBase, RamSize}
 use Rattle.machine_desc.specs.Table.{row}
 use Rattle.machine_desc.specs.Clean.{Fits}
 
--- a number is one of those that the table of keys gives its key
+-- a number is one of those that the table of keys gives its key in version 1
 abbrev pub MayBe : Key → ℕ → Type 0
-MayBe key n = Fits (row key).values n
+MayBe key n = Fits (row 1 key).values n
 
--- every number is in its key's range and of its key's shape; a miss takes longer than a hit; RAM ends at or below 2^32
+-- the version is 1; every number is in its key's range and of its key's shape; a miss takes longer than a hit; RAM ends at or
+-- below 2^32
 pub record IsDesc (d : Desc) : Type 0 where
+  pub version : d.version ≡ 1
   pub fetch_width : MayBe CoreFetchWidth d.core_fetch_width
   pub retire_width : MayBe CoreRetireWidth d.core_retire_width
   pub rob : MayBe CoreRob d.core_rob

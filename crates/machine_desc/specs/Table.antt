@@ -1,5 +1,5 @@
 -- The table of the keys (docs/formats.md, "Machine descriptions").
-use Rattle.std.specs.Prelude.{Bool, ℕ, List, [], ◌∷◌, ◌++◌, ◌&&◌, codes}
+use Rattle.std.specs.Prelude.{Bool, ℕ, List, [], ◌∷◌, ◌++◌, ◌&&◌, ◌||◌, codes}
 use Rattle.std.specs.List.{list_any}
 use Rattle.std.specs.Str.{bytes_eq}
 use Rattle.machine_desc.specs.declared.keys.Section.{Section}
@@ -11,7 +11,8 @@ use Rattle.machine_desc.specs.declared.keys.Shape.TheVariants.{Any, PowerOfTwo, 
 use Rattle.machine_desc.specs.declared.keys.Values.{Values}
 use Rattle.machine_desc.specs.declared.keys.Values.TheVariants.{Numbers, Models}
 use Rattle.machine_desc.specs.declared.fault.Subject.{Subject}
-use Rattle.machine_desc.specs.declared.fault.Subject.TheVariants.{Table as OfTable, Key as OfKey}
+use Rattle.machine_desc.specs.declared.fault.Subject.TheVariants.{Version as OfVersion, Table as OfTable, Key as OfKey}
+use Rattle.machine_desc.specs.Version.{most}
 
 -- where a key stands, and which values it may have
 pub record Row : Type 0 where
@@ -23,28 +24,36 @@ pub record Row : Type 0 where
 abbrev pub whole : Section → List ℕ → ℕ → ℕ → Shape → Row
 whole section name least most shape = record { section = section; name = name; values = Numbers least most shape }
 
--- the rows: table, name, least, most, shape
-abbrev pub row : Key → Row
-row CoreFetchWidth = whole Core (codes "fetch_width") 1 4 Any
-row CoreRetireWidth = whole Core (codes "retire_width") 1 4 Any
-row CoreRob = whole Core (codes "rob") 4 64 Any
-row CoreStations = whole Core (codes "stations") 2 32 Any
-row CoreLoads = whole Core (codes "loads") 1 16 Any
-row CoreStores = whole Core (codes "stores") 1 16 Any
-row CoreQueue = whole Core (codes "queue") 1 16 Any
-row UnitsAlus = whole Units (codes "alus") 1 4 Any
-row UnitsMulLatency = whole Units (codes "mul_latency") 1 8 Any
-row PredictorCounters = whole Predictor (codes "counters") 2 4096 PowerOfTwo
-row PredictorBtb = whole Predictor (codes "btb") 1 256 PowerOfTwo
-row CacheSets = whole Cache (codes "sets") 1 256 PowerOfTwo
-row CacheWays = whole Cache (codes "ways") 1 8 Any
-row CacheLine = whole Cache (codes "line") 4 64 PowerOfTwo
-row CacheHitLatency = whole Cache (codes "hit_latency") 1 8 Any
-row CacheMissLatency = whole Cache (codes "miss_latency") 2 200 Any
-row CacheMshrs = whole Cache (codes "mshrs") 1 8 Any
-row RamBase = whole Ram (codes "base") 0 4294963200 MultipleOf16
-row RamSize = whole Ram (codes "size") 4096 16777216 MultipleOf16
-row SttModel = record { section = Stt; name = codes "model"; values = Models }
+-- the rows of a version: table, name, least, most, shape
+abbrev pub row : ℕ → Key → Row
+row v CoreFetchWidth = whole Core (codes "fetch_width") 1 4 Any
+row v CoreRetireWidth = whole Core (codes "retire_width") 1 4 Any
+row v CoreRob = whole Core (codes "rob") 4 (most 64 192 v) Any
+row v CoreStations = whole Core (codes "stations") 2 (most 32 96 v) Any
+row v CoreLoads = whole Core (codes "loads") 1 (most 16 64 v) Any
+row v CoreStores = whole Core (codes "stores") 1 (most 16 48 v) Any
+row v CoreQueue = whole Core (codes "queue") 1 (most 16 32 v) Any
+row v UnitsAlus = whole Units (codes "alus") 1 4 Any
+row v UnitsMulLatency = whole Units (codes "mul_latency") 1 8 Any
+row v PredictorCounters = whole Predictor (codes "counters") 2 4096 PowerOfTwo
+row v PredictorBtb = whole Predictor (codes "btb") 1 256 PowerOfTwo
+row v CacheSets = whole Cache (codes "sets") 1 256 PowerOfTwo
+row v CacheWays = whole Cache (codes "ways") 1 8 Any
+row v CacheLine = whole Cache (codes "line") 4 64 PowerOfTwo
+row v CacheHitLatency = whole Cache (codes "hit_latency") 1 8 Any
+row v CacheMissLatency = whole Cache (codes "miss_latency") 2 200 Any
+row v CacheMshrs = whole Cache (codes "mshrs") 1 8 Any
+row v RamBase = whole Ram (codes "base") 0 4294963200 MultipleOf16
+row v RamSize = whole Ram (codes "size") 4096 16777216 MultipleOf16
+row v SttModel = record { section = Stt; name = codes "model"; values = Models }
+
+-- where a key stands, which is the same in every version
+abbrev pub section_of : Key → Section
+section_of key = (row 1 key).section
+
+-- and under which name
+abbrev pub name_of : Key → List ℕ
+name_of key = (row 1 key).name
 
 -- the keys of numbers, in order
 abbrev pub number_keys : List Key
@@ -72,12 +81,17 @@ section_name Cache = codes "cache"
 section_name Ram = codes "ram"
 section_name Stt = codes "stt"
 
+-- the name of the version, which stands in no table
+abbrev pub version_name : List ℕ
+version_name = codes "version"
+
 -- the name of a key with its table's
 abbrev pub key_text : Key → List ℕ
-key_text key = section_name (row key).section ++ codes "." ++ (row key).name
+key_text key = section_name (section_of key) ++ codes "." ++ name_of key
 
 -- the name of what has the wrong kind
 abbrev pub subject_text : Subject → List ℕ
+subject_text OfVersion = version_name
 subject_text (OfTable section) = section_name section
 subject_text (OfKey key) = key_text key
 
@@ -85,9 +99,13 @@ subject_text (OfKey key) = key_text key
 abbrev pub some_section : List Section → List ℕ → Bool
 some_section tables name = list_any (λ s. bytes_eq (section_name s) name) tables
 
+-- the name is the version's, or that of one of these tables
+abbrev pub some_top : List Section → List ℕ → Bool
+some_top tables name = bytes_eq version_name name || some_section tables name
+
 -- a key stands in this table under this name
 abbrev pub stands_at : Section → List ℕ → Key → Bool
-stands_at section name key = bytes_eq (section_name (row key).section) (section_name section) && bytes_eq (row key).name name
+stands_at section name key = bytes_eq (section_name (section_of key)) (section_name section) && bytes_eq (name_of key) name
 
 -- one of these keys stands in this table under this name
 abbrev pub some_key : List Key → Section → List ℕ → Bool

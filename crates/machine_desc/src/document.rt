@@ -2,19 +2,19 @@
 ghost use Rattle.std.specs.Prelude.{◌≡◌, pos, ◌≤ℤ◌, codes, ◌≤◌, map, option_map};
 ghost use Rattle.toml.specs.View.{table_view, view};
 ghost use Rattle.toml.specs.Data.{get_member};
-ghost use Rattle.machine_desc.specs.Table.{some_key, some_section};
-ghost use Rattle.machine_desc.specs.Description.{unknown, value_at, has_shape, whole_in, number_in, model_in, model_named};
+ghost use Rattle.machine_desc.specs.Table.{some_key, some_top, section_of, name_of};
+ghost use Rattle.machine_desc.specs.Description.{unknown, version_in, value_at, has_shape, whole_in, number_in, model_in, model_named};
 
-use crate::keys::{Shape, some_key, some_section};
+use crate::keys::{FIRST, NEWEST, Shape, some_key, some_top};
 use crate::{DescFault, Key, Section, SttModel, Subject};
 use toml::{Table, Value};
 
-// The least name at the top that isn't a table's.
+// The least name at the top that is neither the version's nor a table's.
 pub fn unknown_section<'a>(document: &'a Table, sections: &[Section]) -> Option<&'a str>
-    ensures { option_map (λ s. s.now) result ≡ unknown (some_section sections.now) (table_view document.now) }
+    ensures { option_map (λ s. s.now) result ≡ unknown (some_top sections.now) (table_view document.now) }
 {
     for name in document.keys() {
-        if !some_section(sections, name.as_str()) {
+        if !some_top(sections, name.as_str()) {
             return Some(name.as_str());
         }
     }
@@ -44,13 +44,32 @@ pub fn member_of<'a>(table: &'a Table, name: &str) -> Option<&'a Value>
 pub fn value_at<'a>(document: &'a Table, key: Key) -> Option<&'a Value>
     ensures { option_map (λ v. view v.now) result ≡ value_at (table_view document.now) key }
 {
-    let row = key.row();
+    let row = key.row(FIRST);
     match member_of(document, row.section.name()) {
         Some(value) => match value.as_table() {
             Some(table) => member_of(table, row.name),
             None => None,
         },
         None => None,
+    }
+}
+
+// The version of a value.
+pub fn version_in(value: Option<&Value>) -> Result<u32, DescFault>
+    ensures { result ≡ version_in (option_map (λ v. view v.now) value.entry) }
+{
+    match value {
+        None => Ok(FIRST),
+        Some(value) => match value.as_integer() {
+            None => Err(DescFault::Kind(Subject::Version)),
+            Some(number) => {
+                if 1 <= number && number <= NEWEST {
+                    Ok(number as u32)
+                } else {
+                    Err(DescFault::Version(number))
+                }
+            }
+        },
     }
 }
 

@@ -2,6 +2,7 @@
 ghost use Rattle.std.specs.Prelude.{◌≡◌};
 ghost use Rattle.machine_desc.specs.Table.{subject_text};
 
+use crate::keys::VERSION_NAME;
 use crate::{Key, Name, Section};
 use std::fmt;
 use thiserror::Error;
@@ -9,16 +10,18 @@ use thiserror::Error;
 /// What has the wrong kind.
 #[derive(Clone, Copy, Debug, PartialEq, Eq)]
 pub enum Subject {
+    Version,
     Table(Section),
     Key(Key),
 }
 
 impl Subject {
-    /// The name of the table or key, as `core` or `core.fetch_width`.
+    /// `version`, or the name of the table or key, as `core` or `core.fetch_width`.
     pub fn text(self) -> Name
         ensures { result ≡ subject_text self }
     {
         match self {
+            Subject::Version => Name::new(VERSION_NAME.as_bytes()),
             Subject::Table(section) => Name::new(section.name().as_bytes()),
             Subject::Key(key) => key.text(),
         }
@@ -43,9 +46,13 @@ pub enum DescFault {
     /// The key isn't there, or its table isn't.
     #[error("K3: {0} isn't there")]
     Missing(Key),
-    /// The table is no table; the key's value isn't a whole number, or isn't a model's name.
+    /// The version isn't a whole number; the table is no table; the key's value isn't a whole number, or isn't a model's
+    /// name.
     #[error("K4: {0} is of another kind")]
     Kind(Subject),
+    /// This program doesn't know the version: it knows version 1 alone.
+    #[error("K5: version is {0}, and the only version that is known is 1")]
+    Version(i64),
     /// The number is outside the key's range.
     #[error("K5: {0} is {1}, outside its range")]
     Range(Key, i64),

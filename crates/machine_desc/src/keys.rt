@@ -3,7 +3,9 @@
 //! `docs/formats.md`, "Machine descriptions", has the same table with what each key means. A further key is one more
 //! variant, one more row, and its place in `KEYS`.
 ghost use Rattle.std.specs.Prelude.{◌≡◌, ◌≤◌, ◌++◌, length, codes};
-ghost use Rattle.machine_desc.specs.Table.{section_name, row, whole, key_text, some_key, some_section, stands_at};
+ghost use Rattle.machine_desc.specs.Table.{section_name, row, whole, key_text};
+ghost use Rattle.machine_desc.specs.Table.{some_key, some_section, some_top, stands_at};
+ghost use Rattle.machine_desc.specs.Version.{most};
 
 use crate::Name;
 use std::fmt;
@@ -69,6 +71,15 @@ pub(crate) struct Row {
     pub values: Values,
 }
 
+/// The newest version that is known: each one from 1 on is.
+pub(crate) const NEWEST: i64 = 1;
+
+/// The first version. What doesn't differ between versions is looked up in its table.
+pub(crate) const FIRST: u32 = 1;
+
+/// The name of the version, which stands in no table.
+pub(crate) const VERSION_NAME: &str = "version";
+
 /// The tables, in the order of their keys.
 pub(crate) const SECTIONS: [Section; 6] = [
     Section::Core,
@@ -133,20 +144,40 @@ fn number(section: Section, name: &'static str, least: u32, most: u32, shape: Sh
     }
 }
 
+// A number by the version: the first one in version 1, the second in any later one.
+fn most(in_1: u32, in_2: u32, version: u32) -> u32
+    ensures { result ≡ most in_1 in_2 version }
+{
+    if version == 1 { in_1 } else { in_2 }
+}
+
 impl Key {
-    /// The key's row.
-    pub(crate) fn row(self) -> Row
-        ensures row { record { section = result.section; name = result.name.now; values = result.values } ≡ row self }
+    /// The key's row in a version.
+    pub(crate) fn row(self, version: u32) -> Row
+        ensures row { record { section = result.section; name = result.name.now; values = result.values }
+            ≡ row version self }
         ensures few { length result.name.now ≤ 64 }
     {
         match self {
             Key::CoreFetchWidth => number(Section::Core, "fetch_width", 1, 4, Shape::Any),
             Key::CoreRetireWidth => number(Section::Core, "retire_width", 1, 4, Shape::Any),
-            Key::CoreRob => number(Section::Core, "rob", 4, 64, Shape::Any),
-            Key::CoreStations => number(Section::Core, "stations", 2, 32, Shape::Any),
-            Key::CoreLoads => number(Section::Core, "loads", 1, 16, Shape::Any),
-            Key::CoreStores => number(Section::Core, "stores", 1, 16, Shape::Any),
-            Key::CoreQueue => number(Section::Core, "queue", 1, 16, Shape::Any),
+            Key::CoreRob => number(Section::Core, "rob", 4, most(64, 192, version), Shape::Any),
+            Key::CoreStations => number(
+                Section::Core,
+                "stations",
+                2,
+                most(32, 96, version),
+                Shape::Any,
+            ),
+            Key::CoreLoads => number(Section::Core, "loads", 1, most(16, 64, version), Shape::Any),
+            Key::CoreStores => number(
+                Section::Core,
+                "stores",
+                1,
+                most(16, 48, version),
+                Shape::Any,
+            ),
+            Key::CoreQueue => number(Section::Core, "queue", 1, most(16, 32, version), Shape::Any),
             Key::UnitsAlus => number(Section::Units, "alus", 1, 4, Shape::Any),
             Key::UnitsMulLatency => number(Section::Units, "mul_latency", 1, 8, Shape::Any),
             Key::PredictorCounters => number(
@@ -177,7 +208,7 @@ impl Key {
     fn stands_at(self, section: Section, name: &str) -> bool
         ensures { result ≡ stands_at section name.now self }
     {
-        let row = self.row();
+        let row = self.row(FIRST);
         row.section == section && row.name == name
     }
 
@@ -185,7 +216,7 @@ impl Key {
     pub fn text(self) -> Name
         ensures { result ≡ key_text self }
     {
-        let row = self.row();
+        let row = self.row(FIRST);
         Name::in_section(row.section, row.name.as_bytes())
     }
 }
@@ -206,6 +237,13 @@ pub(crate) fn some_section(sections: &[Section], name: &str) -> bool
         }
     }
     false
+}
+
+// Is the name the version's, or that of one of these tables?
+pub(crate) fn some_top(sections: &[Section], name: &str) -> bool
+    ensures { result ≡ some_top sections.now name.now }
+{
+    name == VERSION_NAME || some_section(sections, name)
 }
 
 // Does one of these keys stand in this table under this name?

@@ -34,10 +34,12 @@ pub enum SttModel {
     Futuristic,
 }
 
-/// A machine description: every number is in its key's range and of its key's shape, a miss takes longer than a hit, and
-/// RAM ends at or below 2^32.
+/// A machine description of version 1: every number is in its key's range and of its key's shape, a miss takes longer
+/// than a hit, and RAM ends at or below 2^32.
 #[derive(Clone, Copy, Debug, PartialEq, Eq)]
 pub struct Desc {
+    /// The version of the machine that is described.
+    pub version: u32,
     /// Instructions fetched a cycle at most, and renamed a cycle at most.
     pub core_fetch_width: u32,
     /// Instructions retired a cycle at most.
@@ -78,6 +80,7 @@ pub struct Desc {
     pub ram_size: u32,
     /// When taint ends.
     pub stt_model: SttModel,
+    pub ghost first_version: { version ≡ 1 },
     pub ghost some_fetches: { 1 ≤ core_fetch_width },
     pub ghost few_fetches: { core_fetch_width ≤ 4 },
     pub ghost some_retires: { 1 ≤ core_retire_width },

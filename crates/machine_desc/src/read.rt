@@ -4,17 +4,27 @@
 ghost use Rattle.std.specs.Prelude.{◌≡◌, ◌≢◌, Ok, Err, IfOk, IfErr, MatchResult, Some, None, map};
 ghost use Rattle.toml.specs.View.{table_view, view};
 ghost use Rattle.toml.specs.Data.{get_member};
-ghost use Rattle.machine_desc.specs.Table.{row, number_keys};
-ghost use Rattle.machine_desc.specs.Clean.{Fits, IsClean};
-ghost use Rattle.machine_desc.specs.Description.{checked, first, top_fault, name_fault, section_fault, sections_fault, key_fault, keys_fault, number, model, latency_fault, end_fault, document_contents, document_fault, Contents, contents, description_of, Describes};
+ghost use Rattle.machine_desc.specs.Table.{number_keys};
+ghost use Rattle.machine_desc.specs.Clean.{IsClean};
+ghost use Rattle.machine_desc.specs.Ranges.{MayBe};
+ghost use Rattle.machine_desc.specs.Description.{checked, first, version, top_fault, name_fault, section_fault, sections_fault, key_fault, keys_fault, number, model, latency_fault, end_fault, document_contents, document_fault, Contents, contents, description_of, Describes};
 
-use crate::document::{member_of, model_in, number_in, unknown_key, unknown_section, value_at};
-use crate::keys::{KEYS, SECTIONS, Values};
+use crate::document::{
+    member_of, model_in, number_in, unknown_key, unknown_section, value_at, version_in,
+};
+use crate::keys::{KEYS, SECTIONS, VERSION_NAME, Values};
 use crate::{Desc, DescFault, Key, Name, Section, SttModel, Subject};
 use std::alloc::Global;
 use toml::Table;
 
-// Each name at the top is a table's.
+// The version of a document.
+fn version(document: &Table) -> Result<u32, DescFault>
+    ensures { result ≡ version (table_view document.now) }
+{
+    version_in(member_of(document, VERSION_NAME))
+}
+
+// Each name at the top is the version's or a table's.
 #[tactic(auto, unfolding(crate::specs::Description::top_fault))]
 fn check_top(document: &Table) -> Result<(), DescFault>
     ensures { result ≡ checked (top_fault (table_view document.now)) }
@@ -67,11 +77,11 @@ fn check_sections(document: &Table) -> Result<(), DescFault>
 
 // A key's value is there, and one that it may have.
 #[tactic(auto, unfolding(crate::specs::Description::key_fault))]
-fn check_key(document: &Table, key: Key) -> Result<(), DescFault>
-    ensures { result ≡ checked (key_fault (table_view document.now) key) }
+fn check_key(version: u32, document: &Table, key: Key) -> Result<(), DescFault>
+    ensures { result ≡ checked (key_fault version (table_view document.now) key) }
 {
     let value = value_at(document, key);
-    match key.row().values {
+    match key.row(version).values {
         Values::Numbers { least, most, shape } => {
             number_in(key, least, most, shape, value)?;
         }
@@ -82,28 +92,28 @@ fn check_key(document: &Table, key: Key) -> Result<(), DescFault>
     Ok(())
 }
 
-fn check_each_key(document: &Table, keys: &[Key]) -> Result<(), DescFault>
-    ensures { result ≡ checked (first (map (key_fault (table_view document.now)) keys.now)) }
+fn check_each_key(version: u32, document: &Table, keys: &[Key]) -> Result<(), DescFault>
+    ensures { result ≡ checked (first (map (key_fault version (table_view document.now)) keys.now)) }
 {
     for key in keys {
-        check_key(document, *key)?;
+        check_key(version, document, *key)?;
     }
     Ok(())
 }
 
 // Each key, in order.
 #[tactic(auto, unfolding(crate::specs::Description::keys_fault))]
-fn check_keys(document: &Table) -> Result<(), DescFault>
-    ensures { result ≡ checked (keys_fault (table_view document.now)) }
+fn check_keys(version: u32, document: &Table) -> Result<(), DescFault>
+    ensures { result ≡ checked (keys_fault version (table_view document.now)) }
 {
-    check_each_key(document, &KEYS)
+    check_each_key(version, document, &KEYS)
 }
 
 // The number of a key, 0 where it has a fault.
-fn number(document: &Table, key: Key) -> u32
-    ensures { result ≡ number (table_view document.now) key }
+fn number(version: u32, document: &Table, key: Key) -> u32
+    ensures { result ≡ number version (table_view document.now) key }
 {
-    match key.row().values {
+    match key.row(version).values {
         Values::Numbers { least, most, shape } => {
             number_in(key, least, most, shape, value_at(document, key)).unwrap_or(0)
         }
@@ -113,10 +123,12 @@ fn number(document: &Table, key: Key) -> u32
 
 // A miss takes longer than a hit.
 #[tactic(auto, unfolding(crate::specs::Description::latency_fault))]
-fn check_latencies(document: &Table) -> Result<(), DescFault>
-    ensures { result ≡ checked (latency_fault (table_view document.now)) }
+fn check_latencies(version: u32, document: &Table) -> Result<(), DescFault>
+    ensures { result ≡ checked (latency_fault version (table_view document.now)) }
 {
-    if number(document, Key::CacheHitLatency) < number(document, Key::CacheMissLatency) {
+    if number(version, document, Key::CacheHitLatency)
+        < number(version, document, Key::CacheMissLatency)
+    {
         Ok(())
     } else {
         Err(DescFault::Shape(Key::CacheMissLatency))
@@ -125,10 +137,11 @@ fn check_latencies(document: &Table) -> Result<(), DescFault>
 
 // RAM ends at or below 2^32.
 #[tactic(auto, unfolding(crate::specs::Description::end_fault))]
-fn check_end(document: &Table) -> Result<(), DescFault>
-    ensures { result ≡ checked (end_fault (table_view document.now)) }
+fn check_end(version: u32, document: &Table) -> Result<(), DescFault>
+    ensures { result ≡ checked (end_fault version (table_view document.now)) }
 {
-    let end = number(document, Key::RamBase) as u64 + number(document, Key::RamSize) as u64;
+    let end = number(version, document, Key::RamBase) as u64
+        + number(version, document, Key::RamSize) as u64;
     if end <= 1 << 32 {
         Ok(())
     } else {
@@ -136,56 +149,60 @@ fn check_end(document: &Table) -> Result<(), DescFault>
     }
 }
 
-// The first fault of a document.
+// The first fault of a document of this version.
 #[tactic(auto, unfolding(crate::specs::Description::document_fault))]
-fn check_document(document: &Table) -> Result<(), DescFault>
-    ensures { result ≡ checked (document_fault (table_view document.now)) }
+fn check_document(version: u32, document: &Table) -> Result<(), DescFault>
+    ensures { result ≡ checked (document_fault version (table_view document.now)) }
 {
     check_top(document)?;
     check_sections(document)?;
-    check_keys(document)?;
-    check_latencies(document)?;
-    check_end(document)
+    check_keys(version, document)?;
+    check_latencies(version, document)?;
+    check_end(version, document)
 }
 
 // The number of a key without fault.
 #[tactic(auto, unfolding(crate::specs::Description::key_fault))]
-fn clean_number(document: &Table, key: Key) -> u32
-    requires { key_fault (table_view document.now) key ≡ None }
-    ensures number { result ≡ number (table_view document.now) key }
-    ensures fits { Fits (row key).values result }
+fn clean_number(version: u32, document: &Table, key: Key) -> u32
+    requires first { version ≡ 1 }
+    requires clean { key_fault version (table_view document.now) key ≡ None }
+    ensures number { result ≡ number version (table_view document.now) key }
+    ensures fits { MayBe key result }
 {
-    number(document, key)
+    number(version, document, key)
 }
 
-// The description of a document without fault.
-fn desc(document: &Table, stt_model: SttModel) -> Desc
-    requires { IsClean (table_view document.now) }
+// The description of a document of this version without fault.
+fn desc(version: u32, document: &Table, stt_model: SttModel) -> Desc
+    requires first { version ≡ 1 }
+    requires clean { IsClean version (table_view document.now) }
     ensures { contents result ≡ record {
-      numbers = map (number (table_view document.now)) number_keys;
+      version = version;
+      numbers = map (number version (table_view document.now)) number_keys;
       model = stt_model;
     } }
 {
     Desc {
-        core_fetch_width: clean_number(document, Key::CoreFetchWidth),
-        core_retire_width: clean_number(document, Key::CoreRetireWidth),
-        core_rob: clean_number(document, Key::CoreRob),
-        core_stations: clean_number(document, Key::CoreStations),
-        core_loads: clean_number(document, Key::CoreLoads),
-        core_stores: clean_number(document, Key::CoreStores),
-        core_queue: clean_number(document, Key::CoreQueue),
-        units_alus: clean_number(document, Key::UnitsAlus),
-        units_mul_latency: clean_number(document, Key::UnitsMulLatency),
-        predictor_counters: clean_number(document, Key::PredictorCounters),
-        predictor_btb: clean_number(document, Key::PredictorBtb),
-        cache_sets: clean_number(document, Key::CacheSets),
-        cache_ways: clean_number(document, Key::CacheWays),
-        cache_line: clean_number(document, Key::CacheLine),
-        cache_hit_latency: clean_number(document, Key::CacheHitLatency),
-        cache_miss_latency: clean_number(document, Key::CacheMissLatency),
-        cache_mshrs: clean_number(document, Key::CacheMshrs),
-        ram_base: clean_number(document, Key::RamBase),
-        ram_size: clean_number(document, Key::RamSize),
+        version,
+        core_fetch_width: clean_number(version, document, Key::CoreFetchWidth),
+        core_retire_width: clean_number(version, document, Key::CoreRetireWidth),
+        core_rob: clean_number(version, document, Key::CoreRob),
+        core_stations: clean_number(version, document, Key::CoreStations),
+        core_loads: clean_number(version, document, Key::CoreLoads),
+        core_stores: clean_number(version, document, Key::CoreStores),
+        core_queue: clean_number(version, document, Key::CoreQueue),
+        units_alus: clean_number(version, document, Key::UnitsAlus),
+        units_mul_latency: clean_number(version, document, Key::UnitsMulLatency),
+        predictor_counters: clean_number(version, document, Key::PredictorCounters),
+        predictor_btb: clean_number(version, document, Key::PredictorBtb),
+        cache_sets: clean_number(version, document, Key::CacheSets),
+        cache_ways: clean_number(version, document, Key::CacheWays),
+        cache_line: clean_number(version, document, Key::CacheLine),
+        cache_hit_latency: clean_number(version, document, Key::CacheHitLatency),
+        cache_miss_latency: clean_number(version, document, Key::CacheMissLatency),
+        cache_mshrs: clean_number(version, document, Key::CacheMshrs),
+        ram_base: clean_number(version, document, Key::RamBase),
+        ram_size: clean_number(version, document, Key::RamSize),
         stt_model,
     }
 }
@@ -202,9 +219,10 @@ fn read_document(document: &Table) -> Result<Desc, DescFault>
     ensures ok { IfOk result (λ d. document_contents (table_view document.now) ≡ Ok (contents d)) }
     ensures err { IfErr result (λ e. document_contents (table_view document.now) ≡ Err e) }
 {
-    check_document(document)?;
+    let version = version(document)?;
+    check_document(version, document)?;
     let stt_model = model(document)?;
-    Ok(desc(document, stt_model))
+    Ok(desc(version, document, stt_model))
 }
 
 /// Reads a description: the text's description, or its first fault. It takes at most 65,536 bytes by its caller's rule,

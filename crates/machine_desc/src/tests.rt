@@ -38,6 +38,10 @@ fn told(alloc: Global, read: Result<Desc, DescFault>) -> Result<Vec<u8>, Fail> {
             line.extend_from_slice(b"K4 ")?;
             line.extend_from_slice(subject.text().as_slice())?;
         }
+        Err(DescFault::Version(value)) => {
+            let number = format!(in alloc; "K5 version {value}")?;
+            line.extend_from_slice(number.as_bytes())?;
+        }
         Err(DescFault::Range(key, value)) => {
             let number = format!(in alloc; " {value}")?;
             line.extend_from_slice(b"K5 ")?;
@@ -93,6 +97,7 @@ fn the_example_is_accepted(rt: HostRuntime) -> Result<(), Fail> {
         2, 2, 16, 8, 4, 4, 8, 2, 3, 16, 4, 2, 2, 16, 2, 10, 2, 65536, 65536,
     ];
     assert_eq!(rt; numbers(&desc).as_slice(), wanted.as_slice());
+    assert_eq!(rt; desc.version, 1);
     assert_eq!(rt; desc.stt_model, SttModel::Spectre);
     assert_eq!(rt; bound(&desc), 121);
     let other = text(
@@ -305,6 +310,47 @@ fn each_fault(rt: HostRuntime) -> Result<(), Fail> {
     let alloc = rt.alloc();
     for (first, second, wanted) in CHANGES {
         let text = text(alloc, first, second)?;
+        expect(&rt, alloc, text.as_bytes(), wanted)?;
+    }
+    Ok(())
+}
+
+// What stands at the top, a changed line of the example, and what is told.
+const VERSIONS: [(&str, (&str, &str), &str); 20] = [
+    ("", ("", ""), "accepted"),
+    ("version = 1", ("", ""), "accepted"),
+    ("version = 2", ("", ""), "K5 version 2"),
+    ("version = 0", ("", ""), "K5 version 0"),
+    ("version = 3", ("", ""), "K5 version 3"),
+    ("version = -1", ("", ""), "K5 version -1"),
+    (
+        "version = 9223372036854775807",
+        ("", ""),
+        "K5 version 9223372036854775807",
+    ),
+    ("version = 9223372036854775808", ("", ""), "K1"),
+    ("version = 1.0", ("", ""), "K4 version"),
+    ("version = \"1\"", ("", ""), "K4 version"),
+    ("version = true", ("", ""), "K4 version"),
+    ("[version]", ("", ""), "K4 version"),
+    ("version = 1\nversion = 1", ("", ""), "K1"),
+    ("versions = 1", ("", ""), "K2 versions"),
+    ("", ("rob = 16", "rob = 16\nversion = 1"), "K2 core.version"),
+    // the ranges of version 1
+    ("version = 1", ("rob = 16", "rob = 65"), "K5 core.rob 65"),
+    // the first of two faults
+    ("version = 3", ("rob = 16", "rob ="), "K1"),
+    ("version = 3", ("[stt]", "[sttt]"), "K5 version 3"),
+    ("version = \"1\"", ("alus = 2", "alu = 2"), "K4 version"),
+    ("version = 3", ("rob = 16", "rob = 193"), "K5 version 3"),
+];
+
+#[test]
+fn each_version(rt: HostRuntime) -> Result<(), Fail> {
+    let alloc = rt.alloc();
+    for (top, change, wanted) in VERSIONS {
+        let first = format!(in alloc; "{top}\n[core]")?;
+        let text = text(alloc, ("[core]", first.as_str()), change)?;
         expect(&rt, alloc, text.as_bytes(), wanted)?;
     }
     Ok(())

@@ -49,6 +49,7 @@ description_fault desc.Syntax = codes "K1"
 description_fault (desc.Unknown name) = codes "K2 " ++ printed name
 description_fault (desc.Missing key) = codes "K3 " ++ key_text key
 description_fault (desc.Kind subject) = codes "K4 " ++ subject_text subject
+description_fault (desc.Version value) = codes "K5 version " ++ signed_decimal value
 description_fault (desc.Range key value) = codes "K5 " ++ key_text key ++ codes " " ++ signed_decimal value
 description_fault (desc.Shape key) = codes "K6 " ++ key_text key
 description_fault desc.NoMemory = codes "K7"

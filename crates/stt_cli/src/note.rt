@@ -99,6 +99,10 @@ fn add_description_fault(line: &mut Line, fault: &DescFault)
             line.add(b"K4 ");
             line.add(subject.text().as_slice());
         }
+        DescFault::Version(value) => {
+            line.add(b"K5 version ");
+            add_signed(line, *value);
+        }
         DescFault::Range(key, value) => {
             line.add(b"K5 ");
             line.add(key.text().as_slice());

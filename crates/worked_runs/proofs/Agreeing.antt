@@ -76,7 +76,7 @@ unfolding ones encode scan_numeral digits count_leading_zeros chars is_utf8 skip
     decode zeros description_of document_fault end_fault key_fault keys_fault latency_fault sections_fault top_fault
     half has_magic word header_fault code_of ram_after ram_fault segment_at end_line cycle fetch rename retire
     event_text events_text row_text rows_text trace_text
-run_01_agrees = agrees run_01 (record { numbers = 4 ∷ 4 ∷ 46 ∷ 15 ∷ 5 ∷ 16 ∷ 16 ∷ 2 ∷ 1 ∷ 4 ∷ 2 ∷ 4 ∷ 1 ∷ 16 ∷ 3 ∷ 6 ∷ 7 ∷ 65536 ∷ 4096 ∷ []; model = Futuristic }) refl refl refl refl refl
+run_01_agrees = agrees run_01 (record { version = 1; numbers = 4 ∷ 4 ∷ 46 ∷ 15 ∷ 5 ∷ 16 ∷ 16 ∷ 2 ∷ 1 ∷ 4 ∷ 2 ∷ 4 ∷ 1 ∷ 16 ∷ 3 ∷ 6 ∷ 7 ∷ 65536 ∷ 4096 ∷ []; model = Futuristic }) refl refl refl refl refl
 
 run_02_agrees : Agrees run_02
 unfolding ones encode scan_numeral digits count_leading_zeros chars is_utf8 skip_from skip_ws decimal_number number
@@ -85,7 +85,7 @@ unfolding ones encode scan_numeral digits count_leading_zeros chars is_utf8 skip
     decode zeros description_of document_fault end_fault key_fault keys_fault latency_fault sections_fault top_fault
     half has_magic word header_fault code_of ram_after ram_fault segment_at end_line cycle fetch rename retire
     event_text events_text row_text rows_text trace_text
-run_02_agrees = agrees run_02 (record { numbers = 2 ∷ 4 ∷ 17 ∷ 32 ∷ 16 ∷ 16 ∷ 7 ∷ 1 ∷ 5 ∷ 8 ∷ 8 ∷ 2 ∷ 8 ∷ 16 ∷ 2 ∷ 11 ∷ 8 ∷ 0 ∷ 4096 ∷ []; model = Futuristic }) refl refl refl refl refl
+run_02_agrees = agrees run_02 (record { version = 1; numbers = 2 ∷ 4 ∷ 17 ∷ 32 ∷ 16 ∷ 16 ∷ 7 ∷ 1 ∷ 5 ∷ 8 ∷ 8 ∷ 2 ∷ 8 ∷ 16 ∷ 2 ∷ 11 ∷ 8 ∷ 0 ∷ 4096 ∷ []; model = Futuristic }) refl refl refl refl refl
 
 run_03_agrees : Agrees run_03
 unfolding ones encode scan_numeral digits count_leading_zeros chars is_utf8 skip_from skip_ws decimal_number number
@@ -94,7 +94,7 @@ unfolding ones encode scan_numeral digits count_leading_zeros chars is_utf8 skip
     decode zeros description_of document_fault end_fault key_fault keys_fault latency_fault sections_fault top_fault
     half has_magic word header_fault code_of ram_after ram_fault segment_at end_line cycle fetch rename retire
     event_text events_text row_text rows_text trace_text
-run_03_agrees = agrees run_03 (record { numbers = 3 ∷ 2 ∷ 14 ∷ 10 ∷ 1 ∷ 7 ∷ 3 ∷ 1 ∷ 4 ∷ 16 ∷ 4 ∷ 2 ∷ 8 ∷ 64 ∷ 8 ∷ 15 ∷ 3 ∷ 65536 ∷ 4096 ∷ []; model = Futuristic }) refl refl refl refl refl
+run_03_agrees = agrees run_03 (record { version = 1; numbers = 3 ∷ 2 ∷ 14 ∷ 10 ∷ 1 ∷ 7 ∷ 3 ∷ 1 ∷ 4 ∷ 16 ∷ 4 ∷ 2 ∷ 8 ∷ 64 ∷ 8 ∷ 15 ∷ 3 ∷ 65536 ∷ 4096 ∷ []; model = Futuristic }) refl refl refl refl refl
 
 run_04_agrees : Agrees run_04
 unfolding ones encode scan_numeral digits count_leading_zeros chars is_utf8 skip_from skip_ws decimal_number number
@@ -103,7 +103,7 @@ unfolding ones encode scan_numeral digits count_leading_zeros chars is_utf8 skip
     decode zeros description_of document_fault end_fault key_fault keys_fault latency_fault sections_fault top_fault
     half has_magic word header_fault code_of ram_after ram_fault segment_at end_line cycle fetch rename retire
     event_text events_text row_text rows_text trace_text
-run_04_agrees = agrees run_04 (record { numbers = 1 ∷ 2 ∷ 15 ∷ 2 ∷ 6 ∷ 14 ∷ 16 ∷ 4 ∷ 1 ∷ 4 ∷ 2 ∷ 1 ∷ 2 ∷ 4 ∷ 3 ∷ 6 ∷ 1 ∷ 19584 ∷ 4896 ∷ []; model = Futuristic }) refl refl refl refl refl
+run_04_agrees = agrees run_04 (record { version = 1; numbers = 1 ∷ 2 ∷ 15 ∷ 2 ∷ 6 ∷ 14 ∷ 16 ∷ 4 ∷ 1 ∷ 4 ∷ 2 ∷ 1 ∷ 2 ∷ 4 ∷ 3 ∷ 6 ∷ 1 ∷ 19584 ∷ 4896 ∷ []; model = Futuristic }) refl refl refl refl refl
 
 run_05_agrees : Agrees run_05
 unfolding ones encode scan_numeral digits count_leading_zeros chars is_utf8 skip_from skip_ws decimal_number number
@@ -112,7 +112,7 @@ unfolding ones encode scan_numeral digits count_leading_zeros chars is_utf8 skip
     decode zeros description_of document_fault end_fault key_fault keys_fault latency_fault sections_fault top_fault
     half has_magic word header_fault code_of ram_after ram_fault segment_at end_line cycle fetch rename retire
     event_text events_text row_text rows_text trace_text
-run_05_agrees = agrees run_05 (record { numbers = 1 ∷ 1 ∷ 48 ∷ 12 ∷ 3 ∷ 5 ∷ 16 ∷ 1 ∷ 2 ∷ 16 ∷ 64 ∷ 1 ∷ 5 ∷ 4 ∷ 3 ∷ 24 ∷ 4 ∷ 65536 ∷ 4096 ∷ []; model = Spectre }) refl refl refl refl refl
+run_05_agrees = agrees run_05 (record { version = 1; numbers = 1 ∷ 1 ∷ 48 ∷ 12 ∷ 3 ∷ 5 ∷ 16 ∷ 1 ∷ 2 ∷ 16 ∷ 64 ∷ 1 ∷ 5 ∷ 4 ∷ 3 ∷ 24 ∷ 4 ∷ 65536 ∷ 4096 ∷ []; model = Spectre }) refl refl refl refl refl
 
 run_06_agrees : Agrees run_06
 unfolding ones encode scan_numeral digits count_leading_zeros chars is_utf8 skip_from skip_ws decimal_number number
@@ -121,7 +121,7 @@ unfolding ones encode scan_numeral digits count_leading_zeros chars is_utf8 skip
     decode zeros description_of document_fault end_fault key_fault keys_fault latency_fault sections_fault top_fault
     half has_magic word header_fault code_of ram_after ram_fault segment_at end_line cycle fetch rename retire
     event_text events_text row_text rows_text trace_text
-run_06_agrees = agrees run_06 (record { numbers = 4 ∷ 1 ∷ 17 ∷ 14 ∷ 6 ∷ 4 ∷ 7 ∷ 3 ∷ 3 ∷ 4 ∷ 64 ∷ 2 ∷ 1 ∷ 16 ∷ 8 ∷ 9 ∷ 1 ∷ 24304 ∷ 5888 ∷ []; model = Spectre }) refl refl refl refl refl
+run_06_agrees = agrees run_06 (record { version = 1; numbers = 4 ∷ 1 ∷ 17 ∷ 14 ∷ 6 ∷ 4 ∷ 7 ∷ 3 ∷ 3 ∷ 4 ∷ 64 ∷ 2 ∷ 1 ∷ 16 ∷ 8 ∷ 9 ∷ 1 ∷ 24304 ∷ 5888 ∷ []; model = Spectre }) refl refl refl refl refl
 
 run_07_agrees : Agrees run_07
 unfolding ones encode scan_numeral digits count_leading_zeros chars is_utf8 skip_from skip_ws decimal_number number
@@ -130,7 +130,7 @@ unfolding ones encode scan_numeral digits count_leading_zeros chars is_utf8 skip
     decode zeros description_of document_fault end_fault key_fault keys_fault latency_fault sections_fault top_fault
     half has_magic word header_fault code_of ram_after ram_fault segment_at end_line cycle fetch rename retire
     event_text events_text row_text rows_text trace_text
-run_07_agrees = agrees run_07 (record { numbers = 2 ∷ 2 ∷ 4 ∷ 2 ∷ 1 ∷ 12 ∷ 1 ∷ 4 ∷ 1 ∷ 8 ∷ 2 ∷ 4 ∷ 8 ∷ 16 ∷ 2 ∷ 18 ∷ 7 ∷ 65536 ∷ 65536 ∷ []; model = Futuristic }) refl refl refl refl refl
+run_07_agrees = agrees run_07 (record { version = 1; numbers = 2 ∷ 2 ∷ 4 ∷ 2 ∷ 1 ∷ 12 ∷ 1 ∷ 4 ∷ 1 ∷ 8 ∷ 2 ∷ 4 ∷ 8 ∷ 16 ∷ 2 ∷ 18 ∷ 7 ∷ 65536 ∷ 65536 ∷ []; model = Futuristic }) refl refl refl refl refl
 
 run_08_agrees : Agrees run_08
 unfolding ones encode scan_numeral digits count_leading_zeros chars is_utf8 skip_from skip_ws decimal_number number
@@ -139,7 +139,7 @@ unfolding ones encode scan_numeral digits count_leading_zeros chars is_utf8 skip
     decode zeros description_of document_fault end_fault key_fault keys_fault latency_fault sections_fault top_fault
     half has_magic word header_fault code_of ram_after ram_fault segment_at end_line cycle fetch rename retire
     event_text events_text row_text rows_text trace_text
-run_08_agrees = agrees run_08 (record { numbers = 1 ∷ 1 ∷ 64 ∷ 6 ∷ 3 ∷ 13 ∷ 7 ∷ 4 ∷ 1 ∷ 16 ∷ 1 ∷ 4 ∷ 1 ∷ 8 ∷ 1 ∷ 200 ∷ 2 ∷ 65536 ∷ 65536 ∷ []; model = Futuristic }) refl refl refl refl refl
+run_08_agrees = agrees run_08 (record { version = 1; numbers = 1 ∷ 1 ∷ 64 ∷ 6 ∷ 3 ∷ 13 ∷ 7 ∷ 4 ∷ 1 ∷ 16 ∷ 1 ∷ 4 ∷ 1 ∷ 8 ∷ 1 ∷ 200 ∷ 2 ∷ 65536 ∷ 65536 ∷ []; model = Futuristic }) refl refl refl refl refl
 
 run_09_agrees : Agrees run_09
 unfolding ones encode scan_numeral digits count_leading_zeros chars is_utf8 skip_from skip_ws decimal_number number
@@ -148,7 +148,7 @@ unfolding ones encode scan_numeral digits count_leading_zeros chars is_utf8 skip
     decode zeros description_of document_fault end_fault key_fault keys_fault latency_fault sections_fault top_fault
     half has_magic word header_fault code_of ram_after ram_fault segment_at end_line cycle fetch rename retire
     event_text events_text row_text rows_text trace_text
-run_09_agrees = agrees run_09 (record { numbers = 2 ∷ 1 ∷ 18 ∷ 2 ∷ 4 ∷ 9 ∷ 5 ∷ 2 ∷ 2 ∷ 8 ∷ 4 ∷ 1 ∷ 7 ∷ 8 ∷ 2 ∷ 3 ∷ 4 ∷ 65536 ∷ 65536 ∷ []; model = Futuristic }) refl refl refl refl refl
+run_09_agrees = agrees run_09 (record { version = 1; numbers = 2 ∷ 1 ∷ 18 ∷ 2 ∷ 4 ∷ 9 ∷ 5 ∷ 2 ∷ 2 ∷ 8 ∷ 4 ∷ 1 ∷ 7 ∷ 8 ∷ 2 ∷ 3 ∷ 4 ∷ 65536 ∷ 65536 ∷ []; model = Futuristic }) refl refl refl refl refl
 
 run_10_agrees : Agrees run_10
 unfolding ones encode scan_numeral digits count_leading_zeros chars is_utf8 skip_from skip_ws decimal_number number
@@ -157,7 +157,7 @@ unfolding ones encode scan_numeral digits count_leading_zeros chars is_utf8 skip
     decode zeros description_of document_fault end_fault key_fault keys_fault latency_fault sections_fault top_fault
     half has_magic word header_fault code_of ram_after ram_fault segment_at end_line cycle fetch rename retire
     event_text events_text row_text rows_text trace_text
-run_10_agrees = agrees run_10 (record { numbers = 1 ∷ 2 ∷ 20 ∷ 12 ∷ 14 ∷ 16 ∷ 4 ∷ 1 ∷ 4 ∷ 1024 ∷ 64 ∷ 1 ∷ 5 ∷ 4 ∷ 2 ∷ 19 ∷ 2 ∷ 65536 ∷ 4096 ∷ []; model = Futuristic }) refl refl refl refl refl
+run_10_agrees = agrees run_10 (record { version = 1; numbers = 1 ∷ 2 ∷ 20 ∷ 12 ∷ 14 ∷ 16 ∷ 4 ∷ 1 ∷ 4 ∷ 1024 ∷ 64 ∷ 1 ∷ 5 ∷ 4 ∷ 2 ∷ 19 ∷ 2 ∷ 65536 ∷ 4096 ∷ []; model = Futuristic }) refl refl refl refl refl
 
 run_11_agrees : Agrees run_11
 unfolding ones encode scan_numeral digits count_leading_zeros chars is_utf8 skip_from skip_ws decimal_number number
@@ -166,7 +166,7 @@ unfolding ones encode scan_numeral digits count_leading_zeros chars is_utf8 skip
     decode zeros description_of document_fault end_fault key_fault keys_fault latency_fault sections_fault top_fault
     half has_magic word header_fault code_of ram_after ram_fault segment_at end_line cycle fetch rename retire
     event_text events_text row_text rows_text trace_text
-run_11_agrees = agrees run_11 (record { numbers = 2 ∷ 4 ∷ 42 ∷ 25 ∷ 2 ∷ 4 ∷ 2 ∷ 4 ∷ 3 ∷ 4 ∷ 8 ∷ 1 ∷ 1 ∷ 8 ∷ 2 ∷ 3 ∷ 5 ∷ 65536 ∷ 65536 ∷ []; model = Futuristic }) refl refl refl refl refl
+run_11_agrees = agrees run_11 (record { version = 1; numbers = 2 ∷ 4 ∷ 42 ∷ 25 ∷ 2 ∷ 4 ∷ 2 ∷ 4 ∷ 3 ∷ 4 ∷ 8 ∷ 1 ∷ 1 ∷ 8 ∷ 2 ∷ 3 ∷ 5 ∷ 65536 ∷ 65536 ∷ []; model = Futuristic }) refl refl refl refl refl
 
 run_12_agrees : Agrees run_12
 unfolding ones encode scan_numeral digits count_leading_zeros chars is_utf8 skip_from skip_ws decimal_number number
@@ -175,7 +175,7 @@ unfolding ones encode scan_numeral digits count_leading_zeros chars is_utf8 skip
     decode zeros description_of document_fault end_fault key_fault keys_fault latency_fault sections_fault top_fault
     half has_magic word header_fault code_of ram_after ram_fault segment_at end_line cycle fetch rename retire
     event_text events_text row_text rows_text trace_text
-run_12_agrees = agrees run_12 (record { numbers = 3 ∷ 2 ∷ 64 ∷ 19 ∷ 4 ∷ 4 ∷ 3 ∷ 2 ∷ 2 ∷ 16 ∷ 8 ∷ 8 ∷ 2 ∷ 16 ∷ 5 ∷ 53 ∷ 8 ∷ 0 ∷ 4096 ∷ []; model = Spectre }) refl refl refl refl refl
+run_12_agrees = agrees run_12 (record { version = 1; numbers = 3 ∷ 2 ∷ 64 ∷ 19 ∷ 4 ∷ 4 ∷ 3 ∷ 2 ∷ 2 ∷ 16 ∷ 8 ∷ 8 ∷ 2 ∷ 16 ∷ 5 ∷ 53 ∷ 8 ∷ 0 ∷ 4096 ∷ []; model = Spectre }) refl refl refl refl refl
 
 run_13_agrees : Agrees run_13
 unfolding ones encode scan_numeral digits count_leading_zeros chars is_utf8 skip_from skip_ws decimal_number number
@@ -184,7 +184,7 @@ unfolding ones encode scan_numeral digits count_leading_zeros chars is_utf8 skip
     decode zeros description_of document_fault end_fault key_fault keys_fault latency_fault sections_fault top_fault
     half has_magic word header_fault code_of ram_after ram_fault segment_at end_line cycle fetch rename retire
     event_text events_text row_text rows_text trace_text
-run_13_agrees = agrees run_13 (record { numbers = 2 ∷ 4 ∷ 62 ∷ 27 ∷ 4 ∷ 3 ∷ 8 ∷ 1 ∷ 1 ∷ 4 ∷ 2 ∷ 1 ∷ 1 ∷ 16 ∷ 3 ∷ 14 ∷ 8 ∷ 65536 ∷ 4096 ∷ []; model = Futuristic }) refl refl refl refl refl
+run_13_agrees = agrees run_13 (record { version = 1; numbers = 2 ∷ 4 ∷ 62 ∷ 27 ∷ 4 ∷ 3 ∷ 8 ∷ 1 ∷ 1 ∷ 4 ∷ 2 ∷ 1 ∷ 1 ∷ 16 ∷ 3 ∷ 14 ∷ 8 ∷ 65536 ∷ 4096 ∷ []; model = Futuristic }) refl refl refl refl refl
 
 run_14_agrees : Agrees run_14
 unfolding ones encode scan_numeral digits count_leading_zeros chars is_utf8 skip_from skip_ws decimal_number number
@@ -193,7 +193,7 @@ unfolding ones encode scan_numeral digits count_leading_zeros chars is_utf8 skip
     decode zeros description_of document_fault end_fault key_fault keys_fault latency_fault sections_fault top_fault
     half has_magic word header_fault code_of ram_after ram_fault segment_at end_line cycle fetch rename retire
     event_text events_text row_text rows_text trace_text
-run_14_agrees = agrees run_14 (record { numbers = 4 ∷ 1 ∷ 12 ∷ 2 ∷ 5 ∷ 6 ∷ 3 ∷ 1 ∷ 2 ∷ 2 ∷ 4 ∷ 4 ∷ 5 ∷ 4 ∷ 2 ∷ 3 ∷ 3 ∷ 65536 ∷ 4096 ∷ []; model = Futuristic }) refl refl refl refl refl
+run_14_agrees = agrees run_14 (record { version = 1; numbers = 4 ∷ 1 ∷ 12 ∷ 2 ∷ 5 ∷ 6 ∷ 3 ∷ 1 ∷ 2 ∷ 2 ∷ 4 ∷ 4 ∷ 5 ∷ 4 ∷ 2 ∷ 3 ∷ 3 ∷ 65536 ∷ 4096 ∷ []; model = Futuristic }) refl refl refl refl refl
 
 run_15_agrees : Agrees run_15
 unfolding ones encode scan_numeral digits count_leading_zeros chars is_utf8 skip_from skip_ws decimal_number number
@@ -202,7 +202,7 @@ unfolding ones encode scan_numeral digits count_leading_zeros chars is_utf8 skip
     decode zeros description_of document_fault end_fault key_fault keys_fault latency_fault sections_fault top_fault
     half has_magic word header_fault code_of ram_after ram_fault segment_at end_line cycle fetch rename retire
     event_text events_text row_text rows_text trace_text
-run_15_agrees = agrees run_15 (record { numbers = 2 ∷ 1 ∷ 19 ∷ 9 ∷ 11 ∷ 1 ∷ 1 ∷ 2 ∷ 3 ∷ 128 ∷ 2 ∷ 1 ∷ 2 ∷ 16 ∷ 1 ∷ 6 ∷ 2 ∷ 65536 ∷ 4096 ∷ []; model = Futuristic }) refl refl refl refl refl
+run_15_agrees = agrees run_15 (record { version = 1; numbers = 2 ∷ 1 ∷ 19 ∷ 9 ∷ 11 ∷ 1 ∷ 1 ∷ 2 ∷ 3 ∷ 128 ∷ 2 ∷ 1 ∷ 2 ∷ 16 ∷ 1 ∷ 6 ∷ 2 ∷ 65536 ∷ 4096 ∷ []; model = Futuristic }) refl refl refl refl refl
 
 run_16_agrees : Agrees run_16
 unfolding ones encode scan_numeral digits count_leading_zeros chars is_utf8 skip_from skip_ws decimal_number number
@@ -211,7 +211,7 @@ unfolding ones encode scan_numeral digits count_leading_zeros chars is_utf8 skip
     decode zeros description_of document_fault end_fault key_fault keys_fault latency_fault sections_fault top_fault
     half has_magic word header_fault code_of ram_after ram_fault segment_at end_line cycle fetch rename retire
     event_text events_text row_text rows_text trace_text
-run_16_agrees = agrees run_16 (record { numbers = 2 ∷ 2 ∷ 36 ∷ 11 ∷ 16 ∷ 16 ∷ 8 ∷ 4 ∷ 1 ∷ 8 ∷ 2 ∷ 1 ∷ 1 ∷ 8 ∷ 3 ∷ 4 ∷ 4 ∷ 0 ∷ 4096 ∷ []; model = Futuristic }) refl refl refl refl refl
+run_16_agrees = agrees run_16 (record { version = 1; numbers = 2 ∷ 2 ∷ 36 ∷ 11 ∷ 16 ∷ 16 ∷ 8 ∷ 4 ∷ 1 ∷ 8 ∷ 2 ∷ 1 ∷ 1 ∷ 8 ∷ 3 ∷ 4 ∷ 4 ∷ 0 ∷ 4096 ∷ []; model = Futuristic }) refl refl refl refl refl
 
 run_17_agrees : Agrees run_17
 unfolding ones encode scan_numeral digits count_leading_zeros chars is_utf8 skip_from skip_ws decimal_number number
@@ -220,7 +220,7 @@ unfolding ones encode scan_numeral digits count_leading_zeros chars is_utf8 skip
     decode zeros description_of document_fault end_fault key_fault keys_fault latency_fault sections_fault top_fault
     half has_magic word header_fault code_of ram_after ram_fault segment_at end_line cycle fetch rename retire
     event_text events_text row_text rows_text trace_text
-run_17_agrees = agrees run_17 (record { numbers = 1 ∷ 1 ∷ 63 ∷ 14 ∷ 6 ∷ 16 ∷ 6 ∷ 1 ∷ 2 ∷ 16 ∷ 4 ∷ 1 ∷ 2 ∷ 4 ∷ 6 ∷ 7 ∷ 4 ∷ 65536 ∷ 4096 ∷ []; model = Futuristic }) refl refl refl refl refl
+run_17_agrees = agrees run_17 (record { version = 1; numbers = 1 ∷ 1 ∷ 63 ∷ 14 ∷ 6 ∷ 16 ∷ 6 ∷ 1 ∷ 2 ∷ 16 ∷ 4 ∷ 1 ∷ 2 ∷ 4 ∷ 6 ∷ 7 ∷ 4 ∷ 65536 ∷ 4096 ∷ []; model = Futuristic }) refl refl refl refl refl
 
 run_18_agrees : Agrees run_18
 unfolding ones encode scan_numeral digits count_leading_zeros chars is_utf8 skip_from skip_ws decimal_number number
@@ -229,7 +229,7 @@ unfolding ones encode scan_numeral digits count_leading_zeros chars is_utf8 skip
     decode zeros description_of document_fault end_fault key_fault keys_fault latency_fault sections_fault top_fault
     half has_magic word header_fault code_of ram_after ram_fault segment_at end_line cycle fetch rename retire
     event_text events_text row_text rows_text trace_text
-run_18_agrees = agrees run_18 (record { numbers = 2 ∷ 3 ∷ 23 ∷ 21 ∷ 4 ∷ 1 ∷ 10 ∷ 4 ∷ 7 ∷ 4 ∷ 8 ∷ 64 ∷ 1 ∷ 8 ∷ 1 ∷ 13 ∷ 8 ∷ 65536 ∷ 4096 ∷ []; model = Spectre }) refl refl refl refl refl
+run_18_agrees = agrees run_18 (record { version = 1; numbers = 2 ∷ 3 ∷ 23 ∷ 21 ∷ 4 ∷ 1 ∷ 10 ∷ 4 ∷ 7 ∷ 4 ∷ 8 ∷ 64 ∷ 1 ∷ 8 ∷ 1 ∷ 13 ∷ 8 ∷ 65536 ∷ 4096 ∷ []; model = Spectre }) refl refl refl refl refl
 
 run_19_agrees : Agrees run_19
 unfolding ones encode scan_numeral digits count_leading_zeros chars is_utf8 skip_from skip_ws decimal_number number
@@ -238,7 +238,7 @@ unfolding ones encode scan_numeral digits count_leading_zeros chars is_utf8 skip
     decode zeros description_of document_fault end_fault key_fault keys_fault latency_fault sections_fault top_fault
     half has_magic word header_fault code_of ram_after ram_fault segment_at end_line cycle fetch rename retire
     event_text events_text row_text rows_text trace_text
-run_19_agrees = agrees run_19 (record { numbers = 4 ∷ 4 ∷ 15 ∷ 32 ∷ 2 ∷ 5 ∷ 8 ∷ 3 ∷ 2 ∷ 2 ∷ 4 ∷ 1 ∷ 1 ∷ 16 ∷ 3 ∷ 9 ∷ 3 ∷ 65536 ∷ 4096 ∷ []; model = Futuristic }) refl refl refl refl refl
+run_19_agrees = agrees run_19 (record { version = 1; numbers = 4 ∷ 4 ∷ 15 ∷ 32 ∷ 2 ∷ 5 ∷ 8 ∷ 3 ∷ 2 ∷ 2 ∷ 4 ∷ 1 ∷ 1 ∷ 16 ∷ 3 ∷ 9 ∷ 3 ∷ 65536 ∷ 4096 ∷ []; model = Futuristic }) refl refl refl refl refl
 
 run_20_agrees : Agrees run_20
 unfolding ones encode scan_numeral digits count_leading_zeros chars is_utf8 skip_from skip_ws decimal_number number
@@ -247,7 +247,7 @@ unfolding ones encode scan_numeral digits count_leading_zeros chars is_utf8 skip
     decode zeros description_of document_fault end_fault key_fault keys_fault latency_fault sections_fault top_fault
     half has_magic word header_fault code_of ram_after ram_fault segment_at end_line cycle fetch rename retire
     event_text events_text row_text rows_text trace_text
-run_20_agrees = agrees run_20 (record { numbers = 3 ∷ 2 ∷ 12 ∷ 32 ∷ 2 ∷ 13 ∷ 6 ∷ 1 ∷ 3 ∷ 4 ∷ 2 ∷ 1 ∷ 8 ∷ 16 ∷ 2 ∷ 23 ∷ 8 ∷ 65536 ∷ 4096 ∷ []; model = Spectre }) refl refl refl refl refl
+run_20_agrees = agrees run_20 (record { version = 1; numbers = 3 ∷ 2 ∷ 12 ∷ 32 ∷ 2 ∷ 13 ∷ 6 ∷ 1 ∷ 3 ∷ 4 ∷ 2 ∷ 1 ∷ 8 ∷ 16 ∷ 2 ∷ 23 ∷ 8 ∷ 65536 ∷ 4096 ∷ []; model = Spectre }) refl refl refl refl refl
 
 run_21_agrees : Agrees run_21
 unfolding ones encode scan_numeral digits count_leading_zeros chars is_utf8 skip_from skip_ws decimal_number number
@@ -256,7 +256,7 @@ unfolding ones encode scan_numeral digits count_leading_zeros chars is_utf8 skip
     decode zeros description_of document_fault end_fault key_fault keys_fault latency_fault sections_fault top_fault
     half has_magic word header_fault code_of ram_after ram_fault segment_at end_line cycle fetch rename retire
     event_text events_text row_text rows_text trace_text
-run_21_agrees = agrees run_21 (record { numbers = 4 ∷ 4 ∷ 18 ∷ 32 ∷ 7 ∷ 4 ∷ 7 ∷ 1 ∷ 8 ∷ 2 ∷ 4 ∷ 2 ∷ 1 ∷ 8 ∷ 3 ∷ 20 ∷ 3 ∷ 65536 ∷ 4096 ∷ []; model = Futuristic }) refl refl refl refl refl
+run_21_agrees = agrees run_21 (record { version = 1; numbers = 4 ∷ 4 ∷ 18 ∷ 32 ∷ 7 ∷ 4 ∷ 7 ∷ 1 ∷ 8 ∷ 2 ∷ 4 ∷ 2 ∷ 1 ∷ 8 ∷ 3 ∷ 20 ∷ 3 ∷ 65536 ∷ 4096 ∷ []; model = Futuristic }) refl refl refl refl refl
 
 run_22_agrees : Agrees run_22
 unfolding ones encode scan_numeral digits count_leading_zeros chars is_utf8 skip_from skip_ws decimal_number number
@@ -265,7 +265,7 @@ unfolding ones encode scan_numeral digits count_leading_zeros chars is_utf8 skip
     decode zeros description_of document_fault end_fault key_fault keys_fault latency_fault sections_fault top_fault
     half has_magic word header_fault code_of ram_after ram_fault segment_at end_line cycle fetch rename retire
     event_text events_text row_text rows_text trace_text
-run_22_agrees = agrees run_22 (record { numbers = 4 ∷ 2 ∷ 60 ∷ 10 ∷ 1 ∷ 4 ∷ 16 ∷ 1 ∷ 3 ∷ 8 ∷ 1 ∷ 1 ∷ 1 ∷ 16 ∷ 8 ∷ 9 ∷ 3 ∷ 65536 ∷ 65536 ∷ []; model = Spectre }) refl refl refl refl refl
+run_22_agrees = agrees run_22 (record { version = 1; numbers = 4 ∷ 2 ∷ 60 ∷ 10 ∷ 1 ∷ 4 ∷ 16 ∷ 1 ∷ 3 ∷ 8 ∷ 1 ∷ 1 ∷ 1 ∷ 16 ∷ 8 ∷ 9 ∷ 3 ∷ 65536 ∷ 65536 ∷ []; model = Spectre }) refl refl refl refl refl
 
 run_23_agrees : Agrees run_23
 unfolding ones encode scan_numeral digits count_leading_zeros chars is_utf8 skip_from skip_ws decimal_number number
@@ -274,7 +274,7 @@ unfolding ones encode scan_numeral digits count_leading_zeros chars is_utf8 skip
     decode zeros description_of document_fault end_fault key_fault keys_fault latency_fault sections_fault top_fault
     half has_magic word header_fault code_of ram_after ram_fault segment_at end_line cycle fetch rename retire
     event_text events_text row_text rows_text trace_text
-run_23_agrees = agrees run_23 (record { numbers = 4 ∷ 2 ∷ 33 ∷ 5 ∷ 10 ∷ 12 ∷ 5 ∷ 4 ∷ 2 ∷ 16 ∷ 2 ∷ 256 ∷ 1 ∷ 16 ∷ 3 ∷ 4 ∷ 8 ∷ 4294963200 ∷ 4096 ∷ []; model = Spectre }) refl refl refl refl refl
+run_23_agrees = agrees run_23 (record { version = 1; numbers = 4 ∷ 2 ∷ 33 ∷ 5 ∷ 10 ∷ 12 ∷ 5 ∷ 4 ∷ 2 ∷ 16 ∷ 2 ∷ 256 ∷ 1 ∷ 16 ∷ 3 ∷ 4 ∷ 8 ∷ 4294963200 ∷ 4096 ∷ []; model = Spectre }) refl refl refl refl refl
 
 run_24_agrees : Agrees run_24
 unfolding ones encode scan_numeral digits count_leading_zeros chars is_utf8 skip_from skip_ws decimal_number number
@@ -283,7 +283,7 @@ unfolding ones encode scan_numeral digits count_leading_zeros chars is_utf8 skip
     decode zeros description_of document_fault end_fault key_fault keys_fault latency_fault sections_fault top_fault
     half has_magic word header_fault code_of ram_after ram_fault segment_at end_line cycle fetch rename retire
     event_text events_text row_text rows_text trace_text
-run_24_agrees = agrees run_24 (record { numbers = 4 ∷ 1 ∷ 12 ∷ 25 ∷ 6 ∷ 12 ∷ 8 ∷ 3 ∷ 3 ∷ 4 ∷ 256 ∷ 1 ∷ 1 ∷ 4 ∷ 3 ∷ 4 ∷ 2 ∷ 4294963200 ∷ 4096 ∷ []; model = Futuristic }) refl refl refl refl refl
+run_24_agrees = agrees run_24 (record { version = 1; numbers = 4 ∷ 1 ∷ 12 ∷ 25 ∷ 6 ∷ 12 ∷ 8 ∷ 3 ∷ 3 ∷ 4 ∷ 256 ∷ 1 ∷ 1 ∷ 4 ∷ 3 ∷ 4 ∷ 2 ∷ 4294963200 ∷ 4096 ∷ []; model = Futuristic }) refl refl refl refl refl
 
 run_25_agrees : Agrees run_25
 unfolding ones encode scan_numeral digits count_leading_zeros chars is_utf8 skip_from skip_ws decimal_number number
@@ -292,7 +292,7 @@ unfolding ones encode scan_numeral digits count_leading_zeros chars is_utf8 skip
     decode zeros description_of document_fault end_fault key_fault keys_fault latency_fault sections_fault top_fault
     half has_magic word header_fault code_of ram_after ram_fault segment_at end_line cycle fetch rename retire
     event_text events_text row_text rows_text trace_text
-run_25_agrees = agrees run_25 (record { numbers = 4 ∷ 1 ∷ 8 ∷ 6 ∷ 8 ∷ 3 ∷ 4 ∷ 1 ∷ 2 ∷ 8 ∷ 4 ∷ 1 ∷ 1 ∷ 8 ∷ 4 ∷ 16 ∷ 8 ∷ 0 ∷ 4096 ∷ []; model = Futuristic }) refl refl refl refl refl
+run_25_agrees = agrees run_25 (record { version = 1; numbers = 4 ∷ 1 ∷ 8 ∷ 6 ∷ 8 ∷ 3 ∷ 4 ∷ 1 ∷ 2 ∷ 8 ∷ 4 ∷ 1 ∷ 1 ∷ 8 ∷ 4 ∷ 16 ∷ 8 ∷ 0 ∷ 4096 ∷ []; model = Futuristic }) refl refl refl refl refl
 
 run_26_agrees : Agrees run_26
 unfolding ones encode scan_numeral digits count_leading_zeros chars is_utf8 skip_from skip_ws decimal_number number
@@ -301,7 +301,7 @@ unfolding ones encode scan_numeral digits count_leading_zeros chars is_utf8 skip
     decode zeros description_of document_fault end_fault key_fault keys_fault latency_fault sections_fault top_fault
     half has_magic word header_fault code_of ram_after ram_fault segment_at end_line cycle fetch rename retire
     event_text events_text row_text rows_text trace_text
-run_26_agrees = agrees run_26 (record { numbers = 2 ∷ 3 ∷ 23 ∷ 26 ∷ 2 ∷ 1 ∷ 7 ∷ 1 ∷ 4 ∷ 8 ∷ 8 ∷ 1 ∷ 8 ∷ 16 ∷ 8 ∷ 9 ∷ 4 ∷ 65536 ∷ 4096 ∷ []; model = Spectre }) refl refl refl refl refl
+run_26_agrees = agrees run_26 (record { version = 1; numbers = 2 ∷ 3 ∷ 23 ∷ 26 ∷ 2 ∷ 1 ∷ 7 ∷ 1 ∷ 4 ∷ 8 ∷ 8 ∷ 1 ∷ 8 ∷ 16 ∷ 8 ∷ 9 ∷ 4 ∷ 65536 ∷ 4096 ∷ []; model = Spectre }) refl refl refl refl refl
 
 run_27_agrees : Agrees run_27
 unfolding ones encode scan_numeral digits count_leading_zeros chars is_utf8 skip_from skip_ws decimal_number number
@@ -310,7 +310,7 @@ unfolding ones encode scan_numeral digits count_leading_zeros chars is_utf8 skip
     decode zeros description_of document_fault end_fault key_fault keys_fault latency_fault sections_fault top_fault
     half has_magic word header_fault code_of ram_after ram_fault segment_at end_line cycle fetch rename retire
     event_text events_text row_text rows_text trace_text
-run_27_agrees = agrees run_27 (record { numbers = 2 ∷ 3 ∷ 21 ∷ 32 ∷ 4 ∷ 5 ∷ 3 ∷ 2 ∷ 5 ∷ 2 ∷ 16 ∷ 4 ∷ 1 ∷ 4 ∷ 1 ∷ 110 ∷ 5 ∷ 65536 ∷ 4096 ∷ []; model = Spectre }) refl refl refl refl refl
+run_27_agrees = agrees run_27 (record { version = 1; numbers = 2 ∷ 3 ∷ 21 ∷ 32 ∷ 4 ∷ 5 ∷ 3 ∷ 2 ∷ 5 ∷ 2 ∷ 16 ∷ 4 ∷ 1 ∷ 4 ∷ 1 ∷ 110 ∷ 5 ∷ 65536 ∷ 4096 ∷ []; model = Spectre }) refl refl refl refl refl
 
 run_28_agrees : Agrees run_28
 unfolding ones encode scan_numeral digits count_leading_zeros chars is_utf8 skip_from skip_ws decimal_number number
@@ -319,7 +319,7 @@ unfolding ones encode scan_numeral digits count_leading_zeros chars is_utf8 skip
     decode zeros description_of document_fault end_fault key_fault keys_fault latency_fault sections_fault top_fault
     half has_magic word header_fault code_of ram_after ram_fault segment_at end_line cycle fetch rename retire
     event_text events_text row_text rows_text trace_text
-run_28_agrees = agrees run_28 (record { numbers = 2 ∷ 2 ∷ 15 ∷ 14 ∷ 1 ∷ 5 ∷ 16 ∷ 3 ∷ 3 ∷ 8 ∷ 4 ∷ 2 ∷ 2 ∷ 32 ∷ 3 ∷ 13 ∷ 4 ∷ 65536 ∷ 65536 ∷ []; model = Futuristic }) refl refl refl refl refl
+run_28_agrees = agrees run_28 (record { version = 1; numbers = 2 ∷ 2 ∷ 15 ∷ 14 ∷ 1 ∷ 5 ∷ 16 ∷ 3 ∷ 3 ∷ 8 ∷ 4 ∷ 2 ∷ 2 ∷ 32 ∷ 3 ∷ 13 ∷ 4 ∷ 65536 ∷ 65536 ∷ []; model = Futuristic }) refl refl refl refl refl
 
 run_29_agrees : Agrees run_29
 unfolding ones encode scan_numeral digits count_leading_zeros chars is_utf8 skip_from skip_ws decimal_number number
@@ -328,7 +328,7 @@ unfolding ones encode scan_numeral digits count_leading_zeros chars is_utf8 skip
     decode zeros description_of document_fault end_fault key_fault keys_fault latency_fault sections_fault top_fault
     half has_magic word header_fault code_of ram_after ram_fault segment_at end_line cycle fetch rename retire
     event_text events_text row_text rows_text trace_text
-run_29_agrees = agrees run_29 (record { numbers = 3 ∷ 1 ∷ 49 ∷ 2 ∷ 1 ∷ 13 ∷ 5 ∷ 1 ∷ 8 ∷ 4 ∷ 32 ∷ 1 ∷ 7 ∷ 8 ∷ 8 ∷ 9 ∷ 2 ∷ 65536 ∷ 4096 ∷ []; model = Futuristic }) refl refl refl refl refl
+run_29_agrees = agrees run_29 (record { version = 1; numbers = 3 ∷ 1 ∷ 49 ∷ 2 ∷ 1 ∷ 13 ∷ 5 ∷ 1 ∷ 8 ∷ 4 ∷ 32 ∷ 1 ∷ 7 ∷ 8 ∷ 8 ∷ 9 ∷ 2 ∷ 65536 ∷ 4096 ∷ []; model = Futuristic }) refl refl refl refl refl
 
 run_30_agrees : Agrees run_30
 unfolding ones encode scan_numeral digits count_leading_zeros chars is_utf8 skip_from skip_ws decimal_number number
@@ -337,7 +337,7 @@ unfolding ones encode scan_numeral digits count_leading_zeros chars is_utf8 skip
     decode zeros description_of document_fault end_fault key_fault keys_fault latency_fault sections_fault top_fault
     half has_magic word header_fault code_of ram_after ram_fault segment_at end_line cycle fetch rename retire
     event_text events_text row_text rows_text trace_text
-run_30_agrees = agrees run_30 (record { numbers = 4 ∷ 4 ∷ 12 ∷ 32 ∷ 5 ∷ 6 ∷ 1 ∷ 2 ∷ 1 ∷ 2 ∷ 2 ∷ 1 ∷ 2 ∷ 16 ∷ 2 ∷ 3 ∷ 3 ∷ 0 ∷ 4096 ∷ []; model = Spectre }) refl refl refl refl refl
+run_30_agrees = agrees run_30 (record { version = 1; numbers = 4 ∷ 4 ∷ 12 ∷ 32 ∷ 5 ∷ 6 ∷ 1 ∷ 2 ∷ 1 ∷ 2 ∷ 2 ∷ 1 ∷ 2 ∷ 16 ∷ 2 ∷ 3 ∷ 3 ∷ 0 ∷ 4096 ∷ []; model = Spectre }) refl refl refl refl refl
 
 run_31_agrees : Agrees run_31
 unfolding ones encode scan_numeral digits count_leading_zeros chars is_utf8 skip_from skip_ws decimal_number number
@@ -346,7 +346,7 @@ unfolding ones encode scan_numeral digits count_leading_zeros chars is_utf8 skip
     decode zeros description_of document_fault end_fault key_fault keys_fault latency_fault sections_fault top_fault
     half has_magic word header_fault code_of ram_after ram_fault segment_at end_line cycle fetch rename retire
     event_text events_text row_text rows_text trace_text
-run_31_agrees = agrees run_31 (record { numbers = 1 ∷ 2 ∷ 53 ∷ 10 ∷ 3 ∷ 5 ∷ 2 ∷ 3 ∷ 1 ∷ 4 ∷ 8 ∷ 1 ∷ 2 ∷ 16 ∷ 1 ∷ 14 ∷ 3 ∷ 65536 ∷ 4096 ∷ []; model = Spectre }) refl refl refl refl refl
+run_31_agrees = agrees run_31 (record { version = 1; numbers = 1 ∷ 2 ∷ 53 ∷ 10 ∷ 3 ∷ 5 ∷ 2 ∷ 3 ∷ 1 ∷ 4 ∷ 8 ∷ 1 ∷ 2 ∷ 16 ∷ 1 ∷ 14 ∷ 3 ∷ 65536 ∷ 4096 ∷ []; model = Spectre }) refl refl refl refl refl
 
 run_32_agrees : Agrees run_32
 unfolding ones encode scan_numeral digits count_leading_zeros chars is_utf8 skip_from skip_ws decimal_number number
@@ -355,7 +355,7 @@ unfolding ones encode scan_numeral digits count_leading_zeros chars is_utf8 skip
     decode zeros description_of document_fault end_fault key_fault keys_fault latency_fault sections_fault top_fault
     half has_magic word header_fault code_of ram_after ram_fault segment_at end_line cycle fetch rename retire
     event_text events_text row_text rows_text trace_text
-run_32_agrees = agrees run_32 (record { numbers = 2 ∷ 2 ∷ 16 ∷ 32 ∷ 1 ∷ 10 ∷ 2 ∷ 1 ∷ 2 ∷ 2 ∷ 8 ∷ 1 ∷ 2 ∷ 16 ∷ 3 ∷ 18 ∷ 3 ∷ 4294963200 ∷ 4096 ∷ []; model = Spectre }) refl refl refl refl refl
+run_32_agrees = agrees run_32 (record { version = 1; numbers = 2 ∷ 2 ∷ 16 ∷ 32 ∷ 1 ∷ 10 ∷ 2 ∷ 1 ∷ 2 ∷ 2 ∷ 8 ∷ 1 ∷ 2 ∷ 16 ∷ 3 ∷ 18 ∷ 3 ∷ 4294963200 ∷ 4096 ∷ []; model = Spectre }) refl refl refl refl refl
 
 run_33_agrees : Agrees run_33
 unfolding ones encode scan_numeral digits count_leading_zeros chars is_utf8 skip_from skip_ws decimal_number number
@@ -364,7 +364,7 @@ unfolding ones encode scan_numeral digits count_leading_zeros chars is_utf8 skip
     decode zeros description_of document_fault end_fault key_fault keys_fault latency_fault sections_fault top_fault
     half has_magic word header_fault code_of ram_after ram_fault segment_at end_line cycle fetch rename retire
     event_text events_text row_text rows_text trace_text
-run_33_agrees = agrees run_33 (record { numbers = 2 ∷ 3 ∷ 32 ∷ 4 ∷ 8 ∷ 11 ∷ 4 ∷ 3 ∷ 2 ∷ 8 ∷ 2 ∷ 4 ∷ 3 ∷ 8 ∷ 3 ∷ 4 ∷ 3 ∷ 79728 ∷ 4400 ∷ []; model = Futuristic }) refl refl refl refl refl
+run_33_agrees = agrees run_33 (record { version = 1; numbers = 2 ∷ 3 ∷ 32 ∷ 4 ∷ 8 ∷ 11 ∷ 4 ∷ 3 ∷ 2 ∷ 8 ∷ 2 ∷ 4 ∷ 3 ∷ 8 ∷ 3 ∷ 4 ∷ 3 ∷ 79728 ∷ 4400 ∷ []; model = Futuristic }) refl refl refl refl refl
 
 run_34_agrees : Agrees run_34
 unfolding ones encode scan_numeral digits count_leading_zeros chars is_utf8 skip_from skip_ws decimal_number number
@@ -373,7 +373,7 @@ unfolding ones encode scan_numeral digits count_leading_zeros chars is_utf8 skip
     decode zeros description_of document_fault end_fault key_fault keys_fault latency_fault sections_fault top_fault
     half has_magic word header_fault code_of ram_after ram_fault segment_at end_line cycle fetch rename retire
     event_text events_text row_text rows_text trace_text
-run_34_agrees = agrees run_34 (record { numbers = 2 ∷ 3 ∷ 18 ∷ 16 ∷ 1 ∷ 1 ∷ 1 ∷ 1 ∷ 4 ∷ 8 ∷ 1 ∷ 1 ∷ 5 ∷ 32 ∷ 5 ∷ 6 ∷ 8 ∷ 0 ∷ 4096 ∷ []; model = Spectre }) refl refl refl refl refl
+run_34_agrees = agrees run_34 (record { version = 1; numbers = 2 ∷ 3 ∷ 18 ∷ 16 ∷ 1 ∷ 1 ∷ 1 ∷ 1 ∷ 4 ∷ 8 ∷ 1 ∷ 1 ∷ 5 ∷ 32 ∷ 5 ∷ 6 ∷ 8 ∷ 0 ∷ 4096 ∷ []; model = Spectre }) refl refl refl refl refl
 
 run_35_agrees : Agrees run_35
 unfolding ones encode scan_numeral digits count_leading_zeros chars is_utf8 skip_from skip_ws decimal_number number
@@ -382,7 +382,7 @@ unfolding ones encode scan_numeral digits count_leading_zeros chars is_utf8 skip
     decode zeros description_of document_fault end_fault key_fault keys_fault latency_fault sections_fault top_fault
     half has_magic word header_fault code_of ram_after ram_fault segment_at end_line cycle fetch rename retire
     event_text events_text row_text rows_text trace_text
-run_35_agrees = agrees run_35 (record { numbers = 4 ∷ 4 ∷ 64 ∷ 6 ∷ 1 ∷ 8 ∷ 1 ∷ 1 ∷ 3 ∷ 64 ∷ 1 ∷ 2 ∷ 2 ∷ 16 ∷ 3 ∷ 9 ∷ 3 ∷ 65536 ∷ 4096 ∷ []; model = Spectre }) refl refl refl refl refl
+run_35_agrees = agrees run_35 (record { version = 1; numbers = 4 ∷ 4 ∷ 64 ∷ 6 ∷ 1 ∷ 8 ∷ 1 ∷ 1 ∷ 3 ∷ 64 ∷ 1 ∷ 2 ∷ 2 ∷ 16 ∷ 3 ∷ 9 ∷ 3 ∷ 65536 ∷ 4096 ∷ []; model = Spectre }) refl refl refl refl refl
 
 run_36_agrees : Agrees run_36
 unfolding ones encode scan_numeral digits count_leading_zeros chars is_utf8 skip_from skip_ws decimal_number number
@@ -391,7 +391,7 @@ unfolding ones encode scan_numeral digits count_leading_zeros chars is_utf8 skip
     decode zeros description_of document_fault end_fault key_fault keys_fault latency_fault sections_fault top_fault
     half has_magic word header_fault code_of ram_after ram_fault segment_at end_line cycle fetch rename retire
     event_text events_text row_text rows_text trace_text
-run_36_agrees = agrees run_36 (record { numbers = 2 ∷ 2 ∷ 7 ∷ 14 ∷ 4 ∷ 16 ∷ 10 ∷ 3 ∷ 2 ∷ 64 ∷ 8 ∷ 1 ∷ 2 ∷ 4 ∷ 6 ∷ 32 ∷ 1 ∷ 65536 ∷ 4096 ∷ []; model = Futuristic }) refl refl refl refl refl
+run_36_agrees = agrees run_36 (record { version = 1; numbers = 2 ∷ 2 ∷ 7 ∷ 14 ∷ 4 ∷ 16 ∷ 10 ∷ 3 ∷ 2 ∷ 64 ∷ 8 ∷ 1 ∷ 2 ∷ 4 ∷ 6 ∷ 32 ∷ 1 ∷ 65536 ∷ 4096 ∷ []; model = Futuristic }) refl refl refl refl refl
 
 run_37_agrees : Agrees run_37
 unfolding ones encode scan_numeral digits count_leading_zeros chars is_utf8 skip_from skip_ws decimal_number number
@@ -400,7 +400,7 @@ unfolding ones encode scan_numeral digits count_leading_zeros chars is_utf8 skip
     decode zeros description_of document_fault end_fault key_fault keys_fault latency_fault sections_fault top_fault
     half has_magic word header_fault code_of ram_after ram_fault segment_at end_line cycle fetch rename retire
     event_text events_text row_text rows_text trace_text
-run_37_agrees = agrees run_37 (record { numbers = 4 ∷ 4 ∷ 21 ∷ 22 ∷ 3 ∷ 1 ∷ 6 ∷ 2 ∷ 4 ∷ 4 ∷ 1 ∷ 2 ∷ 3 ∷ 32 ∷ 2 ∷ 96 ∷ 1 ∷ 36320 ∷ 7936 ∷ []; model = Futuristic }) refl refl refl refl refl
+run_37_agrees = agrees run_37 (record { version = 1; numbers = 4 ∷ 4 ∷ 21 ∷ 22 ∷ 3 ∷ 1 ∷ 6 ∷ 2 ∷ 4 ∷ 4 ∷ 1 ∷ 2 ∷ 3 ∷ 32 ∷ 2 ∷ 96 ∷ 1 ∷ 36320 ∷ 7936 ∷ []; model = Futuristic }) refl refl refl refl refl
 
 run_38_agrees : Agrees run_38
 unfolding ones encode scan_numeral digits count_leading_zeros chars is_utf8 skip_from skip_ws decimal_number number
@@ -409,7 +409,7 @@ unfolding ones encode scan_numeral digits count_leading_zeros chars is_utf8 skip
     decode zeros description_of document_fault end_fault key_fault keys_fault latency_fault sections_fault top_fault
     half has_magic word header_fault code_of ram_after ram_fault segment_at end_line cycle fetch rename retire
     event_text events_text row_text rows_text trace_text
-run_38_agrees = agrees run_38 (record { numbers = 2 ∷ 1 ∷ 15 ∷ 8 ∷ 16 ∷ 2 ∷ 2 ∷ 1 ∷ 1 ∷ 4 ∷ 8 ∷ 2 ∷ 1 ∷ 8 ∷ 1 ∷ 35 ∷ 3 ∷ 0 ∷ 4096 ∷ []; model = Futuristic }) refl refl refl refl refl
+run_38_agrees = agrees run_38 (record { version = 1; numbers = 2 ∷ 1 ∷ 15 ∷ 8 ∷ 16 ∷ 2 ∷ 2 ∷ 1 ∷ 1 ∷ 4 ∷ 8 ∷ 2 ∷ 1 ∷ 8 ∷ 1 ∷ 35 ∷ 3 ∷ 0 ∷ 4096 ∷ []; model = Futuristic }) refl refl refl refl refl
 
 pub each_agrees : Each Agrees runs
 each_agrees = (run_01_agrees, (run_02_agrees, (run_03_agrees, (run_04_agrees, (run_05_agrees, (run_06_agrees, (run_07_agrees, (run_08_agrees, (run_09_agrees, (run_10_agrees, (run_11_agrees, (run_12_agrees, (run_13_agrees, (run_14_agrees, (run_15_agrees, (run_16_agrees, (run_17_agrees, (run_18_agrees, (run_19_agrees, (run_20_agrees, (run_21_agrees, (run_22_agrees, (run_23_agrees, (run_24_agrees, (run_25_agrees, (run_26_agrees, (run_27_agrees, (run_28_agrees, (run_29_agrees, (run_30_agrees, (run_31_agrees, (run_32_agrees, (run_33_agrees, (run_34_agrees, (run_35_agrees, (run_36_agrees, (run_37_agrees, (run_38_agrees, tt))))))))))))))))))))))))))))))))))))))

@@ -26,9 +26,9 @@ holds [] k h = refl
 holds (b ∷ more) zero h = by_head b more h
 holds (b ∷ more) (suc k) h = holds more k (by_tail b more h)
 
--- what each key asks of its number, in the order of the keys
-abbrev pub tests : (ℕ → ℕ) → List Bool
-tests n =
+-- what each key asks of its number, in the order of the keys, and that the version is 1
+abbrev pub tests : ℕ → (ℕ → ℕ) → List Bool
+tests version n =
     (nat_le 1 (n 0)) ∷ (nat_le (n 0) 4) ∷
     (nat_le 1 (n 1)) ∷ (nat_le (n 1) 4) ∷
     (nat_le 4 (n 2)) ∷ (nat_le (n 2) 64) ∷
@@ -49,6 +49,7 @@ tests n =
     (nat_le (n 17) 4294963200) ∷ (n 17 % 16 == 0) ∷
     (nat_le 4096 (n 18)) ∷ (nat_le (n 18) 16777216) ∷ (n 18 % 16 == 0) ∷
     (nat_le (n 17 + n 18) (2 ^ 32)) ∷
+    (version == 1) ∷
     []
 
 -- the number of a key, by its place
@@ -56,11 +57,12 @@ abbrev pub number_at : Contents → ℕ → ℕ
 number_at c k = get_or c.numbers k 0
 
 -- the description of these contents
-abbrev pub described : (c : Contents) → IsTrue (all_hold (tests (number_at c))) → Desc
+abbrev pub described : (c : Contents) → IsTrue (all_hold (tests c.version (number_at c))) → Desc
 described c h =
     let n : ℕ → ℕ = number_at c in
-    let t : (k : ℕ) → IsTrue (get_or (tests n) k true) = λ k. holds (tests n) k h in
+    let t : (k : ℕ) → IsTrue (get_or (tests c.version n) k true) = λ k. holds (tests c.version n) k h in
     record {
+      version = c.version;
       core_fetch_width = n 0;
       core_retire_width = n 1;
       core_rob = n 2;
@@ -81,6 +83,7 @@ described c h =
       ram_base = n 17;
       ram_size = n 18;
       stt_model = c.model;
+      first_version = eqb-true _ _ (t 44);
       some_fetches = leb-true _ _ (t 0);
       few_fetches = leb-true _ _ (t 1);
       some_retires = leb-true _ _ (t 2);

@@ -93,8 +93,18 @@ fn refuses_images(rt: HostRuntime) -> Result<(), Fail> {
 #[test]
 fn refuses_descriptions(rt: HostRuntime) -> Result<(), Fail> {
     let alloc = rt.alloc();
-    let rows: [(&str, &str, &str); 14] = [
+    let rows: [(&str, &str, &str); 16] = [
         ("[core]", "[core", "description K1\n"),
+        (
+            "[core]",
+            "version = 1.0\n[core]",
+            "description K4 version\n",
+        ),
+        (
+            "[core]",
+            "version = 3\n[core]",
+            "description K5 version 3\n",
+        ),
         (
             "rob = 16",
             "rob = 16\nrobb = 1",
