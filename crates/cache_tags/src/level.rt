@@ -39,7 +39,8 @@ impl Level {
         requires some_ways { 0 < ways }
         requires few_ways { ways ≤ 8 }
         requires some_bytes { 0 < bytes }
-        ensures { IfOk result (λ l. l ≡ record { count = count; ways = ways; bytes = bytes; sets = replicate count [] }) }
+        ensures { IfOk result (λ l. l
+            ≡ record { count = count; ways = ways; bytes = bytes; sets = replicate count [] }) }
     {
         let sets = empty_sets(alloc, count)?;
         Ok(Level {
@@ -72,7 +73,9 @@ impl Level {
 
     /// This line arrives: it goes to the front of its set, whose last line goes where there are more than the ways then.
     pub fn enter(&mut self, line: u32)
-        ensures entered { self.new ≡ record self.old { sets = entered self.old.ways self.old.sets (set_at self.old line) line } }
+        ensures entered { self.new ≡ record self.old {
+          sets = entered self.old.ways self.old.sets (set_at self.old line) line;
+        } }
     {
         let set = set_of(line, self.bytes, self.count);
         put_in_front(&mut self.sets, set, line, self.ways);
@@ -93,7 +96,8 @@ fn set_of(line: u32, bytes: u32, count: u32) -> usize
 fn bring_forward(sets: &mut Vec<LineSet>, set: usize, line: u32)
     requires inside { set < vec_len sets.old }
     requires here { list_any (λ l. l == line) (slice_index_or sets.old.items set []) ≡ true }
-    ensures { sets.new.items ≡ slice_set sets.old.items set (line ∷ filter (λ l. not (l == line)) (slice_index_or sets.old.items set [])) }
+    ensures { sets.new.items ≡ slice_set sets.old.items set
+        (line ∷ filter (λ l. not (l == line)) (slice_index_or sets.old.items set [])) }
 {
     sets[set].bring_forward(line);
 }

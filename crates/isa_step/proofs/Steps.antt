@@ -1,9 +1,9 @@
 -- The step of the word at an address, by its instruction.
-use Rattle.std.proofs.Common.{◌≡◌, ℕ, List, [], Option, None, Some, refl, ap, sym, ◌∙◌}
+use Rattle.std.proofs.Common.{◌≡◌, ℕ, [], Option, None, Some, refl, ap, sym, ◌∙◌}
 use Rattle.std.specs.Option.{option_map}
 use Rattle.rv_types.specs.Decode.{decode}
 use Rattle.rv_types.specs.Causes.{outside_code}
-use Rattle.rv_types.specs.Isa.{Hart, Step, Traps, step_of, step_at}
+use Rattle.rv_types.specs.Isa.{Hart, Traps, step_of, step_at}
 use Rattle.rv_types.specs.Path.{pass_fault, pass_at, loads_of, loads_at}
 use Rattle.rv_types.specs.declared.Instr.{Instr}
 use Rattle.rv_decode.specs.declared.operations.Operation.{Operation}

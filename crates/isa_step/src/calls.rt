@@ -11,7 +11,8 @@ impl Isa {
     // An ECALL.
     pub(crate) fn call(&mut self, out: &mut Piece) -> Stepped
         requires { out.old ≡ [] }
-        ensures stepped { record { hart = self.new.hart; piece = out.new; stepped = result } ≡ outcome self.old.hart (call self.old.hart) }
+        ensures stepped { record { hart = self.new.hart; piece = out.new; stepped = result }
+            ≡ outcome self.old.hart (call self.old.hart) }
         ensures code { self.new.code ≡ self.old.code }
     {
         match rv_effect::call(&mut self.pc, &mut self.regs, &self.ram, out) {

@@ -15,7 +15,8 @@ impl Isa {
     fn perform_other(&mut self, operation: Operation, instr: Instr, out: &mut Piece) -> Stepped
         requires stands { instr_of operation instr ≡ instr }
         requires empty { out.old ≡ [] }
-        ensures stepped { record { hart = self.new.hart; piece = out.new; stepped = result } ≡ outcome self.old.hart (step_of self.old.hart (instr_of operation instr)) }
+        ensures stepped { record { hart = self.new.hart; piece = out.new; stepped = result }
+            ≡ outcome self.old.hart (step_of self.old.hart (instr_of operation instr)) }
         ensures code { self.new.code ≡ self.old.code }
     {
         match operation {
@@ -49,7 +50,8 @@ impl Isa {
     fn perform(&mut self, operation: Operation, instr: Instr, out: &mut Piece) -> Stepped
         requires stands { instr_of operation instr ≡ instr }
         requires empty { out.old ≡ [] }
-        ensures stepped { record { hart = self.new.hart; piece = out.new; stepped = result } ≡ outcome self.old.hart (step_of self.old.hart (instr_of operation instr)) }
+        ensures stepped { record { hart = self.new.hart; piece = out.new; stepped = result }
+            ≡ outcome self.old.hart (step_of self.old.hart (instr_of operation instr)) }
         ensures code { self.new.code ≡ self.old.code }
     {
         match operation {
@@ -85,7 +87,8 @@ impl Isa {
     /// nothing. A trap changes nothing else.
     #[tactic(auto, using(crate::proofs::Steps::step_there, crate::proofs::Steps::nothing_there), unfolding(rv_types::specs::Isa::isa_step))]
     pub fn step(&mut self, out: &mut Piece) -> Stepped
-        ensures stepped { record { hart = self.new.hart; piece = out.new; stepped = result } ≡ outcome self.old.hart (isa_step (word_at self.old.code) self.old.hart) }
+        ensures stepped { record { hart = self.new.hart; piece = out.new; stepped = result }
+            ≡ outcome self.old.hart (isa_step (word_at self.old.code) self.old.hart) }
         ensures code { self.new.code ≡ self.old.code }
     {
         out.clear();

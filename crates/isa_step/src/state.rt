@@ -1,12 +1,12 @@
 //! The state: pc, registers and memory, and the words that may be fetched.
 ghost use Rattle.std.specs.Prelude.{◌≡◌};
-ghost use Rattle.rv_types.specs.Isa.{start, reg, with_reg};
+ghost use Rattle.rv_types.specs.Isa.{reg, relative, start, with_reg};
 ghost use Rattle.rv_types.specs.Regs.{unless_zero};
-ghost use Rattle.rv_types.specs.Word.{word_add, word};
 
 use byte_ram::Ram;
 use elf_loader::{Code, Image};
-use rv_types::Reg;
+use rv_effect::{relative, write_reg};
+use rv_types::{Reg, unless_zero};
 use std::marker::Model;
 
 // The stack pointer, and how many bytes below memory's end it begins.
@@ -29,17 +29,6 @@ impl Model for Isa {
     ghost Value = { IsaState };
 
     ghost view = { λ s. record { code = s.code; hart = record { pc = s.pc; regs = s.regs; ram = s.ram } } };
-}
-
-// Writes a register; register 0 is never written.
-#[inline]
-#[tactic(auto, using(crate::proofs::Registers::written, crate::proofs::Registers::unwritten))]
-fn write_reg(regs: &mut [u32; 32], rd: Reg, value: u32)
-    ensures { regs.new ≡ with_reg regs.old (unless_zero rd.number) value }
-{
-    if rd.number != 0 {
-        regs[rd.number as usize] = value;
-    }
 }
 
 impl Isa {
@@ -90,25 +79,30 @@ impl Isa {
     // The value of a register, and an offset added to it.
     #[inline]
     pub(crate) fn address(&self, base: Reg, offset: i32) -> u32
-        ensures { result ≡ word_add (reg self.now.hart.regs base.number) (word offset) }
+        ensures { result ≡ relative (reg self.now.hart.regs base.number) offset }
     {
-        self.reg(base).wrapping_add(offset.cast_unsigned())
+        relative(self.reg(base), offset)
     }
 
     // An offset added to pc.
     #[inline]
     pub(crate) fn relative(&self, offset: i32) -> u32
-        ensures { result ≡ word_add self.now.hart.pc (word offset) }
+        ensures { result ≡ relative self.now.hart.pc offset }
     {
-        self.pc.wrapping_add(offset.cast_unsigned())
+        relative(self.pc, offset)
     }
 
     // Goes on at an address, with a register written.
     #[inline]
     pub(crate) fn go_on(&mut self, rd: Reg, value: u32, next: u32)
-        ensures { self.new ≡ record self.old { hart = record self.old.hart { pc = next; regs = with_reg self.old.hart.regs (unless_zero rd.number) value } } }
+        ensures { self.new ≡ record self.old {
+          hart = record self.old.hart {
+            pc = next;
+            regs = with_reg self.old.hart.regs (unless_zero rd.number) value;
+          };
+        } }
     {
-        write_reg(&mut self.regs, rd, value);
+        write_reg(&mut self.regs, unless_zero(rd), value);
         self.pc = next;
     }
 }

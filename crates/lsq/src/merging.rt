@@ -34,24 +34,13 @@ pub(crate) struct Gathered {
     pub(crate) root: Option<u64>,
 }
 
-// How many bytes an access of this width moves.
-fn bytes_in(width: Width) -> u32
-    ensures { result ≡ bytes_in width }
-{
-    match width {
-        Width::B => 1,
-        Width::H => 2,
-        Width::W => 4,
-    }
-}
-
 // Whether what a store writes reaches an address. A store with a fault reaches none.
 fn reaches(known: &Known, addr: u64) -> bool
     ensures { result ≡ reaches addr known.now }
 {
     known.fault.is_none()
         && known.addr as u64 <= addr
-        && addr < known.addr as u64 + bytes_in(known.width) as u64
+        && addr < known.addr as u64 + known.width.bytes() as u64
 }
 
 // A byte of a number of this width, the lowest first, and 0 past its last.

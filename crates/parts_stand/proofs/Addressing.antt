@@ -23,6 +23,7 @@ use Rattle.parts_stand.specs.Steps.{GoesOn}
 use Rattle.parts_stand.specs.Addresses.{Addressed, AddressesStand, TellsStores, address_in, addresses_of, base_root}
 use Rattle.window_model.specs.Serials.{Rise}
 use Rattle.window_model.proofs.Serials.{Falls, place_of, rise_head, splits}
+use Rattle.window_model.proofs.Booleans.{or_false}
 use Rattle.parts_stand.proofs.Youngest.{Tells, map_same, map_twice}
 use Rattle.parts_stand.proofs.Tables.{as_many, keeps_all}
 use Rattle.parts_stand.proofs.Standing.{halves, keeps_older, take_first, take_length}
@@ -168,11 +169,7 @@ addresses_know p stores serial known a = map_twice address_in (known_at serial k
 
 hidden_younger : (point : ℕ) (a b : Option ℕ) → is_hidden point (younger a b) ≡ (is_hidden point a || is_hidden point b)
 hidden_younger point None b = refl
-hidden_younger point (Some a) None = by_a (not (nat_le a point))
-  where
-    by_a : (t : Bool) → t ≡ (t || false)
-    by_a true = refl
-    by_a false = refl
+hidden_younger point (Some a) None = sym (or_false (not (nat_le a point)))
 hidden_younger point (Some a) (Some b) = grind (arith, nat_tests)
 
 hidden_youngest : (point : ℕ) (stores : List Store) → is_hidden point (youngest_root stores) ≡ list_any (λ s. is_hidden point s.root) stores
@@ -197,10 +194,6 @@ any_addresses point (s ∷ stores) = ap (λ b. is_hidden point s.root || b) (any
 base_told : (point : ℕ) (rs : List (Option ℕ)) → list_any (is_hidden point) (take 1 rs) ≡ is_hidden point (base_root rs)
 base_told point [] = refl
 base_told point (r ∷ rs) = or_false (is_hidden point r)
-  where
-    or_false : (b : Bool) → (b || false) ≡ b
-    or_false true = refl
-    or_false false = refl
 
 -- of entries from the oldest on, as far as a position
 hidden_from : (p : Point) (f : ℕ) (before es : List Entry) (roots : List (List (Option ℕ))) (i : ℕ) → ((s : ℕ) → s < f → s ≤ p.serial) →
@@ -231,7 +224,7 @@ hidden_from p f before (e ∷ es) (rs ∷ roots) (suc i) old t u a b s =
     by_store false m n = refl
 
 -- the entries below an entry's serial are those before it
-below_is : (es : List Entry) (i : ℕ) (e : Entry) → Rise es → slice_get es i ≡ Some e → below e.serial es ≡ take i es
+pub below_is : (es : List Entry) (i : ℕ) (e : Entry) → Rise es → slice_get es i ≡ Some e → below e.serial es ≡ take i es
 below_is es i e r h =
     let t = splits e.serial es r in
     sym (take_first (below e.serial es) t.gone) ∙ ap (take (length (below e.serial es))) (sym t.whole) ∙ ap (λ n. take n es) (place_of es i e r h)
@@ -239,10 +232,6 @@ below_is es i e r h =
 pub tells_stores : TellsStores
 tells_stores p point stores i e s m a h = by_window p.window s.rise m s.roots h has
   where
-    or_false : (b : Bool) → b ≡ (b || false)
-    or_false true = refl
-    or_false false = refl
-
     has : map address_in (filter (λ s. nat_lt s.serial e.serial) stores) ≡ addresses_of (take i p.window) (take i p.roots)
     has =
         addresses_below p stores e.serial s a
@@ -258,5 +247,5 @@ tells_stores p point stores i e s m a h = by_window p.window s.rise m s.roots h 
         ∙ any_reverse (λ s. is_hidden point.serial s.root) (filter (λ s. nat_lt s.serial e.serial) stores)
         ∙ any_addresses point.serial (filter (λ s. nat_lt s.serial e.serial) stores)
         ∙ ap (list_any (λ (a : Addressed). is_hidden point.serial a.root)) k
-        ∙ or_false (list_any (λ (a : Addressed). is_hidden point.serial a.root) (addresses_of (take i (x ∷ es)) (take i p.roots)))
+        ∙ sym (or_false (list_any (λ (a : Addressed). is_hidden point.serial a.root) (addresses_of (take i (x ∷ es)) (take i p.roots))))
         ∙ hidden_from point x.serial [] (x ∷ es) p.roots i t.retired tt tt t.tells t.falls s

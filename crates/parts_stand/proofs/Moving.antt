@@ -1,20 +1,15 @@
 -- The point can move on, whatever changes in the window.
-use Rattle.std.proofs.Common.{◌≡◌, ℕ, zero, suc, ◌+◌, ◌<◌, ◌≤◌, Bool, true, false, not, ◌||◌, cond, List, [], ◌∷◌, ◌++◌, Some, refl, ap, sym, ◌∙◌, arith, subst, slice_get}
+use Rattle.std.proofs.Common.{◌≡◌, ℕ, zero, suc, ◌+◌, ◌<◌, ◌≤◌, Bool, true, false, not, cond, List, [], ◌∷◌, ◌++◌, Some, refl, ap, sym, ◌∙◌, arith, subst, slice_get}
 use Rattle.std.specs.Prelude.{nat_le, nat_lt, slice_set}
 use Rattle.std.specs.List.{All}
 use Rattle.std.proofs.lemmas.Bool.Decides.{nat_tests}
 use Rattle.std.proofs.lemmas.List.Elements.{All-nil, All-head, All-tail, All-weaker, All-push, All-set}
-use Rattle.rv_types.specs.declared.Kind.{Kind}
-use Rattle.rv_types.specs.declared.Kind.TheVariants.{Load, Store, Branch, Jalr, Call, Stop}
 use Rattle.machine_desc.specs.declared.SttModel.{SttModel}
-use Rattle.machine_desc.specs.declared.SttModel.TheVariants.{Spectre, Futuristic}
 use Rattle.window_model.specs.declared.Entry.{Entry}
 use Rattle.window_model.specs.declared.Outcome.{Outcome}
 use Rattle.window_model.specs.declared.Progress.TheVariants.{Done}
-use Rattle.window_model.specs.Order.{is_control, is_done, is_faulty, is_waiting}
+use Rattle.window_model.specs.Order.{is_control, is_waiting}
 use Rattle.window_model.specs.Issue.{begun}
-use Rattle.window_model.specs.Taint.{safe_as}
-use Rattle.window_model.proofs.Booleans.{both, waiting_done}
 use Rattle.rob_ring.specs.Ring.{below}
 use Rattle.visibility.specs.Point.{Point, HasMoved, moved_over, next_after, passes}
 use Rattle.visibility.proofs.Moving.{has_advanced}

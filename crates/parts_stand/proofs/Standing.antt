@@ -10,7 +10,7 @@ use Rattle.window_model.specs.declared.Entry.{Entry}
 use Rattle.window_model.specs.declared.Progress.TheVariants.{Done}
 use Rattle.window_model.specs.Order.{is_waiting, is_done, sources}
 use Rattle.window_model.specs.Issue.{begun}
-use Rattle.window_model.proofs.Booleans.{done_waits, waiting_done}
+use Rattle.window_model.proofs.Booleans.{done_waits, is_below, waiting_done}
 use Rattle.window_model.proofs.Counts.{count_is}
 use Rattle.rob_ring.specs.Ring.{below}
 use Rattle.rename_taint.specs.declared.Write.{Write}
@@ -130,9 +130,6 @@ take_length zero xs le = refl
 take_length (suc n) [] le = absurd (omega (arith, le))
 take_length (suc n) (x ∷ xs) le = ap suc (take_length n xs (omega (arith, le)))
 
-below_test : (m n : ℕ) → m < n → nat_lt m n ≡ true
-below_test m n lt = grind (arith, nat_tests)
-
 above_test : (m n : ℕ) → n ≤ m → nat_lt m n ≡ false
 above_test m n le = grind (arith, nat_tests)
 
@@ -141,7 +138,7 @@ pub keeps_older : {X : Type 0} (serial : X → ℕ) (first : ℕ) (xs ys : List 
 keeps_older serial first xs ys a b =
     filter-append (λ x. nat_lt (serial x) first) xs ys
     ∙ ap₂ (λ us vs. us ++ vs)
-    (keeps_all (λ x. nat_lt (serial x) first) xs (All-weaker (λ x. serial x < first) (λ x. nat_lt (serial x) first ≡ true) (λ x lt. below_test (serial x) first lt) xs a))
+    (keeps_all (λ x. nat_lt (serial x) first) xs (All-weaker (λ x. serial x < first) (λ x. nat_lt (serial x) first ≡ true) (λ x lt. is_below (serial x) first lt) xs a))
     (keeps_none (λ x. nat_lt (serial x) first) ys (All-weaker (λ y. first ≤ serial y) (λ y. nat_lt (serial y) first ≡ false) (λ y le. above_test (serial y) first le) ys b))
     ∙ append-nil xs
 

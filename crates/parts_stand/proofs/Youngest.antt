@@ -19,6 +19,7 @@ use Rattle.rename_taint.specs.Writes.{later, latest, root_written}
 use Rattle.visibility.specs.Point.{Point, is_hidden}
 use Rattle.parts_stand.specs.Roots.{youngest_root, root_of_source, source_roots, unretired}
 use Rattle.window_model.proofs.Serials.{Falls}
+use Rattle.window_model.proofs.Booleans.{or_false}
 
 -- ---- what has not retired
 
@@ -87,10 +88,6 @@ few_reads instr.Ecall = omega arith
 few_reads instr.Ebreak = omega arith
 few_reads (instr.Illegal w) = omega arith
 
-later_none : (o : Option ℕ) → later o None ≡ o
-later_none None = refl
-later_none (Some a) = refl
-
 latest_two : (before : List Entry) (rs : List ℕ) → length rs ≤ 2 → latest (map (root_of_source before) (two rs)) ≡ latest (map (youngest_root before) rs)
 latest_two before [] le = refl
 latest_two before (a ∷ []) le = refl
@@ -152,11 +149,7 @@ root_without f (e ∷ before) h a lt r = by_writes (writes r e) (root_without f 
 
 hidden_later : (point : ℕ) (a b : Option ℕ) → is_hidden point (later a b) ≡ (is_hidden point a || is_hidden point b)
 hidden_later point None b = refl
-hidden_later point (Some a) None = by_a (not (nat_le a point))
-  where
-    by_a : (t : Bool) → t ≡ (t || false)
-    by_a true = refl
-    by_a false = refl
+hidden_later point (Some a) None = sym (or_false (not (nat_le a point)))
 hidden_later point (Some a) (Some b) = grind (arith, nat_tests)
 
 hidden_latest : (point : ℕ) (os : List (Option ℕ)) → is_hidden point (latest os) ≡ list_any (is_hidden point) os

@@ -1,17 +1,13 @@
 -- The roots that stores in the queue have: the youngest roots of their addresses (docs/machine.md, "The parts stand for the
 -- machine"). That the queue's stores are the window's is `queue_laws`'s to say.
-use Rattle.std.specs.Prelude.{◌≡◌, ℕ, ◌==◌, not, nat_lt, true, false, List, [], ◌∷◌, ◌++◌, length, map, take, drop, slice_get, Option, Some, None, if◌then◌else◌}
-use Rattle.std.specs.List.{filter, AllZip}
+use Rattle.std.specs.Prelude.{◌≡◌, ℕ, List, [], ◌∷◌, map, slice_get, Option, Some, None, if◌then◌else◌}
 use Rattle.window_model.specs.declared.Entry.{Entry}
 use Rattle.window_model.specs.Access.{any_store_hidden}
 use Rattle.window_model.specs.Order.{before_at, is_store}
-use Rattle.rob_ring.specs.Ring.{below}
-use Rattle.lsq.specs.declared.store.Known.{Known}
 use Rattle.lsq.specs.declared.store.Store.{Store}
-use Rattle.lsq.specs.Queues.{known_at, older, youngest_root}
+use Rattle.lsq.specs.Queues.{older, youngest_root}
 use Rattle.visibility.specs.Point.{Point, HasAdvanced, is_hidden}
 use Rattle.parts_stand.specs.Parts.{Parts, Stand}
-use Rattle.parts_stand.specs.Steps.{GoesOn}
 
 -- a store and the root of its address
 pub record Addressed : Type 0 where

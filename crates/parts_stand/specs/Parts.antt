@@ -1,11 +1,12 @@
 -- What the parts of a core hold, and when they stand for the machine's window (docs/machine.md, "The parts stand for the
 -- machine"). All lists are oldest first, as the parts have them; `before` is youngest first, as in the machine's definitions.
 use Rattle.std.specs.Prelude.{◌≡◌, ℕ, ◌<◌, List, [], ◌∷◌, map, Option, Some, None, if◌then◌else◌}
-use Rattle.std.specs.List.{All, AllPairs, cons_option}
+use Rattle.std.specs.List.{All, cons_option}
 use Rattle.std.specs.Option.{option_map}
 use Rattle.rv_types.specs.Regs.{two, writes_of}
 use Rattle.window_model.specs.declared.Entry.{Entry}
 use Rattle.window_model.specs.Order.{is_waiting, is_done, writer, sources}
+use Rattle.window_model.specs.Serials.{Rise}
 use Rattle.rename_taint.specs.declared.Write.{Write}
 use Rattle.rename_taint.specs.Writes.{root_written}
 use Rattle.stations.specs.Stations.{Station}
@@ -87,7 +88,7 @@ waiters_from before (e ∷ es) = if is_waiting e.state then waiter_of before e �
 
 -- serials rise with age and are below the next one, and the parts say of the entries what the machine's definitions say
 pub record Stand (p : Parts) : Type 0 where
-  pub rise : AllPairs (λ a b. a.serial < b.serial) p.window
+  pub rise : Rise p.window
   pub next : All (λ e. e.serial < p.next) p.window
   pub roots : RootsStand (oldest_of p.next p.window) [] p.window p.roots
   pub writes : p.writes ≡ writes_in p.window p.roots

@@ -1,15 +1,10 @@
 -- What the visibility point keeps between two moves, as the window changes (docs/architecture.md, "How they stand for it").
-use Rattle.std.specs.Prelude.{◌≡◌, ℕ, ◌+◌, ◌<◌, ◌≤◌, true, false, List, [], ◌∷◌, ◌++◌, drop, slice_get, slice_set, Some}
+use Rattle.std.specs.Prelude.{◌≡◌, ℕ, ◌<◌, ◌≤◌, true, false, List}
 use Rattle.std.specs.List.{All}
-use Rattle.machine_desc.specs.declared.SttModel.{SttModel}
 use Rattle.window_model.specs.declared.Entry.{Entry}
-use Rattle.window_model.specs.declared.Outcome.{Outcome}
-use Rattle.window_model.specs.declared.Progress.TheVariants.{Done}
-use Rattle.window_model.specs.Order.{is_control, is_waiting}
-use Rattle.window_model.specs.Issue.{begun}
-use Rattle.window_model.specs.Serials.{Rise}
+use Rattle.window_model.specs.Order.{is_waiting}
 use Rattle.rob_ring.specs.Ring.{below}
-use Rattle.visibility.specs.Point.{Point, CanAdvance, moved_over}
+use Rattle.visibility.specs.Point.{Point, CanAdvance}
 
 -- the point can move on, it is not past the next serial, and no entry that waits is marked as resolved
 pub record PointStands (point : Point) (next : ℕ) (window : List Entry) : Type 0 where

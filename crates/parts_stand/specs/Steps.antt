@@ -1,17 +1,11 @@
 -- Which steps keep the parts standing for the window (docs/architecture.md, "How they stand for it").
-use Rattle.std.specs.Prelude.{◌≡◌, ℕ, ◌+◌, nat_lt, true, false, List, [], ◌∷◌, ◌++◌, length, map, reverse, take, drop, slice_get, slice_set, Option, Some, if◌then◌else◌}
-use Rattle.std.specs.List.{filter, remove, count_by, AllZip}
+use Rattle.std.specs.Prelude.{◌≡◌, ℕ, ◌+◌, List, [], ◌∷◌, ◌++◌, take, Option, if◌then◌else◌}
+use Rattle.std.specs.List.{count_by}
 use Rattle.std.specs.Option.{option_to_list}
-use Rattle.rv_types.specs.Regs.{two}
 use Rattle.window_model.specs.declared.Entry.{Entry}
-use Rattle.window_model.specs.declared.Outcome.{Outcome}
-use Rattle.window_model.specs.declared.Progress.TheVariants.{Done}
-use Rattle.window_model.specs.Order.{is_waiting, is_done, sources}
-use Rattle.window_model.specs.Issue.{begun}
-use Rattle.rob_ring.specs.Ring.{below}
-use Rattle.rename_taint.specs.Writes.{root_at, without_retired, before_serial}
-use Rattle.stations.specs.Stations.{Station, struck}
-use Rattle.parts_stand.specs.Parts.{Parts, Stand, awaits_of, waiter_in, waiters_from, write_of}
+use Rattle.window_model.specs.Order.{is_waiting}
+use Rattle.stations.specs.Stations.{Station}
+use Rattle.parts_stand.specs.Parts.{Parts, write_of}
 
 -- nothing in flight, and nothing held
 abbrev pub empty : ℕ → Parts

@@ -1,7 +1,6 @@
 -- The serials of the sources' writers, by position (docs/architecture.md, "How they stand for it"): as they were when each
 -- entry was renamed, so that a source's value is found without a search.
-use Rattle.std.specs.Prelude.{◌≡◌, ℕ, ◌+◌, ◌==◌, List, [], ◌∷◌, ◌++◌, length, map, take, drop, slice_get, Option, Some, None, if◌then◌else◌}
-use Rattle.std.specs.List.{AllZip}
+use Rattle.std.specs.Prelude.{◌≡◌, ℕ, ◌==◌, List, [], ◌∷◌, length, map, slice_get, Option, Some, None, if◌then◌else◌}
 use Rattle.std.specs.Option.{option_map}
 use Rattle.rv_types.specs.Regs.{two}
 use Rattle.window_model.specs.declared.Entry.{Entry}
@@ -13,7 +12,6 @@ use Rattle.rename_taint.specs.declared.Write.{Write}
 use Rattle.rename_taint.specs.Writes.{source_of}
 use Rattle.parts_stand.specs.Roots.{unretired}
 use Rattle.parts_stand.specs.Parts.{Parts, Stand, oldest_of}
-use Rattle.parts_stand.specs.Steps.{GoesOn}
 
 -- a source's writer, if there is one in flight
 abbrev pub writer_of : List Entry → Option ℕ → Option Entry

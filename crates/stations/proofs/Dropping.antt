@@ -1,13 +1,13 @@
 -- The entries from a serial on go, youngest first.
 use Rattle.std.proofs.Common.{◌≡◌, ℕ, suc, ◌+◌, ◌-◌, ◌<◌, ◌≤◌, Bool, true, false, cond, List, [], ◌∷◌, ◌++◌, length, get_or, take, refl, ap, sym, ◌∙◌, arith, ⊎_elim}
 use Rattle.std.specs.Prelude.{nat_le, nat_lt}
-use Rattle.std.specs.List.{filter, All, AllPairs, remove}
+use Rattle.std.specs.List.{filter, All, remove}
 use Rattle.std.proofs.lemmas.Bool.{cases_lt}
 use Rattle.std.proofs.lemmas.Bool.Decides.{nat_tests}
 use Rattle.std.proofs.lemmas.List.{append-nil, take_more, take_all, drop_all}
 use Rattle.std.proofs.lemmas.List.Elements.{All-head, All-tail, filter-append}
 use Rattle.std.proofs.lemmas.Option.{slice_get-get_or}
-use Rattle.stations.specs.Stations.{Station}
+use Rattle.stations.specs.Stations.{Rise, Station}
 use Rattle.stations.specs.Places.{passes, is_youngest}
 
 filter_all : (p : Station → Bool) (xs : List Station) → All (λ x. p x ≡ true) xs → filter p xs ≡ xs
@@ -18,7 +18,7 @@ filter_all p (x ∷ xs) a =
 youngest_is : (p : Station → Bool) (s : Station) (hs : List Station) → 0 < length hs → is_youngest p hs ≡ p (get_or hs (length hs - 1) s)
 youngest_is p s hs lt = ap (passes p) (slice_get-get_or hs (length hs - 1) s (omega arith))
 
-pub drop_end : (serial : ℕ) (hs : List Station) → AllPairs (λ a b. a.serial < b.serial) hs → is_youngest (λ s. nat_le serial s.serial) hs ≡ false → filter (λ s. nat_lt s.serial serial) hs ≡ hs
+pub drop_end : (serial : ℕ) (hs : List Station) → Rise hs → is_youngest (λ s. nat_le serial s.serial) hs ≡ false → filter (λ s. nat_lt s.serial serial) hs ≡ hs
 drop_end serial hs rise h = filter_all (λ s. nat_lt s.serial serial) hs older
   where
     older : All (λ s. nat_lt s.serial serial ≡ true) hs

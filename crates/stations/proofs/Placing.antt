@@ -9,12 +9,9 @@ use Rattle.std.proofs.lemmas.List.FromFn.{map-range_with_len_more}
 use Rattle.std.proofs.lemmas.List.Quantifiers.{all_pairs_push, all_pairs_remove}
 use Rattle.std.proofs.lemmas.List.Sorted.{IsPermutation-refl, IsPermutation-sym, IsPermutation-trans, IsPermutation-append_left, IsPermutation-pop_more, IsPermutation-remove, IsPermutation-to_front}
 use Rattle.stations.specs.declared.occupant.Occupant.{Occupant}
-use Rattle.stations.specs.Stations.{Station, struck}
+use Rattle.stations.specs.Stations.{Rise, Station, struck}
 use Rattle.stations.specs.Places.{station, station_in, nobody, held_of, woken, Placed}
 use Rattle.stations.proofs.Numbers.{below, apart}
-
-abbrev Rise : List Station → Type 0
-Rise held = AllPairs (λ a b. a.serial < b.serial) held
 
 abbrev Once : List Occupant → List ℕ → Type 0
 Once places numbers = IsPermutation (range_with_len 0 (length places)) numbers

@@ -1,8 +1,8 @@
 -- The entries that wait, the places that they have and the places that are free.
-use Rattle.std.specs.Prelude.{ℕ, ◌-◌, ◌<◌, Bool, false, List, [], ◌∷◌, ◌++◌, map, length, Option, Some, None, slice_get, slice_index_or, IsPermutation}
-use Rattle.std.specs.List.{AllPairs, range_with_len}
+use Rattle.std.specs.Prelude.{ℕ, ◌-◌, Bool, false, List, [], ◌∷◌, ◌++◌, map, length, Option, Some, None, slice_get, slice_index_or, IsPermutation}
+use Rattle.std.specs.List.{range_with_len}
 use Rattle.stations.specs.declared.occupant.Occupant.{Occupant}
-use Rattle.stations.specs.Stations.{Station, strike}
+use Rattle.stations.specs.Stations.{Rise, Station, strike}
 
 -- what an entry awaits
 abbrev pub awaited : Occupant → List (Option ℕ)
@@ -31,7 +31,7 @@ woken serial o = record o { first = strike serial o.first; second = strike seria
 -- each place is named once, as taken or as free, and no other is; serials rise with age
 pub record Placed (places : List Occupant) (ages free : List ℕ) : Type 0 where
   pub once : IsPermutation (range_with_len 0 (length places)) (ages ++ free)
-  pub rise : AllPairs (λ a b. a.serial < b.serial) (held_of places ages)
+  pub rise : Rise (held_of places ages)
 
 -- there is an entry, and it passes the test
 abbrev pub passes : (Station → Bool) → Option Station → Bool

@@ -1,6 +1,6 @@
 -- What is seen of the stations: the entries that wait, by age, and what each of them waits for.
-use Rattle.std.specs.Prelude.{ℕ, Bool, ◌==◌, List, map, Option, Some, None, is_none, if◌then◌else◌}
-use Rattle.std.specs.List.{list_all}
+use Rattle.std.specs.Prelude.{ℕ, ◌<◌, Bool, ◌==◌, List, map, Option, Some, None, is_none, if◌then◌else◌}
+use Rattle.std.specs.List.{AllPairs, list_all}
 
 -- an entry that waits: the serials that it awaits, at most two, and the place that it has
 pub record Station : Type 0 where
@@ -12,6 +12,10 @@ pub record Station : Type 0 where
 pub record Stations : Type 0 where
   pub held : List Station
   pub room : ℕ
+
+-- serials rise from the oldest entry on
+abbrev pub Rise : List Station → Type 0
+Rise held = AllPairs (λ a b. a.serial < b.serial) held
 
 -- what is awaited, but for this serial
 abbrev pub strike : ℕ → Option ℕ → Option ℕ

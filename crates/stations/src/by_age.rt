@@ -2,7 +2,7 @@
 ghost use Rattle.std.specs.Prelude.{◌≡◌, ◌≢◌, ◌-◌, ◌<◌, ◌≤◌, ℕ, [], ◌∷◌, ◌++◌, length, map, IfOk, Some, slice_get, nat_lt, nat_le};
 ghost use Rattle.std.specs.List.{filter, list_any, remove, All, AllPairs};
 ghost use Rattle.std.specs.Option.{option_map};
-ghost use Rattle.stations.specs.Stations.{Station, Stations, struck, awaits_none};
+ghost use Rattle.stations.specs.Stations.{Rise, Station, Stations, struck, awaits_none};
 ghost use Rattle.stations.specs.Places.{station, is_youngest};
 
 use crate::occupant::Occupant;
@@ -152,7 +152,7 @@ impl Stations {
     // Whether there is an entry and the youngest one's serial is this one or a later one.
     fn is_youngest_from(&self, serial: u64) -> bool
         ensures value { result ≡ is_youngest (λ s. nat_le serial s.serial) self.now.held }
-        ensures rise { AllPairs (λ a b. a.serial < b.serial) self.now.held }
+        ensures rise { Rise self.now.held }
     {
         match self.ages.len() as u32 {
             0 => false,
