@@ -1,13 +1,14 @@
 -- The search for the entry that is resolved, step by step.
-use Rattle.std.proofs.Common.{◌≡◌, ℕ, zero, suc, ◌+◌, ◌<◌, Bool, true, false, not, ◌&&◌, if◌then◌else◌, List, [], ◌∷◌, length, drop, take, Option, Some, refl, ap, ap₂, sym, ◌∙◌, arith, slice_get}
-use Rattle.std.specs.List.{All}
-use Rattle.std.proofs.lemmas.List.Elements.{All-head, All-tail}
+use Rattle.std.proofs.Common.{◌≡◌, ℕ, zero, suc, ◌+◌, ◌<◌, ◌≤◌, Bool, true, false, not, ◌&&◌, if◌then◌else◌, List, [], ◌∷◌, length, drop, Option, Some, None, refl, ap, ap₂, sym, ◌∙◌, arith, slice_get}
+use Rattle.std.specs.List.{list_any}
+use Rattle.std.specs.Slice.Scan.{HoldsNowhere, holds_at}
+use Rattle.std.proofs.lemmas.Option.{slice_get_within}
 use Rattle.window_model.specs.declared.Entry.{Entry}
 use Rattle.window_model.specs.Order.{is_control, is_done}
-use Rattle.window_model.proofs.Booleans.{both, not_true}
-use Rattle.visibility.specs.Point.{Point, Passed, passes}
-use Rattle.window_model.proofs.Passing.{unresolved_fails}
+use Rattle.visibility.specs.Point.{is_hidden}
 use Rattle.visibility.proofs.Walking.{drop_here}
+use Rattle.rob_ring.specs.Ring.{IsNext, is_open}
+use Rattle.rob_ring.proofs.Gaps.{to_end, to_next}
 use Rattle.branch_resolve.specs.Pick.{pick_from, can_resolve}
 
 -- ---- at a position
@@ -25,34 +26,43 @@ module _ (point i : ℕ) (es : List Entry) (roots : List (List (Option ℕ))) (e
   pub pick_on : b ≡ false → pick_from point (i + 1) (drop (i + 1) es) (drop (i + 1) roots) ≡ r
   pick_on f = let a = at_place in cc
 
--- ---- behind the point
+-- ---- between branches and JALRs that aren't resolved
 
--- an entry that passes can't be resolved: it is no branch or JALR, or it is resolved
-passed_stays : (p : Point) (e : Entry) (rs : List (Option ℕ)) → passes p.model e ≡ true → can_resolve p.serial e rs ≡ false
-passed_stays p e rs h = by_test (can_resolve p.serial e rs) refl
+-- no other entry can be
+closed_stays : (point : ℕ) (e : Entry) (rs : List (Option ℕ)) → is_open e ≡ false → can_resolve point e rs ≡ false
+closed_stays point e rs h = by_parts (is_control e.item.kind) (is_done e.state) (not e.resolved) (not (list_any (is_hidden point) rs)) h
   where
-    by_test : (b : Bool) → can_resolve p.serial e rs ≡ b → can_resolve p.serial e rs ≡ false
-    by_test false q = q
-    by_test true q =
-        let fresh = both (is_control e.item.kind && is_done e.state && not e.resolved) _ q in
-        let done = both (is_control e.item.kind && is_done e.state) _ fresh.0 in
-        let control = both (is_control e.item.kind) _ done.0 in
-        let f = unresolved_fails p.model e control.0 (not_true e.resolved done.1) in
-        absurd (cc)
+    by_parts : (a b c d : Bool) → (a && c) ≡ false → (a && b && c && d) ≡ false
+    by_parts false b c d h = refl
+    by_parts true false c d h = refl
+    by_parts true true false d h = refl
+    by_parts true true true d h = absurd (cc)
 
--- so nothing is found among entries below the point that all pass
-pick_past : (p : Point) (n i j : ℕ) (es : List Entry) (roots : List (List (Option ℕ))) → j ≡ i + n → length roots ≡ length es → Passed p es →
-    All (λ e. e.serial < p.serial) (take n es) → pick_from p.serial j (drop n es) (drop n roots) ≡ pick_from p.serial i es roots
-pick_past p zero i j es roots q l passed a = let here : j ≡ i = omega (arith, q) in ap (λ k. pick_from p.serial k es roots) here
-pick_past p (suc n) i j [] roots q l passed a = refl
-pick_past p (suc n) i j (e ∷ es) [] q l passed a = absurd (omega (arith, l))
-pick_past p (suc n) i j (e ∷ es) (rs ∷ roots) q l passed a =
-    let lt = All-head (λ e. e.serial < p.serial) e (take n es) a in
-    let no = passed_stays p e rs (All-head (λ e. e.serial < p.serial → passes p.model e ≡ true) e es passed lt) in
-    let more = pick_past p n (i + 1) j es roots (omega (arith, q)) (omega (arith, l)) (All-tail (λ e. e.serial < p.serial → passes p.model e ≡ true) e es passed) (All-tail (λ e. e.serial < p.serial) e (take n es) a) in
-    more ∙ sym (ap (λ b. if b then Some i else pick_from p.serial (i + 1) es roots) no)
+-- at each position of the window there are roots
+roots_there : (roots : List (List (Option ℕ))) (i : ℕ) → i < length roots → (rs : List (Option ℕ)) × (slice_get roots i ≡ Some rs)
+roots_there [] i lt = absurd (omega (arith, lt))
+roots_there (rs ∷ roots) zero lt = (rs, refl)
+roots_there (rs ∷ roots) (suc i) lt = roots_there roots i (omega (arith, lt))
 
--- and the search can begin behind them
-pub pick_start : (p : Point) (n : ℕ) (es : List Entry) (roots : List (List (Option ℕ))) → length roots ≡ length es → Passed p es →
-    All (λ e. e.serial < p.serial) (take n es) → pick_from p.serial n (drop n es) (drop n roots) ≡ pick_from p.serial 0 es roots
-pick_start p n es roots l passed a = pick_past p n 0 n es roots (omega arith) l passed a
+module _ (point : ℕ) (es : List Entry) (roots : List (List (Option ℕ))) (r : Option ℕ) (l : length roots ≡ length es) where
+  -- what the search comes to from a position on
+  abbrev pub Left : ℕ → Type 0
+  Left i = pick_from point i (drop i es) (drop i roots) ≡ r
+
+  past : (i : ℕ) (e : Entry) → slice_get es i ≡ Some e → is_open e ≡ false → Left i → Left (i + 1)
+  past i e at closed h =
+      let within = slice_get_within es i e at in
+      let rs = roots_there roots i (omega (arith, within, l)) in
+      pick_on point i es roots e rs.0 r false at rs.1 (sym (closed_stays point e rs.0 closed)) h refl
+
+  -- it can go on at the next one
+  pub pick_over : (i j : ℕ) → IsNext is_open es i j → Left i → Left j
+  pick_over i j next h = to_next is_open es Left past i j next h
+
+  nothing_left : (i : ℕ) (es : List Entry) (roots : List (List (Option ℕ))) → pick_from point i (drop (length es) es) roots ≡ None
+  nothing_left i [] roots = refl
+  nothing_left i (e ∷ es) roots = nothing_left i es roots
+
+  -- where there is none, nothing is found
+  pub pick_end : (i : ℕ) → i ≤ length es → HoldsNowhere (holds_at is_open es) i (length es) → Left i → None ≡ r
+  pick_end i le none h = sym (nothing_left (length es) es (drop (length es) roots)) ∙ to_end is_open es Left past i le none h

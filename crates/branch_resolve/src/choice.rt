@@ -1,35 +1,27 @@
 //! Which entry is resolved.
 ghost use Rattle.std.specs.Prelude.{◌≡◌, ◌<◌, length, slice_get, Some};
-ghost use Rattle.window_model.specs.Serials.{Rise};
-ghost use Rattle.visibility.specs.Point.{Passed};
+ghost use Rattle.rob_ring.specs.Beside.{each_roots};
 ghost use Rattle.branch_resolve.specs.Pick.{can_resolve, pick_from};
 
 use circular_buffer::HeapCircularBuffer;
-use rob_ring::pair_at;
+use rob_ring::{RobRing, Sources, sources_at};
 use visibility::VisPoint;
-use window_model::{Entry, Window};
+use window_model::Entry;
 
 /// The position of the oldest entry that may be resolved, counted from the oldest in the window. None exactly where there
-/// is no such entry. The youngest roots of each entry's first and second source stand at the entry's position.
+/// is no such entry. What is kept of each entry's sources stands at the entry's position.
 ///
-/// What is behind the point can't be resolved: each entry there is no branch or JALR, or is resolved. So it is looked for
-/// from the point on.
-pub fn pick<W: Window>(
-    window: &W,
-    point: &VisPoint,
-    roots: &HeapCircularBuffer<[Option<u64>; 2]>,
-) -> Option<u32>
-    requires rise { Rise (W.entries window.now) }
-    requires passed { Passed point.now (W.entries window.now) }
-    requires each_has_roots { length roots.now.items ≡ length (W.entries window.now) }
-    ensures { result ≡ pick_from point.now.serial 0 (W.entries window.now) roots.now.items }
+/// The reorder buffer knows its branches and JALRs that aren't resolved, so only those are looked at.
+pub fn pick(rob: &RobRing, point: &VisPoint, sources: &HeapCircularBuffer<Sources>) -> Option<u32>
+    requires each_has_sources { length sources.now.items ≡ length rob.now.entries }
+    ensures { result ≡ pick_from point.now.serial 0 rob.now.entries (each_roots sources.now.items) }
 {
-    let start = point.position(window);
-    for i in start..window.len() {
-        let entry = window.lend(i);
-        if may_resolve(entry, point, pair_at(roots, i)) {
+    let mut from = 0;
+    while let Some(i) = rob.next_open(from) {
+        if may_resolve(rob.lend(i), point, sources_at(sources, i).roots) {
             return Some(i);
         }
+        from = i + 1;
     }
     None
 }

@@ -1,41 +1,31 @@
-//! Branches and JALRs over a window of two, with serial 0 alone visible or with the point moved on; the expected values follow
-//! from `docs/machine.md`, "Resolve".
+//! Branches and JALRs over a reorder buffer of two entries, with serial 0 alone visible; the expected values follow from
+//! `docs/machine.md`, "Resolve".
 ghost use Rattle.std.specs.Prelude.{◌≡◌, length, IfOk};
 
 use crate::{Resolution, pick, resolve};
 use circular_buffer::HeapCircularBuffer;
 use machine_desc::{Desc, EXAMPLE, read_desc};
 use predictor::Predictor;
+use rob_ring::{RobRing, Sources};
 use rv_types::{Cause, Instr, Op, Reg, kind_of};
 use std::alloc::Global;
 use std::process::Abort;
 use std::test::Fail;
 use visibility::VisPoint;
-use window_model::{Entry, Event, Item, Outcome, Progress, Way, Window, empty_row};
+use window_model::{Entry, Event, Item, Outcome, Progress, Way, empty_row};
 
 fn desc(alloc: Global) -> Result<Desc, Fail> {
     Ok(read_desc(alloc, EXAMPLE.as_bytes())?)
 }
 
-// A window of two entries.
-#[derive(Drop)]
-struct Two {
-    older: Entry,
-    younger: Entry,
-}
-
-impl Window for Two {
-    ghost use Rattle.std.specs.Prelude.{[], ◌∷◌};
-
-    ghost entries = { λ w. w.older ∷ w.younger ∷ [] };
-
-    fn len(&self) -> u32 {
-        2
-    }
-
-    fn lend(&self, i: u32) -> &Entry {
-        if i == 0 { &self.older } else { &self.younger }
-    }
+// A reorder buffer with two entries.
+fn ring_of(alloc: Global, older: Entry, younger: Entry) -> Result<RobRing, Fail>
+    ensures { IfOk result (λ r. length r.entries ≡ 2) }
+{
+    let mut ring = RobRing::new(alloc, &desc(alloc)?)?;
+    ring.push(older);
+    ring.push(younger);
+    Ok(ring)
 }
 
 // One at 0x10004 that is Done, predicted to go on at 0x10008.
@@ -102,23 +92,31 @@ fn younger(instr: Instr, value: u32, next: u32) -> Entry
     }
 }
 
-// The youngest roots of an older and of a younger entry's sources, by position.
+// Sources with these youngest roots, written by what isn't visible.
+fn with_roots(roots: [Option<u64>; 2]) -> Sources {
+    Sources {
+        roots,
+        writers: [Some(9), Some(9)],
+    }
+}
+
+// The sources of an older and of a younger entry, with these roots, by position.
 fn by_position(
     rt: &impl Abort,
     alloc: Global,
     pairs: [[Option<u64>; 2]; 2],
-) -> Result<HeapCircularBuffer<[Option<u64>; 2]>, Fail>
+) -> Result<HeapCircularBuffer<Sources>, Fail>
     ensures { IfOk result (λ b. length b.items ≡ 2) }
 {
     let [older, younger] = pairs;
-    let mut roots = HeapCircularBuffer::with_capacity(alloc, 2)?;
-    if roots.try_push_back(older).is_err() {
+    let mut sources = HeapCircularBuffer::with_capacity(alloc, 2)?;
+    if sources.try_push_back(with_roots(older)).is_err() {
         panic!(rt; "no place");
     }
-    if roots.try_push_back(younger).is_err() {
+    if sources.try_push_back(with_roots(younger)).is_err() {
         panic!(rt; "no place");
     }
-    Ok(roots)
+    Ok(sources)
 }
 
 #[test]
@@ -126,10 +124,7 @@ fn the_oldest_without_a_tainted_operand_is_picked(rt: HostRuntime) -> Result<(),
     let alloc = rt.alloc();
     let point = VisPoint::new(&desc(alloc)?);
     let taken = done(branch(), 1, 0x10014, None);
-    let both = Two {
-        older: taken,
-        younger: younger(jump(), 0x10008, 0x20000),
-    };
+    let both = ring_of(alloc, taken, younger(jump(), 0x10008, 0x20000))?;
     // the youngest roots of the older one's second source and of the younger one's first
     let rows = [
         (Some(0), Some(0), Some(0)),
@@ -137,36 +132,31 @@ fn the_oldest_without_a_tainted_operand_is_picked(rt: HostRuntime) -> Result<(),
         (Some(7), Some(7), None),
     ];
     for (older, younger, want) in rows {
-        let roots = by_position(&rt, alloc, [[None, older], [younger, None]])?;
-        assert_eq!(rt; pick(&both, &point, &roots), want);
+        let sources = by_position(&rt, alloc, [[None, older], [younger, None]])?;
+        assert_eq!(rt; pick(&both, &point, &sources), want);
     }
-    let neither = Two {
-        older: done(sum(), 1, 0x10008, None),
-        younger: Entry {
-            resolved: true,
-            ..younger(branch(), 1, 0x10014)
-        },
+    let resolved = Entry {
+        resolved: true,
+        ..younger(branch(), 1, 0x10014)
     };
+    let neither = ring_of(alloc, done(sum(), 1, 0x10008, None), resolved)?;
     let clean = by_position(&rt, alloc, [[None, None], [None, None]])?;
     assert_eq!(rt; pick(&neither, &point, &clean), None);
     Ok(())
 }
 
 #[test]
-fn what_is_behind_the_point_is_passed_over(rt: HostRuntime) -> Result<(), Fail> {
+fn what_is_resolved_is_passed_over(rt: HostRuntime) -> Result<(), Fail> {
     let alloc = rt.alloc();
-    let mut point = VisPoint::new(&desc(alloc)?);
-    let window = Two {
-        older: Entry {
-            resolved: true,
-            ..done(branch(), 1, 0x10014, None)
-        },
-        younger: younger(jump(), 0x10008, 0x20000),
+    let point = VisPoint::new(&desc(alloc)?);
+    let resolved = Entry {
+        resolved: true,
+        ..done(branch(), 1, 0x10014, None)
     };
-    point.advance(&window);
-    for (root, want) in [(3, Some(1)), (6, None)] {
-        let roots = by_position(&rt, alloc, [[None, None], [Some(root), None]])?;
-        assert_eq!(rt; pick(&window, &point, &roots), want);
+    let ring = ring_of(alloc, resolved, younger(jump(), 0x10008, 0x20000))?;
+    for (root, want) in [(0, Some(1)), (6, None)] {
+        let sources = by_position(&rt, alloc, [[None, None], [Some(root), None]])?;
+        assert_eq!(rt; pick(&ring, &point, &sources), want);
     }
     Ok(())
 }

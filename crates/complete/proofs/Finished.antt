@@ -2,15 +2,15 @@
 use Rattle.std.proofs.Common.{◌≡◌, ℕ, ◌<◌, ◌≤◌, Bool, false, true, length, map, arith, Option, Some, None, refl, ap, sym, ◌∙◌, subst, slice_get}
 use Rattle.std.specs.Prelude.{slice_set}
 use Rattle.std.specs.Option.{option_map}
+use Rattle.std.specs.Slice.Scan.{HoldsNowhere, holds_at}
 use Rattle.std.proofs.lemmas.Option.{slice_get_within}
 use Rattle.window_model.specs.declared.Entry.{Entry}
 use Rattle.window_model.specs.Fill.{completes}
 use Rattle.window_model.specs.Order.{is_waiting}
-use Rattle.window_model.specs.Row.{Row}
 use Rattle.window_model.specs.Retire.{op_of, width_of}
 use Rattle.machine_facts.specs.Sized.{Sized}
 use Rattle.machine_facts.proofs.Parts.{IsEntry}
-use Rattle.rob_ring.specs.Ring.{Ring}
+use Rattle.rob_ring.specs.Ring.{IsNext, Ring, is_busy}
 use Rattle.stations.specs.Stations.{Stations, struck}
 use Rattle.lsq.specs.Queues.{Queues}
 use Rattle.core_parts.specs.Described.{Described}
@@ -19,7 +19,7 @@ use Rattle.core_parts.specs.Steps.{known_with}
 use Rattle.core_parts.proofs.Sizes.{sized_set}
 use Rattle.core_parts.proofs.Steps.{stands_done}
 use Rattle.complete.specs.Completed.{width_for}
-use Rattle.complete.proofs.Turns.{CompletesOn, as_many, done}
+use Rattle.complete.proofs.Turns.{done}
 use Rattle.complete.proofs.Width.{size_is}
 
 some_here : (o : Option Entry) → option_map (λ (e : Entry). is_waiting e.state) o ≡ Some false → (e : Entry) × (o ≡ Some e) × (is_waiting e.state ≡ false)
@@ -72,12 +72,12 @@ pub told_here : (h : Held) (v : Described) (i : ℕ) (b : Bool) → Whole h → 
     option_map (completes v.machine.cycle) (slice_get v.machine.window i) ≡ Some b
 told_here h v i b w s t = subst (λ (v : Described). option_map (completes v.machine.cycle) (slice_get v.machine.window i) ≡ Some b) s t
 
--- the buffer has as many entries as the window had
-pub still_inside : (h : Held) (v s : Described) (row : Row) (i : ℕ) (now : Row) → Whole h → described h ≡ v → CompletesOn s row i v now → i < length s.machine.window → i < length h.rob.entries
-still_inside h v s row i now w e c l =
-    let n = as_many s row i v now c (omega (arith, l)) in
-    let m = ap (λ (v : Described). length v.machine.window) e in
-    omega (arith, n, m, l)
+-- so is the next that executes
+pub next_here : (h : Held) (v : Described) (from i : ℕ) → Whole h → described h ≡ v → IsNext is_busy h.rob.entries from i → IsNext is_busy v.machine.window from i
+next_here h v from i w s t = subst (λ (v : Described). IsNext is_busy v.machine.window from i) s t
+
+pub none_here : (h : Held) (v : Described) (from : ℕ) → Whole h → described h ≡ v → HoldsNowhere (holds_at is_busy h.rob.entries) from (length h.rob.entries) → HoldsNowhere (holds_at is_busy v.machine.window) from (length v.machine.window)
+none_here h v from w s t = subst (λ (v : Described). HoldsNowhere (holds_at is_busy v.machine.window) from (length v.machine.window)) s t
 
 -- no more than 64
 pub few_entries : (h : Held) (v : Described) → Whole h → described h ≡ v → length v.machine.window ≤ 64
@@ -86,6 +86,3 @@ few_entries h v w e =
     let a = w.sized.entries in
     let b = h.desc.few_entries in
     omega (arith, m, a, b)
-
-pub as_counted : (h : Held) (v : Described) (n : ℕ) → Whole h → described h ≡ v → n ≡ length h.rob.entries → n ≡ length v.machine.window
-as_counted h v n w e l = l ∙ ap (λ (v : Described). length v.machine.window) e

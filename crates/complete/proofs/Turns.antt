@@ -3,6 +3,7 @@ use Rattle.std.proofs.Common.{◌≡◌, ℕ, zero, suc, ◌+◌, ◌<◌, ◌�
 use Rattle.std.specs.Prelude.{if◌then◌else◌, map, slice_set}
 use Rattle.std.specs.List.{filter, fold}
 use Rattle.std.specs.Option.{option_map}
+use Rattle.std.specs.Slice.Scan.{HoldsNowhere, holds_at}
 use Rattle.std.proofs.lemmas.List.{append-nil, append_assoc, drop_all, length-append, length-map, take_all}
 use Rattle.window_model.specs.declared.Entry.{Entry}
 use Rattle.window_model.specs.declared.Event.{Event}
@@ -12,6 +13,8 @@ use Rattle.window_model.specs.declared.Progress.TheVariants.{Waiting, Busy, Done
 use Rattle.window_model.specs.Fill.{complete, completes, completes_at, completed}
 use Rattle.window_model.specs.Order.{is_waiting}
 use Rattle.window_model.specs.Row.{Row}
+use Rattle.rob_ring.specs.Ring.{IsNext, in_execution, is_busy}
+use Rattle.rob_ring.proofs.Gaps.{to_end, to_next}
 use Rattle.parts_stand.proofs.Standing.{halves}
 use Rattle.core_parts.specs.Described.{Described}
 
@@ -94,6 +97,12 @@ entries_more cycle es now i e false n h c = n ∙ map_stays (completed cycle) es
 told_of : (p : Entry → Bool) (o : Option Entry) (e : Entry) (b : Bool) → option_map p o ≡ Some b → o ≡ Some e → b ≡ p e
 told_of p o e b h g = let k : Some b ≡ Some (p e) = sym h ∙ ap (option_map p) g in cc
 
+-- an entry that doesn't execute isn't due
+not_due : (cycle : ℕ) (s : Progress) → in_execution s ≡ false → completes_at cycle s ≡ false
+not_due cycle Waiting h = refl
+not_due cycle (Busy due) h = absurd (cc)
+not_due cycle Done h = refl
+
 module _ (s : Described) (row : Row) (i : ℕ) (now : Described) (row_now : Row) (c : CompletesOn s row i now row_now) where
   entries_are : now.machine.window ≡ through s.machine.cycle s.machine.window i
   entries_are = ap (λ (s : Described). s.machine.window) c.machine
@@ -144,15 +153,19 @@ module _ (s : Described) (row : Row) (i : ℕ) (now : Described) (row_now : Row)
   pub completes_past : option_map (completes now.machine.cycle) (slice_get now.machine.window i) ≡ Some false → CompletesOn s row (i + 1) now row_now
   completes_past due = past_by (slice_get now.machine.window i) refl due
 
+  -- so does all where an entry doesn't execute
+  past_idle : (e : Entry) → slice_get now.machine.window i ≡ Some e → is_busy e ≡ false → CompletesOn s row (i + 1) now row_now
+  past_idle e at idle = completes_past (ap (option_map (completes now.machine.cycle)) at ∙ ap Some (not_due now.machine.cycle e.state idle))
+
   -- there are as many entries as there were
-  pub as_many : i ≤ length s.machine.window → length now.machine.window ≡ length s.machine.window
-  as_many l =
+  pub as_many : length now.machine.window ≡ length s.machine.window
+  as_many =
       let a = ap length entries_are in
       let b = length-append (map (completed s.machine.cycle) (take i s.machine.window)) (drop i s.machine.window) in
-      let c2 = length-map (take i s.machine.window) (completed s.machine.cycle) in
+      let k = length-map (take i s.machine.window) (completed s.machine.cycle) in
       let d = length-append (take i s.machine.window) (drop i s.machine.window) in
       let f = ap length (halves i s.machine.window) in
-      omega (arith, a, b, c2, d, f)
+      omega (arith, a, b, k, d, f)
 
   -- ---- all entries
 
@@ -166,6 +179,16 @@ module _ (s : Described) (row : Row) (i : ℕ) (now : Described) (row_now : Row)
   row_over le =
       let none = ap (λ es. fold with_done row_now.events (finished s.machine.cycle es)) (sym (drop_all i s.machine.window le)) in
       ap₂ (λ n es. record { cycle = n; events = es }) c.same_cycle (none ∙ c.events ∙ events_all row.events (finished s.machine.cycle s.machine.window))
+
+-- ---- from one that executes to the next
+
+module _ (s : Described) (row : Row) (now : Described) (row_now : Row) where
+  pub completes_to : (i j : ℕ) → IsNext is_busy now.machine.window i j → CompletesOn s row i now row_now → CompletesOn s row j now row_now
+  completes_to i j next c = to_next is_busy now.machine.window (λ k. CompletesOn s row k now row_now) (λ k e at idle c. past_idle s row k now row_now c e at idle) i j next c
+
+  pub completes_end : (i : ℕ) → i ≤ length now.machine.window → HoldsNowhere (holds_at is_busy now.machine.window) i (length now.machine.window) → CompletesOn s row i now row_now →
+      CompletesOn s row (length now.machine.window) now row_now
+  completes_end i le none c = to_end is_busy now.machine.window (λ k. CompletesOn s row k now row_now) (λ k e at idle c. past_idle s row k now row_now c e at idle) i le none c
 
 -- ---- what is due doesn't wait
 

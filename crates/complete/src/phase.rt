@@ -1,7 +1,6 @@
 //! The phase: entry by entry, from the oldest on.
 ghost use Rattle.std.specs.Prelude.{◌≡◌, ◌<◌, false, length, Some, slice_get};
 ghost use Rattle.std.specs.Option.{option_map};
-ghost use Rattle.window_model.specs.declared.Progress.TheVariants.{Done};
 ghost use Rattle.window_model.specs.Fill.{complete, completes, completes_at};
 ghost use Rattle.window_model.specs.Order.{is_waiting};
 ghost use Rattle.window_model.specs.Retire.{width_of};
@@ -23,7 +22,9 @@ pub fn complete<R: RenameTaint>(parts: &mut Parts<R>, row: &mut Row)
     ensures row { row.new ≡ with_events row.old (complete parts.old.machine).events }
     ensures few { IsLonger most_done row.old row.new }
 {
-    for i in 0..parts.rob.len() {
+    let mut from = 0;
+    while let Some(i) = parts.rob.next_busy(from) {
+        from = i + 1;
         if !is_due_at(&parts.rob, i, parts.cycle as u64) {
             continue;
         }
@@ -37,7 +38,7 @@ fn is_due_at(rob: &RobRing, i: u32, cycle: u64) -> bool
     requires { i < length rob.now.entries }
     ensures { option_map (completes cycle) (slice_get rob.now.entries i) ≡ Some result }
 {
-    is_due(rob.at(i).state, cycle)
+    is_due(rob.lend(i).state, cycle)
 }
 
 // Whether an entry in this state is.
@@ -58,20 +59,10 @@ fn finish<R: RenameTaint>(i: u32, parts: &mut Parts<R>) -> Entry
     ensures machine { parts.new ≡ with_window (done_at i result parts.old.machine.window) parts.old }
 {
     let entry = parts.rob.at(i);
-    parts.rob.set(i, done(&entry));
+    parts.rob.finish(i);
     parts.stations.wake(entry.serial);
     note_store(&entry, &mut parts.lsq);
     entry
-}
-
-// The entry, once it is Done.
-fn done(entry: &Entry) -> Entry
-    ensures { result ≡ record entry.now { state = Done } }
-{
-    Entry {
-        state: Progress::Done,
-        ..*entry
-    }
 }
 
 // What an entry writes that is Done is known to the queue of stores, if it is a store.

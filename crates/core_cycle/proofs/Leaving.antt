@@ -1,10 +1,11 @@
 -- As the oldest entries retire, what stands beside the window goes on to stand for it.
-use Rattle.std.proofs.Common.{◌≡◌, ℕ, suc, zero, Bool, true, false, List, [], ◌∷◌, ◌++◌, length, drop, Option, refl, subst}
+use Rattle.std.proofs.Common.{◌≡◌, ℕ, suc, zero, Bool, true, false, List, [], ◌∷◌, ◌++◌, length, drop, refl, subst}
 use Rattle.std.specs.Prelude.{◌&&◌, ◌||◌, not}
 use Rattle.std.specs.List.{AllByRecursion as Each}
 use Rattle.window_model.specs.declared.Entry.{Entry}
 use Rattle.window_model.specs.Order.{is_done, is_control}
 use Rattle.window_model.specs.Retire.{may_leave}
+use Rattle.rob_ring.specs.declared.beside.Sources.{Sources}
 use Rattle.rename_taint.specs.declared.Write.{Write}
 use Rattle.rename_taint.specs.Writes.{without_retired}
 use Rattle.stations.specs.Stations.{Station}
@@ -23,32 +24,27 @@ leaves_done : (e : Entry) → may_leave e ≡ true → is_done e.state ≡ true
 leaves_done e m = by_parts (is_done e.state) (not (is_control e.item.kind) || e.resolved) m
 
 -- the oldest entry goes
-one_gone : (next : ℕ) (e : Entry) (es : List Entry) (roots writers : List (List (Option ℕ))) (writes : List Write) (held : List Station) (q : Queues) (point : Point) →
-    is_done e.state ≡ true → Tied next (e ∷ es) roots writers writes held q point →
-    Tied next es (drop 1 roots) (drop 1 writers) (without_retired e.serial writes) held (without e.serial q) point
-one_gone next e es roots writers writes held q point d t =
-    stands_retired (record { next = next; window = e ∷ es; roots = roots; writers = writers; writes = writes; held = held; queues = q; point = point }) e t refl d
+one_gone : (next : ℕ) (e : Entry) (es : List Entry) (sources : List Sources) (writes : List Write) (held : List Station) (q : Queues) (point : Point) →
+    is_done e.state ≡ true → Tied next (e ∷ es) sources writes held q point →
+    Tied next es (drop 1 sources) (without_retired e.serial writes) held (without e.serial q) point
+one_gone next e es sources writes held q point d t =
+    stands_retired (record { next = next; window = e ∷ es; sources = sources; writes = writes; held = held; queues = q; point = point }) e t refl d
 
--- pairs by position
-abbrev pub Pairs : Type 0
-Pairs = List (List (Option ℕ))
-
-drop_none : (n : ℕ) (xs : Pairs) → xs ≡ [] → drop n xs ≡ xs
+drop_none : (n : ℕ) (xs : List Sources) → xs ≡ [] → drop n xs ≡ xs
 drop_none zero xs e = refl
 drop_none (suc n) [] e = refl
 drop_none (suc n) (x ∷ xs) e = absurd (cc)
 
-drop_more : (n : ℕ) (xs : Pairs) → drop n (drop 1 xs) ≡ drop (suc n) xs
+drop_more : (n : ℕ) (xs : List Sources) → drop n (drop 1 xs) ≡ drop (suc n) xs
 drop_more n [] = drop_none n [] refl
 drop_more n (x ∷ xs) = refl
 
 -- the oldest entries go, one after the other
-pub all_gone : (next : ℕ) (gone rest : List Entry) (roots writers : List (List (Option ℕ))) (writes : List Write) (held : List Station) (q : Queues) (point : Point) →
-    Each MayRetire gone → Tied next (gone ++ rest) roots writers writes held q point →
-    Tied next rest (drop (length gone) roots) (drop (length gone) writers) (without_each gone writes) held (popped gone q) point
-all_gone next [] rest roots writers writes held q point m t = t
-all_gone next (e ∷ gone) rest roots writers writes held q point m t =
-    let one = one_gone next e (gone ++ rest) roots writers writes held q point (leaves_done e m.0.0) t in
-    let all = all_gone next gone rest (drop 1 roots) (drop 1 writers) (without_retired e.serial writes) held (without e.serial q) point m.1 one in
-    subst (λ roots. Tied next rest roots (drop (length (e ∷ gone)) writers) (without_each (e ∷ gone) writes) held (popped (e ∷ gone) q) point) (drop_more (length gone) roots)
-    (subst (λ writers. Tied next rest (drop (length gone) (drop 1 roots)) writers (without_each (e ∷ gone) writes) held (popped (e ∷ gone) q) point) (drop_more (length gone) writers) all)
+pub all_gone : (next : ℕ) (gone rest : List Entry) (sources : List Sources) (writes : List Write) (held : List Station) (q : Queues) (point : Point) →
+    Each MayRetire gone → Tied next (gone ++ rest) sources writes held q point →
+    Tied next rest (drop (length gone) sources) (without_each gone writes) held (popped gone q) point
+all_gone next [] rest sources writes held q point m t = t
+all_gone next (e ∷ gone) rest sources writes held q point m t =
+    let one = one_gone next e (gone ++ rest) sources writes held q point (leaves_done e m.0.0) t in
+    let all = all_gone next gone rest (drop 1 sources) (without_retired e.serial writes) held (without e.serial q) point m.1 one in
+    subst (λ sources. Tied next rest sources (without_each (e ∷ gone) writes) held (popped (e ∷ gone) q) point) (drop_more (length gone) sources) all

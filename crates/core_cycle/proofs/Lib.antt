@@ -1,3 +1,4 @@
+pub mod Idle
 pub mod Tied
 pub mod Leaving
 pub mod Retiring

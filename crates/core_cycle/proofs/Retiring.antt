@@ -17,19 +17,19 @@ use Rattle.window_model.specs.State.{Machine}
 use Rattle.machine_facts.specs.Sized.{Sized, FaultIs, FitsMemory, HasOutcome}
 use Rattle.machine_facts.proofs.SizedRetire.{sized_retire}
 use Rattle.rob_ring.specs.Ring.{Ring}
+use Rattle.rob_ring.specs.declared.beside.Sources.{Sources}
 use Rattle.rename_taint.specs.declared.Write.{Write}
 use Rattle.lsq.specs.Queues.{Queues}
 use Rattle.cache_tags.specs.Sets.{Cache}
-use Rattle.parts_stand.proofs.Answering.{counts_room}
 use Rattle.parts_stand.proofs.Standing.{take_length}
-use Rattle.parts_stand.proofs.Writing.{counts_writers}
 use Rattle.retire.specs.Parts as retiring
 use Rattle.retire.specs.Parts.{TakesStore}
 use Rattle.retire.specs.Gone.{gone, MayRetire, without_each, without, popped}
 use Rattle.core_parts.specs.Described.{Described}
 use Rattle.core_parts.specs.Held.{Held, Whole, described, machine_of, sizes}
 use Rattle.core_cycle.proofs.Tied.{Tied}
-use Rattle.core_cycle.proofs.Leaving.{Pairs, all_gone}
+use Rattle.core_cycle.proofs.Leaving.{all_gone}
+use Rattle.core_parts.proofs.Lending.{each_has_sources}
 use Rattle.core_parts.proofs.Whole.{shown_by}
 
 -- ---- memory takes what a Done store writes
@@ -58,20 +58,19 @@ popped_stores : (es : List Entry) (q : Queues) → (popped es q).max_stores ≡ 
 popped_stores [] q = refl
 popped_stores (e ∷ es) q = popped_stores es (without e.serial q)
 
--- ---- the pairs of those that stay
+-- ---- the sources of those that stay
 
-stays : (old new : List Entry) (pairs : Pairs) → length pairs ≡ length old → drop (length (take (length old - length new) old)) pairs ≡ keep_last (length new) pairs
-stays old new pairs e =
+stays : (old new : List Entry) (sources : List Sources) → length sources ≡ length old → drop (length (take (length old - length new) old)) sources ≡ keep_last (length new) sources
+stays old new sources e =
     let less : length old - length new ≤ length old = omega arith in
-    ap (λ n. drop n pairs) (take_length (length old - length new) old less ∙ ap (λ n. n - length new) (sym e))
+    ap (λ n. drop n sources) (take_length (length old - length new) old less ∙ ap (λ n. n - length new) (sym e))
 
 -- what Retire left of the parts
-pub record Left (h : Held) (rob : Ring) (roots writers : Buffer (List (Option ℕ))) (writes : List Write) (table_room : ℕ) (queues : Queues) (tags : Cache) (retired : ℕ) : Type 0 where
+pub record Left (h : Held) (rob : Ring) (sources : Buffer Sources) (writes : List Write) (table_room : ℕ) (queues : Queues) (tags : Cache) (retired : ℕ) : Type 0 where
   pub entries : h.rob.entries ≡ gone h.rob rob ++ rob.entries
   pub may_retire : Each MayRetire (gone h.rob rob)
   pub same_room : rob.room ≡ h.rob.room
-  pub pairs : roots ≡ buffer (keep_last (length rob.entries) h.roots.items) h.roots.capacity
-  pub sources : writers ≡ buffer (keep_last (length rob.entries) h.writers.items) h.writers.capacity
+  pub beside : sources ≡ buffer (keep_last (length rob.entries) h.sources.items) h.sources.capacity
   pub table : writes ≡ without_each (gone h.rob rob) h.writes
   pub same_table_room : table_room ≡ h.table_room
   pub lsq : queues ≡ popped (gone h.rob rob) h.queues
@@ -79,18 +78,16 @@ pub record Left (h : Held) (rob : Ring) (roots writers : Buffer (List (Option �
   pub count : retired ≡ h.retired + (length h.rob.entries - length rob.entries)
 
 -- what stands beside the window stands for what is left of it
-left_tied : (h : Held) (rob : Ring) (roots writers : Buffer (List (Option ℕ))) (writes : List Write) (room : ℕ) (queues : Queues) (tags : Cache) (retired : ℕ) → Whole h →
-    Left h rob roots writers writes room queues tags retired → Tied h.next_serial rob.entries roots.items writers.items writes h.stations.held queues h.point
-left_tied h rob roots writers writes room queues tags retired w l =
-    let here : Tied h.next_serial (gone h.rob rob ++ rob.entries) h.roots.items h.writers.items h.writes h.stations.held h.queues h.point =
-    subst (λ es. Tied h.next_serial es h.roots.items h.writers.items h.writes h.stations.held h.queues h.point) l.entries w.stands in
-    let all = all_gone h.next_serial (gone h.rob rob) rob.entries h.roots.items h.writers.items h.writes h.stations.held h.queues h.point l.may_retire here in
-    let roots_are = stays h.rob.entries rob.entries h.roots.items (counts_room _ w.stands.stand).roots ∙ sym (ap (λ (b : Buffer (List (Option ℕ))). b.items) l.pairs) in
-    let writers_are = stays h.rob.entries rob.entries h.writers.items (counts_writers h.next_serial h.rob.entries h.writers.items w.stands.writers) ∙ sym (ap (λ (b : Buffer (List (Option ℕ))). b.items) l.sources) in
-    subst (λ rs. Tied h.next_serial rob.entries rs writers.items writes h.stations.held queues h.point) roots_are
-    (subst (λ ws. Tied h.next_serial rob.entries (drop (length (gone h.rob rob)) h.roots.items) ws writes h.stations.held queues h.point) writers_are
-    (subst (λ ns. Tied h.next_serial rob.entries (drop (length (gone h.rob rob)) h.roots.items) (drop (length (gone h.rob rob)) h.writers.items) ns h.stations.held queues h.point) (sym l.table)
-    (subst (λ q. Tied h.next_serial rob.entries (drop (length (gone h.rob rob)) h.roots.items) (drop (length (gone h.rob rob)) h.writers.items) (without_each (gone h.rob rob) h.writes) h.stations.held q h.point) (sym l.lsq) all)))
+left_tied : (h : Held) (rob : Ring) (sources : Buffer Sources) (writes : List Write) (room : ℕ) (queues : Queues) (tags : Cache) (retired : ℕ) → Whole h →
+    Left h rob sources writes room queues tags retired → Tied h.next_serial rob.entries sources.items writes h.stations.held queues h.point
+left_tied h rob sources writes room queues tags retired w l =
+    let here : Tied h.next_serial (gone h.rob rob ++ rob.entries) h.sources.items h.writes h.stations.held h.queues h.point =
+    subst (λ es. Tied h.next_serial es h.sources.items h.writes h.stations.held h.queues h.point) l.entries w.stands in
+    let all = all_gone h.next_serial (gone h.rob rob) rob.entries h.sources.items h.writes h.stations.held h.queues h.point l.may_retire here in
+    let sources_are = stays h.rob.entries rob.entries h.sources.items (each_has_sources h w) ∙ sym (ap (λ (b : Buffer Sources). b.items) l.beside) in
+    subst (λ ss. Tied h.next_serial rob.entries ss writes h.stations.held queues h.point) sources_are
+    (subst (λ ns. Tied h.next_serial rob.entries (drop (length (gone h.rob rob)) h.sources.items) ns h.stations.held queues h.point) (sym l.table)
+    (subst (λ q. Tied h.next_serial rob.entries (drop (length (gone h.rob rob)) h.sources.items) (without_each (gone h.rob rob) h.writes) h.stations.held q h.point) (sym l.lsq) all))
 
 -- the machine that they then hold
 left_machine : (h : Held) (rob : Ring) (tags : Cache) (ram : Ram) (regs : List ℕ) (pc : ℕ) (end : Option End) (retired : ℕ) → h.end ≡ None →
@@ -102,27 +99,26 @@ left_machine h rob tags ram regs pc end retired n f e =
     ∙ f (machine_of h)
     ∙ ap (λ e. (retire h.desc (record (machine_of h) { end = e })).machine) (sym n)
 
-left_sizes : (h : Held) (rob : Ring) (roots writers : Buffer (List (Option ℕ))) (writes : List Write) (room : ℕ) (queues : Queues) (tags : Cache) (retired : ℕ) → Left h rob roots writers writes room queues tags retired →
-    sizes (record h { rob = rob; roots = roots; writers = writers; writes = writes; table_room = room; queues = queues; tags = tags }) ≡ sizes h
-left_sizes h rob roots writers writes room queues tags retired l =
+left_sizes : (h : Held) (rob : Ring) (sources : Buffer Sources) (writes : List Write) (room : ℕ) (queues : Queues) (tags : Cache) (retired : ℕ) → Left h rob sources writes room queues tags retired →
+    sizes (record h { rob = rob; sources = sources; writes = writes; table_room = room; queues = queues; tags = tags }) ≡ sizes h
+left_sizes h rob sources writes room queues tags retired l =
     let e1 = l.same_room in
-    let e2 = l.pairs in
-    let e3 = l.sources in
+    let e2 = l.beside in
     let e4 = l.same_table_room in
     let e5 = ap (λ (q : Queues). q.max_loads) l.lsq ∙ popped_loads (gone h.rob rob) h.queues in
     let e6 = ap (λ (q : Queues). q.max_stores) l.lsq ∙ popped_stores (gone h.rob rob) h.queues in
     let e7 = l.cache in
     cc
 
-pub retire_whole : (h : Held) (rob : Ring) (roots writers : Buffer (List (Option ℕ))) (writes : List Write) (room : ℕ) (queues : Queues) (tags : Cache) (ram : Ram) (regs : List ℕ) (pc : ℕ) (end : Option End) (retired : ℕ) →
+pub retire_whole : (h : Held) (rob : Ring) (sources : Buffer Sources) (writes : List Write) (room : ℕ) (queues : Queues) (tags : Cache) (ram : Ram) (regs : List ℕ) (pc : ℕ) (end : Option End) (retired : ℕ) →
     Whole h → h.end ≡ None →
     ((x : Machine) → retiring.counted (length h.rob.entries - length rob.entries) (retiring.with_parts rob tags ram regs pc end x) ≡ (retiring.retires h.desc h.rob h.tags h.ram h.regs h.pc x).machine) →
-    Left h rob roots writers writes room queues tags retired →
-    Whole (record h { rob = rob; roots = roots; writers = writers; writes = writes; table_room = room; queues = queues; tags = tags; ram = ram; regs = regs; pc = pc; end = end; retired = retired })
-retire_whole h rob roots writers writes room queues tags ram regs pc end retired w n f l = record {
+    Left h rob sources writes room queues tags retired →
+    Whole (record h { rob = rob; sources = sources; writes = writes; table_room = room; queues = queues; tags = tags; ram = ram; regs = regs; pc = pc; end = end; retired = retired })
+retire_whole h rob sources writes room queues tags ram regs pc end retired w n f l = record {
   sized = subst (Sized h.desc) (sym (left_machine h rob tags ram regs pc end retired n f l.count)) (sized_retire h.desc (machine_of h) (every_desc h.desc) w.sized);
-  stands = left_tied h rob roots writers writes room queues tags retired w l;
-  made = left_sizes h rob roots writers writes room queues tags retired l ∙ w.made;
+  stands = left_tied h rob sources writes room queues tags retired w l;
+  made = left_sizes h rob sources writes room queues tags retired l ∙ w.made;
 }
 
 pub retire_shown : (h : Held) (rob : Ring) (tags : Cache) (ram : Ram) (regs : List ℕ) (pc : ℕ) (end : Option End) (retired : ℕ) (v : Described) → Whole h → h.end ≡ None →

@@ -72,8 +72,10 @@ fn entries_due(rob: &RobRing, cycle: u64, most: u64) -> u64
     ensures sooner { result ≤ most }
 {
     let mut least = most;
-    for i in 0..rob.len() {
-        least = done_sooner(rob.at(i).state, cycle, least);
+    let mut from = 0;
+    while let Some(i) = rob.next_busy(from) {
+        least = done_sooner(rob.lend(i).state, cycle, least);
+        from = i + 1;
     }
     least
 }

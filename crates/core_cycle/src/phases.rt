@@ -9,7 +9,7 @@ use rename_taint::RenameTaint;
 use rv_types::Piece;
 use window_model::Row;
 
-/// Phase Retire. The pairs by position go with the entries that retire. A visibility point that has moved over the window
+/// Phase Retire. What is kept of sources by position goes with the entries that retire. A visibility point that has moved over the window
 /// says the same of those that stay.
 pub(crate) fn retire<R: RenameTaint>(parts: &mut Parts<R>, row: &mut Row, piece: &mut Piece)
     requires room { HasRoom most_retired row.old }
@@ -38,6 +38,5 @@ pub(crate) fn retire<R: RenameTaint>(parts: &mut Parts<R>, row: &mut Row, piece:
     );
     let left = parts.rob.len();
     parts.retired += before.saturating_sub(left) as u64;
-    parts.roots.truncate_front(left as usize);
-    parts.writers.truncate_front(left as usize);
+    parts.sources.truncate_front(left as usize);
 }

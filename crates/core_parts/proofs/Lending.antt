@@ -8,7 +8,9 @@ use Rattle.queue_laws.specs.Window.{StandFor}
 use Rattle.window_model.specs.Order.{is_store}
 use Rattle.visibility.specs.Point.{Point, HasAdvanced}
 use Rattle.parts_stand.proofs.Answering.{counts_room, names_root, names_writer, tells_ready, tells_visible}
-use Rattle.parts_stand.proofs.Writing.{counts_writers}
+use Rattle.rob_ring.specs.Beside.{each_roots}
+use Rattle.rob_ring.specs.declared.beside.Sources.{Sources}
+use Rattle.rob_ring.proofs.AtPositions.{as_many_roots, roots_here}
 use Rattle.parts_stand.specs.Addresses.{Addressed, address_in, addresses_of, base_root}
 use Rattle.parts_stand.specs.Parts.{RootsStand, oldest_of}
 use Rattle.parts_stand.specs.Roots.{source_roots, unretired}
@@ -61,7 +63,7 @@ lent_addresses h v w s =
     subst (λ (v : Described). HasAddressRoots v.machine.next_serial h.queues.stores v.machine.window) s
     (roots_in f h.queues.stores
     ∙ ap (map (λ (a : Addressed). unretired f a.root)) w.stands.addresses
-    ∙ shown_roots f [] h.rob.entries h.roots.items w.stands.stand.roots)
+    ∙ shown_roots f [] h.rob.entries (each_roots h.sources.items) w.stands.stand.roots)
 
 -- ---- the point, once it has advanced
 
@@ -78,18 +80,20 @@ point_visible model q p window e m a = visible_by model q window m (subst (λ p.
 pub point_older : (q p : Point) (window : List Entry) → q ≡ p → HasAdvanced p window → ShowsOlder q window
 point_older q p window e a = older_by q window (subst (λ p. HasAdvanced p window) (sym e) a)
 
--- ---- the pair at a position
+-- ---- the sources at a position
 
--- there is one of roots and one of writers
-pub lent_counts : (h : Held) (v : Described) (i : ℕ) → Whole h → described h ≡ v → i < length v.machine.window → (i < length h.roots.items) × (i < length h.writers.items)
+-- there is one for each entry
+pub each_has_sources : (h : Held) → Whole h → length h.sources.items ≡ length h.rob.entries
+each_has_sources h w = sym (as_many_roots h.sources.items) ∙ (counts_room _ w.stands.stand).roots
+
+pub lent_counts : (h : Held) (v : Described) (i : ℕ) → Whole h → described h ≡ v → i < length v.machine.window → i < length h.sources.items
 lent_counts h v i w s l =
-    let n = (counts_room _ w.stands.stand).roots in
-    let k = counts_writers h.next_serial h.rob.entries h.writers.items w.stands.writers in
+    let n = each_has_sources h w in
     let m = ap (λ (v : Described). length v.machine.window) s in
-    (omega (arith, n, m, l), omega (arith, k, m, l))
+    omega (arith, n, m, l)
 
-pub lent_roots : (h : Held) (v : Described) (i : ℕ) (pair : List (Option ℕ)) → Whole h → described h ≡ v → slice_get h.roots.items i ≡ Some pair →
-    HasRoots v.machine.next_serial v.machine.window i pair
-lent_roots h v i pair w s g =
-    subst (λ (v : Described). HasRoots v.machine.next_serial v.machine.window i pair) s
-    (λ e a. roots_at (oldest_of h.next_serial h.rob.entries) [] h.rob.entries h.roots.items i e pair w.stands.stand.roots a g)
+pub lent_roots : (h : Held) (v : Described) (i : ℕ) (k : Sources) → Whole h → described h ≡ v → slice_get h.sources.items i ≡ Some k →
+    HasRoots v.machine.next_serial v.machine.window i k.roots
+lent_roots h v i k w s g =
+    subst (λ (v : Described). HasRoots v.machine.next_serial v.machine.window i k.roots) s
+    (λ e a. roots_at (oldest_of h.next_serial h.rob.entries) [] h.rob.entries (each_roots h.sources.items) i e k.roots w.stands.stand.roots a (roots_here h.sources.items i k g))

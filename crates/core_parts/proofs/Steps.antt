@@ -1,8 +1,8 @@
 -- Each step keeps the parts standing for the window.
-use Rattle.std.proofs.Common.{◌≡◌, ◌≢◌, ℕ, zero, suc, ◌+◌, ◌<◌, Bool, true, false, List, [], ◌∷◌, ◌++◌, map, Option, Some, None, refl, ap, ap₂, sym, ◌∙◌, subst, arith, slice_get}
+use Rattle.std.proofs.Common.{◌≡◌, ◌≢◌, ℕ, zero, suc, ◌+◌, ◌<◌, Bool, true, false, List, [], ◌∷◌, ◌++◌, length, map, Option, Some, None, refl, ap, ap₂, sym, ◌∙◌, subst, arith, slice_get}
 use Rattle.std.specs.Prelude.{if◌then◌else◌, is_some, slice_set, nat_lt, not, ◌==◌, ◌||◌, drop, take}
 use Rattle.std.specs.List.{All, AllZip, filter}
-use Rattle.std.proofs.lemmas.List.{set_split}
+use Rattle.std.proofs.lemmas.List.{drop-map, map-append, set_split, take-map}
 use Rattle.std.proofs.lemmas.List.Elements.{All-cons, All-head, All-nil, All-weaker}
 use Rattle.std.proofs.lemmas.Option.{slice_get_within}
 use Rattle.rv_types.specs.Value.{bytes_in}
@@ -16,7 +16,9 @@ use Rattle.window_model.specs.declared.Progress.{Progress}
 use Rattle.window_model.specs.declared.Progress.TheVariants.{Waiting, Busy, Done}
 use Rattle.window_model.specs.Issue.{begun}
 use Rattle.window_model.specs.Order.{is_done, is_load, is_store, is_waiting}
+use Rattle.rob_ring.specs.Beside.{each_roots, each_writers}
 use Rattle.rob_ring.specs.Ring.{below}
+use Rattle.rob_ring.specs.declared.beside.Sources.{Sources}
 use Rattle.lsq.specs.Queues.{Queues, known_at}
 use Rattle.lsq.specs.declared.store.Store.{Store as Queued}
 use Rattle.queue_laws.proofs.Completing.{other_completes, store_completes}
@@ -25,6 +27,8 @@ use Rattle.queue_laws.proofs.Keeping.{cut_stands, pop_stands}
 use Rattle.queue_laws.proofs.Renaming.{adds_load, adds_other, adds_store, opens, unseen_stands}
 use Rattle.parts_stand.specs.Addresses.{AddressesStand, base_root}
 use Rattle.parts_stand.specs.Parts.{Parts, Stand}
+use Rattle.parts_stand.specs.Points.{PointStands}
+use Rattle.parts_stand.specs.Writers.{WritersOf}
 use Rattle.parts_stand.specs.Steps.{GoesOn}
 use Rattle.parts_stand.proofs.Addressing.{addresses_add, addresses_add_other, addresses_go_on, addresses_know, addresses_open, addresses_retire, addresses_squash}
 use Rattle.parts_stand.proofs.Keeping.{goes_same, zip_set}
@@ -33,8 +37,20 @@ use Rattle.window_model.specs.Serials.{Rise}
 use Rattle.window_model.proofs.Serials.{all_right, rise_head, rise_tail, splits}
 use Rattle.parts_stand.proofs.Standing.{changes_unseen, completes_at, issues_at, opens_empty, renames_in, retires_head, squashes_from}
 use Rattle.parts_stand.proofs.Writing.{writers_go_on, writers_open, writers_rename, writers_retire, writers_squash}
-use Rattle.core_parts.specs.Stands.{table_and_stations}
-use Rattle.core_parts.specs.Steps.{BeginsAt, CompletesAt, DropsYounger, OpensEmpty, PointMoves, PointStops, RenamesIn, ResolvesAt, RetiresHead, known_with, queued}
+use Rattle.core_parts.specs.Stands.{InFlight, Stands, table_and_stations}
+use Rattle.core_parts.specs.Steps.{BeginsAt, CompletesAt, DropsYounger, OpensEmpty, PointMoves, PointStops, RenamesIn, ResolvesAt, RetiresHead, below_serial, known_with, queued, with_entry, without_head}
+
+-- by the roots and the writers as lists of their own
+stands_by : (p : InFlight) (roots writers : List (List (Option ℕ))) → roots ≡ each_roots p.sources → writers ≡ each_writers p.sources →
+    Stand (record { next = p.next; window = p.window; roots = roots; writes = p.writes; held = p.held }) → WritersOf p.next p.window writers → StandFor p.queues p.window →
+    AddressesStand p.window roots p.queues.stores → PointStands p.point p.next p.window → Stands p
+stands_by p roots writers r w s ws q a at = record {
+  stand = subst (λ r. Stand (record { next = p.next; window = p.window; roots = r; writes = p.writes; held = p.held })) r s;
+  writers = subst (WritersOf p.next p.window) w ws;
+  queues = q;
+  addresses = subst (λ r. AddressesStand p.window r p.queues.stores) r a;
+  point = at;
+}
 
 pub stands_empty : OpensEmpty
 stands_empty d = record { stand = opens_empty 0; writers = writers_open 0; queues = opens d; addresses = addresses_open; point = point_opens d.stt_model 0 }
@@ -52,15 +68,15 @@ addresses_by Store p q e roots h s a = addresses_add p q.stores e roots s a (ap 
 addresses_by _ p q e roots h s a = addresses_add_other p q.stores e roots s a (ap is_store h)
 
 pub stands_renamed : RenamesIn
-stands_renamed p e roots writers awaits place s f rs ws aw =
+stands_renamed p e k awaits place s f rs ws aw =
     let parts = table_and_stations p in
-    record {
-      stand = renames_in parts e roots awaits place s.stand f.serial rs aw;
-      writers = writers_rename parts p.writers e writers s.stand s.writers f.serial ws;
-      queues = queues_by e.item.kind p.queues p.window e (base_root roots) refl f.waits s.queues;
-      addresses = addresses_by e.item.kind parts p.queues e roots refl s.stand s.addresses;
-      point = point_renames p.point p.next p.window e s.point f.serial f.unresolved;
-    }
+    stands_by (with_entry place k awaits e p) (each_roots p.sources ++ k.roots ∷ []) (each_writers p.sources ++ k.writers ∷ [])
+    (sym (map-append (λ (k : Sources). k.roots) p.sources (k ∷ []))) (sym (map-append (λ (k : Sources). k.writers) p.sources (k ∷ [])))
+    (renames_in parts e k.roots awaits place s.stand f.serial rs aw)
+    (writers_rename parts (each_writers p.sources) e k.writers s.stand s.writers f.serial ws)
+    (queues_by e.item.kind p.queues p.window e (base_root k.roots) refl f.waits s.queues)
+    (addresses_by e.item.kind parts p.queues e k.roots refl s.stand s.addresses)
+    (point_renames p.point p.next p.window e s.point f.serial f.unresolved)
 
 -- ---- the entry at a position goes on
 
@@ -92,7 +108,7 @@ stands_begun p i due e o s h w =
     let on = goes_at p.window i e (begun e due o) h (record { serial = refl; item = refl }) in
     record {
       stand = issues_at parts i due e o s.stand h w;
-      writers = writers_go_on parts p.writers new s.writers on;
+      writers = writers_go_on parts (each_writers p.sources) new s.writers on;
       queues = unseen_stands p.queues p.window new s.queues (map_set p.window i e (begun e due o) h (begun_seen e due o w));
       addresses = addresses_go_on parts p.queues.stores new s.addresses on;
       point = point_issues p.point p.next p.window i due e o s.point h w;
@@ -138,7 +154,7 @@ stands_done p i e w s h n b =
     let on = goes_at p.window i e e2 h (record { serial = refl; item = refl }) in
     record {
       stand = completes_at parts i e s.stand h n;
-      writers = writers_go_on parts p.writers (slice_set p.window i e2) s.writers on;
+      writers = writers_go_on parts (each_writers p.sources) (slice_set p.window i e2) s.writers on;
       queues = queues_done p.queues p.window i e w h n b s.stand.rise s.queues;
       addresses = addresses_go_on parts (known_with w e p.queues.stores) (slice_set p.window i e2) (addresses_known parts p.queues.stores e w (is_store e.item.kind) s.addresses) on;
       point = point_completes p.point p.next p.window i e s.point h;
@@ -153,7 +169,7 @@ stands_resolved p i e s h w =
     let on = goes_at p.window i e e2 h go in
     record {
       stand = changes_unseen parts i e e2 s.stand h go refl;
-      writers = writers_go_on parts p.writers new s.writers on;
+      writers = writers_go_on parts (each_writers p.sources) new s.writers on;
       queues = unseen_stands p.queues p.window new s.queues (map_set p.window i e e2 h refl);
       addresses = addresses_go_on parts p.queues.stores new s.addresses on;
       point = point_resolves p.point p.next p.window i e s.point h w;
@@ -169,13 +185,14 @@ pub stands_dropped : DropsYounger
 stands_dropped p i e s h l =
     let parts = table_and_stations p in
     let first = e.serial + 1 in
-    record {
-      stand = squashes_from parts first s.stand;
-      writers = writers_squash parts p.writers first s.stand s.writers;
-      queues = queues_cut first p.window p.queues s.stand.rise s.queues;
-      addresses = addresses_squash parts p.queues.stores first s.stand s.addresses;
-      point = point_squashes p.point p.next p.window i e s.point s.stand.rise h l;
-    }
+    let n = length (below first p.window) in
+    stands_by (below_serial first p) (take n (each_roots p.sources)) (take n (each_writers p.sources))
+    (take-map (λ (k : Sources). k.roots) n p.sources) (take-map (λ (k : Sources). k.writers) n p.sources)
+    (squashes_from parts first s.stand)
+    (writers_squash parts (each_writers p.sources) first s.stand s.writers)
+    (queues_cut first p.window p.queues s.stand.rise s.queues)
+    (addresses_squash parts p.queues.stores first s.stand s.addresses)
+    (point_squashes p.point p.next p.window i e s.point s.stand.rise h l)
 
 -- none of those that are younger has its serial
 younger_differ : (e : Entry) (es : List Entry) → All (λ d. e.serial < d.serial) es → Others e.serial es
@@ -191,13 +208,13 @@ queues_pop (x ∷ es) head q h r s =
 pub stands_retired : RetiresHead
 stands_retired p head s h d =
     let parts = table_and_stations p in
-    record {
-      stand = retires_head parts head s.stand h d;
-      writers = writers_retire parts p.writers s.stand s.writers;
-      queues = queues_pop p.window head p.queues h s.stand.rise s.queues;
-      addresses = addresses_retire parts p.queues.stores head s.stand s.addresses h;
-      point = point_retires p.point p.next p.window s.point;
-    }
+    stands_by (without_head head p) (drop 1 (each_roots p.sources)) (drop 1 (each_writers p.sources))
+    (drop-map (λ (k : Sources). k.roots) 1 p.sources) (drop-map (λ (k : Sources). k.writers) 1 p.sources)
+    (retires_head parts head s.stand h d)
+    (writers_retire parts (each_writers p.sources) s.stand s.writers)
+    (queues_pop p.window head p.queues h s.stand.rise s.queues)
+    (addresses_retire parts p.queues.stores head s.stand s.addresses h)
+    (point_retires p.point p.next p.window s.point)
 
 -- ---- the point
 

@@ -15,6 +15,7 @@ use Rattle.machine_facts.specs.Sized.{Sized}
 use Rattle.machine_facts.proofs.Parts.{IsEntry, WindowFits, parts, whole}
 use Rattle.machine_facts.proofs.SizedWindow.{thinner}
 use Rattle.rob_ring.specs.Ring.{Ring, below}
+use Rattle.rob_ring.specs.declared.beside.Sources.{Sources}
 use Rattle.rename_taint.specs.declared.Write.{Write}
 use Rattle.rename_taint.specs.Writes.{before_serial}
 use Rattle.stations.specs.Stations.{Stations}
@@ -51,10 +52,9 @@ sized_dropped d x a b pc v e s =
 
 -- ---- what each part is left with
 
-pub record Dropped (h : Held) (serial : ℕ) (next : Option ℕ) (rob : Ring) (roots writers : Buffer (List (Option ℕ))) (writes : List Write) (room : ℕ) (stations : Stations) (q : Queues) (ports : Ports) (front : Front) : Type 0 where
+pub record Dropped (h : Held) (serial : ℕ) (next : Option ℕ) (rob : Ring) (sources : Buffer Sources) (writes : List Write) (room : ℕ) (stations : Stations) (q : Queues) (ports : Ports) (front : Front) : Type 0 where
   pub window : rob ≡ record (h.rob) { entries = below (serial + 1) h.rob.entries }
-  pub pairs : roots ≡ buffer (take (length rob.entries) h.roots.items) h.roots.capacity
-  pub sources : writers ≡ buffer (take (length rob.entries) h.writers.items) h.writers.capacity
+  pub beside : sources ≡ buffer (take (length rob.entries) h.sources.items) h.sources.capacity
   pub table : writes ≡ before_serial (serial + 1) h.writes
   pub same_room : room ≡ h.table_room
   pub places : stations ≡ record (h.stations) { held = filter (λ s. nat_lt s.serial (serial + 1)) h.stations.held }
@@ -66,8 +66,7 @@ pub record Dropped (h : Held) (serial : ℕ) (next : Option ℕ) (rob : Ring) (r
 abbrev pub dropped : Held → ℕ → Option ℕ → Held
 dropped h serial next = record h {
   rob = record (h.rob) { entries = below (serial + 1) h.rob.entries };
-  roots = buffer (take (length (below (serial + 1) h.rob.entries)) h.roots.items) h.roots.capacity;
-  writers = buffer (take (length (below (serial + 1) h.rob.entries)) h.writers.items) h.writers.capacity;
+  sources = buffer (take (length (below (serial + 1) h.rob.entries)) h.sources.items) h.sources.capacity;
   writes = before_serial (serial + 1) h.writes;
   stations = record (h.stations) { held = filter (λ s. nat_lt s.serial (serial + 1)) h.stations.held };
   queues = record (h.queues) { loads = filter (λ l. nat_lt l (serial + 1)) h.queues.loads; stores = filter (λ s. nat_lt s.serial (serial + 1)) h.queues.stores };
@@ -86,13 +85,12 @@ dropped_whole h serial next w s =
       made = w.made;
     }
 
-module _ (h : Held) (serial : ℕ) (next : Option ℕ) (rob : Ring) (roots writers : Buffer (List (Option ℕ))) (writes : List Write) (room : ℕ) (stations : Stations) (q : Queues) (ports : Ports) (front : Front)
-    (w : Whole h) (l : Dropped h serial next rob roots writers writes room stations q ports front) where
-  are : record h { rob = rob; roots = roots; writers = writers; writes = writes; table_room = room; stations = stations; queues = q; ports = ports; front = front } ≡ dropped h serial next
+module _ (h : Held) (serial : ℕ) (next : Option ℕ) (rob : Ring) (sources : Buffer Sources) (writes : List Write) (room : ℕ) (stations : Stations) (q : Queues) (ports : Ports) (front : Front)
+    (w : Whole h) (l : Dropped h serial next rob sources writes room stations q ports front) where
+  are : record h { rob = rob; sources = sources; writes = writes; table_room = room; stations = stations; queues = q; ports = ports; front = front } ≡ dropped h serial next
   are =
       let e1 = l.window in
-      let e2 = l.pairs in
-      let e3 = l.sources in
+      let e2 = l.beside in
       let e4 = l.table in
       let e5 = l.same_room in
       let e6 = l.places in
@@ -102,11 +100,11 @@ module _ (h : Held) (serial : ℕ) (next : Option ℕ) (rob : Ring) (roots write
       let n = ap (λ (r : Ring). length r.entries) l.window in
       cc
 
-  pub drop_whole : StopsAt serial h.point h.rob.entries → Whole (record h { rob = rob; roots = roots; writers = writers; writes = writes; table_room = room; stations = stations; queues = q; ports = ports; front = front })
+  pub drop_whole : StopsAt serial h.point h.rob.entries → Whole (record h { rob = rob; sources = sources; writes = writes; table_room = room; stations = stations; queues = q; ports = ports; front = front })
   drop_whole s = subst Whole (sym are) (dropped_whole h serial next w s)
 
   pub drop_shown : (v : Described) → described h ≡ v →
-      described (record h { rob = rob; roots = roots; writers = writers; writes = writes; table_room = room; stations = stations; queues = q; ports = ports; front = front })
+      described (record h { rob = rob; sources = sources; writes = writes; table_room = room; stations = stations; queues = q; ports = ports; front = front })
       ≡ record v { machine = cut_after serial next v.machine }
   drop_shown v s =
       ap described are

@@ -10,6 +10,7 @@ use Rattle.machine_desc.specs.declared.SttModel.{SttModel}
 use Rattle.window_model.specs.State.{Machine}
 use Rattle.machine_facts.specs.Sized.{Sized}
 use Rattle.rob_ring.specs.Ring.{Ring}
+use Rattle.rob_ring.specs.declared.beside.Sources.{Sources}
 use Rattle.rename_taint.specs.declared.Write.{Write}
 use Rattle.stations.specs.Stations.{Stations}
 use Rattle.lsq.specs.Queues.{Queues}
@@ -32,8 +33,7 @@ pub record Held : Type 0 where
   pub ram : Ram
   pub rob : Ring
   -- at each entry's position the youngest roots of its sources, and their writers
-  pub roots : Buffer (List (Option ℕ))
-  pub writers : Buffer (List (Option ℕ))
+  pub sources : Buffer Sources
   -- the rename table's writes, and for how many it has room
   pub writes : List Write
   pub table_room : ℕ
@@ -78,8 +78,7 @@ abbrev pub in_flight : Held → InFlight
 in_flight h = record {
   next = h.next_serial;
   window = h.rob.entries;
-  roots = h.roots.items;
-  writers = h.writers.items;
+  sources = h.sources.items;
   writes = h.writes;
   held = h.stations.held;
   queues = h.queues;
@@ -89,8 +88,7 @@ in_flight h = record {
 -- how large each part is, and for which description it was made
 pub record Sizes : Type 0 where
   pub entries : ℕ
-  pub pairs : ℕ
-  pub writers : ℕ
+  pub sources : ℕ
   pub writes : ℕ
   pub places : ℕ
   pub loads : ℕ
@@ -105,8 +103,7 @@ pub record Sizes : Type 0 where
 abbrev pub sizes : Held → Sizes
 sizes h = record {
   entries = h.rob.room;
-  pairs = h.roots.capacity;
-  writers = h.writers.capacity;
+  sources = h.sources.capacity;
   writes = h.table_room;
   places = h.stations.room;
   loads = h.queues.max_loads;
@@ -123,8 +120,7 @@ sizes h = record {
 abbrev pub sizes_for : Desc → Sizes
 sizes_for d = record {
   entries = d.core_rob;
-  pairs = d.core_rob;
-  writers = d.core_rob;
+  sources = d.core_rob;
   writes = d.core_rob;
   places = d.core_stations;
   loads = d.core_loads;

@@ -1,7 +1,9 @@
 -- What is in flight, in all parts that hold something of it, and when the parts stand for the window (docs/architecture.md, "How they
 -- stand for it").
-use Rattle.std.specs.Prelude.{ℕ, List, Option}
+use Rattle.std.specs.Prelude.{ℕ, List}
 use Rattle.window_model.specs.declared.Entry.{Entry}
+use Rattle.rob_ring.specs.Beside.{each_roots, each_writers}
+use Rattle.rob_ring.specs.declared.beside.Sources.{Sources}
 use Rattle.rename_taint.specs.declared.Write.{Write}
 use Rattle.stations.specs.Stations.{Station}
 use Rattle.lsq.specs.Queues.{Queues}
@@ -19,8 +21,7 @@ pub record InFlight : Type 0 where
   -- the entries
   pub window : List Entry
   -- at each entry's position the youngest roots of its sources, and their writers
-  pub roots : List (List (Option ℕ))
-  pub writers : List (List (Option ℕ))
+  pub sources : List Sources
   -- the rename table's writes
   pub writes : List Write
   -- the stations of the entries that wait
@@ -32,17 +33,17 @@ pub record InFlight : Type 0 where
 
 -- those of which `parts_stand` speaks
 abbrev pub table_and_stations : InFlight → Parts
-table_and_stations p = record { next = p.next; window = p.window; roots = p.roots; writes = p.writes; held = p.held }
+table_and_stations p = record { next = p.next; window = p.window; roots = each_roots p.sources; writes = p.writes; held = p.held }
 
 -- the parts stand for the window
 pub record Stands (p : InFlight) : Type 0 where
   -- serials rise below the next one; the roots, the table and the stations say what the window says
   pub stand : Stand (table_and_stations p)
   -- so do the writers by position
-  pub writers : WritersOf p.next p.window p.writers
+  pub writers : WritersOf p.next p.window (each_writers p.sources)
   -- the queues hold the loads and stores
   pub queues : StandFor p.queues p.window
   -- with the roots of the stores' addresses
-  pub addresses : AddressesStand p.window p.roots p.queues.stores
+  pub addresses : AddressesStand p.window (each_roots p.sources) p.queues.stores
   -- and the point can move on
   pub point : PointStands p.point p.next p.window

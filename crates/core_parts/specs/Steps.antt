@@ -16,6 +16,7 @@ use Rattle.window_model.specs.Issue.{begun}
 use Rattle.window_model.specs.Order.{is_control, is_done, is_store, is_waiting, sources}
 use Rattle.window_model.specs.Retire.{width_of}
 use Rattle.rob_ring.specs.Ring.{below}
+use Rattle.rob_ring.specs.declared.beside.Sources.{Sources}
 use Rattle.rename_taint.specs.Writes.{before_serial, root_at, without_retired}
 use Rattle.stations.specs.Stations.{struck}
 use Rattle.lsq.specs.Queues as queues
@@ -32,7 +33,7 @@ use Rattle.core_parts.specs.Stands.{InFlight, Stands}
 -- ---- before the first cycle
 
 abbrev pub empty : Desc → InFlight
-empty d = record { next = 0; window = []; roots = []; writers = []; writes = []; held = []; queues = queues.empty d; point = record { serial = 0; model = d.stt_model } }
+empty d = record { next = 0; window = []; sources = []; writes = []; held = []; queues = queues.empty d; point = record { serial = 0; model = d.stt_model } }
 
 abbrev pub OpensEmpty : Type 0
 OpensEmpty = (d : Desc) → Stands (empty d)
@@ -45,16 +46,15 @@ queued Load serial root q = record q { loads = q.loads ++ serial ∷ [] }
 queued Store serial root q = record q { stores = q.stores ++ record { serial = serial; root = root; known = None } ∷ [] }
 queued _ serial root q = q
 
--- with the roots and writers that the table names for its sources, what they await, and a place for its station
-abbrev pub with_entry : ℕ → List (Option ℕ) → List (Option ℕ) → List (Option ℕ) → Entry → InFlight → InFlight
-with_entry place roots writers awaits e p = record p {
+-- with what the table names for its sources, what they await, and a place for its station
+abbrev pub with_entry : ℕ → Sources → List (Option ℕ) → Entry → InFlight → InFlight
+with_entry place s awaits e p = record p {
   next = p.next + 1;
   window = p.window ++ e ∷ [];
-  roots = p.roots ++ roots ∷ [];
-  writers = p.writers ++ writers ∷ [];
-  writes = p.writes ++ option_to_list (write_of e roots);
+  sources = p.sources ++ s ∷ [];
+  writes = p.writes ++ option_to_list (write_of e s.roots);
   held = seated place awaits e p.held;
-  queues = queued e.item.kind e.serial (base_root roots) p.queues;
+  queues = queued e.item.kind e.serial (base_root s.roots) p.queues;
 }
 
 -- it has the next serial, and isn't resolved; a store waits
@@ -64,8 +64,8 @@ pub record Fresh (p : InFlight) (e : Entry) : Type 0 where
   pub waits : e.item.kind ≡ Store → is_waiting e.state ≡ true
 
 abbrev pub RenamesIn : Type 0
-RenamesIn = (p : InFlight) (e : Entry) (roots writers awaits : List (Option ℕ)) (place : ℕ) → Stands p → Fresh p e → roots ≡ map (root_at p.writes) (two (sources e)) →
-    writers ≡ map (named p.writes) (two (sources e)) → awaits ≡ awaits_of (reverse p.window) e → Stands (with_entry place roots writers awaits e p)
+RenamesIn = (p : InFlight) (e : Entry) (s : Sources) (awaits : List (Option ℕ)) (place : ℕ) → Stands p → Fresh p e → s.roots ≡ map (root_at p.writes) (two (sources e)) →
+    s.writers ≡ map (named p.writes) (two (sources e)) → awaits ≡ awaits_of (reverse p.window) e → Stands (with_entry place s awaits e p)
 
 -- ---- the entry at a position goes on
 
@@ -103,8 +103,7 @@ ResolvesAt = (p : InFlight) (i : ℕ) (e : Entry) → Stands p → slice_get p.w
 abbrev pub below_serial : ℕ → InFlight → InFlight
 below_serial first p = record p {
   window = below first p.window;
-  roots = take (length (below first p.window)) p.roots;
-  writers = take (length (below first p.window)) p.writers;
+  sources = take (length (below first p.window)) p.sources;
   writes = before_serial first p.writes;
   held = filter (λ s. nat_lt s.serial first) p.held;
   queues = record (p.queues) { loads = filter (λ l. nat_lt l first) p.queues.loads; stores = filter (λ s. nat_lt s.serial first) p.queues.stores };
@@ -118,8 +117,7 @@ DropsYounger = (p : InFlight) (i : ℕ) (e : Entry) → Stands p → slice_get p
 abbrev pub without_head : Entry → InFlight → InFlight
 without_head head p = record p {
   window = drop 1 p.window;
-  roots = drop 1 p.roots;
-  writers = drop 1 p.writers;
+  sources = drop 1 p.sources;
   writes = without_retired head.serial p.writes;
   queues = record (p.queues) { loads = filter (λ l. not (l == head.serial)) p.queues.loads; stores = filter (λ s. not (s.serial == head.serial)) p.queues.stores };
 }

@@ -23,9 +23,7 @@ impl<R: RenameTaint> Parts<R> {
             &mut self.lsq,
             &mut self.ports,
         );
-        let len = self.rob.len() as usize;
-        self.roots.truncate_back(len);
-        self.writers.truncate_back(len);
+        self.sources.truncate_back(self.rob.len() as usize);
         entries + items
     }
 }

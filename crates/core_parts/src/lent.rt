@@ -6,7 +6,7 @@ ghost use Rattle.core_parts.specs.Lent.{HasAddressRoots, HasRoots, HoldsWaiting,
 use crate::parts::Parts;
 use lsq::Lsq;
 use rename_taint::RenameTaint;
-use rob_ring::{RobRing, pair_at};
+use rob_ring::{RobRing, sources_at};
 use stations::Stations;
 use visibility::VisPoint;
 
@@ -55,6 +55,6 @@ impl<R: RenameTaint> Parts<R> {
         requires { i < length self.now.machine.window }
         ensures { HasRoots self.now.machine.next_serial self.now.machine.window i result }
     {
-        pair_at(&self.roots, i)
+        sources_at(&self.sources, i).roots
     }
 }

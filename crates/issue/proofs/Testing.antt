@@ -12,6 +12,7 @@ use Rattle.window_model.specs.Issue.{Port, AluPort, MulPort, DivPort, AddressPor
 use Rattle.window_model.proofs.Issuing.{may_own}
 use Rattle.window_model.specs.Order.{before_at, is_waiting, ready}
 use Rattle.stations.specs.Stations.{awaits_none}
+use Rattle.rob_ring.specs.Beside.{each_roots}
 use Rattle.lsq.specs.Queues.{is_known, older}
 use Rattle.queue_laws.proofs.Telling.{known_is}
 use Rattle.transmit_gate.specs.Gate.{may_transmit}
@@ -45,7 +46,7 @@ module _ (s : Seen) (i : ℕ) (e : Entry) (t : Stands s) (h : StandsAt s i e) wh
   stores_known = known_is (older e.serial s.lsq.now.stores) before (stores_before s.lsq.now s.rob.now.entries i e t.queues t.parts.rise h)
 
   -- untainted operands, and what is asked for besides
-  pub issue_is : (m b : Bool) (roots : List (Option ℕ)) → slice_get s.roots.now.items i ≡ Some roots → m ≡ may_transmit e.item.kind s.point.now.serial roots → b ≡ asks_besides e.item.kind (is_free (around_of s)) before →
+  pub issue_is : (m b : Bool) (roots : List (Option ℕ)) → slice_get (each_roots s.sources.now.items) i ≡ Some roots → m ≡ may_transmit e.item.kind s.point.now.serial roots → b ≡ asks_besides e.item.kind (is_free (around_of s)) before →
       (m && b) ≡ may_issue_as e.item.kind s.desc.now (around_of s) before e
   issue_is m b roots r p q = ap₂ (λ m b. m && b) p q ∙ sym (tells_issue s.desc.now (parts_of t.next t.writes s) s.point.now i e roots (around_of s) t.parts t.advanced t.model h r)
 

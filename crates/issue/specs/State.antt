@@ -3,6 +3,7 @@
 use Rattle.std.specs.Prelude.{◌≡◌, ℕ, List, slice_get, Some}
 use Rattle.window_model.specs.declared.Entry.{Entry}
 use Rattle.window_model.specs.Around.{Around}
+use Rattle.rob_ring.specs.Beside.{each_roots, each_writers}
 use Rattle.rename_taint.specs.declared.Write.{Write}
 use Rattle.visibility.specs.Point.{HasAdvanced}
 use Rattle.queue_laws.specs.Window.{StandFor}
@@ -21,16 +22,16 @@ window_of s = s.rob.now.entries
 
 -- what stands for the window, with the next serial and the writes of the rename table
 abbrev pub parts_of : ℕ → List Write → Seen → Parts
-parts_of next writes s = record { next = next; window = s.rob.now.entries; roots = s.roots.now.items; writes = writes; held = s.stations.now.held }
+parts_of next writes s = record { next = next; window = s.rob.now.entries; roots = each_roots s.sources.now.items; writes = writes; held = s.stations.now.held }
 
 -- the parts stand for the window, the point has just moved, and the cache and the registers are of the description
 pub record Stands (s : Seen) : Type 0 where
   pub next : ℕ
   pub writes : List Write
   pub parts : Stand (parts_of next writes s)
-  pub writers : WritersOf next s.rob.now.entries s.writers.now.items
+  pub writers : WritersOf next s.rob.now.entries (each_writers s.sources.now.items)
   pub queues : StandFor s.lsq.now s.rob.now.entries
-  pub addresses : AddressesStand s.rob.now.entries s.roots.now.items s.lsq.now.stores
+  pub addresses : AddressesStand s.rob.now.entries (each_roots s.sources.now.items) s.lsq.now.stores
   pub advanced : HasAdvanced s.point.now s.rob.now.entries
   pub model : s.point.now.model ≡ s.desc.now.stt_model
   pub cache : s.tags.now.desc ≡ s.desc.now

@@ -1,6 +1,6 @@
 //! Which entries may issue, and which are granted a port (`docs/machine.md`, "Issue").
 use crate::seen::Seen;
-use rob_ring::pair_at;
+use rob_ring::sources_at;
 use rv_types::Kind;
 use transmit_gate::may_transmit;
 use unit_ports::Ports;
@@ -12,6 +12,7 @@ impl<'a> Seen<'a> {
     ghost use Rattle.window_model.specs.Around.{is_free};
     ghost use Rattle.window_model.specs.Issue.{is_granted, may_issue, port_of};
     ghost use Rattle.window_model.specs.Order.{before_at, is_waiting, ready};
+    ghost use Rattle.rob_ring.specs.Beside.{each_roots};
     ghost use Rattle.unit_ports.specs.Laws.{LeftAfter};
     ghost use Rattle.parts_stand.specs.Telling.{asks_besides};
     ghost use Rattle.issue.specs.Ports.{OnlyPorts, left_in_all};
@@ -21,9 +22,9 @@ impl<'a> Seen<'a> {
     fn roots_at(&self, position: u32, entry: &Entry) -> [Option<u64>; 2]
         requires stands { Stands self.now }
         requires at { StandsAt self.now position entry.now }
-        ensures { slice_get self.now.roots.now.items position ≡ Some result }
+        ensures { slice_get (each_roots self.now.sources.now.items) position ≡ Some result }
     {
-        pair_at(self.roots, position)
+        sources_at(self.sources, position).roots
     }
 
     // What loads and divisions ask for beside untainted operands: older stores that are Done, a divider that is free.

@@ -10,7 +10,7 @@ ghost use Rattle.parts_stand.specs.Writers.{if_serial, in_flight};
 ghost use Rattle.issue.specs.Operands.{value_by};
 
 use crate::seen::Seen;
-use rob_ring::{RobRing, pair_at};
+use rob_ring::{RobRing, sources_at};
 use rv_types::{REGISTERS, Reg, reads_of};
 use window_model::Entry;
 
@@ -75,15 +75,16 @@ impl<'a> Seen<'a> {
     ghost use Rattle.std.specs.Prelude.{◌≡◌, Some, slice_get};
     ghost use Rattle.window_model.specs.Order.{before_at, sources};
     ghost use Rattle.window_model.specs.Issue.{first_operand, second_operand};
+    ghost use Rattle.rob_ring.specs.Beside.{each_writers};
     ghost use Rattle.issue.specs.State.{Stands, StandsAt, window_of};
 
     // The serials of the writers of the entry's sources, as they stand at its position.
     fn writers_at(&self, position: u32, entry: &Entry) -> [Option<u64>; 2]
         requires stands { Stands self.now }
         requires at { StandsAt self.now position entry.now }
-        ensures { slice_get self.now.writers.now.items position ≡ Some result }
+        ensures { slice_get (each_writers self.now.sources.now.items) position ≡ Some result }
     {
-        pair_at(self.writers, position)
+        sources_at(self.sources, position).writers
     }
 
     /// The values of the sources of the entry at a position.

@@ -5,7 +5,7 @@ use circular_buffer::HeapCircularBuffer;
 use lsq::Lsq;
 use machine_desc::Desc;
 use mshr_file::Mshrs;
-use rob_ring::RobRing;
+use rob_ring::{RobRing, Sources};
 use rv_types::REGISTERS;
 use stations::Stations;
 use visibility::VisPoint;
@@ -21,10 +21,8 @@ pub(crate) struct Seen<'a> {
     pub(crate) lsq: &'a Lsq,
     /// The visibility point.
     pub(crate) point: &'a VisPoint,
-    /// At each entry's position the youngest roots of its first and second source.
-    pub(crate) roots: &'a HeapCircularBuffer<[Option<u64>; 2]>,
-    /// At each entry's position the serials of the writers of its first and second source, as it was renamed.
-    pub(crate) writers: &'a HeapCircularBuffer<[Option<u64>; 2]>,
+    /// At each entry's position the youngest roots and the writers of its sources, as it was renamed.
+    pub(crate) sources: &'a HeapCircularBuffer<Sources>,
     /// The cache.
     pub(crate) tags: &'a Tags,
     /// The miss registers.

@@ -15,6 +15,7 @@ use Rattle.window_model.specs.Rename.{at_once, renamed}
 use Rattle.machine_facts.specs.Sized.{Sized}
 use Rattle.machine_facts.proofs.SizedPhases.{rename_item}
 use Rattle.rob_ring.specs.Ring.{Ring}
+use Rattle.rob_ring.specs.declared.beside.Sources.{Sources}
 use Rattle.rename_taint.specs.declared.Write.{Write}
 use Rattle.rename_taint.specs.Writes.{root_at}
 use Rattle.stations.specs.Stations.{Stations}
@@ -25,7 +26,7 @@ use Rattle.parts_stand.specs.Addresses.{base_root}
 use Rattle.parts_stand.specs.Parts.{awaits_of, write_of}
 use Rattle.parts_stand.specs.Steps.{seated}
 use Rattle.parts_stand.proofs.Answering.{counts_room}
-use Rattle.parts_stand.proofs.Writing.{counts_writers}
+use Rattle.core_parts.proofs.Lending.{each_has_sources}
 use Rattle.core_parts.specs.Described.{Described}
 use Rattle.core_parts.specs.Held.{Held, Sizes, Whole, described, in_flight, machine_of, sizes}
 use Rattle.core_parts.specs.Steps.{queued}
@@ -48,8 +49,7 @@ counted h w = record {
 -- there is room for an entry in each part that is to hold it
 pub record HasRoomFor (h : Held) (e : Entry) : Type 0 where
   pub entry : length h.rob.entries < h.rob.room
-  pub pair : length h.roots.items < h.roots.capacity
-  pub writers : length h.writers.items < h.writers.capacity
+  pub sources : length h.sources.items < h.sources.capacity
   pub write : length h.writes < h.table_room
   pub station : is_waiting e.state ≡ true → length h.stations.held < h.stations.room
   pub load : is_load e.item.kind ≡ true → length h.queues.loads < h.queues.max_loads
@@ -59,19 +59,17 @@ pub room_for : (h : Held) (item : Item) → Whole h → fitting h.desc h.rob.ent
 room_for h item w q =
     let f = fits_all h.desc h.rob.entries item (fitting_is h.desc h.rob.entries (slice_get h.front.queue 0) item q).1 in
     let c = counts_room _ w.stands.stand in
-    let n = counts_writers h.next_serial h.rob.entries h.writers.items w.stands.writers in
+    let n = each_has_sources h w in
     let k = room_is h.queues h.rob.entries w.stands.queues in
     let a = ap (λ (s : Sizes). s.entries) w.made in
-    let b = ap (λ (s : Sizes). s.pairs) w.made in
-    let e = ap (λ (s : Sizes). s.writers) w.made in
+    let b = ap (λ (s : Sizes). s.sources) w.made in
     let g = ap (λ (s : Sizes). s.writes) w.made in
     let p = ap (λ (s : Sizes). s.places) w.made in
     let m = ap (λ (s : Sizes). s.loads) w.made in
     let t = ap (λ (s : Sizes). s.stores) w.made in
     record {
       entry = omega (arith, f.entries, a);
-      pair = omega (arith, f.entries, c.roots, b);
-      writers = omega (arith, f.entries, n, e);
+      sources = omega (arith, f.entries, n, b);
       write = omega (arith, f.entries, c.writes, g);
       station = λ wait. let l = station_room (at_once item.kind) _ _ f.station wait in omega (arith, l, c.held, p);
       load = λ is. let l = load_room item.kind h.desc h.rob.entries f.kind is in omega (arith, l, k.0, m);
@@ -84,11 +82,14 @@ room_for h item w q =
 abbrev pub roots_at : List Write → Entry → List (Option ℕ)
 roots_at writes e = map (root_at writes) (two (sources e))
 
+-- and their writers
+abbrev pub sources_at : List Write → Entry → Sources
+sources_at writes e = record { roots = roots_at writes e; writers = writers_at writes e }
+
 -- an entry has come in, with the next serial
-pub record Entered (e : Entry) (h : Held) (rob : Ring) (roots writers : Buffer (List (Option ℕ))) (writes : List Write) (room : ℕ) (stations : Stations) (q : Queues) (front : Front) : Type 0 where
+pub record Entered (e : Entry) (h : Held) (rob : Ring) (beside : Buffer Sources) (writes : List Write) (room : ℕ) (stations : Stations) (q : Queues) (front : Front) : Type 0 where
   pub window : rob ≡ record (h.rob) { entries = h.rob.entries ++ e ∷ [] }
-  pub pairs : roots ≡ buffer (h.roots.items ++ roots_at h.writes e ∷ []) h.roots.capacity
-  pub sources : writers ≡ buffer (h.writers.items ++ writers_at h.writes e ∷ []) h.writers.capacity
+  pub sources : beside ≡ buffer (h.sources.items ++ sources_at h.writes e ∷ []) h.sources.capacity
   pub table : writes ≡ h.writes ++ option_to_list (write_of e (roots_at h.writes e))
   pub same_room : room ≡ h.table_room
   pub places : (place : ℕ) × (stations ≡ record (h.stations) { held = seated place (awaits_of (reverse h.rob.entries) e) e h.stations.held })
@@ -99,8 +100,7 @@ pub record Entered (e : Entry) (h : Held) (rob : Ring) (roots writers : Buffer (
 abbrev entered : ℕ → Entry → Held → Held
 entered place e h = record h {
   rob = record (h.rob) { entries = h.rob.entries ++ e ∷ [] };
-  roots = buffer (h.roots.items ++ roots_at h.writes e ∷ []) h.roots.capacity;
-  writers = buffer (h.writers.items ++ writers_at h.writes e ∷ []) h.writers.capacity;
+  sources = buffer (h.sources.items ++ sources_at h.writes e ∷ []) h.sources.capacity;
   writes = h.writes ++ option_to_list (write_of e (roots_at h.writes e));
   stations = record (h.stations) { held = seated place (awaits_of (reverse h.rob.entries) e) e h.stations.held };
   queues = queued e.item.kind e.serial (base_root (roots_at h.writes e)) h.queues;
@@ -140,17 +140,16 @@ entered_whole h item place w q =
     let found = fitting_is h.desc h.rob.entries (slice_get h.front.queue 0) item q in
     record {
       sized = rename_item h.desc (machine_of h) item (drop 1 h.front.queue) (first_rest h.front.queue item found.0) found.1 w.sized;
-      stands = stands_renamed (in_flight h) e (roots_at h.writes e) (writers_at h.writes e) (awaits_of (reverse h.rob.entries) e) place w.stands (record { serial = refl; unresolved = refl; waits = waits item.kind }) refl refl refl;
+      stands = stands_renamed (in_flight h) e (sources_at h.writes e) (awaits_of (reverse h.rob.entries) e) place w.stands (record { serial = refl; unresolved = refl; waits = waits item.kind }) refl refl refl;
       made = entered_sizes h place e ∙ w.made;
     }
 
-module _ (h : Held) (item : Item) (rob : Ring) (roots writers : Buffer (List (Option ℕ))) (writes : List Write) (room : ℕ) (stations : Stations) (q : Queues) (front : Front) (next : ℕ) (w : Whole h)
-    (g : Entered (renamed h.next_serial item) h rob roots writers writes room stations q front) (n : next ≡ h.next_serial + 1) where
-  are : record h { rob = rob; roots = roots; writers = writers; writes = writes; table_room = room; stations = stations; queues = q; front = front; next_serial = next } ≡ entered g.places.0 (renamed h.next_serial item) h
+module _ (h : Held) (item : Item) (rob : Ring) (beside : Buffer Sources) (writes : List Write) (room : ℕ) (stations : Stations) (q : Queues) (front : Front) (next : ℕ) (w : Whole h)
+    (g : Entered (renamed h.next_serial item) h rob beside writes room stations q front) (n : next ≡ h.next_serial + 1) where
+  are : record h { rob = rob; sources = beside; writes = writes; table_room = room; stations = stations; queues = q; front = front; next_serial = next } ≡ entered g.places.0 (renamed h.next_serial item) h
   are =
       let e1 = g.window in
-      let e2 = g.pairs in
-      let e3 = g.sources in
+      let e2 = g.sources in
       let e4 = g.table in
       let e5 = g.same_room in
       let e6 = g.places.1 in
@@ -159,11 +158,11 @@ module _ (h : Held) (item : Item) (rob : Ring) (roots writers : Buffer (List (Op
       cc
 
   pub enter_whole : fitting h.desc h.rob.entries (slice_get h.front.queue 0) ≡ Some item →
-      Whole (record h { rob = rob; roots = roots; writers = writers; writes = writes; table_room = room; stations = stations; queues = q; front = front; next_serial = next })
+      Whole (record h { rob = rob; sources = beside; writes = writes; table_room = room; stations = stations; queues = q; front = front; next_serial = next })
   enter_whole f = subst Whole (sym are) (entered_whole h item g.places.0 w f)
 
   pub enter_shown : (v : Described) → described h ≡ v →
-      described (record h { rob = rob; roots = roots; writers = writers; writes = writes; table_room = room; stations = stations; queues = q; front = front; next_serial = next })
+      described (record h { rob = rob; sources = beside; writes = writes; table_room = room; stations = stations; queues = q; front = front; next_serial = next })
       ≡ record v { machine = with_oldest v.desc item v.machine }
   enter_shown v s = ap described are ∙ ap (λ (v : Described). record v { machine = with_oldest v.desc item v.machine }) s
 

@@ -13,6 +13,7 @@ use crate::room::is_at_once;
 use circular_buffer::HeapCircularBuffer;
 use lsq::Lsq;
 use rename_taint::{RenameTaint, root_written};
+use rob_ring::Sources;
 use rv_types::{Kind, writes_of};
 use stations::Stations;
 use window_model::{Entry, Item, Progress};
@@ -84,9 +85,9 @@ pub(crate) fn add_access(serial: u64, kind: Kind, sources: [Option<u64>; 2], lsq
 }
 
 /// Appends where there is room.
-pub(crate) fn push_within(pairs: &mut HeapCircularBuffer<[Option<u64>; 2]>, pair: [Option<u64>; 2])
-    requires { length pairs.old.items < pairs.old.capacity }
-    ensures { pairs.new ≡ buffer (pairs.old.items ++ pair ∷ []) pairs.old.capacity }
+pub(crate) fn push_within(ring: &mut HeapCircularBuffer<Sources>, sources: Sources)
+    requires { length ring.old.items < ring.old.capacity }
+    ensures { ring.new ≡ buffer (ring.old.items ++ sources ∷ []) ring.old.capacity }
 {
-    let _ = pairs.try_push_back(pair);
+    let _ = ring.try_push_back(sources);
 }

@@ -12,7 +12,7 @@ use fetch_unit::Fetch;
 use lsq::Lsq;
 use machine_desc::Desc;
 use rename_taint::{RenameTaint, roots_of};
-use rob_ring::RobRing;
+use rob_ring::{RobRing, Sources};
 use stations::Stations;
 use window_model::{Event, Item, Row};
 
@@ -62,8 +62,7 @@ fn enter_next<R: RenameTaint>(parts: &mut Parts<R>) -> Option<Item>
     add_write(serial, &item, roots, &mut parts.table);
     add_station(serial, &item, awaits, &mut parts.stations);
     add_access(serial, item.kind, roots, &mut parts.lsq);
-    push_within(&mut parts.roots, roots);
-    push_within(&mut parts.writers, writers);
+    push_within(&mut parts.sources, Sources { roots, writers });
     parts.rob.push(renamed(serial, item));
     parts.next_serial += 1;
     Some(item)

@@ -25,8 +25,8 @@ use Rattle.visibility.specs.Point.{HasAdvanced}
 use Rattle.branch_resolve.specs.Effect.{resolution_of, taught, told}
 use Rattle.branch_resolve.specs.declared.effect.Resolution.TheVariants.{Right}
 use Rattle.branch_resolve.specs.Pick.{pick_from}
-use Rattle.parts_stand.proofs.Answering.{counts_room, picks_first}
-use Rattle.parts_stand.proofs.Writing.{counts_writers}
+use Rattle.parts_stand.proofs.Answering.{picks_first}
+use Rattle.rob_ring.specs.Beside.{each_roots}
 use Rattle.core_parts.specs.Described.{Described}
 use Rattle.core_parts.specs.Held.{Held, Sizes, Whole, described, in_flight, machine_of, sizes}
 use Rattle.core_parts.specs.Dropped.{StopsAt, cut_after, younger_count}
@@ -39,7 +39,7 @@ use Rattle.resolve.proofs.Picked.{Taken, picked, inside, taken}
 
 -- ---- what is asked
 
-pub picks : (h : Held) (v : Described) (o : Option ℕ) → Whole h → described h ≡ v → HasAdvanced v.point v.machine.window → o ≡ pick_from h.point.serial 0 h.rob.entries h.roots.items → o ≡ resolving v.desc v.machine.window
+pub picks : (h : Held) (v : Described) (o : Option ℕ) → Whole h → described h ≡ v → HasAdvanced v.point v.machine.window → o ≡ pick_from h.point.serial 0 h.rob.entries (each_roots h.sources.items) → o ≡ resolving v.desc v.machine.window
 picks h v o w s a e =
     let here : HasAdvanced h.point h.rob.entries = subst (λ (v : Described). HasAdvanced v.point v.machine.window) (sym s) a in
     e ∙ picks_first h.desc _ h.point w.stands.stand here (ap (λ (s : Sizes). s.model) w.made) ∙ ap (λ (v : Described). resolving v.desc v.machine.window) s
@@ -57,10 +57,6 @@ none_shown v h = ap (λ (a : After). record v { machine = a.machine }) (sym (non
 
 pub none_row : (v : Described) (row : Row) → None ≡ resolving v.desc v.machine.window → row ≡ record row { events = row.events ++ (resolve v.desc v.machine).events }
 none_row v row h = ap (λ es. record row { events = es }) (sym (append-nil row.events)) ∙ ap (λ (a : After). record row { events = row.events ++ a.events }) (sym (none_is v.desc v.machine h))
-
--- at each position there are roots and writers
-pub each_has : (h : Held) → Whole h → (length h.roots.items ≡ length h.rob.entries) × (length h.writers.items ≡ length h.rob.entries)
-each_has h w = ((counts_room _ w.stands.stand).roots, counts_writers h.next_serial h.rob.entries h.writers.items w.stands.writers)
 
 pub is_inside : (h : Held) (v : Described) (i : ℕ) → Whole h → described h ≡ v → Some i ≡ resolving v.desc v.machine.window → i < length h.rob.entries
 is_inside h v i w s p = subst (λ (v : Described). i < length v.machine.window) (sym s) (inside v.desc v.machine.window i (picked v.desc v.machine.window i p))

@@ -1,9 +1,38 @@
 -- What is seen of the reorder buffer.
-use Rattle.std.specs.Prelude.{ℕ, List}
+use Rattle.std.specs.Prelude.{◌≡◌, ℕ, ◌≤◌, ◌<◌, Bool, true, false, not, ◌&&◌, List, length, Option, Some, None}
+use Rattle.std.specs.Slice.Scan.{HoldsNowhere, holds_at}
 use Rattle.window_model.specs.declared.Entry.{Entry}
+use Rattle.window_model.specs.declared.Progress.{Progress}
+use Rattle.window_model.specs.declared.Progress.TheVariants.{Busy}
+use Rattle.window_model.specs.Order.{is_control}
 pub use Rattle.window_model.specs.Serials.{below}
 
 -- the entries in flight, oldest first, and for how many there is room
 pub record Ring : Type 0 where
   pub entries : List Entry
   pub room : ℕ
+
+-- in execution
+abbrev pub in_execution : Progress → Bool
+in_execution (Busy due) = true
+in_execution _ = false
+
+-- the entry executes
+abbrev pub is_busy : Entry → Bool
+is_busy e = in_execution e.state
+
+-- the entry is a branch or JALR that isn't resolved
+abbrev pub is_open : Entry → Bool
+is_open e = is_control e.item.kind && not e.resolved
+
+-- i is the first position from this one on whose entry passes
+pub record IsNext (p : Entry → Bool) (entries : List Entry) (from i : ℕ) : Type 0 where
+  pub low : from ≤ i
+  pub within : i < length entries
+  pub before : HoldsNowhere (holds_at p entries) from i
+  pub here : holds_at p entries i ≡ true
+
+-- that position, None where no entry from there on passes
+abbrev pub Next : (Entry → Bool) → List Entry → ℕ → Option ℕ → Type 0
+Next p entries from None = HoldsNowhere (holds_at p entries) from (length entries)
+Next p entries from (Some i) = IsNext p entries from i

@@ -1,10 +1,13 @@
 //! The ring itself.
-ghost use Rattle.std.specs.Prelude.{◌≡◌, ◌<◌, ◌≤◌, ◌++◌, ◌∷◌, [], length, take, drop, slice_get, slice_set, Some, IfOk};
+ghost use Rattle.std.specs.Prelude.{◌≡◌, ◌<◌, ◌≤◌, ◌^◌, ◌++◌, ◌∷◌, [], length, take, drop};
+ghost use Rattle.std.specs.Prelude.{slice_get, slice_set, Some, IfOk, IfSome};
 ghost use Rattle.window_model.specs.declared.Entry.{Entry};
+ghost use Rattle.window_model.specs.declared.Progress.TheVariants.{Done};
 ghost use Rattle.window_model.specs.Issue.{begun};
 ghost use Rattle.window_model.specs.Serials.{Rise, below};
-ghost use Rattle.rob_ring.specs.Ring.{Ring};
+ghost use Rattle.rob_ring.specs.Ring.{Next, Ring, in_execution, is_busy, is_open};
 
+use crate::marks::{drop_mark, keep_marks, next_mark, put_mark};
 use circular_buffer::HeapCircularBuffer;
 use machine_desc::Desc;
 use rv_types::NoMemory;
@@ -16,17 +19,21 @@ use window_model::{Entry, Outcome, Progress, Window, position_of};
 #[derive(Drop)]
 pub struct RobRing {
     items: HeapCircularBuffer<Entry>,
+    // By position, whether the entry executes.
+    busy: [u64; 3],
+    // And whether it is a branch or JALR that isn't resolved.
+    unresolved: [u64; 3],
 }
 
 impl Model for RobRing {
-    ghost use Rattle.std.specs.Prelude.{◌<◌, ◌^◌};
     ghost use Rattle.rob_ring.specs.Ring.{Ring};
+    ghost use Rattle.rob_ring.specs.Marks.{Marked};
 
     ghost Value = { Ring };
 
     ghost view = { λ r. record { entries = r.items.items; room = r.items.capacity } };
 
-    ghost invariant = { λ r. r.items.capacity < 2 ^ 32 };
+    ghost invariant = { λ r. Marked r.items.items r.items.capacity r.busy r.unresolved };
 }
 
 impl RobRing {
@@ -35,7 +42,11 @@ impl RobRing {
         ensures { IfOk result (λ r. r ≡ record { entries = []; room = desc.now.core_rob }) }
     {
         let items = HeapCircularBuffer::with_capacity(alloc, desc.core_rob as usize)?;
-        Ok(RobRing { items })
+        Ok(RobRing {
+            items,
+            busy: [0; 3],
+            unresolved: [0; 3],
+        })
     }
 
     /// How many entries there are.
@@ -51,6 +62,9 @@ impl RobRing {
         requires { length self.old.entries < self.old.room }
         ensures { self.new ≡ record self.old { entries = self.old.entries ++ entry ∷ [] } }
     {
+        let len = self.len();
+        put_mark(&mut self.busy, len, in_execution(entry.state));
+        put_mark(&mut self.unresolved, len, is_open(&entry));
         let _ = self.items.try_push_back(entry);
     }
 
@@ -82,9 +96,9 @@ impl RobRing {
         requires { i < length self.old.entries }
         ensures { self.new ≡ record self.old { entries = slice_set self.old.entries i entry } }
     {
-        if let Some(place) = self.items.get_mut(i as usize) {
-            *place = entry;
-        }
+        put_mark(&mut self.busy, i, in_execution(entry.state));
+        put_mark(&mut self.unresolved, i, is_open(&entry));
+        put_entry(&mut self.items, i, entry);
     }
 
     /// The entry at a position begins to execute, until a cycle and with an outcome.
@@ -93,16 +107,26 @@ impl RobRing {
         ensures { (e : Entry) → slice_get self.old.entries i ≡ Some e
             → self.new ≡ record self.old { entries = slice_set self.old.entries i (begun e due outcome) } }
     {
-        if let Some(entry) = self.items.get_mut(i as usize) {
-            entry.state = Progress::Busy(due);
-            entry.outcome = Some(outcome);
-        }
+        put_mark(&mut self.busy, i, true);
+        begin_entry(&mut self.items, i, due, outcome);
+    }
+
+    /// The entry at a position becomes Done.
+    pub fn finish(&mut self, i: u32)
+        requires { i < length self.old.entries }
+        ensures { (e : Entry) → slice_get self.old.entries i ≡ Some e
+            → self.new ≡ record self.old { entries = slice_set self.old.entries i (record e { state = Done }) } }
+    {
+        put_mark(&mut self.busy, i, false);
+        finish_entry(&mut self.items, i);
     }
 
     /// Keeps the oldest `len` entries and drops the younger ones.
     pub fn cut(&mut self, len: u32)
         ensures { self.new ≡ record self.old { entries = take len self.old.entries } }
     {
+        self.busy = keep_marks(self.busy, len);
+        self.unresolved = keep_marks(self.unresolved, len);
         self.items.truncate_back(len as usize);
     }
 
@@ -111,7 +135,27 @@ impl RobRing {
         requires { 0 < length self.old.entries }
         ensures { self.new ≡ record self.old { entries = drop 1 self.old.entries } }
     {
+        self.busy = drop_mark(self.busy);
+        self.unresolved = drop_mark(self.unresolved);
         let _ = self.items.pop_front();
+    }
+
+    /// The first position from one on whose entry executes.
+    pub fn next_busy(&self, from: u32) -> Option<u32>
+        ensures next { Next is_busy self.now.entries from result }
+        ensures within { IfSome result (λ i. i < self.now.room) }
+        ensures few { self.now.room < 2 ^ 32 }
+    {
+        next_mark(self.busy, from)
+    }
+
+    /// The first position from one on whose entry is a branch or JALR that isn't resolved.
+    pub fn next_open(&self, from: u32) -> Option<u32>
+        ensures next { Next is_open self.now.entries from result }
+        ensures within { IfSome result (λ i. i < self.now.room) }
+        ensures few { self.now.room < 2 ^ 32 }
+    {
+        next_mark(self.unresolved, from)
     }
 
     /// The position of the entry with this serial, or the one at which it would stand: how many entries have a serial below
@@ -124,6 +168,56 @@ impl RobRing {
     {
         position_of(self, serial)
     }
+}
+
+// Puts an entry in the place of the one at a position.
+fn put_entry(items: &mut HeapCircularBuffer<Entry>, i: u32, entry: Entry)
+    requires { i < length items.old.items }
+    ensures { items.new ≡ record items.old { items = slice_set items.old.items i entry } }
+{
+    if let Some(place) = items.get_mut(i as usize) {
+        *place = entry;
+    }
+}
+
+// The entry at a position begins to execute.
+fn begin_entry(items: &mut HeapCircularBuffer<Entry>, i: u32, due: u64, outcome: Outcome)
+    requires { i < length items.old.items }
+    ensures { (e : Entry) → slice_get items.old.items i ≡ Some e
+        → items.new ≡ record items.old { items = slice_set items.old.items i (begun e due outcome) } }
+{
+    if let Some(entry) = items.get_mut(i as usize) {
+        entry.state = Progress::Busy(due);
+        entry.outcome = Some(outcome);
+    }
+}
+
+// The entry at a position becomes Done.
+fn finish_entry(items: &mut HeapCircularBuffer<Entry>, i: u32)
+    requires { i < length items.old.items }
+    ensures { (e : Entry) → slice_get items.old.items i ≡ Some e
+        → items.new ≡ record items.old { items = slice_set items.old.items i (record e { state = Done }) } }
+{
+    if let Some(entry) = items.get_mut(i as usize) {
+        entry.state = Progress::Done;
+    }
+}
+
+// Whether an entry in this state executes.
+fn in_execution(state: Progress) -> bool
+    ensures { result ≡ in_execution state }
+{
+    match state {
+        Progress::Busy(_) => true,
+        _ => false,
+    }
+}
+
+// Whether the entry is a branch or JALR that isn't resolved.
+fn is_open(entry: &Entry) -> bool
+    ensures { result ≡ is_open entry.now }
+{
+    entry.is_control() && !entry.resolved
 }
 
 impl Window for RobRing {

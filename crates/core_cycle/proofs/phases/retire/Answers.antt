@@ -17,13 +17,12 @@ retire-parts-inside-requires-clause-line g c = ap (λ (s : Sizes). s.tags.cache_
 
 pub invariant_of-parts : goal.invariant_of-parts
 invariant_of-parts g c =
-    retire_whole _ _ _ _ _ _ _ _ _ _ _ _ _ c.parts.invariant (ap (λ (s : Described). s.machine.end) c.parts.view_is ∙ c.requires.running) c.retire-parts-inside.ensures.state
+    retire_whole _ _ _ _ _ _ _ _ _ _ _ _ c.parts.invariant (ap (λ (s : Described). s.machine.end) c.parts.view_is ∙ c.requires.running) c.retire-parts-inside.ensures.state
     (record {
       entries = c.retire-parts-inside.ensures.left;
       may_retire = c.retire-parts-inside.ensures.may_retire;
       same_room = c.retire-parts-inside.ensures.same_room;
-      pairs = c.truncate_front.ensures ∙ ap (λ n. buffer (keep_last n c.parts.inside.roots.items) c.parts.inside.roots.capacity) c.len-left.ensures.len;
-      sources = c.truncate_front-2.ensures ∙ ap (λ n. buffer (keep_last n c.parts.inside.writers.items) c.parts.inside.writers.capacity) c.len-left.ensures.len;
+      beside = c.truncate_front.ensures ∙ ap (λ n. buffer (keep_last n c.parts.inside.sources.items) c.parts.inside.sources.capacity) c.len-left.ensures.len;
       table = c.retire-parts-inside.ensures.table;
       same_table_room = c.retire-parts-inside.ensures.same_table_room;
       lsq = c.retire-parts-inside.ensures.lsq;

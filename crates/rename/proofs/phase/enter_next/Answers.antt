@@ -1,5 +1,5 @@
 -- The oldest item that fits comes in, and the parts stand for the window with its entry.
-use Rattle.std.proofs.Common.{[], ◌∷◌, ◌++◌, ap, refl, subst, sym, ◌∙◌}
+use Rattle.std.proofs.Common.{[], ◌∷◌, ◌++◌, ap, ap₂, refl, subst, sym, ◌∙◌}
 use Rattle.std.specs.Prelude.{map}
 use Rattle.std.specs.List.{All}
 use Rattle.circular_buffer.specs.Buffer.{buffer}
@@ -40,10 +40,7 @@ pub add_access-requires-clause-store : goal.add_access-requires-clause-store
 add_access-requires-clause-store g c = (room_for _ c.in-Some.item c.parts.invariant (sym c.take_fitting.ensures.item ∙ c.in-Some.is)).store
 
 pub push_within-requires : goal.push_within-requires
-push_within-requires g c = (room_for _ c.in-Some.item c.parts.invariant (sym c.take_fitting.ensures.item ∙ c.in-Some.is)).pair
-
-pub push_within-requires-2 : goal.push_within-requires-2
-push_within-requires-2 g c = (room_for _ c.in-Some.item c.parts.invariant (sym c.take_fitting.ensures.item ∙ c.in-Some.is)).writers
+push_within-requires g c = (room_for _ c.in-Some.item c.parts.invariant (sym c.take_fitting.ensures.item ∙ c.in-Some.is)).sources
 
 pub push-requires : goal.push-requires
 push-requires g c = (room_for _ c.in-Some.item c.parts.invariant (sym c.take_fitting.ensures.item ∙ c.in-Some.is)).entry
@@ -53,11 +50,10 @@ invariant_of-parts-2 g c =
     let e = renamed c.parts.inside.next_serial c.in-Some.item in
     let awaits = ap (map (awaited_of_writer c.parts.inside.rob.entries)) c.writers_of-writers.ensures ∙ awaits_are _ e c.parts.invariant.stands.stand in
     let roots = c.roots_of-roots.ensures in
-    enter_whole _ c.in-Some.item _ _ _ _ _ _ _ _ _ c.parts.invariant
+    enter_whole _ c.in-Some.item _ _ _ _ _ _ _ _ c.parts.invariant
     (record {
       window = c.push.ensures ∙ ap (λ e. record c.parts.inside.rob { entries = c.parts.inside.rob.entries ++ e ∷ [] }) c.renamed.ensures;
-      pairs = c.push_within.ensures ∙ ap (λ p. buffer (c.parts.inside.roots.items ++ p ∷ []) c.parts.inside.roots.capacity) roots;
-      sources = c.push_within-2.ensures ∙ ap (λ p. buffer (c.parts.inside.writers.items ++ p ∷ []) c.parts.inside.writers.capacity) c.writers_of-writers.ensures;
+      sources = c.push_within.ensures ∙ ap₂ (λ rs ws. buffer (c.parts.inside.sources.items ++ record { roots = rs; writers = ws } ∷ []) c.parts.inside.sources.capacity) roots c.writers_of-writers.ensures;
       table = c.add_write.ensures.table ∙ ap (λ p. with_write (write_of e p) (g.R.RenameTaint.writes c.parts.inside.table)) roots;
       same_room = c.add_write.ensures.same_room;
       places = (c.add_station.ensures.0, c.add_station.ensures.1 ∙ ap (λ awaits. with_station c.add_station.ensures.0 awaits e c.parts.inside.stations) (c.awaits_of-awaits.ensures ∙ awaits));

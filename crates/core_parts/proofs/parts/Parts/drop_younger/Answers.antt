@@ -11,11 +11,10 @@ overflow_add-serial g c =
 
 pub invariant_of-self : goal.invariant_of-self
 invariant_of-self g c =
-    drop_whole _ _ _ _ _ _ _ _ _ _ _ _ c.self.invariant
+    drop_whole _ _ _ _ _ _ _ _ _ _ _ c.self.invariant
     (record {
       window = c.squash_after-entries.ensures.rob;
-      pairs = c.truncate_back.ensures ∙ ap (λ n. buffer (take n c.self.inside.roots.items) c.self.inside.roots.capacity) c.len-len.ensures.len;
-      sources = c.truncate_back-2.ensures ∙ ap (λ n. buffer (take n c.self.inside.writers.items) c.self.inside.writers.capacity) c.len-len.ensures.len;
+      beside = c.truncate_back.ensures ∙ ap (λ n. buffer (take n c.self.inside.sources.items) c.self.inside.sources.capacity) c.len.ensures.len;
       table = c.squash_after-entries.ensures.names;
       same_room = c.squash_after-entries.ensures.same_room;
       places = c.squash_after-entries.ensures.stations;

@@ -1,9 +1,12 @@
-use Rattle.std.proofs.Common.{◌<◌, sym, subst}
+use Rattle.std.proofs.Common.{◌<◌, sym, subst, ◌∙◌}
 use Rattle.std.proofs.lemmas.Option.{slice_get_within}
-use Rattle.parts_stand.proofs.Writing.{counts_writers}
+use Rattle.rob_ring.proofs.AtPositions.{as_many_roots, writers_here}
+use Rattle.parts_stand.proofs.Tables.{as_many}
 use Rattle.issue.proofs.seen.Seen.writers_at.Goals as goal
 
-pub pair_at-requires : goal.pair_at-requires
-pair_at-requires c =
-    let s = c.requires.stands in
-    subst (λ n. c.args.position < n) (sym (counts_writers s.next _ _ s.writers)) (slice_get_within _ _ _ c.requires.at)
+pub sources_at-requires : goal.sources_at-requires
+sources_at-requires c =
+    subst (λ n. c.args.position < n) (sym (sym (as_many_roots c.args.self.now.sources.now.items) ∙ as_many _ _ _ _ c.requires.stands.parts.roots)) (slice_get_within _ _ _ c.requires.at)
+
+pub returns : goal.returns
+returns c = writers_here c.args.self.now.sources.now.items c.args.position c.sources_at.result.now c.sources_at.ensures

@@ -1,0 +1,19 @@
+-- What stands beside the entries, as lists of roots and of writers.
+use Rattle.std.proofs.Common.{◌≡◌, ℕ, ◌<◌, List, length, map, Option, Some, ap, sym, ◌∙◌, subst, slice_get}
+use Rattle.std.specs.Option.{option_map}
+use Rattle.std.proofs.lemmas.List.{length-map}
+use Rattle.std.proofs.lemmas.Option.{slice_get-map}
+use Rattle.rob_ring.specs.Beside.{each_roots, each_writers}
+use Rattle.rob_ring.specs.declared.beside.Sources.{Sources}
+
+-- at the position of sources stand their roots
+pub roots_here : (xs : List Sources) (i : ℕ) (s : Sources) → slice_get xs i ≡ Some s → slice_get (each_roots xs) i ≡ Some s.roots
+roots_here xs i s h = slice_get-map (λ (s : Sources). s.roots) xs i ∙ ap (option_map (λ (s : Sources). s.roots)) h
+
+-- and their writers
+pub writers_here : (xs : List Sources) (i : ℕ) (s : Sources) → slice_get xs i ≡ Some s → slice_get (each_writers xs) i ≡ Some s.writers
+writers_here xs i s h = slice_get-map (λ (s : Sources). s.writers) xs i ∙ ap (option_map (λ (s : Sources). s.writers)) h
+
+-- there are as many
+pub as_many_roots : (xs : List Sources) → length (each_roots xs) ≡ length xs
+as_many_roots xs = length-map xs (λ s. s.roots)

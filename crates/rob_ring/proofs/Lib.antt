@@ -1,0 +1,4 @@
+pub mod AtPositions
+pub mod Gaps
+mod Marked
+mod Words

@@ -1,0 +1,190 @@
+-- The marks go on to tell of the entries.
+use Rattle.std.proofs.Common.{◌≡◌, ◌≢◌, nat_lt, ◌++◌, drop, add-one, ℕ, zero, suc, ◌+◌, ◌^◌, ◌<◌, ◌≤◌, Bool, true, false, List, [], ◌∷◌, length, take, get_or, inl, inr, Option, Some, None, refl, ap, sym, subst, ◌∙◌, arith, slice_get, ⊎_elim}
+use Rattle.std.specs.Prelude.{if◌then◌else◌, map, slice_set, IfSome}
+use Rattle.std.specs.Slice.Scan.{HoldsNowhere, holds_at}
+use Rattle.std.proofs.Math.Seq.{map-set_same}
+use Rattle.std.proofs.lemmas.Bool.{cases_eq, cases_lt}
+use Rattle.std.proofs.lemmas.Bool.Decides.{nat_tests}
+use Rattle.std.proofs.lemmas.List.{map-set, take-map, get_or_past, get_or-take, length-take, get_or-set_same, get_or-set_other, length-map, length-set, length-append, length-drop, length-take-le}
+use Rattle.std.proofs.lemmas.Option.{get_or_from_slice_get, slice_get_cases}
+use Rattle.circular_buffer.specs.Buffer.{Buffer, buffer}
+use Rattle.window_model.specs.declared.Entry.{Entry}
+use Rattle.window_model.specs.declared.Outcome.{Outcome}
+use Rattle.window_model.specs.declared.Progress.TheVariants.{Done}
+use Rattle.window_model.specs.Issue.{begun}
+use Rattle.rob_ring.specs.Ring.{Ring, Next, IsNext, is_busy, is_open}
+use Rattle.rob_ring.specs.Marks.{Marked, MarksOf, NextBit, IsFirstBit, mark_at, one_if}
+
+-- the marks of one set, by which an entry passes
+module _ (p : Entry → Bool) (es : List Entry) (words : List ℕ) (is : MarksOf p es words) where
+  -- a mark that was put
+  pub put_is : (i : ℕ) (e : Entry) (b : Bool) (words2 : List ℕ) → i < length es → b ≡ p e → mark_at words2 i ≡ one_if b → ((k : ℕ) → k ≢ i → mark_at words2 k ≡ mark_at words k) →
+      MarksOf p (slice_set es i e) words2
+  put_is i e b words2 lt same here others k = elim (cases_eq k i) [
+    | inl q ↦ let long = length-map es p in
+        ap (mark_at words2) q ∙ here
+        ∙ ap one_if (same ∙ sym (ap (λ ms. get_or ms k false) (map-set p es i e) ∙ ap (λ k. get_or (slice_set (map p es) i (p e)) k false) q ∙ get_or-set_same (map p es) i (p e) false (omega (arith, long, lt))))
+    | inr ne ↦ others k ne ∙ is k ∙ ap one_if (sym (ap (λ ms. get_or ms k false) (map-set p es i e) ∙ get_or-set_other (map p es) i k (p e) false ne))
+  ]
+
+  -- one for an entry that came
+  pub push_is : (e : Entry) (b : Bool) (words2 : List ℕ) → b ≡ p e → mark_at words2 (length es) ≡ one_if b → ((k : ℕ) → k ≢ length es → mark_at words2 k ≡ mark_at words k) →
+      MarksOf p (es ++ e ∷ []) words2
+  push_is e b words2 same here others k = elim (cases_eq k (length es)) [
+    | inl q ↦ ap (mark_at words2) q ∙ here ∙ ap one_if (same ∙ sym (at_end es) ∙ ap (λ k. get_or (map p (es ++ e ∷ [])) k false) (sym q))
+    | inr ne ↦ others k ne ∙ is k ∙ ap one_if (elsewhere es k ne)
+  ]
+    where
+      at_end : (es : List Entry) → get_or (map p (es ++ e ∷ [])) (length es) false ≡ p e
+      at_end [] = refl
+      at_end (d ∷ es) = at_end es
+
+      elsewhere : (es : List Entry) (k : ℕ) → k ≢ length es → get_or (map p es) k false ≡ get_or (map p (es ++ e ∷ [])) k false
+      elsewhere [] zero ne = absurd (ne refl)
+      elsewhere [] (suc k) ne = refl
+      elsewhere (d ∷ es) zero ne = refl
+      elsewhere (d ∷ es) (suc k) ne = elsewhere es k (λ q. ne (ap suc q))
+
+  pub stays : (i : ℕ) (d e : Entry) → slice_get es i ≡ Some d → p e ≡ p d → MarksOf p (slice_set es i e) words
+  stays i d e at same k = is k ∙ ap (λ ms. one_if (get_or ms k false)) (sym (map-set_same p es i e d (same ∙ ap p (sym (get_or_from_slice_get es i d d at)))))
+
+  pub kept_is : (n : ℕ) (words2 : List ℕ) → ((k : ℕ) → mark_at words2 k ≡ (if nat_lt k n then mark_at words k else 0)) → MarksOf p (take n es) words2
+  kept_is n words2 h k = h k ∙ ap (λ r. if nat_lt k n then r else 0) (is k) ∙ of_few n k es
+    where
+      of_few : (n k : ℕ) (es : List Entry) → (if nat_lt k n then one_if (get_or (map p es) k false) else 0) ≡ one_if (get_or (map p (take n es)) k false)
+      of_few n k es = ⊎_elim
+          (λ (lt : k < n). let t : nat_lt k n ≡ true = grind (arith, nat_tests) in
+          ap (λ b. if b then one_if (get_or (map p es) k false) else 0) t ∙ ap one_if (sym (get_or-take n (map p es) k false lt)) ∙ ap (λ ms. one_if (get_or ms k false)) (take-map p n es))
+          (λ (le : n ≤ k). let t : nat_lt k n ≡ false = grind (arith, nat_tests) in
+          let few = length-take n es in let long = length-map (take n es) p in
+          ap (λ b. if b then one_if (get_or (map p es) k false) else 0) t ∙ ap one_if (sym (get_or_past (map p (take n es)) k false (omega (arith, few, long, le)))))
+          (cases_lt k n)
+
+  pub dropped_is : (words2 : List ℕ) → ((k : ℕ) → mark_at words2 k ≡ mark_at words (k + 1)) → MarksOf p (drop 1 es) words2
+  dropped_is words2 h k = h k ∙ is (k + 1) ∙ ap (λ j. one_if (get_or (map p es) j false)) (add-one k) ∙ after es
+    where
+      after : (es : List Entry) → one_if (get_or (map p es) (suc k) false) ≡ one_if (get_or (map p (drop 1 es)) k false)
+      after [] = refl
+      after (e ∷ es) = refl
+
+  -- the mark at a position tells of the entry there
+  told : (es : List Entry) (k : ℕ) → holds_at p es k ≡ get_or (map p es) k false
+  told [] k = refl
+  told (e ∷ es) zero = refl
+  told (e ∷ es) (suc k) = told es k
+
+  within : (es : List Entry) (k : ℕ) → holds_at p es k ≡ true → k < length es
+  within [] k h = absurd (cc)
+  within (e ∷ es) zero h = omega arith
+  within (e ∷ es) (suc k) h = let lt = within es k h in omega (arith, lt)
+
+  unmarked : (b : Bool) → one_if b ≡ 0 → b ≡ false
+  unmarked true h = absurd (omega arith)
+  unmarked false h = refl
+
+  has_mark : (b : Bool) → one_if b ≡ 1 → b ≡ true
+  has_mark true h = refl
+  has_mark false h = absurd (omega arith)
+
+  pub next_is : length es ≤ 192 → (from : ℕ) (o : Option ℕ) → NextBit (mark_at words) from 192 o → Next p es from o
+  next_is few from None h = λ k low high. told es k ∙ unmarked _ (sym (is k) ∙ h k low (omega (arith, high, few)))
+  next_is few from (Some i) h =
+      let here = told es i ∙ has_mark _ (sym (is i) ∙ h.here) in
+      record { low = h.low; within = within es i here; before = λ k low high. told es k ∙ unmarked _ (sym (is k) ∙ h.before k low high); here = here }
+
+-- a ring of entries with its marks
+module _ (es : List Entry) (room : ℕ) (busy open_ones : List ℕ) (m : Marked es room busy open_ones) (r : Ring) (seen : record { entries = es; room = room } ≡ r) where
+  pub few_marked : length es ≤ 192
+  few_marked = let a = m.few in let b = m.within in omega (arith, a, b)
+
+  pub in_word : (i : ℕ) → i < length r.entries → i < 192
+  in_word i lt = let same = ap (λ (r : Ring). length r.entries) seen in omega (arith, same, lt, few_marked)
+
+  within_ring : (i : ℕ) → i < length r.entries → i < length es
+  within_ring i lt = let same = ap (λ (r : Ring). length r.entries) seen in omega (arith, same, lt)
+
+  pub few_rooms : r.room < 2 ^ 32
+  few_rooms = let as_many = ap (λ (r : Ring). r.room) seen in let f = m.few in omega (arith, f, as_many)
+
+  -- a position that was found has room
+  pub found_within : (p : Entry → Bool) (from : ℕ) (o : Option ℕ) → Next p r.entries from o → IfSome o (λ i. i < r.room)
+  found_within p from None h = tt
+  found_within p from (Some i) h =
+      let same = ap (λ (r : Ring). length r.entries) seen in
+      let as_many = ap (λ (r : Ring). r.room) seen in
+      let w = m.within in
+      let lt = h.within in
+      omega (arith, w, lt, same, as_many)
+
+  pub next_seen : (p : Entry → Bool) (from : ℕ) (o : Option ℕ) → Next p es from o → Next p r.entries from o
+  next_seen p from o h = subst (λ (r : Ring). Next p r.entries from o) seen h
+
+  pub set_marked : (i : ℕ) (e : Entry) (b c : Bool) (busy2 open2 : List ℕ) → i < length r.entries → b ≡ is_busy e → c ≡ is_open e →
+      mark_at busy2 i ≡ one_if b → ((k : ℕ) → k ≢ i → mark_at busy2 k ≡ mark_at busy k) → mark_at open2 i ≡ one_if c → ((k : ℕ) → k ≢ i → mark_at open2 k ≡ mark_at open_ones k) →
+      Marked (slice_set es i e) room busy2 open2
+  set_marked i e b c busy2 open2 lt is_b is_c h g j f = record {
+    few = m.few;
+    within = let long = length-set es i e in let w = m.within in omega (arith, long, w);
+    busy_is = put_is is_busy es busy m.busy_is i e b busy2 (within_ring i lt) is_b h g;
+    open_is = put_is is_open es open_ones m.open_is i e c open2 (within_ring i lt) is_c j f;
+  }
+
+  -- an entry that begins or is done isn't opened or resolved by that
+  change_marked : (f : Entry → Entry) (b : Bool) → ((d : Entry) → b ≡ is_busy (f d)) → ((d : Entry) → is_open (f d) ≡ is_open d) → (i : ℕ) (busy2 : List ℕ) (es2 : List Entry) (room2 : ℕ) → i < length r.entries →
+      mark_at busy2 i ≡ one_if b → ((k : ℕ) → k ≢ i → mark_at busy2 k ≡ mark_at busy k) →
+      ((e : Entry) → slice_get es i ≡ Some e → buffer es2 room2 ≡ buffer (slice_set es i (f e)) room) → Marked es2 room2 busy2 open_ones
+  change_marked f b is_b same i busy2 es2 room2 lt h g wrote = elim (slice_get_cases es i).1 [
+    | inl found ↦ there found.0 found.2
+    | inr past ↦ absurd (let le = past.0 in let ours = within_ring i lt in omega (arith, le, ours))
+  ]
+    where
+      there : (d : Entry) → slice_get es i ≡ Some d → Marked es2 room2 busy2 open_ones
+      there d at =
+          let e = f d in
+          subst (λ (b : Buffer Entry). Marked b.items b.capacity busy2 open_ones) (sym (wrote d at)) (record {
+            few = m.few;
+            within = let long = length-set es i e in let w = m.within in omega (arith, long, w);
+            busy_is = put_is is_busy es busy m.busy_is i e b busy2 (within_ring i lt) (is_b d) h g;
+            open_is = stays is_open es open_ones m.open_is i d e at (same d);
+          })
+
+  pub begin_marked : (due : ℕ) (o : Outcome) (i : ℕ) (busy2 : List ℕ) (es2 : List Entry) (room2 : ℕ) → i < length r.entries →
+      mark_at busy2 i ≡ one_if true → ((k : ℕ) → k ≢ i → mark_at busy2 k ≡ mark_at busy k) →
+      ((e : Entry) → slice_get es i ≡ Some e → buffer es2 room2 ≡ buffer (slice_set es i (begun e due o)) room) → Marked es2 room2 busy2 open_ones
+  begin_marked due o = change_marked (λ d. begun d due o) true (λ d. refl) (λ d. refl)
+
+  pub finish_marked : (i : ℕ) (busy2 : List ℕ) (es2 : List Entry) (room2 : ℕ) → i < length r.entries →
+      mark_at busy2 i ≡ one_if false → ((k : ℕ) → k ≢ i → mark_at busy2 k ≡ mark_at busy k) →
+      ((e : Entry) → slice_get es i ≡ Some e → buffer es2 room2 ≡ buffer (slice_set es i (record e { state = Done })) room) → Marked es2 room2 busy2 open_ones
+  finish_marked = change_marked (λ d. record d { state = Done }) false (λ d. refl) (λ d. refl)
+
+  pub push_marked : (e : Entry) (b c : Bool) (busy2 open2 : List ℕ) (n : ℕ) → n ≡ length r.entries → n < r.room → b ≡ is_busy e → c ≡ is_open e →
+      mark_at busy2 n ≡ one_if b → ((k : ℕ) → k ≢ n → mark_at busy2 k ≡ mark_at busy k) → mark_at open2 n ≡ one_if c → ((k : ℕ) → k ≢ n → mark_at open2 k ≡ mark_at open_ones k) →
+      Marked (es ++ e ∷ []) room busy2 open2
+  push_marked e b c busy2 open2 n is lt is_b is_c h g j f =
+      let as_many = ap (λ (r : Ring). length r.entries) seen in
+      let rooms = ap (λ (r : Ring). r.room) seen in
+      let at : n ≡ length es = omega (arith, is, as_many) in
+      record {
+        few = m.few;
+        within = let long = length-append es (e ∷ []) in omega (arith, long, lt, rooms, at);
+        busy_is = push_is is_busy es busy m.busy_is e b busy2 is_b (subst (λ n. mark_at busy2 n ≡ one_if b) at h) (λ k ne. g k (λ q. ne (q ∙ at)));
+        open_is = push_is is_open es open_ones m.open_is e c open2 is_c (subst (λ n. mark_at open2 n ≡ one_if c) at j) (λ k ne. f k (λ q. ne (q ∙ at)));
+      }
+
+  pub cut_marked : (n : ℕ) (busy2 open2 : List ℕ) → ((k : ℕ) → mark_at busy2 k ≡ (if nat_lt k n then mark_at busy k else 0)) → ((k : ℕ) → mark_at open2 k ≡ (if nat_lt k n then mark_at open_ones k else 0)) →
+      Marked (take n es) room busy2 open2
+  cut_marked n busy2 open2 h j = record {
+    few = m.few;
+    within = let long = length-take n es in let w = m.within in omega (arith, long, w);
+    busy_is = kept_is is_busy es busy m.busy_is n busy2 h;
+    open_is = kept_is is_open es open_ones m.open_is n open2 j;
+  }
+
+  pub pop_marked : (busy2 open2 : List ℕ) → ((k : ℕ) → mark_at busy2 k ≡ mark_at busy (k + 1)) → ((k : ℕ) → mark_at open2 k ≡ mark_at open_ones (k + 1)) → Marked (drop 1 es) room busy2 open2
+  pop_marked busy2 open2 h j = record {
+    few = m.few;
+    within = let long = length-drop 1 es in let w = m.within in omega (arith, long, w);
+    busy_is = dropped_is is_busy es busy m.busy_is busy2 h;
+    open_is = dropped_is is_open es open_ones m.open_is open2 j;
+  }
