@@ -26,6 +26,7 @@ impl Model for Line {
     ghost view = { λ l. l.bytes.items };
 }
 
+#[inline]
 fn hex_digit(d: u8) -> u8
     requires { d < 16 }
     ensures { result ≡ hex_digit d }
@@ -33,6 +34,7 @@ fn hex_digit(d: u8) -> u8
     DIGITS[d as usize]
 }
 
+#[inline]
 fn hex_digits(byte: u8) -> [u8; 2]
     ensures { result ≡ hex2 byte }
 {
@@ -64,6 +66,7 @@ impl Line {
     }
 
     /// Appends the bytes of a text, where there is room for them.
+    #[inline]
     pub fn add(&mut self, text: &[u8])
         requires { length self.old + length text.now ≤ LINE_MAX }
         ensures { self.new ≡ self.old ++ text.now }
@@ -72,6 +75,7 @@ impl Line {
     }
 
     /// Appends a number in decimal: at most 20 digits.
+    #[inline]
     pub fn add_decimal(&mut self, n: u64)
         requires { length self.old + 20 ≤ LINE_MAX }
         ensures text { self.new ≡ self.old ++ decimal n }
@@ -82,6 +86,7 @@ impl Line {
     }
 
     /// Appends a number of 32 bits in decimal: at most ten digits.
+    #[inline]
     pub fn add_decimal_word(&mut self, n: u32)
         requires { length self.old + 10 ≤ LINE_MAX }
         ensures text { self.new ≡ self.old ++ decimal n }
@@ -92,6 +97,7 @@ impl Line {
     }
 
     /// Appends the two hexadecimal digits of a byte.
+    #[inline]
     pub fn add_hex2(&mut self, byte: u8)
         requires { length self.old + 2 ≤ LINE_MAX }
         ensures text { self.new ≡ self.old ++ hex2 byte }
@@ -101,6 +107,7 @@ impl Line {
     }
 
     /// Appends the eight hexadecimal digits of a word.
+    #[inline]
     pub fn add_hex8(&mut self, word: u32)
         requires { length self.old + 8 ≤ LINE_MAX }
         ensures text { self.new ≡ self.old ++ hex8 word }

@@ -1,38 +1,25 @@
 //! The lines of a trace (`docs/formats.md`, "The trace").
-ghost use Rattle.std.specs.Prelude.{◌≡◌, ◌≤◌, ◌+◌, ◌*◌, ◌++◌, length, codes};
+ghost use Rattle.std.specs.Prelude.{◌≡◌, ◌≤◌, ◌+◌, ◌*◌, ◌++◌, length};
 ghost use Rattle.tool_io.specs.Outside.{Writes};
-ghost use Rattle.trace_text.specs.TraceText.{event_text, events_text, row_text};
+ghost use Rattle.trace_text.specs.TraceText.{events_text, row_text};
 
 use crate::events::{EVENT_MAX, add_event};
 use line_text::{LINE_MAX, Line};
 use tool_io::{Failed, Sink};
 use window_model::{Event, ROW_MAX, Row};
 
-/// The most bytes of an event in a line: a blank and its text.
-const PART_MAX: usize = 1 + EVENT_MAX;
-
 /// The most bytes of the number of a cycle.
 const CYCLE_MAX: usize = 10;
-
-// Appends a blank and the text of an event.
-fn add_with_blank(line: &mut Line, event: Event)
-    requires { length line.old + PART_MAX ≤ LINE_MAX }
-    ensures text { line.new ≡ line.old ++ (codes " " ++ event_text event) }
-    ensures short { length line.new ≤ length line.old + PART_MAX }
-{
-    line.add(b" ");
-    add_event(line, event);
-}
 
 #[tactic(auto, unfolding(crate::specs::TraceText::events_text))]
 fn add_events(line: &mut Line, events: &[Event])
     requires few { length events.now ≤ ROW_MAX }
     requires room { length line.old ≤ CYCLE_MAX }
     ensures text { line.new ≡ line.old ++ events_text events.now }
-    ensures short { length line.new ≤ length line.old + PART_MAX * length events.now }
+    ensures short { length line.new ≤ length line.old + EVENT_MAX * length events.now }
 {
     for event in events {
-        add_with_blank(line, *event);
+        add_event(line, *event);
     }
 }
 
