@@ -2,22 +2,18 @@
 use Rattle.std.proofs.Common.{◌≡◌, Bool, true, false, ◌&&◌, List, refl, ap, ◌∙◌}
 use Rattle.std.specs.Prelude.{if◌then◌else◌}
 use Rattle.rv_types.specs.declared.Kind.{Kind}
-use Rattle.rv_types.specs.declared.Kind.TheVariants.{Mul, Load, Div, Store}
+use Rattle.rv_types.specs.declared.Kind.TheVariants.{Alu, Mul, Load, Div, Store}
 use Rattle.machine_desc.specs.declared.Desc.{Desc}
 use Rattle.window_model.specs.declared.Entry.{Entry}
 use Rattle.window_model.specs.Around.{Around}
 use Rattle.window_model.specs.Order.{is_load}
-use Rattle.window_model.specs.Issue.{Port, DivPort, LoadPort, is_division, is_granted, may_at, may_issue, port_of, same_port, stores_done}
+use Rattle.window_model.specs.Issue.{Port, DivPort, LoadPort, begin_as, is_division, is_granted, may_at, may_issue, port_of, same_port, stores_done}
 use Rattle.window_model.proofs.Booleans.{both}
 use Rattle.window_model.proofs.Issuing.{load_behind, may_parts}
 
 pub the_other : {A : Type 0} (b : Bool) (x y z : A) → b ≡ false → z ≡ y → z ≡ (if b then x else y)
 the_other true x y z h e = absurd (cc)
 the_other false x y z h e = e
-
-pub the_one : {A : Type 0} (b : Bool) (x y z : A) → b ≡ true → z ≡ x → z ≡ (if b then x else y)
-the_one true x y z h e = e
-the_one false x y z h e = absurd (cc)
 
 -- a kind that is no load, and one that is no division
 pub no_load : (k : Kind) → (k ≡ Load → ⊥) → is_load k ≡ false
@@ -27,6 +23,14 @@ no_load _ h = refl
 pub no_division : (k : Kind) → (k ≡ Div → ⊥) → is_division k ≡ false
 no_division Div h = absurd (h refl)
 no_division _ h = refl
+
+-- any other kind takes one cycle of an arithmetic unit
+pub plain : (k : Kind) (d : Desc) (now : Around) (before : List Entry) (e : Entry) → (k ≡ Load → ⊥) → (k ≡ Div → ⊥) → (k ≡ Mul → ⊥) → (k ≡ Store → ⊥) → begin_as Alu d now before e ≡ begin_as k d now before e
+plain Load d now before e l v m s = absurd (l refl)
+plain Div d now before e l v m s = absurd (v refl)
+plain Mul d now before e l v m s = absurd (m refl)
+plain Store d now before e l v m s = absurd (s refl)
+plain _ d now before e l v m s = refl
 
 -- ---- by the port
 
@@ -38,20 +42,34 @@ other d now before e k port q h = none (may_issue d now before e) _ _ (ap (λ k.
     none true t l h = ap (λ t. t && l) h
     none false t l h = refl
 
--- one that is granted its own port is granted that of loads where it is a load, and that of divisions where it is one
-pub granted_load : (k : Kind) (d : Desc) (now : Around) (before : List Entry) (e : Entry) → e.item.kind ≡ k → is_granted d now (port_of k) before e ≡ true → is_granted d now LoadPort before e ≡ is_load k
-granted_load Load d now before e q h = h
-granted_load Div d now before e q h = other d now before e Div LoadPort q refl
-granted_load Mul d now before e q h = other d now before e Mul LoadPort q refl
-granted_load Store d now before e q h = other d now before e Store LoadPort q refl
-granted_load k d now before e q h = other d now before e k LoadPort q refl
+-- it is granted that of loads where it is a load that is granted its own, and so of divisions
+pub at_load : (k : Kind) (d : Desc) (now : Around) (before : List Entry) (e : Entry) → e.item.kind ≡ k → is_granted d now LoadPort before e ≡ (is_load k && is_granted d now (port_of k) before e)
+at_load Load d now before e q = refl
+at_load Div d now before e q = other d now before e Div LoadPort q refl
+at_load Mul d now before e q = other d now before e Mul LoadPort q refl
+at_load Store d now before e q = other d now before e Store LoadPort q refl
+at_load k d now before e q = other d now before e k LoadPort q refl
 
-pub granted_division : (k : Kind) (d : Desc) (now : Around) (before : List Entry) (e : Entry) → e.item.kind ≡ k → is_granted d now (port_of k) before e ≡ true → is_granted d now DivPort before e ≡ is_division k
-granted_division Div d now before e q h = h
-granted_division Load d now before e q h = other d now before e Load DivPort q refl
-granted_division Mul d now before e q h = other d now before e Mul DivPort q refl
-granted_division Store d now before e q h = other d now before e Store DivPort q refl
-granted_division k d now before e q h = other d now before e k DivPort q refl
+pub at_division : (k : Kind) (d : Desc) (now : Around) (before : List Entry) (e : Entry) → e.item.kind ≡ k → is_granted d now DivPort before e ≡ (is_division k && is_granted d now (port_of k) before e)
+at_division Div d now before e q = refl
+at_division Load d now before e q = other d now before e Load DivPort q refl
+at_division Mul d now before e q = other d now before e Mul DivPort q refl
+at_division Store d now before e q = other d now before e Store DivPort q refl
+at_division k d now before e q = other d now before e k DivPort q refl
+
+and_with : (a b c : Bool) → b ≡ c → (a && b) ≡ (if c then a else false)
+and_with true b true h = h
+and_with true b false h = h
+and_with false b true h = refl
+and_with false b false h = refl
+
+-- one that is served is at the port of loads where it is a load, one that is refused isn't; and so of divisions
+module _ (d : Desc) (now : Around) (before : List Entry) (e : Entry) where
+  pub load_where : (b : Bool) → is_granted d now (port_of e.item.kind) before e ≡ b → is_granted d now LoadPort before e ≡ (if b then is_load e.item.kind else false)
+  load_where b h = at_load e.item.kind d now before e refl ∙ and_with (is_load e.item.kind) _ b h
+
+  pub division_where : (b : Bool) → is_granted d now (port_of e.item.kind) before e ≡ b → is_granted d now DivPort before e ≡ (if b then is_division e.item.kind else false)
+  division_where b h = at_division e.item.kind d now before e refl ∙ and_with (is_division e.item.kind) _ b h
 
 -- ---- a load that is granted a port has only Done stores before it
 

@@ -10,8 +10,8 @@ use Rattle.window_model.specs.Along.{Along, Fact}
 use Rattle.window_model.specs.Row.{Row, with_events}
 use Rattle.window_model.specs.State.{Machine}
 use Rattle.window_model.specs.Around.{Around, around}
-use Rattle.window_model.specs.Order.{before_at, each_from, first_from, is_waiting, ready}
-use Rattle.window_model.specs.Issue.{Port, DivPort, LoadPort, begin_as, issue, issue_entry, may_at, may_issue, port_of, same_port, waits}
+use Rattle.window_model.specs.Order.{Place, before_at, each_from, first_from, is_waiting, ready}
+use Rattle.window_model.specs.Issue.{Port, DivPort, LoadPort, begin_as, issue, issue_entry, may_at, may_issue, port_of, same_port, taken_for, waits}
 use Rattle.stations.specs.Stations.{Station, awaits_none}
 use Rattle.parts_stand.specs.Parts.{Parts, Stand}
 use Rattle.parts_stand.specs.Steps.{station_of}
@@ -20,6 +20,7 @@ use Rattle.core_parts.specs.Described.{Described}
 use Rattle.core_parts.specs.Held.{Held, Whole, described, in_flight, machine_of}
 use Rattle.core_parts.specs.Stands.{table_and_stations}
 use Rattle.core_parts.proofs.Whole.{shown_by, told_by}
+use Rattle.issue.specs.Shared.{divider_left}
 use Rattle.issue.proofs.Leaving.{leaves}
 use Rattle.issue.proofs.Testing.{grants_none}
 
@@ -84,11 +85,11 @@ module _ (d : Desc) (x : Machine) (h : Along (Stays d (around x)) [] x.window) w
   -- and leaves the machine as it is
   pub idle_machine : x ≡ (issue d x).machine
   idle_machine =
-      leaves d x x.window None None x.cache x.misses x.divider
+      leaves d x x.window None x.cache x.misses x.divider
       (sym (ap (map (λ b. b.entry)) (each_waits d (around x) [] x.window h) ∙ same_entries x.window))
       (sym (ap (option_map _) (none_first d (around x) LoadPort [] x.window h)))
-      (sym (ap (option_map _) (none_first d (around x) DivPort [] x.window h)))
-      refl refl refl
+      refl refl
+      (sym (ap (λ o. divider_left (option_map (λ (p : Place). taken_for (around x) p.before p.entry) o) x.divider) (none_first d (around x) DivPort [] x.window h)))
 
 -- ---- of parts with no ready station
 

@@ -1,12 +1,13 @@
 -- Parts that stand for the window go on to do so as the entries that have begun come in their places, the youngest first.
 use Rattle.std.proofs.Common.{◌≡◌, ℕ, zero, suc, ◌<◌, List, [], ◌∷◌, ◌++◌, length, Option, Some, refl, ap, sym, ◌∙◌, subst, arith, slice_get}
-use Rattle.std.specs.Prelude.{slice_set}
+use Rattle.std.specs.Prelude.{if◌then◌else◌, slice_set}
 use Rattle.std.specs.List.{All, AllPairs, remove}
 use Rattle.std.specs.Option.{option_to_list}
 use Rattle.std.proofs.lemmas.List.Elements.{All-head, All-nil, All-cons, All-tail}
 use Rattle.std.proofs.lemmas.Option.{slice_get_within}
 use Rattle.window_model.specs.declared.Entry.{Entry}
 use Rattle.window_model.specs.Issue.{begun}
+use Rattle.window_model.specs.Order.{is_waiting}
 use Rattle.rob_ring.specs.Ring.{Ring}
 use Rattle.stations.specs.Stations.{Station, Stations}
 use Rattle.core_parts.specs.Stands.{InFlight, Stands, table_and_stations}
@@ -14,7 +15,7 @@ use Rattle.core_parts.proofs.Steps.{stands_begun}
 use Rattle.parts_stand.proofs.Answering.{has_station, stations_older}
 use Rattle.window_model.proofs.Serials.{all_left, all_right}
 use Rattle.issue.specs.declared.decide.Put.{Put}
-use Rattle.issue.specs.Puts.{ArePuts, IsPut, begun_at, placed}
+use Rattle.issue.specs.Puts.{ArePuts, IsPut, freed, placed}
 use Rattle.issue.proofs.Turning.{placed_push}
 
 -- ---- what stands
@@ -25,10 +26,11 @@ Ties entries held now held_now = (p : InFlight) → Stands (record p { window = 
 
 -- an entry that has begun comes in its place, and its station is freed
 ties_more : (entries : List Entry) (held : List Station) (now : List Entry) (held_now : List Station) (put : Put) →
-    Ties entries held now held_now → (k : IsPut now put) → Ties entries held (slice_set now put.position (begun k.old put.due put.outcome)) (remove held_now put.station)
+    Ties entries held now held_now → IsPut now put → Ties entries held (slice_set now put.position put.entry) (freed put held_now)
 ties_more entries held now held_now put t k =
-    subst (λ n. Ties entries held (slice_set now put.position (begun k.old put.due put.outcome)) (remove held_now n)) (sym k.station)
-    (λ p s. stands_begun (record p { window = now; held = held_now }) put.position put.due k.old put.outcome (t p s) k.here k.waits)
+    let by_entry : Entry → Type 0 = λ e. Ties entries held (slice_set now put.position e) (if is_waiting e.state then held_now else remove held_now put.station) in
+    let by_station : ℕ → Type 0 = λ n. Ties entries held (slice_set now put.position (begun k.old k.due k.outcome)) (remove held_now n) in
+    subst by_entry (sym k.is) (subst by_station (sym k.station) (λ p s. stands_begun (record p { window = now; held = held_now }) put.position k.due k.old k.outcome (t p s) k.here k.waits))
 
 -- ---- the puts
 
@@ -46,6 +48,9 @@ still_put window put m e lt k = record {
   here = get_other window put.position m e lt ∙ k.here;
   waits = k.waits;
   station = k.station ∙ sym (stations_older window put.position m e (omega (arith, lt)));
+  due = k.due;
+  outcome = k.outcome;
+  is = k.is;
 }
 
 all_still : (window : List Entry) (puts : List Put) (m : ℕ) (e : Entry) → All (λ p. p.position < m) puts → All (IsPut window) puts → All (IsPut (slice_set window m e)) puts
@@ -111,10 +116,6 @@ module _ (puts : List Put) (rob : Ring) (stations : Stations) (left rest : List 
   here : IsPut r.entries put
   here = All-head (IsPut r.entries) put [] (all_right (IsPut r.entries) rest (put ∷ []) are.each_put)
 
-  -- the entry, as it begins
-  abbrev begins : Entry
-  begins = begun here.old put.due put.outcome
-
   -- its place is in the window, and its station among the stations
   pub place_within : put.position < length r.entries
   place_within = slice_get_within r.entries put.position here.old here.here
@@ -124,14 +125,13 @@ module _ (puts : List Put) (rob : Ring) (stations : Stations) (left rest : List 
       subst (λ n. n < length s.held) (sym here.station)
       ((has_station (table_and_stations (record k.0 { window = r.entries; held = s.held })) put.position here.old (t.ties k.0 k.1).stand here.here here.waits).within)
 
-  pub places_more : (r2 : Ring) (s2 : Stations) → ((e : Entry) → slice_get r.entries put.position ≡ Some e → r2 ≡ record r { entries = slice_set r.entries put.position (begun e put.due put.outcome) }) →
-      s2 ≡ record s { held = remove s.held put.station } → PlacesOn puts rob stations rest r2 s2
+  pub places_more : (r2 : Ring) (s2 : Stations) → r2 ≡ record r { entries = slice_set r.entries put.position put.entry } → s2 ≡ record s { held = freed put s.held } → PlacesOn puts rob stations rest r2 s2
   places_more r2 s2 h k =
-      subst (λ r2. PlacesOn puts rob stations rest r2 s2) (sym (h here.old here.here))
-      (subst (λ s2. PlacesOn puts rob stations rest (record r { entries = slice_set r.entries put.position begins }) s2) (sym k)
+      subst (λ r2. PlacesOn puts rob stations rest r2 s2) (sym h)
+      (subst (λ s2. PlacesOn puts rob stations rest (record r { entries = slice_set r.entries put.position put.entry }) s2) (sym k)
       (record {
-        whole = sym (placed_push rest put r.entries ∙ ap (λ o. placed rest (begun_at put r.entries o)) here.here) ∙ ap (λ ps. placed ps r.entries) (sym split) ∙ t.whole;
-        rest = still_left r.entries rest put begins are;
+        whole = sym (placed_push rest put r.entries) ∙ ap (λ ps. placed ps r.entries) (sym split) ∙ t.whole;
+        rest = still_left r.entries rest put put.entry are;
         same_room = t.same_room;
         same_places = t.same_places;
         ties = ties_more rob.entries stations.held r.entries s.held put t.ties here;

@@ -1,12 +1,12 @@
 -- The phase leaves parts that hold what the machine then holds, and stand for it.
-use Rattle.std.proofs.Common.{◌≡◌, ℕ, ◌<◌, ◌≤◌, length, [], map, ap, sym, ◌∙◌, subst, arith}
+use Rattle.std.proofs.Common.{◌≡◌, ℕ, ◌<◌, ◌≤◌, length, [], ap, sym, ◌∙◌, subst, arith}
 use Rattle.std.specs.List.{flat_map}
 use Rattle.std.specs.Option.{option_map}
 use Rattle.machine_desc.proofs.EveryDesc.{every_desc}
 use Rattle.window_model.specs.declared.Divider.{Divider}
-use Rattle.window_model.specs.Around.{Around}
-use Rattle.window_model.specs.Issue.{DivPort, LoadPort, access_of, issue, issue_entry, may_at, taken_for}
-use Rattle.window_model.specs.Order.{each, first}
+use Rattle.window_model.specs.Around.{Around, around}
+use Rattle.window_model.specs.Issue.{issue, issue_entry}
+use Rattle.window_model.specs.Order.{each}
 use Rattle.window_model.specs.State.{Machine}
 use Rattle.window_model.specs.Row.{Row, most_issued, with_events}
 use Rattle.machine_facts.specs.Sized.{Sized}
@@ -29,9 +29,9 @@ use Rattle.issue.specs.Decisions.{Decides}
 use Rattle.issue.specs.Parts.{holding}
 use Rattle.issue.specs.Ports.{left_in_all}
 use Rattle.issue.specs.Puts.{placed}
-use Rattle.issue.specs.Shared.{HasUser, IsMiss, cache_left, divider_left, misses_left}
+use Rattle.issue.specs.Shared.{IsMiss, cache_left, misses_left}
 use Rattle.issue.proofs.Advanced.{issue_advanced}
-use Rattle.issue.proofs.Leaving.{has_room, has_user, leaves}
+use Rattle.issue.proofs.Leaving.{has_room, leaves}
 
 -- ---- before the phase
 
@@ -60,18 +60,15 @@ abbrev pub now_with : Held → Divider → Around
 now_with h v = record { cycle = h.cycle; regs = h.regs; ram = h.ram; cache = h.tags.sets; misses = h.mshrs.misses; free_from = v.free_from }
 
 -- what is decided for what is seen is decided for the machine
-pub decides : (h : Held) (v : Divider) (decided : Decided) → Whole h → v ≡ h.ports.divider →
-    placed decided.puts.items h.rob.entries ≡ map (λ b. b.entry) (each (issue_entry h.desc (now_with h v)) h.rob.entries) →
-    option_map as_access decided.load ≡ option_map (λ p. access_of h.desc (now_with h v) p.before p.entry) (first (may_at h.desc (now_with h v) LoadPort) h.rob.entries) →
-    decided.division ≡ option_map (λ p. taken_for (now_with h v) p.before p.entry) (first (may_at h.desc (now_with h v) DivPort) h.rob.entries) → Decides h.desc (machine_of h) decided
-decides h v decided w q a b c = subst (λ (v : Divider). Decides h.desc (record (machine_of h) { divider = v }) decided) q (record { window = a; load = b; division = c })
+pub decides : (h : Held) (v old new : Divider) (decided : Decided) → Whole h → v ≡ h.ports.divider → old ≡ h.ports.divider → Decides h.desc (now_with h v) h.rob.entries decided old new →
+    Decides h.desc (around (machine_of h)) h.rob.entries decided h.ports.divider new
+decides h v old new decided w q b k =
+    subst (λ (v : Divider). Decides h.desc (now_with h v) h.rob.entries decided h.ports.divider new) q
+    (subst (λ (old : Divider). Decides h.desc (now_with h v) h.rob.entries decided old new) b k)
 
--- a load takes a register where one is left, and a division is its divider's user
-pub register_left : (h : Held) (decided : Decided) → Whole h → Decides h.desc (machine_of h) decided → IsMiss decided.load → length h.mshrs.misses < h.mshrs.room
-register_left h decided w k m = subst (λ n. length h.mshrs.misses < n) (sym (ap (λ (s : Sizes). s.registers) w.made)) (has_room h.desc (machine_of h) decided k m)
-
-pub user_told : (h : Held) (decided : Decided) → Whole h → Decides h.desc (machine_of h) decided → HasUser decided.division
-user_told h decided w k = has_user h.desc (machine_of h) decided k
+-- a load takes a register where one is left
+pub register_left : (h : Held) (decided : Decided) (new : Divider) → Whole h → Decides h.desc (around (machine_of h)) h.rob.entries decided h.ports.divider new → IsMiss decided.load → length h.mshrs.misses < h.mshrs.room
+register_left h decided new w k m = subst (λ n. length h.mshrs.misses < n) (sym (ap (λ (s : Sizes). s.registers) w.made)) (has_room h.desc (machine_of h) decided.load k.load m)
 
 -- and so are its events
 pub issued_row : (h : Held) (divider : Divider) (v : Described) (old new : Row) → Whole h → divider ≡ h.ports.divider →
@@ -83,18 +80,17 @@ issued_row h divider v old new w q e s =
 -- ---- what the phase leaves
 
 -- the parts that are written hold what the definition leaves
-pub issued_machine : (h : Held) (decided : Decided) (rob : Ring) (stations : Stations) (tags : Cache) (mshrs : Registers) (ports new_ports : Ports) → Whole h → Decides h.desc (machine_of h) decided →
+pub issued_machine : (h : Held) (decided : Decided) (rob : Ring) (stations : Stations) (tags : Cache) (mshrs : Registers) (ports : Ports) → Whole h →
+    Decides h.desc (around (machine_of h)) h.rob.entries decided h.ports.divider ports.divider →
     rob ≡ record (h.rob) { entries = placed decided.puts.items h.rob.entries } →
     tags ≡ record (h.tags) { sets = cache_left h.tags.desc (option_map as_access decided.load) h.tags.sets } →
     mshrs ≡ record (h.mshrs) { misses = misses_left h.desc h.cycle (option_map as_access decided.load) h.mshrs.misses } →
-    ports.divider ≡ h.ports.divider → new_ports ≡ record ports { divider = divider_left decided.division ports.divider } →
-    machine_of (record h { rob = rob; stations = stations; tags = tags; mshrs = mshrs; ports = new_ports }) ≡ (issue h.desc (machine_of h)).machine
-issued_machine h decided rob stations tags mshrs ports new_ports w k r t m v n =
-    leaves h.desc (machine_of h) rob.entries (option_map as_access decided.load) decided.division tags.sets mshrs.misses new_ports.divider
-    (ap (λ (r : Ring). r.entries) r ∙ k.window) k.load k.division
+    machine_of (record h { rob = rob; stations = stations; tags = tags; mshrs = mshrs; ports = ports }) ≡ (issue h.desc (machine_of h)).machine
+issued_machine h decided rob stations tags mshrs ports w k r t m =
+    leaves h.desc (machine_of h) rob.entries (option_map as_access decided.load) tags.sets mshrs.misses ports.divider
+    (ap (λ (r : Ring). r.entries) r ∙ k.window) k.load
     (ap (λ (t : Cache). t.sets) t ∙ ap (λ (s : Sizes). cache_left s.tags (option_map as_access decided.load) h.tags.sets) w.made)
-    (ap (λ (m : Registers). m.misses) m)
-    (ap (λ (p : Ports). p.divider) n ∙ ap (divider_left decided.division) v)
+    (ap (λ (m : Registers). m.misses) m) k.divider
 
 module _ (h : Held) (rob : Ring) (stations : Stations) (tags : Cache) (mshrs : Registers) (ports : Ports) where
   abbrev new : Held

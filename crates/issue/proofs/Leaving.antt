@@ -1,6 +1,5 @@
 -- What the phase leaves of the machine, once it has decided.
 use Rattle.std.proofs.Common.{◌≡◌, ℕ, ◌+◌, ◌<◌, ◌≤◌, List, [], ◌∷◌, length, map, Option, Some, None, refl, ap, sym, subst, ◌∙◌, arith}
-use Rattle.std.specs.Prelude.{is_some}
 use Rattle.std.specs.Option.{option_map}
 use Rattle.machine_desc.specs.declared.Desc.{Desc}
 use Rattle.window_model.specs.declared.Divider.{Divider}
@@ -8,18 +7,17 @@ use Rattle.window_model.specs.declared.Entry.{Entry}
 use Rattle.window_model.specs.declared.Miss.{Miss}
 use Rattle.window_model.specs.State.{Machine}
 use Rattle.window_model.specs.Around.{around}
-use Rattle.window_model.specs.Order.{Place, each, first}
+use Rattle.window_model.specs.Order.{Place, first}
 use Rattle.window_model.specs.Access as model
 use Rattle.window_model.specs.Access.{taken_lines}
-use Rattle.window_model.specs.Issue.{DivPort, LoadPort, access_of, after_load, divider_after, issue, issue_entry, may_at, taken_for}
+use Rattle.window_model.specs.Issue.{DivPort, LoadPort, access_of, after_load, divider_after, issue, may_at, taken_for}
 use Rattle.window_model.proofs.Issuing.{by_load}
 use Rattle.issue.specs.declared.access.Access.{Access}
 use Rattle.issue.specs.declared.access.Access.TheVariants.{Faults, Forwards, Looks, Waits}
 use Rattle.issue.specs.declared.access.Line.TheVariants.{Hits, Joins, Takes}
-use Rattle.issue.specs.declared.decide.Decided.{Decided}
 use Rattle.issue.specs.Accesses.{as_access}
-use Rattle.issue.specs.Decisions.{Decides}
-use Rattle.issue.specs.Shared.{HasUser, IsMiss, cache_left, divider_left, misses_left}
+use Rattle.issue.specs.Decisions.{division_of, load_of, turns}
+use Rattle.issue.specs.Shared.{IsMiss, cache_left, divider_left, misses_left}
 
 -- what the access of the load in this place comes to, and the divider with the division in it
 abbrev loaded : Desc → Machine → Option Place → Option model.Access
@@ -38,20 +36,19 @@ divider_is : (x : Machine) (o : Option Place) → divider_after x o ≡ divider_
 divider_is x None = refl
 divider_is x (Some p) = refl
 
-pub leaves : (d : Desc) (x : Machine) (window : List Entry) (load : Option model.Access) (division : Option Divider) (cache : List (List ℕ)) (misses : List Miss) (divider : Divider) →
-    window ≡ map (λ b. b.entry) (each (issue_entry d (around x)) x.window) →
-    load ≡ loaded d x (first (may_at d (around x) LoadPort) x.window) → division ≡ divided x (first (may_at d (around x) DivPort) x.window) →
-    cache ≡ cache_left d load x.cache → misses ≡ misses_left d x.cycle load x.misses → divider ≡ divider_left division x.divider →
+pub leaves : (d : Desc) (x : Machine) (window : List Entry) (load : Option model.Access) (cache : List (List ℕ)) (misses : List Miss) (divider : Divider) →
+    window ≡ map (λ b. b.entry) (turns d (around x) x.window) → load ≡ load_of d (around x) x.window →
+    cache ≡ cache_left d load x.cache → misses ≡ misses_left d x.cycle load x.misses → divider ≡ divider_left (division_of d (around x) x.window) x.divider →
     record x { window = window; cache = cache; misses = misses; divider = divider } ≡ (issue d x).machine
-leaves d x window load division cache misses divider w l v c m n =
+leaves d x window load cache misses divider w l c m n =
     let o = first (may_at d (around x) LoadPort) x.window in
     let o2 = first (may_at d (around x) DivPort) x.window in
-    let entries = map (λ b. b.entry) (each (issue_entry d (around x)) x.window) in
+    let entries = map (λ b. b.entry) (turns d (around x) x.window) in
     let shared : Machine → Machine = λ y. record y { window = entries; divider = divider_after x o2 } in
     let whole = ap shared (load_is d x o) in
     let a : cache ≡ cache_left d (loaded d x o) x.cache = c ∙ ap (λ l. cache_left d l x.cache) l in
     let b : misses ≡ misses_left d x.cycle (loaded d x o) x.misses = m ∙ ap (λ l. misses_left d x.cycle l x.misses) l in
-    let e : divider ≡ divider_after x o2 = n ∙ ap (λ v. divider_left v x.divider) v ∙ sym (divider_is x o2) in
+    let e : divider ≡ divider_after x o2 = n ∙ sym (divider_is x o2) in
     let by_window : List Entry → Machine = λ window. record x { window = window; cache = cache; misses = misses; divider = divider } in
     let by_cache : List (List ℕ) → Machine = λ cache. record x { window = entries; cache = cache; misses = misses; divider = divider } in
     let by_misses : List Miss → Machine = λ misses. record x { window = entries; cache = cache_left d (loaded d x o) x.cache; misses = misses; divider = divider } in
@@ -88,21 +85,5 @@ room_by d x o (Some Forwards) h m = absurd m
 room_by d x o (Some Waits) h m = absurd m
 room_by d x o None h m = absurd m
 
-pub has_room : (d : Desc) (x : Machine) (decided : Decided) → Decides d x decided → IsMiss decided.load → length x.misses < d.cache_mshrs
-has_room d x decided h m = room_by d x (first (may_at d (around x) LoadPort) x.window) decided.load h.load m
-
--- ---- a division is its divider's user
-
-user_by : (x : Machine) (o : Option Place) (division : Option Divider) → division ≡ divided x o → HasUser division
-user_by x None division h = absurd_or division h
-  where
-    absurd_or : (v : Option Divider) → v ≡ None → HasUser v
-    absurd_or None h = tt
-    absurd_or (Some v) h = absurd (cc)
-user_by x (Some p) None h = absurd (cc)
-user_by x (Some p) (Some v) h =
-    let is : v ≡ taken_for (around x) p.before p.entry = cc in
-    ap (λ (v : Divider). is_some v.user) is
-
-pub has_user : (d : Desc) (x : Machine) (decided : Decided) → Decides d x decided → HasUser decided.division
-has_user d x decided h = user_by x (first (may_at d (around x) DivPort) x.window) decided.division h.division
+pub has_room : (d : Desc) (x : Machine) (load : Option Access) → option_map as_access load ≡ load_of d (around x) x.window → IsMiss load → length x.misses < d.cache_mshrs
+has_room d x load h m = room_by d x (first (may_at d (around x) LoadPort) x.window) load h m

@@ -8,10 +8,12 @@ use Rattle.std.proofs.lemmas.List.{take_more}
 use Rattle.std.proofs.lemmas.Option.{get_or_from_slice_get, slice_get_within}
 use Rattle.rv_types.specs.Value.{one_if}
 use Rattle.machine_desc.specs.declared.Desc.{Desc}
+use Rattle.window_model.specs.declared.Divider.{Divider}
 use Rattle.window_model.specs.declared.Entry.{Entry}
 use Rattle.window_model.specs.Around.{Around}
 use Rattle.window_model.specs.Order.{Place, before_at, first, first_from}
-use Rattle.window_model.specs.Issue.{Port, asking, is_granted, may_at, ports}
+use Rattle.window_model.specs.Issue.{Port, DivPort, asking, is_granted, may_at, ports, taken_for}
+use Rattle.issue.specs.Shared.{divider_left}
 
 -- one element more
 pub one_more : {X : Type 0} (xs : List X) (i : ℕ) (x : X) → slice_get xs i ≡ Some x → take (i + 1) xs ≡ take i xs ++ x ∷ []
@@ -106,3 +108,18 @@ slot_more f d now port window i e old new h one n o =
     let none : nat_lt (asking d now port before) 1 ≡ is_none old = sym (ap is_none o ∙ unasked f d now port window i) in
     let g : is_granted d now port before e ≡ (t && is_none old) = ap (λ n. t && nat_lt (asking d now port before) n) one ∙ ap (λ b. t && b) none in
     n ∙ ap (λ b. if b then Some (f before e) else old) g ∙ value_more t old (f before e) ∙ ap (λ o. or_else o (if t then Some (f before e) else None)) o ∙ sym (first_more (may_at d now port) f window i e h)
+
+-- and so is the divider that a division takes
+left_by : (b : Bool) (v : Divider) (o : Option Divider) (start : Divider) → (if b then v else divider_left o start) ≡ divider_left (if b then Some v else o) start
+left_by true v o start = refl
+left_by false v o start = refl
+
+pub divider_more : (d : Desc) (now : Around) (window : List Entry) (i : ℕ) (e : Entry) (start old new : Divider) → slice_get window i ≡ Some e →
+    new ≡ (if is_granted d now DivPort (before_at window i) e then taken_for now (before_at window i) e else old) →
+    old ≡ divider_left (of_first (may_at d now DivPort) (taken_for now) (take i window)) start → new ≡ divider_left (of_first (may_at d now DivPort) (taken_for now) (take (i + 1) window)) start
+divider_more d now window i e start old new h n o =
+    let b = is_granted d now DivPort (before_at window i) e in
+    let v = taken_for now (before_at window i) e in
+    let taken = of_first (may_at d now DivPort) (taken_for now) (take i window) in
+    n ∙ ap (λ o. if b then v else o) o ∙ left_by b v taken start
+    ∙ ap (λ o. divider_left o start) (slot_more (taken_for now) d now DivPort window i e taken (if b then Some v else taken) h refl refl refl)

@@ -1,6 +1,6 @@
 -- What an entry's turn comes to: it waits on, or it begins with one event.
 use Rattle.std.proofs.Common.{◌≡◌, ℕ, ◌+◌, ◌<◌, ◌≤◌, Bool, true, false, List, [], ◌∷◌, ◌++◌, length, Some, refl, ap, sym, subst, ◌∙◌, inl, inr, arith, append-nil, slice_get}
-use Rattle.std.specs.Prelude.{if◌then◌else◌, ◌⊎◌}
+use Rattle.std.specs.Prelude.{if◌then◌else◌, slice_set, ◌⊎◌}
 use Rattle.std.specs.List.{All, AllPairs}
 use Rattle.std.proofs.lemmas.List.{set_at}
 use Rattle.std.proofs.lemmas.List.Elements.{All-push}
@@ -20,8 +20,8 @@ use Rattle.window_model.proofs.Booleans.{both}
 use Rattle.window_model.proofs.Issuing.{by_load, may_parts}
 use Rattle.parts_stand.specs.Steps.{station_of}
 use Rattle.issue.specs.declared.decide.Put.{Put}
-use Rattle.issue.specs.Deciding.{puts_of}
-use Rattle.issue.specs.Puts.{IsPut, begun_at, placed}
+use Rattle.issue.specs.Puts.{IsPut, placed}
+use Rattle.issue.specs.Turns.{puts_of}
 
 -- it is granted a port, and begins with one event
 pub record Begins (granted : Bool) (e : Entry) (b : Begun) : Type 0 where
@@ -71,6 +71,10 @@ granted_waits d now before e h = (may_parts d now before e (both (may_issue d no
 pub turn_waits : (d : Desc) (now : Around) (before : List Entry) (e : Entry) → is_granted d now (port_of e.item.kind) before e ≡ false → issue_entry d now before e ≡ waits e
 turn_waits d now before e h = ap (λ b. if b then begin_as e.item.kind d now before e else waits e) h
 
+-- one that is served does what its kind does
+pub turn_begins : (d : Desc) (now : Around) (before : List Entry) (e : Entry) → is_granted d now (port_of e.item.kind) before e ≡ true → issue_entry d now before e ≡ begin_as e.item.kind d now before e
+turn_begins d now before e h = ap (λ b. if b then begin_as e.item.kind d now before e else waits e) h
+
 -- ---- the puts
 
 -- the puts of the entries before a position
@@ -88,8 +92,8 @@ puts_more window i station e puts granted b h n w (inl q) t =
     subst (PutsTo window (i + 1)) (sym (ap (λ b. puts ++ puts_of i station b) q ∙ append-nil puts))
     (record { each_put = t.each_put; older = later i puts t.older; by_age = t.by_age })
 puts_more window i station e puts granted b h n w (inr a) t =
-    let p : Put = record { position = i; station = station; due = a.due; outcome = a.outcome } in
-    let put : IsPut window p = record { old = e; here = h; waits = w a.has_port; station = n } in
+    let p : Put = record { position = i; station = station; entry = begun e a.due a.outcome } in
+    let put : IsPut window p = record { old = e; here = h; waits = w a.has_port; station = n; due = a.due; outcome = a.outcome; is = refl } in
     subst (PutsTo window (i + 1)) (sym (ap (λ b. puts ++ puts_of i station b) a.is))
     (record {
       each_put = All-push (IsPut window) puts p t.each_put put;
@@ -98,16 +102,9 @@ puts_more window i station e puts granted b h n w (inr a) t =
     })
 
 -- the youngest is put in its place first
-pub placed_push : (puts : List Put) (p : Put) (window : List Entry) → placed (puts ++ p ∷ []) window ≡ placed puts (begun_at p window (slice_get window p.position))
+pub placed_push : (puts : List Put) (p : Put) (window : List Entry) → placed (puts ++ p ∷ []) window ≡ placed puts (slice_set window p.position p.entry)
 placed_push [] p window = refl
-placed_push (q ∷ ps) p window = ap (λ window. begun_at q window (slice_get window q.position)) (placed_push ps p window)
-
-get_at : (older : List Entry) (e : Entry) (younger : List Entry) (i : ℕ) → length older ≡ i → slice_get (older ++ e ∷ younger) i ≡ Some e
-get_at older e younger i l = subst (λ i. slice_get (older ++ e ∷ younger) i ≡ Some e) l (here older)
-  where
-    here : (older : List Entry) → slice_get (older ++ e ∷ younger) (length older) ≡ Some e
-    here [] = refl
-    here (x ∷ older) = here older
+placed_push (q ∷ ps) p window = ap (λ window. slice_set window q.position q.entry) (placed_push ps p window)
 
 pub placed_more : (puts : List Put) (i station : ℕ) (e : Entry) (granted : Bool) (b : Begun) (older younger : List Entry) → length older ≡ i → Acts granted e b →
     placed (puts ++ puts_of i station b) (older ++ e ∷ younger) ≡ placed puts (older ++ b.entry ∷ younger)
@@ -116,6 +113,5 @@ placed_more puts i station e granted b older younger l (inl q) =
     subst P (sym q) (ap (λ ps. placed ps (older ++ e ∷ younger)) (append-nil puts))
 placed_more puts i station e granted b older younger l (inr a) =
     let P : Begun → Type 0 = λ b. placed (puts ++ puts_of i station b) (older ++ e ∷ younger) ≡ placed puts (older ++ b.entry ∷ younger) in
-    let p : Put = record { position = i; station = station; due = a.due; outcome = a.outcome } in
-    let window = older ++ e ∷ younger in
-    subst P (sym a.is) (placed_push puts p window ∙ ap (λ o. placed puts (begun_at p window o)) (get_at older e younger i l) ∙ ap (placed puts) (set_at older e younger (begun e a.due a.outcome) i l))
+    let p : Put = record { position = i; station = station; entry = begun e a.due a.outcome } in
+    subst P (sym a.is) (placed_push puts p (older ++ e ∷ younger) ∙ ap (placed puts) (set_at older e younger (begun e a.due a.outcome) i l))

@@ -20,23 +20,25 @@ use Rattle.unit_ports.specs.Laws.{LeftAfter}
 use Rattle.parts_stand.specs.Steps.{station_of}
 use Rattle.issue.specs.declared.decide.Put.{Put}
 use Rattle.issue.specs.declared.seen.Seen.{Seen}
-use Rattle.issue.specs.Deciding.{puts_of}
+use Rattle.issue.specs.Decisions.{division_of, load_of, turns as all_turns}
 use Rattle.issue.specs.Puts.{ArePuts, IsPut, placed}
+use Rattle.issue.specs.Shared.{divider_left}
 use Rattle.issue.specs.State.{StandsAt, around_of, window_of}
+use Rattle.issue.specs.Turns.{puts_of}
 use Rattle.issue.proofs.Choosing.{the_other}
-use Rattle.issue.proofs.Slots.{of_first, one_more, slot_more}
+use Rattle.issue.proofs.Slots.{divider_more, of_first, one_more, slot_more}
 use Rattle.issue.proofs.Testing.{grants_none, left_none}
 use Rattle.issue.proofs.Waiting.{Keeps, Reaches}
 use Rattle.issue.proofs.Turning.{PutsTo, granted_waits, placed_more, puts_more, turn_acts, turn_waits}
 
 -- what is decided once the entries before a position have had their turns
-pub record DecidedTo (s : Seen) (i : ℕ) (puts : List Put) (load : Option Access) (division : Option Divider) (earlier events : List Event) : Type 0 where
+pub record DecidedTo (s : Seen) (i : ℕ) (puts : List Put) (load : Option Access) (start divider : Divider) (earlier events : List Event) : Type 0 where
   pub puts_to : PutsTo (window_of s) i puts
   -- whatever entries are younger
   pub window : (younger : List Entry) → placed puts (take i (window_of s) ++ younger) ≡ map (λ b. b.entry) (each (issue_entry s.desc.now (around_of s)) (take i (window_of s))) ++ younger
   pub events_are : events ≡ earlier ++ flat_map (λ b. b.events) (each (issue_entry s.desc.now (around_of s)) (take i (window_of s)))
   pub load_is : load ≡ of_first (may_at s.desc.now (around_of s) LoadPort) (access_of s.desc.now (around_of s)) (take i (window_of s))
-  pub division_is : division ≡ of_first (may_at s.desc.now (around_of s) DivPort) (taken_for (around_of s)) (take i (window_of s))
+  pub divider_is : divider ≡ divider_left (of_first (may_at s.desc.now (around_of s) DivPort) (taken_for (around_of s)) (take i (window_of s))) start
 
 entries_push : (bs : List Begun) (b : Begun) → map (λ b. b.entry) (bs ++ b ∷ []) ≡ map (λ b. b.entry) bs ++ b.entry ∷ []
 entries_push [] b = refl
@@ -88,19 +90,19 @@ module _ (s : Seen) (i : ℕ) (e : Entry) (h : StandsAt s i e) where
       ∙ ap (λ es. earlier ++ es) (sym (ap (flat_map (λ b. b.events)) turns_more ∙ events_push (turns i) turn))
 
   -- one entry more has had its turn
-  pub decided_more : (station : ℕ) (puts new_puts : List Put) (load new_load : Option Access) (division new_division : Option Divider) (earlier events more : List Event) → station ≡ station_of i (window_of s) →
+  pub decided_more : (station : ℕ) (puts new_puts : List Put) (load new_load : Option Access) (start divider new_divider : Divider) (earlier events more : List Event) → station ≡ station_of i (window_of s) →
       new_puts ≡ puts ++ puts_of i station turn → more ≡ events ++ turn.events →
       new_load ≡ (if is_granted d now LoadPort before e then Some (access_of d now before e) else load) →
-      new_division ≡ (if is_granted d now DivPort before e then Some (taken_for now before e) else division) →
-      DecidedTo s i puts load division earlier events → DecidedTo s (i + 1) new_puts new_load new_division earlier more
-  decided_more station puts new_puts load new_load division new_division earlier events more n p m l v t =
+      new_divider ≡ (if is_granted d now DivPort before e then taken_for now before e else divider) →
+      DecidedTo s i puts load start divider earlier events → DecidedTo s (i + 1) new_puts new_load start new_divider earlier more
+  decided_more station puts new_puts load new_load start divider new_divider earlier events more n p m l v t =
       let granted = is_granted d now (port_of e.item.kind) before e in
       record {
         puts_to = subst (PutsTo (window_of s) (i + 1)) (sym p) (puts_more (window_of s) i station e puts granted turn h n (granted_waits d now before e) (turn_acts d now before e) t.puts_to);
         window = λ younger. ap (λ ps. placed ps (window_up_to (i + 1) ++ younger)) p ∙ window_more station puts t.window younger;
         events_are = events_more earlier events more m t.events_are;
         load_is = slot_more (access_of d now) d now LoadPort (window_of s) i e load new_load h refl l t.load_is;
-        division_is = slot_more (taken_for now) d now DivPort (window_of s) i e division new_division h refl v t.division_is;
+        divider_is = divider_more d now (window_of s) i e start divider new_divider h v t.divider_is;
       }
 
   -- one that doesn't wait, and one that isn't ready, may not issue
@@ -111,14 +113,14 @@ module _ (s : Seen) (i : ℕ) (e : Entry) (h : StandsAt s i e) where
   not_ready w r = cc
 
   -- one that may not issue leaves all as it is
-  pub decided_past : (puts : List Put) (load : Option Access) (division : Option Divider) (earlier events : List Event) → may_issue d now before e ≡ false →
-      DecidedTo s i puts load division earlier events → DecidedTo s (i + 1) puts load division earlier events
-  decided_past puts load division earlier events m t =
+  pub decided_past : (puts : List Put) (load : Option Access) (start divider : Divider) (earlier events : List Event) → may_issue d now before e ≡ false →
+      DecidedTo s i puts load start divider earlier events → DecidedTo s (i + 1) puts load start divider earlier events
+  decided_past puts load start divider earlier events m t =
       let stays : turn ≡ waits e = turn_waits d now before e (grants_none d now (port_of e.item.kind) before e m) in
-      decided_more (station_of i (window_of s)) puts puts load load division division earlier events events refl
+      decided_more (station_of i (window_of s)) puts puts load load start divider divider earlier events events refl
       (sym (ap (λ b. puts ++ puts_of i (station_of i (window_of s)) b) stays ∙ append-nil puts))
       (sym (ap (λ b. events ++ b.events) stays ∙ append-nil events))
-      (the_other _ _ load load (grants_none d now LoadPort before e m) refl) (the_other _ _ division division (grants_none d now DivPort before e m) refl) t
+      (the_other _ _ load load (grants_none d now LoadPort before e m) refl) (the_other _ _ divider divider (grants_none d now DivPort before e m) refl) t
 
   -- what older entries have left is left to the next
   pub left_on : (p : Ports) → LeftAfter d now (e ∷ before) p → LeftAfter d now (before_at (window_of s) (i + 1)) p
@@ -130,18 +132,18 @@ module _ (s : Seen) (i : ℕ) (e : Entry) (h : StandsAt s i e) where
 -- ---- the walk
 
 -- what is decided before a position, and the ports that are left there
-pub record Walked (s : Seen) (ports : Ports) (puts : List Put) (load : Option Access) (division : Option Divider) (earlier events : List Event) (i : ℕ) : Type 0 where
-  pub decided : DecidedTo s i puts load division earlier events
+pub record Walked (s : Seen) (ports : Ports) (puts : List Put) (load : Option Access) (start : Divider) (earlier events : List Event) (i : ℕ) : Type 0 where
+  pub decided : DecidedTo s i puts load start ports.divider earlier events
   pub left : LeftAfter s.desc.now (around_of s) (before_at (window_of s) i) ports
 
-module _ (s : Seen) (ports : Ports) (puts : List Put) (load : Option Access) (division : Option Divider) (earlier events : List Event) where
+module _ (s : Seen) (ports : Ports) (puts : List Put) (load : Option Access) (start : Divider) (earlier events : List Event) where
   -- one that may not issue leaves all as it is
   pub walked_past : (i : ℕ) (e : Entry) (h : StandsAt s i e) → may_issue s.desc.now (around_of s) (before_at (window_of s) i) e ≡ false →
-      Walked s ports puts load division earlier events i → Walked s ports puts load division earlier events (i + 1)
-  walked_past i e h m t = record { decided = decided_past s i e h puts load division earlier events m t.decided; left = left_past s i e h ports m t.left }
+      Walked s ports puts load start earlier events i → Walked s ports puts load start earlier events (i + 1)
+  walked_past i e h m t = record { decided = decided_past s i e h puts load start ports.divider earlier events m t.decided; left = left_past s i e h ports m t.left }
 
   -- so does one that doesn't wait
-  pub keeps : Keeps (Walked s ports puts load division earlier events) (window_of s)
+  pub keeps : Keeps (Walked s ports puts load start earlier events) (window_of s)
   keeps i e h w t = walked_past i e h (not_waiting s i e h w) t
 
 -- ---- an entry, by whether it waits
@@ -164,16 +166,16 @@ waits_here window i b e h w = let k : Some (is_waiting e.state) ≡ Some b = ap 
 -- ---- at the end
 
 -- what is decided once all have had their turns is what the definition decides
-pub record DecidesAll (s : Seen) (puts : List Put) (load : Option Access) (division : Option Divider) (earlier events : List Event) : Type 0 where
+pub record DecidesAll (s : Seen) (puts : List Put) (load : Option Access) (start divider : Divider) (earlier events : List Event) : Type 0 where
   pub puts_are : ArePuts (window_of s) puts
-  pub window_is : placed puts (window_of s) ≡ map (λ b. b.entry) (each (issue_entry s.desc.now (around_of s)) (window_of s))
-  pub events_are : events ≡ earlier ++ flat_map (λ b. b.events) (each (issue_entry s.desc.now (around_of s)) (window_of s))
-  pub load_is : load ≡ of_first (may_at s.desc.now (around_of s) LoadPort) (access_of s.desc.now (around_of s)) (window_of s)
-  pub division_is : division ≡ of_first (may_at s.desc.now (around_of s) DivPort) (taken_for (around_of s)) (window_of s)
+  pub window_is : placed puts (window_of s) ≡ map (λ b. b.entry) (all_turns s.desc.now (around_of s) (window_of s))
+  pub events_are : events ≡ earlier ++ flat_map (λ b. b.events) (all_turns s.desc.now (around_of s) (window_of s))
+  pub load_is : load ≡ load_of s.desc.now (around_of s) (window_of s)
+  pub divider_is : divider ≡ divider_left (division_of s.desc.now (around_of s) (window_of s)) start
 
-pub decided_all : (s : Seen) (i : ℕ) (puts : List Put) (load : Option Access) (division : Option Divider) (earlier events : List Event) → length (window_of s) ≤ i →
-    DecidedTo s i puts load division earlier events → DecidesAll s puts load division earlier events
-decided_all s i puts load division earlier events le t =
+pub decided_all : (s : Seen) (i : ℕ) (puts : List Put) (load : Option Access) (start divider : Divider) (earlier events : List Event) → length (window_of s) ≤ i →
+    DecidedTo s i puts load start divider earlier events → DecidesAll s puts load start divider earlier events
+decided_all s i puts load start divider earlier events le t =
     let now = around_of s in
     let d = s.desc.now in
     let all : take i (window_of s) ≡ window_of s = take_all i (window_of s) le in
@@ -183,24 +185,28 @@ decided_all s i puts load division earlier events le t =
       window_is = ap (placed puts) (sym (append-nil (take i (window_of s)) ∙ all)) ∙ t.window [] ∙ append-nil (map (λ b. b.entry) (each (issue_entry d now) (take i (window_of s)))) ∙ ap (map (λ b. b.entry)) turns;
       events_are = t.events_are ∙ ap (λ bs. earlier ++ flat_map (λ b. b.events) bs) turns;
       load_is = t.load_is ∙ ap (of_first (may_at d now LoadPort) (access_of d now)) all;
-      division_is = t.division_is ∙ ap (of_first (may_at d now DivPort) (taken_for now)) all;
+      divider_is = t.divider_is ∙ ap (λ es. divider_left (of_first (may_at d now DivPort) (taken_for now) es) start) all;
     }
 
 none_by_age : AllPairs (λ (p q : Put). p.position < q.position) []
 none_by_age i j d lt within = absurd (omega arith)
 
 -- nothing is decided as the walk begins
-pub decided_none : (s : Seen) (puts : List Put) (load : Option Access) (division : Option Divider) (earlier : List Event) → puts ≡ [] → load ≡ None → division ≡ None → DecidedTo s 0 puts load division earlier earlier
-decided_none s puts load division earlier p l v =
+pub walked_none : (s : Seen) (ports : Ports) (puts : List Put) (load : Option Access) (earlier : List Event) → puts ≡ [] → load ≡ None → LeftAfter s.desc.now (around_of s) [] ports →
+    Reaches (Walked s ports puts load ports.divider earlier earlier) (window_of s) 0
+walked_none s ports puts load earlier p l left =
     record {
-      puts_to = subst (PutsTo (window_of s) 0) (sym p) (record { each_put = All-nil (IsPut (window_of s)); older = All-nil (λ p. p.position < 0); by_age = none_by_age });
-      window = λ younger. ap (λ ps. placed ps younger) p;
-      events_are = sym (append-nil earlier);
-      load_is = l;
-      division_is = v;
+      position = 0;
+      within = omega arith;
+      station = refl;
+      holds = record {
+        decided = record {
+          puts_to = subst (PutsTo (window_of s) 0) (sym p) (record { each_put = All-nil (IsPut (window_of s)); older = All-nil (λ p. p.position < 0); by_age = none_by_age });
+          window = λ younger. ap (λ ps. placed ps younger) p;
+          events_are = sym (append-nil earlier);
+          load_is = l;
+          divider_is = refl;
+        };
+        left = left;
+      };
     }
-
-pub walked_none : (s : Seen) (ports : Ports) (puts : List Put) (load : Option Access) (division : Option Divider) (earlier : List Event) → puts ≡ [] → load ≡ None → division ≡ None → LeftAfter s.desc.now (around_of s) [] ports →
-    Reaches (Walked s ports puts load division earlier earlier) (window_of s) 0
-walked_none s ports puts load division earlier p l v left =
-    record { position = 0; within = omega arith; station = refl; holds = record { decided = decided_none s puts load division earlier p l v; left = left } }

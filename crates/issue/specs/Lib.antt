@@ -1,10 +1,9 @@
-pub mod Operands
 pub mod State
+pub mod Operands
 pub mod Accesses
-pub mod Begins
 pub mod Ports
+pub mod Turns
 pub mod Puts
-pub mod Deciding
 pub mod Shared
 pub mod Parts
 pub mod Decisions

@@ -2,10 +2,21 @@
 use Rattle.std.specs.Prelude.{ℕ, List, Option, Some, None}
 use Rattle.rv_types.specs.Isa.{reg}
 use Rattle.window_model.specs.declared.Entry.{Entry}
-use Rattle.window_model.specs.Order.{from_writer}
+use Rattle.window_model.specs.Issue.{first_operand, second_operand}
+use Rattle.window_model.specs.Order.{from_writer, sources}
 use Rattle.parts_stand.specs.Writers.{in_flight}
+use Rattle.issue.specs.declared.seen.Place.{Place}
+use Rattle.issue.specs.declared.seen.Seen.{Seen}
+use Rattle.issue.specs.State.{before_of}
 
 -- the value of a source with this writer, 0 where there is no source
 abbrev pub value_by : List ℕ → List Entry → Option ℕ → Option ℕ → ℕ
 value_by regs window None writer = 0
 value_by regs window (Some r) writer = from_writer (in_flight window writer) (reg regs r)
+
+-- those of the entry in its place
+abbrev pub first_of : Seen → Place → ℕ
+first_of s p = first_operand s.regs.now (before_of s p) (sources p.entry.now)
+
+abbrev pub second_of : Seen → Place → ℕ
+second_of s p = second_operand s.regs.now (before_of s p) (sources p.entry.now)

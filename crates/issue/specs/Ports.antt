@@ -1,17 +1,42 @@
--- The ports that are left as entries are granted them (docs/machine.md, "Issue").
-use Rattle.std.specs.Prelude.{◌≡◌, ℕ, ◌+◌}
-use Rattle.unit_ports.specs.Ports.{Ports, begun_at}
+-- Ports, as entries are granted them (docs/machine.md, "Issue").
+use Rattle.std.specs.Prelude.{◌≡◌, ℕ, ◌+◌, Bool, ◌∷◌}
+use Rattle.window_model.specs.Around.{is_free}
+use Rattle.window_model.specs.Issue.{Port, is_granted, port_of}
+use Rattle.unit_ports.specs.Laws.{LeftAfter}
+use Rattle.unit_ports.specs.Ports.{Ports}
+use Rattle.parts_stand.specs.Telling.{asks_besides}
+use Rattle.issue.specs.declared.seen.Place.{Place}
+use Rattle.issue.specs.declared.seen.Seen.{Seen}
+use Rattle.issue.specs.State.{around_of, before_of}
 
--- all ports of this cycle are left
-abbrev pub HasBegun : ℕ → Ports → Type 0
-HasBegun cycle p = p ≡ begun_at cycle p
+-- ---- of an entry in its place
+
+-- it may issue, but for tainted operands
+abbrev pub besides : Seen → Place → Bool
+besides s p = asks_besides p.entry.now.item.kind (is_free (around_of s)) (before_of s p)
+
+-- it is granted this port
+abbrev pub granted_at : Port → Seen → Place → Bool
+granted_at port s p = is_granted s.desc.now (around_of s) port (before_of s p) p.entry.now
+
+-- it is granted its own
+abbrev pub is_served : Seen → Place → Bool
+is_served s p = granted_at (port_of p.entry.now.item.kind) s p
+
+-- these ports are left to it, and to those behind it
+abbrev pub LeftFor : Seen → Place → Ports → Type 0
+LeftFor s p ports = LeftAfter s.desc.now (around_of s) (before_of s p) ports
+
+abbrev pub LeftBehind : Seen → Place → Ports → Type 0
+LeftBehind s p ports = LeftAfter s.desc.now (around_of s) (p.entry.now ∷ before_of s p) ports
+
+-- ---- of all entries
 
 -- how many are left in all
 abbrev pub left_in_all : Ports → ℕ
 left_in_all p = p.alu + p.mul + p.div + p.store + p.load
 
--- but for the ports that are left nothing changes
+-- but for the ports that are left, and the divider, nothing changes
 pub record OnlyPorts (old new : Ports) : Type 0 where
   pub alus : new.alus ≡ old.alus
   pub cycle : new.cycle ≡ old.cycle
-  pub divider : new.divider ≡ old.divider

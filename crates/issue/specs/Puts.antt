@@ -1,31 +1,35 @@
 -- Entries that are to begin, before they do in their places (docs/machine.md, "Issue"): every test is made on the window as it
 -- was before the phase.
-use Rattle.std.specs.Prelude.{◌≡◌, ◌<◌, true, List, [], ◌∷◌, slice_get, slice_set, Option, None, Some}
-use Rattle.std.specs.List.{All, AllPairs}
+use Rattle.std.specs.Prelude.{◌≡◌, ℕ, ◌<◌, true, List, [], ◌∷◌, slice_get, slice_set, Some, if◌then◌else◌}
+use Rattle.std.specs.List.{All, AllPairs, remove}
 use Rattle.window_model.specs.declared.Entry.{Entry}
+use Rattle.window_model.specs.declared.Outcome.{Outcome}
 use Rattle.window_model.specs.Order.{is_waiting}
 use Rattle.window_model.specs.Issue.{begun}
+use Rattle.stations.specs.Stations.{Station}
 use Rattle.parts_stand.specs.Steps.{station_of}
 use Rattle.issue.specs.declared.decide.Put.{Put}
 
--- the entry at its position waits; its station is named
+-- the entry at its position waits, and begins; its station is named
 pub record IsPut (window : List Entry) (p : Put) : Type 0 where
   pub old : Entry
   pub here : slice_get window p.position ≡ Some old
   pub waits : is_waiting old.state ≡ true
   pub station : p.station ≡ station_of p.position window
+  pub due : ℕ
+  pub outcome : Outcome
+  pub is : p.entry ≡ begun old due outcome
 
 -- each is one, and they are named by age
 pub record ArePuts (window : List Entry) (puts : List Put) : Type 0 where
   pub each_put : All (IsPut window) puts
   pub by_age : AllPairs (λ p q. p.position < q.position) puts
 
--- this entry has begun in the put's place
-abbrev pub begun_at : Put → List Entry → Option Entry → List Entry
-begun_at p window None = window
-begun_at p window (Some e) = slice_set window p.position (begun e p.due p.outcome)
-
--- and all have in their places
+-- all have begun in their places
 abbrev pub placed : List Put → List Entry → List Entry
 placed [] window = window
-placed (p ∷ ps) window = begun_at p (placed ps window) (slice_get (placed ps window) p.position)
+placed (p ∷ ps) window = slice_set (placed ps window) p.position p.entry
+
+-- the station is freed, where the entry no longer waits
+abbrev pub freed : Put → List Station → List Station
+freed p held = if is_waiting p.entry.state then held else remove held p.station

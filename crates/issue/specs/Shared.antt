@@ -1,6 +1,5 @@
 -- What the one load and the one division of a cycle leave of what all entries share (docs/machine.md, "Issue").
 use Rattle.std.specs.Prelude.{ℕ, List, Option, None, Some}
-use Rattle.std.specs.Option.{IsSome}
 use Rattle.machine_desc.specs.declared.Desc.{Desc}
 use Rattle.window_model.specs.declared.Divider.{Divider}
 use Rattle.window_model.specs.declared.Miss.{Miss}
@@ -29,8 +28,3 @@ divider_left (Some taken) v = taken
 abbrev pub IsMiss : Option Access → Type 0
 IsMiss (Some (Looks (Takes line))) = Unit {0}
 IsMiss _ = ⊥
-
--- a divider that is taken has a user
-abbrev pub HasUser : Option Divider → Type 0
-HasUser None = Unit {0}
-HasUser (Some taken) = IsSome taken.user

@@ -1,15 +1,19 @@
--- The state that the phase looks at, and when it stands for a machine (docs/machine.md, "Issue", "The parts stand for the
--- machine").
-use Rattle.std.specs.Prelude.{◌≡◌, ℕ, List, slice_get, Some}
+-- The state that the phase looks at, when it stands for a machine, and an entry in its place (docs/machine.md, "Issue", "The
+-- parts stand for the machine").
+use Rattle.std.specs.Prelude.{◌≡◌, ℕ, List, true, slice_get, Some}
+use Rattle.machine_desc.specs.declared.Desc.{Desc}
 use Rattle.window_model.specs.declared.Entry.{Entry}
 use Rattle.window_model.specs.Around.{Around}
+use Rattle.window_model.specs.Order.{before_at, is_waiting, ready}
 use Rattle.rob_ring.specs.Beside.{each_roots, each_writers}
 use Rattle.rename_taint.specs.declared.Write.{Write}
 use Rattle.visibility.specs.Point.{HasAdvanced}
 use Rattle.queue_laws.specs.Window.{StandFor}
 use Rattle.parts_stand.specs.Parts.{Parts, Stand}
 use Rattle.parts_stand.specs.Addresses.{AddressesStand}
+use Rattle.parts_stand.specs.Steps.{station_of}
 use Rattle.parts_stand.specs.Writers.{WritersOf}
+use Rattle.issue.specs.declared.seen.Place.{Place}
 use Rattle.issue.specs.declared.seen.Seen.{Seen}
 
 -- what an entry looks at besides the older ones
@@ -37,6 +41,24 @@ pub record Stands (s : Seen) : Type 0 where
   pub cache : s.tags.now.desc ≡ s.desc.now
   pub registers : s.mshrs.now.room ≡ s.desc.now.cache_mshrs
 
+-- ---- an entry in its place
+
+-- the older ones, youngest first
+abbrev pub before_of : Seen → Place → List Entry
+before_of s p = before_at s.rob.now.entries p.position
+
+-- what a definition of the machine says of the entry in its place
+abbrev pub here : {A : Type 0} → (Desc → Around → List Entry → Entry → A) → Seen → Place → A
+here f s p = f s.desc.now (around_of s) (before_of s p) p.entry.now
+
 -- the entry stands at this position of the window
 abbrev pub StandsAt : Seen → ℕ → Entry → Type 0
 StandsAt s i e = slice_get s.rob.now.entries i ≡ Some e
+
+-- it stands there, it waits at its station, and it is ready
+pub record HasTurn (s : Seen) (p : Place) : Type 0 where
+  pub stands : Stands s
+  pub at : StandsAt s p.position p.entry.now
+  pub waits : is_waiting p.entry.now.state ≡ true
+  pub ready : ready (before_of s p) p.entry.now ≡ true
+  pub station : p.station ≡ station_of p.position s.rob.now.entries

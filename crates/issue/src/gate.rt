@@ -1,75 +1,58 @@
 //! Which entries may issue, and which are granted a port (`docs/machine.md`, "Issue").
-use crate::seen::Seen;
+use crate::seen::{Place, Seen};
 use rob_ring::sources_at;
 use rv_types::Kind;
 use transmit_gate::may_transmit;
 use unit_ports::Ports;
-use window_model::Entry;
 
 impl<'a> Seen<'a> {
-    ghost use Rattle.std.specs.Prelude.{◌≡◌, ◌+◌, ◌∷◌, Some, true, slice_get};
-    ghost use Rattle.rv_types.specs.Value.{one_if};
-    ghost use Rattle.window_model.specs.Around.{is_free};
-    ghost use Rattle.window_model.specs.Issue.{is_granted, may_issue, port_of};
-    ghost use Rattle.window_model.specs.Order.{before_at, is_waiting, ready};
+    ghost use Rattle.std.specs.Prelude.{◌≡◌, Some, slice_get};
+    ghost use Rattle.window_model.specs.Issue.{may_issue};
     ghost use Rattle.rob_ring.specs.Beside.{each_roots};
-    ghost use Rattle.unit_ports.specs.Laws.{LeftAfter};
-    ghost use Rattle.parts_stand.specs.Telling.{asks_besides};
-    ghost use Rattle.issue.specs.Ports.{OnlyPorts, left_in_all};
-    ghost use Rattle.issue.specs.State.{Stands, StandsAt, around_of, window_of};
+    ghost use Rattle.issue.specs.Ports.{LeftFor, besides, is_served};
+    ghost use Rattle.issue.specs.State.{HasTurn, here};
 
     // The youngest roots of the entry's sources, as they stand at its position.
-    fn roots_at(&self, position: u32, entry: &Entry) -> [Option<u64>; 2]
-        requires stands { Stands self.now }
-        requires at { StandsAt self.now position entry.now }
-        ensures { slice_get (each_roots self.now.sources.now.items) position ≡ Some result }
+    fn roots_at(&self, place: &Place) -> [Option<u64>; 2]
+        requires turn { HasTurn self.now place.now }
+        ensures { slice_get (each_roots self.now.sources.now.items) place.now.position ≡ Some result }
     {
-        sources_at(self.sources, position).roots
+        sources_at(self.sources, place.position).roots
     }
 
     // What loads and divisions ask for beside untainted operands: older stores that are Done, a divider that is free.
-    fn has_besides(&self, position: u32, entry: &Entry) -> bool
-        requires stands { Stands self.now }
-        requires at { StandsAt self.now position entry.now }
-        ensures { result ≡ asks_besides entry.now.item.kind (is_free (around_of self.now)) (before_at (window_of self.now) position) }
+    fn has_besides(&self, place: &Place) -> bool
+        requires turn { HasTurn self.now place.now }
+        ensures { result ≡ besides self.now place.now }
     {
-        match entry.item.kind {
-            Kind::Load => self.lsq.all_older_known(entry.serial),
+        match place.entry.item.kind {
+            Kind::Load => self.lsq.all_older_known(place.entry.serial),
             Kind::Div => self.free_from <= self.cycle as u64,
             _ => true,
         }
     }
 
-    // Whether the entry, which waits and is ready, asks for a port: it may issue.
-    fn asks_for_port(&self, position: u32, entry: &Entry) -> bool
-        requires stands { Stands self.now }
-        requires at { StandsAt self.now position entry.now }
-        requires waits { is_waiting entry.now.state ≡ true }
-        requires ready { ready (before_at (window_of self.now) position) entry.now ≡ true }
-        ensures { result ≡ may_issue self.now.desc.now (around_of self.now) (before_at (window_of self.now) position) entry.now }
+    // Whether the entry may issue.
+    fn may_issue(&self, place: &Place) -> bool
+        requires turn { HasTurn self.now place.now }
+        ensures { result ≡ here may_issue self.now place.now }
     {
-        let roots = self.roots_at(position, entry);
-        if !may_transmit(entry.item.kind, roots, self.point) {
+        let roots = self.roots_at(place);
+        if !may_transmit(place.entry.item.kind, roots, self.point) {
             return false;
         }
-        self.has_besides(position, entry)
+        self.has_besides(place)
     }
 
-    /// Whether the entry, which waits and is ready, may issue and a port is left for it, which it then takes.
-    pub(crate) fn grant(&self, position: u32, entry: &Entry, ports: &mut Ports) -> bool
-        requires stands { Stands self.now }
-        requires at { StandsAt self.now position entry.now }
-        requires waits { is_waiting entry.now.state ≡ true }
-        requires ready { ready (before_at (window_of self.now) position) entry.now ≡ true }
-        requires left { LeftAfter self.now.desc.now (around_of self.now) (before_at (window_of self.now) position) ports.old }
-        ensures granted { result ≡ is_granted self.now.desc.now (around_of self.now) (port_of entry.now.item.kind) (before_at (window_of self.now) position) entry.now }
-        ensures left { LeftAfter self.now.desc.now (around_of self.now) (entry.now ∷ before_at (window_of self.now) position) ports.new }
-        ensures fewer { left_in_all ports.new + one_if result ≡ left_in_all ports.old }
-        ensures only { OnlyPorts ports.old ports.new }
+    /// Whether the entry is granted a port: one of its kind is left, and it may issue.
+    pub(crate) fn is_served(&self, place: &Place, ports: &Ports) -> bool
+        requires turn { HasTurn self.now place.now }
+        requires left { LeftFor self.now place.now ports.now }
+        ensures { result ≡ is_served self.now place.now }
     {
-        if !self.asks_for_port(position, entry) {
+        if !ports.has(place.entry.item.kind) {
             return false;
         }
-        ports.grant(entry.item.kind)
+        self.may_issue(place)
     }
 }

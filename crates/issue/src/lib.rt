@@ -9,7 +9,6 @@
 mod access;
 mod begin;
 mod decide;
-mod entry;
 mod gate;
 mod loads;
 mod operands;

@@ -1,27 +1,30 @@
-//! The bytes of a load (`docs/machine.md`, "Loads"): older stores' and memory's.
-use crate::seen::Seen;
+//! What a load finds (`docs/machine.md`, "Loads"): its access, and its value from older stores' bytes and memory's.
+use crate::access::Access;
+use crate::seen::{Place, Seen};
 use lsq::Merged;
-use window_model::Entry;
+use rv_alu::extend;
+use rv_effect::Effect;
 
-/// What a load finds behind older stores.
+/// What a load finds.
 #[derive(Clone, Copy, Debug, PartialEq, Eq)]
 pub(crate) struct Loaded {
-    /// The number of its bytes, the lowest first.
-    pub(crate) number: u32,
-    /// Older stores have all its bytes, and none of them hides its address.
-    pub(crate) forwarded: bool,
+    /// What its access comes to.
+    pub(crate) access: Access,
+    /// Its value, where it has no fault.
+    pub(crate) value: u32,
 }
 
 impl<'a> Seen<'a> {
-    ghost use Rattle.std.specs.Prelude.{◌≡◌, ◌*◌, ◌<◌, ◌^◌, ◌&&◌, not, None, true};
+    ghost use Rattle.std.specs.Prelude.{◌≡◌, ◌&&◌, not, None, true};
+    ghost use Rattle.rv_types.specs.declared.Kind.TheVariants as kind;
     ghost use Rattle.rv_types.specs.Memory.{load_fault};
-    ghost use Rattle.rv_types.specs.Word.{from_le};
-    ghost use Rattle.window_model.specs.Access.{all_covered, any_store_hidden, load_bytes};
-    ghost use Rattle.window_model.specs.Issue.{stores_done};
-    ghost use Rattle.window_model.specs.Order.{before_at};
+    ghost use Rattle.rv_effect.specs.Seen.{seen};
+    ghost use Rattle.window_model.specs.Issue.{access_of, begin_as, stores_done};
     ghost use Rattle.window_model.specs.Retire.{width_of};
     ghost use Rattle.visibility.specs.Point.{is_hidden};
-    ghost use Rattle.issue.specs.State.{Stands, StandsAt, window_of};
+    ghost use Rattle.issue.specs.Accesses.{as_access};
+    ghost use Rattle.issue.specs.State.{HasTurn, before_of, here};
+    ghost use Rattle.issue.specs.Turns.{access_from, effect_here, loads, value_from};
 
     // Whether older stores have all bytes, and none of them hides its address.
     fn is_forwarded(&self, merged: &Merged) -> bool
@@ -30,21 +33,37 @@ impl<'a> Seen<'a> {
         merged.covered && !self.point.tainted(merged.root)
     }
 
-    /// What the load at a position, behind stores that are Done, finds from an address on. The access has no fault.
-    pub(crate) fn load(&self, position: u32, entry: &Entry, addr: u32) -> Loaded
-        requires stands { Stands self.now }
-        requires at { StandsAt self.now position entry.now }
-        requires done { stores_done (before_at (window_of self.now) position) ≡ true }
-        requires sound { load_fault self.now.ram.now addr (width_of entry.now) ≡ None }
-        ensures number { result.number ≡ from_le (load_bytes self.now.ram.now (before_at (window_of self.now) position) addr (width_of entry.now)) }
-        ensures small { result.number < 2 ^ (8 * width_of entry.now) }
-        ensures forwarded { result.forwarded ≡ (all_covered (before_at (window_of self.now) position) addr (width_of entry.now) && not (any_store_hidden self.now.desc.now.stt_model (before_at (window_of self.now) position))) }
+    // What a load without fault finds from an address on.
+    fn load_sound(&self, place: &Place, addr: u32) -> Loaded
+        requires turn { HasTurn self.now place.now }
+        requires done { stores_done (before_of self.now place.now) ≡ true }
+        requires sound { load_fault self.now.ram.now addr (width_of place.now.entry.now) ≡ None }
+        ensures access { as_access result.access ≡ here (access_from addr) self.now place.now }
+        ensures value { result.value ≡ here (value_from addr) self.now place.now }
     {
-        let width = rv_types::width_of(entry.op());
-        let merged = self.lsq.merge(entry.serial, addr, width, self.ram);
+        let op = place.entry.op();
+        let width = rv_types::width_of(op);
+        let merged = self.lsq.merge(place.entry.serial, addr, width, self.ram);
         Loaded {
-            number: merged.value,
-            forwarded: self.is_forwarded(&merged),
+            access: self.find(self.is_forwarded(&merged), addr),
+            value: extend(op, merged.value),
+        }
+    }
+
+    /// What a load, behind stores that are Done, finds by what its instruction makes of its operands.
+    pub(crate) fn load(&self, place: &Place, made: &Effect) -> Loaded
+        requires turn { HasTurn self.now place.now }
+        requires done { stores_done (before_of self.now place.now) ≡ true }
+        requires effect { seen made.now ≡ effect_here self.now place.now }
+        ensures access { as_access result.access ≡ here access_of self.now place.now }
+        ensures begun { loads self.now place.now made.now result ≡ here (begin_as kind.Load) self.now place.now }
+    {
+        match self.ram.load_fault(made.addr, place.entry.bytes()) {
+            None => self.load_sound(place, made.addr),
+            Some(cause) => Loaded {
+                access: Access::Faults(cause),
+                value: 0,
+            },
         }
     }
 }

@@ -9,7 +9,7 @@ ghost use Rattle.window_model.specs.Order.{from_writer};
 ghost use Rattle.parts_stand.specs.Writers.{if_serial, in_flight};
 ghost use Rattle.issue.specs.Operands.{value_by};
 
-use crate::seen::Seen;
+use crate::seen::{Place, Seen};
 use rob_ring::{RobRing, sources_at};
 use rv_types::{REGISTERS, Reg, reads_of};
 use window_model::Entry;
@@ -73,29 +73,26 @@ pub(crate) struct Operands {
 
 impl<'a> Seen<'a> {
     ghost use Rattle.std.specs.Prelude.{◌≡◌, Some, slice_get};
-    ghost use Rattle.window_model.specs.Order.{before_at, sources};
-    ghost use Rattle.window_model.specs.Issue.{first_operand, second_operand};
     ghost use Rattle.rob_ring.specs.Beside.{each_writers};
-    ghost use Rattle.issue.specs.State.{Stands, StandsAt, window_of};
+    ghost use Rattle.issue.specs.Operands.{first_of, second_of};
+    ghost use Rattle.issue.specs.State.{HasTurn};
 
     // The serials of the writers of the entry's sources, as they stand at its position.
-    fn writers_at(&self, position: u32, entry: &Entry) -> [Option<u64>; 2]
-        requires stands { Stands self.now }
-        requires at { StandsAt self.now position entry.now }
-        ensures { slice_get (each_writers self.now.sources.now.items) position ≡ Some result }
+    fn writers_at(&self, place: &Place) -> [Option<u64>; 2]
+        requires turn { HasTurn self.now place.now }
+        ensures { slice_get (each_writers self.now.sources.now.items) place.now.position ≡ Some result }
     {
-        sources_at(self.sources, position).writers
+        sources_at(self.sources, place.position).writers
     }
 
-    /// The values of the sources of the entry at a position.
-    pub(crate) fn operands(&self, position: u32, entry: &Entry) -> Operands
-        requires stands { Stands self.now }
-        requires at { StandsAt self.now position entry.now }
-        ensures first { result.first ≡ first_operand self.now.regs.now (before_at (window_of self.now) position) (sources entry.now) }
-        ensures second { result.second ≡ second_operand self.now.regs.now (before_at (window_of self.now) position) (sources entry.now) }
+    /// The values of the entry's sources.
+    pub(crate) fn operands(&self, place: &Place) -> Operands
+        requires turn { HasTurn self.now place.now }
+        ensures first { result.first ≡ first_of self.now place.now }
+        ensures second { result.second ≡ second_of self.now place.now }
     {
-        let [first, second] = reads_of(&entry.item.instr);
-        let writers = self.writers_at(position, entry);
+        let [first, second] = reads_of(&place.entry.item.instr);
+        let writers = self.writers_at(place);
         Operands {
             first: source_value(self.rob, self.regs, first, writers[0]),
             second: source_value(self.rob, self.regs, second, writers[1]),

@@ -7,7 +7,7 @@ ghost use Rattle.visibility.specs.Point.{HasAdvanced};
 use crate::decide::Decided;
 use crate::placing::place;
 use crate::seen::Seen;
-use crate::shared::{take_divider, take_register, touch};
+use crate::shared::{take_register, touch};
 use core_parts::Parts;
 use rename_taint::RenameTaint;
 use window_model::Row;
@@ -27,19 +27,7 @@ pub fn issue<R: RenameTaint>(parts: &mut Parts<R>, row: &mut Row)
     if !parts.stations.any_ready() {
         return;
     }
-    issue_ready(parts, row);
-}
-
-// The phase, also where no station has a ready entry.
-fn issue_ready<R: RenameTaint>(parts: &mut Parts<R>, row: &mut Row)
-    requires advanced { HasAdvanced parts.old.point parts.old.machine.window }
-    requires room { HasRoom most_issued row.old }
-    ensures machine { parts.new ≡ record parts.old { machine = (issue parts.old.desc parts.old.machine).machine } }
-    ensures row { row.new ≡ with_events row.old (issue parts.old.desc parts.old.machine).events }
-    ensures advanced { HasAdvanced parts.new.point parts.new.machine.window }
-    ensures few { IsLonger most_issued row.old row.new }
-{
-    let before = parts.ports.divider();
+    let divider = parts.ports.divider();
     parts.ports.begin(parts.cycle as u64);
     let mut decided = Decided::nothing();
     let seen = Seen {
@@ -53,12 +41,11 @@ fn issue_ready<R: RenameTaint>(parts: &mut Parts<R>, row: &mut Row)
         ram: &parts.ram,
         regs: &parts.regs,
         desc: &parts.desc,
-        free_from: before.free_from,
+        free_from: divider.free_from,
         cycle: parts.cycle,
     };
     seen.decide(&mut parts.ports, &mut decided, row);
     place(&mut decided.puts, &mut parts.rob, &mut parts.stations);
     touch(&mut parts.tags, decided.load);
     take_register(&mut parts.mshrs, decided.load, parts.cycle, &parts.desc);
-    take_divider(&mut parts.ports, decided.division);
 }

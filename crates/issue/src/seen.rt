@@ -1,4 +1,4 @@
-//! What the phase looks at.
+//! What the phase looks at, and an entry in its place.
 use byte_ram::Ram;
 use cache_tags::Tags;
 use circular_buffer::HeapCircularBuffer;
@@ -9,6 +9,7 @@ use rob_ring::{RobRing, Sources};
 use rv_types::REGISTERS;
 use stations::Stations;
 use visibility::VisPoint;
+use window_model::Entry;
 
 /// The state before the phase, on which all its tests are made.
 #[derive(Drop)]
@@ -37,4 +38,15 @@ pub(crate) struct Seen<'a> {
     pub(crate) free_from: u64,
     /// The cycle.
     pub(crate) cycle: u32,
+}
+
+/// An entry that has its turn, in its place: it waits, and its operands are there.
+#[derive(Clone, Copy)]
+pub(crate) struct Place<'a> {
+    /// Its position, counted from the oldest entry.
+    pub(crate) position: u32,
+    /// The position of its station.
+    pub(crate) station: u32,
+    /// The entry.
+    pub(crate) entry: &'a Entry,
 }

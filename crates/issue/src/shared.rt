@@ -1,15 +1,13 @@
-//! What the phase leaves of what all entries share (`docs/machine.md`, "Issue").
+//! What the load of a cycle leaves of the cache and the miss registers (`docs/machine.md`, "Issue").
 ghost use Rattle.std.specs.Prelude.{◌≡◌, ◌<◌, length};
 ghost use Rattle.std.specs.Option.{option_map};
 ghost use Rattle.issue.specs.Accesses.{as_access};
-ghost use Rattle.issue.specs.Shared.{HasUser, IsMiss, cache_left, divider_left, misses_left};
+ghost use Rattle.issue.specs.Shared.{IsMiss, cache_left, misses_left};
 
 use crate::access::{Access, Line};
 use cache_tags::Tags;
 use machine_desc::Desc;
 use mshr_file::Mshrs;
-use unit_ports::Ports;
-use window_model::Divider;
 
 /// The line of a load moves to the front, where the cache has it.
 pub(crate) fn touch(tags: &mut Tags, load: Option<Access>)
@@ -23,22 +21,11 @@ pub(crate) fn touch(tags: &mut Tags, load: Option<Access>)
 /// A load that misses takes a register.
 pub(crate) fn take_register(mshrs: &mut Mshrs, load: Option<Access>, cycle: u32, desc: &Desc)
     requires room { IsMiss load → length mshrs.old.misses < mshrs.old.room }
-    ensures { mshrs.new ≡ record mshrs.old { misses = misses_left desc.now cycle (option_map as_access load) mshrs.old.misses } }
+    ensures { mshrs.new ≡ record mshrs.old {
+      misses = misses_left desc.now cycle (option_map as_access load) mshrs.old.misses;
+    } }
 {
     if let Some(Access::Looks(Line::Takes(line))) = load {
         mshrs.take(line, cycle as u64 + desc.cache_miss_latency as u64);
-    }
-}
-
-/// A division that begins takes the divider.
-pub(crate) fn take_divider(ports: &mut Ports, division: Option<Divider>)
-    requires used { HasUser division }
-    ensures { ports.new ≡ record ports.old { divider = divider_left division ports.old.divider } }
-{
-    let Some(taken) = division else {
-        return;
-    };
-    if let Some(serial) = taken.user {
-        ports.divide(taken.free_from, serial);
     }
 }

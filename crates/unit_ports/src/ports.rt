@@ -61,6 +61,19 @@ impl Ports {
         self.load = 1;
     }
 
+    /// Whether a port is left for an entry of this kind.
+    pub fn has(&self, kind: Kind) -> bool
+        ensures { result ≡ nat_lt 0 (left_at (port_of kind) self.now) }
+    {
+        match kind {
+            Kind::Mul => self.mul > 0,
+            Kind::Div => self.div > 0,
+            Kind::Store => self.store > 0,
+            Kind::Load => self.load > 0,
+            _ => self.alu > 0,
+        }
+    }
+
     /// Takes a port for an entry of this kind. False exactly where none of that port is left, and nothing changes then.
     pub fn grant(&mut self, kind: Kind) -> bool
         ensures granted { result ≡ nat_lt 0 (left_at (port_of kind) self.old) }

@@ -24,6 +24,7 @@ fn two_units_and_one_of_each_other_port(rt: HostRuntime) -> Result<(), Fail> {
     for cycle in 1..3 {
         ports.begin(cycle);
         for (kind, granted) in rows {
+            assert_eq!(rt; ports.has(kind), granted, "{kind:?} in cycle {cycle}");
             assert_eq!(rt; ports.grant(kind), granted, "{kind:?} in cycle {cycle}");
         }
     }

@@ -1,6 +1,13 @@
--- Where no station is ready the phase leaves all as it is.
-use Rattle.std.proofs.Common.{sym, ◌∙◌}
+-- Where no station is ready the phase leaves all as it is; else what is decided is what the definition decides, and what is written comes
+-- to what it leaves.
+use Rattle.std.proofs.Common.{ap, sym, ◌∙◌}
+use Rattle.rob_ring.specs.Ring.{Ring}
+use Rattle.cache_tags.specs.Sets.{Cache}
+use Rattle.mshr_file.specs.Registers.{Registers}
+use Rattle.unit_ports.specs.Ports.{Ports}
+use Rattle.core_parts.specs.Held.{Sizes}
 use Rattle.issue.proofs.Idle.{idle_row, idle_shown}
+use Rattle.issue.proofs.Issued.{advanced, all_left, decides, few_left, issued_advanced, issued_machine, issued_row, issued_shown, issued_whole, register_left, standing}
 use Rattle.issue.proofs.phase.issue.Goals as goal
 
 pub returns-then-not-any_ready-clause-machine : goal.returns-then-not-any_ready-clause-machine
@@ -8,3 +15,60 @@ returns-then-not-any_ready-clause-machine g c = sym c.parts.view_is ∙ idle_sho
 
 pub returns-then-not-any_ready-clause-row : goal.returns-then-not-any_ready-clause-row
 returns-then-not-any_ready-clause-row g c = idle_row _ _ _ c.parts.invariant (sym c.any_ready.ensures ∙ c.if-not-any_ready.true) c.parts.view_is
+
+pub decide-requires-clause-stands : goal.decide-requires-clause-stands
+decide-requires-clause-stands g c =
+    let w = c.parts.invariant in
+    record {
+      next = _;
+      writes = _;
+      parts = w.stands.stand;
+      writers = w.stands.writers;
+      queues = w.stands.queues;
+      addresses = w.stands.addresses;
+      advanced = advanced _ _ w c.parts.view_is c.requires.advanced;
+      model = ap (λ (s : Sizes). s.model) w.made;
+      cache = ap (λ (s : Sizes). s.tags) w.made;
+      registers = ap (λ (s : Sizes). s.registers) w.made;
+    }
+
+pub decide-requires-clause-left : goal.decide-requires-clause-left
+decide-requires-clause-left g c = all_left _ _ _ _ c.parts.invariant c.begin.ensures
+
+pub decide-requires-clause-few : goal.decide-requires-clause-few
+decide-requires-clause-few g c = few_left _ _ _ c.parts.invariant c.begin.ensures
+
+pub place-requires-clause-stands : goal.place-requires-clause-stands
+place-requires-clause-stands g c = standing _ c.parts.invariant
+
+pub take_register-requires : goal.take_register-requires
+take_register-requires g c =
+    let w = c.parts.invariant in
+    let k = decides _ _ _ _ c.decide.new.decided w c.divider-divider.ensures (ap (λ (p : Ports). p.divider) c.begin.ensures) c.decide.ensures.decides in
+    record { room = λ m. register_left _ c.decide.new.decided _ w k m }
+
+pub invariant_of-parts : goal.invariant_of-parts
+invariant_of-parts g c =
+    let w = c.parts.invariant in
+    let k = decides _ _ _ _ c.decide.new.decided w c.divider-divider.ensures (ap (λ (p : Ports). p.divider) c.begin.ensures) c.decide.ensures.decides in
+    let machine = issued_machine _ c.decide.new.decided c.place.new.rob c.place.new.stations c.touch.new.tags c.take_register.new.mshrs c.decide.new.ports w k c.place.ensures.window c.touch.ensures c.take_register.ensures in
+    issued_whole _ c.place.new.rob c.place.new.stations c.touch.new.tags c.take_register.new.mshrs c.decide.new.ports w machine c.place.ensures.stands
+    (ap (λ (r : Ring). r.room) c.place.ensures.window) c.place.ensures.same_places (ap (λ (t : Cache). t.desc) c.touch.ensures) (ap (λ (m : Registers). m.room) c.take_register.ensures)
+    (c.decide.ensures.only.alus ∙ ap (λ (p : Ports). p.alus) c.begin.ensures)
+
+pub returns-clause-machine : goal.returns-clause-machine
+returns-clause-machine g c =
+    let w = c.parts.invariant in
+    let k = decides _ _ _ _ c.decide.new.decided w c.divider-divider.ensures (ap (λ (p : Ports). p.divider) c.begin.ensures) c.decide.ensures.decides in
+    let machine = issued_machine _ c.decide.new.decided c.place.new.rob c.place.new.stations c.touch.new.tags c.take_register.new.mshrs c.decide.new.ports w k c.place.ensures.window c.touch.ensures c.take_register.ensures in
+    issued_shown _ c.place.new.rob c.place.new.stations c.touch.new.tags c.take_register.new.mshrs c.decide.new.ports _ w machine c.parts.view_is
+
+pub returns-clause-row : goal.returns-clause-row
+returns-clause-row g c = issued_row _ _ _ _ _ c.parts.invariant c.divider-divider.ensures c.decide.ensures.row c.parts.view_is
+
+pub returns-clause-advanced : goal.returns-clause-advanced
+returns-clause-advanced g c =
+    let w = c.parts.invariant in
+    let k = decides _ _ _ _ c.decide.new.decided w c.divider-divider.ensures (ap (λ (p : Ports). p.divider) c.begin.ensures) c.decide.ensures.decides in
+    let machine = issued_machine _ c.decide.new.decided c.place.new.rob c.place.new.stations c.touch.new.tags c.take_register.new.mshrs c.decide.new.ports w k c.place.ensures.window c.touch.ensures c.take_register.ensures in
+    issued_advanced _ c.place.new.rob c.place.new.stations c.touch.new.tags c.take_register.new.mshrs c.decide.new.ports _ w machine c.parts.view_is c.requires.advanced

@@ -4,11 +4,11 @@ use Rattle.issue.proofs.placing.place.Goals as goal
 pub loop-put-init : goal.loop-put-init
 loop-put-init c = places_start _ _ _ c.requires.puts
 
-pub begin-requires : goal.begin-requires
-begin-requires c = place_within _ _ _ _ _ _ _ _ _ c.loop-put.invariant c.in-Some.is c.pop.ensures.items
+pub set-requires : goal.set-requires
+set-requires c = place_within _ _ _ _ _ _ _ _ _ c.loop-put.invariant c.in-Some.is c.pop.ensures.items
 
-pub remove-requires : goal.remove-requires
-remove-requires c = station_within _ _ _ _ _ _ _ _ _ c.loop-put.invariant c.in-Some.is c.pop.ensures.items c.requires.stands
+pub free-requires : goal.free-requires
+free-requires c = record { within = station_within _ _ _ _ _ _ _ _ _ c.loop-put.invariant c.in-Some.is c.pop.ensures.items c.requires.stands }
 
 pub loop-put-preserved : goal.loop-put-preserved
-loop-put-preserved c = places_more _ _ _ _ _ _ _ _ _ c.loop-put.invariant c.in-Some.is c.pop.ensures.items _ _ c.begin.ensures c.remove.ensures
+loop-put-preserved c = places_more _ _ _ _ _ _ _ _ _ c.loop-put.invariant c.in-Some.is c.pop.ensures.items _ _ c.set.ensures c.free.ensures

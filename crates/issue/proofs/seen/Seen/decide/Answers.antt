@@ -1,15 +1,14 @@
-use Rattle.std.proofs.Common.{◌≡◌, ◌≤◌, ◌+◌, ◌++◌, length, ap, sym, ◌∙◌, arith, refl, true}
+use Rattle.std.proofs.Common.{◌≡◌, ◌≤◌, ◌+◌, ◌++◌, length, ap, sym, ◌∙◌, arith, refl, Some}
 use Rattle.std.specs.Option.{option_map}
 use Rattle.std.proofs.lemmas.Option.{slice_get_within}
-use Rattle.window_model.specs.Order.{before_at, is_waiting}
 use Rattle.window_model.specs.Issue.{issue_entry}
 use Rattle.window_model.specs.Row.{Row}
 use Rattle.issue.specs.Accesses.{as_access}
-use Rattle.issue.specs.State.{around_of, parts_of, window_of}
+use Rattle.issue.specs.State.{here, parts_of, window_of}
 use Rattle.issue.proofs.Noting.{as_many_events, as_many_puts, only_both, row_is}
 use Rattle.issue.proofs.Testing.{ready_is}
 use Rattle.issue.proofs.Waiting.{all_wait, at_end, at_next, station_more, waits_at}
-use Rattle.issue.proofs.Walking.{decided_all, decided_more, here, keeps, left_on, not_ready, waits_here, walked_none, walked_past}
+use Rattle.issue.proofs.Walking.{decided_all, decided_more, keeps, left_on, not_ready, walked_none, walked_past}
 use Rattle.issue.proofs.seen.Seen.decide.Goals as goal
 
 pub loop-station-init : goal.loop-station-init
@@ -19,8 +18,8 @@ loop-station-init c =
     let none = ap length nothing.puts in
     let few = c.requires.few in
     record {
-      walked = walked_none s c.args.ports.now _ _ _ _ nothing.puts (ap (option_map as_access) nothing.load) nothing.division c.requires.left;
-      only = record { alus = refl; cycle = refl; divider = refl };
+      walked = walked_none s c.args.ports.now _ _ _ nothing.puts (ap (option_map as_access) nothing.load) c.requires.left;
+      only = record { alus = refl; cycle = refl };
       few = omega (arith, none, few);
       room = omega (arith, few);
       cycle = refl;
@@ -50,52 +49,42 @@ loop-station-preserved-then-not-ready c =
       cycle = t.cycle;
     }
 
-pub lend-entry-requires : goal.lend-entry-requires
-lend-entry-requires c =
-    let s = c.args.self.now in
-    let entry = here (window_of s) c.position_at-position.result _ c.position_at-position.ensures.waits in
-    slice_get_within (window_of s) c.position_at-position.result entry.entry entry.is
-
-pub decide_entry-requires-clause-ready : goal.decide_entry-requires-clause-ready
-decide_entry-requires-clause-ready c =
-    let s = c.args.self.now in
-    let i = c.position_at-position.result in
-    let e = c.lend-entry.result.now in
-    let waits : is_waiting e.state ≡ true = waits_here (window_of s) i _ e c.lend-entry.ensures c.position_at-position.ensures.waits in
-    sym (ready_is s i e c.requires.stands c.lend-entry.ensures c.loop-station.station c.ready.result waits (sym c.position_at-position.ensures.station) c.ready.ensures) ∙ c.if-not-ready.false
+pub place_at-place-requires-clause-ready : goal.place_at-place-requires-clause-ready
+place_at-place-requires-clause-ready c = c.ready.ensures ∙ ap Some c.if-not-ready.false
 
 pub decide_entry-requires-clause-left : goal.decide_entry-requires-clause-left
 decide_entry-requires-clause-left c =
     let s = c.args.self.now in
-    let i = c.position_at-position.result in
-    let e = c.lend-entry.result.now in
-    let waits : is_waiting e.state ≡ true = waits_here (window_of s) i _ e c.lend-entry.ensures c.position_at-position.ensures.waits in
-    (at_next _ (window_of s) c.loop-station.station i e (keeps s c.loop-station.ports _ _ _ _ _) c.loop-station.invariant.walked c.lend-entry.ensures waits c.position_at-position.ensures.station).left
+    let p = c.place_at-place.result in
+    let turn = c.place_at-place.ensures.turn in
+    let at = sym turn.station ∙ c.place_at-place.ensures.station in
+    (at_next _ (window_of s) c.loop-station.station p.position p.entry.now (keeps s c.loop-station.ports _ _ _ _ _) c.loop-station.invariant.walked turn.at turn.waits at).left
 
 pub loop-station-preserved : goal.loop-station-preserved
 loop-station-preserved c =
     let s = c.args.self.now in
-    let i = c.position_at-position.result in
-    let station = c.position_at-position.ensures.station in
+    let p = c.place_at-place.result in
+    let i = p.position in
+    let e = p.entry.now in
+    let turn = c.place_at-place.ensures.turn in
+    let at = sym turn.station ∙ c.place_at-place.ensures.station in
     let t = c.loop-station.invariant in
-    let e = c.lend-entry.result.now in
-    let h = c.lend-entry.ensures in
-    let waits : is_waiting e.state ≡ true = waits_here (window_of s) i _ e h c.position_at-position.ensures.waits in
-    let walked = at_next _ (window_of s) c.loop-station.station i e (keeps s c.loop-station.ports _ _ _ _ _) t.walked h waits station in
-    let events : c.decide_entry.new.row.events ≡ c.loop-station.row.events ++ (issue_entry s.desc.now (around_of s) (before_at (window_of s) i) e).events = ap (λ (r : Row). r.events) c.decide_entry.ensures.row in
-    let puts = as_many_puts c.loop-station.decided.puts.items c.decide_entry.new.decided.puts.items i c.loop-station.station (issue_entry s.desc.now (around_of s) (before_at (window_of s) i) e) c.decide_entry.ensures.puts in
-    let more = as_many_events c.loop-station.row.events c.decide_entry.new.row.events (issue_entry s.desc.now (around_of s) (before_at (window_of s) i) e) events in
+    let b = here issue_entry s p in
+    let walked = at_next _ (window_of s) c.loop-station.station i e (keeps s c.loop-station.ports _ _ _ _ _) t.walked turn.at turn.waits at in
+    let events : c.decide_entry.new.row.events ≡ c.loop-station.row.events ++ b.events = ap (λ (r : Row). r.events) c.decide_entry.ensures.row in
+    let puts = as_many_puts c.loop-station.decided.puts.items c.decide_entry.new.decided.puts.items i p.station b c.decide_entry.ensures.puts in
+    let more = as_many_events c.loop-station.row.events c.decide_entry.new.row.events b events in
     let fewer = c.decide_entry.ensures.fewer in
     let few = t.few in
     let room = t.room in
     record {
       walked = record {
         position = i + 1;
-        within = let lt = slice_get_within (window_of s) i e h in omega (arith, lt);
-        station = station_more (window_of s) i e h waits ∙ ap (λ n. n + 1) station;
+        within = let lt = slice_get_within (window_of s) i e turn.at in omega (arith, lt);
+        station = station_more (window_of s) i e turn.at turn.waits ∙ ap (λ n. n + 1) at;
         holds = record {
-          decided = decided_more s i e h c.loop-station.station _ _ _ _ _ _ _ _ _ (sym station) c.decide_entry.ensures.puts events c.decide_entry.ensures.load c.decide_entry.ensures.division walked.decided;
-          left = left_on s i e h _ c.decide_entry.ensures.left;
+          decided = decided_more s i e turn.at p.station _ _ _ _ _ _ _ _ _ _ turn.station c.decide_entry.ensures.puts events c.decide_entry.ensures.load c.decide_entry.ensures.divider walked.decided;
+          left = left_on s i e turn.at _ c.decide_entry.ensures.left;
         };
       };
       only = only_both _ _ _ t.only c.decide_entry.ensures.only;
@@ -115,13 +104,11 @@ returns c =
     let room = t.room in
     let many = all_wait (parts_of stands.next stands.writes s) stands.parts in
     let walked = at_end _ (window_of s) c.loop-station.station (keeps s c.loop-station.ports _ _ _ _ _) t.walked (omega (arith, many, len, end, up_to)) in
-    let all = decided_all s (length (window_of s)) _ _ _ _ _ (omega arith) walked.decided in
+    let all = decided_all s (length (window_of s)) _ _ _ _ _ _ (omega arith) walked.decided in
     record {
+      decides = record { window = all.window_is; load = all.load_is; divider = all.divider_is };
       puts = all.puts_are;
-      window = all.window_is;
       row = row_is c.args.row.now c.loop-station.row _ t.cycle all.events_are;
-      load = all.load_is;
-      division = all.division_is;
       only = t.only;
       few = omega (arith, room);
     }

@@ -10,7 +10,7 @@ use Rattle.issue.proofs.seen.Seen.decide.Given as goal
 
 abbrev pub invariant-loop-station : goal.invariant-loop-station
 invariant-loop-station l = record {
-  walked : Reaches (Walked l.self l.ports l.decided.puts.items (option_map as_access l.decided.load) l.decided.division l.initial.row.events l.row.events) (window_of l.self) l.station;
+  walked : Reaches (Walked l.self l.ports l.decided.puts.items (option_map as_access l.decided.load) l.initial.ports.divider l.initial.row.events l.row.events) (window_of l.self) l.station;
   only : OnlyPorts l.initial.ports l.ports;
   few : length l.decided.puts.items + left_in_all l.ports ≤ most_issued;
   room : length l.row.events + left_in_all l.ports ≤ length l.initial.row.events + most_issued;

@@ -1,27 +1,82 @@
-use Rattle.std.proofs.Common.{◌∙◌, ap, refl, sym, None, Some}
-use Rattle.std.specs.Prelude.{if◌then◌else◌}
-use Rattle.window_model.specs.Issue.{access_of, taken_for}
-use Rattle.window_model.specs.Order.{before_at}
+use Rattle.std.proofs.Common.{◌≡◌, ◌∙◌, ◌++◌, length, ap, refl, sym, arith, false, true, append-nil}
+use Rattle.std.specs.Option.{option_map}
+use Rattle.rv_types.specs.Value.{one_if}
+use Rattle.window_model.specs.Issue.{is_granted, port_of}
+use Rattle.window_model.specs.Row.{with_events}
 use Rattle.issue.specs.Accesses.{as_access}
-use Rattle.issue.specs.State.{around_of, window_of}
-use Rattle.issue.proofs.Choosing.{granted_division, granted_load}
-use Rattle.issue.proofs.Noting.{noted, noted_as}
+use Rattle.issue.specs.State.{around_of, before_of}
+use Rattle.issue.specs.Turns.{after_of, divider_by, load_by, puts_by, puts_of}
+use Rattle.issue.proofs.Choosing.{division_where, granted_done, load_where, the_other}
+use Rattle.issue.proofs.Noting.{same_row}
+use Rattle.issue.proofs.Testing.{left_refused, served, some_left}
+use Rattle.issue.proofs.Turning.{few_events, turn_acts, turn_begins, turn_waits}
 use Rattle.issue.proofs.seen.Seen.decide_entry.Goals as goal
 
-pub returns-clause-load : goal.returns-clause-load
-returns-clause-load c =
+pub returns-then-not-is_served : goal.returns-then-not-is_served
+returns-then-not-is_served c =
     let s = c.args.self.now in
-    let before = before_at (window_of s) c.args.position in
-    let e = c.args.entry.now in
-    let granted = granted_load e.item.kind s.desc.now (around_of s) before e refl (sym c.grant.ensures.granted ∙ c.if-not-grant.false) in
-    noted_as as_access _ _ _ _ _ c.note.ensures.load
-    (c.begin-turn.ensures.access ∙ ap (λ b. if b then Some (access_of s.desc.now (around_of s) before e) else None) (sym granted))
+    let p = c.args.place.now in
+    let d = s.desc.now in
+    let now = around_of s in
+    let before = before_of s p in
+    let e = p.entry.now in
+    let refused : is_granted d now (port_of e.item.kind) before e ≡ false = sym c.is_served.ensures ∙ c.if-not-is_served.true in
+    let stays = turn_waits d now before e refused in
+    let none = ap (λ b. length b.events) stays in
+    record {
+      puts = sym (ap (λ b. c.args.decided.now.puts.items ++ puts_of p.position p.station b) stays ∙ append-nil c.args.decided.now.puts.items);
+      row = sym (ap (λ b. with_events c.args.row.now b.events) stays ∙ same_row c.args.row.now);
+      load = the_other _ _ _ _ (load_where d now before e false refused) refl;
+      divider = the_other _ _ _ _ (division_where d now before e false refused) refl;
+      left = left_refused d now before e _ c.requires.left refused;
+      fewer = omega (arith, none);
+      only = record { alus = refl; cycle = refl };
+    }
 
-pub returns-clause-division : goal.returns-clause-division
-returns-clause-division c =
+pub begin-after-requires-clause-done : goal.begin-after-requires-clause-done
+begin-after-requires-clause-done c =
     let s = c.args.self.now in
-    let before = before_at (window_of s) c.args.position in
-    let e = c.args.entry.now in
-    let granted = granted_division e.item.kind s.desc.now (around_of s) before e refl (sym c.grant.ensures.granted ∙ c.if-not-grant.false) in
-    noted _ _ _ _ _ c.note.ensures.division
-    (c.begin-turn.ensures.division ∙ ap (λ b. if b then Some (taken_for (around_of s) before e) else None) (sym granted))
+    let p = c.args.place.now in
+    granted_done s.desc.now (around_of s) (before_of s p) p.entry.now (sym c.is_served.ensures ∙ c.if-not-is_served.false)
+
+pub begin-after-requires-clause-room : goal.begin-after-requires-clause-room
+begin-after-requires-clause-room c =
+    let s = c.args.self.now in
+    let p = c.args.place.now in
+    let some = some_left s.desc.now (around_of s) (before_of s p) p.entry.now _ c.requires.left (sym c.is_served.ensures ∙ c.if-not-is_served.false) in
+    let room = c.requires.room in
+    omega (arith, some, room)
+
+pub note-requires : goal.note-requires
+note-requires c =
+    let s = c.args.self.now in
+    let p = c.args.place.now in
+    let some = some_left s.desc.now (around_of s) (before_of s p) p.entry.now _ c.requires.left (sym c.is_served.ensures ∙ c.if-not-is_served.false) in
+    let few = c.requires.few in
+    omega (arith, some, few)
+
+pub returns : goal.returns
+returns c =
+    let s = c.args.self.now in
+    let p = c.args.place.now in
+    let d = s.desc.now in
+    let now = around_of s in
+    let before = before_of s p in
+    let e = p.entry.now in
+    let granted : is_granted d now (port_of e.item.kind) before e ≡ true = sym c.is_served.ensures ∙ c.if-not-is_served.false in
+    let begins = turn_begins d now before e granted in
+    let comes = c.begin-after.ensures.comes in
+    let left = served d now before e _ c.requires.left granted _ _ _ c.begin-after.ensures.divider c.grant.ensures.left in
+    let few = few_events _ e _ (turn_acts d now before e) in
+    let one = ap one_if granted in
+    let fewer = left.fewer in
+    record {
+      puts = c.note.ensures.puts ∙ ap (λ o. c.args.decided.now.puts.items ++ puts_by p.position p.station o) (comes.entry ∙ ap after_of (sym begins));
+      row = comes.row ∙ ap (λ b. with_events c.args.row.now b.events) (sym begins);
+      load = ap (option_map as_access) c.note.ensures.load ∙ c.begin-after.ensures.load
+          ∙ ap (λ b. load_by b s p (option_map as_access c.args.decided.now.load)) (sym (load_where d now before e true granted));
+      divider = left.divider ∙ ap (λ b. divider_by b s p c.args.ports.now.divider) (sym (division_where d now before e true granted));
+      left = left.left;
+      fewer = omega (arith, few, one, fewer);
+      only = left.only;
+    }

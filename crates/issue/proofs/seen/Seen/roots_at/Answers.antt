@@ -6,7 +6,8 @@ use Rattle.issue.proofs.seen.Seen.roots_at.Goals as goal
 
 pub sources_at-requires : goal.sources_at-requires
 sources_at-requires c =
-    subst (λ n. c.args.position < n) (sym (sym (as_many_roots c.args.self.now.sources.now.items) ∙ as_many _ _ _ _ c.requires.stands.parts.roots)) (slice_get_within _ _ _ c.requires.at)
+    let t = c.requires.turn in
+    subst (λ n. c.args.place.now.position < n) (sym (sym (as_many_roots c.args.self.now.sources.now.items) ∙ as_many _ _ _ _ t.stands.parts.roots)) (slice_get_within _ _ _ t.at)
 
 pub returns : goal.returns
-returns c = roots_here c.args.self.now.sources.now.items c.args.position c.sources_at.result.now c.sources_at.ensures
+returns c = roots_here c.args.self.now.sources.now.items c.args.place.now.position c.sources_at.result.now c.sources_at.ensures

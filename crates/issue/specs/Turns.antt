@@ -1,0 +1,68 @@
+-- What becomes of an entry that has its turn, in its place (docs/machine.md, "Issue").
+use Rattle.std.specs.Prelude.{◌≡◌, ℕ, Bool, List, [], ◌∷◌, Option, None, Some, if◌then◌else◌}
+use Rattle.std.specs.Option.{option_map, option_to_list}
+use Rattle.rv_effect.specs.Seen.{seen}
+use Rattle.rv_effect.specs.declared.fields.Effect as made
+use Rattle.rv_types.specs.Isa.{Effect}
+use Rattle.machine_desc.specs.declared.Desc.{Desc}
+use Rattle.window_model.specs.declared.Divider.{Divider}
+use Rattle.window_model.specs.declared.Entry.{Entry}
+use Rattle.window_model.specs.declared.Event.{Event}
+use Rattle.window_model.specs.Access.{Access, access_at}
+use Rattle.window_model.specs.Around.{Around}
+use Rattle.window_model.specs.Issue.{Begun, access_of, begin_as, effect_of, load_as, taken_for, value_loaded}
+use Rattle.window_model.specs.Retire.{width_of}
+use Rattle.window_model.specs.Row.{Row, with_events}
+use Rattle.issue.specs.declared.decide.Put.{Put}
+use Rattle.issue.specs.declared.loads.Loaded.{Loaded}
+use Rattle.issue.specs.declared.seen.Place.{Place}
+use Rattle.issue.specs.declared.seen.Seen.{Seen}
+use Rattle.issue.specs.Accesses.{as_access}
+use Rattle.issue.specs.State.{around_of, before_of, here}
+
+-- what its instruction makes of its operands
+abbrev pub effect_here : Seen → Place → Effect
+effect_here s p = effect_of s.regs.now (before_of s p) p.entry.now
+
+-- what a load without fault finds from an address on: what its access comes to, and its value
+abbrev pub access_from : ℕ → Desc → Around → List Entry → Entry → Access
+access_from a d now before e = access_at d now before a (width_of e) None
+
+abbrev pub value_from : ℕ → Desc → Around → List Entry → Entry → ℕ
+value_from a d now before e = value_loaded now.ram before e a
+
+-- what a load comes to by what it finds
+abbrev pub loads : Seen → Place → made.Effect → Loaded → Begun
+loads s p f l = load_as (as_access l.access) s.desc.now (around_of s) p.entry.now (seen f) l.value
+
+-- what it comes to if it is granted its port
+abbrev pub begin_entry : Desc → Around → List Entry → Entry → Begun
+begin_entry d now before e = begin_as e.item.kind d now before e
+
+-- the entry afterwards; none where it stays as it is, which has no event
+abbrev pub after_by : Entry → List Event → Option Entry
+after_by e [] = None
+after_by e (event ∷ events) = Some e
+
+abbrev pub after_of : Begun → Option Entry
+after_of b = after_by b.entry b.events
+
+-- this is the entry afterwards, and the row has its events
+pub record Comes (b : Begun) (after : Option Entry) (old new : Row) : Type 0 where
+  pub entry : after ≡ after_of b
+  pub row : new ≡ with_events old b.events
+
+-- it is put in its place then
+abbrev pub puts_by : ℕ → ℕ → Option Entry → List Put
+puts_by i station after = option_to_list (option_map (λ e. record { position = i; station = station; entry = e }) after)
+
+abbrev pub puts_of : ℕ → ℕ → Begun → List Put
+puts_of i station b = puts_by i station (after_of b)
+
+-- what the access of the load that is tried comes to, where this is it
+abbrev pub load_by : Bool → Seen → Place → Option Access → Option Access
+load_by b s p old = if b then Some (here access_of s p) else old
+
+-- the divider, where this is the division that takes it
+abbrev pub divider_by : Bool → Seen → Place → Divider → Divider
+divider_by b s p old = if b then taken_for (around_of s) (before_of s p) p.entry.now else old
