@@ -53,9 +53,6 @@ module _ (d : Desc) (now : Around) (e : Entry) (f : Effect) (bytes : List ℕ) w
 
 comes : (d : Desc) (x : Machine) (b : List Entry) (e : Entry) (k : Kind) → let f = effect_of x.regs b e in Comes e (outcome_as k x.ram e.item.instr f (bytes_over (bank_of x) b e f.addr)) (begin_as k d (around x) b e).entry
 comes d x b e Load = let f = effect_of x.regs b e in load_comes d (around x) e f (bytes_over (bank_of x) b e f.addr) b f.addr (width_of e) (load_fault x.ram f.addr (width_of e))
-comes d x b e Store = Begins _ refl
-comes d x b e Mul = Begins _ refl
-comes d x b e Div = Begins _ refl
 comes d x b e _ = Begins _ refl
 
 -- fetch goes on as predicted after what is not resolved

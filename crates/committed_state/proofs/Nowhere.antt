@@ -22,12 +22,7 @@ stop_predicts (Stop c) i h n = refl
 stop_predicts Jal i h n = absurd (cc)
 stop_predicts Branch i h n = absurd (let q = ap is_some n in cc)
 stop_predicts Jalr i h n = absurd (let q = ap is_some n in cc)
-stop_predicts Alu i h n = absurd (cc)
-stop_predicts Mul i h n = absurd (cc)
-stop_predicts Div i h n = absurd (cc)
-stop_predicts Load i h n = absurd (cc)
-stop_predicts Store i h n = absurd (cc)
-stop_predicts Call i h n = absurd (cc)
+stop_predicts _ i h n = absurd (cc)
 
 queue_stops : (code : Code) (from : Option ℕ) (i : Item) (is : List Item) → Each (IsItem code) (i ∷ is) → Chain from (links [] (i ∷ is)) None → HasStopped [] (i ∷ is)
 queue_stops code from i [] h k = stop_predicts i.kind i h.0.next k.1

@@ -48,14 +48,7 @@ false_unless false h = refl
 goes_as : (k : Kind) (e : Entry) → e.item.kind ≡ k → (e.resolved ≡ true → is_control k ≡ true) → Predicts k e.item → is_some (entry_link e).next ≡ true → is_call k ≡ false → (not (at_once k)) ≡ true
 goes_as Call e q r p l c = absurd (cc)
 goes_as (Stop a) e q r p l c = absurd (no_link e.resolved e.item.predicted (true_next e) (false_unless e.resolved (λ t. let u = r t in cc)) p l)
-goes_as Alu e q r p l c = refl
-goes_as Mul e q r p l c = refl
-goes_as Div e q r p l c = refl
-goes_as Load e q r p l c = refl
-goes_as Store e q r p l c = refl
-goes_as Branch e q r p l c = refl
-goes_as Jalr e q r p l c = refl
-goes_as Jal e q r p l c = refl
+goes_as _ e q r p l c = refl
 
 -- only what is Done is resolved
 resolved_control : (t : _) (e : Entry) → FitsState t e → e.resolved ≡ true → is_control e.item.kind ≡ true
@@ -115,12 +108,7 @@ predicts (Stop a) d c t i h = h
 predicts Jal d c t i h = h
 predicts Branch d c t i h = ap is_some h
 predicts Jalr d c t i h = ap is_some h
-predicts Alu d c t i h = h
-predicts Mul d c t i h = h
-predicts Div d c t i h = h
-predicts Load d c t i h = h
-predicts Store d c t i h = h
-predicts Call d c t i h = h
+predicts _ d c t i h = h
 
 chain_items : (from : Option ℕ) (q : List Item) (i : Item) → Chain from (map item_link q) (Some i.pc) → Chain from (map item_link (q ++ i ∷ [])) i.predicted
 chain_items from [] i k = (k, refl)

@@ -87,9 +87,6 @@ step_as (Some w) s e q a k n f h =
 -- the replay goes on where the instruction does
 pub replayed_next : (k : Kind) (s : Bank) (e : Entry) → (replayed_as k s e).next ≡ (effect_on s e).next
 replayed_next Load s e = refl
-replayed_next Store s e = refl
-replayed_next Mul s e = refl
-replayed_next Div s e = refl
 replayed_next _ s e = refl
 
 next_as : (c : Option ℕ) (s : Bank) (e : Entry) → e.item.instr ≡ instr_at c → e.item.kind ≡ kind_at c → at_once e.item.kind ≡ false → is_control e.item.kind ≡ false → Predicts e.item.kind e.item →

@@ -101,13 +101,7 @@ module _ (d : Desc) (now : Around) (i : IsDesc d) where
   begin_soon Load b e j h = load_soon (access_of d now b e) e _ _ j h
   begin_soon Mul b e j h = (omega (arith, i.mul_latency.0), omega arith)
   begin_soon Div b e j h = let n = time_in now.regs b e in (omega (arith, n.0), omega (arith, n.1))
-  begin_soon Store b e j h = (omega arith, omega arith)
-  begin_soon Alu b e j h = (omega arith, omega arith)
-  begin_soon Branch b e j h = (omega arith, omega arith)
-  begin_soon Jalr b e j h = (omega arith, omega arith)
-  begin_soon Jal b e j h = (omega arith, omega arith)
-  begin_soon Call b e j h = (omega arith, omega arith)
-  begin_soon (Stop c) b e j h = (omega arith, omega arith)
+  begin_soon _ b e j h = (omega arith, omega arith)
 
   issue_soon : Each (IsPending d now.cycle now.cycle) now.misses → (b : List Entry) (e : Entry) → IsDue d now.cycle now.cycle e → IsDue d now.cycle now.cycle (issue_entry d now b e).entry
   issue_soon p b e h = by_issue d now b e (IsDue d now.cycle now.cycle) h (λ m.

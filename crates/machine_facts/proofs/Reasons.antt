@@ -116,12 +116,4 @@ last_new serial i = by (is_stop i.kind) (is_done (renamed serial i).state)
 -- only a stop predicts nothing
 pub stop_predicts : (k : Kind) (d : Desc) (c : List ℕ) (t : List (Option Target)) (pc : ℕ) (i : Instr) → predicted k d c t pc i ≡ None → is_stop k ≡ true
 stop_predicts (Stop a) d c t pc i h = refl
-stop_predicts Alu d c t pc i h = absurd (cc)
-stop_predicts Mul d c t pc i h = absurd (cc)
-stop_predicts Div d c t pc i h = absurd (cc)
-stop_predicts Load d c t pc i h = absurd (cc)
-stop_predicts Store d c t pc i h = absurd (cc)
-stop_predicts Branch d c t pc i h = absurd (cc)
-stop_predicts Jalr d c t pc i h = absurd (cc)
-stop_predicts Jal d c t pc i h = absurd (cc)
-stop_predicts Call d c t pc i h = absurd (cc)
+stop_predicts _ d c t pc i h = absurd (cc)

@@ -237,15 +237,7 @@ sized_rename d x i s = rename_keep d (Sized d) (rename_item d) x s
 
 own_kind : (k : Kind) (i : Item) → i.kind ≡ k → k ≡ kind_of i.instr → FitsKind k i
 own_kind (Stop c) i q h = tt
-own_kind Alu i q h = h
-own_kind Mul i q h = h
-own_kind Div i q h = h
-own_kind Load i q h = h
-own_kind Store i q h = h
-own_kind Branch i q h = h
-own_kind Jalr i q h = h
-own_kind Jal i q h = h
-own_kind Call i q h = h
+own_kind _ i q h = h
 
 fetched_kind : (w : Option ℕ) (pc : ℕ) (p : Option ℕ) → HasKind (record { pc = pc; instr = instr_at w; kind = kind_at w; predicted = p })
 fetched_kind None pc p = tt

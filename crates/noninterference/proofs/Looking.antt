@@ -65,10 +65,7 @@ faults_alike _ model before e e2 o h = ap fault_of (o (untainted_sources model b
 
 safe_by : (k : Kind) (e e2 : Entry) → e.state ≡ e2.state → e.resolved ≡ e2.resolved → fault_of e.outcome ≡ fault_of e2.outcome → safe_as k e ≡ safe_as k e2
 safe_by Load e e2 st rs f = cc
-safe_by Store e e2 st rs f = cc
-safe_by Branch e e2 st rs f = cc
-safe_by Jalr e e2 st rs f = cc
-safe_by _ e e2 st rs f = refl
+safe_by _ e e2 st rs f = cc
 
 same_safe : (model : SttModel) (before : List Entry) (e e2 : Entry) → SameEntry model before e e2 → visible model before ≡ true → safe e ≡ safe e2
 same_safe model before e e2 s h =

@@ -52,13 +52,10 @@ module _ (d : Desc) (cycle : ℕ) (misses : List Miss) (free_from : ℕ) where
 
   waiting_at_least : (k : Kind) → 1 ≤ takes Waiting k d cycle misses free_from
   waiting_at_least Load = omega arith
-  waiting_at_least Div = omega arith
   waiting_at_least _ = omega arith
 
   latency_in_bound : (k : Kind) → latency k d ≤ bound d
   latency_in_bound Load = omega arith
-  latency_in_bound Mul = omega arith
-  latency_in_bound Div = omega arith
   latency_in_bound _ = omega arith
 
   takes_at_most : (s : Progress) (k : Kind) → 1 ≤ d.cache_miss_latency → Each (IsPending d cycle cycle) misses → free_from ≤ cycle + longest_division → DueSoon cycle cycle (latency k d) s → takes s k d cycle misses free_from ≤ bound d

@@ -120,8 +120,6 @@ busy_divider Div d now before e f = by (is_waiting e.state) (ready before e) (no
     by true false t n f = refl
     by false r t n f = refl
 busy_divider Load d now before e f = none_and _ _ refl
-busy_divider Store d now before e f = none_and _ _ refl
-busy_divider Mul d now before e f = none_and _ _ refl
 busy_divider _ d now before e f = none_and _ _ refl
 
 none_if : (b : Bool) (p : Place) (o : Option Place) → b ≡ false → o ≡ None → (if b then Some p else o) ≡ None

@@ -1,5 +1,5 @@
 -- The youngest root is visible exactly where all are.
-use Rattle.std.proofs.Common.{◌≡◌, ℕ, ◌≤◌, Bool, true, false, not, ◌||◌, ◌&&◌, List, [], ◌∷◌, Option, Some, None, refl, ap, ◌∙◌, arith}
+use Rattle.std.proofs.Common.{◌≡◌, ℕ, ◌≤◌, Bool, true, false, not, ◌||◌, ◌&&◌, List, [], ◌∷◌, Option, Some, None, refl, ap, sym, ◌∙◌, arith}
 use Rattle.std.specs.Prelude.{map, max, nat_le, if◌then◌else◌}
 use Rattle.std.specs.List.{list_any}
 use Rattle.std.proofs.lemmas.Bool.Decides.{nat_tests}
@@ -8,6 +8,7 @@ use Rattle.window_model.specs.declared.Entry.{Entry}
 use Rattle.window_model.specs.Order.{is_store}
 use Rattle.window_model.specs.Taint.{address_tainted}
 use Rattle.window_model.specs.Access.{any_store_hidden}
+use Rattle.window_model.proofs.Booleans.{or_false}
 use Rattle.lsq.specs.declared.store.Store.{Store}
 use Rattle.rename_taint.specs.Writes.{later as younger}
 use Rattle.lsq.specs.Queues.{youngest_root}
@@ -34,13 +35,9 @@ of_two v down a b false q false h k l = refl
 of_two v down a b true false false h k l = refl
 of_two v down a b true true false h k l = let m = of_max v a b (nat_le a b) refl h k in absurd (cc)
 
-or_false : (b : Bool) → b ≡ (b || false)
-or_false true = refl
-or_false false = refl
-
 hides_younger : (v : ℕ → Bool) → Down v → (r s : Option ℕ) → hides v (younger r s) ≡ (hides v r || hides v s)
 hides_younger v down None s = refl
-hides_younger v down (Some a) None = or_false (not (v a))
+hides_younger v down (Some a) None = sym (or_false (not (v a)))
 hides_younger v down (Some a) (Some b) = of_two v down a b (v a) (v b) (v (max a b)) refl refl refl
 
 abbrev any : List Bool → Bool

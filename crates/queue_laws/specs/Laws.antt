@@ -1,21 +1,17 @@
 -- What queues that stand for a window tell of it.
-use Rattle.std.specs.Prelude.{◌≡◌, ℕ, ◌≤◌, Bool, true, false, not, ◌==◌, nat_lt, List, [], ◌∷◌, ◌++◌, length, map, reverse, Option, None}
-use Rattle.std.specs.List.{count_by, filter, list_all}
+use Rattle.std.specs.Prelude.{◌≡◌, ℕ, ◌≤◌, Bool, true, List, ◌++◌, length, map, reverse}
+use Rattle.std.specs.List.{count_by, list_all}
 use Rattle.rv_types.specs.Memory.{Ram}
-use Rattle.rv_types.specs.Value.{bytes_in}
-use Rattle.rv_types.specs.declared.Width.{Width}
-use Rattle.machine_desc.specs.declared.Desc.{Desc}
 use Rattle.machine_desc.specs.declared.SttModel.{SttModel}
 use Rattle.window_model.specs.declared.Entry.{Entry}
 use Rattle.window_model.specs.declared.Progress.TheVariants.{Done}
-use Rattle.window_model.specs.Order.{is_load, is_store, is_waiting}
+use Rattle.window_model.specs.Order.{is_load, is_store}
 use Rattle.window_model.specs.Access.{all_covered, any_store_hidden, load_bytes}
 use Rattle.window_model.specs.Issue.{stores_done}
-use Rattle.window_model.specs.Retire.{width_of}
 use Rattle.lsq.specs.declared.store.Store.{Store}
-use Rattle.lsq.specs.Queues.{Queues, empty, is_known, known_at, older, youngest_root}
+use Rattle.lsq.specs.Queues.{Queues, is_known, older, youngest_root}
 use Rattle.lsq.specs.Merging.{all_forwarded, merged_bytes}
-use Rattle.queue_laws.specs.Window.{NotOlder, Older, Others, StandFor, StoresStandFor, hides, known_of, seen, tainted_stores}
+use Rattle.queue_laws.specs.Window.{NotOlder, Older, StandFor, StoresStandFor, hides, tainted_stores}
 
 -- as many loads and stores are held as the window has
 abbrev pub RoomAsCounted : Type 0

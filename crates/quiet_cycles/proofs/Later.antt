@@ -42,9 +42,7 @@ module _ (d : Desc) (x : Machine) (c : ℕ) where
 
   load_as_before : (a : Access) (e : Entry) (f : Effect) (v : ℕ) → (load_as a d later e f v).events ≡ (load_as a d now e f v).events
   load_as_before (Faults cause) e f v = refl
-  load_as_before Forwards e f v = refl
-  load_as_before (Looks found) e f v = refl
-  load_as_before Waits e f v = refl
+  load_as_before _ e f v = refl
 
   begins_as_before : (k : Kind) (before : List Entry) (e : Entry) → (begin_as k d later before e).events ≡ (begin_as k d now before e).events
   begins_as_before Load before e =
@@ -52,9 +50,6 @@ module _ (d : Desc) (x : Machine) (c : ℕ) where
       let v = value_loaded x.ram before e f.addr in
       ap (λ a. (load_as a d later e f v).events) (same_access before f.addr (width_of e) (load_fault x.ram f.addr (width_of e)))
       ∙ load_as_before (access_of d now before e) e f v
-  begins_as_before Store before e = refl
-  begins_as_before Mul before e = refl
-  begins_as_before Div before e = refl
   begins_as_before _ before e = refl
 
   if_as_before : (b : Bool) (before : List Entry) (e : Entry) → (if b then begin_as e.item.kind d later before e else waits e).events ≡ (if b then begin_as e.item.kind d now before e else waits e).events

@@ -58,9 +58,6 @@ module _ (d : Desc) (now : Around) (before : List Entry) (e : Entry) where
       let f = effect_of now.regs before e in
       let v = value_loaded now.ram before e f.addr in
       ap (λ a. (load_as a d now e f v).entry) (load_waits f v h)
-  begin_stays Store h = absurd (cc)
-  begin_stays Mul h = absurd (cc)
-  begin_stays Div h = absurd (cc)
   begin_stays _ h = absurd (cc)
 
   if_stays : (b : Bool) → let r = (if b then begin_as e.item.kind d now before e else waits e) in r.events ≡ [] → r.entry ≡ e

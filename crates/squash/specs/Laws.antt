@@ -1,5 +1,5 @@
 -- What is dropped from the parts of a core is what the machine drops (docs/machine.md, "Resolve").
-use Rattle.std.specs.Prelude.{◌≡◌, ◌+◌, ◌-◌, ◌<◌, length}
+use Rattle.std.specs.Prelude.{◌≡◌, ◌+◌, ◌-◌, length}
 use Rattle.machine_desc.specs.declared.Desc.{Desc}
 use Rattle.window_model.specs.Order.{Place}
 use Rattle.window_model.specs.Resolve.{keep, squash}

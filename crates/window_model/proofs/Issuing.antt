@@ -60,10 +60,7 @@ same_is _ _ h = absurd (cc)
 
 pub same_self : (p : Port) → same_port p p ≡ true
 same_self AluPort = refl
-same_self MulPort = refl
-same_self DivPort = refl
-same_self AddressPort = refl
-same_self LoadPort = refl
+same_self _ = refl
 
 -- only loads ask for the loads' port, and only divisions for the divider's
 pub at_load_port : (k : Kind) → same_port (port_of k) LoadPort ≡ true → k ≡ Load
@@ -97,9 +94,6 @@ load_comes Waits d now e f v = Remains refl
 
 pub begin_comes : (k : Kind) (d : Desc) (now : Around) (b : List Entry) (e : Entry) → Comes e (begin_as k d now b e).entry
 begin_comes Load d now b e = load_comes (access_of d now b e) d now e _ _
-begin_comes Store d now b e = Begins _ _ refl
-begin_comes Mul d now b e = Begins _ _ refl
-begin_comes Div d now b e = Begins _ _ refl
 begin_comes _ d now b e = Begins _ _ refl
 
 -- what holds of an entry that remains and of one that begins holds of what Issue makes of it
