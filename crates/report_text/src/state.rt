@@ -74,7 +74,8 @@ pub fn write_report<S: Sink>(
 ) -> Result<(), Failed>
     requires base { before.now.base ≡ after.now.base }
     requires size { length before.now.bytes ≡ length after.now.bytes }
-    ensures { Writes (state_text (record { pc = pc; regs = regs.now; ram = after.now }) before.now ending.now) (S.told out.old) (S.told out.new) result }
+    ensures { Writes (state_text (record { pc = pc; regs = regs.now; ram = after.now }) before.now ending.now)
+        (S.told out.old) (S.told out.new) result }
 {
     let mut line = Line::new();
     write_registers(regs, &mut line, out)?;
