@@ -114,7 +114,7 @@ module _ (s s1 s2 : Described) (p : Fronts s s1 s2) where
 
     pub serial_stays : s3.machine.next_serial ≡ s.machine.next_serial
     serial_stays =
-        let x = begun s.machine in
+        let x = begins_cycle s.machine in
         let y = (fill s.desc x).machine in
         let z = (complete y).machine in
         ap (λ (x : Machine). x.next_serial) machine_left
