@@ -24,7 +24,8 @@ impl Model for Ram {
 
     ghost view = { λ r. record { base = r.base; bytes = r.bytes.items } };
 
-    ghost invariant = { λ r. (r.base + vec_len r.bytes ≤ 2 ^ 32) × (0 < vec_len r.bytes) × (vec_len r.bytes < 2 ^ 32) × (r.base % 16 ≡ 0) × (vec_len r.bytes % 16 ≡ 0) };
+    ghost invariant = { λ r. (r.base + vec_len r.bytes ≤ 2 ^ 32) × (0 < vec_len r.bytes) × (vec_len r.bytes < 2 ^ 32)
+        × (r.base % 16 ≡ 0) × (vec_len r.bytes % 16 ≡ 0) };
 }
 
 impl Ram {

@@ -27,7 +27,8 @@ impl Model for Tags {
 
     ghost view = { λ t. record { desc = t.desc; sets = t.level.sets } };
 
-    ghost invariant = { λ t. (t.level.count ≡ t.desc.cache_sets) × (t.level.ways ≡ t.desc.cache_ways) × (t.level.bytes ≡ t.desc.cache_line) };
+    ghost invariant = { λ t. (t.level.count ≡ t.desc.cache_sets) × (t.level.ways ≡ t.desc.cache_ways)
+        × (t.level.bytes ≡ t.desc.cache_line) };
 }
 
 impl Tags {

@@ -1,5 +1,5 @@
 -- Completing entry by entry: what is left to complete makes the whole.
-use Rattle.std.proofs.Common.{◌≡◌, ℕ, zero, suc, ◌+◌, ◌<◌, ◌≤◌, Bool, true, false, cond, List, [], ◌∷◌, ◌++◌, length, take, drop, Option, Some, None, refl, ap, ap₂, sym, ◌∙◌, subst, arith, slice_get}
+use Rattle.std.proofs.Common.{◌≡◌, ℕ, zero, suc, ◌+◌, ◌<◌, ◌≤◌, Bool, true, false, cond, List, [], ◌∷◌, ◌++◌, length, take, drop, Option, Some, None, refl, ap, ap₂, sym, ◌∙◌, arith, slice_get}
 use Rattle.std.specs.Prelude.{if◌then◌else◌, map, slice_set}
 use Rattle.std.specs.List.{filter, fold}
 use Rattle.std.specs.Option.{option_map}
@@ -82,9 +82,6 @@ pub record CompletesOn (s : Described) (row : Row) (i : ℕ) (now : Described) (
   pub events : fold with_done row_now.events (finished s.machine.cycle (drop i s.machine.window)) ≡ fold with_done row.events (finished s.machine.cycle s.machine.window)
   pub same_cycle : row_now.cycle ≡ row.cycle
   pub few : length row_now.events ≤ length row.events + i
-
-pub completes_start : (s : Described) (row : Row) → CompletesOn s row 0 s row
-completes_start s row = record { machine = refl; events = refl; same_cycle = refl; few = omega arith }
 
 -- one entry of the window
 entries_more : (cycle : ℕ) (es now : List Entry) (i : ℕ) (e : Entry) (b : Bool) → now ≡ map (completed cycle) (take i es) ++ drop i es → slice_get es i ≡ Some e → completes cycle e ≡ b →
@@ -200,6 +197,3 @@ not_waiting cycle Done h = refl
 due_by : (cycle : ℕ) (o : Option Entry) → option_map (completes cycle) o ≡ Some true → option_map (λ e. is_waiting e.state) o ≡ Some false
 due_by cycle None h = absurd (cc)
 due_by cycle (Some e) h = ap Some (not_waiting cycle e.state (let k : Some (completes cycle e) ≡ Some true = h in cc))
-
-pub due_waits : (cycle i : ℕ) (w : List Entry) → option_map (completes cycle) (slice_get w i) ≡ Some true → option_map (λ e. is_waiting e.state) (slice_get w i) ≡ Some false
-due_waits cycle i w h = due_by cycle (slice_get w i) h

@@ -1,5 +1,5 @@
 -- Phase Retire leaves parts that hold what the machine then holds, and stand for it.
-use Rattle.std.proofs.Common.{◌≡◌, ℕ, ◌+◌, ◌-◌, ◌≤◌, true, false, List, [], ◌∷◌, ◌++◌, length, take, drop, Option, Some, None, refl, ap, sym, ◌∙◌, subst, arith}
+use Rattle.std.proofs.Common.{◌≡◌, ℕ, ◌+◌, ◌-◌, ◌≤◌, true, List, [], ◌∷◌, ◌++◌, length, take, drop, Option, Some, None, refl, ap, sym, ◌∙◌, subst, arith}
 use Rattle.std.specs.Prelude.{is_some}
 use Rattle.std.specs.List.{AllByRecursion as Each}
 use Rattle.circular_buffer.specs.Buffer.{Buffer, buffer, keep_last}
@@ -8,10 +8,10 @@ use Rattle.rv_types.specs.declared.End.{End}
 use Rattle.machine_desc.proofs.EveryDesc.{every_desc}
 use Rattle.window_model.specs.declared.Entry.{Entry}
 use Rattle.window_model.specs.declared.Outcome.{Outcome}
-use Rattle.window_model.specs.declared.Progress.{Progress}
-use Rattle.window_model.specs.declared.Progress.TheVariants.{Waiting, Busy, Done}
-use Rattle.window_model.specs.Order.{is_done, is_waiting, fault_of}
+use Rattle.window_model.specs.declared.Progress.TheVariants.{Done}
+use Rattle.window_model.specs.Order.{fault_of}
 use Rattle.window_model.specs.Retire.{retire, addr_of, width_of}
+use Rattle.window_model.proofs.Booleans.{done_waits}
 use Rattle.window_model.specs.Row.{Row}
 use Rattle.window_model.specs.State.{Machine}
 use Rattle.machine_facts.specs.Sized.{Sized, FaultIs, FitsMemory, HasOutcome}
@@ -37,11 +37,6 @@ use Rattle.core_parts.proofs.Whole.{shown_by}
 takes_by : (ram : Ram) (width : ℕ) (o : Option Outcome) → FaultIs ram width o → is_some o ≡ true → fault_of o ≡ None → store_fault ram (addr_of o) width ≡ None
 takes_by ram width None f s n = absurd (cc)
 takes_by ram width (Some o) f s n = sym f ∙ n
-
-done_waits : (s : Progress) → is_done s ≡ true → is_waiting s ≡ false
-done_waits Waiting d = absurd (cc)
-done_waits (Busy due) d = refl
-done_waits Done d = refl
 
 pub each_takes : (ram : Ram) (es : List Entry) → Each (FitsMemory ram) es → Each HasOutcome es → Each (TakesStore ram) es
 each_takes ram [] m o = tt

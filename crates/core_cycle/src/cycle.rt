@@ -19,7 +19,8 @@ use window_model::Row;
 pub(crate) fn before_retire<R: RenameTaint>(parts: &mut Parts<R>, row: &mut Row)
     requires advanced { HasAdvanced parts.old.point parts.old.machine.window }
     requires room { HasRoom most_before_retire row.old }
-    ensures machine { parts.new ≡ record parts.old { machine = (phases_before parts.old).machine; point = parts.new.point } }
+    ensures machine { parts.new
+        ≡ record parts.old { machine = (phases_before parts.old).machine; point = parts.new.point } }
     ensures row { row.new ≡ with_events row.old (phases_before parts.old).events }
     ensures advanced { HasAdvanced parts.new.point parts.new.machine.window }
     ensures few { IsLonger most_before_retire row.old row.new }
@@ -39,7 +40,8 @@ pub(crate) fn after_retire<R: RenameTaint>(parts: &mut Parts<R>, row: &mut Row)
     requires advanced { HasAdvanced parts.old.point parts.old.machine.window }
     requires serials { parts.old.machine.next_serial + most_fetched < 2 ^ 64 }
     requires room { HasRoom most_after_retire row.old }
-    ensures machine { parts.new ≡ record parts.old { machine = (phases_after parts.old).machine; point = parts.new.point } }
+    ensures machine { parts.new
+        ≡ record parts.old { machine = (phases_after parts.old).machine; point = parts.new.point } }
     ensures row { row.new ≡ with_events row.old (phases_after parts.old).events }
     ensures advanced { HasAdvanced parts.new.point parts.new.machine.window }
     ensures few { IsLonger most_after_retire row.old row.new }

@@ -12,10 +12,10 @@ use Rattle.rv_types.specs.declared.Kind.{Kind}
 use Rattle.rv_types.specs.declared.Kind.TheVariants.{Load, Store}
 use Rattle.window_model.specs.declared.Entry.{Entry}
 use Rattle.window_model.specs.declared.Outcome.{Outcome}
-use Rattle.window_model.specs.declared.Progress.{Progress}
-use Rattle.window_model.specs.declared.Progress.TheVariants.{Waiting, Busy, Done}
+use Rattle.window_model.specs.declared.Progress.TheVariants.{Done}
 use Rattle.window_model.specs.Issue.{begun}
-use Rattle.window_model.specs.Order.{is_done, is_load, is_store, is_waiting}
+use Rattle.window_model.specs.Order.{is_load, is_store, is_waiting}
+use Rattle.window_model.proofs.Booleans.{waiting_done}
 use Rattle.rob_ring.specs.Beside.{each_roots, each_writers}
 use Rattle.rob_ring.specs.Ring.{below}
 use Rattle.rob_ring.specs.declared.beside.Sources.{Sources}
@@ -89,17 +89,12 @@ map_set (x ∷ w) zero e e2 h q = let same : x ≡ e = cc in ap (λ s. s ∷ map
 map_set (x ∷ w) (suc i) e e2 h q = ap (λ ss. seen x ∷ ss) (map_set w i e e2 h q)
 
 -- the queues see of an entry that begins that it isn't Done
-waits_undone : (s : Progress) → is_waiting s ≡ true → is_done s ≡ false
-waits_undone Waiting h = refl
-waits_undone (Busy due) h = refl
-waits_undone Done h = absurd (cc)
-
 begun_seen : (e : Entry) (due : ℕ) (o : Outcome) → is_waiting e.state ≡ true → seen (begun e due o) ≡ seen e
 begun_seen e due o w =
     ap₂ (λ b w. record {
       load = if is_load e.item.kind then Some e.serial else None;
       store = if is_store e.item.kind then Some (record { serial = e.serial; write = if b then Some (write_in e) else None; computed = w || is_some e.outcome }) else None;
-    }) (sym (waits_undone e.state w)) (sym w)
+    }) (sym (waiting_done e.state w)) (sym w)
 
 pub stands_begun : BeginsAt
 stands_begun p i due e o s h w =

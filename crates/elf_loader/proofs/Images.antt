@@ -1,16 +1,15 @@
 -- What callers need of images: which one a file is, and where its code may stand.
-use Rattle.std.proofs.Common.{◌≡◌, ℕ, ◌+◌, ◌-◌, ◌*◌, ◌/◌, ◌%◌, ◌^◌, ◌<◌, ◌≤◌, Bool, true, false, ◌&&◌, cond, nat_le, List, [], ◌∷◌, length, get_or, Option, None, Some, IsSome, Ok, Err, refl, ap, ◌∙◌, subst, ◌⊎◌, inl, inr, arith}
+use Rattle.std.proofs.Common.{◌≡◌, ℕ, ◌+◌, ◌-◌, ◌*◌, ◌/◌, ◌%◌, ◌^◌, ◌<◌, ◌≤◌, Bool, true, false, ◌&&◌, cond, nat_le, List, [], ◌∷◌, length, get_or, Option, None, Some, IsSome, Ok, Err, refl, ap, ◌∙◌, ◌⊎◌, inl, inr, arith}
 use Rattle.std.specs.Prelude.{◌==◌}
 use Rattle.std.specs.List.{list_any}
 use Rattle.std.proofs.lemmas.Bool.{cases_lt, false≢true}
 use Rattle.std.proofs.lemmas.Bool.Decides.{nat_tests}
-use Rattle.std.proofs.lemmas.List.{get_or_past}
 use Rattle.rv_types.specs.Memory.{Ram, zeros, bytes_at}
 use Rattle.rv_types.specs.Word.{from_le}
 use Rattle.elf_loader.specs.declared.faults.ElfFault.{ElfFault}
 use Rattle.elf_loader.specs.Faults.{first_some, header_fault}
 use Rattle.elf_loader.specs.Image.{ImageText, ram_fault, ram_after, image_in, unless, image_of, code_of, has_code, loads_of}
-use Rattle.elf_loader.specs.Code.{CodeText, word_at, IsCode}
+use Rattle.elf_loader.specs.Code.{CodeText, word_at}
 use Rattle.elf_loader.proofs.Marked.{no_code_outside}
 
 -- a file without fault is its image in this memory
@@ -68,29 +67,6 @@ at_words file base size image e pc word h =
     let same : image_in file ram ≡ image = by_fault (first_some (header_fault file ∷ ram_fault file ram ∷ [])) (image_in file ram) image e in
     let code : code_of file (ram_after file ram) pc ≡ image.code pc = ap (λ (x : ImageText). x.code pc) same in
     code_of_aligned file (ram_after file ram) pc (some_is _ word (code ∙ h))
-
-low_by : (base pc : ℕ) (x : Option ℕ) (whole low : Bool) → nat_le base pc ≡ low → IsSome (cond (whole && low) x None) → (base ≤ pc) × IsSome x
-low_by base pc x true true e h = (grind (arith, nat_tests), h)
-low_by base pc x true false e h = absurd (false≢true h)
-low_by base pc x false low e h = absurd (false≢true h)
-
-some_below : (words : List (Option ℕ)) (k : ℕ) → IsSome (get_or words k None) → (k < length words) ⊎ (length words ≤ k) → k < length words
-some_below words k h (inl l) = l
-some_below words k h (inr l) = absurd (false≢true (subst (λ (o : Option ℕ). IsSome o) (get_or_past words k None l) h))
-
--- within its places
-pub code_within : (code : CodeText) (pc : ℕ) → IsCode code → IsSome (word_at code pc) → (code.base ≤ pc) × (pc + 4 ≤ code.base + 4 * length code.words)
-code_within code pc is h =
-    let k = (pc - code.base) / 4 in
-    let low = low_by code.base pc (get_or code.words k None) (pc % 4 == 0) (nat_le code.base pc) refl h in
-    let below : k < length code.words = some_below code.words k low.1 (cases_lt k (length code.words)) in
-    let l : code.base ≤ pc = low.0 in
-    let a : pc % 4 ≡ 0 = code_aligned code pc h in
-    (l, omega (arith, is.aligned))
-
--- so at addresses
-pub code_in_range : (code : CodeText) (pc : ℕ) → IsCode code → IsSome (word_at code pc) → pc + 4 ≤ 2 ^ 32
-code_in_range code pc is h = let w = code_within code pc is h in omega (arith, is.within, w.1)
 
 any_by : (x : Option ℕ) (whole any : Bool) → IsSome (cond (whole && any) x None) → any ≡ true
 any_by x true true h = refl

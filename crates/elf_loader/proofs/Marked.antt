@@ -7,21 +7,12 @@ use Rattle.std.proofs.lemmas.Bool.Decides.{nat_tests}
 use Rattle.std.proofs.lemmas.List.{length-replicate, get_or-replicate, get_or_past}
 use Rattle.rv_types.specs.Memory.{Ram, bytes_at}
 use Rattle.rv_types.specs.Word.{from_le}
-use Rattle.elf_loader.specs.Fields.{count_of, word, is_executable}
+use Rattle.elf_loader.specs.Fields.{count_of, word}
 use Rattle.elf_loader.specs.Faults.{header_fault}
 use Rattle.elf_loader.specs.Image.{SegmentText, has_code, loads_of, segment_at, ram_fault, code_of}
 use Rattle.elf_loader.specs.Code.{word_at}
 use Rattle.elf_loader.specs.Filling.{Inside, WordsUpTo, PlacesWords}
-use Rattle.elf_loader.proofs.Filling.{fills_start, fills_skip}
 use Rattle.elf_loader.proofs.Loads.{loads_from, loads_more, loads_skip, loads_none, loads_all, inside_of}
-
--- a segment that isn't executable has none
-pub words_none : (s : SegmentText) (ram : Ram) (words : List (Option ℕ)) (left : List Bool) → is_executable s.flags ≡ false → WordsUpTo s (length words) ram words words left left
-words_none s ram words left e =
-    let covered = λ (k : ℕ). has_code (ram.base + 4 * k) s in
-    let value = λ (k : ℕ). Some (word ram.bytes (4 * k)) in
-    fills_skip covered value 0 (length words) words words left left (fills_start covered value words left) (omega arith)
-    (λ k a b. inr (ap (λ (x : Bool). x && (nat_le s.vaddr (ram.base + 4 * k) && nat_le (ram.base + 4 * k + 4) (s.vaddr + length s.bytes))) e))
 
 -- some segment has code at word k of memory
 abbrev pub any_at : List SegmentText → Ram → ℕ → Bool

@@ -34,21 +34,6 @@ pub all_inside : (file : List ℕ) (base from to first behind : ℕ) → header_
     → ((i : ℕ) → i < count_of file → IfSome (segment_at file i) (LiesBetween (base + from) (base + to))) → first ≤ from → to ≤ behind → first ≤ behind → AllInside file (base + first) (behind - first)
 all_inside file base from to first behind h l a b c i = inside_one file base from to first behind i (segment_at file i) h refl (l i) a b c
 
-widened_one : (low high low' high' : ℕ) (o : Option SegmentText) → IfSome o (LiesBetween low high) → low' ≤ low → high ≤ high' → IfSome o (LiesBetween low' high')
-widened_one low high low' high' None h a b = tt
-widened_one low high low' high' (Some s) h a b = record { above = omega (arith, h.above); below = omega (arith, h.below) }
-
--- one more segment, and the span of all so far
-pub spans_more : (file : List ℕ) (base i from to from' to' : ℕ) → ((j : ℕ) → j < i → IfSome (segment_at file j) (LiesBetween (base + from) (base + to)))
-    → IfSome (segment_at file i) (LiesBetween (base + from') (base + to')) → from' ≤ from → to ≤ to' → (j : ℕ) → j < i + 1 → IfSome (segment_at file j) (LiesBetween (base + from') (base + to'))
-spans_more file base i from to from' to' h one a b j l = spans_by (cases_lt j i) where
-  spans_by : (j < i) ⊎ (i ≤ j) → IfSome (segment_at file j) (LiesBetween (base + from') (base + to'))
-  spans_by (inl below) = widened_one (base + from) (base + to) (base + from') (base + to') (segment_at file j) (h j below) (omega arith) (omega arith)
-  spans_by (inr past) =
-      let e : i ≡ j = omega arith in
-      let P : ℕ → Type 0 = λ k. IfSome (segment_at file k) (LiesBetween (base + from') (base + to')) in
-      subst P e one
-
 -- ---- No segment lies outside the part
 
 first_none : {T : Type 0} (f : ℕ → Option T) (a n : ℕ) → ((i : ℕ) → f i ≡ None) → first_some (map f (range_with_len a n)) ≡ None

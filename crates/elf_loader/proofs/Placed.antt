@@ -1,5 +1,5 @@
 -- Memory once the segments from one on are placed, the last one first.
-use Rattle.std.proofs.Common.{◌≡◌, ℕ, ◌+◌, ◌<◌, Bool, true, false, not, ◌&&◌, cond, nat_le, List, [], ◌∷◌, length, map, reverse, replicate, get_or, Option, None, Some, IfSome, refl, sym, ap, ap₂, ◌∙◌, subst, arith}
+use Rattle.std.proofs.Common.{◌≡◌, ℕ, ◌+◌, ◌<◌, Bool, true, false, not, ◌&&◌, cond, nat_le, List, [], ◌∷◌, length, map, reverse, get_or, Option, None, Some, IfSome, refl, sym, ap, ap₂, ◌∙◌, subst, arith}
 use Rattle.std.specs.Option.{is_none, option_or, option_and_then}
 use Rattle.elf_loader.specs.Faults.{first_some, fault_if}
 use Rattle.elf_loader.specs.declared.faults.ElfFault.TheVariants as fault
@@ -11,7 +11,7 @@ use Rattle.std.proofs.lemmas.Grind.{reverse_onto}
 use Rattle.rv_types.specs.Memory.{Ram}
 use Rattle.elf_loader.specs.Image.{SegmentText, covers, byte_in, byte_or, byte_after, loads_of, segment_at, ram_after, ram_fault}
 use Rattle.elf_loader.specs.Filling.{Inside, FillsBytes, PlacesBytes}
-use Rattle.elf_loader.proofs.Loads.{loads_from, loads_more, loads_skip, loads_none, loads_all}
+use Rattle.elf_loader.proofs.Loads.{loads_from, loads_more, loads_skip, loads_all}
 use Rattle.elf_loader.specs.Fields.{count_of}
 
 -- the last of these segments that takes the address
@@ -25,16 +25,6 @@ pub record Placed (loads : List SegmentText) (old new : Ram) (left : List Bool) 
   pub room : length left ≡ length old.bytes
   pub cells : (k : ℕ) → k < length old.bytes → get_or new.bytes k 0 ≡ byte_after loads (old.base + k) (get_or old.bytes k 0)
   pub places : (k : ℕ) → k < length old.bytes → get_or left k false ≡ is_none (last_at loads (old.base + k))
-
--- none is placed at first
-pub placed_start : (old : Ram) (left : List Bool) → left ≡ replicate (length old.bytes) true → Placed [] old old left
-placed_start old left e = record {
-  base = refl;
-  size = refl;
-  room = ap length e ∙ length-replicate (length old.bytes) true;
-  cells = λ k l. refl;
-  places = λ k l. ap (λ (v : List Bool). get_or v k false) e ∙ get_or-replicate (length old.bytes) k true false l;
-}
 
 -- one more in front is found where none behind it is
 pub last_more : (s : SegmentText) (loads : List SegmentText) (a : ℕ) → last_at (s ∷ loads) a ≡ option_or (last_at loads a) (cond (covers s a) (Some s) None)
@@ -92,11 +82,6 @@ placed_by file i (Some s) old mid new left left' l e h f =
 pub placed_next : (file : List ℕ) (i : ℕ) (old mid new : Ram) (left left' : List Bool) → i < count_of file
     → Placed (loads_from file (i + 1)) old mid left → PlacesBytes (segment_at file i) mid new left left' → Placed (loads_from file i) old new left'
 placed_next file i old mid new left left' l h f = placed_by file i (segment_at file i) old mid new left left' l refl h f
-
-pub placed_first : (file : List ℕ) (n : ℕ) (old : Ram) (left : List Bool) → n ≡ count_of file → left ≡ replicate (length old.bytes) true → Placed (loads_from file n) old old left
-placed_first file n old left e f =
-    let R : List SegmentText → Type 0 = λ v. Placed v old old left in
-    subst R (sym (loads_none file n (omega arith))) (placed_start old left f)
 
 -- where a segment lies in memory it does so all along
 pub inside_still : (loads : List SegmentText) (old new : Ram) (left : List Bool) (o : Option SegmentText) → Placed loads old new left → IfSome o (Inside old.base (length old.bytes)) → IfSome o (Inside new.base (length new.bytes))

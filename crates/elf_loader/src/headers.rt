@@ -111,7 +111,8 @@ fn header_fault(file: &[u8]) -> Option<ElfFault>
 ///
 /// Errors: the first fault of the headers, `Short` to `FileOutside`, and never one of the others.
 pub fn segments(file: &[u8]) -> Result<Segments<'_>, ElfFault>
-    ensures { MatchResult result (λ s. (s ≡ file.now) × (header_fault file.now ≡ None)) (λ e. header_fault file.now ≡ Some e) }
+    ensures { MatchResult result (λ s. (s ≡ file.now) × (header_fault file.now ≡ None))
+        (λ e. header_fault file.now ≡ Some e) }
 {
     match header_fault(file) {
         Some(fault) => Err(fault),

@@ -5,5 +5,6 @@ ghost use Rattle.elf_loader.specs.Image.{ImageText, image_of};
 /// An image's instructions stand at multiples of 4.
 #[tactic(auto, using(crate::proofs::Images::at_words))]
 pub fn instructions_stand_at_words()
-    ensures { (file : List ℕ) (base size : ℕ) (image : ImageText) → image_of file base size ≡ Ok image → (pc word : ℕ) → image.code pc ≡ Some word → pc % 4 ≡ 0 }
+    ensures { (file : List ℕ) (base size : ℕ) (image : ImageText) → image_of file base size ≡ Ok image
+        → (pc word : ℕ) → image.code pc ≡ Some word → pc % 4 ≡ 0 }
 {}

@@ -46,7 +46,8 @@ fn widened(span: Span, start: usize, end: usize) -> Span
 fn with_segment(segments: &Segments<'_>, i: u16, ram: &Ram, span: Span) -> Span
     requires inside { IfSome (segment_at segments.now i) (Inside ram.now.base (length ram.now.bytes)) }
     requires span { InRows (length ram.now.bytes) span.from span.to }
-    ensures here { IfSome (segment_at segments.now i) (LiesBetween (ram.now.base + result.from) (ram.now.base + result.to)) }
+    ensures here { IfSome (segment_at segments.now i)
+        (LiesBetween (ram.now.base + result.from) (ram.now.base + result.to)) }
     ensures from { result.from ≤ span.from }
     ensures to { span.to ≤ result.to }
     ensures span { InRows (length ram.now.bytes) result.from result.to }

@@ -20,10 +20,6 @@ pub no_load : (k : Kind) → (k ≡ Load → ⊥) → is_load k ≡ false
 no_load Load h = absurd (h refl)
 no_load _ h = refl
 
-pub no_division : (k : Kind) → (k ≡ Div → ⊥) → is_division k ≡ false
-no_division Div h = absurd (h refl)
-no_division _ h = refl
-
 -- any other kind takes one cycle of an arithmetic unit
 pub plain : (k : Kind) (d : Desc) (now : Around) (before : List Entry) (e : Entry) → (k ≡ Load → ⊥) → (k ≡ Div → ⊥) → (k ≡ Mul → ⊥) → (k ≡ Store → ⊥) → begin_as Alu d now before e ≡ begin_as k d now before e
 plain Load d now before e l v m s = absurd (l refl)

@@ -136,9 +136,3 @@ module _ (puts : List Put) (rob : Ring) (stations : Stations) (left rest : List 
         same_places = t.same_places;
         ties = ties_more rob.entries stations.held r.entries s.held put t.ties here;
       }))
-
--- none is left
-pub placed_all : (puts : List Put) (rob : Ring) (stations : Stations) (left : List Put) (r : Ring) (s : Stations) → PlacesOn puts rob stations left r s → left ≡ [] → r ≡ record rob { entries = placed puts rob.entries }
-placed_all puts rob stations left r s t n =
-    let whole : r.entries ≡ placed puts rob.entries = ap (λ ps. placed ps r.entries) (sym n) ∙ t.whole in
-    ap (λ es. record r { entries = es }) whole ∙ ap (λ n. record { entries = placed puts rob.entries; room = n }) t.same_room

@@ -160,9 +160,6 @@ by_entry window i b (Some e) h w = let k : is_waiting e.state ≡ b = cc in reco
 pub here : (window : List Entry) (i : ℕ) (b : Bool) → option_map (λ e. is_waiting e.state) (slice_get window i) ≡ Some b → Here window i b
 here window i b w = by_entry window i b (slice_get window i) refl w
 
-pub waits_here : (window : List Entry) (i : ℕ) (b : Bool) (e : Entry) → slice_get window i ≡ Some e → option_map (λ e. is_waiting e.state) (slice_get window i) ≡ Some b → is_waiting e.state ≡ b
-waits_here window i b e h w = let k : Some (is_waiting e.state) ≡ Some b = ap (option_map (λ e. is_waiting e.state)) (sym h) ∙ w in cc
-
 -- ---- at the end
 
 -- what is decided once all have had their turns is what the definition decides

@@ -1,8 +1,8 @@
 -- The stores older than a serial, one store on.
-use Rattle.std.proofs.Common.{◌≡◌, ℕ, ◌+◌, ◌<◌, ◌≤◌, Bool, true, false, cond, not, ◌||◌, ◌&&◌, List, [], ◌∷◌, ◌++◌, length, take, get_or, refl, ap, sym, ◌∙◌, arith}
+use Rattle.std.proofs.Common.{◌≡◌, ℕ, ◌+◌, ◌<◌, ◌≤◌, Bool, true, false, cond, not, ◌||◌, ◌&&◌, List, [], ◌∷◌, ◌++◌, refl, ap, sym, ◌∙◌, arith}
 use Rattle.std.specs.Prelude.{reverse, nat_lt, nat_le, if◌then◌else◌}
 use Rattle.std.specs.List.{filter, list_all}
-use Rattle.std.proofs.lemmas.List.{take_more, reverse-append, take_all}
+use Rattle.std.proofs.lemmas.List.{reverse-append}
 use Rattle.std.proofs.lemmas.List.Elements.{filter-append}
 use Rattle.std.proofs.lemmas.Bool.Decides.{nat_tests}
 use Rattle.window_model.proofs.Before.{all_reverse}
@@ -12,18 +12,6 @@ use Rattle.lsq.specs.Queues.{is_known, older}
 by_age : (b : Bool) (s : Store) (old : List Store) → reverse (old ++ cond b (s ∷ []) []) ≡ (if b then s ∷ reverse old else reverse old)
 by_age true s old = reverse-append old (s ∷ [])
 by_age false s old = reverse-append old []
-
--- one store more, where it is older
-pub older_more : (serial : ℕ) (stores : List Store) (i : ℕ) (d : Store) → i < length stores →
-    older serial (take (i + 1) stores) ≡ (if nat_lt (get_or stores i d).serial serial then get_or stores i d ∷ older serial (take i stores) else older serial (take i stores))
-older_more serial stores i d lt =
-    let p = λ (s : Store). nat_lt s.serial serial in
-    ap (older serial) (take_more stores i d lt)
-    ∙ ap reverse (filter-append p (take i stores) (get_or stores i d ∷ []))
-    ∙ by_age (p (get_or stores i d)) (get_or stores i d) (filter p (take i stores))
-
-pub older_end : (serial : ℕ) (stores : List Store) (i : ℕ) → length stores ≤ i → older serial (take i stores) ≡ older serial stores
-older_end serial stores i le = ap (older serial) (take_all i stores le)
 
 all_if : (b young : Bool) (s : Store) (old : List Store) (r : Bool) → young ≡ not b → list_all is_known old ≡ r → list_all is_known (cond b (s ∷ old) old) ≡ ((young || is_known s) && r)
 all_if true young s old r e h = ap (λ r. is_known s && r) h ∙ ap (λ young. (young || is_known s) && r) (sym e)

@@ -30,7 +30,12 @@ impl Model for Lsq {
 
     ghost Value = { Queues };
 
-    ghost view = { λ q. record { loads = q.loads.items; stores = q.stores.items; max_loads = q.max_loads; max_stores = q.max_stores } };
+    ghost view = { λ q. record {
+      loads = q.loads.items;
+      stores = q.stores.items;
+      max_loads = q.max_loads;
+      max_stores = q.max_stores;
+    } };
 
     ghost invariant = { λ q. (q.max_loads ≤ vec_capacity q.loads) × (q.max_stores ≤ vec_capacity q.stores) };
 }

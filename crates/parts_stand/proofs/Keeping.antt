@@ -118,15 +118,6 @@ oldest_on next (e ∷ es) (e2 ∷ es2) v = v.0.serial
 pub goes_same : (e : Entry) → GoesOn e e
 goes_same e = record { serial = refl; item = refl }
 
--- entries that go on twice go on
-pub goes_on_then : (es es2 es3 : List Entry) → AllZip GoesOn es es2 → AllZip GoesOn es2 es3 → AllZip GoesOn es es3
-goes_on_then [] [] es3 v w = w
-goes_on_then [] (e2 ∷ es2) es3 v w = absurd v
-goes_on_then (e ∷ es) [] es3 v w = absurd v
-goes_on_then (e ∷ es) (e2 ∷ es2) [] v w = absurd w
-goes_on_then (e ∷ es) (e2 ∷ es2) (e3 ∷ es3) v w =
-    (record { serial = w.0.serial ∙ v.0.serial; item = w.0.item ∙ v.0.item }, goes_on_then es es2 es3 v.1 w.1)
-
 -- one entry is put in the place of another
 pub zip_set : (R : Entry → Entry → Type 0) → ((e : Entry) → R e e) → (es : List Entry) (i : ℕ) (e e2 : Entry) → slice_get es i ≡ Some e → R e e2 → AllZip R es (slice_set es i e2)
 zip_set R same [] i e e2 h g = absurd (cc)

@@ -37,7 +37,8 @@ impl Model for Predictor {
 
     ghost view = { λ p. record { desc = p.desc; counters = p.counters.items; targets = p.targets.items } };
 
-    ghost invariant = { λ p. (vec_len p.counters ≡ p.desc.predictor_counters) × (vec_len p.targets ≡ p.desc.predictor_btb) };
+    ghost invariant = { λ p. (vec_len p.counters ≡ p.desc.predictor_counters)
+        × (vec_len p.targets ≡ p.desc.predictor_btb) };
 }
 
 impl Predictor {

@@ -1,18 +1,16 @@
 -- The parts once an entry has come in.
-use Rattle.std.proofs.Common.{◌≡◌, ℕ, ◌+◌, true, false, List, [], ◌∷◌, ◌++◌, Option, Some, refl, ap, sym, ◌∙◌, subst, arith}
+use Rattle.std.proofs.Common.{◌≡◌, ℕ, ◌+◌, true, List, [], ◌∷◌, ◌++◌, Option, Some, refl, ap, sym, ◌∙◌, subst, arith}
 use Rattle.std.specs.Prelude.{◌<◌, if◌then◌else◌, drop, length, map, reverse, slice_get}
 use Rattle.std.specs.Option.{option_to_list}
 use Rattle.circular_buffer.specs.Buffer.{Buffer, buffer}
 use Rattle.rv_types.specs.Regs.{two}
 use Rattle.rv_types.specs.declared.Kind.{Kind}
 use Rattle.rv_types.specs.declared.Kind.TheVariants.{Load, Store}
-use Rattle.machine_desc.specs.declared.Desc.{Desc}
 use Rattle.window_model.specs.declared.Entry.{Entry}
 use Rattle.window_model.specs.declared.Item.{Item}
 use Rattle.window_model.specs.declared.Progress.TheVariants.{Waiting, Done}
 use Rattle.window_model.specs.Order.{is_load, is_store, is_waiting, sources}
 use Rattle.window_model.specs.Rename.{at_once, renamed}
-use Rattle.machine_facts.specs.Sized.{Sized}
 use Rattle.machine_facts.proofs.SizedPhases.{rename_item}
 use Rattle.rob_ring.specs.Ring.{Ring}
 use Rattle.rob_ring.specs.declared.beside.Sources.{Sources}
@@ -33,7 +31,7 @@ use Rattle.core_parts.specs.Steps.{queued}
 use Rattle.core_parts.proofs.Steps.{stands_renamed}
 use Rattle.rename.proofs.Awaiting.{writers_at}
 use Rattle.rename.specs.Fitting.{Counted, fitting, with_oldest}
-use Rattle.rename.proofs.Fitting.{Fits, fits_all, fitting_is, load_room, station_room, store_room}
+use Rattle.rename.proofs.Fitting.{fits_all, fitting_is, load_room, station_room, store_room}
 
 -- ---- what they tell of room
 
@@ -165,7 +163,3 @@ module _ (h : Held) (item : Item) (rob : Ring) (beside : Buffer Sources) (writes
       described (record h { rob = rob; sources = beside; writes = writes; table_room = room; stations = stations; queues = q; front = front; next_serial = next })
       ≡ record v { machine = with_oldest v.desc item v.machine }
   enter_shown v s = ap described are ∙ ap (λ (v : Described). record v { machine = with_oldest v.desc item v.machine }) s
-
--- what is told of the oldest item is told of the machine's
-pub fits_here : (h : Held) (v : Described) (o : Option Item) → Whole h → described h ≡ v → o ≡ fitting h.desc h.rob.entries (slice_get h.front.queue 0) → o ≡ fitting v.desc v.machine.window (slice_get v.machine.queue 0)
-fits_here h v o w s e = e ∙ ap (λ (v : Described). fitting v.desc v.machine.window (slice_get v.machine.queue 0)) s

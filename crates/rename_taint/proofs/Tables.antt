@@ -163,13 +163,6 @@ kept_end slots serial (u ∷ us) t h =
     (All-cons (λ v. nat_lt serial v.write.serial ≡ true) u us (grind (arith, nat_tests))
     (All-weaker (λ v. u.write.serial < v.write.serial) (λ v. nat_lt serial v.write.serial ≡ true) (λ v k. let m : serial < v.write.serial = omega arith in grind (arith, nat_tests)) us a)))
 
-from_back : (first : ℕ) (us us2 : List Undo) → is_first (λ u. nat_le first u.write.serial) us ≡ true → us2 ≡ drop 1 us → filter (λ w. nat_lt w.serial first) (writes_of us2) ≡ filter (λ w. nat_lt w.serial first) (writes_of us)
-from_back first [] us2 h e = absurd (cc)
-from_back first (u ∷ us) us2 h e =
-    let f : nat_lt u.write.serial first ≡ false = grind (arith, nat_tests) in
-    ap (λ us. filter (λ w. nat_lt w.serial first) (writes_of us)) e
-    ∙ ap (λ b. cond b (u.write ∷ filter (λ w. nat_lt w.serial first) (writes_of us)) (filter (λ w. nat_lt w.serial first) (writes_of us))) (sym f)
-
 cut_by : (first : ℕ) (us us2 rest : List Undo) → reverse us ≡ rest → is_first (λ u. nat_le first u.write.serial) rest ≡ true → us2 ≡ take (length us - 1) us →
     filter (λ w. nat_lt w.serial first) (writes_of us2) ≡ filter (λ w. nat_lt w.serial first) (writes_of us)
 cut_by first us us2 [] r h e = absurd (cc)

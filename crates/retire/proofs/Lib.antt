@@ -3,4 +3,3 @@ pub mod Quiet
 pub mod Turns
 pub mod Leaving
 pub mod Taken
-pub mod Going

@@ -21,9 +21,6 @@ range_more n = sym (map-id (range_with_len 0 (n + 1))) ∙ map-range_with_len_mo
 
 -- ---- none waits
 
-pub placed_new : (places : List Occupant) (ages free : List ℕ) → ages ≡ [] → free ≡ range_with_len 0 (length places) → Placed places ages free
-placed_new places ages free e f = rw (e, f) (record { once = IsPermutation-refl (range_with_len 0 (length places)); rise = λ i j d lt l. absurd (omega arith) })
-
 -- ---- one more waits
 
 -- what happens in one place leaves the entries in others

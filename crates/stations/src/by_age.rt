@@ -30,7 +30,10 @@ impl Model for Stations {
 
     ghost view = { λ s. record { held = held_of s.places.items s.ages.items; room = vec_len s.places } };
 
-    ghost invariant = { λ s. Placed s.places.items s.ages.items s.free.items × (vec_len s.ages + vec_len s.free ≡ vec_len s.places) × (vec_len s.places ≤ vec_capacity s.ages) × (vec_len s.places ≤ vec_capacity s.free) × (vec_len s.places < 2 ^ 32) };
+    ghost invariant = { λ s. Placed s.places.items s.ages.items s.free.items
+        × (vec_len s.ages + vec_len s.free ≡ vec_len s.places)
+        × (vec_len s.places ≤ vec_capacity s.ages) × (vec_len s.places ≤ vec_capacity s.free)
+        × (vec_len s.places < 2 ^ 32) };
 }
 
 impl Stations {

@@ -50,9 +50,6 @@ row_lines d code k y = rows_text (rows d code k y)
 abbrev pub RowsLeft : Desc → Code → ℕ → ℕ → Machine → Machine → Told → Told → Type 0
 RowsLeft d code n i x y old new = LinesLeft (row_lines d code) d code n i x y old new
 
-pub rows_start : (d : Desc) (code : Code) (n : ℕ) (x : Machine) (t : Told) → RowsLeft d code n 0 x x t t
-rows_start d code n x t = lines_start (row_lines d code) d code n x t
-
 next_row : (d : Desc) (code : Code) (n i : ℕ) (y y' : Machine) (row : Row) (piece : List ℕ) → i < n → y.end ≡ None
     → record { machine = y'; row = row; piece = piece } ≡ cycle d code y → row_lines d code (n - i) y ≡ row_text row ++ row_lines d code (n - (i + 1)) y'
 next_row d code n i y y' row piece h e c =
@@ -85,9 +82,6 @@ output_lines d code k y = piece_lines (pieces d code k y)
 
 abbrev pub PiecesLeft : Desc → Code → ℕ → ℕ → Machine → Machine → Told → Told → Type 0
 PiecesLeft d code n i x y old new = LinesLeft (output_lines d code) d code n i x y old new
-
-pub pieces_start : (d : Desc) (code : Code) (n : ℕ) (x : Machine) (t : Told) → PiecesLeft d code n 0 x x t t
-pieces_start d code n x t = lines_start (output_lines d code) d code n x t
 
 next_piece : (d : Desc) (code : Code) (n i : ℕ) (y y' : Machine) (row : Row) (piece : List ℕ) → i < n → y.end ≡ None
     → record { machine = y'; row = row; piece = piece } ≡ cycle d code y → output_lines d code (n - i) y ≡ piece_text piece ++ output_lines d code (n - (i + 1)) y'

@@ -1,5 +1,5 @@
 -- What is read in turn: a description, and images one after the other.
-use Rattle.std.proofs.Common.{◌≡◌, ◌≤◌, ℕ, List, [], ◌∷◌, take, Option, Some, None, subst, sym, ◌∙◌, arith}
+use Rattle.std.proofs.Common.{◌≡◌, ◌≤◌, ℕ, List, [], ◌∷◌, take, Option, Some, subst, sym, ◌∙◌, arith}
 use Rattle.std.specs.Prelude.{slice_get}
 use Rattle.elf_loader.specs.Image.{ImageText}
 use Rattle.machine_desc.specs.declared.Desc.{Desc}
@@ -7,9 +7,9 @@ use Rattle.tool_io.specs.declared.Got.TheVariants.{Bytes, TooLong}
 use Rattle.tool_io.specs.Outside.{Shelf, GetsTold, SameCounts, SameContents, NameFailed, Rose}
 use Rattle.stt_cli.specs.declared.outcome.Which.{Which}
 use Rattle.stt_cli.specs.declared.outcome.Refusal.{Refusal}
-use Rattle.stt_cli.specs.declared.outcome.Refusal.TheVariants.{Words, ReadDescription, DescriptionTooLong, Description, ReadImage, ImageTooLong, Image, Write, Memory}
+use Rattle.stt_cli.specs.declared.outcome.Refusal.TheVariants.{ReadImage, ImageTooLong, Image, Memory}
 use Rattle.stt_cli.specs.Outcome.{place_of}
-use Rattle.stt_cli.specs.Input.{image_max, ImageFrom, from_file, from_seed, HasBytes, HasDesc, DescriptionRefused, NamedRefused, IsImage, FailsToRead, HasTooMany, BytesRefused, ImageRefused, LoadRefused, AreImages, IsRead, Refuses, base_of, size_of}
+use Rattle.stt_cli.specs.Input.{image_max, ImageFrom, from_file, from_seed, HasBytes, HasDesc, IsImage, FailsToRead, HasTooMany, ImageRefused, LoadRefused, AreImages, IsRead, Refuses, base_of, size_of}
 
 -- ---- What the files tell before and after
 
@@ -45,18 +45,6 @@ image_before old mid desc from image s i = record { file = i.file; content = byt
 
 -- ---- An image
 
--- there are no bytes of it
-pub bytes_refused : (which : Which) (desc : Option Desc) (from : ImageFrom) (old new : Shelf) (e : Refusal) → BytesRefused which from old new e → ImageRefused which desc from old new e
-bytes_refused which desc from old new (Image w fault) h = absurd h
-bytes_refused which desc from old new Words h = h
-bytes_refused which desc from old new ReadDescription h = h
-bytes_refused which desc from old new DescriptionTooLong h = h
-bytes_refused which desc from old new (Description fault) h = h
-bytes_refused which desc from old new (ReadImage w) h = h
-bytes_refused which desc from old new (ImageTooLong w) h = h
-bytes_refused which desc from old new Write h = h
-bytes_refused which desc from old new Memory h = h
-
 -- its bytes are no image
 pub load_refused : (which : Which) (desc : Option Desc) (from : ImageFrom) (old new : Shelf) (file read : List ℕ) (e : Refusal) → HasBytes old from file → SameCounts old new → read ≡ file
     → LoadRefused which read (base_of desc) (size_of desc) e → ImageRefused which desc from old new e
@@ -67,18 +55,6 @@ load_refused which desc from old new file read Memory b s q h = s
 load_refused which desc from old new file read _ b s q h = absurd h
 
 -- ---- Refusals in turn
-
--- a description is refused before any image is read
-pub description_refused : (old new : Shelf) (name : List ℕ) (sources : List ImageFrom) (e : Refusal) → DescriptionRefused name old new e → Refuses (Some name) sources old new e
-description_refused old new name sources ReadDescription h = h
-description_refused old new name sources DescriptionTooLong h = h
-description_refused old new name sources (Description fault) h = h
-description_refused old new name sources Memory h = h
-description_refused old new name sources _ h = absurd h
-
-pub named_refused : (old new : Shelf) (name : Option (List ℕ)) (sources : List ImageFrom) (e : Refusal) → NamedRefused name old new e → Refuses name sources old new e
-named_refused old new None sources e h = absurd h
-named_refused old new (Some name) sources e h = description_refused old new name sources e h
 
 -- what was read before an image: the description, and the images before it
 pub record ReadBefore (old mid : Shelf) (name : Option (List ℕ)) (sources : List ImageFrom) (place : ℕ) (desc : Option Desc) : Type 0 where

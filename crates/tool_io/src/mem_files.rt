@@ -33,7 +33,13 @@ impl Model for MemFiles {
 
     ghost Value = { FilesState };
 
-    ghost view = { λ s. record { files = s.files.items; fails = s.fails.items; reads = s.reads; counts = s.counts.items; others = s.others } };
+    ghost view = { λ s. record {
+      files = s.files.items;
+      fails = s.fails.items;
+      reads = s.reads;
+      counts = s.counts.items;
+      others = s.others;
+    } };
 
     ghost invariant = { λ s. vec_len s.counts ≡ vec_len s.files };
 }

@@ -173,7 +173,8 @@ fn tool_parser<'a>(alloc: Global) -> Result<Parser<'a>, AllocError>
 
 // What clap finds in the words.
 fn parse<'a>(alloc: Global, words: &'a [&'a str]) -> Result<ArgMatches<'a>, Refused>
-    ensures ok { IfOk result (λ m. (faults (map (λ w. w.now) words.now) ≡ []) × (subcommand_rows_of m ≡ rows_in (map (λ w. w.now) words.now))) }
+    ensures ok { IfOk result (λ m. (faults (map (λ w. w.now) words.now) ≡ [])
+        × (subcommand_rows_of m ≡ rows_in (map (λ w. w.now) words.now))) }
     ensures refused { IfErr result (λ e. e ≡ Refused.Words → faults (map (λ w. w.now) words.now) ≢ []) }
 {
     let parser = match tool_parser(alloc) {

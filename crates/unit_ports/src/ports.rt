@@ -29,7 +29,16 @@ impl Model for Ports {
 
     ghost Value = { Ports };
 
-    ghost view = { λ p. record { alus = p.alus; cycle = p.cycle; alu = p.alu; mul = p.mul; div = p.div; store = p.store; load = p.load; divider = p.divider } };
+    ghost view = { λ p. record {
+      alus = p.alus;
+      cycle = p.cycle;
+      alu = p.alu;
+      mul = p.mul;
+      div = p.div;
+      store = p.store;
+      load = p.load;
+      divider = p.divider;
+    } };
 }
 
 impl Ports {
