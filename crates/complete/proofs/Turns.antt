@@ -11,7 +11,6 @@ use Rattle.window_model.specs.declared.Event.TheVariants as event
 use Rattle.window_model.specs.declared.Progress.{Progress}
 use Rattle.window_model.specs.declared.Progress.TheVariants.{Waiting, Busy, Done}
 use Rattle.window_model.specs.Fill.{complete, completes, completes_at, completed}
-use Rattle.window_model.specs.Order.{is_waiting}
 use Rattle.window_model.specs.Row.{Row}
 use Rattle.rob_ring.specs.Ring.{IsNext, in_execution, is_busy}
 use Rattle.rob_ring.proofs.Gaps.{to_end, to_next}
@@ -188,12 +187,3 @@ module _ (s : Described) (row : Row) (now : Described) (row_now : Row) where
   completes_end i le none c = to_end is_busy now.machine.window (λ k. CompletesOn s row k now row_now) (λ k e at idle c. past_idle s row k now row_now c e at idle) i le none c
 
 -- ---- what is due doesn't wait
-
-not_waiting : (cycle : ℕ) (s : Progress) → completes_at cycle s ≡ true → is_waiting s ≡ false
-not_waiting cycle Waiting h = absurd (cc)
-not_waiting cycle (Busy due) h = refl
-not_waiting cycle Done h = refl
-
-due_by : (cycle : ℕ) (o : Option Entry) → option_map (completes cycle) o ≡ Some true → option_map (λ e. is_waiting e.state) o ≡ Some false
-due_by cycle None h = absurd (cc)
-due_by cycle (Some e) h = ap Some (not_waiting cycle e.state (let k : Some (completes cycle e) ≡ Some true = h in cc))

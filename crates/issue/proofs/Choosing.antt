@@ -2,31 +2,18 @@
 use Rattle.std.proofs.Common.{◌≡◌, Bool, true, false, ◌&&◌, List, refl, ap, ◌∙◌}
 use Rattle.std.specs.Prelude.{if◌then◌else◌}
 use Rattle.rv_types.specs.declared.Kind.{Kind}
-use Rattle.rv_types.specs.declared.Kind.TheVariants.{Alu, Mul, Load, Div, Store}
+use Rattle.rv_types.specs.declared.Kind.TheVariants.{Mul, Load, Div, Store}
 use Rattle.machine_desc.specs.declared.Desc.{Desc}
 use Rattle.window_model.specs.declared.Entry.{Entry}
 use Rattle.window_model.specs.Around.{Around}
 use Rattle.window_model.specs.Order.{is_load}
-use Rattle.window_model.specs.Issue.{Port, DivPort, LoadPort, begin_as, is_division, is_granted, may_at, may_issue, port_of, same_port, stores_done}
+use Rattle.window_model.specs.Issue.{Port, DivPort, LoadPort, is_division, is_granted, may_at, may_issue, port_of, same_port, stores_done}
 use Rattle.window_model.proofs.Booleans.{both}
 use Rattle.window_model.proofs.Issuing.{load_behind, may_parts}
 
 pub the_other : {A : Type 0} (b : Bool) (x y z : A) → b ≡ false → z ≡ y → z ≡ (if b then x else y)
 the_other true x y z h e = absurd (cc)
 the_other false x y z h e = e
-
--- a kind that is no load, and one that is no division
-pub no_load : (k : Kind) → (k ≡ Load → ⊥) → is_load k ≡ false
-no_load Load h = absurd (h refl)
-no_load _ h = refl
-
--- any other kind takes one cycle of an arithmetic unit
-pub plain : (k : Kind) (d : Desc) (now : Around) (before : List Entry) (e : Entry) → (k ≡ Load → ⊥) → (k ≡ Div → ⊥) → (k ≡ Mul → ⊥) → (k ≡ Store → ⊥) → begin_as Alu d now before e ≡ begin_as k d now before e
-plain Load d now before e l v m s = absurd (l refl)
-plain Div d now before e l v m s = absurd (v refl)
-plain Mul d now before e l v m s = absurd (m refl)
-plain Store d now before e l v m s = absurd (s refl)
-plain _ d now before e l v m s = refl
 
 -- ---- by the port
 

@@ -2,7 +2,6 @@
 use Rattle.std.proofs.Common.{◌≡◌, ℕ, ◌+◌, ◌<◌, ◌≤◌, Bool, true, false, List, [], ◌∷◌, ◌++◌, length, map, take, Option, Some, None, refl, ap, sym, subst, ◌∙◌, arith, append-nil, append_assoc, slice_get}
 use Rattle.std.specs.Prelude.{if◌then◌else◌}
 use Rattle.std.specs.List.{AllPairs, flat_map}
-use Rattle.std.specs.Option.{option_map}
 use Rattle.std.proofs.lemmas.List.{length-take-le, take_all}
 use Rattle.std.proofs.lemmas.List.Elements.{All-nil}
 use Rattle.std.proofs.lemmas.Option.{get_or_from_slice_get, slice_get_within}
@@ -152,13 +151,6 @@ pub record Here (window : List Entry) (i : ℕ) (b : Bool) : Type 0 where
   pub entry : Entry
   pub is : slice_get window i ≡ Some entry
   pub waits : is_waiting entry.state ≡ b
-
-by_entry : (window : List Entry) (i : ℕ) (b : Bool) (o : Option Entry) → slice_get window i ≡ o → option_map (λ e. is_waiting e.state) o ≡ Some b → Here window i b
-by_entry window i b None h w = absurd (cc)
-by_entry window i b (Some e) h w = let k : is_waiting e.state ≡ b = cc in record { entry = e; is = h; waits = k }
-
-pub here : (window : List Entry) (i : ℕ) (b : Bool) → option_map (λ e. is_waiting e.state) (slice_get window i) ≡ Some b → Here window i b
-here window i b w = by_entry window i b (slice_get window i) refl w
 
 -- ---- at the end
 

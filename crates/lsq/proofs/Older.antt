@@ -1,6 +1,6 @@
--- The stores older than a serial, one store on.
+-- The stores older than a serial.
 use Rattle.std.proofs.Common.{◌≡◌, ℕ, ◌+◌, ◌<◌, ◌≤◌, Bool, true, false, cond, not, ◌||◌, ◌&&◌, List, [], ◌∷◌, ◌++◌, refl, ap, sym, ◌∙◌, arith}
-use Rattle.std.specs.Prelude.{reverse, nat_lt, nat_le, if◌then◌else◌}
+use Rattle.std.specs.Prelude.{nat_lt, nat_le, if◌then◌else◌}
 use Rattle.std.specs.List.{filter, list_all}
 use Rattle.std.proofs.lemmas.List.{reverse-append}
 use Rattle.std.proofs.lemmas.List.Elements.{filter-append}
@@ -8,10 +8,6 @@ use Rattle.std.proofs.lemmas.Bool.Decides.{nat_tests}
 use Rattle.window_model.proofs.Before.{all_reverse}
 use Rattle.lsq.specs.declared.store.Store.{Store}
 use Rattle.lsq.specs.Queues.{is_known, older}
-
-by_age : (b : Bool) (s : Store) (old : List Store) → reverse (old ++ cond b (s ∷ []) []) ≡ (if b then s ∷ reverse old else reverse old)
-by_age true s old = reverse-append old (s ∷ [])
-by_age false s old = reverse-append old []
 
 all_if : (b young : Bool) (s : Store) (old : List Store) (r : Bool) → young ≡ not b → list_all is_known old ≡ r → list_all is_known (cond b (s ∷ old) old) ≡ ((young || is_known s) && r)
 all_if true young s old r e h = ap (λ r. is_known s && r) h ∙ ap (λ young. (young || is_known s) && r) (sym e)

@@ -135,10 +135,6 @@ none_awaited (e ∷ before) r = by_writer (writes r e) (none_awaited before r)
     by_writer true h = by_done (is_done e.state)
     by_writer false h = h
 
-and_true : (b : Bool) → (b && true) ≡ b
-and_true true = refl
-and_true false = refl
-
 ready_by : (before : List Entry) (rs : List ℕ) → length rs ≤ 2 → list_all is_none (map (awaited before) (two rs)) ≡ list_all (is_known before) rs
 ready_by before [] le = refl
 ready_by before (a ∷ []) le = ap (λ b. b && true) (none_awaited before a)

@@ -9,7 +9,7 @@ use Rattle.stt_cli.specs.declared.outcome.Which.{Which}
 use Rattle.stt_cli.specs.declared.outcome.Refusal.{Refusal}
 use Rattle.stt_cli.specs.declared.outcome.Refusal.TheVariants.{ReadImage, ImageTooLong, Image, Memory}
 use Rattle.stt_cli.specs.Outcome.{place_of}
-use Rattle.stt_cli.specs.Input.{image_max, ImageFrom, from_file, from_seed, HasBytes, HasDesc, IsImage, FailsToRead, HasTooMany, ImageRefused, LoadRefused, AreImages, IsRead, Refuses, base_of, size_of}
+use Rattle.stt_cli.specs.Input.{image_max, ImageFrom, from_file, from_seed, HasBytes, HasDesc, IsImage, FailsToRead, HasTooMany, ImageRefused, AreImages, IsRead, Refuses}
 
 -- ---- What the files tell before and after
 
@@ -44,15 +44,6 @@ pub image_before : (old mid : Shelf) (desc : Option Desc) (from : ImageFrom) (im
 image_before old mid desc from image s i = record { file = i.file; content = bytes_before old mid from i.file s i.content; loads = i.loads }
 
 -- ---- An image
-
--- its bytes are no image
-pub load_refused : (which : Which) (desc : Option Desc) (from : ImageFrom) (old new : Shelf) (file read : List ℕ) (e : Refusal) → HasBytes old from file → SameCounts old new → read ≡ file
-    → LoadRefused which read (base_of desc) (size_of desc) e → ImageRefused which desc from old new e
-load_refused which desc from old new file read (Image w fault) b s q h =
-    let P : List ℕ → Type 0 = HasBytes old from in
-    (h.0, record { file = read; content = subst P (sym q) b; refused = h.1 }, s)
-load_refused which desc from old new file read Memory b s q h = s
-load_refused which desc from old new file read _ b s q h = absurd h
 
 -- ---- Refusals in turn
 

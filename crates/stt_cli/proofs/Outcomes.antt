@@ -1,12 +1,9 @@
 -- How a task ends, and with it the program, from what the parts do.
 use Rattle.std.specs.Prelude.{IsErrAnd, MatchResult}
-use Rattle.std.proofs.Common.{◌≡◌, ◌+◌, ◌^◌, ◌<◌, ℕ, List, Option, Some, Result, Ok, Err, refl, sym, ap, ap₂, ◌∙◌, subst, arith}
+use Rattle.std.proofs.Common.{◌≡◌, ◌+◌, ◌^◌, ◌<◌, ℕ, List, Some, Result, Ok, Err, refl, sym, ap, ap₂, ◌∙◌, subst, arith}
 use Rattle.std.proofs.lemmas.Result.{err_from_is_err_and}
-use Rattle.rv_types.specs.Memory.{Code}
-use Rattle.rv_types.specs.declared.End.{End}
 use Rattle.elf_loader.specs.Image.{ImageText}
 use Rattle.machine_desc.specs.declared.Desc.{Desc}
-use Rattle.window_model.specs.State.{Machine}
 use Rattle.elf_loader.specs.declared.loading.Image.{Image}
 use Rattle.pair_run.specs.Answer.{Answers}
 use Rattle.pair_run.specs.Images.{Images}
@@ -19,9 +16,8 @@ use Rattle.tool_words.specs.declared.Refused.TheVariants as refused
 use Rattle.stt_cli.specs.declared.outcome.Ended.{Ended}
 use Rattle.stt_cli.specs.declared.outcome.Refusal.{Refusal}
 use Rattle.stt_cli.specs.declared.outcome.Refusal.TheVariants.{Write, Memory}
-use Rattle.stt_cli.specs.Outcome.{ended_of, compared_of}
-use Rattle.stt_cli.specs.Running.{Starts, opening_of}
-use Rattle.stt_cli.specs.Work.{TaskText, pair_task, Work, ComesTo, Performs, pair_work}
+use Rattle.stt_cli.specs.Outcome.{compared_of}
+use Rattle.stt_cli.specs.Work.{TaskText, pair_task, Performs, pair_work}
 use Rattle.stt_cli.specs.Top.{world, Runs, Ends}
 
 -- what the exit of a `?` returns
@@ -32,18 +28,6 @@ pub at_err : {T E : Type 0} (r : Result T E) (P : T → Type 0) (Q : E → Type 
 at_err r P Q e h q = at_exit (λ x. MatchResult x P Q) r e h q
 
 -- ---- Tasks
-
--- a run whose text is written whole
-pub told : (task : TaskText) (work : Work) (out out' : Told) (text : List ℕ) (end : Option End) (ended : Ended) → ComesTo task work → text ≡ work.text → ended_of end ≡ work.ended
-    → Wrote text out out' × (ended ≡ ended_of end) → Performs task out out' (Ok ended)
-told task work out out' text end ended c t e w =
-    let P : List ℕ → Type 0 = λ x. Wrote x out out' in (work, c, subst P t w.0, w.1 ∙ e)
-
--- anything of a core that starts with an image is that of the machine there
-at_start : {A : Type 0} (f : Desc → Code → Machine → A) (image : ImageText) (desc d : Desc) (code : Code) (x : Machine) → Starts image desc d code x
-    → f d code x ≡ f desc image.code (opening_of desc image)
-at_start f image desc d code x s =
-    ap (λ k. f k code x) s.desc_is ∙ (ap (λ k. f desc k x) s.code_is ∙ ap (f desc image.code) s.machine_is)
 
 -- what a pair of these images answers is said of them
 pub pair_answers : (p : Images) (d : Desc) (one two : Image) (n : ℕ) (answer : PairAnswer) → p ≡ record { desc = d; one = one; two = two }

@@ -7,7 +7,7 @@ use Rattle.rv_types.specs.Isa.{Effect}
 use Rattle.rv_types.specs.Memory.{load_fault}
 use Rattle.rv_types.specs.declared.Cause.{Cause}
 use Rattle.rv_types.specs.declared.Kind.{Kind}
-use Rattle.rv_types.specs.declared.Kind.TheVariants.{Load, Store, Mul, Div}
+use Rattle.rv_types.specs.declared.Kind.TheVariants.{Load, Div}
 use Rattle.machine_desc.specs.declared.Desc.{Desc}
 use Rattle.window_model.specs.declared.Entry.{Entry}
 use Rattle.window_model.specs.declared.Outcome.{Outcome}
@@ -18,7 +18,7 @@ use Rattle.window_model.specs.Order.{Place, each_from, is_waiting, is_load, read
 use Rattle.window_model.specs.State.{Machine, line_of}
 use Rattle.window_model.specs.Taint.{any_tainted, address_tainted}
 use Rattle.window_model.specs.Access.{Access, Faults, Forwards, Looks, Waits, Line, Hits, Joins, Takes, access_at, look_up, joined, taken_lines, unless_lacking, all_covered, any_store_hidden}
-use Rattle.window_model.specs.Issue.{Begun, Port, AluPort, MulPort, DivPort, AddressPort, LoadPort, issue_entry, may_issue, may_issue_as, stores_done, begin_as, begun, load_as, access_of, effect_of, waits, is_division, asking, may_at, port_of, same_port, ports, after_load}
+use Rattle.window_model.specs.Issue.{Begun, Port, AluPort, DivPort, LoadPort, issue_entry, may_issue, may_issue_as, stores_done, begin_as, begun, load_as, access_of, effect_of, waits, is_division, asking, may_at, port_of, same_port, ports, after_load}
 use Rattle.window_model.proofs.Booleans.{both, not_true}
 use Rattle.window_model.proofs.Counts.{Goes, goes_same, Evolves}
 
@@ -48,15 +48,6 @@ division_clean Div d now b e h l = not_true _ (both _ _ h).0
 division_clean _ d now b e h l = absurd (cc)
 
 -- ---- ports
-
--- ports that are the same
-pub same_is : (p q : Port) → same_port p q ≡ true → p ≡ q
-same_is AluPort AluPort h = refl
-same_is MulPort MulPort h = refl
-same_is DivPort DivPort h = refl
-same_is AddressPort AddressPort h = refl
-same_is LoadPort LoadPort h = refl
-same_is _ _ h = absurd (cc)
 
 pub same_self : (p : Port) → same_port p p ≡ true
 same_self AluPort = refl
