@@ -1,19 +1,20 @@
 -- The marks go on to tell of the entries.
 use Rattle.std.proofs.Common.{◌≡◌, ◌≢◌, nat_lt, ◌++◌, drop, add-one, ℕ, zero, suc, ◌+◌, ◌^◌, ◌<◌, ◌≤◌, Bool, true, false, List, [], ◌∷◌, length, take, get_or, inl, inr, Option, Some, None, refl, ap, sym, subst, ◌∙◌, arith, slice_get, ⊎_elim}
 use Rattle.std.specs.Prelude.{if◌then◌else◌, map, slice_set, IfSome}
-use Rattle.std.specs.Slice.Scan.{HoldsNowhere, holds_at}
+use Rattle.std.specs.Slice.Scan.{holds_at}
 use Rattle.std.proofs.Math.Seq.{map-set_same}
 use Rattle.std.proofs.lemmas.Bool.{cases_eq, cases_lt}
 use Rattle.std.proofs.lemmas.Bool.Decides.{nat_tests}
-use Rattle.std.proofs.lemmas.List.{map-set, take-map, get_or_past, get_or-take, length-take, get_or-set_same, get_or-set_other, length-map, length-set, length-append, length-drop, length-take-le}
+use Rattle.std.proofs.lemmas.List.{map-set, take-map, get_or_past, get_or-take, length-take, get_or-set_same, get_or-set_other, length-map, length-set, length-append, length-drop}
 use Rattle.std.proofs.lemmas.Option.{get_or_from_slice_get, slice_get_cases}
 use Rattle.circular_buffer.specs.Buffer.{Buffer, buffer}
 use Rattle.window_model.specs.declared.Entry.{Entry}
 use Rattle.window_model.specs.declared.Outcome.{Outcome}
 use Rattle.window_model.specs.declared.Progress.TheVariants.{Done}
 use Rattle.window_model.specs.Issue.{begun}
-use Rattle.rob_ring.specs.Ring.{Ring, Next, IsNext, is_busy, is_open}
-use Rattle.rob_ring.specs.Marks.{Marked, MarksOf, NextBit, IsFirstBit, mark_at, one_if}
+use Rattle.rob_ring.specs.Ring.{Ring, Next, is_busy, is_open}
+use Rattle.word_bits.specs.Bits.{NextBit, one_if}
+use Rattle.rob_ring.specs.Marks.{Marked, MarksOf, mark_at}
 
 -- the marks of one set, by which an entry passes
 module _ (p : Entry → Bool) (es : List Entry) (words : List ℕ) (is : MarksOf p es words) where

@@ -1,13 +1,14 @@
 -- The bits of a word, one by one, as a bit is set, cleared, cut off or moved; and the marks of three words.
-use Rattle.std.proofs.Common.{◌≡◌, ◌≢◌, ℕ, zero, suc, ◌+◌, ◌*◌, ◌/◌, ◌%◌, ◌^◌, ◌-◌, ◌<◌, ◌≤◌, Bool, true, false, nat_lt, nat_eq, List, [], ◌∷◌, length, get_or, add-one, refl, ap, ap₂, sym, ◌∙◌, arith, w64, bit_and, inl, inr, ⊎_elim}
+use Rattle.std.proofs.Common.{◌≡◌, ◌≢◌, ℕ, zero, suc, ◌+◌, ◌*◌, ◌/◌, ◌%◌, ◌^◌, ◌-◌, ◌<◌, ◌≤◌, Bool, true, false, nat_lt, nat_eq, List, [], ◌∷◌, length, get_or, add-one, refl, ap, ap₂, sym, ◌∙◌, arith, bit_and, ⊎_elim}
 use Rattle.std.specs.Prelude.{min, if◌then◌else◌}
-use Rattle.std.specs.Int.{bit_at, trailing_zeros}
+use Rattle.std.specs.Int.{bit_at}
 use Rattle.std.proofs.lemmas.Bool.{cases_lt}
 use Rattle.std.proofs.lemmas.Bool.Decides.{nat_tests}
 use Rattle.std.proofs.lemmas.List.{get_or_past}
-use Rattle.std.proofs.lemmas.Nat.{one_shl, pow_pos, mod_below, shr-shr}
-use Rattle.std.proofs.lemmas.Nat.Bits.{bit_at_and, bit_at_ones, bit_at_above, bit_at_lowest, bit_at-suc, bit_at-lt, bit_at-zero, bit_at-trailing_zeros}
-use Rattle.rob_ring.specs.Marks.{IsFirstBit, mark_at, one_if}
+use Rattle.std.proofs.lemmas.Nat.{one_shl, pow_pos, mod_below}
+use Rattle.std.proofs.lemmas.Nat.Bits.{bit_at_and, bit_at_ones, bit_at_above, bit_at_lowest, bit_at-suc, bit_at-lt, bit_at-zero}
+use Rattle.word_bits.specs.Bits.{one_if}
+use Rattle.rob_ring.specs.Marks.{mark_at}
 
 -- the lowest k bits alone
 pub low_is : (n k b : ℕ) → k < 64 → b < 64 → bit_at (bit_and n (1 * 2 ^ k % 2 ^ 64 - 1)) b ≡ (if nat_lt b k then bit_at n b else 0)
@@ -38,30 +39,6 @@ down_is n m r b top others l =
     odd zero lt = refl
     odd (suc zero) lt = refl
     odd (suc (suc d)) lt = absurd (omega (arith, lt))
-
--- the lowest bit from a place on
-pub none_from : (n from : ℕ) → n / 2 ^ from ≡ 0 → (k : ℕ) → from ≤ k → bit_at n k ≡ 0
-none_from n from none k low =
-    let on : from + (k - from) ≡ k = omega arith in
-    ap (bit_at n) (sym on) ∙ sym (ap (λ n. n % 2) (shr-shr n from (k - from))) ∙ ap (λ n. bit_at n (k - from)) none ∙ bit_at-zero (k - from)
-
-pub first_from : (n from : ℕ) → from < 64 → n < 2 ^ 64 → 0 < n / 2 ^ from → n / 2 ^ from < 2 ^ 64 → IsFirstBit (bit_at n) from 64 (from + trailing_zeros w64 (n / 2 ^ from))
-first_from n from lt fits some less =
-    let low = bit_at-trailing_zeros w64 (n / 2 ^ from) some less in
-    let z = trailing_zeros w64 (n / 2 ^ from) in
-    let here = sym (ap (λ n. n % 2) (shr-shr n from z)) ∙ low.1 in
-    record {
-      low = omega arith;
-      high = elim (cases_lt (from + z) 64) [
-        | inl less ↦ less
-        | inr ge ↦ absurd (let none = bit_at_above n 64 (from + z) fits ge in omega (arith, none, here))
-      ];
-      before = λ k l h.
-          let on : from + (k - from) ≡ k = omega arith in
-          let less : k - from < trailing_zeros w64 (n / 2 ^ from) = omega arith in
-          ap (bit_at n) (sym on) ∙ sym (ap (λ n. n % 2) (shr-shr n from (k - from))) ∙ low.2 (k - from) less;
-      here = here;
-    }
 
 -- a mark is a bit of its word
 

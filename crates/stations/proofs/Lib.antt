@@ -3,3 +3,4 @@ pub mod Placing
 pub mod Reading
 pub mod Asking
 pub mod Dropping
+mod Awaited

@@ -38,12 +38,6 @@ taken_below room ages free once k d lt =
     let e = get_or_append_left ages free d k lt in
     omega (arith, here, e)
 
--- and no two of them are the same
-pub taken_differ : (room : ℕ) (ages free : List ℕ) → IsPermutation (range_with_len 0 room) (ages ++ free) → AllPairs (λ p q. p ≢ q) ages
-taken_differ room ages free once i j d lt l same =
-    let longer = length-append ages free in
-    all_differ room (ages ++ free) once i j d lt (omega arith) (get_or_append_left ages free d i (omega arith) ∙ same ∙ sym (get_or_append_left ages free d j l))
-
 -- the last of the free places: where it stands among all, that it is a place's, and that no taken one is the same
 module _ (room : ℕ) (ages rest : List ℕ) (p : ℕ) (once : IsPermutation (range_with_len 0 room) (ages ++ (rest ++ p ∷ []))) where
   last : (d : ℕ) → get_or (ages ++ (rest ++ p ∷ [])) (length ages + length rest) d ≡ p

@@ -1,13 +1,12 @@
 -- Places are taken once or free as entries come, wake and go.
-use Rattle.std.proofs.Common.{◌≡◌, ◌≢◌, ℕ, zero, ◌+◌, ◌<◌, List, [], ◌∷◌, ◌++◌, length, get_or, set, take, drop, suc, refl, ap, ap₂, sym, ◌∙◌, arith, subst}
+use Rattle.std.proofs.Common.{◌≡◌, ◌≢◌, ℕ, ◌+◌, ◌<◌, List, [], ◌∷◌, ◌++◌, length, get_or, set, take, drop, suc, refl, ap, ap₂, sym, ◌∙◌, arith, subst}
 use Rattle.std.specs.Prelude.{map, IsPermutation}
-use Rattle.std.specs.List.{All, AllPairs, remove, range_with_len}
-use Rattle.std.proofs.lemmas.List.{append_assoc, map-append, map-id, length-map, length-set, take-map, drop-map, get_or-map, get_or_default, get_or-set_same, get_or-set_other}
-use Rattle.std.proofs.lemmas.List.Edits.{map_over_more}
+use Rattle.std.specs.List.{All, remove, range_with_len}
+use Rattle.std.proofs.lemmas.List.{append_assoc, map-append, map-id, length-map, length-set, take-map, drop-map, get_or-map, get_or-set_same, get_or-set_other}
 use Rattle.std.proofs.lemmas.List.Elements.{All-head, All-tail}
 use Rattle.std.proofs.lemmas.List.FromFn.{map-range_with_len_more}
 use Rattle.std.proofs.lemmas.List.Quantifiers.{all_pairs_push, all_pairs_remove}
-use Rattle.std.proofs.lemmas.List.Sorted.{IsPermutation-refl, IsPermutation-sym, IsPermutation-trans, IsPermutation-append_left, IsPermutation-pop_more, IsPermutation-remove, IsPermutation-to_front}
+use Rattle.std.proofs.lemmas.List.Sorted.{IsPermutation-sym, IsPermutation-trans, IsPermutation-append_left, IsPermutation-pop_more, IsPermutation-remove, IsPermutation-to_front}
 use Rattle.stations.specs.declared.occupant.Occupant.{Occupant}
 use Rattle.stations.specs.Stations.{Rise, Station, struck}
 use Rattle.stations.specs.Places.{station, station_in, nobody, held_of, woken, Placed}
@@ -66,25 +65,10 @@ placed_remove places ages ages2 free free2 i p s lt is a f =
 
 -- ---- a serial is awaited no longer
 
--- an entry that changes in its place changes at its position alone
-held_set_at : (places : List Occupant) (o : Occupant) (ages : List ℕ) (k p : ℕ) → AllPairs (λ p q. p ≢ q) ages → k < length ages → p ≡ get_or ages k p → p < length places → held_of (set places p o) ages ≡ set (held_of places ages) k (station p o)
-held_set_at places o [] k p once lt at below = absurd (omega arith)
-held_set_at places o (q ∷ ages) zero p once lt at below =
-    let others : All (λ r. r ≢ p) ages = λ k d l same. (once 0 (suc k) d (omega arith) (omega arith) (sym at ∙ sym same)) in
-    ap₂ (λ s ss. s ∷ ss) (ap (station_in (set places p o)) (sym at) ∙ ap (station p) (get_or-set_same places p o nobody below)) (held_set places p o ages others)
-held_set_at places o (q ∷ ages) (suc k) p once lt at below =
-    let other : q ≢ p = λ same. (once 0 (suc k) p (omega arith) lt (same ∙ at)) in
-    ap₂ (λ s ss. s ∷ ss) (ap (station q) (get_or-set_other places p q o nobody other)) (held_set_at places o ages k p (λ i j d l m. once (suc i) (suc j) d (omega arith) (omega arith)) (omega arith) at below)
-
--- the first k entries are woken, and then the one at position k
-pub held_more : (serial : ℕ) (old places : List Occupant) (ages : List ℕ) (k p : ℕ) (o : Occupant) → AllPairs (λ p q. p ≢ q) ages → k < length ages → p ≡ get_or ages k p → p < length places → o ≡ get_or places p o →
-    held_of places ages ≡ map (struck serial) (take k (held_of old ages)) ++ drop k (held_of old ages) →
-    held_of (set places p (woken serial o)) ages ≡ map (struck serial) (take (k + 1) (held_of old ages)) ++ drop (k + 1) (held_of old ages)
-held_more serial old places ages k p o once lt at below is h =
-    let long = length-map ages (station_in old) in
-    let here : station p o ≡ get_or (held_of places ages) k (station p o) =
-    ap (station p) (is ∙ get_or_default places p o nobody below) ∙ ap (station_in places) at ∙ sym (get_or-map (station_in places) ages k p (station p o) lt) in
-    held_set_at places (woken serial o) ages k p once lt at below ∙ map_over_more (struck serial) (held_of old ages) (held_of places ages) k (station p o) (omega arith) h here
+-- places that are woken one by one hold entries that are struck
+pub held_woken : (serial : ℕ) (old places : List Occupant) → ((p : ℕ) → get_or places p nobody ≡ woken serial (get_or old p nobody)) → (ages : List ℕ) → held_of places ages ≡ map (struck serial) (held_of old ages)
+held_woken serial old places h [] = refl
+held_woken serial old places h (q ∷ ages) = ap₂ (λ o ss. station q o ∷ ss) (h q) (held_woken serial old places h ages)
 
 rise_struck : (serial : ℕ) (held : List Station) → Rise held → Rise (map (struck serial) held)
 rise_struck serial held r i j d lt l =

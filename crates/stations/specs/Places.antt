@@ -1,5 +1,6 @@
 -- The entries that wait, the places that they have and the places that are free.
-use Rattle.std.specs.Prelude.{ℕ, ◌-◌, Bool, false, List, [], ◌∷◌, ◌++◌, map, length, Option, Some, None, slice_get, slice_index_or, IsPermutation}
+use Rattle.std.specs.Prelude.{ℕ, ◌≡◌, ◌-◌, ◌%◌, Bool, true, false, ◌||◌, ◌==◌, List, [], ◌∷◌, ◌++◌, map, length, Option, Some, None, slice_get, slice_index, slice_index_or, IsPermutation}
+use Rattle.std.specs.Int.{bit_at}
 use Rattle.std.specs.List.{range_with_len}
 use Rattle.stations.specs.declared.occupant.Occupant.{Occupant}
 use Rattle.stations.specs.Stations.{Rise, Station, strike}
@@ -41,3 +42,16 @@ passes test (Some s) = test s
 -- the youngest entry passes the test
 abbrev pub is_youngest : (Station → Bool) → List Station → Bool
 is_youngest test held = passes test (slice_get held (length held - 1))
+
+-- a source awaits a serial of this group: those with one remainder by 64
+abbrev pub is_in : ℕ → Option ℕ → Bool
+is_in group None = false
+is_in group (Some serial) = serial % 64 == group
+
+-- the entry awaits a serial of this group
+abbrev pub awaits_in : ℕ → Occupant → Bool
+awaits_in group o = is_in group o.first || is_in group o.second
+
+-- for each group there is a word, whose bits are set for the places where a serial of the group is awaited, and maybe for others
+abbrev pub MarkWaiters : List Occupant → List ℕ → Type 0
+MarkWaiters places waiters = (group place : ℕ) → awaits_in group (slice_index_or places place nobody) ≡ true → bit_at (slice_index waiters group) place ≡ 1

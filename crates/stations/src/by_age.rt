@@ -6,7 +6,8 @@ ghost use Rattle.stations.specs.Stations.{Rise, Station, Stations, struck, await
 ghost use Rattle.stations.specs.Places.{station, is_youngest};
 
 use crate::occupant::Occupant;
-use crate::places::{all_places, empty_places, push_within, take_free, wake_all};
+use crate::places::{all_places, empty_places, push_within, take_free};
+use crate::waking::{GROUPS, mark_waiter, wake_all};
 use machine_desc::Desc;
 use rv_types::NoMemory;
 use std::alloc::Global;
@@ -19,12 +20,14 @@ pub struct Stations {
     places: Vec<Occupant>,
     ages: Vec<u32>,
     free: Vec<u32>,
+    // For each group of serials, the places where such a serial may be awaited, as the bits of a word.
+    waiters: [u64; GROUPS],
 }
 
 impl Model for Stations {
     ghost use Rattle.std.specs.Prelude.{◌≡◌, ◌+◌, ◌<◌, ◌≤◌, ◌^◌, vec_len, vec_capacity};
     ghost use Rattle.stations.specs.Stations.{Stations};
-    ghost use Rattle.stations.specs.Places.{held_of, Placed};
+    ghost use Rattle.stations.specs.Places.{held_of, MarkWaiters, Placed};
 
     ghost Value = { Stations };
 
@@ -33,7 +36,7 @@ impl Model for Stations {
     ghost invariant = { λ s. Placed s.places.items s.ages.items s.free.items
         × (vec_len s.ages + vec_len s.free ≡ vec_len s.places)
         × (vec_len s.places ≤ vec_capacity s.ages) × (vec_len s.places ≤ vec_capacity s.free)
-        × (vec_len s.places < 2 ^ 32) };
+        × (vec_len s.places ≤ 64) × MarkWaiters s.places.items s.waiters };
 }
 
 impl Stations {
@@ -45,7 +48,12 @@ impl Stations {
         let places = empty_places(alloc, room)?;
         let ages = Vec::with_capacity(alloc, room as usize)?;
         let free = all_places(alloc, room)?;
-        Ok(Stations { places, ages, free })
+        Ok(Stations {
+            places,
+            ages,
+            free,
+            waiters: [0; GROUPS],
+        })
     }
 
     /// How many entries wait.
@@ -72,7 +80,9 @@ impl Stations {
         }) }
     {
         let place = take_free(&mut self.free);
-        self.places[place as usize] = Occupant::new(serial, awaits);
+        let occupant = Occupant::new(serial, awaits);
+        mark_waiter(&mut self.waiters, place, &occupant);
+        self.places[place as usize] = occupant;
         push_within(&mut self.ages, place);
     }
 
@@ -80,7 +90,7 @@ impl Stations {
     pub fn wake(&mut self, serial: u64)
         ensures { self.new ≡ record self.old { held = map (struck serial) self.old.held } }
     {
-        wake_all(&mut self.places, &self.ages, serial);
+        wake_all(&mut self.places, &mut self.waiters, serial);
     }
 
     /// Whether the entry at a position awaits nothing.

@@ -9,6 +9,7 @@
 mod by_age;
 mod occupant;
 mod places;
+mod waking;
 
 pub use by_age::Stations;
 

@@ -1,5 +1,6 @@
 //! An entry in its place.
 ghost use Rattle.std.specs.Prelude.{◌≡◌};
+ghost use Rattle.stations.specs.Places.{is_in};
 ghost use Rattle.stations.specs.Stations.{strike};
 
 /// An entry that waits, and the serials that it awaits.
@@ -22,10 +23,20 @@ fn strike(awaited: &mut Option<u64>, serial: u64)
     }
 }
 
+// Whether a source awaits a serial of this group.
+fn is_in(awaited: Option<u64>, group: u64) -> bool
+    ensures { result ≡ is_in group awaited }
+{
+    match awaited {
+        Some(serial) => serial % 64 == group,
+        None => false,
+    }
+}
+
 impl Occupant {
     ghost use Rattle.std.specs.Prelude.{◌≡◌, is_none};
     ghost use Rattle.std.specs.List.{list_all};
-    ghost use Rattle.stations.specs.Places.{nobody, awaited, woken};
+    ghost use Rattle.stations.specs.Places.{nobody, awaited, awaits_in, woken};
 
     /// An entry with the serials that it awaits.
     pub fn new(serial: u64, awaits: [Option<u64>; 2]) -> Occupant
@@ -64,5 +75,12 @@ impl Occupant {
         ensures { result ≡ list_all is_none (awaited self.now) }
     {
         self.first.is_none() && self.second.is_none()
+    }
+
+    /// Whether it awaits a serial of this group.
+    pub fn awaits_in(&self, group: u64) -> bool
+        ensures { result ≡ awaits_in group self.now }
+    {
+        is_in(self.first, group) || is_in(self.second, group)
     }
 }

@@ -1,8 +1,7 @@
 //! The places, and lists of their numbers.
-ghost use Rattle.std.specs.Prelude.{◌≡◌, ◌≢◌, ◌+◌, ◌<◌, ◌≤◌, [], ◌∷◌, ◌++◌, map, replicate, IfOk, vec_len, vec_capacity};
-ghost use Rattle.std.specs.List.{range_with_len, All, AllPairs};
-ghost use Rattle.stations.specs.Stations.{struck};
-ghost use Rattle.stations.specs.Places.{nobody, held_of};
+ghost use Rattle.std.specs.Prelude.{◌≡◌, ◌+◌, ◌<◌, ◌≤◌, [], ◌∷◌, ◌++◌, replicate, IfOk, vec_len, vec_capacity};
+ghost use Rattle.std.specs.List.{range_with_len};
+ghost use Rattle.stations.specs.Places.{nobody};
 
 use crate::occupant::Occupant;
 use rv_types::NoMemory;
@@ -56,17 +55,5 @@ pub fn push_within<T: Drop>(items: &mut Vec<T>, item: T)
     match items.push(item) {
         Ok(()) => (),
         Err(_) => unreachable!(),
-    }
-}
-
-/// The entries in these places await a serial no longer.
-pub fn wake_all(places: &mut Vec<Occupant>, ages: &[u32], serial: u64)
-    requires within { All (λ p. p < vec_len places.old) ages.now }
-    requires once { AllPairs (λ p q. p ≢ q) ages.now }
-    ensures held { held_of places.new.items ages.now ≡ map (struck serial) (held_of places.old.items ages.now) }
-    ensures len { vec_len places.new ≡ vec_len places.old }
-{
-    for place in ages {
-        places[*place as usize].wake(serial);
     }
 }

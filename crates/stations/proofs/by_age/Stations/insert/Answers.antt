@@ -3,9 +3,18 @@ use Rattle.std.specs.Prelude.{IsPermutation}
 use Rattle.std.specs.List.{All, range_with_len}
 use Rattle.stations.specs.Stations.{Station, Stations}
 use Rattle.stations.specs.Places.{held_of}
+use Rattle.std.proofs.lemmas.List.{length-set}
+use Rattle.stations.proofs.Awaited.{marked_push}
 use Rattle.stations.proofs.Numbers.{below}
 use Rattle.stations.proofs.Placing.{held_push, placed_push}
 use Rattle.stations.proofs.by_age.Stations.insert.Goals as goal
+
+pub mark_waiter-requires : goal.mark_waiter-requires
+mark_waiter-requires c =
+    let once = subst (λ free. IsPermutation (range_with_len 0 (length c.self.inside.places.items)) (c.self.inside.ages.items ++ free)) c.take_free-place.ensures.items c.self.invariant.0.once in
+    let lt = below _ _ _ _ once in
+    let few = c.self.invariant.4 in
+    omega (arith, lt, few)
 
 pub index_mut-requires : goal.index_mut-requires
 index_mut-requires c =
@@ -16,13 +25,16 @@ index_mut-requires c =
 pub invariant_of-self : goal.invariant_of-self
 invariant_of-self c =
     let inside = c.self.invariant in
+    let once = subst (λ free. IsPermutation (range_with_len 0 (length c.self.inside.places.items)) (c.self.inside.ages.items ++ free)) c.take_free-place.ensures.items inside.0.once in
+    let lt = below _ _ _ _ once in
     let youngest = subst (λ (v : Stations). All (λ s. s.serial < c.args.serial) v.held) (sym c.self.view_is) c.requires.youngest in
-    let youngest2 = subst (λ serial. All (λ (s : Station). s.serial < serial) (held_of c.self.inside.places.items c.self.inside.ages.items)) (sym c.new.ensures.serial) youngest in (
-      rw c.push_within.ensures.items (placed_push c.self.inside.places.items c.self.inside.ages.items c.self.inside.free.items c.take_free-place.new.free.items c.take_free-place.result c.new.result inside.0 c.take_free-place.ensures.items youngest2),
+    let youngest2 = subst (λ serial. All (λ (s : Station). s.serial < serial) (held_of c.self.inside.places.items c.self.inside.ages.items)) (sym c.new-occupant.ensures.serial) youngest in (
+      rw c.push_within.ensures.items (placed_push c.self.inside.places.items c.self.inside.ages.items c.self.inside.free.items c.take_free-place.new.free.items c.take_free-place.result c.new-occupant.result inside.0 c.take_free-place.ensures.items youngest2),
       omega (arith, inside.1, c.take_free-place.ensures.len, c.push_within.ensures.len),
       omega (arith, inside.2, c.push_within.ensures.capacity),
       omega (arith, inside.3, c.take_free-place.ensures.capacity),
-      inside.4,
+      let long = length-set c.self.inside.places.items c.take_free-place.result c.new-occupant.result in omega (arith, inside.4, long),
+      marked_push _ _ _ _ _ lt (omega (arith, inside.4)) inside.5 c.mark_waiter.ensures.here c.mark_waiter.ensures.others,
     )
 
 pub returns : goal.returns
@@ -30,7 +42,7 @@ returns c = (
   c.take_free-place.result,
   ap₂ (λ h r. record { held = h; room = r })
       (ap (held_of _) c.push_within.ensures.items
-      ∙ held_push c.self.inside.places.items c.self.inside.ages.items c.self.inside.free.items c.take_free-place.new.free.items c.take_free-place.result c.new.result c.self.invariant.0 c.take_free-place.ensures.items
-      ∙ ap₂ (λ (v : Stations) s. v.held ++ s ∷ []) c.self.view_is (ap₂ (λ serial awaits. record { serial = serial; awaits = awaits; place = c.take_free-place.result }) c.new.ensures.serial c.new.ensures.awaits))
+      ∙ held_push c.self.inside.places.items c.self.inside.ages.items c.self.inside.free.items c.take_free-place.new.free.items c.take_free-place.result c.new-occupant.result c.self.invariant.0 c.take_free-place.ensures.items
+      ∙ ap₂ (λ (v : Stations) s. v.held ++ s ∷ []) c.self.view_is (ap₂ (λ serial awaits. record { serial = serial; awaits = awaits; place = c.take_free-place.result }) c.new-occupant.ensures.serial c.new-occupant.ensures.awaits))
       (ap (λ (v : Stations). v.room) c.self.view_is),
 )

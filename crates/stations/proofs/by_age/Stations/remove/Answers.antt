@@ -16,6 +16,7 @@ invariant_of-self c =
       omega (arith, inside.2, c.remove-place.ensures.capacity),
       omega (arith, inside.3, c.push_within.ensures.capacity),
       inside.4,
+      inside.5,
     )
 
 pub returns : goal.returns

@@ -1,0 +1,81 @@
+-- What is marked of who awaits a serial, as entries come and wake.
+use Rattle.std.proofs.Common.{◌≡◌, ◌≢◌, ℕ, ◌%◌, ◌+◌, ◌<◌, ◌≤◌, Bool, true, false, List, length, get_or, set, Option, Some, None, refl, ap, ap₂, sym, ◌∙◌, arith, inl, inr, ⊎_elim}
+use Rattle.std.specs.Prelude.{◌==◌, ◌||◌, if◌then◌else◌}
+use Rattle.std.specs.Int.{bit_at}
+use Rattle.std.proofs.lemmas.Bool.{cases_Bool, cases_eq, cases_lt, eq-eqb}
+use Rattle.std.proofs.lemmas.Bool.Decides.{eqb_tells}
+use Rattle.std.proofs.lemmas.List.{get_or_past, get_or-set_same, get_or-set_other}
+use Rattle.word_bits.specs.Bits.{IsFirstBit}
+use Rattle.stations.specs.declared.occupant.Occupant.{Occupant}
+use Rattle.stations.specs.Stations.{strike}
+use Rattle.stations.specs.Places.{MarkWaiters, awaits_in, is_in, nobody, woken}
+
+neither : (a b : Bool) → (a || b) ≡ false → (a ≡ false) × (b ≡ false)
+neither true b h = absurd (cc)
+neither false b h = (refl, h)
+
+-- who awaits none of the group isn't changed by a serial of it
+strike_other : (serial : ℕ) (a : Option ℕ) → is_in (serial % 64) a ≡ false → strike serial a ≡ a
+strike_other serial None h = refl
+strike_other serial (Some s) h =
+    ⊎_elim
+    (λ same. absurd (let t : (s % 64 == serial % 64) ≡ true = eq-eqb (s % 64) (serial % 64) (ap (λ n. n % 64) same.1) in cc))
+    (λ other. ap (λ b. if b then None else Some s) other.0)
+    (eqb_tells s serial)
+
+woken_other : (serial : ℕ) (o : Occupant) → awaits_in (serial % 64) o ≡ false → woken serial o ≡ o
+woken_other serial o h =
+    let none = neither _ _ h in
+    ap₂ (λ a b. record o { first = a; second = b }) (strike_other serial o.first none.0) (strike_other serial o.second none.1)
+
+-- who awaits something has a place
+in_place : (group p : ℕ) (places : List Occupant) → awaits_in group (get_or places p nobody) ≡ true → p < length places
+in_place group p places h = elim (cases_lt p (length places)) [
+  | inl lt ↦ lt
+  | inr past ↦ absurd (let none = ap (awaits_in group) (get_or_past places p nobody past) in cc)
+]
+
+-- an entry that comes into a place is marked there
+pub marked_push : (places : List Occupant) (waiters waiters2 : List ℕ) (place : ℕ) (o : Occupant) → place < length places → length places ≤ 64 → MarkWaiters places waiters →
+    ((group : ℕ) → awaits_in group o ≡ true → bit_at (get_or waiters2 group 0) place ≡ 1) →
+    ((group p : ℕ) → p < 64 → bit_at (get_or waiters group 0) p ≡ 1 → bit_at (get_or waiters2 group 0) p ≡ 1) → MarkWaiters (set places place o) waiters2
+marked_push places waiters waiters2 place o lt few m here others group p h = elim (cases_eq p place) [
+  | inl q ↦ ap (bit_at (get_or waiters2 group 0)) q
+      ∙ here group (sym (ap (awaits_in group) (ap (λ k. get_or (set places place o) k nobody) q ∙ get_or-set_same places place o nobody lt)) ∙ h)
+  | inr ne ↦
+      let was : awaits_in group (get_or places p nobody) ≡ true = sym (ap (awaits_in group) (get_or-set_other places place p o nobody ne)) ∙ h in
+      let low = in_place group p places was in
+      others group p (omega (arith, low, few)) (m group p was)
+]
+
+-- the places are woken up to one from which on they are as they were
+module _ (serial : ℕ) (old places : List Occupant) (waiters : List ℕ) (from room : ℕ) (long : room ≡ length places) (m : MarkWaiters places waiters)
+    (woken_so_far : (p : ℕ) → p < from → get_or places p nobody ≡ woken serial (get_or old p nobody)) (rest : (p : ℕ) → from ≤ p → get_or places p nobody ≡ get_or old p nobody) where
+  unmarked : (p : ℕ) → (p < room → bit_at (get_or waiters (serial % 64) 0) p ≡ 0) → awaits_in (serial % 64) (get_or places p nobody) ≡ false
+  unmarked p none =
+      ⊎_elim
+      (λ (h : awaits_in (serial % 64) (get_or places p nobody) ≡ true).
+      absurd (let lt = in_place (serial % 64) p places h in let one = m (serial % 64) p h in let zero = none (omega (arith, lt, long)) in omega (arith, one, zero)))
+      (λ h. h)
+      (cases_Bool (awaits_in (serial % 64) (get_or places p nobody)))
+
+  as_it_was : (p : ℕ) → from ≤ p → (p < room → bit_at (get_or waiters (serial % 64) 0) p ≡ 0) → get_or places p nobody ≡ woken serial (get_or old p nobody)
+  as_it_was p low none = rest p low ∙ sym (woken_other serial (get_or old p nobody) (sym (ap (awaits_in (serial % 64)) (rest p low)) ∙ unmarked p none))
+
+  pub woken_one : (places2 : List Occupant) (place : ℕ) → IsFirstBit (bit_at (get_or waiters (serial % 64) 0)) from room place →
+      get_or places2 place nobody ≡ woken serial (get_or places place nobody) → ((p : ℕ) → p ≢ place → get_or places2 p nobody ≡ get_or places p nobody) →
+      (p : ℕ) → p < place + 1 → get_or places2 p nobody ≡ woken serial (get_or old p nobody)
+  woken_one places2 place next here others p lt = elim (cases_eq p place) [
+    | inl q ↦ let low = next.low in
+        ap (λ k. get_or places2 k nobody) q ∙ here ∙ ap (woken serial) (rest place low) ∙ ap (λ k. woken serial (get_or old k nobody)) (sym q)
+    | inr ne ↦ others p ne ∙ elim (cases_lt p from) [
+      | inl before ↦ woken_so_far p before
+      | inr low ↦ as_it_was p low (λ l. next.before p low (omega (arith, lt, ne)))
+    ]
+  ]
+
+  pub woken_rest : ((p : ℕ) → from ≤ p → p < room → bit_at (get_or waiters (serial % 64) 0) p ≡ 0) → (p : ℕ) → get_or places p nobody ≡ woken serial (get_or old p nobody)
+  woken_rest none p = elim (cases_lt p from) [
+    | inl before ↦ woken_so_far p before
+    | inr low ↦ as_it_was p low (none p low)
+  ]

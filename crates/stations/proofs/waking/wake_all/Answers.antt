@@ -1,0 +1,22 @@
+use Rattle.std.proofs.Common.{arith, ◌∙◌}
+use Rattle.stations.proofs.Awaited.{woken_one, woken_rest}
+use Rattle.stations.proofs.waking.wake_all.Goals as goal
+
+pub loop-place-preserved : goal.loop-place-preserved
+loop-place-preserved c =
+    let at = c.loop-place.invariant in
+    let next = c.in-Some.ensures in
+    let high = next.high in
+    let low = next.low in
+    record {
+      woken = woken_one c.args.serial _ _ _ _ _ (omega (arith, c.len-room.ensures, at.len)) at.marked at.woken at.rest _ _ next c.wake_at.ensures.here c.wake_at.ensures.others;
+      rest = λ p past. c.wake_at.ensures.others p (λ q. absurd (omega (arith, q, past))) ∙ at.rest p (omega (arith, past, low));
+      len = omega (arith, c.wake_at.ensures.len, at.len);
+      marked = c.wake_at.ensures.marked;
+      within = omega (arith, high, c.wake_at.ensures.len, c.len-room.ensures, at.len);
+    }
+
+pub returns-clause-woken : goal.returns-clause-woken
+returns-clause-woken c =
+    let at = c.loop-place.invariant in
+    woken_rest c.args.serial _ _ _ _ _ (omega (arith, c.len-room.ensures, at.len)) at.marked at.woken at.rest c.in_default.ensures

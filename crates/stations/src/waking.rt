@@ -1,0 +1,89 @@
+//! Who may await a serial: marks, so that who becomes Done wakes those alone.
+ghost use Rattle.std.specs.Prelude.{◌≡◌, ◌≢◌, ◌<◌, ◌≤◌, ℕ, true, slice_index, slice_index_or, vec_len};
+ghost use Rattle.std.specs.Int.{bit_at};
+ghost use Rattle.word_bits.specs.Bits.{NextBit};
+ghost use Rattle.stations.specs.Places.{MarkWaiters, awaits_in, is_in, nobody, woken};
+
+use crate::occupant::Occupant;
+use word_bits::{next_bit, with_bit};
+
+/// Serials are grouped by their remainder by this number.
+pub const GROUPS: usize = 64;
+
+// A place is marked for what one source of its entry awaits.
+fn mark_awaited(waiters: &mut [u64; GROUPS], place: u32, awaited: Option<u64>)
+    requires { place < 64 }
+    ensures here { (group : ℕ) → is_in group awaited ≡ true → bit_at (slice_index waiters.new group) place ≡ 1 }
+    ensures others { (group p : ℕ) → p < 64 → bit_at (slice_index waiters.old group) p ≡ 1
+        → bit_at (slice_index waiters.new group) p ≡ 1 }
+{
+    if let Some(serial) = awaited {
+        let group = (serial % 64) as usize;
+        let word = waiters[group];
+        waiters[group] = with_bit(word, place, true);
+    }
+}
+
+/// A place is marked for what its entry awaits.
+pub fn mark_waiter(waiters: &mut [u64; GROUPS], place: u32, occupant: &Occupant)
+    requires { place < 64 }
+    ensures here { (group : ℕ) → awaits_in group occupant.now ≡ true
+        → bit_at (slice_index waiters.new group) place ≡ 1 }
+    ensures others { (group p : ℕ) → p < 64 → bit_at (slice_index waiters.old group) p ≡ 1
+        → bit_at (slice_index waiters.new group) p ≡ 1 }
+{
+    mark_awaited(waiters, place, occupant.first);
+    mark_awaited(waiters, place, occupant.second);
+}
+
+// The first place from this one on, among so many, that a word marks.
+fn next_place(word: u64, from: u32, room: u32) -> Option<u32>
+    requires { room ≤ 64 }
+    ensures { NextBit (bit_at word) from room result }
+{
+    if from >= room {
+        return None;
+    }
+    match next_bit(word, from) {
+        Some(place) => { if place < room { Some(place) } else { None } }
+        None => None,
+    }
+}
+
+// The entry in a place awaits a serial no longer. Its mark goes, if it awaits none of the serial's group then.
+fn wake_at(places: &mut Vec<Occupant>, waiters: &mut [u64; GROUPS], place: u32, serial: u64)
+    requires within { place < vec_len places.old }
+    requires few { vec_len places.old ≤ 64 }
+    requires marked { MarkWaiters places.old.items waiters.old }
+    ensures here { slice_index_or places.new.items place nobody
+        ≡ woken serial (slice_index_or places.old.items place nobody) }
+    ensures others { (p : ℕ) → p ≢ place
+        → slice_index_or places.new.items p nobody ≡ slice_index_or places.old.items p nobody }
+    ensures len { vec_len places.new ≡ vec_len places.old }
+    ensures marked { MarkWaiters places.new.items waiters.new }
+{
+    places[place as usize].wake(serial);
+    let group = serial % 64;
+    if !places[place as usize].awaits_in(group) {
+        let word = waiters[group as usize];
+        waiters[group as usize] = with_bit(word, place, false);
+    }
+}
+
+/// No entry awaits a serial any longer. Only those are looked at that are marked.
+pub fn wake_all(places: &mut Vec<Occupant>, waiters: &mut [u64; GROUPS], serial: u64)
+    requires few { vec_len places.old ≤ 64 }
+    requires marked { MarkWaiters places.old.items waiters.old }
+    ensures woken { (p : ℕ) → slice_index_or places.new.items p nobody
+        ≡ woken serial (slice_index_or places.old.items p nobody) }
+    ensures len { vec_len places.new ≡ vec_len places.old }
+    ensures marked { MarkWaiters places.new.items waiters.new }
+{
+    let room = places.len() as u32;
+    let group = (serial % 64) as usize;
+    let mut from = 0;
+    while let Some(place) = next_place(waiters[group], from, room) {
+        wake_at(places, waiters, place, serial);
+        from = place + 1;
+    }
+}

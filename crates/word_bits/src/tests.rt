@@ -1,0 +1,14 @@
+use crate::{next_bit, with_bit};
+use std::test::Fail;
+
+#[test]
+fn bits_are_set_cleared_and_found(rt: HostRuntime) -> Result<(), Fail> {
+    let word = with_bit(with_bit(with_bit(0, 5, true), 63, true), 9, true);
+    for (from, want) in [(0, Some(5)), (5, Some(5)), (6, Some(9)), (10, Some(63))] {
+        assert_eq!(rt; next_bit(word, from), want, "from {from}");
+    }
+    let rest = with_bit(with_bit(word, 63, false), 7, false);
+    assert_eq!(rt; next_bit(rest, 6), Some(9));
+    assert_eq!(rt; next_bit(rest, 10), None);
+    Ok(())
+}
