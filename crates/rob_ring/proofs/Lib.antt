@@ -2,3 +2,4 @@ pub mod AtPositions
 pub mod Gaps
 mod Marked
 mod Words
+mod ByEnd

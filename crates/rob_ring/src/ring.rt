@@ -1,6 +1,7 @@
 //! The ring itself.
 ghost use Rattle.std.specs.Prelude.{◌≡◌, ◌<◌, ◌≤◌, ◌^◌, ◌++◌, ◌∷◌, [], length, take, drop};
 ghost use Rattle.std.specs.Prelude.{slice_get, slice_set, Some, IfOk, IfSome};
+ghost use Rattle.std.specs.Option.{option_map};
 ghost use Rattle.window_model.specs.declared.Entry.{Entry};
 ghost use Rattle.window_model.specs.declared.Progress.TheVariants.{Done};
 ghost use Rattle.window_model.specs.Issue.{begun};
@@ -159,14 +160,38 @@ impl RobRing {
     }
 
     /// The position of the entry with this serial, or the one at which it would stand: how many entries have a serial below
-    /// it.
+    /// it. Serials rise by one, but for gaps that squashes leave: where no entry behind it was squashed it is counted back from
+    /// the youngest, else the walk of `position_of` of `window_model` finds it from the oldest on.
     pub fn position_of(&self, serial: u64) -> u32
         requires rise { Rise self.now.entries }
         ensures count { result ≡ length (below serial self.now.entries) }
         ensures older { take result self.now.entries ≡ below serial self.now.entries }
         ensures within { result ≤ length self.now.entries }
     {
+        if let Some(position) = self.counted_back(serial) {
+            return position;
+        }
         position_of(self, serial)
+    }
+
+    // The position of the entry with this serial, where no entry behind it was squashed.
+    fn counted_back(&self, serial: u64) -> Option<u32>
+        ensures { IfSome result (λ i. option_map (λ e. e.serial) (slice_get self.now.entries i) ≡ Some serial) }
+    {
+        let len = self.len();
+        if len == 0 {
+            return None;
+        }
+        let youngest = self.lend(len - 1).serial;
+        if youngest < serial || youngest - serial >= len as u64 {
+            return None;
+        }
+        let position = len - 1 - (youngest - serial) as u32;
+        if self.lend(position).serial == serial {
+            Some(position)
+        } else {
+            None
+        }
     }
 }
 

@@ -1,0 +1,28 @@
+-- The position of an entry of which the serial is known.
+use Rattle.std.proofs.Common.{◌≡◌, ℕ, zero, suc, ◌<◌, List, [], ◌∷◌, length, take, Some, refl, ap, sym, ◌∙◌, arith, slice_get}
+use Rattle.std.specs.Option.{option_map}
+use Rattle.std.proofs.Math.Seq.{take-append_seam}
+use Rattle.window_model.specs.declared.Entry.{Entry}
+use Rattle.window_model.specs.Serials.{Rise, below}
+use Rattle.window_model.proofs.Serials.{place_of, splits}
+
+module _ (serial : ℕ) where
+  entry_at : (es : List Entry) (i : ℕ) → option_map (λ e. e.serial) (slice_get es i) ≡ Some serial → (e : Entry) × (slice_get es i ≡ Some e) × (e.serial ≡ serial)
+  entry_at [] i h = absurd (cc)
+  entry_at (e ∷ es) zero h = (e, refl, cc)
+  entry_at (e ∷ es) (suc i) h = entry_at es i h
+
+  pub within_at : (es : List Entry) (i : ℕ) → option_map (λ e. e.serial) (slice_get es i) ≡ Some serial → i < length es
+  within_at [] i h = absurd (cc)
+  within_at (e ∷ es) zero h = omega arith
+  within_at (e ∷ es) (suc i) h = let lt = within_at es i h in omega (arith, lt)
+
+  pub count_at : (es : List Entry) (i : ℕ) → Rise es → option_map (λ e. e.serial) (slice_get es i) ≡ Some serial → i ≡ length (below serial es)
+  count_at es i r h =
+      let e = entry_at es i h in
+      sym (place_of es i e.0 r e.1) ∙ ap (λ s. length (below s es)) e.2
+
+  pub older_at : (es : List Entry) (i : ℕ) → Rise es → option_map (λ e. e.serial) (slice_get es i) ≡ Some serial → take i es ≡ below serial es
+  older_at es i r h =
+      let s = splits serial es r in
+      ap (λ n. take n es) (count_at es i r h) ∙ ap (take (length (below serial es))) s.whole ∙ take-append_seam (below serial es) s.gone
