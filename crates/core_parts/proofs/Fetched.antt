@@ -10,32 +10,32 @@ use Rattle.window_model.specs.Row.{Row}
 use Rattle.window_model.specs.State.{Machine}
 use Rattle.machine_facts.specs.Sized.{Sized}
 use Rattle.machine_facts.proofs.SizedPhases.{sized_fetch}
-use Rattle.fetch_unit.specs.Front as fetching
-use Rattle.fetch_unit.specs.Front.{Front}
+use Rattle.fetch_unit.specs.Unit as fetching
+use Rattle.fetch_unit.specs.Unit.{FetchUnit}
 use Rattle.core_parts.specs.Described.{Described}
 use Rattle.core_parts.specs.Held.{Held, Sizes, Whole, described, machine_of, sizes}
 use Rattle.core_parts.proofs.Whole.{shown_by}
 
-pub fetch_whole : (code : Code) (h : Held) (front : Front) → Whole h →
-    ((x : Machine) → fetching.with_front front h.tables x ≡ (fetching.fetches code h.front h.tables x).machine) → front.desc ≡ h.front.desc → Whole (record h { front = front })
-fetch_whole code h front w f t = record {
-  sized = subst (Sized h.desc) (sym (f (machine_of h) ∙ ap (λ d. (fetch d code (machine_of h)).machine) (ap (λ (s : Sizes). s.front) w.made))) (sized_fetch h.desc code (machine_of h) (every_desc h.desc) w.sized);
+pub fetch_whole : (code : Code) (h : Held) (fetch_unit : FetchUnit) → Whole h →
+    ((x : Machine) → fetching.with_unit fetch_unit h.tables x ≡ (fetching.fetches code h.fetch_unit h.tables x).machine) → fetch_unit.desc ≡ h.fetch_unit.desc → Whole (record h { fetch_unit = fetch_unit })
+fetch_whole code h fetch_unit w f t = record {
+  sized = subst (Sized h.desc) (sym (f (machine_of h) ∙ ap (λ d. (fetch d code (machine_of h)).machine) (ap (λ (s : Sizes). s.fetch_unit) w.made))) (sized_fetch h.desc code (machine_of h) (every_desc h.desc) w.sized);
   stands = w.stands;
-  made = ap (λ t. sizes (record h { front = record front { desc = t } })) t ∙ w.made;
+  made = ap (λ t. sizes (record h { fetch_unit = record fetch_unit { desc = t } })) t ∙ w.made;
 }
 
-pub fetch_shown : (h : Held) (front : Front) (v : Described) → Whole h →
-    ((x : Machine) → fetching.with_front front h.tables x ≡ (fetching.fetches (word_at h.code) h.front h.tables x).machine) → described h ≡ v →
-    described (record h { front = front }) ≡ record v { machine = (fetch v.desc (word_at v.code) v.machine).machine }
-fetch_shown h front v w f s =
-    shown_by (λ d x. (fetch d (word_at h.code) x).machine) h (machine_of (record h { front = front })) v
-    (f (machine_of h) ∙ ap (λ d. (fetch d (word_at h.code) (machine_of h)).machine) (ap (λ (s : Sizes). s.front) w.made)) s
+pub fetch_shown : (h : Held) (fetch_unit : FetchUnit) (v : Described) → Whole h →
+    ((x : Machine) → fetching.with_unit fetch_unit h.tables x ≡ (fetching.fetches (word_at h.code) h.fetch_unit h.tables x).machine) → described h ≡ v →
+    described (record h { fetch_unit = fetch_unit }) ≡ record v { machine = (fetch v.desc (word_at v.code) v.machine).machine }
+fetch_shown h fetch_unit v w f s =
+    shown_by (λ d x. (fetch d (word_at h.code) x).machine) h (machine_of (record h { fetch_unit = fetch_unit })) v
+    (f (machine_of h) ∙ ap (λ d. (fetch d (word_at h.code) (machine_of h)).machine) (ap (λ (s : Sizes). s.fetch_unit) w.made)) s
     ∙ ap (λ (t : Described). record v { machine = (fetch v.desc (word_at t.code) v.machine).machine }) s
 
 pub fetch_row : (h : Held) (v : Described) (old new : Row) → Whole h →
-    ((x : Machine) → new ≡ record old { events = old.events ++ (fetching.fetches (word_at h.code) h.front h.tables x).events }) → described h ≡ v →
+    ((x : Machine) → new ≡ record old { events = old.events ++ (fetching.fetches (word_at h.code) h.fetch_unit h.tables x).events }) → described h ≡ v →
     new ≡ record old { events = old.events ++ (fetch v.desc (word_at v.code) v.machine).events }
 fetch_row h v old new w f s =
     let by_desc : Desc → Row = λ d. record old { events = old.events ++ (fetch d (word_at h.code) (machine_of h)).events } in
     let by_state : Described → Row = λ v. record old { events = old.events ++ (fetch v.desc (word_at v.code) v.machine).events } in
-    f (machine_of h) ∙ ap by_desc (ap (λ (s : Sizes). s.front) w.made) ∙ ap by_state s
+    f (machine_of h) ∙ ap by_desc (ap (λ (s : Sizes). s.fetch_unit) w.made) ∙ ap by_state s

@@ -21,7 +21,7 @@ use Rattle.rename_taint.specs.Writes.{before_serial}
 use Rattle.stations.specs.Stations.{Stations}
 use Rattle.lsq.specs.Queues.{Queues}
 use Rattle.unit_ports.specs.Ports.{Ports}
-use Rattle.fetch_unit.specs.Front.{Front}
+use Rattle.fetch_unit.specs.Unit.{FetchUnit}
 use Rattle.visibility.specs.Point.{Point}
 use Rattle.window_model.proofs.Serials.{all_at, splits}
 use Rattle.core_parts.specs.Described.{Described}
@@ -52,7 +52,7 @@ sized_dropped d x a b pc v e s =
 
 -- ---- what each part is left with
 
-pub record Dropped (h : Held) (serial : ℕ) (next : Option ℕ) (rob : Ring) (sources : Buffer Sources) (writes : List Write) (room : ℕ) (stations : Stations) (q : Queues) (ports : Ports) (front : Front) : Type 0 where
+pub record Dropped (h : Held) (serial : ℕ) (next : Option ℕ) (rob : Ring) (sources : Buffer Sources) (writes : List Write) (room : ℕ) (stations : Stations) (q : Queues) (ports : Ports) (fetch_unit : FetchUnit) : Type 0 where
   pub window : rob ≡ record (h.rob) { entries = below (serial + 1) h.rob.entries }
   pub beside : sources ≡ buffer (take (length rob.entries) h.sources.items) h.sources.capacity
   pub table : writes ≡ before_serial (serial + 1) h.writes
@@ -60,7 +60,7 @@ pub record Dropped (h : Held) (serial : ℕ) (next : Option ℕ) (rob : Ring) (s
   pub places : stations ≡ record (h.stations) { held = filter (λ s. nat_lt s.serial (serial + 1)) h.stations.held }
   pub loads_and_stores : q ≡ record (h.queues) { loads = filter (λ l. nat_lt l (serial + 1)) h.queues.loads; stores = filter (λ s. nat_lt s.serial (serial + 1)) h.queues.stores }
   pub divider : ports ≡ record (h.ports) { divider = freed_from (serial + 1) h.ports.divider }
-  pub fetches : front ≡ record (h.front) { queue = []; fetch_pc = next }
+  pub fetches : fetch_unit ≡ record (h.fetch_unit) { queue = []; fetch_pc = next }
 
 -- all parts, so cut
 abbrev pub dropped : Held → ℕ → Option ℕ → Held
@@ -71,7 +71,7 @@ dropped h serial next = record h {
   stations = record (h.stations) { held = filter (λ s. nat_lt s.serial (serial + 1)) h.stations.held };
   queues = record (h.queues) { loads = filter (λ l. nat_lt l (serial + 1)) h.queues.loads; stores = filter (λ s. nat_lt s.serial (serial + 1)) h.queues.stores };
   ports = record (h.ports) { divider = freed_from (serial + 1) h.ports.divider };
-  front = record (h.front) { queue = []; fetch_pc = next };
+  fetch_unit = record (h.fetch_unit) { queue = []; fetch_pc = next };
 }
 
 dropped_whole : (h : Held) (serial : ℕ) (next : Option ℕ) → Whole h → StopsAt serial h.point h.rob.entries → Whole (dropped h serial next)
@@ -85,9 +85,9 @@ dropped_whole h serial next w s =
       made = w.made;
     }
 
-module _ (h : Held) (serial : ℕ) (next : Option ℕ) (rob : Ring) (sources : Buffer Sources) (writes : List Write) (room : ℕ) (stations : Stations) (q : Queues) (ports : Ports) (front : Front)
-    (w : Whole h) (l : Dropped h serial next rob sources writes room stations q ports front) where
-  are : record h { rob = rob; sources = sources; writes = writes; table_room = room; stations = stations; queues = q; ports = ports; front = front } ≡ dropped h serial next
+module _ (h : Held) (serial : ℕ) (next : Option ℕ) (rob : Ring) (sources : Buffer Sources) (writes : List Write) (room : ℕ) (stations : Stations) (q : Queues) (ports : Ports) (fetch_unit : FetchUnit)
+    (w : Whole h) (l : Dropped h serial next rob sources writes room stations q ports fetch_unit) where
+  are : record h { rob = rob; sources = sources; writes = writes; table_room = room; stations = stations; queues = q; ports = ports; fetch_unit = fetch_unit } ≡ dropped h serial next
   are =
       let e1 = l.window in
       let e2 = l.beside in
@@ -100,11 +100,11 @@ module _ (h : Held) (serial : ℕ) (next : Option ℕ) (rob : Ring) (sources : B
       let n = ap (λ (r : Ring). length r.entries) l.window in
       cc
 
-  pub drop_whole : StopsAt serial h.point h.rob.entries → Whole (record h { rob = rob; sources = sources; writes = writes; table_room = room; stations = stations; queues = q; ports = ports; front = front })
+  pub drop_whole : StopsAt serial h.point h.rob.entries → Whole (record h { rob = rob; sources = sources; writes = writes; table_room = room; stations = stations; queues = q; ports = ports; fetch_unit = fetch_unit })
   drop_whole s = subst Whole (sym are) (dropped_whole h serial next w s)
 
   pub drop_shown : (v : Described) → described h ≡ v →
-      described (record h { rob = rob; sources = sources; writes = writes; table_room = room; stations = stations; queues = q; ports = ports; front = front })
+      described (record h { rob = rob; sources = sources; writes = writes; table_room = room; stations = stations; queues = q; ports = ports; fetch_unit = fetch_unit })
       ≡ record v { machine = cut_after serial next v.machine }
   drop_shown v s =
       ap described are
@@ -123,7 +123,7 @@ pub stops_here : (h : Held) (v : Described) (serial : ℕ) → Whole h → descr
 stops_here h v serial w s t = subst (λ (v : Described). StopsAt serial v.point v.machine.window) (sym s) t
 
 -- all of them can be counted
-pub few_dropped : (h : Held) → Whole h → length h.rob.entries + length h.front.queue < 2 ^ 32
+pub few_dropped : (h : Held) → Whole h → length h.rob.entries + length h.fetch_unit.queue < 2 ^ 32
 few_dropped h w =
     let a = w.sized.entries in
     let b = w.sized.queue in

@@ -18,7 +18,7 @@ use Rattle.cache_tags.specs.Sets.{Cache}
 use Rattle.mshr_file.specs.Registers.{Registers}
 use Rattle.unit_ports.specs.Ports.{Ports}
 use Rattle.predictor.specs.Tables.{Tables}
-use Rattle.fetch_unit.specs.Front.{Front}
+use Rattle.fetch_unit.specs.Unit.{FetchUnit}
 use Rattle.visibility.specs.Point.{Point}
 use Rattle.core_parts.specs.Described.{Described}
 use Rattle.core_parts.specs.Stands.{InFlight, Stands}
@@ -43,7 +43,7 @@ pub record Held : Type 0 where
   pub mshrs : Registers
   pub ports : Ports
   pub tables : Tables
-  pub front : Front
+  pub fetch_unit : FetchUnit
   pub point : Point
   pub retired : ℕ
   pub next_serial : ℕ
@@ -57,8 +57,8 @@ machine_of h = record {
   pc = h.pc;
   ram = h.ram;
   window = h.rob.entries;
-  queue = h.front.queue;
-  fetch_pc = h.front.fetch_pc;
+  queue = h.fetch_unit.queue;
+  fetch_pc = h.fetch_unit.fetch_pc;
   counters = h.tables.counters;
   targets = h.tables.targets;
   cache = h.tags.sets;
@@ -96,7 +96,7 @@ pub record Sizes : Type 0 where
   pub registers : ℕ
   pub tags : Desc
   pub tables : Desc
-  pub front : Desc
+  pub fetch_unit : Desc
   pub alus : ℕ
   pub model : SttModel
 
@@ -111,7 +111,7 @@ sizes h = record {
   registers = h.mshrs.room;
   tags = h.tags.desc;
   tables = h.tables.desc;
-  front = h.front.desc;
+  fetch_unit = h.fetch_unit.desc;
   alus = h.ports.alus;
   model = h.point.model;
 }
@@ -128,7 +128,7 @@ sizes_for d = record {
   registers = d.cache_mshrs;
   tags = d;
   tables = d;
-  front = d;
+  fetch_unit = d;
   alus = d.units_alus;
   model = d.stt_model;
 }

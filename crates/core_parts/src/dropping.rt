@@ -14,7 +14,7 @@ impl<R: RenameTaint> Parts<R> {
         ensures dropped { result ≡ younger_count serial self.old.machine }
         ensures left { self.new ≡ record self.old { machine = cut_after serial next self.old.machine } }
     {
-        let items = self.front.redirect(next);
+        let items = self.fetch_unit.redirect(next);
         let entries = squash_after(
             serial + 1,
             &mut self.rob,

@@ -15,6 +15,6 @@ impl<R: RenameTaint> Parts<R> {
         ensures row { row.new ≡ with_events row.old (fetch_of self.old).events }
         ensures few { IsLonger most_fetched row.old row.new }
     {
-        self.front.fetch(&self.code, &self.predictor, row);
+        self.fetch_unit.fetch(&self.code, &self.predictor, row);
     }
 }

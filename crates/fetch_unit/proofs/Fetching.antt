@@ -12,28 +12,28 @@ use Rattle.window_model.specs.Row.{Row}
 use Rattle.window_model.specs.Resolve.{with_predictor}
 use Rattle.window_model.specs.Fetch.{fetch, fetch_up_to, fetch_from, fetch_one, item_at}
 use Rattle.predictor.specs.Tables.{Tables}
-use Rattle.fetch_unit.specs.Front.{Front, with_front, fetches, next_fetch}
+use Rattle.fetch_unit.specs.Unit.{FetchUnit, with_unit, fetches, next_fetch}
 
 -- the events so far, before those of what follows
 abbrev pub behind : List Event → After → After
 behind es a = record { machine = a.machine; events = es ++ a.events }
 
 -- the front, after this item has come
-abbrev pub with_item : Front → Item → Front
+abbrev pub with_item : FetchUnit → Item → FetchUnit
 with_item f item = record f { queue = f.queue ++ item ∷ []; fetch_pc = item.predicted }
 
 -- at most n items more make the whole phase
-pub record FetchesOn (code : Code) (t : Tables) (first : Front) (row : Row) (n : ℕ) (f : Front) (now : Row) : Type 0 where
-  pub whole : (x : Machine) → behind now.events (fetch_up_to first.desc code n (with_front f t x)) ≡ behind row.events (fetches code first t x)
+pub record FetchesOn (code : Code) (t : Tables) (first : FetchUnit) (row : Row) (n : ℕ) (f : FetchUnit) (now : Row) : Type 0 where
+  pub whole : (x : Machine) → behind now.events (fetch_up_to first.desc code n (with_unit f t x)) ≡ behind row.events (fetches code first t x)
   pub desc : f.desc ≡ first.desc
   pub cycle : now.cycle ≡ row.cycle
   pub few : length now.events + n ≤ length row.events + first.desc.core_fetch_width
 
-pub fetches_start : (code : Code) (t : Tables) (f : Front) (row : Row) → FetchesOn code t f row (f.desc.core_fetch_width - 0) f row
+pub fetches_start : (code : Code) (t : Tables) (f : FetchUnit) (row : Row) → FetchesOn code t f row (f.desc.core_fetch_width - 0) f row
 unfolding fetch
 fetches_start code t f row =
     let e : f.desc.core_fetch_width - 0 ≡ f.desc.core_fetch_width = omega arith in
-    record { whole = λ x. ap (λ n. behind row.events (fetch_up_to f.desc code n (with_front f t x))) e; desc = refl; cycle = refl; few = omega arith }
+    record { whole = λ x. ap (λ n. behind row.events (fetch_up_to f.desc code n (with_unit f t x))) e; desc = refl; cycle = refl; few = omega arith }
 
 -- ---- one item
 
@@ -53,7 +53,7 @@ one_behind d code n x pc es r p =
     let a = fetch_up_to d code n (fetch_one d (item_at d code x pc) x).machine in
     ap (λ es. record { machine = a.machine; events = es }) (append_assoc es (event.Fet pc ∷ []) a.events) ∙ sym (ap (behind es) (one_more d code n x pc r p))
 
-pub fetches_more : (code : Code) (t : Tables) (first : Front) (row : Row) (i : ℕ) (f : Front) (now : Row) (pc : ℕ) (item : Item) (f2 : Front) (now2 : Row) →
+pub fetches_more : (code : Code) (t : Tables) (first : FetchUnit) (row : Row) (i : ℕ) (f : FetchUnit) (now : Row) (pc : ℕ) (item : Item) (f2 : FetchUnit) (now2 : Row) →
     FetchesOn code t first row (first.desc.core_fetch_width - i) f now → i < first.desc.core_fetch_width → next_fetch f ≡ Some pc → t.desc ≡ first.desc →
     ((x : Machine) → item ≡ item_at t.desc code (with_predictor x t.counters t.targets) pc) → f2 ≡ with_item f item → now2 ≡ record now { events = now.events ++ event.Fet pc ∷ [] } →
     FetchesOn code t first row (first.desc.core_fetch_width - (i + 1)) f2 now2
@@ -66,14 +66,14 @@ fetches_more code t first row i f now pc item f2 now2 s lt q same h e r =
     let es : now2.events ≡ now.events ++ event.Fet pc ∷ [] = ap (λ (r : Row). r.events) r in
     record {
       whole = λ x.
-          let y = with_front f t x in
+          let y = with_unit f t x in
           let own : item ≡ item_at d code y pc = h x ∙ ap (λ (d : Desc). item_at d code y pc) same in
-          ap (λ es. behind es (fetch_up_to d code k (with_front f2 t x))) es
-          ∙ ap (λ f. behind (now.events ++ event.Fet pc ∷ []) (fetch_up_to d code k (with_front f t x))) (e ∙ ap (with_item f) own)
+          ap (λ es. behind es (fetch_up_to d code k (with_unit f2 t x))) es
+          ∙ ap (λ f. behind (now.events ++ event.Fet pc ∷ []) (fetch_up_to d code k (with_unit f t x))) (e ∙ ap (with_item f) own)
           ∙ one_behind d code k y pc now.events room a.1
           ∙ ap (λ n. behind now.events (fetch_up_to d code n y)) (sym n)
           ∙ s.whole x;
-      desc = ap (λ (f : Front). f.desc) e ∙ s.desc;
+      desc = ap (λ (f : FetchUnit). f.desc) e ∙ s.desc;
       cycle = ap (λ (r : Row). r.cycle) r ∙ s.cycle;
       few = (let l = ap length es in let l2 = length-append now.events (event.Fet pc ∷ []) in omega (arith, l, l2, s.few, n));
     }
@@ -90,25 +90,25 @@ no_more d code (suc n) x (Some pc) false p r h =
     ∙ ap (λ b. if b then then_does (fetch_one d (item_at d code x pc) x) (fetch_up_to d code n) else nothing x) r
 
 -- nothing is left to fetch
-pub record Over (code : Code) (t : Tables) (first : Front) (begun : Row) (f : Front) (now : Row) : Type 0 where
-  pub front : (x : Machine) → with_front f t x ≡ (fetches code first t x).machine
+pub record Over (code : Code) (t : Tables) (first : FetchUnit) (begun : Row) (f : FetchUnit) (now : Row) : Type 0 where
+  pub machine : (x : Machine) → with_unit f t x ≡ (fetches code first t x).machine
   pub row : (x : Machine) → now ≡ record begun { events = begun.events ++ (fetches code first t x).events }
   pub desc : f.desc ≡ first.desc
   pub few : length now.events ≤ length begun.events + first.desc.core_fetch_width
 
-over : (code : Code) (t : Tables) (first : Front) (row : Row) (n : ℕ) (f : Front) (now : Row) →
-    ((x : Machine) → fetch_up_to first.desc code n (with_front f t x) ≡ nothing (with_front f t x)) → FetchesOn code t first row n f now → Over code t first row f now
+over : (code : Code) (t : Tables) (first : FetchUnit) (row : Row) (n : ℕ) (f : FetchUnit) (now : Row) →
+    ((x : Machine) → fetch_up_to first.desc code n (with_unit f t x) ≡ nothing (with_unit f t x)) → FetchesOn code t first row n f now → Over code t first row f now
 over code t first row n f now h s =
-    let both : (x : Machine) → record { machine = with_front f t x; events = now.events } ≡ behind row.events (fetches code first t x) =
-    λ x. ap (λ es. record { machine = with_front f t x; events = es }) (sym (append-nil now.events)) ∙ sym (ap (behind now.events) (h x)) ∙ s.whole x in
+    let both : (x : Machine) → record { machine = with_unit f t x; events = now.events } ≡ behind row.events (fetches code first t x) =
+    λ x. ap (λ es. record { machine = with_unit f t x; events = es }) (sym (append-nil now.events)) ∙ sym (ap (behind now.events) (h x)) ∙ s.whole x in
     record {
-      front = λ x. ap (λ (a : After). a.machine) (both x);
+      machine = λ x. ap (λ (a : After). a.machine) (both x);
       row = λ x. ap (λ c. record { cycle = c; events = now.events }) s.cycle ∙ ap (λ (a : After). record { cycle = row.cycle; events = a.events }) (both x);
       desc = s.desc;
       few = omega (arith, s.few);
     }
 
-pub over_early : (code : Code) (t : Tables) (first : Front) (row : Row) (n : ℕ) (f : Front) (now : Row) → FetchesOn code t first row n f now → next_fetch f ≡ None → Over code t first row f now
+pub over_early : (code : Code) (t : Tables) (first : FetchUnit) (row : Row) (n : ℕ) (f : FetchUnit) (now : Row) → FetchesOn code t first row n f now → next_fetch f ≡ None → Over code t first row f now
 over_early code t first row n f now s q =
     let room = ap (λ (d : Desc). nat_lt (length f.queue) d.core_queue) (sym s.desc) in
-    over code t first row n f now (λ x. no_more first.desc code n (with_front f t x) f.fetch_pc (nat_lt (length f.queue) f.desc.core_queue) refl room q) s
+    over code t first row n f now (λ x. no_more first.desc code n (with_unit f t x) f.fetch_pc (nat_lt (length f.queue) f.desc.core_queue) refl room q) s

@@ -3,7 +3,7 @@ ghost use Rattle.std.specs.Prelude.{◌≡◌, ◌<◌, ◌++◌, ◌∷◌, [],
 ghost use Rattle.elf_loader.specs.Code.{word_at};
 ghost use Rattle.window_model.specs.Row.{HasRoom, IsLonger, most_fetched, with_events};
 ghost use Rattle.window_model.specs.State.{Machine};
-ghost use Rattle.fetch_unit.specs.Front.{with_front, fetches, next_fetch};
+ghost use Rattle.fetch_unit.specs.Unit.{with_unit, fetches, next_fetch};
 
 use crate::item::item_at;
 use circular_buffer::HeapCircularBuffer;
@@ -26,11 +26,11 @@ pub struct Fetch {
 
 impl Model for Fetch {
     ghost use Rattle.std.specs.Prelude.{◌≡◌, ◌≤◌, length};
-    ghost use Rattle.fetch_unit.specs.Front.{Front, front_code};
+    ghost use Rattle.fetch_unit.specs.Unit.{FetchUnit, unit_code};
 
-    ghost Value = { Front };
+    ghost Value = { FetchUnit };
 
-    ghost coded = { front_code };
+    ghost coded = { unit_code };
 
     ghost view = { λ f. record { desc = f.desc; queue = f.queue.items; fetch_pc = f.fetch_pc } };
 
@@ -56,7 +56,7 @@ impl Fetch {
     pub fn fetch(&mut self, code: &Code, predictor: &Predictor, row: &mut Row)
         requires room { HasRoom most_fetched row.old }
         requires one_description { predictor.now.desc ≡ self.old.desc }
-        ensures front { (x : Machine) → with_front self.new predictor.now x
+        ensures machine { (x : Machine) → with_unit self.new predictor.now x
             ≡ (fetches (word_at code.now) self.old predictor.now x).machine }
         ensures row { (x : Machine) → row.new
             ≡ with_events row.old (fetches (word_at code.now) self.old predictor.now x).events }

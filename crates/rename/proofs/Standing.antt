@@ -18,7 +18,7 @@ use Rattle.rename_taint.specs.declared.Write.{Write}
 use Rattle.rename_taint.specs.Writes.{root_at}
 use Rattle.stations.specs.Stations.{Stations}
 use Rattle.lsq.specs.Queues.{Queues}
-use Rattle.fetch_unit.specs.Front.{Front}
+use Rattle.fetch_unit.specs.Unit.{FetchUnit}
 use Rattle.queue_laws.proofs.Renaming.{room_is}
 use Rattle.parts_stand.specs.Addresses.{base_root}
 use Rattle.parts_stand.specs.Parts.{awaits_of, write_of}
@@ -53,9 +53,9 @@ pub record HasRoomFor (h : Held) (e : Entry) : Type 0 where
   pub load : is_load e.item.kind ≡ true → length h.queues.loads < h.queues.max_loads
   pub store : is_store e.item.kind ≡ true → length h.queues.stores < h.queues.max_stores
 
-pub room_for : (h : Held) (item : Item) → Whole h → fitting h.desc h.rob.entries (slice_get h.front.queue 0) ≡ Some item → HasRoomFor h (renamed h.next_serial item)
+pub room_for : (h : Held) (item : Item) → Whole h → fitting h.desc h.rob.entries (slice_get h.fetch_unit.queue 0) ≡ Some item → HasRoomFor h (renamed h.next_serial item)
 room_for h item w q =
-    let f = fits_all h.desc h.rob.entries item (fitting_is h.desc h.rob.entries (slice_get h.front.queue 0) item q).1 in
+    let f = fits_all h.desc h.rob.entries item (fitting_is h.desc h.rob.entries (slice_get h.fetch_unit.queue 0) item q).1 in
     let c = counts_room _ w.stands.stand in
     let n = each_has_sources h w in
     let k = room_is h.queues h.rob.entries w.stands.queues in
@@ -85,14 +85,14 @@ abbrev pub sources_at : List Write → Entry → Sources
 sources_at writes e = record { roots = roots_at writes e; writers = writers_at writes e }
 
 -- an entry has come in, with the next serial
-pub record Entered (e : Entry) (h : Held) (rob : Ring) (beside : Buffer Sources) (writes : List Write) (room : ℕ) (stations : Stations) (q : Queues) (front : Front) : Type 0 where
+pub record Entered (e : Entry) (h : Held) (rob : Ring) (beside : Buffer Sources) (writes : List Write) (room : ℕ) (stations : Stations) (q : Queues) (fetch_unit : FetchUnit) : Type 0 where
   pub window : rob ≡ record (h.rob) { entries = h.rob.entries ++ e ∷ [] }
   pub sources : beside ≡ buffer (h.sources.items ++ sources_at h.writes e ∷ []) h.sources.capacity
   pub table : writes ≡ h.writes ++ option_to_list (write_of e (roots_at h.writes e))
   pub same_room : room ≡ h.table_room
   pub places : (place : ℕ) × (stations ≡ record (h.stations) { held = seated place (awaits_of (reverse h.rob.entries) e) e h.stations.held })
   pub loads_and_stores : q ≡ queued e.item.kind e.serial (base_root (roots_at h.writes e)) h.queues
-  pub fetched : front ≡ record (h.front) { queue = drop 1 h.front.queue }
+  pub fetched : fetch_unit ≡ record (h.fetch_unit) { queue = drop 1 h.fetch_unit.queue }
 
 -- all parts, with it
 abbrev entered : ℕ → Entry → Held → Held
@@ -102,7 +102,7 @@ entered place e h = record h {
   writes = h.writes ++ option_to_list (write_of e (roots_at h.writes e));
   stations = record (h.stations) { held = seated place (awaits_of (reverse h.rob.entries) e) e h.stations.held };
   queues = queued e.item.kind e.serial (base_root (roots_at h.writes e)) h.queues;
-  front = record (h.front) { queue = drop 1 h.front.queue };
+  fetch_unit = record (h.fetch_unit) { queue = drop 1 h.fetch_unit.queue };
   next_serial = h.next_serial + 1;
 }
 
@@ -132,19 +132,19 @@ pub first_rest : (q : List Item) (item : Item) → slice_get q 0 ≡ Some item �
 first_rest [] item h = absurd (cc)
 first_rest (x ∷ q) item h = cc
 
-entered_whole : (h : Held) (item : Item) (place : ℕ) → Whole h → fitting h.desc h.rob.entries (slice_get h.front.queue 0) ≡ Some item → Whole (entered place (renamed h.next_serial item) h)
+entered_whole : (h : Held) (item : Item) (place : ℕ) → Whole h → fitting h.desc h.rob.entries (slice_get h.fetch_unit.queue 0) ≡ Some item → Whole (entered place (renamed h.next_serial item) h)
 entered_whole h item place w q =
     let e = renamed h.next_serial item in
-    let found = fitting_is h.desc h.rob.entries (slice_get h.front.queue 0) item q in
+    let found = fitting_is h.desc h.rob.entries (slice_get h.fetch_unit.queue 0) item q in
     record {
-      sized = rename_item h.desc (machine_of h) item (drop 1 h.front.queue) (first_rest h.front.queue item found.0) found.1 w.sized;
+      sized = rename_item h.desc (machine_of h) item (drop 1 h.fetch_unit.queue) (first_rest h.fetch_unit.queue item found.0) found.1 w.sized;
       stands = stands_renamed (in_flight h) e (sources_at h.writes e) (awaits_of (reverse h.rob.entries) e) place w.stands (record { serial = refl; unresolved = refl; waits = waits item.kind }) refl refl refl;
       made = entered_sizes h place e ∙ w.made;
     }
 
-module _ (h : Held) (item : Item) (rob : Ring) (beside : Buffer Sources) (writes : List Write) (room : ℕ) (stations : Stations) (q : Queues) (front : Front) (next : ℕ) (w : Whole h)
-    (g : Entered (renamed h.next_serial item) h rob beside writes room stations q front) (n : next ≡ h.next_serial + 1) where
-  are : record h { rob = rob; sources = beside; writes = writes; table_room = room; stations = stations; queues = q; front = front; next_serial = next } ≡ entered g.places.0 (renamed h.next_serial item) h
+module _ (h : Held) (item : Item) (rob : Ring) (beside : Buffer Sources) (writes : List Write) (room : ℕ) (stations : Stations) (q : Queues) (fetch_unit : FetchUnit) (next : ℕ) (w : Whole h)
+    (g : Entered (renamed h.next_serial item) h rob beside writes room stations q fetch_unit) (n : next ≡ h.next_serial + 1) where
+  are : record h { rob = rob; sources = beside; writes = writes; table_room = room; stations = stations; queues = q; fetch_unit = fetch_unit; next_serial = next } ≡ entered g.places.0 (renamed h.next_serial item) h
   are =
       let e1 = g.window in
       let e2 = g.sources in
@@ -155,11 +155,11 @@ module _ (h : Held) (item : Item) (rob : Ring) (beside : Buffer Sources) (writes
       let e8 = g.fetched in
       cc
 
-  pub enter_whole : fitting h.desc h.rob.entries (slice_get h.front.queue 0) ≡ Some item →
-      Whole (record h { rob = rob; sources = beside; writes = writes; table_room = room; stations = stations; queues = q; front = front; next_serial = next })
+  pub enter_whole : fitting h.desc h.rob.entries (slice_get h.fetch_unit.queue 0) ≡ Some item →
+      Whole (record h { rob = rob; sources = beside; writes = writes; table_room = room; stations = stations; queues = q; fetch_unit = fetch_unit; next_serial = next })
   enter_whole f = subst Whole (sym are) (entered_whole h item g.places.0 w f)
 
   pub enter_shown : (v : Described) → described h ≡ v →
-      described (record h { rob = rob; sources = beside; writes = writes; table_room = room; stations = stations; queues = q; front = front; next_serial = next })
+      described (record h { rob = rob; sources = beside; writes = writes; table_room = room; stations = stations; queues = q; fetch_unit = fetch_unit; next_serial = next })
       ≡ record v { machine = with_oldest v.desc item v.machine }
   enter_shown v s = ap described are ∙ ap (λ (v : Described). record v { machine = with_oldest v.desc item v.machine }) s

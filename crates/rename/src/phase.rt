@@ -47,7 +47,7 @@ fn enter_next<R: RenameTaint>(parts: &mut Parts<R>) -> Option<Item>
     ensures stays { result ≡ None → parts.new ≡ parts.old }
 {
     let Some(item) = take_fitting(
-        &mut parts.front,
+        &mut parts.fetch_unit,
         &parts.desc,
         &parts.rob,
         &parts.stations,
@@ -71,7 +71,7 @@ fn enter_next<R: RenameTaint>(parts: &mut Parts<R>) -> Option<Item>
 // Takes the oldest fetched item out of the queue and answers it. None where there is none or it can't go into the window; nothing
 // changes then.
 fn take_fitting(
-    front: &mut Fetch,
+    fetch_unit: &mut Fetch,
     desc: &Desc,
     rob: &RobRing,
     stations: &Stations,
@@ -79,19 +79,19 @@ fn take_fitting(
 ) -> Option<Item>
     requires call_alone { CallAlone rob.now.entries }
     requires counted { Counted desc.now rob.now.entries stations.now lsq.now }
-    ensures item { result ≡ fitting desc.now rob.now.entries (slice_get front.old.queue 0) }
-    ensures taken { IfSome result (λ item. front.new ≡ record front.old { queue = drop 1 front.old.queue }) }
-    ensures stays { result ≡ None → front.new ≡ front.old }
+    ensures item { result ≡ fitting desc.now rob.now.entries (slice_get fetch_unit.old.queue 0) }
+    ensures taken { IfSome result (λ item. fetch_unit.new ≡ record fetch_unit.old { queue = drop 1 fetch_unit.old.queue }) }
+    ensures stays { result ≡ None → fetch_unit.new ≡ fetch_unit.old }
 {
-    if !is_next_fitting(front, desc, rob, stations, lsq) {
+    if !is_next_fitting(fetch_unit, desc, rob, stations, lsq) {
         return None;
     }
-    front.take()
+    fetch_unit.take()
 }
 
 // Whether there is a fetched item and the oldest can go into the window. It is looked at where it stands.
 fn is_next_fitting(
-    front: &Fetch,
+    fetch_unit: &Fetch,
     desc: &Desc,
     rob: &RobRing,
     stations: &Stations,
@@ -99,9 +99,9 @@ fn is_next_fitting(
 ) -> bool
     requires call_alone { CallAlone rob.now.entries }
     requires counted { Counted desc.now rob.now.entries stations.now lsq.now }
-    ensures { result ≡ is_some (fitting desc.now rob.now.entries (slice_get front.now.queue 0)) }
+    ensures { result ≡ is_some (fitting desc.now rob.now.entries (slice_get fetch_unit.now.queue 0)) }
 {
-    match front.front() {
+    match fetch_unit.front() {
         Some(item) => fits(&item, desc, rob, stations, lsq),
         None => false,
     }

@@ -12,7 +12,7 @@ use Rattle.window_model.specs.declared.Entry.{Entry}
 use Rattle.window_model.specs.Rename.{is_call, CallAlone, calls}
 use Rattle.window_model.specs.Order.{is_store, is_done}
 use Rattle.window_model.specs.Retire.{Retired, retire, turns, head_leaves, stays, trap_as, addr_of, width_of}
-use Rattle.window_model.specs.Row.{Row}
+use Rattle.window_model.specs.Row.{Row, with_events}
 use Rattle.window_model.specs.Shape.{SameShape}
 use Rattle.window_model.specs.State.{Machine, opening}
 use Rattle.window_model.proofs.Booleans.{both}
@@ -25,7 +25,7 @@ use Rattle.rename_taint.specs.Writes.{without_retired}
 use Rattle.lsq.specs.Queues.{Queues}
 use Rattle.cache_tags.specs.Sets.{Cache}
 use Rattle.retire.specs.declared.turn.Turn.TheVariants.{Waits, Traps}
-use Rattle.retire.specs.Parts.{IsLeft, PrintsHead, TakesStore, TellsHead, with_effects, with_parts, counted, head_retires, retires}
+use Rattle.retire.specs.Parts.{IsLeft, PrintsHead, TakesStore, TellsHead, with_effects, with_parts, counted, head_retires, head_told, lines_moved, retires}
 use Rattle.retire.specs.Turn.{Goes, turn_at}
 use Rattle.retire.specs.Gone.{gone, MayRetire, without_each, without, popped}
 use Rattle.retire.proofs.Quiet.{quiet}
@@ -119,12 +119,22 @@ pub record HeadLeft (d : Desc) (s : Parts) (e : Entry) (end : Option End) (s2 : 
   pub table : s2.writes ≡ without_retired e.serial s.writes
   pub table_room : s2.table_room ≡ s.table_room
   pub queues : s2.queues ≡ without e.serial s.queues
-  pub state : IsLeft (head_retires d e s.tags s.ram s.regs s.pc) s2.tags s2.ram s2.regs s2.pc end
-  pub row : TellsHead (head_retires d e s.tags s.ram s.regs s.pc) s.row s2.row
+  pub state : IsLeft (head_retires d e s.tags s.ram s.regs s.pc) (lines_moved e.item.kind d e s.tags) s2.ram s2.regs s2.pc end
+  pub tags : s2.tags ≡ lines_moved e.item.kind d e s.tags
+  pub told : TellsHead (head_retires d e s.tags s.ram s.regs s.pc) (head_told e.item.kind d s.tags e (length s2.piece))
+  pub row : s2.row ≡ with_events s.row (head_told e.item.kind d s.tags e (length s2.piece))
   pub piece : PrintsHead (head_retires d e s.tags s.ram s.regs s.pc) s2.piece
   pub desc : s2.tags.desc ≡ s.tags.desc
   pub shape : SameShape s.ram s2.ram
   pub few : length s2.row.events ≤ length s.row.events + 2
+
+-- the machine's parts, and its row, are then the definition's
+module _ (d : Desc) (s : Parts) (e : Entry) (end : Option End) (s2 : Parts) (g : HeadLeft d s e end s2) where
+  state_left : IsLeft (head_retires d e s.tags s.ram s.regs s.pc) s2.tags s2.ram s2.regs s2.pc end
+  state_left = subst (λ t. IsLeft (head_retires d e s.tags s.ram s.regs s.pc) t s2.ram s2.regs s2.pc end) (sym g.tags) g.state
+
+  row_left : (x : Machine) (rest : List Entry) → s2.row ≡ with_events s.row (head_retires d e s.tags s.ram s.regs s.pc x rest).events
+  row_left x rest = g.row ∙ ap (with_events s.row) (g.told x rest)
 
 drop_head : (w rest : List Entry) (e : Entry) → w ≡ e ∷ rest → drop 1 w ≡ rest
 drop_head w rest e h = ap (drop 1) h
@@ -140,7 +150,7 @@ left_more d s0 s s2 went rest e end h g w m x =
       table_room = g.table_room ∙ h.table_room;
       queues = g.queues ∙ ap (without e.serial) h.queues ∙ sym (popped_more went e s0.queues);
       desc = g.desc ∙ h.desc;
-      cycle = ap (λ (r : Row). r.cycle) (g.row x rest) ∙ h.cycle;
+      cycle = ap (λ (r : Row). r.cycle) (row_left d s e end s2 g x rest) ∙ h.cycle;
     }
 
 -- a machine after the head, counted
@@ -157,9 +167,9 @@ one_more d n stored s s2 went rest e end t w p g x =
     let y : Machine = record x { window = s.rob.entries; retired = x.retired + length went } in
     let r = head_leaves e.item.kind d e rest (standing s (length went) None x) in
     let after : s2.rob.entries ≡ rest = ap (λ (r : Ring). r.entries) g.rob ∙ drop_head s.rob.entries rest e w in
-    let m : standing s2 (length (went ++ e ∷ [])) end x ≡ r.machine = sym (counted_more s2 went rest e end x after) ∙ g.state y rest in
+    let m : standing s2 (length (went ++ e ∷ [])) end x ≡ r.machine = sym (counted_more s2 went rest e end x after) ∙ state_left d s e end s2 g y rest in
     let more = turns d n (stored || is_store e.item.kind) r.machine in
-    let es : s2.row.events ≡ s.row.events ++ r.events = ap (λ (r : Row). r.events) (g.row y rest) in
+    let es : s2.row.events ≡ s.row.events ++ r.events = ap (λ (r : Row). r.events) (row_left d s e end s2 g y rest) in
     let ps : s2.piece ++ more.piece ≡ s.piece ++ (r.piece ++ more.piece) = ap (λ p. p ++ more.piece) (g.piece y rest) ∙ sym (ap (λ p. p ++ (r.piece ++ more.piece)) p) in
     ap (λ y. behind s2 (turns d n (stored || is_store e.item.kind) y)) m
     ∙ ap (λ es. record { machine = more.machine; events = es; piece = s2.piece ++ more.piece }) (ap (λ es. es ++ more.events) es ∙ append_assoc s.row.events r.events more.events)
@@ -214,9 +224,10 @@ retires_head d s0 i stored s s2 e h lt t g =
       stores = subst (Each (TakesStore s2.ram)) (sym after) (each_then (TakesStore s.ram) (TakesStore s2.ram) (takes_over s.ram s2.ram g.shape) rest stores.1);
     }
 
-pub retires_more : (d : Desc) (s0 : Parts) (i : ℕ) (stored : Bool) (s s2 : Parts) (e : Entry) (stored2 : Bool) → RetiresOn d s0 (d.core_retire_width - i) stored s → i < d.core_retire_width → Goes stored s.rob.entries e → HeadLeft d s e None s2 →
-    stored2 ≡ (stored || is_store e.item.kind) → RetiresOn d s0 (d.core_retire_width - (i + 1)) stored2 s2
-retires_more d s0 i stored s s2 e stored2 h lt t g b = subst (λ b. RetiresOn d s0 (d.core_retire_width - (i + 1)) b s2) (sym b) (retires_head d s0 i stored s s2 e h lt t g)
+pub retires_more : (d : Desc) (s0 : Parts) (i : ℕ) (stored : Bool) (s s2 : Parts) (e : Entry) (stored2 : Bool) (o : Option End) → RetiresOn d s0 (d.core_retire_width - i) stored s → i < d.core_retire_width → Goes stored s.rob.entries e → HeadLeft d s e o s2 →
+    o ≡ None → stored2 ≡ (stored || is_store e.item.kind) → RetiresOn d s0 (d.core_retire_width - (i + 1)) stored2 s2
+retires_more d s0 i stored s s2 e stored2 o h lt t g n b =
+    subst (λ b. RetiresOn d s0 (d.core_retire_width - (i + 1)) b s2) (sym b) (retires_head d s0 i stored s s2 e h lt t (subst (λ o. HeadLeft d s e o s2) n g))
 
 -- a store that retires has its place in memory
 pub head_inside : (ram : Ram) (stored : Bool) (w : List Entry) (e : Entry) → Each (TakesStore ram) w → Goes stored w e → e.item.kind ≡ Store → store_fault ram (addr_of e.outcome) (width_of e) ≡ None
@@ -277,9 +288,10 @@ over_traps d s0 i stored s cause pc h r lt t =
     ∙ h.whole x) (omega (arith, h.few))
 
 -- it retires and ends the run
-pub over_ends : (d : Desc) (s0 : Parts) (i : ℕ) (stored : Bool) (s s2 : Parts) (e : Entry) (end : End) → RetiresOn d s0 (d.core_retire_width - i) stored s → Ready d s0 → i < d.core_retire_width → Goes stored s.rob.entries e → HeadLeft d s e (Some end) s2 →
-    Over d s0 (Some end) s2
-over_ends d s0 i stored s s2 e end h r lt t g =
+pub over_ends : (d : Desc) (s0 : Parts) (i : ℕ) (stored : Bool) (s s2 : Parts) (e : Entry) (o : Option End) (end : End) → RetiresOn d s0 (d.core_retire_width - i) stored s → Ready d s0 → i < d.core_retire_width → Goes stored s.rob.entries e →
+    HeadLeft d s e o s2 → o ≡ Some end → Over d s0 (Some end) s2
+over_ends d s0 i stored s s2 e o end h r lt t left ends =
+    let g = subst (λ o. HeadLeft d s e o s2) ends left in
     let head = head_at stored s.rob.entries e t in
     let rest = head.first.0 in
     let w = head.first.1 in

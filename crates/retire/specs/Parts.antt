@@ -1,13 +1,16 @@
 -- Phase Retire of a machine that stands in parts (docs/machine.md, "State", "Retire").
 use Rattle.std.specs.Prelude.{◌≡◌, ℕ, ◌+◌, true, List, [], ◌∷◌, map, Option, None}
+use Rattle.std.specs.List.{fold}
 use Rattle.rv_types.specs.Memory.{Ram, store_fault}
 use Rattle.rv_types.specs.declared.End.{End}
+use Rattle.rv_types.specs.declared.Kind.{Kind}
+use Rattle.rv_types.specs.declared.Kind.TheVariants.{Store, Call}
 use Rattle.machine_desc.specs.declared.Desc.{Desc}
 use Rattle.window_model.specs.declared.Entry.{Entry}
 use Rattle.window_model.specs.declared.Event.{Event}
 use Rattle.window_model.specs.declared.Event.TheVariants as event
 use Rattle.window_model.specs.Order.{is_done, is_store, fault_of}
-use Rattle.window_model.specs.Retire.{Retired, addr_of, has_line, head_leaves, lines_in, retire, width_of}
+use Rattle.window_model.specs.Retire.{Retired, addr_of, has_line, head_leaves, lines_in, retire, touched, width_of}
 use Rattle.window_model.specs.Row.{Row, with_events}
 use Rattle.window_model.specs.State.{Machine}
 use Rattle.rob_ring.specs.Ring.{Ring}
@@ -44,21 +47,24 @@ abbrev pub IsLeft : (Machine → List Entry → Retired) → Cache → Ram → L
 IsLeft head tags ram regs pc end = (x : Machine) (rest : List Entry) →
     record (with_effects tags ram regs pc end x) { window = rest; retired = x.retired + 1 } ≡ (head x rest).machine
 
--- the row has its events behind its own, whichever machine and entries these are
-abbrev pub TellsHead : (Machine → List Entry → Retired) → Row → Row → Type 0
-TellsHead head old new = (x : Machine) (rest : List Entry) → new ≡ with_events old (head x rest).events
+-- these are its events, whichever machine and entries these are
+abbrev pub TellsHead : (Machine → List Entry → Retired) → List Event → Type 0
+TellsHead head events = (x : Machine) (rest : List Entry) → events ≡ (head x rest).events
 
--- and the piece its bytes
+-- and its bytes are the piece
 abbrev pub PrintsHead : (Machine → List Entry → Retired) → List ℕ → Type 0
 PrintsHead head piece = (x : Machine) (rest : List Entry) → piece ≡ (head x rest).piece
 
--- the events of a store: that it retires, and each of its lines, with whether the cache has it
-abbrev pub store_told : Desc → Cache → Entry → List Event
-store_told d tags e = event.Ret e.serial ∷ map (λ line. event.St e.serial line (has_line d tags.sets line)) (lines_in d e)
+-- the cache once the head has retired: each line of a store moves to the front of its set, where the cache has it
+abbrev pub lines_moved : Kind → Desc → Entry → Cache → Cache
+lines_moved Store d e tags = record tags { sets = fold (touched d) tags.sets (lines_in d e) }
+lines_moved _ d e tags = tags
 
--- and of a call with so many bytes
-abbrev pub call_told : Entry → ℕ → List Event
-call_told e bytes = event.Ret e.serial ∷ event.Call e.serial bytes ∷ []
+-- the events of a head: that it retires, each line of a store with whether the cache has it, and a call with so many bytes
+abbrev pub head_told : Kind → Desc → Cache → Entry → ℕ → List Event
+head_told Store d tags e bytes = event.Ret e.serial ∷ map (λ line. event.St e.serial line (has_line d tags.sets line)) (lines_in d e)
+head_told Call d tags e bytes = event.Ret e.serial ∷ event.Call e.serial bytes ∷ []
+head_told _ d tags e bytes = event.Ret e.serial ∷ []
 
 -- ---- what is asked of the parts
 

@@ -8,7 +8,7 @@ ghost use Rattle.window_model.specs.Rename.{CallAlone};
 ghost use Rattle.retire.specs.Parts.{TakesStore, Tells, with_parts, counted, retires};
 ghost use Rattle.retire.specs.Gone.{gone, MayRetire, without_each, without, popped};
 
-use crate::commit::commit;
+use crate::commit::{commit, tell};
 use crate::turn::{Turn, has_stored, turn_at};
 use byte_ram::Ram;
 use cache_tags::Tags;
@@ -67,7 +67,9 @@ pub fn retire<R: RenameTaint>(
             Turn::Traps(cause, at) => return Some(End::Trap(cause, at)),
         };
         take_out(head.serial, rob, table, lsq);
-        if let Some(end) = commit(&head, tags, ram, regs, pc, desc, row, piece) {
+        let ended = commit(&head, ram, regs, pc, piece);
+        tell(&head, piece, desc, tags, row);
+        if let Some(end) = ended {
             return Some(end);
         }
         stored = has_stored(stored, &head);

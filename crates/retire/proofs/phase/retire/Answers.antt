@@ -46,34 +46,37 @@ returns-in-Traps-clause-may_retire g c =
 
 -- ---- it retires
 
-pub commit-requires-clause-sets : goal.commit-requires-clause-sets
-commit-requires-clause-sets g c = ap (λ (d : Desc). d.cache_sets) c.loop.invariant.left.desc ∙ c.requires.sets
+pub tell-requires-clause-sets : goal.tell-requires-clause-sets
+tell-requires-clause-sets g c = ap (λ (d : Desc). d.cache_sets) c.loop.invariant.left.desc ∙ c.requires.sets
 
-pub commit-requires-clause-line : goal.commit-requires-clause-line
-commit-requires-clause-line g c = ap (λ (d : Desc). d.cache_line) c.loop.invariant.left.desc ∙ c.requires.line
+pub tell-requires-clause-line : goal.tell-requires-clause-line
+tell-requires-clause-line g c = ap (λ (d : Desc). d.cache_line) c.loop.invariant.left.desc ∙ c.requires.line
 
-pub commit-requires-clause-inside : goal.commit-requires-clause-inside
-commit-requires-clause-inside g c = head_inside _ _ _ _ c.loop.invariant.stores (record { turn = sym c.turn_at.ensures.turn ∙ c.in-Leaves.is; head = c.at-head.ensures })
+pub commit-ended-requires-clause-inside : goal.commit-ended-requires-clause-inside
+commit-ended-requires-clause-inside g c = head_inside _ _ _ _ c.loop.invariant.stores (record { turn = sym c.turn_at.ensures.turn ∙ c.in-Leaves.is; head = c.at-head.ensures })
 
 -- and ends the run
 ends : (g : given.Over) (c : goal.In-Some g) → Over c.args.desc.now
     (record { rob = c.args.rob.now; writes = g.R.RenameTaint.writes c.args.table.now; table_room = g.R.RenameTaint.room c.args.table.now; queues = c.args.lsq.now; tags = c.args.tags.now; ram = c.args.ram.now; regs = c.args.regs.now; pc = c.args.pc.now; row = c.args.row.now; piece = c.args.piece.now })
     (Some c.in-Some.end)
-    (record { rob = c.take_out.new.rob; writes = g.R.RenameTaint.writes c.take_out.new.table; table_room = g.R.RenameTaint.room c.take_out.new.table; queues = c.take_out.new.lsq; tags = c.commit.new.tags; ram = c.commit.new.ram; regs = c.commit.new.regs; pc = c.commit.new.pc; row = c.commit.new.row; piece = c.commit.new.piece })
+    (record { rob = c.take_out.new.rob; writes = g.R.RenameTaint.writes c.take_out.new.table; table_room = g.R.RenameTaint.room c.take_out.new.table; queues = c.take_out.new.lsq; tags = c.tell.new.tags; ram = c.commit-ended.new.ram; regs = c.commit-ended.new.regs; pc = c.commit-ended.new.pc; row = c.tell.new.row; piece = c.commit-ended.new.piece })
 ends g c =
-    over_ends _ _ _ _ _ _ c.at-head.result _ c.loop.invariant (ready _ _ c.requires.empty c.requires.call_alone c.requires.stores_fit) c.loop-test.true (record { turn = sym c.turn_at.ensures.turn ∙ c.in-Leaves.is; head = c.at-head.ensures })
+    over_ends _ _ _ _ _ _ c.at-head.result _ _ c.loop.invariant (ready _ _ c.requires.empty c.requires.call_alone c.requires.stores_fit) c.loop-test.true (record { turn = sym c.turn_at.ensures.turn ∙ c.in-Leaves.is; head = c.at-head.ensures })
     (record {
       rob = c.take_out.ensures.rob;
       table = c.take_out.ensures.table;
       table_room = c.take_out.ensures.same_table_room;
       queues = c.take_out.ensures.lsq;
-      state = c.in-Some.ensures.state;
-      row = c.in-Some.ensures.row;
-      piece = c.in-Some.ensures.piece;
-      desc = c.in-Some.ensures.desc;
-      shape = c.in-Some.ensures.shape;
-      few = c.in-Some.ensures.few;
+      state = c.commit-ended.ensures.state c.args.desc.now c.loop.tags;
+      tags = c.tell.ensures.tags;
+      told = c.commit-ended.ensures.told c.args.desc.now c.loop.tags;
+      row = c.tell.ensures.row;
+      piece = c.commit-ended.ensures.piece c.args.desc.now c.loop.tags;
+      desc = c.tell.ensures.desc;
+      shape = c.commit-ended.ensures.shape;
+      few = c.tell.ensures.few;
     })
+    c.in-Some.is
 
 pub returns-in-Some-clause-state : goal.returns-in-Some-clause-state
 returns-in-Some-clause-state g c = (ends g c).state
@@ -99,19 +102,22 @@ returns-in-Some-clause-lsq g c = (ends g c).left.queues
 -- and the run goes on
 pub loop-preserved : goal.loop-preserved
 loop-preserved g c =
-    retires_more _ _ _ _ _ _ c.at-head.result _ c.loop.invariant c.loop-test.true (record { turn = sym c.turn_at.ensures.turn ∙ c.in-Leaves.is; head = c.at-head.ensures })
+    retires_more _ _ _ _ _ _ c.at-head.result _ _ c.loop.invariant c.loop-test.true (record { turn = sym c.turn_at.ensures.turn ∙ c.in-Leaves.is; head = c.at-head.ensures })
     (record {
       rob = c.take_out.ensures.rob;
       table = c.take_out.ensures.table;
       table_room = c.take_out.ensures.same_table_room;
       queues = c.take_out.ensures.lsq;
-      state = c.in_default.ensures.state;
-      row = c.in_default.ensures.row;
-      piece = c.in_default.ensures.piece;
-      desc = c.in_default.ensures.desc;
-      shape = c.in_default.ensures.shape;
-      few = c.in_default.ensures.few;
+      state = c.commit-ended.ensures.state c.args.desc.now c.loop.tags;
+      tags = c.tell.ensures.tags;
+      told = c.commit-ended.ensures.told c.args.desc.now c.loop.tags;
+      row = c.tell.ensures.row;
+      piece = c.commit-ended.ensures.piece c.args.desc.now c.loop.tags;
+      desc = c.tell.ensures.desc;
+      shape = c.commit-ended.ensures.shape;
+      few = c.tell.ensures.few;
     })
+    c.in_default.is
     c.has_stored-stored.ensures
 
 -- ---- the width is reached

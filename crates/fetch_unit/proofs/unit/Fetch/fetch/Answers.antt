@@ -1,5 +1,5 @@
 use Rattle.std.proofs.Common.{ap, sym, ◌∙◌, arith}
-use Rattle.fetch_unit.specs.Front.{Front}
+use Rattle.fetch_unit.specs.Unit.{FetchUnit}
 use Rattle.fetch_unit.proofs.Fetching.{fetches_start, fetches_more, over_early}
 use Rattle.fetch_unit.proofs.unit.Fetch.fetch.Goals as goal
 
@@ -8,11 +8,11 @@ loop-init c = fetches_start _ _ _ _
 
 pub loop-preserved : goal.loop-preserved
 loop-preserved c =
-    fetches_more _ _ _ _ _ _ _ _ _ _ _ c.loop.invariant (let e = ap (λ (f : Front). f.desc.core_fetch_width) c.self.view_is in omega (arith, e, c.loop-test.true))
+    fetches_more _ _ _ _ _ _ _ _ _ _ _ c.loop.invariant (let e = ap (λ (f : FetchUnit). f.desc.core_fetch_width) c.self.view_is in omega (arith, e, c.loop-test.true))
     (sym c.next.ensures ∙ c.in-Some.is) c.requires.one_description c.item_at.ensures c.add.ensures c.push.ensures
 
-pub returns-in_default-clause-front : goal.returns-in_default-clause-front
-returns-in_default-clause-front c = (over_early _ _ _ _ _ _ _ c.loop.invariant (sym c.next.ensures ∙ c.in_default.is)).front
+pub returns-in_default-clause-machine : goal.returns-in_default-clause-machine
+returns-in_default-clause-machine c = (over_early _ _ _ _ _ _ _ c.loop.invariant (sym c.next.ensures ∙ c.in_default.is)).machine
 
 pub returns-in_default-clause-row : goal.returns-in_default-clause-row
 returns-in_default-clause-row c = (over_early _ _ _ _ _ _ _ c.loop.invariant (sym c.next.ensures ∙ c.in_default.is)).row

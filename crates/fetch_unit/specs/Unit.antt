@@ -1,4 +1,4 @@
--- The front of the machine: what is fetched and not renamed, and where fetching goes on (docs/machine.md, "State", "Fetch").
+-- The fetch unit: what is fetched and not renamed, and where fetching goes on (docs/machine.md, "State", "Fetch").
 use Rattle.std.specs.Prelude.{ℕ, nat_lt, if◌then◌else◌, List, length, Option, None, refl}
 use Rattle.std.specs.Coded.{Coded, code_by, coded×, coded_ℕ, coded_list, coded_option}
 use Rattle.rv_types.specs.Memory.{Code}
@@ -11,25 +11,25 @@ use Rattle.window_model.specs.Fetch.{fetch}
 use Rattle.predictor.specs.Tables.{Tables}
 
 -- in a machine of this description, the queue, and the fetch pc
-pub record Front : Type 0 where
+pub record FetchUnit : Type 0 where
   pub desc : Desc
   pub queue : List Item
   pub fetch_pc : Option ℕ
 
 -- it is stored as the three
-abbrev pub front_code : Coded Front
-front_code =
+abbrev pub unit_code : Coded FetchUnit
+unit_code =
     code_by (Desc × (List Item × Option ℕ)) (coded× desc.the_row.coded (coded× (coded_list item.the_row.coded) (coded_option coded_ℕ)))
     (λ f. (f.desc, (f.queue, f.fetch_pc))) (λ p. record { desc = p.0; queue = p.1.0; fetch_pc = p.1.1 }) (λ _. refl)
 
--- a machine with this front and this predictor in the place of its own
-abbrev pub with_front : Front → Tables → Machine → Machine
-with_front f t x = record x { queue = f.queue; fetch_pc = f.fetch_pc; counters = t.counters; targets = t.targets }
+-- a machine with this fetch unit and this predictor in the place of its own
+abbrev pub with_unit : FetchUnit → Tables → Machine → Machine
+with_unit f t x = record x { queue = f.queue; fetch_pc = f.fetch_pc; counters = t.counters; targets = t.targets }
 
 -- phase Fetch of such a machine
-abbrev pub fetches : Code → Front → Tables → Machine → After
-fetches code f t x = fetch f.desc code (with_front f t x)
+abbrev pub fetches : Code → FetchUnit → Tables → Machine → After
+fetches code f t x = fetch f.desc code (with_unit f t x)
 
 -- where the next item is fetched: nowhere where the queue is full
-abbrev pub next_fetch : Front → Option ℕ
+abbrev pub next_fetch : FetchUnit → Option ℕ
 next_fetch f = if nat_lt (length f.queue) f.desc.core_queue then f.fetch_pc else None
