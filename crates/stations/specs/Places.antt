@@ -1,7 +1,8 @@
 -- The entries that wait, the places that they have and the places that are free.
-use Rattle.std.specs.Prelude.{ℕ, ◌≡◌, ◌-◌, ◌%◌, Bool, true, false, ◌||◌, ◌==◌, List, [], ◌∷◌, ◌++◌, map, length, Option, Some, None, slice_get, slice_index, slice_index_or, IsPermutation}
+use Rattle.std.specs.Prelude.{ℕ, ◌≡◌, ◌-◌, ◌<◌, ◌%◌, Bool, true, not, is_none, false, ◌||◌, ◌==◌, List, [], ◌∷◌, ◌++◌, map, length, Option, Some, None, slice_get, slice_index, slice_index_or, IsPermutation}
 use Rattle.std.specs.Int.{bit_at}
-use Rattle.std.specs.List.{range_with_len}
+use Rattle.std.specs.List.{list_all, range_with_len}
+use Rattle.word_bits.specs.Bits.{one_if}
 use Rattle.stations.specs.declared.occupant.Occupant.{Occupant}
 use Rattle.stations.specs.Stations.{Rise, Station, strike}
 
@@ -55,3 +56,11 @@ awaits_in group o = is_in group o.first || is_in group o.second
 -- for each group there is a word, whose bits are set for the places where a serial of the group is awaited, and maybe for others
 abbrev pub MarkWaiters : List Occupant → List ℕ → Type 0
 MarkWaiters places waiters = (group place : ℕ) → awaits_in group (slice_index_or places place nobody) ≡ true → bit_at (slice_index waiters group) place ≡ 1
+
+-- the entry awaits something
+abbrev pub waits : Occupant → Bool
+waits o = not (list_all is_none (awaited o))
+
+-- a word's bits are set for the places where something is awaited
+abbrev pub MarkWaiting : List Occupant → ℕ → Type 0
+MarkWaiting places waiting = (place : ℕ) → place < 64 → bit_at waiting place ≡ one_if (waits (slice_index_or places place nobody))

@@ -12,6 +12,7 @@ use machine_desc::Desc;
 use rv_types::NoMemory;
 use std::alloc::Global;
 use std::marker::Model;
+use word_bits::has_bit;
 
 /// The entries that wait, in `core.stations` places, in which they don't move. Beside the places stand the numbers of those that are
 /// taken, by age, and of those that are free. Positions count the entries by age, from the oldest, which has 0.
@@ -22,12 +23,14 @@ pub struct Stations {
     free: Vec<u32>,
     // For each group of serials, the places where such a serial may be awaited, as the bits of a word.
     waiters: [u64; GROUPS],
+    // The places where something is awaited, as the bits of a word.
+    waiting: u64,
 }
 
 impl Model for Stations {
     ghost use Rattle.std.specs.Prelude.{◌≡◌, ◌+◌, ◌<◌, ◌≤◌, ◌^◌, vec_len, vec_capacity};
     ghost use Rattle.stations.specs.Stations.{Stations};
-    ghost use Rattle.stations.specs.Places.{held_of, MarkWaiters, Placed};
+    ghost use Rattle.stations.specs.Places.{held_of, MarkWaiters, MarkWaiting, Placed};
 
     ghost Value = { Stations };
 
@@ -36,7 +39,8 @@ impl Model for Stations {
     ghost invariant = { λ s. Placed s.places.items s.ages.items s.free.items
         × (vec_len s.ages + vec_len s.free ≡ vec_len s.places)
         × (vec_len s.places ≤ vec_capacity s.ages) × (vec_len s.places ≤ vec_capacity s.free)
-        × (vec_len s.places ≤ 64) × MarkWaiters s.places.items s.waiters };
+        × (vec_len s.places ≤ 64) × MarkWaiters s.places.items s.waiters
+        × MarkWaiting s.places.items s.waiting };
 }
 
 impl Stations {
@@ -53,6 +57,7 @@ impl Stations {
             ages,
             free,
             waiters: [0; GROUPS],
+            waiting: 0,
         })
     }
 
@@ -81,7 +86,7 @@ impl Stations {
     {
         let place = take_free(&mut self.free);
         let occupant = Occupant::new(serial, awaits);
-        mark_waiter(&mut self.waiters, place, &occupant);
+        mark_waiter(&mut self.waiters, &mut self.waiting, place, &occupant);
         self.places[place as usize] = occupant;
         push_within(&mut self.ages, place);
     }
@@ -90,7 +95,12 @@ impl Stations {
     pub fn wake(&mut self, serial: u64)
         ensures { self.new ≡ record self.old { held = map (struck serial) self.old.held } }
     {
-        wake_all(&mut self.places, &mut self.waiters, serial);
+        wake_all(
+            &mut self.places,
+            &mut self.waiters,
+            &mut self.waiting,
+            serial,
+        );
     }
 
     /// Whether the entry at a position awaits nothing.
@@ -98,7 +108,7 @@ impl Stations {
         requires { i < length self.now.held }
         ensures { option_map awaits_none (slice_get self.now.held i) ≡ Some result }
     {
-        self.occupant(i).is_ready()
+        !has_bit(self.waiting, self.ages[i as usize])
     }
 
     /// Whether there is an entry that awaits nothing.

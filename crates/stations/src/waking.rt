@@ -1,8 +1,8 @@
 //! Who may await a serial: marks, so that who becomes Done wakes those alone.
 ghost use Rattle.std.specs.Prelude.{◌≡◌, ◌≢◌, ◌<◌, ◌≤◌, ℕ, true, slice_index, slice_index_or, vec_len};
 ghost use Rattle.std.specs.Int.{bit_at};
-ghost use Rattle.word_bits.specs.Bits.{NextBit};
-ghost use Rattle.stations.specs.Places.{MarkWaiters, awaits_in, is_in, nobody, woken};
+ghost use Rattle.word_bits.specs.Bits.{NextBit, one_if};
+ghost use Rattle.stations.specs.Places.{MarkWaiters, MarkWaiting, awaits_in, is_in, nobody, waits, woken};
 
 use crate::occupant::Occupant;
 use word_bits::{next_bit, with_bit};
@@ -24,16 +24,19 @@ fn mark_awaited(waiters: &mut [u64; GROUPS], place: u32, awaited: Option<u64>)
     }
 }
 
-/// A place is marked for what its entry awaits.
-pub fn mark_waiter(waiters: &mut [u64; GROUPS], place: u32, occupant: &Occupant)
+/// A place is marked for what its entry awaits, and as one where something is awaited, if the entry does.
+pub fn mark_waiter(waiters: &mut [u64; GROUPS], waiting: &mut u64, place: u32, occupant: &Occupant)
     requires { place < 64 }
     ensures here { (group : ℕ) → awaits_in group occupant.now ≡ true
         → bit_at (slice_index waiters.new group) place ≡ 1 }
     ensures others { (group p : ℕ) → p < 64 → bit_at (slice_index waiters.old group) p ≡ 1
         → bit_at (slice_index waiters.new group) p ≡ 1 }
+    ensures waits_here { bit_at waiting.new place ≡ one_if (waits occupant.now) }
+    ensures wait_others { (p : ℕ) → p < 64 → p ≢ place → bit_at waiting.new p ≡ bit_at waiting.old p }
 {
     mark_awaited(waiters, place, occupant.first);
     mark_awaited(waiters, place, occupant.second);
+    *waiting = with_bit(*waiting, place, !occupant.is_ready());
 }
 
 // The first place from this one on, among so many, that a word marks.
@@ -50,19 +53,28 @@ fn next_place(word: u64, from: u32, room: u32) -> Option<u32>
     }
 }
 
-// The entry in a place awaits a serial no longer. Its mark goes, if it awaits none of the serial's group then.
-fn wake_at(places: &mut Vec<Occupant>, waiters: &mut [u64; GROUPS], place: u32, serial: u64)
+// The entry in a place awaits a serial no longer, and maybe nothing. Its mark goes, if it awaits none of the serial's group then.
+fn wake_at(
+    places: &mut Vec<Occupant>,
+    waiters: &mut [u64; GROUPS],
+    waiting: &mut u64,
+    place: u32,
+    serial: u64,
+)
     requires within { place < vec_len places.old }
     requires few { vec_len places.old ≤ 64 }
     requires marked { MarkWaiters places.old.items waiters.old }
+    requires waiting { MarkWaiting places.old.items waiting.old }
     ensures here { slice_index_or places.new.items place nobody
         ≡ woken serial (slice_index_or places.old.items place nobody) }
     ensures others { (p : ℕ) → p ≢ place
         → slice_index_or places.new.items p nobody ≡ slice_index_or places.old.items p nobody }
     ensures len { vec_len places.new ≡ vec_len places.old }
     ensures marked { MarkWaiters places.new.items waiters.new }
+    ensures waiting { MarkWaiting places.new.items waiting.new }
 {
     places[place as usize].wake(serial);
+    *waiting = with_bit(*waiting, place, !places[place as usize].is_ready());
     let group = serial % 64;
     if !places[place as usize].awaits_in(group) {
         let word = waiters[group as usize];
@@ -71,19 +83,26 @@ fn wake_at(places: &mut Vec<Occupant>, waiters: &mut [u64; GROUPS], place: u32, 
 }
 
 /// No entry awaits a serial any longer. Only those are looked at that are marked.
-pub fn wake_all(places: &mut Vec<Occupant>, waiters: &mut [u64; GROUPS], serial: u64)
+pub fn wake_all(
+    places: &mut Vec<Occupant>,
+    waiters: &mut [u64; GROUPS],
+    waiting: &mut u64,
+    serial: u64,
+)
     requires few { vec_len places.old ≤ 64 }
     requires marked { MarkWaiters places.old.items waiters.old }
+    requires waiting { MarkWaiting places.old.items waiting.old }
     ensures woken { (p : ℕ) → slice_index_or places.new.items p nobody
         ≡ woken serial (slice_index_or places.old.items p nobody) }
     ensures len { vec_len places.new ≡ vec_len places.old }
     ensures marked { MarkWaiters places.new.items waiters.new }
+    ensures waiting { MarkWaiting places.new.items waiting.new }
 {
     let room = places.len() as u32;
     let group = (serial % 64) as usize;
     let mut from = 0;
     while let Some(place) = next_place(waiters[group], from, room) {
-        wake_at(places, waiters, place, serial);
+        wake_at(places, waiters, waiting, place, serial);
         from = place + 1;
     }
 }

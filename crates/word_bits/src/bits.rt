@@ -16,6 +16,14 @@ pub fn with_bit(word: u64, bit: u32, mark: bool) -> u64
     }
 }
 
+/// Whether a bit is set.
+pub fn has_bit(word: u64, bit: u32) -> bool
+    requires { bit < 64 }
+    ensures { bit_at word bit ≡ one_if result }
+{
+    (word >> bit) % 2 == 1
+}
+
 /// The first bit that is set from this one on, None where none is.
 pub fn next_bit(word: u64, from: u32) -> Option<u32>
     requires { from < 64 }

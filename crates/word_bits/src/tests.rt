@@ -1,4 +1,4 @@
-use crate::{next_bit, with_bit};
+use crate::{has_bit, next_bit, with_bit};
 use std::test::Fail;
 
 #[test]
@@ -7,6 +7,7 @@ fn bits_are_set_cleared_and_found(rt: HostRuntime) -> Result<(), Fail> {
     for (from, want) in [(0, Some(5)), (5, Some(5)), (6, Some(9)), (10, Some(63))] {
         assert_eq!(rt; next_bit(word, from), want, "from {from}");
     }
+    assert_eq!(rt; (has_bit(word, 62), has_bit(word, 63)), (false, true));
     let rest = with_bit(with_bit(word, 63, false), 7, false);
     assert_eq!(rt; next_bit(rest, 6), Some(9));
     assert_eq!(rt; next_bit(rest, 10), None);

@@ -13,6 +13,7 @@ loop-place-preserved c =
       rest = λ p past. c.wake_at.ensures.others p (λ q. absurd (omega (arith, q, past))) ∙ at.rest p (omega (arith, past, low));
       len = omega (arith, c.wake_at.ensures.len, at.len);
       marked = c.wake_at.ensures.marked;
+      waiting = c.wake_at.ensures.waiting;
       within = omega (arith, high, c.wake_at.ensures.len, c.len-room.ensures, at.len);
     }
 

@@ -4,7 +4,7 @@ use Rattle.std.specs.List.{All, range_with_len}
 use Rattle.stations.specs.Stations.{Station, Stations}
 use Rattle.stations.specs.Places.{held_of}
 use Rattle.std.proofs.lemmas.List.{length-set}
-use Rattle.stations.proofs.Awaited.{marked_push}
+use Rattle.stations.proofs.Awaited.{marked_push, waiting_push}
 use Rattle.stations.proofs.Numbers.{below}
 use Rattle.stations.proofs.Placing.{held_push, placed_push}
 use Rattle.stations.proofs.by_age.Stations.insert.Goals as goal
@@ -35,6 +35,7 @@ invariant_of-self c =
       omega (arith, inside.3, c.take_free-place.ensures.capacity),
       let long = length-set c.self.inside.places.items c.take_free-place.result c.new-occupant.result in omega (arith, inside.4, long),
       marked_push _ _ _ _ _ lt (omega (arith, inside.4)) inside.5 c.mark_waiter.ensures.here c.mark_waiter.ensures.others,
+      waiting_push _ _ _ _ _ lt inside.6 c.mark_waiter.ensures.waits_here c.mark_waiter.ensures.wait_others,
     )
 
 pub returns : goal.returns

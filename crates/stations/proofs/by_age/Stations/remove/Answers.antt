@@ -17,6 +17,7 @@ invariant_of-self c =
       omega (arith, inside.3, c.push_within.ensures.capacity),
       inside.4,
       inside.5,
+      inside.6,
     )
 
 pub returns : goal.returns

@@ -10,6 +10,9 @@ wake_all-requires-clause-few c = c.self.invariant.4
 pub wake_all-requires-clause-marked : goal.wake_all-requires-clause-marked
 wake_all-requires-clause-marked c = c.self.invariant.5
 
+pub wake_all-requires-clause-waiting : goal.wake_all-requires-clause-waiting
+wake_all-requires-clause-waiting c = c.self.invariant.6
+
 pub invariant_of-self : goal.invariant_of-self
 invariant_of-self c =
     let inside = c.self.invariant in
@@ -21,6 +24,7 @@ invariant_of-self c =
       omega (arith, inside.3, c.wake_all.ensures.len),
       omega (arith, inside.4, c.wake_all.ensures.len),
       c.wake_all.ensures.marked,
+      c.wake_all.ensures.waiting,
     )
 
 pub returns : goal.returns
