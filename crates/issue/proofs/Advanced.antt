@@ -1,6 +1,6 @@
 -- The visibility point that has moved over a window goes on to say which entries are visible as entries begin: what waits doesn't
 -- pass, and neither does what executes, unless it always does.
-use Rattle.std.proofs.Common.{◌≡◌, ℕ, true, false, List, [], ◌∷◌, refl, sym, subst}
+use Rattle.std.proofs.Common.{◌≡◌, true, false, List, [], ◌∷◌, refl, sym, subst}
 use Rattle.std.proofs.lemmas.List.Elements.{All-head, All-tail}
 use Rattle.std.specs.List.{All, AllZip}
 use Rattle.std.specs.Prelude.{map}
@@ -8,8 +8,7 @@ use Rattle.machine_desc.specs.declared.Desc.{Desc}
 use Rattle.machine_desc.specs.declared.SttModel.{SttModel}
 use Rattle.window_model.specs.declared.Entry.{Entry}
 use Rattle.window_model.specs.Around.{Around, around}
-use Rattle.window_model.specs.declared.Outcome.{Outcome}
-use Rattle.window_model.specs.Issue.{Begun, begun, issue, issue_entry}
+use Rattle.window_model.specs.Issue.{Begun, issue, issue_entry}
 use Rattle.window_model.specs.Order.{each_from, is_waiting}
 use Rattle.window_model.specs.State.{Machine}
 use Rattle.window_model.proofs.Issuing.{Comes, Remains, Begins, begin_comes, by_issue}
@@ -21,12 +20,9 @@ use Rattle.core_parts.proofs.Advancing.{Alike, alike_advanced}
 abbrev Unresolved : Entry → Type 0
 Unresolved e = is_waiting e.state ≡ true → e.resolved ≡ false
 
-begun_alike : (model : SttModel) (e : Entry) (due : ℕ) (o : Outcome) → is_waiting e.state ≡ true → e.resolved ≡ false → Alike model e (begun e due o)
-begun_alike model e due o w r = (refl, passes_begun model e due o w r)
-
 comes_alike : (model : SttModel) (e r : Entry) → Comes e r → is_waiting e.state ≡ true → e.resolved ≡ false → Alike model e r
 comes_alike model e r (Remains q) w u = subst (Alike model e) (sym q) (refl, refl)
-comes_alike model e r (Begins due o q) w u = subst (Alike model e) (sym q) (begun_alike model e due o w u)
+comes_alike model e r (Begins due o q) w u = subst (Alike model e) (sym q) (refl, passes_begun model e due o w u)
 
 module _ (d : Desc) (now : Around) (model : SttModel) where
   issued_alike : (b : List Entry) (e : Entry) → Unresolved e → Alike model e (issue_entry d now b e).entry

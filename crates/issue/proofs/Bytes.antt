@@ -1,5 +1,5 @@
 -- What the queue of stores gives to a load is what the older entries give to it.
-use Rattle.std.proofs.Common.{◌≡◌, ℕ, Bool, true, not, ◌&&◌, List, length, take, Some, ap, ap₂, sym, subst, ◌∙◌, slice_get}
+use Rattle.std.proofs.Common.{◌≡◌, ℕ, Bool, true, not, ◌&&◌, List, Some, ap, ap₂, subst, ◌∙◌, slice_get}
 use Rattle.std.specs.Prelude.{reverse}
 use Rattle.rv_types.specs.Value.{bytes_in}
 use Rattle.rv_types.specs.Word.{from_le}
@@ -17,17 +17,10 @@ use Rattle.queue_laws.proofs.Keeping.{older_stands}
 use Rattle.queue_laws.proofs.Telling.{bytes_are, covered_is}
 use Rattle.visibility.specs.Point.{is_hidden}
 use Rattle.window_model.specs.Serials.{Rise}
-use Rattle.window_model.proofs.Serials.{place_of, splits}
-use Rattle.parts_stand.proofs.Standing.{take_first}
-use Rattle.parts_stand.proofs.Addressing.{tells_stores}
+use Rattle.window_model.proofs.Serials.{splits}
+use Rattle.parts_stand.proofs.Addressing.{below_is, tells_stores}
 use Rattle.issue.specs.declared.seen.Seen.{Seen}
 use Rattle.issue.specs.State.{Stands, StandsAt, parts_of}
-
--- the entries below an entry's serial are those before it
-below_is : (es : List Entry) (i : ℕ) (e : Entry) → Rise es → slice_get es i ≡ Some e → below e.serial es ≡ take i es
-below_is es i e r h =
-    let t = splits e.serial es r in
-    sym (take_first (below e.serial es) t.gone) ∙ ap (take (length (below e.serial es))) (sym t.whole) ∙ ap (λ n. take n es) (place_of es i e r h)
 
 -- the queue's stores before an entry stand for the entries before it
 pub stores_before : (q : Queues) (es : List Entry) (i : ℕ) (e : Entry) → StandFor q es → Rise es → slice_get es i ≡ Some e → StoresStandFor (older e.serial q.stores) (before_at es i)

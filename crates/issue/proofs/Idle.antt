@@ -1,5 +1,5 @@
 -- Where no station is ready every entry stays as it is.
-use Rattle.std.proofs.Common.{◌≡◌, ℕ, zero, suc, Bool, true, false, ◌||◌, ◌&&◌, List, [], ◌∷◌, take, Some, None, refl, ap, ap₂, sym, ◌∙◌, slice_get, ◌++◌, append-nil}
+use Rattle.std.proofs.Common.{◌≡◌, ℕ, zero, suc, Bool, true, false, ◌&&◌, List, [], ◌∷◌, take, Some, None, refl, ap, ap₂, sym, ◌∙◌, slice_get, ◌++◌, append-nil}
 use Rattle.std.specs.Prelude.{if◌then◌else◌, map}
 use Rattle.std.specs.List.{flat_map, list_any}
 use Rattle.std.specs.Option.{option_map}
@@ -11,7 +11,8 @@ use Rattle.window_model.specs.Row.{Row, with_events}
 use Rattle.window_model.specs.State.{Machine}
 use Rattle.window_model.specs.Around.{Around, around}
 use Rattle.window_model.specs.Order.{Place, before_at, each_from, first_from, is_waiting, ready}
-use Rattle.window_model.specs.Issue.{Port, DivPort, LoadPort, begin_as, issue, issue_entry, may_at, may_issue, port_of, same_port, taken_for, waits}
+use Rattle.window_model.specs.Issue.{Port, DivPort, LoadPort, issue, issue_entry, may_at, may_issue, port_of, same_port, taken_for, waits}
+use Rattle.window_model.proofs.Booleans.{neither}
 use Rattle.stations.specs.Stations.{Station, awaits_none}
 use Rattle.parts_stand.specs.Parts.{Parts, Stand}
 use Rattle.parts_stand.specs.Steps.{station_of}
@@ -23,10 +24,7 @@ use Rattle.core_parts.proofs.Whole.{shown_by, told_by}
 use Rattle.issue.specs.Shared.{divider_left}
 use Rattle.issue.proofs.Leaving.{leaves}
 use Rattle.issue.proofs.Testing.{grants_none}
-
-neither : (a b : Bool) → (a || b) ≡ false → (a ≡ false) × (b ≡ false)
-neither true b h = absurd (cc)
-neither false b h = (refl, h)
+use Rattle.issue.proofs.Turning.{turn_is}
 
 -- ---- no entry may issue
 
@@ -56,12 +54,9 @@ all_stay d now p s none = along_by (Stays d now) [] p.window (λ i e h.
 -- ---- and nothing is left otherwise
 
 module _ (d : Desc) (now : Around) where
-  turn_waits : (before : List Entry) (e : Entry) → Stays d now before e → issue_entry d now before e ≡ waits e
-  turn_waits before e h = ap (λ b. if b then begin_as e.item.kind d now before e else waits e) (grants_none d now (port_of e.item.kind) before e h)
-
   each_waits : (before es : List Entry) → Along (Stays d now) before es → each_from (issue_entry d now) before es ≡ map waits es
   each_waits before [] h = refl
-  each_waits before (e ∷ es) h = ap₂ (λ b bs. b ∷ bs) (turn_waits before e h.0) (each_waits (e ∷ before) es h.1)
+  each_waits before (e ∷ es) h = ap₂ (λ b bs. b ∷ bs) (turn_is false d now before e (grants_none d now (port_of e.item.kind) before e h.0)) (each_waits (e ∷ before) es h.1)
 
   none_first : (port : Port) (before es : List Entry) → Along (Stays d now) before es → first_from (may_at d now port) before es ≡ None
   none_first port before [] h = refl

@@ -1,9 +1,11 @@
 -- Parts that stand for the window go on to do so as the entries that have begun come in their places, the youngest first.
-use Rattle.std.proofs.Common.{◌≡◌, ℕ, zero, suc, ◌<◌, List, [], ◌∷◌, ◌++◌, length, Option, Some, refl, ap, sym, ◌∙◌, subst, arith, slice_get}
+use Rattle.std.proofs.Common.{◌≡◌, ℕ, zero, suc, ◌+◌, ◌<◌, List, [], ◌∷◌, ◌++◌, length, Option, Some, refl, ap, sym, ◌∙◌, subst, arith, get_or, slice_get}
 use Rattle.std.specs.Prelude.{if◌then◌else◌, slice_set}
 use Rattle.std.specs.List.{All, AllPairs, remove}
 use Rattle.std.specs.Option.{option_to_list}
-use Rattle.std.proofs.lemmas.List.Elements.{All-head, All-nil, All-cons, All-tail}
+use Rattle.std.proofs.Math.Seq.{get_or-append_seam}
+use Rattle.std.proofs.lemmas.List.{get_or_append_left, length-append}
+use Rattle.std.proofs.lemmas.List.Elements.{All-head}
 use Rattle.std.proofs.lemmas.Option.{slice_get_within}
 use Rattle.window_model.specs.declared.Entry.{Entry}
 use Rattle.window_model.specs.Issue.{begun}
@@ -53,45 +55,31 @@ still_put window put m e lt k = record {
   is = k.is;
 }
 
-all_still : (window : List Entry) (puts : List Put) (m : ℕ) (e : Entry) → All (λ p. p.position < m) puts → All (IsPut window) puts → All (IsPut (slice_set window m e)) puts
-all_still window [] m e a k = All-nil (IsPut (slice_set window m e))
-all_still window (p ∷ puts) m e a k =
-    All-cons (IsPut (slice_set window m e)) p puts (still_put window p m e (All-head (λ p. p.position < m) p puts a) (All-head (IsPut window) p puts k))
-    (all_still window puts m e (All-tail (λ p. p.position < m) p puts a) (All-tail (IsPut window) p puts k))
-
-abbrev ByAge : List Put → Type 0
-ByAge puts = AllPairs (λ p q. p.position < q.position) puts
-
-age_head : (p : Put) (puts : List Put) → ByAge (p ∷ puts) → All (λ q. p.position < q.position) puts
-age_head p puts r k d within = r 0 (suc k) d (omega arith) (omega arith)
-
-age_tail : (p : Put) (puts : List Put) → ByAge (p ∷ puts) → ByAge puts
-age_tail p puts r i j d lt within = r (suc i) (suc j) d (omega arith) (omega arith)
-
-age_cons : (p : Put) (puts : List Put) → All (λ q. p.position < q.position) puts → ByAge puts → ByAge (p ∷ puts)
-age_cons p puts a r zero zero d lt within = absurd (omega arith)
-age_cons p puts a r zero (suc j) d lt within = a j d (omega arith)
-age_cons p puts a r (suc i) zero d lt within = absurd (omega arith)
-age_cons p puts a r (suc i) (suc j) d lt within = r i j d (omega arith) (omega arith)
-
-age_none : ByAge []
-age_none i j d lt within = absurd (omega arith)
-
--- all but the youngest are by age, and older than it
-age_left : (puts : List Put) (put : Put) → ByAge (puts ++ put ∷ []) → ByAge puts × All (λ p. p.position < put.position) puts
-age_left [] put r = (age_none, All-nil (λ p. p.position < put.position))
-age_left (p ∷ puts) put r =
-    let h = age_head p (puts ++ put ∷ []) r in
-    let k = age_left puts put (age_tail p (puts ++ put ∷ []) r) in (
-      age_cons p puts (all_left (λ q. p.position < q.position) puts (put ∷ []) h) k.0,
-      All-cons (λ q. q.position < put.position) p puts (All-head (λ q. p.position < q.position) put [] (all_right (λ q. p.position < q.position) puts (put ∷ []) h)) k.1,
-    )
-
 -- the others are still to be put in their places, whatever comes in the youngest one's
 still_left : (window : List Entry) (puts : List Put) (put : Put) (e : Entry) → ArePuts window (puts ++ put ∷ []) → ArePuts (slice_set window put.position e) puts
 still_left window puts put e a =
-    let k = age_left puts put a.by_age in
-    record { each_put = all_still window puts put.position e k.1 (all_left (IsPut window) puts (put ∷ []) a.each_put); by_age = k.0 }
+    let each = all_left (IsPut window) puts (put ∷ []) a.each_put in
+    record { each_put = λ k d within. still_put window (get_or puts k d) put.position e (older k d within) (each k d within); by_age = by_age }
+  where
+    many : length (puts ++ put ∷ []) ≡ length puts + 1
+    many = length-append puts (put ∷ [])
+
+    same : (k : ℕ) (d : Put) → k < length puts → (get_or (puts ++ put ∷ []) k d).position ≡ (get_or puts k d).position
+    same k d within = ap (λ (p : Put). p.position) (get_or_append_left puts (put ∷ []) d k within)
+
+    older : All (λ p. p.position < put.position) puts
+    older k d within =
+        let last = ap (λ (p : Put). p.position) (get_or-append_seam puts put [] d) in
+        let this = same k d within in
+        let lt = a.by_age k (length puts) d within (omega (arith, many)) in
+        omega (arith, last, this, lt)
+
+    by_age : AllPairs (λ p q. p.position < q.position) puts
+    by_age i j d lt within =
+        let this = same i d (omega (arith, lt, within)) in
+        let that = same j d within in
+        let less = a.by_age i j d lt (omega (arith, many, within)) in
+        omega (arith, this, that, less)
 
 -- ---- the loop
 

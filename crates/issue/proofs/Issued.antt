@@ -79,38 +79,42 @@ issued_row h divider v old new w q e s =
 
 -- ---- what the phase leaves
 
--- the parts that are written hold what the definition leaves
-pub issued_machine : (h : Held) (decided : Decided) (rob : Ring) (stations : Stations) (tags : Cache) (mshrs : Registers) (ports : Ports) → Whole h →
-    Decides h.desc (around (machine_of h)) h.rob.entries decided h.ports.divider ports.divider →
-    rob ≡ record (h.rob) { entries = placed decided.puts.items h.rob.entries } →
-    tags ≡ record (h.tags) { sets = cache_left h.tags.desc (option_map as_access decided.load) h.tags.sets } →
-    mshrs ≡ record (h.mshrs) { misses = misses_left h.desc h.cycle (option_map as_access decided.load) h.mshrs.misses } →
-    machine_of (record h { rob = rob; stations = stations; tags = tags; mshrs = mshrs; ports = ports }) ≡ (issue h.desc (machine_of h)).machine
-issued_machine h decided rob stations tags mshrs ports w k r t m =
-    leaves h.desc (machine_of h) rob.entries (option_map as_access decided.load) tags.sets mshrs.misses ports.divider
-    (ap (λ (r : Ring). r.entries) r ∙ k.window) k.load
-    (ap (λ (t : Cache). t.sets) t ∙ ap (λ (s : Sizes). cache_left s.tags (option_map as_access decided.load) h.tags.sets) w.made)
-    (ap (λ (m : Registers). m.misses) m) k.divider
-
-module _ (h : Held) (rob : Ring) (stations : Stations) (tags : Cache) (mshrs : Registers) (ports : Ports) where
+-- the parts that are written, by what is decided
+module _ (h : Held) (decided : Decided) (rob : Ring) (stations : Stations) (tags : Cache) (mshrs : Registers) (ports : Ports) (w : Whole h)
+    (k : Decides h.desc (around (machine_of h)) h.rob.entries decided h.ports.divider ports.divider)
+    (r : rob ≡ record (h.rob) { entries = placed decided.puts.items h.rob.entries })
+    (t : tags ≡ record (h.tags) { sets = cache_left h.tags.desc (option_map as_access decided.load) h.tags.sets })
+    (m : mshrs ≡ record (h.mshrs) { misses = misses_left h.desc h.cycle (option_map as_access decided.load) h.mshrs.misses }) where
   abbrev new : Held
   new = record h { rob = rob; stations = stations; tags = tags; mshrs = mshrs; ports = ports }
 
-  issued_sizes : rob.room ≡ h.rob.room → stations.room ≡ h.stations.room → tags.desc ≡ h.tags.desc → mshrs.room ≡ h.mshrs.room → ports.alus ≡ h.ports.alus → sizes new ≡ sizes h
-  issued_sizes r s t m p = cc
+  -- they hold what the definition leaves
+  issued_machine : machine_of new ≡ (issue h.desc (machine_of h)).machine
+  issued_machine =
+      leaves h.desc (machine_of h) rob.entries (option_map as_access decided.load) tags.sets mshrs.misses ports.divider
+      (ap (λ (r : Ring). r.entries) r ∙ k.window) k.load
+      (ap (λ (t : Cache). t.sets) t ∙ ap (λ (s : Sizes). cache_left s.tags (option_map as_access decided.load) h.tags.sets) w.made)
+      (ap (λ (m : Registers). m.misses) m) k.divider
 
-  pub issued_whole : Whole h → machine_of new ≡ (issue h.desc (machine_of h)).machine → ((p : InFlight) → Stands (holding h.rob h.stations p) → Stands (holding rob stations p)) →
-      rob.room ≡ h.rob.room → stations.room ≡ h.stations.room → tags.desc ≡ h.tags.desc → mshrs.room ≡ h.mshrs.room → ports.alus ≡ h.ports.alus → Whole new
-  issued_whole w f stands r s t m p = record {
-    sized = subst (Sized h.desc) (sym f) (sized_issue h.desc (machine_of h) (every_desc h.desc) w.sized);
+  issued_sizes : stations.room ≡ h.stations.room → ports.alus ≡ h.ports.alus → sizes new ≡ sizes h
+  issued_sizes s p =
+      let entries = ap (λ (r : Ring). r.room) r in
+      let lines = ap (λ (t : Cache). t.desc) t in
+      let registers = ap (λ (m : Registers). m.room) m in
+      cc
+
+  pub issued_whole : ((p : InFlight) → Stands (holding h.rob h.stations p) → Stands (holding rob stations p)) → stations.room ≡ h.stations.room → ports.alus ≡ h.ports.alus → Whole new
+  issued_whole stands s p = record {
+    sized = subst (Sized h.desc) (sym issued_machine) (sized_issue h.desc (machine_of h) (every_desc h.desc) w.sized);
     stands = stands (in_flight h) w.stands;
-    made = issued_sizes r s t m p ∙ w.made;
+    made = issued_sizes s p ∙ w.made;
   }
 
-  pub issued_shown : (v : Described) → Whole h → machine_of new ≡ (issue h.desc (machine_of h)).machine → described h ≡ v → described new ≡ record v { machine = (issue v.desc v.machine).machine }
-  issued_shown v w f s = shown_by (λ d x. (issue d x).machine) h (machine_of new) v f s
+  pub issued_shown : (v : Described) → described h ≡ v → described new ≡ record v { machine = (issue v.desc v.machine).machine }
+  issued_shown v s = shown_by (λ d x. (issue d x).machine) h (machine_of new) v issued_machine s
 
   -- and the point goes on to say which entries are visible
-  pub issued_advanced : (v : Described) → Whole h → machine_of new ≡ (issue h.desc (machine_of h)).machine → described h ≡ v → HasAdvanced v.point v.machine.window → HasAdvanced h.point rob.entries
-  issued_advanced v w f s a =
-      subst (HasAdvanced h.point) (sym (ap (λ (x : Machine). x.window) f)) (issue_advanced h.desc h.point (machine_of h) w.stands.point.unresolved (advanced h v w s a))
+  pub issued_advanced : (v : Described) → described h ≡ v → HasAdvanced v.point v.machine.window → HasAdvanced h.point rob.entries
+  issued_advanced v s a =
+      subst (HasAdvanced h.point) (sym (ap (λ (x : Machine). x.window) issued_machine))
+      (issue_advanced h.desc h.point (machine_of h) w.stands.point.unresolved (advanced h v w s a))

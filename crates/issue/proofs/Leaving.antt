@@ -13,8 +13,8 @@ use Rattle.window_model.specs.Access.{taken_lines}
 use Rattle.window_model.specs.Issue.{DivPort, LoadPort, access_of, after_load, divider_after, issue, may_at, taken_for}
 use Rattle.window_model.proofs.Issuing.{by_load}
 use Rattle.issue.specs.declared.access.Access.{Access}
-use Rattle.issue.specs.declared.access.Access.TheVariants.{Faults, Forwards, Looks, Waits}
-use Rattle.issue.specs.declared.access.Line.TheVariants.{Hits, Joins, Takes}
+use Rattle.issue.specs.declared.access.Access.TheVariants.{Looks}
+use Rattle.issue.specs.declared.access.Line.TheVariants.{Takes}
 use Rattle.issue.specs.Accesses.{as_access}
 use Rattle.issue.specs.Decisions.{division_of, load_of, turns}
 use Rattle.issue.specs.Shared.{IsMiss, cache_left, divider_left, misses_left}
@@ -49,11 +49,9 @@ leaves d x window load cache misses divider w l c m n =
     let a : cache ≡ cache_left d (loaded d x o) x.cache = c ∙ ap (λ l. cache_left d l x.cache) l in
     let b : misses ≡ misses_left d x.cycle (loaded d x o) x.misses = m ∙ ap (λ l. misses_left d x.cycle l x.misses) l in
     let e : divider ≡ divider_after x o2 = n ∙ sym (divider_is x o2) in
-    let by_window : List Entry → Machine = λ window. record x { window = window; cache = cache; misses = misses; divider = divider } in
-    let by_cache : List (List ℕ) → Machine = λ cache. record x { window = entries; cache = cache; misses = misses; divider = divider } in
-    let by_misses : List Miss → Machine = λ misses. record x { window = entries; cache = cache_left d (loaded d x o) x.cache; misses = misses; divider = divider } in
-    let by_divider : Divider → Machine = λ divider. record x { window = entries; cache = cache_left d (loaded d x o) x.cache; misses = misses_left d x.cycle (loaded d x o) x.misses; divider = divider } in
-    ap by_window w ∙ ap by_cache a ∙ ap by_misses b ∙ ap by_divider e ∙ sym whole
+    let left : record x { window = window; cache = cache; misses = misses; divider = divider }
+    ≡ record x { window = entries; cache = cache_left d (loaded d x o) x.cache; misses = misses_left d x.cycle (loaded d x o) x.misses; divider = divider_after x o2 } = cc in
+    left ∙ sym whole
 
 -- ---- a load takes a register only where one is free
 
@@ -64,8 +62,7 @@ TakesRoom d x _ = Unit {0}
 
 room_of : (d : Desc) (x : Machine) (l : model.Line) → length x.misses + length (taken_lines (l ∷ [])) ≤ d.cache_mshrs → TakesRoom d x (model.Looks (l ∷ []))
 room_of d x (model.Takes line) h = omega (arith, h)
-room_of d x (model.Hits line) h = tt
-room_of d x (model.Joins line due) h = tt
+room_of d x _ h = tt
 
 takes_room : (d : Desc) (x : Machine) (b : List Entry) (e : Entry) → TakesRoom d x (access_of d (around x) b e)
 takes_room d x = by_load d (around x) (TakesRoom d x) tt (λ line room. room_of d x _ room) (λ full. tt) (λ c. tt)
@@ -78,12 +75,7 @@ room_at d x line (Some p) h =
 
 room_by : (d : Desc) (x : Machine) (o : Option Place) (load : Option Access) → option_map as_access load ≡ loaded d x o → IsMiss load → length x.misses < d.cache_mshrs
 room_by d x o (Some (Looks (Takes line))) h m = room_at d x line o h
-room_by d x o (Some (Looks (Hits line))) h m = absurd m
-room_by d x o (Some (Looks (Joins line due))) h m = absurd m
-room_by d x o (Some (Faults cause)) h m = absurd m
-room_by d x o (Some Forwards) h m = absurd m
-room_by d x o (Some Waits) h m = absurd m
-room_by d x o None h m = absurd m
+room_by d x o _ h m = absurd m
 
 pub has_room : (d : Desc) (x : Machine) (load : Option Access) → option_map as_access load ≡ load_of d (around x) x.window → IsMiss load → length x.misses < d.cache_mshrs
 has_room d x load h m = room_by d x (first (may_at d (around x) LoadPort) x.window) load h m

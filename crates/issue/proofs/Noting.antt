@@ -1,5 +1,5 @@
 -- What is kept as an entry's turn is noted.
-use Rattle.std.proofs.Common.{◌≡◌, ◌≤◌, ℕ, ◌+◌, List, [], ◌∷◌, ◌++◌, length, ap, ap₂, ◌∙◌, append-nil, arith}
+use Rattle.std.proofs.Common.{◌≡◌, ◌≤◌, ℕ, ◌+◌, List, [], ◌∷◌, ◌++◌, length, ap, refl, ◌∙◌, append-nil, arith}
 use Rattle.std.proofs.lemmas.List.{length-append}
 use Rattle.window_model.specs.declared.Entry.{Entry}
 use Rattle.window_model.specs.declared.Event.{Event}
@@ -29,9 +29,7 @@ as_many_events events more b m = ap length m ∙ length-append events b.events
 -- ---- the row, and the ports
 
 pub row_is : (row new : Row) (events : List Event) → new.cycle ≡ row.cycle → new.events ≡ events → new ≡ record row { events = events }
-row_is row new events c e =
-    let row_of : ℕ → List Event → Row = λ cycle events. record { cycle = cycle; events = events } in
-    ap₂ row_of c e
+row_is row new events c e = let same : new ≡ record new { cycle = new.cycle } = refl in cc
 
 -- no event more
 pub same_row : (row : Row) → with_events row [] ≡ row

@@ -4,6 +4,7 @@ use mathlib.Core.List.{reverse_aux}
 use Rattle.std.specs.Prelude.{if◌then◌else◌, nat_lt, is_none}
 use Rattle.std.specs.Option.{option_map}
 use Rattle.std.proofs.lemmas.Bool.Decides.{nat_tests}
+use Rattle.std.proofs.Math.Bool.{and-false, and-true}
 use Rattle.std.proofs.lemmas.List.{take_more}
 use Rattle.std.proofs.lemmas.Option.{get_or_from_slice_get, slice_get_within}
 use Rattle.rv_types.specs.Value.{one_if}
@@ -56,30 +57,16 @@ first_more : {A : Type 0} (p : List Entry → Entry → Bool) (f : List Entry �
     of_first p f (take (i + 1) window) ≡ or_else (of_first p f (take i window)) (if p (before_at window i) e then Some (f (before_at window i) e) else None)
 first_more p f window i e h = ap (of_first p f) (one_more window i e h) ∙ first_push p f [] (take i window) e
 
-and_true : (t : Bool) → (t && true) ≡ t
-and_true true = refl
-and_true false = refl
-
-and_false : (t : Bool) → (t && false) ≡ false
-and_false true = refl
-and_false false = refl
-
 -- ---- nobody has asked for a port while there is no first that asks for it
 
-not_below : (a : ℕ) → nat_lt (one_if true + a) 1 ≡ false
-not_below a = grind (arith, nat_tests)
-
-nothing_more : (a : ℕ) → one_if false + a ≡ a
-nothing_more a = omega arith
-
-none_more : (t : Bool) (p : Place) (o : Option Place) (a : ℕ) (r : Bool) → (is_none o && nat_lt (one_if t + a) 1) ≡ r → (is_none (if t then Some p else o) && nat_lt a 1) ≡ r
-none_more true p o a r h = sym (ap (λ b. is_none o && b) (not_below a) ∙ and_false (is_none o)) ∙ h
-none_more false p o a r h = sym (ap (λ n. is_none o && nat_lt n 1) (nothing_more a)) ∙ h
+none_more : (t : Bool) (p : Place) (o : Option Place) (a : ℕ) → (is_none (if t then Some p else o) && nat_lt a 1) ≡ (is_none o && nat_lt (one_if t + a) 1)
+none_more true p o a = grind (arith, nat_tests, and-false)
+none_more false p o a = grind (arith, nat_tests)
 
 none_asks : (d : Desc) (now : Around) (port : Port) (before es : List Entry) →
     (is_none (first_from (may_at d now port) before es) && nat_lt (asking d now port before) 1) ≡ nat_lt (asking d now port (reverse_aux es before)) 1
 none_asks d now port before [] = refl
-none_asks d now port before (e ∷ es) = none_more (may_at d now port before e) _ _ (asking d now port before) _ (none_asks d now port (e ∷ before) es)
+none_asks d now port before (e ∷ es) = none_more (may_at d now port before e) _ _ (asking d now port before) ∙ none_asks d now port (e ∷ before) es
 
 none_first : {A : Type 0} (f : List Entry → Entry → A) (o : Option Place) → is_none (option_map (at f) o) ≡ is_none o
 none_first f None = refl
@@ -88,7 +75,7 @@ none_first f (Some p) = refl
 unasked : {A : Type 0} (f : List Entry → Entry → A) (d : Desc) (now : Around) (port : Port) (window : List Entry) (i : ℕ) → is_none (of_first (may_at d now port) f (take i window)) ≡ nat_lt (asking d now port (before_at window i)) 1
 unasked f d now port window i =
     let o = first (may_at d now port) (take i window) in
-    none_first f o ∙ sym (and_true (is_none o)) ∙ none_asks d now port [] (take i window)
+    none_first f o ∙ sym (and-true (is_none o)) ∙ none_asks d now port [] (take i window)
 
 -- ---- one entry more
 

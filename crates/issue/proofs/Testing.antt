@@ -1,15 +1,16 @@
 -- What the parts tell of an entry at its position is what the machine's definitions find there.
-use Rattle.std.proofs.Common.{◌≡◌, ℕ, ◌+◌, ◌-◌, ◌<◌, ◌≤◌, Bool, true, false, ◌&&◌, List, ◌∷◌, Option, Some, refl, ap, ap₂, sym, subst, ◌∙◌, slice_get, arith}
+use Rattle.std.proofs.Common.{◌≡◌, ℕ, zero, suc, ◌+◌, ◌-◌, ◌≤◌, Bool, true, false, ◌&&◌, List, ◌∷◌, Option, Some, refl, ap, ap₂, sym, subst, ◌∙◌, slice_get, arith}
 use Rattle.std.specs.Prelude.{nat_lt}
 use Rattle.std.specs.List.{list_all}
 use Rattle.std.specs.Option.{option_map}
 use Rattle.std.proofs.lemmas.Bool.Decides.{nat_tests}
+use Rattle.std.proofs.Math.Bool.{and-false, and-true}
 use Rattle.rv_types.specs.Value.{one_if}
 use Rattle.machine_desc.specs.declared.Desc.{Desc}
 use Rattle.window_model.specs.declared.Divider.{Divider}
 use Rattle.window_model.specs.declared.Entry.{Entry}
 use Rattle.window_model.specs.Around.{Around, is_free}
-use Rattle.window_model.specs.Issue.{Port, AluPort, MulPort, DivPort, AddressPort, LoadPort, asking, is_granted, may_at, may_issue, may_issue_as, port_of, ports, same_port, stores_done}
+use Rattle.window_model.specs.Issue.{Port, AluPort, asking, is_granted, may_at, may_issue, may_issue_as, port_of, ports, same_port, stores_done}
 use Rattle.window_model.proofs.Booleans.{both}
 use Rattle.window_model.proofs.Issuing.{may_own}
 use Rattle.window_model.specs.Order.{before_at, is_waiting, ready}
@@ -47,71 +48,48 @@ module _ (s : Seen) (i : ℕ) (e : Entry) (t : Stands s) (h : StandsAt s i e) wh
   pub stores_known : list_all is_known (older e.serial s.lsq.now.stores) ≡ stores_done before
   stores_known = known_is (older e.serial s.lsq.now.stores) before (stores_before s.lsq.now s.rob.now.entries i e t.queues t.parts.rise h)
 
-  -- untainted operands, and what is asked for besides
-  pub issue_is : (m b : Bool) (roots : List (Option ℕ)) → slice_get (each_roots s.sources.now.items) i ≡ Some roots → m ≡ may_transmit e.item.kind s.point.now.serial roots → b ≡ asks_besides e.item.kind (is_free (around_of s)) before →
-      (m && b) ≡ may_issue_as e.item.kind s.desc.now (around_of s) before e
-  issue_is m b roots r p q = ap₂ (λ m b. m && b) p q ∙ sym (tells_issue s.desc.now (parts_of t.next t.writes s) s.point.now i e roots (around_of s) t.parts t.advanced t.model h r)
-
--- an entry that waits and is ready may issue by what its kind asks for
-pub asks_by_kind : (d : Desc) (now : Around) (before : List Entry) (e : Entry) → is_waiting e.state ≡ true → ready before e ≡ true → may_issue d now before e ≡ may_issue_as e.item.kind d now before e
-asks_by_kind d now before e w r = ap₂ (λ a b. a && b && may_issue_as e.item.kind d now before e) w r
+  -- an entry that waits and is ready may issue by its untainted operands, and by what is asked for besides
+  pub issue_is : (m b : Bool) (roots : List (Option ℕ)) → slice_get (each_roots s.sources.now.items) i ≡ Some roots → m ≡ may_transmit e.item.kind s.point.now.serial roots →
+      b ≡ asks_besides e.item.kind (is_free (around_of s)) before → is_waiting e.state ≡ true → ready before e ≡ true → (m && b) ≡ may_issue s.desc.now (around_of s) before e
+  issue_is m b roots k p q w r =
+      ap₂ (λ m b. m && b) p q ∙ sym (tells_issue s.desc.now (parts_of t.next t.writes s) s.point.now i e roots (around_of s) t.parts t.advanced t.model h k)
+      ∙ sym (ap₂ (λ a b. a && b && may_issue_as e.item.kind s.desc.now (around_of s) before e) w r)
 
 -- ---- ports
 
 some_less : (a : ℕ) → (a - 1) + one_if (nat_lt 0 a) ≡ a
-some_less a = by_test (nat_lt 0 a) refl
-  where
-    by_test : (b : Bool) → nat_lt 0 a ≡ b → (a - 1) + one_if b ≡ a
-    by_test true t = let lt : 0 < a = grind (arith, nat_tests) in omega (arith, lt)
-    by_test false t = let no : a ≡ 0 = grind (arith, nat_tests) in omega (arith, no)
+some_less zero = refl
+some_less (suc a) = let t : nat_lt 0 (suc a) ≡ true = grind (arith, nat_tests) in let n = ap one_if t in omega (arith, n)
 
 one_less : (q : Port) (p : Ports) → left_in_all (taken_at q p) + one_if (nat_lt 0 (left_at q p)) ≡ left_in_all p
 one_less AluPort p = let k = some_less p.alu in omega (arith, k)
-one_less MulPort p = let k = some_less p.mul in omega (arith, k)
-one_less DivPort p = let k = some_less p.div in omega (arith, k)
-one_less AddressPort p = let k = some_less p.store in omega (arith, k)
-one_less LoadPort p = let k = some_less p.load in omega (arith, k)
+one_less q p = let k = some_less (left_at q p) in omega (arith, k)
 
 only_ports : (q : Port) (p : Ports) → OnlyPorts p (taken_at q p)
 only_ports AluPort p = record { alus = refl; cycle = refl }
-only_ports MulPort p = record { alus = refl; cycle = refl }
-only_ports DivPort p = record { alus = refl; cycle = refl }
-only_ports AddressPort p = record { alus = refl; cycle = refl }
-only_ports LoadPort p = record { alus = refl; cycle = refl }
+only_ports _ p = record { alus = refl; cycle = refl }
 
--- an entry that may not issue takes none
-pub left_none : (d : Desc) (now : Around) (before : List Entry) (e : Entry) (p : Ports) → may_issue d now before e ≡ false → LeftAfter d now before p → LeftAfter d now (e ∷ before) p
-left_none d now before e p h l = subst (λ b. LeftAfter d now (e ∷ before) (asked b e p)) h (left_more d now before e p l)
-
--- one that may takes one
-pub left_one : (d : Desc) (now : Around) (before : List Entry) (e : Entry) (p new : Ports) → may_issue d now before e ≡ true → LeftAfter d now before p → new ≡ taken_at (port_of e.item.kind) p → LeftAfter d now (e ∷ before) new
-left_one d now before e p new h l n = subst (LeftAfter d now (e ∷ before)) (sym n) (subst (λ b. LeftAfter d now (e ∷ before) (asked b e p)) h (left_more d now before e p l))
+-- an entry takes one where it may issue
+pub left_asked : (b : Bool) (d : Desc) (now : Around) (before : List Entry) (e : Entry) (p : Ports) → may_issue d now before e ≡ b → LeftAfter d now before p →
+    LeftAfter d now (e ∷ before) (asked b e p)
+left_asked b d now before e p h l = subst (λ b. LeftAfter d now (e ∷ before) (asked b e p)) h (left_more d now before e p l)
 
 -- where none is left none is taken
 none_less : (a : ℕ) → nat_lt 0 a ≡ false → a - 1 ≡ a
-none_less a h = let no : a ≡ 0 = grind (arith, nat_tests) in omega (arith, no)
+none_less a h = let k = some_less a in let n = ap one_if h in omega (arith, k, n)
 
 taken_none : (q : Port) (p : Ports) → nat_lt 0 (left_at q p) ≡ false → taken_at q p ≡ p
-taken_none AluPort p h = ap (λ n. record p { alu = n }) (none_less p.alu h)
-taken_none MulPort p h = ap (λ n. record p { mul = n }) (none_less p.mul h)
-taken_none DivPort p h = ap (λ n. record p { div = n }) (none_less p.div h)
-taken_none AddressPort p h = ap (λ n. record p { store = n }) (none_less p.store h)
-taken_none LoadPort p h = ap (λ n. record p { load = n }) (none_less p.load h)
+taken_none AluPort p h = let k = none_less p.alu h in let same : p ≡ record p { alus = p.alus } = refl in cc
+taken_none q p h = let k = none_less (left_at q p) h in let same : p ≡ record p { alus = p.alus } = refl in cc
 
 -- ports and the divider have nothing to do with each other
 with_divider : (q : Port) (p : Ports) (v : Divider) → left_at q (record p { divider = v }) ≡ left_at q p
 with_divider AluPort p v = refl
-with_divider MulPort p v = refl
-with_divider DivPort p v = refl
-with_divider AddressPort p v = refl
-with_divider LoadPort p v = refl
+with_divider _ p v = refl
 
 divider_stays : (q : Port) (p : Ports) → (taken_at q p).divider ≡ p.divider
 divider_stays AluPort p = refl
-divider_stays MulPort p = refl
-divider_stays DivPort p = refl
-divider_stays AddressPort p = refl
-divider_stays LoadPort p = refl
+divider_stays _ p = refl
 
 left_with : (d : Desc) (now : Around) (es : List Entry) (p : Ports) (v : Divider) → LeftAfter d now es p → LeftAfter d now es (record p { divider = v })
 left_with d now es p v l = record { each_port = λ q. with_divider q p v ∙ l.each_port q }
@@ -127,14 +105,6 @@ pub record Served (d : Desc) (now : Around) (before : List Entry) (e : Entry) (o
 pub grants_none : (d : Desc) (now : Around) (port : Port) (before : List Entry) (e : Entry) → may_issue d now before e ≡ false → is_granted d now port before e ≡ false
 grants_none d now port before e h = ap (λ m. (m && same_port (port_of e.item.kind) port) && nat_lt (asking d now port before) (ports d port)) h
 
-and_true : (b : Bool) → (b && true) ≡ b
-and_true true = refl
-and_true false = refl
-
-and_false : (b : Bool) → (b && false) ≡ false
-and_false true = refl
-and_false false = refl
-
 -- one is granted its own where one is left and it may issue
 module _ (d : Desc) (now : Around) (before : List Entry) (e : Entry) (p : Ports) (l : LeftAfter d now before p) where
   abbrev own : Port
@@ -144,10 +114,10 @@ module _ (d : Desc) (now : Around) (before : List Entry) (e : Entry) (p : Ports)
   grants_left b n = sym (granted_is d now own before e p l) ∙ ap₂ (λ a b. a && b) (may_own d now before e) n
 
   pub served_where_left : nat_lt 0 (left_at own p) ≡ true → is_granted d now own before e ≡ may_issue d now before e
-  served_where_left n = grants_left true n ∙ and_true (may_issue d now before e)
+  served_where_left n = grants_left true n ∙ and-true (may_issue d now before e)
 
   pub refused_where_none : nat_lt 0 (left_at own p) ≡ false → is_granted d now own before e ≡ false
-  refused_where_none n = grants_left false n ∙ and_false (may_issue d now before e)
+  refused_where_none n = grants_left false n ∙ and-false (may_issue d now before e)
 
   -- one that is refused takes none
   pub left_refused : is_granted d now own before e ≡ false → LeftAfter d now (e ∷ before) p
@@ -156,8 +126,8 @@ module _ (d : Desc) (now : Around) (before : List Entry) (e : Entry) (p : Ports)
       by_may : (m : Bool) → may_issue d now before e ≡ m → LeftAfter d now (e ∷ before) p
       by_may true m =
           let refused : nat_lt 0 (left_at own p) ≡ false = sym (grants_left (nat_lt 0 (left_at own p)) refl ∙ ap (λ m. m && nat_lt 0 (left_at own p)) m) ∙ h in
-          subst (LeftAfter d now (e ∷ before)) (taken_none own p refused) (left_one d now before e p (taken_at own p) m l refl)
-      by_may false m = left_none d now before e p m l
+          subst (LeftAfter d now (e ∷ before)) (taken_none own p refused) (left_asked true d now before e p m l)
+      by_may false m = left_asked false d now before e p m l
 
   -- one that is served takes one
   module _ (h : is_granted d now own before e ≡ true) where
@@ -176,7 +146,7 @@ module _ (d : Desc) (now : Around) (before : List Entry) (e : Entry) (p : Ports)
         let all = ap left_in_all is in
         let only = only_ports own (record p { divider = v }) in
         record {
-          left = left_one d now before e (record p { divider = v }) new m (left_with d now before p v l) is;
+          left = subst (LeftAfter d now (e ∷ before)) (sym is) (left_asked true d now before e (record p { divider = v }) m (left_with d now before p v l));
           fewer = omega (arith, all, less, one);
           only = subst (OnlyPorts p) (sym is) (record { alus = only.alus; cycle = only.cycle });
           divider = ap (λ (p : Ports). p.divider) is ∙ divider_stays own (record p { divider = v });

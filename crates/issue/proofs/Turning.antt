@@ -1,14 +1,14 @@
 -- What an entry's turn comes to: it waits on, or it begins with one event.
 use Rattle.std.proofs.Common.{◌≡◌, ℕ, ◌+◌, ◌<◌, ◌≤◌, Bool, true, false, List, [], ◌∷◌, ◌++◌, length, Some, refl, ap, sym, subst, ◌∙◌, inl, inr, arith, append-nil, slice_get}
 use Rattle.std.specs.Prelude.{if◌then◌else◌, slice_set, ◌⊎◌}
-use Rattle.std.specs.List.{All, AllPairs}
+use Rattle.std.specs.List.{All}
 use Rattle.std.proofs.lemmas.List.{set_at}
 use Rattle.std.proofs.lemmas.List.Elements.{All-push}
 use Rattle.std.proofs.lemmas.List.Quantifiers.{all_pairs_push}
 use Rattle.rv_types.specs.Isa.{Effect}
 use Rattle.rv_types.specs.Value.{one_if}
 use Rattle.rv_types.specs.declared.Kind.{Kind}
-use Rattle.rv_types.specs.declared.Kind.TheVariants.{Mul, Div, Load, Store}
+use Rattle.rv_types.specs.declared.Kind.TheVariants.{Load}
 use Rattle.machine_desc.specs.declared.Desc.{Desc}
 use Rattle.window_model.specs.declared.Entry.{Entry}
 use Rattle.window_model.specs.declared.Event.{Event}
@@ -20,7 +20,7 @@ use Rattle.window_model.proofs.Booleans.{both}
 use Rattle.window_model.proofs.Issuing.{by_load, may_parts}
 use Rattle.parts_stand.specs.Steps.{station_of}
 use Rattle.issue.specs.declared.decide.Put.{Put}
-use Rattle.issue.specs.Puts.{IsPut, placed}
+use Rattle.issue.specs.Puts.{ArePuts, IsPut, placed}
 use Rattle.issue.specs.Turns.{puts_of}
 
 -- it is granted a port, and begins with one event
@@ -43,9 +43,6 @@ load_acts d now b e f v =
 
 begin_acts : (k : Kind) (d : Desc) (now : Around) (before : List Entry) (e : Entry) → Acts true e (begin_as k d now before e)
 begin_acts Load d now before e = load_acts d now before e _ _
-begin_acts Store d now before e = one_event e _ _ _
-begin_acts Mul d now before e = one_event e _ _ _
-begin_acts Div d now before e = one_event e _ _ _
 begin_acts _ d now before e = one_event e _ _ _
 
 by_grant : (granted : Bool) (e : Entry) (b : Begun) → Acts true e b → Acts granted e (if granted then b else waits e)
@@ -67,21 +64,17 @@ few_events granted e b (inr t) =
 pub granted_waits : (d : Desc) (now : Around) (before : List Entry) (e : Entry) → is_granted d now (port_of e.item.kind) before e ≡ true → is_waiting e.state ≡ true
 granted_waits d now before e h = (may_parts d now before e (both (may_issue d now before e) _ (both (may_at d now (port_of e.item.kind) before e) _ h).0).0).waits
 
--- one that is granted no port waits on
-pub turn_waits : (d : Desc) (now : Around) (before : List Entry) (e : Entry) → is_granted d now (port_of e.item.kind) before e ≡ false → issue_entry d now before e ≡ waits e
-turn_waits d now before e h = ap (λ b. if b then begin_as e.item.kind d now before e else waits e) h
-
--- one that is served does what its kind does
-pub turn_begins : (d : Desc) (now : Around) (before : List Entry) (e : Entry) → is_granted d now (port_of e.item.kind) before e ≡ true → issue_entry d now before e ≡ begin_as e.item.kind d now before e
-turn_begins d now before e h = ap (λ b. if b then begin_as e.item.kind d now before e else waits e) h
+-- one that is served does what its kind does, one that is granted no port waits on
+pub turn_is : (b : Bool) (d : Desc) (now : Around) (before : List Entry) (e : Entry) → is_granted d now (port_of e.item.kind) before e ≡ b →
+    issue_entry d now before e ≡ (if b then begin_as e.item.kind d now before e else waits e)
+turn_is b d now before e h = ap (λ b. if b then begin_as e.item.kind d now before e else waits e) h
 
 -- ---- the puts
 
 -- the puts of the entries before a position
 pub record PutsTo (window : List Entry) (i : ℕ) (puts : List Put) : Type 0 where
-  pub each_put : All (IsPut window) puts
+  pub puts_are : ArePuts window puts
   pub older : All (λ p. p.position < i) puts
-  pub by_age : AllPairs (λ p q. p.position < q.position) puts
 
 later : (i : ℕ) (puts : List Put) → All (λ p. p.position < i) puts → All (λ p. p.position < i + 1) puts
 later i puts a k d within = let h = a k d within in omega (arith, h)
@@ -90,15 +83,17 @@ pub puts_more : (window : List Entry) (i station : ℕ) (e : Entry) (puts : List
     Acts granted e b → PutsTo window i puts → PutsTo window (i + 1) (puts ++ puts_of i station b)
 puts_more window i station e puts granted b h n w (inl q) t =
     subst (PutsTo window (i + 1)) (sym (ap (λ b. puts ++ puts_of i station b) q ∙ append-nil puts))
-    (record { each_put = t.each_put; older = later i puts t.older; by_age = t.by_age })
+    (record { puts_are = t.puts_are; older = later i puts t.older })
 puts_more window i station e puts granted b h n w (inr a) t =
     let p : Put = record { position = i; station = station; entry = begun e a.due a.outcome } in
     let put : IsPut window p = record { old = e; here = h; waits = w a.has_port; station = n; due = a.due; outcome = a.outcome; is = refl } in
     subst (PutsTo window (i + 1)) (sym (ap (λ b. puts ++ puts_of i station b) a.is))
     (record {
-      each_put = All-push (IsPut window) puts p t.each_put put;
+      puts_are = record {
+        each_put = All-push (IsPut window) puts p t.puts_are.each_put put;
+        by_age = all_pairs_push (λ p q. p.position < q.position) puts p t.puts_are.by_age t.older;
+      };
       older = All-push (λ p. p.position < i + 1) puts p (later i puts t.older) (omega arith);
-      by_age = all_pairs_push (λ p q. p.position < q.position) puts p t.by_age t.older;
     })
 
 -- the youngest is put in its place first

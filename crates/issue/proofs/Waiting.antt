@@ -20,15 +20,12 @@ use Rattle.window_model.proofs.Serials.{place_of}
 -- ---- how many wait before a position
 
 module _ (window : List Entry) (i : ℕ) (e : Entry) (h : slice_get window i ≡ Some e) where
-  pub station_more : is_waiting e.state ≡ true → station_of (i + 1) window ≡ station_of i window + 1
-  station_more w = counts_stations window i e h ∙ ap (λ b. if b then station_of i window + 1 else station_of i window) w
-
-  pub station_past : is_waiting e.state ≡ false → station_of (i + 1) window ≡ station_of i window
-  station_past w = counts_stations window i e h ∙ ap (λ b. if b then station_of i window + 1 else station_of i window) w
+  station_next : (b : Bool) → is_waiting e.state ≡ b → station_of (i + 1) window ≡ (if b then station_of i window + 1 else station_of i window)
+  station_next b w = counts_stations window i e h ∙ ap (λ b. if b then station_of i window + 1 else station_of i window) w
 
   no_fewer : (b : Bool) → is_waiting e.state ≡ b → station_of i window ≤ station_of (i + 1) window
-  no_fewer true w = let n = station_more w in omega (arith, n)
-  no_fewer false w = let n = station_past w in omega (arith, n)
+  no_fewer true w = let n = station_next true w in omega (arith, n)
+  no_fewer false w = let n = station_next false w in omega (arith, n)
 
 rises : (window : List Entry) (n i m : ℕ) → m ≡ i + n → m ≤ length window → station_of i window ≤ station_of m window
 rises window zero i m q le = let same : i ≡ m = omega (arith, q) in subst (λ m. station_of i window ≤ station_of m window) same (omega arith)
@@ -46,40 +43,38 @@ no_younger window i m e h w le q = by_test (nat_le i m) refl
     by_test true t = grind (arith, nat_tests)
     by_test false t =
         let lt : m < i = grind (arith, nat_tests) in
-        let more = station_more window m e h w in
+        let more = station_next window m e h true w in
         let less = rises window (i - (m + 1)) (m + 1) i (omega (arith, lt)) le in
         absurd (omega (arith, more, less, q))
 
 -- ---- the entry of a station
 
--- an entry that waits, with so many before it
-pub record WaitsAt (window : List Entry) (k : ℕ) : Type 0 where
-  pub position : ℕ
+-- at this position an entry waits, with so many before it
+pub record WaitsAt (window : List Entry) (k i : ℕ) : Type 0 where
   pub entry : Entry
-  pub is : slice_get window position ≡ Some entry
+  pub is : slice_get window i ≡ Some entry
   pub waits : is_waiting entry.state ≡ true
-  pub station : station_of position window ≡ k
+  pub station : station_of i window ≡ k
 
-record Counted (window : List Entry) (k : ℕ) : Type 0 where
-  position : ℕ
-  entry : Entry
-  is : slice_get window position ≡ Some entry
-  waits : is_waiting entry.state ≡ true
-  station : count (λ e. is_waiting e.state) (take position window) ≡ k
+abbrev HasWaiter : List Entry → ℕ → Type 0
+HasWaiter window k = (i : ℕ) × WaitsAt window k i
 
-counted_by : (e : Entry) (es : List Entry) (b : Bool) → is_waiting e.state ≡ b → ((k : ℕ) → k < count (λ e. is_waiting e.state) es → Counted es k) →
-    (k : ℕ) → k < cond b 1 0 + count (λ e. is_waiting e.state) es → Counted (e ∷ es) k
-counted_by e es true w rest zero lt = record { position = 0; entry = e; is = refl; waits = w; station = refl }
-counted_by e es true w rest (suc k) lt =
-    let t = rest k (omega (arith, lt)) in
-    let n = t.station in
-    record { position = suc t.position; entry = t.entry; is = t.is; waits = t.waits; station = ap (λ b. cond b 1 0 + count (λ e. is_waiting e.state) (take t.position es)) w ∙ omega (arith, n) }
-counted_by e es false w rest k lt =
-    let t = rest k (omega (arith, lt)) in
-    let n = t.station in
-    record { position = suc t.position; entry = t.entry; is = t.is; waits = t.waits; station = ap (λ b. cond b 1 0 + count (λ e. is_waiting e.state) (take t.position es)) w ∙ omega (arith, n) }
+-- behind one entry more
+behind : (e : Entry) (es : List Entry) (b : Bool) (k n : ℕ) → is_waiting e.state ≡ b → n ≡ cond b 1 0 + k → HasWaiter es k → HasWaiter (e ∷ es) n
+behind e es b k n w q t =
+    let all = count_is (λ e. is_waiting e.state) (e ∷ take t.0 es) in
+    let first : cond (is_waiting e.state) 1 0 ≡ cond b 1 0 = ap (λ (b : Bool). cond {A = ℕ} b 1 0) w in
+    let rest = count_is (λ e. is_waiting e.state) (take t.0 es) in
+    let older = t.1.station in
+    (suc t.0, record { entry = t.1.entry; is = t.1.is; waits = t.1.waits; station = omega (arith, all, first, rest, older, q) })
 
-counted : (window : List Entry) (k : ℕ) → k < count (λ e. is_waiting e.state) window → Counted window k
+counted_by : (e : Entry) (es : List Entry) (b : Bool) → is_waiting e.state ≡ b → ((k : ℕ) → k < count (λ e. is_waiting e.state) es → HasWaiter es k) →
+    (k : ℕ) → k < cond b 1 0 + count (λ e. is_waiting e.state) es → HasWaiter (e ∷ es) k
+counted_by e es true w rest zero lt = (0, record { entry = e; is = refl; waits = w; station = refl })
+counted_by e es true w rest (suc k) lt = behind e es true k (suc k) w (omega arith) (rest k (omega (arith, lt)))
+counted_by e es false w rest k lt = behind e es false k k w (omega arith) (rest k (omega (arith, lt)))
+
+counted : (window : List Entry) (k : ℕ) → k < count (λ e. is_waiting e.state) window → HasWaiter window k
 counted [] k lt = absurd (omega (arith, lt))
 counted (e ∷ es) k lt = counted_by e es (is_waiting e.state) refl (counted es) k lt
 
@@ -89,12 +84,11 @@ module _ (p : Parts) (s : Stand p) where
   all_wait = ap (count_by (λ e. is_waiting e.state)) (take_all (length p.window) p.window (omega arith)) ∙ sym (counts_room p s).held
 
   -- each station has its entry
-  pub waits_at : (k : ℕ) → k < length p.held → WaitsAt p.window k
+  pub waits_at : (k : ℕ) → k < length p.held → (i : ℕ) × WaitsAt p.window k i
   waits_at k lt =
       let many = (counts_room p s).held in
       let all = count_is (λ e. is_waiting e.state) p.window in
-      let t = counted p.window k (omega (arith, lt, many, all)) in
-      record { position = t.position; entry = t.entry; is = t.is; waits = t.waits; station = sym (count_is (λ e. is_waiting e.state) (take t.position p.window)) ∙ t.station }
+      counted p.window k (omega (arith, lt, many, all))
 
   serial_of : (o : Option Station) (w : Waiter) (serial : ℕ) → option_map waiter_in o ≡ Some w → option_map (λ s. s.serial) o ≡ Some serial → serial ≡ w.serial
   serial_of None w serial h q = absurd (cc)
@@ -104,11 +98,13 @@ module _ (p : Parts) (s : Stand p) where
       sym b ∙ ap (λ (w : Waiter). w.serial) a
 
   -- its serial tells the position
-  pub position_is : (k serial : ℕ) (t : WaitsAt p.window k) → option_map (λ s. s.serial) (slice_get p.held k) ≡ Some serial → length (below serial p.window) ≡ t.position
-  position_is k serial t h =
-      let told = (has_station p t.position t.entry s t.is t.waits).is in
-      let same = serial_of (slice_get p.held (station_of t.position p.window)) _ serial told (ap (λ k. option_map (λ s. s.serial) (slice_get p.held k)) t.station ∙ h) in
-      ap (λ n. length (below n p.window)) same ∙ place_of p.window t.position t.entry s.rise t.is
+  pub stands_at : (k serial i : ℕ) → k < length p.held → option_map (λ s. s.serial) (slice_get p.held k) ≡ Some serial → i ≡ length (below serial p.window) → WaitsAt p.window k i
+  stands_at k serial i lt h q =
+      let w = waits_at k lt in
+      let t = w.1 in
+      let told = (has_station p w.0 t.entry s t.is t.waits).is in
+      let same = serial_of (slice_get p.held (station_of w.0 p.window)) _ serial told (ap (λ k. option_map (λ s. s.serial) (slice_get p.held k)) t.station ∙ h) in
+      subst (WaitsAt p.window k) (sym (q ∙ ap (λ n. length (below n p.window)) same ∙ place_of p.window w.0 t.entry s.rise t.is)) t
 
 -- ---- the walk
 
@@ -118,8 +114,8 @@ Keeps P window = (i : ℕ) (e : Entry) → slice_get window i ≡ Some e → is_
 
 on_by : (P : ℕ → Type 0) (window : List Entry) → Keeps P window → (i m : ℕ) (e : Entry) → slice_get window i ≡ Some e → station_of (i + 1) window ≤ station_of m window → station_of m window ≡ station_of i window → P i →
     (b : Bool) → is_waiting e.state ≡ b → P (i + 1) × (station_of m window ≡ station_of (i + 1) window)
-on_by P window keeps i m e h le q p true w = let more = station_more window i e h w in absurd (omega (arith, more, le, q))
-on_by P window keeps i m e h le q p false w = (keeps i e h w p, q ∙ sym (station_past window i e h w))
+on_by P window keeps i m e h le q p true w = let more = station_next window i e h true w in absurd (omega (arith, more, le, q))
+on_by P window keeps i m e h le q p false w = (keeps i e h w p, q ∙ sym (station_next window i e h false w))
 
 on_to : (P : ℕ → Type 0) (window : List Entry) → Keeps P window → (n i m : ℕ) → m ≡ i + n → m ≤ length window → station_of m window ≡ station_of i window → P i → P m
 on_to P window keeps zero i m r le q p = let same : i ≡ m = omega (arith, r) in subst P same p
@@ -140,6 +136,16 @@ pub at_next : (P : ℕ → Type 0) (window : List Entry) (k m : ℕ) (e : Entry)
 at_next P window k m e keeps t h w q =
     let older = no_younger window t.position m e h w t.within (t.station ∙ sym q) in
     on_to P window keeps (m - t.position) t.position m (omega (arith, older)) (let lt = slice_get_within window m e h in omega (arith, lt)) (q ∙ sym t.station) t.holds
+
+-- so it reaches one further, where what holds there holds behind it
+pub goes_on : (P Q : ℕ → Type 0) (window : List Entry) (k m : ℕ) (e : Entry) → Keeps P window → Reaches P window k → slice_get window m ≡ Some e → is_waiting e.state ≡ true →
+    station_of m window ≡ k → (P m → Q (m + 1)) → Reaches Q window (k + 1)
+goes_on P Q window k m e keeps t h w q on = record {
+  position = m + 1;
+  within = let lt = slice_get_within window m e h in omega (arith, lt);
+  station = station_next window m e h true w ∙ ap (λ n. n + 1) q;
+  holds = on (at_next P window k m e keeps t h w q);
+}
 
 -- and behind the last, where none is left that waits
 pub at_end : (P : ℕ → Type 0) (window : List Entry) (k : ℕ) → Keeps P window → Reaches P window k → station_of (length window) window ≡ k → P (length window)

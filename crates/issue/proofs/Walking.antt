@@ -1,7 +1,8 @@
 -- The walk, an entry at a time.
-use Rattle.std.proofs.Common.{◌≡◌, ℕ, ◌+◌, ◌<◌, ◌≤◌, Bool, true, false, List, [], ◌∷◌, ◌++◌, length, map, take, Option, Some, None, refl, ap, sym, subst, ◌∙◌, arith, append-nil, append_assoc, slice_get}
+use Rattle.std.proofs.Common.{◌≡◌, ℕ, ◌+◌, ◌<◌, ◌≤◌, true, false, List, [], ◌∷◌, ◌++◌, length, map, take, Option, Some, None, refl, ap, sym, subst, ◌∙◌, arith, append-nil, append_assoc}
 use Rattle.std.specs.Prelude.{if◌then◌else◌}
-use Rattle.std.specs.List.{AllPairs, flat_map}
+use Rattle.std.specs.List.{flat_map}
+use Rattle.std.specs.Option.{option_map}
 use Rattle.std.proofs.lemmas.List.{length-take-le, take_all}
 use Rattle.std.proofs.lemmas.List.Elements.{All-nil}
 use Rattle.std.proofs.lemmas.Option.{get_or_from_slice_get, slice_get_within}
@@ -19,16 +20,18 @@ use Rattle.unit_ports.specs.Laws.{LeftAfter}
 use Rattle.parts_stand.specs.Steps.{station_of}
 use Rattle.issue.specs.declared.decide.Put.{Put}
 use Rattle.issue.specs.declared.seen.Seen.{Seen}
-use Rattle.issue.specs.Decisions.{division_of, load_of, turns as all_turns}
+use Rattle.issue.specs.declared.decide.Decided.{Decided}
+use Rattle.issue.specs.Accesses.{as_access}
+use Rattle.issue.specs.Decisions.{DecidesFor, turns_of}
 use Rattle.issue.specs.Puts.{ArePuts, IsPut, placed}
 use Rattle.issue.specs.Shared.{divider_left}
 use Rattle.issue.specs.State.{StandsAt, around_of, window_of}
 use Rattle.issue.specs.Turns.{puts_of}
 use Rattle.issue.proofs.Choosing.{the_other}
 use Rattle.issue.proofs.Slots.{divider_more, of_first, one_more, slot_more}
-use Rattle.issue.proofs.Testing.{grants_none, left_none}
+use Rattle.issue.proofs.Testing.{grants_none, left_asked}
 use Rattle.issue.proofs.Waiting.{Keeps, Reaches}
-use Rattle.issue.proofs.Turning.{PutsTo, granted_waits, placed_more, puts_more, turn_acts, turn_waits}
+use Rattle.issue.proofs.Turning.{PutsTo, granted_waits, placed_more, puts_more, turn_acts, turn_is}
 
 -- what is decided once the entries before a position have had their turns
 pub record DecidedTo (s : Seen) (i : ℕ) (puts : List Put) (load : Option Access) (start divider : Divider) (earlier events : List Event) : Type 0 where
@@ -115,18 +118,18 @@ module _ (s : Seen) (i : ℕ) (e : Entry) (h : StandsAt s i e) where
   pub decided_past : (puts : List Put) (load : Option Access) (start divider : Divider) (earlier events : List Event) → may_issue d now before e ≡ false →
       DecidedTo s i puts load start divider earlier events → DecidedTo s (i + 1) puts load start divider earlier events
   decided_past puts load start divider earlier events m t =
-      let stays : turn ≡ waits e = turn_waits d now before e (grants_none d now (port_of e.item.kind) before e m) in
+      let stays : turn ≡ waits e = turn_is false d now before e (grants_none d now (port_of e.item.kind) before e m) in
       decided_more (station_of i (window_of s)) puts puts load load start divider divider earlier events events refl
       (sym (ap (λ b. puts ++ puts_of i (station_of i (window_of s)) b) stays ∙ append-nil puts))
       (sym (ap (λ b. events ++ b.events) stays ∙ append-nil events))
-      (the_other _ _ load load (grants_none d now LoadPort before e m) refl) (the_other _ _ divider divider (grants_none d now DivPort before e m) refl) t
+      (the_other _ _ load (grants_none d now LoadPort before e m)) (the_other _ _ divider (grants_none d now DivPort before e m)) t
 
   -- what older entries have left is left to the next
   pub left_on : (p : Ports) → LeftAfter d now (e ∷ before) p → LeftAfter d now (before_at (window_of s) (i + 1)) p
   left_on p l = subst (λ before. LeftAfter d now before p) (sym (before_more (window_of s) i e (slice_get_within (window_of s) i e h) ∙ ap (λ e. e ∷ before) (get_or_from_slice_get (window_of s) i e e h))) l
 
   pub left_past : (p : Ports) → may_issue d now before e ≡ false → LeftAfter d now before p → LeftAfter d now (before_at (window_of s) (i + 1)) p
-  left_past p m l = left_on p (left_none d now before e p m l)
+  left_past p m l = left_on p (left_asked false d now before e p m l)
 
 -- ---- the walk
 
@@ -145,40 +148,31 @@ module _ (s : Seen) (ports : Ports) (puts : List Put) (load : Option Access) (st
   pub keeps : Keeps (Walked s ports puts load start earlier events) (window_of s)
   keeps i e h w t = walked_past i e h (not_waiting s i e h w) t
 
--- ---- an entry, by whether it waits
-
-pub record Here (window : List Entry) (i : ℕ) (b : Bool) : Type 0 where
-  pub entry : Entry
-  pub is : slice_get window i ≡ Some entry
-  pub waits : is_waiting entry.state ≡ b
-
 -- ---- at the end
 
 -- what is decided once all have had their turns is what the definition decides
-pub record DecidesAll (s : Seen) (puts : List Put) (load : Option Access) (start divider : Divider) (earlier events : List Event) : Type 0 where
-  pub puts_are : ArePuts (window_of s) puts
-  pub window_is : placed puts (window_of s) ≡ map (λ b. b.entry) (all_turns s.desc.now (around_of s) (window_of s))
-  pub events_are : events ≡ earlier ++ flat_map (λ b. b.events) (all_turns s.desc.now (around_of s) (window_of s))
-  pub load_is : load ≡ load_of s.desc.now (around_of s) (window_of s)
-  pub divider_is : divider ≡ divider_left (division_of s.desc.now (around_of s) (window_of s)) start
+pub record DecidesAll (s : Seen) (decided : Decided) (start divider : Divider) (earlier events : List Event) : Type 0 where
+  pub puts_are : ArePuts (window_of s) decided.puts.items
+  pub decides : DecidesFor s decided start divider
+  pub events_are : events ≡ earlier ++ flat_map (λ b. b.events) (turns_of s)
 
-pub decided_all : (s : Seen) (i : ℕ) (puts : List Put) (load : Option Access) (start divider : Divider) (earlier events : List Event) → length (window_of s) ≤ i →
-    DecidedTo s i puts load start divider earlier events → DecidesAll s puts load start divider earlier events
-decided_all s i puts load start divider earlier events le t =
+pub decided_all : (s : Seen) (i : ℕ) (decided : Decided) (start divider : Divider) (earlier events : List Event) → length (window_of s) ≤ i →
+    DecidedTo s i decided.puts.items (option_map as_access decided.load) start divider earlier events → DecidesAll s decided start divider earlier events
+decided_all s i decided start divider earlier events le t =
     let now = around_of s in
     let d = s.desc.now in
     let all : take i (window_of s) ≡ window_of s = take_all i (window_of s) le in
     let turns = ap (each (issue_entry d now)) all in
     record {
-      puts_are = record { each_put = t.puts_to.each_put; by_age = t.puts_to.by_age };
-      window_is = ap (placed puts) (sym (append-nil (take i (window_of s)) ∙ all)) ∙ t.window [] ∙ append-nil (map (λ b. b.entry) (each (issue_entry d now) (take i (window_of s)))) ∙ ap (map (λ b. b.entry)) turns;
+      puts_are = t.puts_to.puts_are;
+      decides = record {
+        window = ap (placed decided.puts.items) (sym (append-nil (take i (window_of s)) ∙ all)) ∙ t.window []
+            ∙ append-nil (map (λ b. b.entry) (each (issue_entry d now) (take i (window_of s)))) ∙ ap (map (λ b. b.entry)) turns;
+        load = t.load_is ∙ ap (of_first (may_at d now LoadPort) (access_of d now)) all;
+        divider = t.divider_is ∙ ap (λ es. divider_left (of_first (may_at d now DivPort) (taken_for now) es) start) all;
+      };
       events_are = t.events_are ∙ ap (λ bs. earlier ++ flat_map (λ b. b.events) bs) turns;
-      load_is = t.load_is ∙ ap (of_first (may_at d now LoadPort) (access_of d now)) all;
-      divider_is = t.divider_is ∙ ap (λ es. divider_left (of_first (may_at d now DivPort) (taken_for now) es) start) all;
     }
-
-none_by_age : AllPairs (λ (p q : Put). p.position < q.position) []
-none_by_age i j d lt within = absurd (omega arith)
 
 -- nothing is decided as the walk begins
 pub walked_none : (s : Seen) (ports : Ports) (puts : List Put) (load : Option Access) (earlier : List Event) → puts ≡ [] → load ≡ None → LeftAfter s.desc.now (around_of s) [] ports →
@@ -190,7 +184,8 @@ walked_none s ports puts load earlier p l left =
       station = refl;
       holds = record {
         decided = record {
-          puts_to = subst (PutsTo (window_of s) 0) (sym p) (record { each_put = All-nil (IsPut (window_of s)); older = All-nil (λ p. p.position < 0); by_age = none_by_age });
+          puts_to = subst (PutsTo (window_of s) 0) (sym p)
+              (record { puts_are = record { each_put = All-nil (IsPut (window_of s)); by_age = λ i j d lt within. absurd (omega arith) }; older = All-nil (λ p. p.position < 0) });
           window = λ younger. ap (λ ps. placed ps younger) p;
           events_are = sym (append-nil earlier);
           load_is = l;

@@ -1,78 +1,46 @@
 -- The values of an entry's sources, by the serials of the writers that stand at its position.
-use Rattle.std.proofs.Common.{◌≡◌, ℕ, List, [], ◌∷◌, Option, Some, None, refl, ap, ◌∙◌, get_or}
+use Rattle.std.proofs.Common.{◌≡◌, ℕ, List, [], ◌∷◌, Option, Some, None, ap, ◌∙◌, get_or}
 use Rattle.std.specs.Prelude.{map}
 use Rattle.std.specs.Option.{option_map}
 use Rattle.rv_types.specs.Isa.{reg}
 use Rattle.rv_types.specs.declared.Reg.{Reg}
 use Rattle.rv_types.specs.Regs.{two}
 use Rattle.window_model.specs.declared.Entry.{Entry}
-use Rattle.window_model.specs.Order.{from_writer, operand, writer}
+use Rattle.window_model.specs.Order.{from_writer, operand}
 use Rattle.window_model.specs.Issue.{first_operand, second_operand}
 use Rattle.parts_stand.specs.Writers.{in_flight, writer_of}
 use Rattle.issue.specs.Operands.{value_by}
 
--- the source's, where its writer is the one that is found
-value_is : (regs : List ℕ) (es before : List Entry) (r : ℕ) (w : Option ℕ) → in_flight es w ≡ writer before r → value_by regs es (Some r) w ≡ operand regs before r
-value_is regs es before r w h = ap (λ o. from_writer o (reg regs r)) h
+-- two are made of two
+of_two : {X Y : Type 0} (f : X → Y) (xs : List X) (a b : Y) (d : X) → map f xs ≡ a ∷ b ∷ [] → (f (get_or xs 0 d) ≡ a) × (f (get_or xs 1 d) ≡ b)
+of_two f (x ∷ y ∷ []) a b d h = (cc, cc)
+of_two f _ a b d h = absurd (cc)
 
--- those that are read are two, and so are their writers
-two_of : (rs : List ℕ) → (a : Option ℕ) × ((b : Option ℕ) × (two rs ≡ a ∷ b ∷ []))
-two_of [] = (None, (None, refl))
-two_of (r ∷ []) = (Some r, (None, refl))
-two_of (r ∷ q ∷ rs) = (Some r, (Some q, refl))
+-- the value of a source, 0 where there is none
+abbrev value_of : List ℕ → List Entry → Option ℕ → ℕ
+value_of regs before None = 0
+value_of regs before (Some r) = operand regs before r
 
-first_by : (regs : List ℕ) (es before : List Entry) (rs : List ℕ) (a b v w : Option ℕ) →
-    a ∷ b ∷ [] ≡ two rs → map (in_flight es) (v ∷ w ∷ []) ≡ map (writer_of before) (two rs) → value_by regs es a v ≡ first_operand regs before rs
-first_by regs es before [] a b v w h k =
-    let n : a ≡ None = cc in
-    ap (λ a. value_by regs es a v) n
-first_by regs es before (r ∷ []) a b v w h k =
-    let n : a ≡ Some r = cc in
-    let u : in_flight es v ≡ writer before r = cc in
-    ap (λ a. value_by regs es a v) n ∙ value_is regs es before r v u
-first_by regs es before (r ∷ q ∷ rs) a b v w h k =
-    let n : a ≡ Some r = cc in
-    let u : in_flight es v ≡ writer before r = cc in
-    ap (λ a. value_by regs es a v) n ∙ value_is regs es before r v u
+module _ (regs : List ℕ) (es before : List Entry) where
+  -- a source's, where its writer is the one that is found
+  value_is : (o r w : Option ℕ) → r ≡ o → in_flight es w ≡ writer_of before o → value_by regs es r w ≡ value_of regs before o
+  value_is None r w n h = ap (λ r. value_by regs es r w) n
+  value_is (Some o) r w n h = ap (λ r. value_by regs es r w) n ∙ ap (λ f. from_writer f (reg regs o)) h
 
-second_by : (regs : List ℕ) (es before : List Entry) (rs : List ℕ) (a b v w : Option ℕ) →
-    a ∷ b ∷ [] ≡ two rs → map (in_flight es) (v ∷ w ∷ []) ≡ map (writer_of before) (two rs) → value_by regs es b w ≡ second_operand regs before rs
-second_by regs es before [] a b v w h k =
-    let n : b ≡ None = cc in
-    ap (λ b. value_by regs es b w) n
-second_by regs es before (r ∷ []) a b v w h k =
-    let n : b ≡ None = cc in
-    ap (λ b. value_by regs es b w) n
-second_by regs es before (r ∷ q ∷ rs) a b v w h k =
-    let n : b ≡ Some q = cc in
-    let u : in_flight es w ≡ writer before q = cc in
-    ap (λ b. value_by regs es b w) n ∙ value_is regs es before q w u
+  -- what a program reads and finds there, as arrays of two
+  module _ (reads : List (Option Reg)) (ws : List (Option ℕ)) (d : Option Reg) (u : Option ℕ) where
+    abbrev value : ℕ → ℕ
+    value i = value_by regs es (option_map (λ r. r.number) (get_or reads i d)) (get_or ws i u)
 
--- what a program reads and finds there, as arrays of two
-pub record Pairs (rs : List ℕ) (es before : List Entry) (reads : List (Option Reg)) (ws : List (Option ℕ)) : Type 0 where
-  pub reads_are : map (option_map (λ r. r.number)) reads ≡ two rs
-  pub writers_are : map (in_flight es) ws ≡ map (writer_of before) (two rs)
+    values : (a b : Option ℕ) → map (option_map (λ r. r.number)) reads ≡ a ∷ b ∷ [] → map (in_flight es) ws ≡ map (writer_of before) (a ∷ b ∷ []) →
+        (value 0 ≡ value_of regs before a) × (value 1 ≡ value_of regs before b)
+    values a b r w =
+        let read = of_two (option_map (λ (r : Reg). r.number)) reads a b d r in
+        let found = of_two (in_flight es) ws (writer_of before a) (writer_of before b) u w in
+        (value_is a _ _ read.0 found.0, value_is b _ _ read.1 found.1)
 
-pub first_is : (regs : List ℕ) (es before : List Entry) (rs : List ℕ) (reads : List (Option Reg)) (ws : List (Option ℕ)) (p d : Option Reg) (v u : Option ℕ) →
-    Pairs rs es before reads ws → p ≡ get_or reads 0 d → v ≡ get_or ws 0 u → value_by regs es (option_map (λ r. r.number) p) v ≡ first_operand regs before rs
-first_is regs es before rs [] ws p d v u h k m = let t = two_of rs in let r = h.reads_are in let q = t.1.1 in absurd (cc)
-first_is regs es before rs (x ∷ []) ws p d v u h k m = let t = two_of rs in let r = h.reads_are in let q = t.1.1 in absurd (cc)
-first_is regs es before rs (x ∷ y ∷ z ∷ reads) ws p d v u h k m = let t = two_of rs in let r = h.reads_are in let q = t.1.1 in absurd (cc)
-first_is regs es before rs (x ∷ y ∷ []) [] p d v u h k m = let t = two_of rs in let r = h.writers_are ∙ ap (map (writer_of before)) t.1.1 in absurd (cc)
-first_is regs es before rs (x ∷ y ∷ []) (a ∷ []) p d v u h k m = let t = two_of rs in let r = h.writers_are ∙ ap (map (writer_of before)) t.1.1 in absurd (cc)
-first_is regs es before rs (x ∷ y ∷ []) (a ∷ b ∷ c ∷ ws) p d v u h k m = let t = two_of rs in let r = h.writers_are ∙ ap (map (writer_of before)) t.1.1 in absurd (cc)
-first_is regs es before rs (x ∷ y ∷ []) (a ∷ b ∷ []) p d v u h k m =
-    ap (λ p. value_by regs es (option_map (λ r. r.number) p) v) k ∙ ap (λ v. value_by regs es (option_map (λ r. r.number) x) v) m
-    ∙ first_by regs es before rs (option_map (λ r. r.number) x) (option_map (λ r. r.number) y) a b h.reads_are h.writers_are
-
-pub second_is : (regs : List ℕ) (es before : List Entry) (rs : List ℕ) (reads : List (Option Reg)) (ws : List (Option ℕ)) (p d : Option Reg) (v u : Option ℕ) →
-    Pairs rs es before reads ws → p ≡ get_or reads 1 d → v ≡ get_or ws 1 u → value_by regs es (option_map (λ r. r.number) p) v ≡ second_operand regs before rs
-second_is regs es before rs [] ws p d v u h k m = let t = two_of rs in let r = h.reads_are in let q = t.1.1 in absurd (cc)
-second_is regs es before rs (x ∷ []) ws p d v u h k m = let t = two_of rs in let r = h.reads_are in let q = t.1.1 in absurd (cc)
-second_is regs es before rs (x ∷ y ∷ z ∷ reads) ws p d v u h k m = let t = two_of rs in let r = h.reads_are in let q = t.1.1 in absurd (cc)
-second_is regs es before rs (x ∷ y ∷ []) [] p d v u h k m = let t = two_of rs in let r = h.writers_are ∙ ap (map (writer_of before)) t.1.1 in absurd (cc)
-second_is regs es before rs (x ∷ y ∷ []) (a ∷ []) p d v u h k m = let t = two_of rs in let r = h.writers_are ∙ ap (map (writer_of before)) t.1.1 in absurd (cc)
-second_is regs es before rs (x ∷ y ∷ []) (a ∷ b ∷ c ∷ ws) p d v u h k m = let t = two_of rs in let r = h.writers_are ∙ ap (map (writer_of before)) t.1.1 in absurd (cc)
-second_is regs es before rs (x ∷ y ∷ []) (a ∷ b ∷ []) p d v u h k m =
-    ap (λ p. value_by regs es (option_map (λ r. r.number) p) v) k ∙ ap (λ v. value_by regs es (option_map (λ r. r.number) y) v) m
-    ∙ second_by regs es before rs (option_map (λ r. r.number) x) (option_map (λ r. r.number) y) a b h.reads_are h.writers_are
+    pub operands_are : (rs : List ℕ) → map (option_map (λ r. r.number)) reads ≡ two rs → map (in_flight es) ws ≡ map (writer_of before) (two rs) →
+        (value 0 ≡ first_operand regs before rs) × (value 1 ≡ second_operand regs before rs)
+    operands_are [] r w = values None None r w
+    operands_are (a ∷ []) r w = values (Some a) None r w
+    operands_are (a ∷ b ∷ rs) r w = values (Some a) (Some b) r w

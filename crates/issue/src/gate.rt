@@ -1,6 +1,6 @@
 //! Which entries may issue, and which are granted a port (`docs/machine.md`, "Issue").
 use crate::seen::{Place, Seen};
-use rob_ring::sources_at;
+use rob_ring::{Sources, sources_at};
 use rv_types::Kind;
 use transmit_gate::may_transmit;
 use unit_ports::Ports;
@@ -8,16 +8,18 @@ use unit_ports::Ports;
 impl<'a> Seen<'a> {
     ghost use Rattle.std.specs.Prelude.{◌≡◌, Some, slice_get};
     ghost use Rattle.window_model.specs.Issue.{may_issue};
-    ghost use Rattle.rob_ring.specs.Beside.{each_roots};
+    ghost use Rattle.rob_ring.specs.Beside.{each_roots, each_writers};
     ghost use Rattle.issue.specs.Ports.{LeftFor, besides, is_served};
     ghost use Rattle.issue.specs.State.{HasTurn, here};
 
-    // The youngest roots of the entry's sources, as they stand at its position.
-    fn roots_at(&self, place: &Place) -> [Option<u64>; 2]
+    /// What stands of the entry's sources at its position: their youngest roots, and the serials of their writers.
+    pub(crate) fn sources_of(&self, place: &Place) -> Sources
         requires turn { HasTurn self.now place.now }
-        ensures { slice_get (each_roots self.now.sources.now.items) place.now.position ≡ Some result }
+        ensures roots { slice_get (each_roots self.now.sources.now.items) place.now.position ≡ Some result.roots }
+        ensures writers { slice_get (each_writers self.now.sources.now.items) place.now.position
+            ≡ Some result.writers }
     {
-        sources_at(self.sources, place.position).roots
+        *sources_at(self.sources, place.position)
     }
 
     // What loads and divisions ask for beside untainted operands: older stores that are Done, a divider that is free.
@@ -37,7 +39,7 @@ impl<'a> Seen<'a> {
         requires turn { HasTurn self.now place.now }
         ensures { result ≡ here may_issue self.now place.now }
     {
-        let roots = self.roots_at(place);
+        let roots = self.sources_of(place).roots;
         if !may_transmit(place.entry.item.kind, roots, self.point) {
             return false;
         }

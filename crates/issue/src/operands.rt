@@ -1,16 +1,16 @@
 //! The values of an entry's sources (`docs/machine.md`, "Writers and roots"): a writer's that is in flight, else the retired
 //! one.
-ghost use Rattle.std.specs.Prelude.{◌≡◌, ◌<◌, Some, length, map, slice_get};
-ghost use Rattle.std.specs.List.{AllPairs};
+ghost use Rattle.std.specs.Prelude.{◌≡◌, Some, length, map, slice_get};
 ghost use Rattle.std.specs.Option.{option_map};
 ghost use Rattle.rv_types.specs.Regs.{reads_of, two};
 ghost use Rattle.rob_ring.specs.Ring.{below};
 ghost use Rattle.window_model.specs.Order.{from_writer};
+ghost use Rattle.window_model.specs.Serials.{Rise};
 ghost use Rattle.parts_stand.specs.Writers.{if_serial, in_flight};
 ghost use Rattle.issue.specs.Operands.{value_by};
 
 use crate::seen::{Place, Seen};
-use rob_ring::{RobRing, sources_at};
+use rob_ring::RobRing;
 use rv_types::{REGISTERS, Reg, reads_of};
 use window_model::Entry;
 
@@ -26,7 +26,7 @@ fn value_if_serial(serial: u64, entry: &Entry, retired: u32) -> u32
 
 // The value of the entry with this serial, if it is in flight; else this one.
 fn value_in_flight(rob: &RobRing, serial: u64, retired: u32) -> u32
-    requires rise { AllPairs (λ a b. a.serial < b.serial) rob.now.entries }
+    requires rise { Rise rob.now.entries }
     ensures { result ≡ from_writer (in_flight rob.now.entries (Some serial)) retired }
 {
     let position = rob.position_of(serial);
@@ -38,7 +38,7 @@ fn value_in_flight(rob: &RobRing, serial: u64, retired: u32) -> u32
 
 // The value of a register whose writer has this serial: the retired one where the writer isn't in flight.
 fn register_value(rob: &RobRing, regs: &[u32; REGISTERS], register: Reg, writer: Option<u64>) -> u32
-    requires rise { AllPairs (λ a b. a.serial < b.serial) rob.now.entries }
+    requires rise { Rise rob.now.entries }
     ensures { result ≡ value_by regs.now rob.now.entries (Some register.number) writer }
 {
     let retired = regs[register.number as usize];
@@ -55,7 +55,7 @@ pub(crate) fn source_value(
     source: Option<Reg>,
     writer: Option<u64>,
 ) -> u32
-    requires rise { AllPairs (λ a b. a.serial < b.serial) rob.now.entries }
+    requires rise { Rise rob.now.entries }
     ensures { result ≡ value_by regs.now rob.now.entries (option_map (λ r. r.number) source) writer }
 {
     match source {
@@ -72,18 +72,9 @@ pub(crate) struct Operands {
 }
 
 impl<'a> Seen<'a> {
-    ghost use Rattle.std.specs.Prelude.{◌≡◌, Some, slice_get};
-    ghost use Rattle.rob_ring.specs.Beside.{each_writers};
+    ghost use Rattle.std.specs.Prelude.{◌≡◌};
     ghost use Rattle.issue.specs.Operands.{first_of, second_of};
     ghost use Rattle.issue.specs.State.{HasTurn};
-
-    // The serials of the writers of the entry's sources, as they stand at its position.
-    fn writers_at(&self, place: &Place) -> [Option<u64>; 2]
-        requires turn { HasTurn self.now place.now }
-        ensures { slice_get (each_writers self.now.sources.now.items) place.now.position ≡ Some result }
-    {
-        sources_at(self.sources, place.position).writers
-    }
 
     /// The values of the entry's sources.
     pub(crate) fn operands(&self, place: &Place) -> Operands
@@ -92,7 +83,7 @@ impl<'a> Seen<'a> {
         ensures second { result.second ≡ second_of self.now place.now }
     {
         let [first, second] = reads_of(&place.entry.item.instr);
-        let writers = self.writers_at(place);
+        let writers = self.sources_of(place).writers;
         Operands {
             first: source_value(self.rob, self.regs, first, writers[0]),
             second: source_value(self.rob, self.regs, second, writers[1]),

@@ -1,13 +1,10 @@
 -- Where no station is ready the phase leaves all as it is; else what is decided is what the definition decides, and what is written comes
 -- to what it leaves.
 use Rattle.std.proofs.Common.{ap, sym, ◌∙◌}
-use Rattle.rob_ring.specs.Ring.{Ring}
-use Rattle.cache_tags.specs.Sets.{Cache}
-use Rattle.mshr_file.specs.Registers.{Registers}
 use Rattle.unit_ports.specs.Ports.{Ports}
 use Rattle.core_parts.specs.Held.{Sizes}
 use Rattle.issue.proofs.Idle.{idle_row, idle_shown}
-use Rattle.issue.proofs.Issued.{advanced, all_left, decides, few_left, issued_advanced, issued_machine, issued_row, issued_shown, issued_whole, register_left, standing}
+use Rattle.issue.proofs.Issued.{advanced, all_left, decides, few_left, issued_advanced, issued_row, issued_shown, issued_whole, register_left, standing}
 use Rattle.issue.proofs.phase.issue.Goals as goal
 
 pub returns-then-not-any_ready-clause-machine : goal.returns-then-not-any_ready-clause-machine
@@ -43,32 +40,25 @@ place-requires-clause-stands g c = standing _ c.parts.invariant
 
 pub take_register-requires : goal.take_register-requires
 take_register-requires g c =
-    let w = c.parts.invariant in
-    let k = decides _ _ _ _ c.decide.new.decided w c.divider-divider.ensures (ap (λ (p : Ports). p.divider) c.begin.ensures) c.decide.ensures.decides in
-    record { room = λ m. register_left _ c.decide.new.decided _ w k m }
+    let k = decides _ _ _ _ c.decide.new.decided c.parts.invariant c.divider-divider.ensures (ap (λ (p : Ports). p.divider) c.begin.ensures) c.decide.ensures.decides in
+    record { room = λ m. register_left _ c.decide.new.decided _ c.parts.invariant k m }
 
 pub invariant_of-parts : goal.invariant_of-parts
 invariant_of-parts g c =
-    let w = c.parts.invariant in
-    let k = decides _ _ _ _ c.decide.new.decided w c.divider-divider.ensures (ap (λ (p : Ports). p.divider) c.begin.ensures) c.decide.ensures.decides in
-    let machine = issued_machine _ c.decide.new.decided c.place.new.rob c.place.new.stations c.touch.new.tags c.take_register.new.mshrs c.decide.new.ports w k c.place.ensures.window c.touch.ensures c.take_register.ensures in
-    issued_whole _ c.place.new.rob c.place.new.stations c.touch.new.tags c.take_register.new.mshrs c.decide.new.ports w machine c.place.ensures.stands
-    (ap (λ (r : Ring). r.room) c.place.ensures.window) c.place.ensures.same_places (ap (λ (t : Cache). t.desc) c.touch.ensures) (ap (λ (m : Registers). m.room) c.take_register.ensures)
-    (c.decide.ensures.only.alus ∙ ap (λ (p : Ports). p.alus) c.begin.ensures)
+    let k = decides _ _ _ _ c.decide.new.decided c.parts.invariant c.divider-divider.ensures (ap (λ (p : Ports). p.divider) c.begin.ensures) c.decide.ensures.decides in
+    issued_whole _ c.decide.new.decided _ _ _ _ _ c.parts.invariant k c.place.ensures.window c.touch.ensures c.take_register.ensures
+    c.place.ensures.stands c.place.ensures.same_places (c.decide.ensures.only.alus ∙ ap (λ (p : Ports). p.alus) c.begin.ensures)
 
 pub returns-clause-machine : goal.returns-clause-machine
 returns-clause-machine g c =
-    let w = c.parts.invariant in
-    let k = decides _ _ _ _ c.decide.new.decided w c.divider-divider.ensures (ap (λ (p : Ports). p.divider) c.begin.ensures) c.decide.ensures.decides in
-    let machine = issued_machine _ c.decide.new.decided c.place.new.rob c.place.new.stations c.touch.new.tags c.take_register.new.mshrs c.decide.new.ports w k c.place.ensures.window c.touch.ensures c.take_register.ensures in
-    issued_shown _ c.place.new.rob c.place.new.stations c.touch.new.tags c.take_register.new.mshrs c.decide.new.ports _ w machine c.parts.view_is
+    let k = decides _ _ _ _ c.decide.new.decided c.parts.invariant c.divider-divider.ensures (ap (λ (p : Ports). p.divider) c.begin.ensures) c.decide.ensures.decides in
+    issued_shown _ c.decide.new.decided _ c.place.new.stations _ _ c.decide.new.ports c.parts.invariant k c.place.ensures.window c.touch.ensures c.take_register.ensures _ c.parts.view_is
 
 pub returns-clause-row : goal.returns-clause-row
 returns-clause-row g c = issued_row _ _ _ _ _ c.parts.invariant c.divider-divider.ensures c.decide.ensures.row c.parts.view_is
 
 pub returns-clause-advanced : goal.returns-clause-advanced
 returns-clause-advanced g c =
-    let w = c.parts.invariant in
-    let k = decides _ _ _ _ c.decide.new.decided w c.divider-divider.ensures (ap (λ (p : Ports). p.divider) c.begin.ensures) c.decide.ensures.decides in
-    let machine = issued_machine _ c.decide.new.decided c.place.new.rob c.place.new.stations c.touch.new.tags c.take_register.new.mshrs c.decide.new.ports w k c.place.ensures.window c.touch.ensures c.take_register.ensures in
-    issued_advanced _ c.place.new.rob c.place.new.stations c.touch.new.tags c.take_register.new.mshrs c.decide.new.ports _ w machine c.parts.view_is c.requires.advanced
+    let k = decides _ _ _ _ c.decide.new.decided c.parts.invariant c.divider-divider.ensures (ap (λ (p : Ports). p.divider) c.begin.ensures) c.decide.ensures.decides in
+    issued_advanced _ c.decide.new.decided _ c.place.new.stations _ _ c.decide.new.ports c.parts.invariant k c.place.ensures.window c.touch.ensures c.take_register.ensures _
+    c.parts.view_is c.requires.advanced

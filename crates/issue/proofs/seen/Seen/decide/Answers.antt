@@ -1,13 +1,12 @@
-use Rattle.std.proofs.Common.{◌≡◌, ◌≤◌, ◌+◌, ◌++◌, length, ap, sym, ◌∙◌, arith, refl, Some}
+use Rattle.std.proofs.Common.{◌≡◌, ◌≤◌, ◌++◌, length, ap, sym, ◌∙◌, arith, refl, Some}
 use Rattle.std.specs.Option.{option_map}
-use Rattle.std.proofs.lemmas.Option.{slice_get_within}
 use Rattle.window_model.specs.Issue.{issue_entry}
 use Rattle.window_model.specs.Row.{Row}
 use Rattle.issue.specs.Accesses.{as_access}
 use Rattle.issue.specs.State.{here, parts_of, window_of}
 use Rattle.issue.proofs.Noting.{as_many_events, as_many_puts, only_both, row_is}
 use Rattle.issue.proofs.Testing.{ready_is}
-use Rattle.issue.proofs.Waiting.{all_wait, at_end, at_next, station_more, waits_at}
+use Rattle.issue.proofs.Waiting.{all_wait, at_end, at_next, goes_on, waits_at}
 use Rattle.issue.proofs.Walking.{decided_all, decided_more, keeps, left_on, not_ready, walked_none, walked_past}
 use Rattle.issue.proofs.seen.Seen.decide.Goals as goal
 
@@ -33,16 +32,12 @@ loop-station-preserved-then-not-ready c =
     let len : c.len-station-end.result ≡ length s.stations.now.held = c.len-station-end.ensures.len in
     let in_range = c.loop-station-test.true in
     let w = waits_at (parts_of stands.next stands.writes s) stands.parts c.loop-station.station (omega (arith, len, in_range)) in
-    let is = ready_is s w.position w.entry stands w.is c.loop-station.station c.ready.result w.waits (sym w.station) c.ready.ensures in
-    let none = not_ready s w.position w.entry w.is w.waits (sym is ∙ c.if-not-ready.true) in
-    let walked = at_next _ (window_of s) c.loop-station.station w.position w.entry (keeps s c.loop-station.ports _ _ _ _ _) t.walked w.is w.waits w.station in
+    let at = w.1 in
+    let is = ready_is s w.0 at.entry stands at.is c.loop-station.station c.ready.result at.waits (sym at.station) c.ready.ensures in
+    let none = not_ready s w.0 at.entry at.is at.waits (sym is ∙ c.if-not-ready.true) in
     record {
-      walked = record {
-        position = w.position + 1;
-        within = let lt = slice_get_within (window_of s) w.position w.entry w.is in omega (arith, lt);
-        station = station_more (window_of s) w.position w.entry w.is w.waits ∙ ap (λ n. n + 1) w.station;
-        holds = walked_past s c.loop-station.ports _ _ _ _ _ w.position w.entry w.is none walked;
-      };
+      walked = goes_on _ _ (window_of s) c.loop-station.station w.0 at.entry (keeps s c.loop-station.ports _ _ _ _ _) t.walked at.is at.waits at.station
+          (walked_past s c.loop-station.ports _ _ _ _ _ w.0 at.entry at.is none);
       only = t.only;
       few = t.few;
       room = t.room;
@@ -70,7 +65,6 @@ loop-station-preserved c =
     let at = sym turn.station ∙ c.place_at-place.ensures.station in
     let t = c.loop-station.invariant in
     let b = here issue_entry s p in
-    let walked = at_next _ (window_of s) c.loop-station.station i e (keeps s c.loop-station.ports _ _ _ _ _) t.walked turn.at turn.waits at in
     let events : c.decide_entry.new.row.events ≡ c.loop-station.row.events ++ b.events = ap (λ (r : Row). r.events) c.decide_entry.ensures.row in
     let puts = as_many_puts c.loop-station.decided.puts.items c.decide_entry.new.decided.puts.items i p.station b c.decide_entry.ensures.puts in
     let more = as_many_events c.loop-station.row.events c.decide_entry.new.row.events b events in
@@ -78,15 +72,11 @@ loop-station-preserved c =
     let few = t.few in
     let room = t.room in
     record {
-      walked = record {
-        position = i + 1;
-        within = let lt = slice_get_within (window_of s) i e turn.at in omega (arith, lt);
-        station = station_more (window_of s) i e turn.at turn.waits ∙ ap (λ n. n + 1) at;
-        holds = record {
-          decided = decided_more s i e turn.at p.station _ _ _ _ _ _ _ _ _ _ turn.station c.decide_entry.ensures.puts events c.decide_entry.ensures.load c.decide_entry.ensures.divider walked.decided;
-          left = left_on s i e turn.at _ c.decide_entry.ensures.left;
-        };
-      };
+      walked = goes_on _ _ (window_of s) c.loop-station.station i e (keeps s c.loop-station.ports _ _ _ _ _) t.walked turn.at turn.waits at (λ walked. record {
+        decided = decided_more s i e turn.at p.station _ _ _ _ _ _ _ _ _ _ turn.station c.decide_entry.ensures.puts events c.decide_entry.ensures.load
+            c.decide_entry.ensures.divider walked.decided;
+        left = left_on s i e turn.at _ c.decide_entry.ensures.left;
+      });
       only = only_both _ _ _ t.only c.decide_entry.ensures.only;
       few = omega (arith, puts, fewer, few);
       room = omega (arith, more, fewer, room);
@@ -104,9 +94,9 @@ returns c =
     let room = t.room in
     let many = all_wait (parts_of stands.next stands.writes s) stands.parts in
     let walked = at_end _ (window_of s) c.loop-station.station (keeps s c.loop-station.ports _ _ _ _ _) t.walked (omega (arith, many, len, end, up_to)) in
-    let all = decided_all s (length (window_of s)) _ _ _ _ _ _ (omega arith) walked.decided in
+    let all = decided_all s (length (window_of s)) c.loop-station.decided _ _ _ _ (omega arith) walked.decided in
     record {
-      decides = record { window = all.window_is; load = all.load_is; divider = all.divider_is };
+      decides = all.decides;
       puts = all.puts_are;
       row = row_is c.args.row.now c.loop-station.row _ t.cycle all.events_are;
       only = t.only;

@@ -9,7 +9,7 @@ use Rattle.issue.specs.Turns.{after_of, divider_by, load_by, puts_by, puts_of}
 use Rattle.issue.proofs.Choosing.{division_where, granted_done, load_where, the_other}
 use Rattle.issue.proofs.Noting.{same_row}
 use Rattle.issue.proofs.Testing.{left_refused, served, some_left}
-use Rattle.issue.proofs.Turning.{few_events, turn_acts, turn_begins, turn_waits}
+use Rattle.issue.proofs.Turning.{few_events, turn_acts, turn_is}
 use Rattle.issue.proofs.seen.Seen.decide_entry.Goals as goal
 
 pub returns-then-not-is_served : goal.returns-then-not-is_served
@@ -21,13 +21,13 @@ returns-then-not-is_served c =
     let before = before_of s p in
     let e = p.entry.now in
     let refused : is_granted d now (port_of e.item.kind) before e ≡ false = sym c.is_served.ensures ∙ c.if-not-is_served.true in
-    let stays = turn_waits d now before e refused in
+    let stays = turn_is false d now before e refused in
     let none = ap (λ b. length b.events) stays in
     record {
       puts = sym (ap (λ b. c.args.decided.now.puts.items ++ puts_of p.position p.station b) stays ∙ append-nil c.args.decided.now.puts.items);
       row = sym (ap (λ b. with_events c.args.row.now b.events) stays ∙ same_row c.args.row.now);
-      load = the_other _ _ _ _ (load_where d now before e false refused) refl;
-      divider = the_other _ _ _ _ (division_where d now before e false refused) refl;
+      load = the_other _ _ _ (load_where d now before e false refused);
+      divider = the_other _ _ _ (division_where d now before e false refused);
       left = left_refused d now before e _ c.requires.left refused;
       fewer = omega (arith, none);
       only = record { alus = refl; cycle = refl };
@@ -41,17 +41,13 @@ begin-after-requires-clause-done c =
 
 pub begin-after-requires-clause-room : goal.begin-after-requires-clause-room
 begin-after-requires-clause-room c =
-    let s = c.args.self.now in
-    let p = c.args.place.now in
-    let some = some_left s.desc.now (around_of s) (before_of s p) p.entry.now _ c.requires.left (sym c.is_served.ensures ∙ c.if-not-is_served.false) in
+    let some = some_left _ _ _ c.args.place.now.entry.now _ c.requires.left (sym c.is_served.ensures ∙ c.if-not-is_served.false) in
     let room = c.requires.room in
     omega (arith, some, room)
 
 pub note-requires : goal.note-requires
 note-requires c =
-    let s = c.args.self.now in
-    let p = c.args.place.now in
-    let some = some_left s.desc.now (around_of s) (before_of s p) p.entry.now _ c.requires.left (sym c.is_served.ensures ∙ c.if-not-is_served.false) in
+    let some = some_left _ _ _ c.args.place.now.entry.now _ c.requires.left (sym c.is_served.ensures ∙ c.if-not-is_served.false) in
     let few = c.requires.few in
     omega (arith, some, few)
 
@@ -64,7 +60,7 @@ returns c =
     let before = before_of s p in
     let e = p.entry.now in
     let granted : is_granted d now (port_of e.item.kind) before e ≡ true = sym c.is_served.ensures ∙ c.if-not-is_served.false in
-    let begins = turn_begins d now before e granted in
+    let begins = turn_is true d now before e granted in
     let comes = c.begin-after.ensures.comes in
     let left = served d now before e _ c.requires.left granted _ _ _ c.begin-after.ensures.divider c.grant.ensures.left in
     let few = few_events _ e _ (turn_acts d now before e) in

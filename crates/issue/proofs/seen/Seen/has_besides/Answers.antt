@@ -8,7 +8,5 @@ use Rattle.issue.proofs.seen.Seen.has_besides.Goals as goal
 pub returns-in-Load : goal.returns-in-Load
 returns-in-Load c =
     let s = c.args.self.now in
-    let p = c.args.place.now in
-    let t = c.requires.turn in
-    c.all_older_known.ensures ∙ stores_known s p.position p.entry.now t.stands t.at
-    ∙ ap (λ k. asks_besides k (is_free (around_of s)) (before_of s p)) (sym c.in-Load.is)
+    c.all_older_known.ensures ∙ stores_known s _ _ c.requires.turn.stands c.requires.turn.at
+    ∙ ap (λ k. asks_besides k (is_free (around_of s)) (before_of s c.args.place.now)) (sym c.in-Load.is)
