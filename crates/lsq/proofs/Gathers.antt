@@ -1,9 +1,8 @@
 -- A walk over the stores gathers what a load finds.
-use Rattle.std.proofs.Common.{◌≡◌, ℕ, ◌+◌, ◌<◌, Bool, true, false, ◌&&◌, List, ◌∷◌, is_some, refl, ◌∙◌}
+use Rattle.std.proofs.Common.{◌≡◌, ℕ, ◌+◌, Bool, true, false, ◌&&◌, List, is_some, refl}
 use Rattle.rv_types.specs.Word.{from_le}
 use Rattle.rv_types.specs.Memory.{Ram}
 use Rattle.rv_types.specs.Value.{bytes_in}
-use Rattle.std.specs.Prelude.{if◌then◌else◌}
 use Rattle.rv_types.specs.declared.Width.{Width}
 use Rattle.rv_types.specs.declared.Width.TheVariants.{B, H, W}
 use Rattle.lsq.specs.declared.store.Store.{Store}

@@ -1,3 +1,4 @@
 pub mod Older
 pub mod Gathers
 pub mod Faultless
+mod Absent

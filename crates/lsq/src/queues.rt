@@ -1,6 +1,6 @@
 //! The queue of loads and the queue of stores.
 ghost use Rattle.std.specs.Prelude.{◌≡◌, ◌<◌, ◌≤◌, ◌*◌, ◌^◌, not, ◌==◌, ◌||◌, nat_le, nat_lt, [], ◌∷◌, ◌++◌, length, map, None, IfOk, vec_len, vec_capacity};
-ghost use Rattle.std.specs.List.{filter, list_all};
+ghost use Rattle.std.specs.List.{filter, list_all, list_any};
 ghost use Rattle.rv_types.specs.Memory.{load_fault};
 ghost use Rattle.rv_types.specs.Value.{bytes_in};
 ghost use Rattle.rv_types.specs.Word.{from_le};
@@ -225,16 +225,34 @@ fn cut_stores(stores: &mut Vec<Store>, first: u64)
     stores.retain(|store| store.serial < first);
 }
 
+// Whether there is a load with this serial. The oldest is found at once.
+fn holds_load(loads: &[u64], serial: u64) -> bool
+    ensures { result ≡ list_any (λ l. l == serial) loads.now }
+{
+    loads.iter().any(|load| *load == serial)
+}
+
+// The same for a store.
+fn holds_store(stores: &[Store], serial: u64) -> bool
+    ensures { result ≡ list_any (λ s. s.serial == serial) stores.now }
+{
+    stores.iter().any(|store| store.serial == serial)
+}
+
 fn pop_load(loads: &mut Vec<u64>, serial: u64)
     ensures kept { loads.new.items ≡ filter (λ l. not (l == serial)) loads.old.items }
     ensures capacity { vec_capacity loads.new ≡ vec_capacity loads.old }
 {
-    loads.retain(|load| *load != serial);
+    if holds_load(loads.as_slice(), serial) {
+        loads.retain(|load| *load != serial);
+    }
 }
 
 fn pop_store(stores: &mut Vec<Store>, serial: u64)
     ensures kept { stores.new.items ≡ filter (λ s. not (s.serial == serial)) stores.old.items }
     ensures capacity { vec_capacity stores.new ≡ vec_capacity stores.old }
 {
-    stores.retain(|store| store.serial != serial);
+    if holds_store(stores.as_slice(), serial) {
+        stores.retain(|store| store.serial != serial);
+    }
 }
