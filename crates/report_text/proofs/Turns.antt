@@ -1,5 +1,5 @@
 -- The texts of numbers that are written in turn.
-use Rattle.std.proofs.Common.{◌≡◌, ◌<◌, ◌≤◌, ℕ, suc, ◌+◌, ◌-◌, List, [], ◌++◌, refl, arith}
+use Rattle.std.proofs.Common.{◌≡◌, ◌<◌, ◌≤◌, ℕ, zero, suc, ◌+◌, ◌-◌, List, [], ◌++◌, refl, ap, ◌∙◌, subst, arith}
 use Rattle.tool_io.specs.Outside.{Told, Wrote, WrotePart}
 use Rattle.tool_io.proofs.Writing.{WroteUpTo, up_to_start, up_to_more, up_to_part, up_to_end}
 use Rattle.report_text.specs.Report.{each_from}
@@ -31,3 +31,15 @@ each_part all text n i s t u h p q = up_to_part _ _ _ _ _ _ (rw (each_more text 
 -- past the last number all is written
 pub each_done : (all : List ℕ) (text : ℕ → List ℕ) (n i : ℕ) (s t : Told) → n ≤ i → WroteUpTo all (each_from text i (n - i)) s t → Wrote all s t
 each_done all text n i s t h p = up_to_end _ _ _ (rw (each_end text n i h) at p)
+
+passed : (text : ℕ → List ℕ) (n i m : ℕ) → i + m ≤ n → ((k : ℕ) → i ≤ k → k < i + m → text k ≡ []) → each_from text i (n - i) ≡ each_from text (i + m) (n - (i + m))
+passed text n i zero le none = let e : i + 0 ≡ i = omega arith in rw e refl
+passed text n i (suc m) le none =
+    let e : i + 1 + m ≡ i + suc m = omega arith in
+    let on : each_from text (i + 1) (n - (i + 1)) ≡ each_from text (i + 1 + m) (n - (i + 1 + m)) = passed text n (i + 1) m (omega (arith, le)) (λ k low high. none k (omega (arith, low)) (omega (arith, high))) in
+    each_more text n i (omega (arith, le)) ∙ ap (λ t. t ++ each_from text (i + 1) (n - (i + 1))) (none i (omega arith) (omega arith)) ∙ on ∙ ap (λ j. each_from text j (n - j)) e
+
+-- numbers without a text are passed over
+pub each_passed : (all : List ℕ) (text : ℕ → List ℕ) (n i m : ℕ) (s t : Told) → i + m ≤ n → ((k : ℕ) → i ≤ k → k < i + m → text k ≡ []) → WroteUpTo all (each_from text i (n - i)) s t
+    → WroteUpTo all (each_from text (i + m) (n - (i + m))) s t
+each_passed all text n i m s t le none p = subst (λ rest. WroteUpTo all rest s t) (passed text n i m le none) p

@@ -1,5 +1,5 @@
 //! The rows of memory that a run changed (`docs/formats.md`, "The report").
-ghost use Rattle.std.specs.Prelude.{◌≡◌, ◌≤◌, ◌+◌, ◌*◌, length};
+ghost use Rattle.std.specs.Prelude.{◌≡◌, ◌<◌, ◌≤◌, ◌+◌, ◌*◌, ℕ, true, length};
 ghost use Rattle.tool_io.specs.Outside.{Writes};
 ghost use Rattle.report_text.specs.Report.{row_of, row_line, row_text, row_lines};
 
@@ -9,6 +9,9 @@ use tool_io::{Failed, Sink};
 
 /// The bytes of a row.
 const ROW: usize = 16;
+
+/// The rows of a block. Most blocks are as they were, and are passed by one comparison.
+const BLOCK: usize = 256;
 
 fn row_of(bytes: &[u8], row: usize) -> &[u8]
     requires { 16 * row + 16 ≤ length bytes.now }
@@ -51,6 +54,18 @@ fn write_row<S: Sink>(
     out.put(line.as_slice())
 }
 
+// Whether a block begins at a row in which both memories hold the same bytes: so its rows needn't be looked at.
+fn is_same_block(before: &[u8], after: &[u8], row: usize) -> bool
+    requires size { length before.now ≡ length after.now }
+    requires inside { 16 * row ≤ length after.now }
+    ensures within { result ≡ true → 16 * (row + 256) ≤ length after.now }
+    ensures same { result ≡ true → (k : ℕ) → row ≤ k → k < row + 256 → row_of before.now k ≡ row_of after.now k }
+{
+    let from = ROW * row;
+    let to = from + ROW * BLOCK;
+    row % BLOCK == 0 && to <= after.len() && before[from..to] == after[from..to]
+}
+
 /// Writes the lines of the rows that differ, by rising address, one put a line, each in the line that is lent.
 pub(crate) fn write_rows<S: Sink>(
     before: &Ram,
@@ -62,8 +77,14 @@ pub(crate) fn write_rows<S: Sink>(
     ensures { Writes (row_lines before.now after.now) (S.told out.old) (S.told out.new) result }
 {
     let rows = after.size() as usize / ROW;
-    for row in 0..rows {
-        write_row(before, after, row, line, out)?;
+    let mut row = 0;
+    while row < rows {
+        if is_same_block(before.bytes(), after.bytes(), row) {
+            row += BLOCK;
+        } else {
+            write_row(before, after, row, line, out)?;
+            row += 1;
+        }
     }
     Ok(())
 }

@@ -1,6 +1,7 @@
-use Rattle.std.proofs.Common.{◌<◌, ◌≤◌, ◌/◌, length, arith}
-use Rattle.report_text.specs.Report.{row_text}
-use Rattle.report_text.proofs.Turns.{each_begun, each_wrote, each_part, each_done}
+use Rattle.std.proofs.Common.{◌+◌, ◌<◌, ◌≤◌, ◌/◌, length, refl, ap, sym, ◌∙◌, arith}
+use Rattle.report_text.specs.Report.{row_of, row_text}
+use Rattle.report_text.proofs.Blocks.{no_text}
+use Rattle.report_text.proofs.Turns.{each_begun, each_passed, each_wrote, each_part, each_done}
 use Rattle.tool_io.proofs.Writing.{writes_part}
 use Rattle.report_text.proofs.rows.write_rows.Goals as goal
 
@@ -21,3 +22,11 @@ pub returns : goal.returns
 returns g c =
     let h : length c.args.after.now.bytes / 16 ≤ c.loop-row.row = omega arith in
     each_done _ (row_text c.args.before.now c.args.after.now) _ _ _ _ h c.loop-row.invariant
+
+pub loop-row-preserved-then-is_same_block : goal.loop-row-preserved-then-is_same_block
+loop-row-preserved-then-is_same_block g c =
+    let within = c.if-is_same_block.ensures.within refl in
+    let le : c.loop-row.row + 256 ≤ length c.args.after.now.bytes / 16 = let long = ap length c.bytes-in-loop-row.ensures in omega (arith, within, long) in
+    each_passed _ (row_text c.args.before.now c.args.after.now) _ _ 256 _ _ le
+    (λ k low high. no_text c.args.before.now c.args.after.now k (ap (λ bs. row_of bs k) (sym c.bytes.ensures) ∙ c.if-is_same_block.ensures.same refl k low high ∙ ap (λ bs. row_of bs k) c.bytes-in-loop-row.ensures))
+    c.loop-row.invariant

@@ -7,3 +7,6 @@ use Rattle.report_text.proofs.rows.write_rows.Given as goal
 abbrev pub invariant-loop-row : goal.invariant-loop-row
 invariant-loop-row g l =
     WroteUpTo (row_lines l.before l.after) (each_from (row_text l.before l.after) l.row (length l.after.bytes / 16 - l.row)) (g.S.Sink.told l.initial.out) (g.S.Sink.told l.out)
+
+abbrev pub decreases-loop-row : goal.decreases-loop-row
+decreases-loop-row g l = length l.after.bytes / 16 - l.row
