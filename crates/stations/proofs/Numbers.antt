@@ -26,7 +26,7 @@ all_differ room numbers once =
     AllPairs-from_IsDistinct Decides-eqb numbers (IsDistinct-IsPermutation (λ a b. a == b) flips (range_with_len 0 room) numbers once (IsDistinct-from_AllPairs Decides-eqb (range_with_len 0 room) (range_differs room)))
 
 -- each is a place's
-all_below : (room : ℕ) (numbers : List ℕ) → IsPermutation (range_with_len 0 room) numbers → All (λ p. p < room) numbers
+pub all_below : (room : ℕ) (numbers : List ℕ) → IsPermutation (range_with_len 0 room) numbers → All (λ p. p < room) numbers
 all_below room numbers once =
     All-permutation (λ p. p < room) (range_with_len 0 room) numbers once (λ k d l. let n = length-range_with_len 0 room in let e = get_or-range_with_len 0 room k d (omega arith) in omega (arith, e, n, l))
 

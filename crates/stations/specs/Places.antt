@@ -1,7 +1,7 @@
 -- The entries that wait, the places that they have and the places that are free.
 use Rattle.std.specs.Prelude.{ℕ, ◌≡◌, ◌-◌, ◌<◌, ◌%◌, Bool, true, not, is_none, false, ◌||◌, ◌==◌, List, [], ◌∷◌, ◌++◌, map, length, Option, Some, None, slice_get, slice_index, slice_index_or, IsPermutation}
 use Rattle.std.specs.Int.{bit_at}
-use Rattle.std.specs.List.{list_all, range_with_len}
+use Rattle.std.specs.List.{All, list_all, range_with_len}
 use Rattle.word_bits.specs.Bits.{one_if}
 use Rattle.stations.specs.declared.occupant.Occupant.{Occupant}
 use Rattle.stations.specs.Stations.{Rise, Station, strike}
@@ -64,3 +64,8 @@ waits o = not (list_all is_none (awaited o))
 -- a word's bits are set for the places where something is awaited
 abbrev pub MarkWaiting : List Occupant → ℕ → Type 0
 MarkWaiting places waiting = (place : ℕ) → place < 64 → bit_at waiting place ≡ one_if (waits (slice_index_or places place nobody))
+
+-- a word's bits are set for the places that are taken, and for no free one
+pub record MarkTaken (ages free : List ℕ) (taken : ℕ) : Type 0 where
+  pub set : All (λ place. bit_at taken place ≡ 1) ages
+  pub clear : All (λ place. bit_at taken place ≡ 0) free

@@ -7,12 +7,12 @@ ghost use Rattle.stations.specs.Places.{station, is_youngest};
 
 use crate::occupant::Occupant;
 use crate::places::{all_places, empty_places, push_within, take_free};
-use crate::waking::{GROUPS, mark_waiter, wake_all};
+use crate::waking::{GROUPS, first_apart, mark_waiter, wake_all};
 use machine_desc::Desc;
 use rv_types::NoMemory;
 use std::alloc::Global;
 use std::marker::Model;
-use word_bits::has_bit;
+use word_bits::{has_bit, with_bit};
 
 /// The entries that wait, in `core.stations` places, in which they don't move. Beside the places stand the numbers of those that are
 /// taken, by age, and of those that are free. Positions count the entries by age, from the oldest, which has 0.
@@ -25,12 +25,14 @@ pub struct Stations {
     waiters: [u64; GROUPS],
     // The places where something is awaited, as the bits of a word.
     waiting: u64,
+    // The places that are taken, as the bits of a word.
+    taken: u64,
 }
 
 impl Model for Stations {
     ghost use Rattle.std.specs.Prelude.{◌≡◌, ◌+◌, ◌<◌, ◌≤◌, ◌^◌, vec_len, vec_capacity};
     ghost use Rattle.stations.specs.Stations.{Stations};
-    ghost use Rattle.stations.specs.Places.{held_of, MarkWaiters, MarkWaiting, Placed};
+    ghost use Rattle.stations.specs.Places.{held_of, MarkTaken, MarkWaiters, MarkWaiting, Placed};
 
     ghost Value = { Stations };
 
@@ -40,7 +42,7 @@ impl Model for Stations {
         × (vec_len s.ages + vec_len s.free ≡ vec_len s.places)
         × (vec_len s.places ≤ vec_capacity s.ages) × (vec_len s.places ≤ vec_capacity s.free)
         × (vec_len s.places ≤ 64) × MarkWaiters s.places.items s.waiters
-        × MarkWaiting s.places.items s.waiting };
+        × MarkWaiting s.places.items s.waiting × MarkTaken s.ages.items s.free.items s.taken };
 }
 
 impl Stations {
@@ -58,6 +60,7 @@ impl Stations {
             free,
             waiters: [0; GROUPS],
             waiting: 0,
+            taken: 0,
         })
     }
 
@@ -88,6 +91,7 @@ impl Stations {
         let occupant = Occupant::new(serial, awaits);
         mark_waiter(&mut self.waiters, &mut self.waiting, place, &occupant);
         self.places[place as usize] = occupant;
+        self.taken = with_bit(self.taken, place, true);
         push_within(&mut self.ages, place);
     }
 
@@ -115,12 +119,7 @@ impl Stations {
     pub fn any_ready(&self) -> bool
         ensures { result ≡ list_any awaits_none self.now.held }
     {
-        for i in 0..self.len() {
-            if self.ready(i) {
-                return true;
-            }
-        }
-        false
+        first_apart(self.taken, self.waiting, self.places.len() as u32).is_some()
     }
 
     /// The serial of the entry at a position.
@@ -147,6 +146,7 @@ impl Stations {
         ensures { self.new ≡ record self.old { held = remove self.old.held i } }
     {
         let place = self.ages.remove(i as usize);
+        self.taken = with_bit(self.taken, place, false);
         push_within(&mut self.free, place);
     }
 

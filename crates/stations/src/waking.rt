@@ -1,5 +1,5 @@
 //! Who may await a serial: marks, so that who becomes Done wakes those alone.
-ghost use Rattle.std.specs.Prelude.{◌≡◌, ◌≢◌, ◌<◌, ◌≤◌, ℕ, true, slice_index, slice_index_or, vec_len};
+ghost use Rattle.std.specs.Prelude.{◌≡◌, ◌≢◌, ◌+◌, ◌%◌, ◌<◌, ◌≤◌, ℕ, true, min, slice_index, slice_index_or, vec_len};
 ghost use Rattle.std.specs.Int.{bit_at};
 ghost use Rattle.word_bits.specs.Bits.{NextBit, one_if};
 ghost use Rattle.stations.specs.Places.{MarkWaiters, MarkWaiting, awaits_in, is_in, nobody, waits, woken};
@@ -51,6 +51,14 @@ fn next_place(word: u64, from: u32, room: u32) -> Option<u32>
         Some(place) => { if place < room { Some(place) } else { None } }
         None => None,
     }
+}
+
+/// The first place, among so many, that the first word marks and the second doesn't.
+pub fn first_apart(taken: u64, waiting: u64, room: u32) -> Option<u32>
+    requires { room ≤ 64 }
+    ensures { NextBit (λ p. (bit_at taken p + min (bit_at taken p) (bit_at waiting p)) % 2) 0 room result }
+{
+    next_place(taken ^ (taken & waiting), 0, room)
 }
 
 // The entry in a place awaits a serial no longer, and maybe nothing. Its mark goes, if it awaits none of the serial's group then.

@@ -1,9 +1,14 @@
-use Rattle.std.proofs.Common.{sym, arith}
-use Rattle.stations.proofs.Asking.{one_is_ready, none_ready_yet}
+use Rattle.std.proofs.Common.{ap, ◌∙◌, arith}
+use Rattle.std.specs.List.{list_any}
+use Rattle.stations.specs.Stations.{Stations, awaits_none}
+use Rattle.stations.proofs.Taken.{any_is}
 use Rattle.stations.proofs.by_age.Stations.any_ready.Goals as goal
 
-pub returns-then-ready : goal.returns-then-ready
-returns-then-ready c = sym (one_is_ready c.args.self.now.held c.loop-i.i c.ready.result (omega arith) c.ready.ensures c.if-ready.true)
+pub first_apart-requires : goal.first_apart-requires
+first_apart-requires c = let few = c.self.invariant.4 in omega (arith, few)
 
-pub loop-i-preserved : goal.loop-i-preserved
-loop-i-preserved c = none_ready_yet c.args.self.now.held c.loop-i.i c.ready.result (omega arith) c.ready.ensures c.if-ready.false c.loop-i.invariant
+pub returns : goal.returns
+returns c =
+    let few = c.self.invariant.4 in
+    c.is_some.ensures ∙ any_is c.self.inside.places.items c.self.inside.waiting c.self.inside.taken (omega (arith, few)) c.self.invariant.6 c.self.inside.ages.items c.self.inside.free.items c.len.result (omega (arith, c.len.ensures)) c.self.invariant.0.once c.self.invariant.7 c.first_apart.result c.first_apart.ensures
+    ∙ ap (λ (v : Stations). list_any awaits_none v.held) c.self.view_is

@@ -1,10 +1,21 @@
-use Rattle.std.proofs.Common.{length, ap, ap₂, ◌∙◌, arith}
+use Rattle.std.proofs.Common.{◌<◌, length, ap, ap₂, ◌∙◌, arith}
 use Rattle.std.specs.List.{remove}
 use Rattle.std.proofs.lemmas.List.{length-map}
 use Rattle.stations.specs.Stations.{Stations}
 use Rattle.stations.specs.Places.{station_in, held_of}
+use Rattle.stations.proofs.Numbers.{taken_below}
+use Rattle.stations.proofs.Taken.{taken_remove}
 use Rattle.stations.proofs.Placing.{placed_remove, held_remove}
 use Rattle.stations.proofs.by_age.Stations.remove.Goals as goal
+
+pub with_bit-self-inside-requires : goal.with_bit-self-inside-requires
+with_bit-self-inside-requires c =
+    let held = ap (λ (v : Stations). length v.held) c.self.view_is in
+    let long = length-map c.self.inside.ages.items (station_in c.self.inside.places.items) in
+    let lt : c.args.i < length c.self.inside.ages.items = omega (arith, c.requires, held, long) in
+    let below = taken_below _ _ _ c.self.invariant.0.once c.args.i c.remove-place.result lt in
+    let few = c.self.invariant.4 in
+    omega (arith, below, c.remove-place.ensures.value, few)
 
 pub invariant_of-self : goal.invariant_of-self
 invariant_of-self c =
@@ -18,6 +29,7 @@ invariant_of-self c =
       inside.4,
       inside.5,
       inside.6,
+      rw (c.remove-place.ensures.items, c.push_within.ensures.items) (taken_remove _ _ _ _ _ _ _ inside.0.once (omega (arith, inside.4)) inside.7 (omega (arith, c.requires, held, long)) c.remove-place.ensures.value c.with_bit-self-inside.ensures.here c.with_bit-self-inside.ensures.others),
     )
 
 pub returns : goal.returns

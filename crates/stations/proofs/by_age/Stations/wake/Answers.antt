@@ -25,6 +25,7 @@ invariant_of-self c =
       omega (arith, inside.4, c.wake_all.ensures.len),
       c.wake_all.ensures.marked,
       c.wake_all.ensures.waiting,
+      inside.7,
     )
 
 pub returns : goal.returns
