@@ -3,29 +3,16 @@
 //! `main` hands the words, the host's files and the standard streams to `stt_top`, which does all the rest.
 #![tactic(auto)]
 
-mod building;
-mod clocking;
-mod description;
-mod loading;
-mod note;
-mod outcome;
-mod performing;
-mod reading;
-mod region;
-mod running;
-mod sources;
-mod task;
 #[cfg(test)]
 mod tests;
-mod top;
 
 use std::alloc::Global;
 use std::io::ErrorKind;
 use std::process::ExitCode;
 use std::rt::Env;
 use std::{env, io};
+use stt_top::stt_top;
 use tool_io::{RealFiles, RealSink};
-use top::stt_top;
 
 /// The status where there is no memory for the words.
 const NO_MEMORY: u8 = 8;

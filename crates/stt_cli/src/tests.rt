@@ -1,9 +1,9 @@
 //! Worked runs and refusals over files and sinks in memory: each status, each note, and reads and puts that fail.
-use crate::top::stt_top;
 use machine_desc::EXAMPLE;
 use std::alloc::Global;
 use std::process::Abort;
 use std::test::Fail;
+use stt_top::stt_top;
 use tool_io::{Content, MemFail, MemFile, MemFiles, MemSink};
 
 mod bench;

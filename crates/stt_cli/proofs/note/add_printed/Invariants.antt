@@ -1,7 +1,0 @@
--- The bytes so far stand behind those that were there.
-use Rattle.std.proofs.Common.{◌≡◌, ◌++◌, take}
-use Rattle.stt_cli.specs.Note.{printed}
-use Rattle.stt_cli.proofs.note.add_printed.Given as goal
-
-abbrev pub invariant-loop-byte : goal.invariant-loop-byte
-invariant-loop-byte l = l.line ≡ l.initial.line ++ printed (take l.byte-index l.name)

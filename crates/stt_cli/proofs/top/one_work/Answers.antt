@@ -1,5 +1,0 @@
-use Rattle.stt_cli.proofs.Tasks.{one_work}
-use Rattle.stt_cli.proofs.top.one_work.Goals as goal
-
-pub returns : goal.returns
-returns c = one_work

@@ -1,0 +1,100 @@
+-- What is read in turn: a description, and images one after the other.
+use Rattle.std.proofs.Common.{◌≡◌, ◌≤◌, ℕ, List, [], ◌∷◌, take, Option, Some, subst, sym, ◌∙◌, arith}
+use Rattle.std.specs.Prelude.{slice_get}
+use Rattle.elf_loader.specs.Image.{ImageText}
+use Rattle.machine_desc.specs.declared.Desc.{Desc}
+use Rattle.tool_io.specs.declared.Got.TheVariants.{Bytes, TooLong}
+use Rattle.tool_io.specs.Outside.{Shelf, GetsTold, SameCounts, SameContents, NameFailed, Rose}
+use Rattle.stt_top.specs.declared.outcome.Which.{Which}
+use Rattle.stt_top.specs.declared.outcome.Refusal.{Refusal}
+use Rattle.stt_top.specs.declared.outcome.Refusal.TheVariants.{ReadImage, ImageTooLong, Image, Memory}
+use Rattle.stt_top.specs.Outcome.{place_of}
+use Rattle.stt_top.specs.Input.{image_max, ImageFrom, from_file, from_seed, HasBytes, HasDesc, IsImage, FailsToRead, HasTooMany, ImageRefused, AreImages, IsRead, Refuses}
+
+-- ---- What the files tell before and after
+
+pub counts_after : (old mid new : Shelf) → SameCounts old mid → SameCounts mid new → SameCounts old new
+counts_after old mid new s t n = t n ∙ s n
+
+pub contents_after : (old mid new : Shelf) → SameContents old mid → SameContents mid new → SameContents old new
+contents_after old mid new s t n = t n ∙ s n
+
+failed_after : (name : List ℕ) (old mid new : Shelf) → SameCounts old mid → NameFailed name mid new → NameFailed name old new
+failed_after name old mid new s f =
+    let P : ℕ → Type 0 = λ k. Rose k (new.faults name) in
+    record {
+      rose = subst P (s name) f.rose;
+      later = λ n. let a : mid.faults n ≡ old.faults n = s n in let b : mid.faults n ≤ new.faults n = f.later n in omega (arith, a, b);
+    }
+
+-- what is told of an image is told before
+bytes_before : (old mid : Shelf) (from : ImageFrom) (file : List ℕ) → SameContents old mid → HasBytes mid from file → HasBytes old from file
+bytes_before old mid (from_file name) file s h = let P : Option (List ℕ) → Type 0 = λ o. GetsTold o image_max (Bytes file) in subst P (s name) h
+bytes_before old mid (from_seed seed blocks) file s h = h
+
+too_many_before : (old mid : Shelf) (from : ImageFrom) → SameContents old mid → HasTooMany mid from → HasTooMany old from
+too_many_before old mid (from_file name) s h = let P : Option (List ℕ) → Type 0 = λ o. GetsTold o image_max TooLong in subst P (s name) h
+too_many_before old mid (from_seed seed blocks) s h = h
+
+fails_before : (old mid new : Shelf) (from : ImageFrom) → SameCounts old mid → FailsToRead mid new from → FailsToRead old new from
+fails_before old mid new (from_file name) s h = failed_after name old mid new s h
+fails_before old mid new (from_seed seed blocks) s h = h
+
+pub image_before : (old mid : Shelf) (desc : Option Desc) (from : ImageFrom) (image : ImageText) → SameContents old mid → IsImage mid desc from image → IsImage old desc from image
+image_before old mid desc from image s i = record { file = i.file; content = bytes_before old mid from i.file s i.content; loads = i.loads }
+
+-- ---- An image
+
+-- ---- Refusals in turn
+
+-- what was read before an image: the description, and the images before it
+pub record ReadBefore (old mid : Shelf) (name : Option (List ℕ)) (sources : List ImageFrom) (place : ℕ) (desc : Option Desc) : Type 0 where
+  pub described : HasDesc old name desc
+  pub earlier : List ImageText
+  pub are_images : AreImages old desc (take place sources) earlier
+  pub counts : SameCounts old mid
+  pub contents : SameContents old mid
+
+-- an image is refused at its place
+pub image_refused : (old mid new : Shelf) (name : Option (List ℕ)) (sources : List ImageFrom) (which : Which) (desc : Option Desc) (from : ImageFrom) (e : Refusal)
+    → ReadBefore old mid name sources (place_of which) desc → slice_get sources (place_of which) ≡ Some from → ImageRefused which desc from mid new e → Refuses name sources old new e
+image_refused old mid new name sources which desc from (ReadImage w) r t h =
+    let P : Which → Type 0 = λ w. Refuses name sources old new (ReadImage w) in
+    subst P (sym h.0) (record { desc = desc; described = r.described; earlier = r.earlier; are_images = r.are_images; from = from; there = t; cause = fails_before old mid new from r.counts h.1 })
+image_refused old mid new name sources which desc from (ImageTooLong w) r t h =
+    let P : Which → Type 0 = λ w. Refuses name sources old new (ImageTooLong w) in
+    subst P (sym h.0) (
+      record { desc = desc; described = r.described; earlier = r.earlier; are_images = r.are_images; from = from; there = t; cause = too_many_before old mid from r.contents h.1 },
+      counts_after old mid new r.counts h.2,
+    )
+image_refused old mid new name sources which desc from (Image w fault) r t h =
+    let P : Which → Type 0 = λ w. Refuses name sources old new (Image w fault) in
+    let f = h.1 in
+    subst P (sym h.0) (
+      record {
+        desc = desc;
+        described = r.described;
+        earlier = r.earlier;
+        are_images = r.are_images;
+        from = from;
+        there = t;
+        cause = record { file = f.file; content = bytes_before old mid from f.file r.contents f.content; refused = f.refused };
+      },
+      counts_after old mid new r.counts h.2,
+    )
+image_refused old mid new name sources which desc from Memory r t h = counts_after old mid new r.counts h
+image_refused old mid new name sources which desc from _ r t h = absurd h
+
+-- ---- What is read
+
+-- a description, and then one image
+pub one_read : (old mid new : Shelf) (name : Option (List ℕ)) (desc : Option Desc) (from : ImageFrom) (image : ImageText) → HasDesc old name desc → SameCounts old mid → SameContents old mid
+    → IsImage mid desc from image → SameCounts mid new → IsRead old new name (from ∷ []) desc (image ∷ [])
+one_read old mid new name desc from image d s c i t =
+    record { described = d; are_images = (image_before old mid desc from image c i, tt); counts = counts_after old mid new s t }
+
+-- and then a second one
+pub two_read : (old mid new : Shelf) (name : Option (List ℕ)) (desc : Option Desc) (from from2 : ImageFrom) (one two : ImageText) → IsRead old mid name (from ∷ []) desc (one ∷ [])
+    → SameContents old mid → IsImage mid desc from2 two → SameCounts mid new → IsRead old new name (from ∷ from2 ∷ []) desc (one ∷ two ∷ [])
+two_read old mid new name desc from from2 one two r c i t =
+    record { described = r.described; are_images = (r.are_images.0, (image_before old mid desc from2 two c i, tt)); counts = counts_after old mid new r.counts t }

@@ -1,0 +1,55 @@
+-- How a task ends, and with it the program, from what the parts do.
+use Rattle.std.specs.Prelude.{IsErrAnd, MatchResult}
+use Rattle.std.proofs.Common.{◌≡◌, ◌+◌, ◌^◌, ◌<◌, ℕ, List, Some, Result, Ok, Err, refl, sym, ap, ap₂, ◌∙◌, subst, arith}
+use Rattle.std.proofs.lemmas.Result.{err_from_is_err_and}
+use Rattle.elf_loader.specs.Image.{ImageText}
+use Rattle.machine_desc.specs.declared.Desc.{Desc}
+use Rattle.elf_loader.specs.declared.loading.Image.{Image}
+use Rattle.pair_run.specs.Answer.{Answers}
+use Rattle.pair_run.specs.Images.{Images}
+use Rattle.pair_run.specs.Starts.{loaded}
+use Rattle.pair_run.specs.declared.answer.PairAnswer.{PairAnswer}
+use Rattle.pair_text.specs.Comparison.{comparison}
+use Rattle.tool_io.specs.Outside.{Told, Shelf, Wrote, WrotePart}
+use Rattle.tool_words.specs.Words.{CommandText, command_of}
+use Rattle.tool_words.specs.declared.Refused.TheVariants as refused
+use Rattle.stt_top.specs.declared.outcome.Ended.{Ended}
+use Rattle.stt_top.specs.declared.outcome.Refusal.{Refusal}
+use Rattle.stt_top.specs.declared.outcome.Refusal.TheVariants.{Write, Memory}
+use Rattle.stt_top.specs.Outcome.{compared_of}
+use Rattle.stt_top.specs.Work.{TaskText, pair_task, Performs, pair_work}
+use Rattle.stt_top.specs.Top.{world, Runs, Ends}
+
+-- what the exit of a `?` returns
+pub at_exit : {T E : Type 0} (P : Result T E → Type 0) (r : Result T E) (e : E) → IsErrAnd r (λ y. y ≡ e) → P (Err e) → P r
+at_exit P r e h p = let q = err_from_is_err_and r h in subst P (sym (q.1 ∙ ap Err q.2)) p
+
+pub at_err : {T E : Type 0} (r : Result T E) (P : T → Type 0) (Q : E → Type 0) (e : E) → IsErrAnd r (λ y. y ≡ e) → Q e → MatchResult r P Q
+at_err r P Q e h q = at_exit (λ x. MatchResult x P Q) r e h q
+
+-- ---- Tasks
+
+-- what a pair of these images answers is said of them
+pub pair_answers : (p : Images) (d : Desc) (one two : Image) (n : ℕ) (answer : PairAnswer) → p ≡ record { desc = d; one = one; two = two }
+    → Answers p.desc (loaded p.one) (loaded p.two) n answer → Answers d (loaded one) (loaded two) n answer
+pair_answers p d one two n answer e h = subst (λ (q : Images). Answers q.desc (loaded q.one) (loaded q.two) n answer) e h
+
+pub compared : (d : Desc) (one two : ImageText) (n : ℕ) (answer : PairAnswer) (ended : Ended) (out out' : Told) → Answers d one two n answer → Wrote (comparison answer) out out'
+    → ended ≡ compared_of answer.first → Performs (pair_task d one two n) out out' (Ok ended)
+compared d one two n answer ended out out' a w e = (pair_work answer, (answer, a, refl), w, e)
+
+pub compared_part : (d : Desc) (one two : ImageText) (n : ℕ) (answer : PairAnswer) (out out' : Told) → Answers d one two n answer → WrotePart (comparison answer) out out'
+    → Performs (pair_task d one two n) out out' (Err Write)
+compared_part d one two n answer out out' a w = (pair_work answer, (answer, a, refl), w)
+
+-- ---- What a core's run asks for
+
+-- ---- The program
+
+-- what it asks for is done
+pub task_end : (words : List (List ℕ)) (old new : Shelf) (out out' : Told) (command : CommandText) (task : TaskText) (r : Result Ended Refusal) → command_of words ≡ Some command
+    → Runs command old new task → Performs task out out' r → Ends words (world old out) (world new out') r
+task_end words old new out out' command task (Ok ended) k c p = (command, k, (record { task = task; runs = c; work = p.0; comes_to = p.1 }, p.2, p.3))
+task_end words old new out out' command task (Err Write) k c p = (command, k, (record { task = task; runs = c; work = p.0; comes_to = p.1 }, p.2))
+task_end words old new out out' command task (Err Memory) k c p = (c.read.counts, p)
+task_end words old new out out' command task (Err _) k c p = absurd p

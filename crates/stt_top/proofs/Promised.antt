@@ -1,0 +1,104 @@
+-- A machine's run keeps its promises: by the laws of committed state, progress and noninterference.
+use Rattle.std.proofs.Common.{◌≡◌, ◌≤◌, ℕ, List, Some, None, Result, sym, ap, ◌∙◌, subst}
+use Rattle.rv_types.specs.Memory.{Code}
+use Rattle.rv_types.specs.Isa.{Run, start}
+use Rattle.elf_loader.specs.Image.{ImageText}
+use Rattle.machine_desc.specs.declared.Desc.{Desc}
+use Rattle.machine_desc.proofs.EveryDesc.{every_desc}
+use Rattle.window_model.specs.Cycle.{trace, pieces}
+use Rattle.window_model.specs.Committed.{Aligned, Committed, TrapsNext}
+use Rattle.committed_state.proofs.Run.{run_commits}
+use Rattle.progress.proofs.Run.{retires_within_bound, retires_in_budget}
+use Rattle.noninterference.proofs.Runs.{same_trace}
+use Rattle.report_text.specs.Report.{report_text}
+use Rattle.trace_text.specs.TraceText as text
+use Rattle.tool_io.specs.Outside.{Told, Wrote}
+use Rattle.pair_run.specs.Answer.{Answers}
+use Rattle.pair_run.specs.Starts.{trace_of}
+use Rattle.pair_run.specs.declared.answer.PairAnswer.{PairAnswer}
+use Rattle.pair_run.proofs.Answering.{one_trace, premise_traces}
+use Rattle.pair_text.specs.Comparison.{comparison}
+use Rattle.stt_top.specs.Clocking.{run_from}
+use Rattle.stt_top.specs.Running.{opening_of}
+use Rattle.stt_top.specs.declared.outcome.Ended.{Ended}
+use Rattle.stt_top.specs.declared.outcome.Refusal.{Refusal}
+use Rattle.stt_top.specs.Outcome.{status_of}
+use Rattle.stt_top.specs.Work.{TaskText, isa_task, report_task, trace_task, pair_task, Work, ComesTo, run_work}
+use Rattle.stt_top.specs.Top.{World, Ends, Statuses}
+use Rattle.stt_top.specs.Promises.{Commits, MovesOn, Hides, Compares, Keeps, Promises, TracesAgree, retired_run, state_at}
+use Rattle.stt_top.proofs.Images.{image_aligned}
+use Rattle.stt_top.proofs.Tasks.{AlignedTask, task_aligned}
+use Rattle.stt_top.proofs.Statuses.{statuses_at}
+
+-- ---- Committed state
+
+-- the law of committed state, of an image
+committed : (d : Desc) (image : ImageText) (n : ℕ) → Aligned image.code
+    → Committed image.code (start image.entry image.ram) (state_at d image n).retired (state_at d image n) (pieces d image.code n (opening_of d image))
+committed d image n al = run_commits d image.code image.entry image.ram n al
+
+-- so the machine's report is that of the instruction set's run
+commits : (d : Desc) (image : ImageText) (n : ℕ) (out out' : Told) → Aligned image.code → Wrote (run_work d image n).text out out' → Commits d image n out out'
+commits d image n out out' al w =
+    let c = committed d image n al in
+    let end = (trace_of d image n).end in
+    let same : run_from d image.code n (opening_of d image) ≡ record (retired_run d image n) { ended = end } = sym (ap (λ (r : Run). record r { ended = end }) c.runs) in
+    let P : Run → Type 0 = λ r. Wrote (report_text image.ram r (Some (trace_of d image n).cycles)) out out' in
+    record {
+      report = subst P same w;
+      all = ap (λ (r : Run). r.steps) c.runs;
+      exit = ap (λ (r : Run). r.ended) c.runs;
+      trap = subst (λ s. TrapsNext image.code s end) (sym (ap (λ (r : Run). r.last) c.runs)) c.trap;
+    }
+
+-- ---- Progress
+
+moves_on : (d : Desc) (image : ImageText) (n : ℕ) → MovesOn d image n
+moves_on d image n = record {
+  one = λ k le e. retires_within_bound d image.code image.entry image.ram k (every_desc d) e;
+  many = λ m q e. let P : ℕ → Type 0 = λ n. (trace_of d image n).end ≡ None → m ≤ (trace_of d image n).retired in
+      subst P (sym q) (λ f. retires_in_budget d image.code image.entry image.ram m (every_desc d) f) e;
+}
+
+-- ---- Noninterference
+
+hides : (d : Desc) (image : ImageText) (n : ℕ) (out out' : Told) → Aligned image.code → Wrote (text.trace_text (trace_of d image n)) out out' → Hides d image n out out'
+hides d image n out out' al w = record {
+  agreeing = λ m agree. subst (λ t. Wrote (text.trace_text t) out out') (sym (same_trace d image.code image.entry image.ram m n al agree)) w;
+}
+
+-- two files' images with one entry and code, whose memories agree on what the path loads, have one trace
+pub traces_agree : TracesAgree
+traces_agree d a b one two n f g e c agree =
+    let first : trace_of d two n ≡ trace d one.code one.entry two.ram n = ap (λ (x : ℕ). trace d two.code x two.ram n) e ∙ ap (λ (x : Code). trace d x one.entry two.ram n) c in
+    ap text.trace_text (first ∙ same_trace d one.code one.entry one.ram two.ram n (image_aligned a _ _ one f) agree)
+
+-- and so the answer on two images whose premise is true is that their runs are the same
+compares : (d : Desc) (one two : ImageText) (n : ℕ) (answer : PairAnswer) (out out' : Told) → Aligned one.code → Answers d one two n answer → Wrote (comparison answer) out out'
+    → Compares d one two n out out'
+compares d one two n answer out out' al a w = record {
+  answer = answer;
+  answers = a;
+  text = w;
+  equal = λ t. one_trace (trace_of d one n) (trace_of d two n) answer.first (premise_traces d one two n al (a.premise.0 t)) a.first;
+}
+
+-- ---- The program
+
+-- a task whose whole text is written keeps what is promised besides
+keeps : (task : TaskText) (work : Work) (out out' : Told) → AlignedTask task → ComesTo task work → Wrote work.text out out' → Keeps task out out'
+keeps (isa_task image steps) work out out' al c w = tt
+keeps (report_task d image n) work out out' al c w = (commits d image n out out' al (subst (λ (k : Work). Wrote k.text out out') c w), moves_on d image n)
+keeps (trace_task d image n) work out out' al c w = (hides d image n out out' al (subst (λ (k : Work). Wrote k.text out out') c w), moves_on d image n)
+keeps (pair_task d one two n) work out out' al c w = compares d one two n c.0 out out' al c.1 (subst (λ (k : Work). Wrote k.text out out') c.2 w)
+
+-- with the status of a text that is written whole
+pub promises : (words : List (List ℕ)) (old new : World) (status : ℕ) → Statuses words old new status → Promises words old new status
+promises words old new status s = record {
+  kept = λ h. let a = s.ran h in let d = a.2.0 in
+      (a.0, a.1, (d.task, d.runs, keeps d.task d.work old.out new.out (task_aligned a.0 old.files new.files d.task d.runs) d.comes_to a.2.1));
+}
+
+-- so does the program, with the status of how it ended
+pub promises_at : (words : List (List ℕ)) (old new : World) (r : Result Ended Refusal) (status : ℕ) → Ends words old new r → status ≡ status_of r → Promises words old new status
+promises_at words old new r status e s = promises words old new status (statuses_at words old new r status e s)

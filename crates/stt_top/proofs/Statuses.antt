@@ -1,0 +1,279 @@
+-- What each status says follows from how the program ends: by classes of ends. A text is written whole or in part, the words
+-- are no command, memory was wanting, or the description or an image is refused.
+use Rattle.std.proofs.Common.{◌≡◌, ◌⊎◌, ℕ, List, Option, Some, None, Result, Ok, Err, refl, sym, ap, ◌∙◌, subst, inl, inr, arith}
+use Rattle.elf_loader.specs.Image.{ImageText}
+use Rattle.elf_loader.specs.declared.faults.ElfFault.{ElfFault}
+use Rattle.machine_desc.specs.Description.{description_of}
+use Rattle.machine_desc.specs.declared.Desc.{Desc}
+use Rattle.machine_desc.specs.declared.fault.DescFault.{DescFault}
+use Rattle.tool_io.specs.Outside.{Shelf, Told, Wrote, WrotePart, SameCounts, NameFailed, Rose}
+use Rattle.tool_words.specs.Words.{CommandText, command_of}
+use Rattle.stt_top.specs.declared.outcome.Which.{Which}
+use Rattle.stt_top.specs.declared.outcome.Ended.{Ended}
+use Rattle.stt_top.specs.declared.outcome.Ended.TheVariants.{Exit, Trap, Budget, Alike, Unlike}
+use Rattle.stt_top.specs.declared.outcome.Refusal.{Refusal}
+use Rattle.stt_top.specs.declared.outcome.Refusal.TheVariants.{Words, ReadDescription, DescriptionTooLong, Description, ReadImage, ImageTooLong, Image, Write, Memory}
+use Rattle.stt_top.specs.Outcome.{status_of, place_of}
+use Rattle.stt_top.specs.Input.{description_max, ImageFrom, from_file, from_seed, MayHold, MayBeLonger, DescriptionRefused, NamedRefused, RefusedAt, FailsToRead, HasTooMany, HasFault}
+use Rattle.stt_top.specs.Work.{TaskText, task_of, Work, ComesTo}
+use Rattle.stt_top.specs.Top.{Asks, World, Done, CommandRefused, Ends, Statuses, sources, description_name, IsFaultyDescription, IsFaultyImage, TellsDesc, TellsBytes, TellsImages, IsAt, Names, MayBeFaulty, ImageRefusedAt, IsRun, IsRefusal}
+use Rattle.stt_top.proofs.Told.{told_desc, no_desc, not_longer, not_refused, told_at, none_faulty, same_images, no_fault, not_too_many}
+
+-- words that are a command aren't none
+clash : {o : Option CommandText} {c : CommandText} → o ≡ Some c → o ≡ None → ⊥
+clash p q = cc
+
+-- the command of which something holds is the one that the words give
+of_command : (words : List (List ℕ)) (P : CommandText → Type 0) (command : CommandText) → command_of words ≡ Some command → Asks words P → P command
+of_command words P command k a =
+    let first : command_of words ≡ Some a.0 = a.1 in
+    let same : a.0 ≡ command = cc in
+    subst P same a.2
+
+-- a text that is written whole has the status of one
+run_status : (e : Ended) → IsRun (status_of (Ok e))
+run_status Exit = inl refl
+run_status Trap = inr (inl refl)
+run_status Budget = inr (inr refl)
+run_status Alike = inl refl
+run_status Unlike = inr (inl refl)
+
+-- so it has no other
+other_status : (e : Ended) (n : ℕ) → (IsRun n → ⊥) → status_of (Ok e) ≡ n → ⊥
+other_status e n h q = h (subst IsRun q (run_status e))
+
+-- a description that is refused is named
+named : (name : Option (List ℕ)) (old new : Shelf) (e : Refusal) → NamedRefused name old new e → (n : List ℕ) × (name ≡ Some n) × DescriptionRefused n old new e
+named None old new e h = absurd h
+named (Some name) old new e h = (name, refl, h)
+
+-- an image that fails to be read is that of a file
+filed : (old new : Shelf) (from : ImageFrom) → FailsToRead old new from → (name : List ℕ) × (from ≡ from_file name) × NameFailed name old new
+filed old new (from_file name) h = (name, refl, h)
+filed old new (from_seed seed blocks) h = absurd h
+
+-- the cause of a refusal, as a wider one
+refused_for : (old : Shelf) (name : Option (List ℕ)) (froms : List ImageFrom) (place : ℕ) (P Q : Option Desc → ImageFrom → Type 0)
+    → ((desc : Option Desc) (from : ImageFrom) → P desc from → Q desc from) → RefusedAt old name froms place P → RefusedAt old name froms place Q
+refused_for old name froms place P Q f r = record {
+  desc = r.desc;
+  described = r.described;
+  earlier = r.earlier;
+  are_images = r.are_images;
+  from = r.from;
+  there = r.there;
+  cause = f r.desc r.from r.cause;
+}
+
+module _ (words : List (List ℕ)) (old new : World) where
+  -- ---- What comes of each status
+
+  ran : (r : Result Ended Refusal) → Ends words old new r → IsRun (status_of r)
+      → Asks words (λ command. (done : Done command old new) × Wrote done.work.text old.out new.out × (status_of r ≡ status_of (Ok done.work.ended)))
+  ran (Ok ended) e h = (e.0, e.1, (e.2.0, e.2.1, ap (λ x. status_of (Ok x)) e.2.2))
+  ran (Err Words) e h = absurd (omega arith)
+  ran (Err _) e h = absurd (omega arith)
+
+  two : (r : Result Ended Refusal) → Ends words old new r → status_of r ≡ 2 → command_of words ≡ None
+  two (Ok ended) e h = absurd (other_status ended 2 (λ k. omega arith) h)
+  two (Err Words) e h = e.0
+  two (Err _) e h = absurd (omega arith)
+
+  four : (r : Result Ended Refusal) → Ends words old new r → status_of r ≡ 4 → Asks words (λ command. (name : List ℕ) × (description_name command ≡ Some name)
+      × (MayBeLonger old.files name description_max
+      ⊎ ((text : List ℕ) × (fault : DescFault) × MayHold old.files name description_max text × (description_of text ≡ Err fault))))
+  four (Ok ended) e h = absurd (other_status ended 4 (λ k. omega arith) h)
+  four (Err DescriptionTooLong) e h =
+      let a = e.0 in
+      let n = named (description_name a.0) old.files new.files DescriptionTooLong a.2 in
+      (a.0, a.1, (n.0, n.1, inl n.2.0))
+  four (Err (Description f)) e h =
+      let a = e.0 in
+      let n = named (description_name a.0) old.files new.files (Description f) a.2 in
+      (a.0, a.1, (n.0, n.1, inr (n.2.0, f, n.2.1, n.2.2)))
+  four (Err _) e h = absurd (omega arith)
+
+  five : (r : Result Ended Refusal) → Ends words old new r → status_of r ≡ 5
+      → Asks words (λ command. (which : Which) × ImageRefusedAt command old.files (place_of which) (MayBeFaulty old.files))
+  five (Ok ended) e h = absurd (other_status ended 5 (λ k. omega arith) h)
+  five (Err (ImageTooLong which)) e h =
+      let a = e.0 in
+      (a.0, a.1, (which, refused_for old.files (description_name a.0) (sources a.0) (place_of which) (λ desc from. HasTooMany old.files from) (MayBeFaulty old.files) (λ desc from m. inl m) a.2.0))
+  five (Err (Image which f)) e h =
+      let a = e.0 in
+      (a.0, a.1, (which, refused_for old.files (description_name a.0) (sources a.0) (place_of which) (λ desc from. HasFault old.files desc from f) (MayBeFaulty old.files) (λ desc from m. inr (f, m)) a.2.0))
+  five (Err _) e h = absurd (omega arith)
+
+  six : (r : Result Ended Refusal) → Ends words old new r → status_of r ≡ 6
+      → Asks words (λ command. ((name : List ℕ) × (description_name command ≡ Some name) × NameFailed name old.files new.files)
+      ⊎ ((which : Which) × ImageRefusedAt command old.files (place_of which) (λ desc from. FailsToRead old.files new.files from)))
+  six (Ok ended) e h = absurd (other_status ended 6 (λ k. omega arith) h)
+  six (Err ReadDescription) e h = let a = e.0 in (a.0, a.1, inl (named (description_name a.0) old.files new.files ReadDescription a.2))
+  six (Err (ReadImage which)) e h = let a = e.0 in (a.0, a.1, inr (which, a.2))
+  six (Err _) e h = absurd (omega arith)
+
+  seven : (r : Result Ended Refusal) → Ends words old new r → status_of r ≡ 7
+      → Asks words (λ command. (done : Done command old new) × WrotePart done.work.text old.out new.out)
+  seven (Ok ended) e h = absurd (other_status ended 7 (λ k. omega arith) h)
+  seven (Err Write) e h = e
+  seven (Err _) e h = absurd (omega arith)
+
+  -- ---- What each status leaves
+
+  not_six : (r : Result Ended Refusal) → Ends words old new r → (status_of r ≡ 6 → ⊥) → SameCounts old.files new.files
+  not_six (Ok ended) e h = e.2.0.runs.read.counts
+  not_six (Err Words) e h = e.1
+  not_six (Err ReadDescription) e h = absurd (h refl)
+  not_six (Err DescriptionTooLong) e h = (named (description_name e.0.0) old.files new.files DescriptionTooLong e.0.2).2.1
+  not_six (Err (Description f)) e h = (named (description_name e.0.0) old.files new.files (Description f) e.0.2).2.3
+  not_six (Err (ReadImage which)) e h = absurd (h refl)
+  not_six (Err (ImageTooLong which)) e h = e.0.2.1
+  not_six (Err (Image which f)) e h = e.0.2.1
+  not_six (Err Write) e h = e.2.0.runs.read.counts
+  not_six (Err Memory) e h = e.0
+
+  -- all refusals but that of a write write nothing
+  wrote_nothing : (e : Refusal) → Ends words old new (Err e) → (status_of (Err e) ≡ 7 → ⊥) → new.out ≡ old.out
+  wrote_nothing Words e h = e.2
+  wrote_nothing Write e h = absurd (h refl)
+  wrote_nothing Memory e h = e.1
+  wrote_nothing _ e h = e.1
+
+  not_seven : (r : Result Ended Refusal) → Ends words old new r → (status_of r ≡ 7 → ⊥) → new.out.faults ≡ old.out.faults
+  not_seven (Ok ended) e h = e.2.1.count
+  not_seven (Err refusal) e h = ap (λ (t : Told). t.faults) (wrote_nothing refusal e h)
+
+  nothing : (r : Result Ended Refusal) → Ends words old new r → IsRefusal (status_of r) → new.out ≡ old.out
+  nothing (Ok ended) e h = absurd (let k = run_status ended in omega arith)
+  nothing (Err refusal) e h = wrote_nothing refusal e (λ k. omega arith)
+
+  -- ---- When each status comes
+
+  no_command : (r : Result Ended Refusal) → Ends words old new r → command_of words ≡ None → (status_of r ≡ 2) ⊎ (status_of r ≡ 8)
+  no_command (Ok ended) e h = absurd (clash e.1 h)
+  no_command (Err Words) e h = inl refl
+  no_command (Err Write) e h = absurd (clash e.1 h)
+  no_command (Err Memory) e h = inr refl
+  no_command (Err _) e h = absurd (clash e.0.1 h)
+
+  -- of the command that the words give
+  module _ (command : CommandText) (k : command_of words ≡ Some command) where
+    whole : (ended : Ended) → Ends words old new (Ok ended) → (done : Done command old new) × Wrote done.work.text old.out new.out × (ended ≡ done.work.ended)
+    whole ended a = of_command words (λ c. (done : Done c old new) × Wrote done.work.text old.out new.out × (ended ≡ done.work.ended)) command k a
+
+    cut : Ends words old new (Err Write) → (done : Done command old new) × WrotePart done.work.text old.out new.out
+    cut a = of_command words (λ c. (done : Done c old new) × WrotePart done.work.text old.out new.out) command k a
+
+    its_refusal : (e : Refusal) → Asks words (λ c. CommandRefused c old new e) → CommandRefused command old new e
+    its_refusal e a = of_command words (λ c. CommandRefused c old new e) command k a
+
+    faulty_description : (r : Result Ended Refusal) → Ends words old new r → (name text : List ℕ) → description_name command ≡ Some name
+        → old.files.content name ≡ Some text → IsFaultyDescription text → (status_of r ≡ 4) ⊎ ((status_of r ≡ 6) ⊎ (status_of r ≡ 8))
+    faulty_description (Ok ended) e name text m t x =
+        let d = (whole ended e).0 in
+        absurd (no_desc old.files (description_name command) d.runs.desc name text m t d.runs.read.described x)
+    faulty_description (Err Words) e name text m t x = absurd (clash k e.0)
+    faulty_description (Err ReadDescription) e name text m t x = inr (inl refl)
+    faulty_description (Err DescriptionTooLong) e name text m t x = inl refl
+    faulty_description (Err (Description f)) e name text m t x = inl refl
+    faulty_description (Err (ReadImage which)) e name text m t x = inr (inl refl)
+    faulty_description (Err (ImageTooLong which)) e name text m t x =
+        let r = its_refusal (ImageTooLong which) e.0 in
+        absurd (no_desc old.files (description_name command) r.0.desc name text m t r.0.described x)
+    faulty_description (Err (Image which f)) e name text m t x =
+        let r = its_refusal (Image which f) e.0 in
+        absurd (no_desc old.files (description_name command) r.0.desc name text m t r.0.described x)
+    faulty_description (Err Write) e name text m t x =
+        let d = (cut e).0 in
+        absurd (no_desc old.files (description_name command) d.runs.desc name text m t d.runs.read.described x)
+    faulty_description (Err Memory) e name text m t x = inr (inr refl)
+
+    -- and where the files tell its description
+    module _ (desc : Option Desc) (told : TellsDesc old.files (description_name command) desc) where
+      -- a command that is done had that description
+      done_desc : (d : Done command old new) → d.runs.desc ≡ desc
+      done_desc d = told_desc old.files (description_name command) desc d.runs.desc told d.runs.read.described
+
+      done_faulty : (d : Done command old new) (place : ℕ) (from : ImageFrom) (file : List ℕ) → IsAt command place from → TellsBytes old.files from file → IsFaultyImage from file desc → ⊥
+      done_faulty d place from file a t x = none_faulty old.files desc d.runs.desc (sources command) d.runs.images place from file (done_desc d) d.runs.read.are_images a t x
+
+      faulty_image : (r : Result Ended Refusal) → Ends words old new r → (place : ℕ) (from : ImageFrom) (file : List ℕ) → IsAt command place from
+          → TellsBytes old.files from file → IsFaultyImage from file desc → (status_of r ≡ 5) ⊎ ((status_of r ≡ 6) ⊎ (status_of r ≡ 8))
+      faulty_image (Ok ended) e place from file a t x = absurd (done_faulty (whole ended e).0 place from file a t x)
+      faulty_image (Err Words) e place from file a t x = absurd (clash k e.0)
+      faulty_image (Err ReadDescription) e place from file a t x = inr (inl refl)
+      faulty_image (Err DescriptionTooLong) e place from file a t x =
+          absurd (not_longer old.files new.files (description_name command) desc told (its_refusal DescriptionTooLong e.0))
+      faulty_image (Err (Description f)) e place from file a t x =
+          absurd (not_refused old.files new.files (description_name command) desc f told (its_refusal (Description f) e.0))
+      faulty_image (Err (ReadImage which)) e place from file a t x = inr (inl refl)
+      faulty_image (Err (ImageTooLong which)) e place from file a t x = inl refl
+      faulty_image (Err (Image which f)) e place from file a t x = inl refl
+      faulty_image (Err Write) e place from file a t x = absurd (done_faulty (cut e).0 place from file a t x)
+      faulty_image (Err Memory) e place from file a t x = inr (inr refl)
+
+      -- and its images
+      module _ (images : List ImageText) (all : TellsImages old.files desc (sources command) images) where
+        same_task : (d : Done command old new) (task : TaskText) → task_of command desc images ≡ Some task → d.task ≡ task
+        same_task d task m =
+            let a : d.runs.images ≡ images = same_images old.files desc d.runs.desc (sources command) images d.runs.images (done_desc d) all d.runs.read.are_images in
+            let b : task_of command d.runs.desc d.runs.images ≡ task_of command desc images =
+            ap (λ x. task_of command x d.runs.images) (done_desc d) ∙ ap (task_of command desc) a in
+            let had : task_of command d.runs.desc d.runs.images ≡ Some d.task = d.runs.asks in
+            cc
+
+        no_faulty : (which : Which) (f : ElfFault) → ImageRefusedAt command old.files (place_of which) (λ desc from. HasFault old.files desc from f) → ⊥
+        no_faulty which f r =
+            let t = told_at old.files desc (sources command) images (place_of which) r.from all r.there in
+            no_fault old.files desc r.desc r.from t.0 f (told_desc old.files (description_name command) desc r.desc told r.described) t.1 r.cause
+
+        none_too_long : (which : Which) → ImageRefusedAt command old.files (place_of which) (λ desc from. HasTooMany old.files from) → ⊥
+        none_too_long which r =
+            let t = told_at old.files desc (sources command) images (place_of which) r.from all r.there in
+            not_too_many old.files desc r.from t.0 t.1 r.cause
+
+        complete : (r : Result Ended Refusal) → Ends words old new r → (task : TaskText) → task_of command desc images ≡ Some task
+            → ((name : List ℕ) → Names command name → Rose (old.files.faults name) (new.files.faults name) → ⊥) → (Rose old.out.faults new.out.faults → ⊥)
+            → ((status_of r ≡ 8) × (new.out ≡ old.out))
+            ⊎ ((work : Work) × ComesTo task work × (status_of r ≡ status_of (Ok work.ended)) × Wrote work.text old.out new.out)
+        complete (Ok ended) e task m files sink =
+            let d = whole ended e in
+            let c : ComesTo task d.0.work = subst (λ t. ComesTo t d.0.work) (same_task d.0 task m) d.0.comes_to in
+            inr (d.0.work, c, ap (λ x. status_of (Ok x)) d.2, d.1)
+        complete (Err Words) e task m files sink = absurd (clash k e.0)
+        complete (Err ReadDescription) e task m files sink =
+            let n = named (description_name command) old.files new.files ReadDescription (its_refusal ReadDescription e.0) in
+            absurd (files n.0 (inl n.1) n.2.rose)
+        complete (Err DescriptionTooLong) e task m files sink =
+            absurd (not_longer old.files new.files (description_name command) desc told (its_refusal DescriptionTooLong e.0))
+        complete (Err (Description f)) e task m files sink =
+            absurd (not_refused old.files new.files (description_name command) desc f told (its_refusal (Description f) e.0))
+        complete (Err (ReadImage which)) e task m files sink =
+            let r = its_refusal (ReadImage which) e.0 in
+            let n = filed old.files new.files r.from r.cause in
+            absurd (files n.0 (inr (place_of which, r.there ∙ ap Some n.1)) n.2.rose)
+        complete (Err (ImageTooLong which)) e task m files sink = absurd (none_too_long which (its_refusal (ImageTooLong which) e.0).0)
+        complete (Err (Image which f)) e task m files sink = absurd (no_faulty which f (its_refusal (Image which f) e.0).0)
+        complete (Err Write) e task m files sink = absurd (sink (cut e).1.rose)
+        complete (Err Memory) e task m files sink = inl (refl, e.1)
+
+pub statuses : (words : List (List ℕ)) (old new : World) (r : Result Ended Refusal) → Ends words old new r → Statuses words old new (status_of r)
+statuses words old new r e = record {
+  ran = ran words old new r e;
+  two = two words old new r e;
+  no_command = no_command words old new r e;
+  four = four words old new r e;
+  faulty_description = λ command name text k m t x. faulty_description words old new command k r e name text m t x;
+  five = five words old new r e;
+  faulty_image = λ command desc place from file k t a b x. faulty_image words old new command k desc t r e place from file a b x;
+  six = six words old new r e;
+  not_six = not_six words old new r e;
+  seven = seven words old new r e;
+  not_seven = not_seven words old new r e;
+  nothing = nothing words old new r e;
+  complete = λ command desc images task k t a m files sink. complete words old new command k desc t images a r e task m files sink;
+}
+
+-- so for the status that is answered
+pub statuses_at : (words : List (List ℕ)) (old new : World) (r : Result Ended Refusal) (status : ℕ) → Ends words old new r → status ≡ status_of r → Statuses words old new status
+statuses_at words old new r status e s = subst (Statuses words old new) (sym s) (statuses words old new r e)

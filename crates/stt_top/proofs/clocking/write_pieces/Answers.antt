@@ -1,0 +1,34 @@
+-- The loop writes the output of each cycle as it comes.
+use Rattle.std.proofs.Common.{◌≡◌, ◌∙◌, ap₂, None, arith}
+use Rattle.std.proofs.lemmas.Result.{MatchResult-from_err}
+use Rattle.window_model.specs.Cycle.{cycle}
+use Rattle.pair_run.proofs.Cycles.{ended_at, running_at}
+use Rattle.stt_top.proofs.Cycles.{pieces_next, pieces_part, pieces_ended, pieces_done}
+use Rattle.stt_top.proofs.clocking.write_pieces.Goals as goal
+
+pub returns-then-is_some : goal.returns-then-is_some
+returns-then-is_some g c = pieces_ended _ _ _ _ _ _ _ _ (ended_at _ c.end.result c.is_some.result c.end.ensures c.is_some.ensures c.if-is_some.true) c.loop-done.invariant.pieces
+
+pub returns-in_err-write_piece : goal.returns-in_err-write_piece
+returns-in_err-write_piece g c =
+    let core = g.C.Clocked.machine c.loop-done.core in
+    let running : core.end ≡ None = running_at _ c.end.result c.is_some.result c.end.ensures c.is_some.ensures c.if-is_some.false in
+    MatchResult-from_err _ _ _ c.from_residual.ensures.0
+    (λ _. pieces_part _ _ _ _ _ _ _ _ _ _ _ _ c.loop-done-test.true running
+    (c.cycle.ensures.cycled ∙ ap₂ (λ d code. cycle d code core) c.loop-done.invariant.desc c.loop-done.invariant.code) c.loop-done.invariant.pieces
+    c.in_err-write_piece.ensures)
+
+pub loop-done-preserved : goal.loop-done-preserved
+loop-done-preserved g c =
+    let core = g.C.Clocked.machine c.loop-done.core in
+    let running : core.end ≡ None = running_at _ c.end.result c.is_some.result c.end.ensures c.is_some.ensures c.if-is_some.false in
+    record {
+      desc = c.cycle.ensures.desc ∙ c.loop-done.invariant.desc;
+      code = c.cycle.ensures.code ∙ c.loop-done.invariant.code;
+      pieces = pieces_next _ _ _ _ _ _ _ _ _ _ _ _ c.loop-done-test.true running
+          (c.cycle.ensures.cycled ∙ ap₂ (λ d code. cycle d code core) c.loop-done.invariant.desc c.loop-done.invariant.code) c.loop-done.invariant.pieces
+          c.in_ok-write_piece.ensures;
+    }
+
+pub returns : goal.returns
+returns g c = pieces_done _ _ _ _ _ _ _ _ (omega arith) c.loop-done.invariant.pieces

@@ -1,0 +1,15 @@
+-- The image is refused behind its description.
+use Rattle.std.proofs.Common.{[], ◌∷◌, Some, refl}
+use Rattle.stt_top.specs.declared.outcome.Which.TheVariants.{First}
+use Rattle.stt_top.specs.Input.{source_of}
+use Rattle.stt_top.proofs.InTurn.{image_refused}
+use Rattle.stt_top.proofs.Outcomes.{at_err}
+use Rattle.stt_top.proofs.task.read_described.Goals as goal
+
+pub returns-in_err-image-clause-answer : goal.returns-in_err-image-clause-answer
+returns-in_err-image-clause-answer g c =
+    let desc = c.in_ok-desc.ensures in
+    at_err _ _ _ _ c.from_residual-in_err-image.ensures.1
+    (image_refused (g.F.Files.shelf c.args.files.now) (g.F.Files.shelf c.read_description.new.files) (g.F.Files.shelf c.read_image.new.files)
+    (Some c.args.description.now) (source_of c.args.source ∷ []) First (Some c.in_ok-desc.desc) (source_of c.args.source) c.in_err-image.field-0.0
+    (record { described = desc.answer.0; earlier = []; are_images = tt; counts = desc.answer.1; contents = desc.stays }) refl c.in_err-image.ensures.answer)

@@ -1,0 +1,171 @@
+-- What the program reads, and why it may be refused (docs/theorems.md, "What is read"): a description, if one is named, and
+-- then images in their order, each read and loaded before the next is read.
+use Rattle.std.specs.Prelude.{◌≡◌, ℕ, List, [], ◌∷◌, take, slice_get, Option, Some, None, Ok, Err}
+use Rattle.elf_loader.specs.Image.{ImageText, image_of}
+use Rattle.elf_loader.specs.declared.faults.ElfFault.{ElfFault}
+use Rattle.elf_loader.specs.declared.faults.ElfFault.TheVariants as elf
+use Rattle.gen_image.specs.Generated.{generated_image}
+use Rattle.machine_desc.specs.Description.{description_of, Describes}
+use Rattle.machine_desc.specs.declared.Desc.{Desc}
+use Rattle.tool_io.specs.declared.Got.TheVariants.{Bytes, TooLong}
+use Rattle.tool_io.specs.Outside.{Shelf, GetsTold, SameCounts, NameFailed}
+use Rattle.stt_top.specs.Outcome.{place_of}
+use Rattle.stt_top.specs.declared.sources.Source.{Source}
+use Rattle.stt_top.specs.declared.sources.Source.TheVariants.{File, Seed}
+use Rattle.stt_top.specs.declared.reading.Unread.{Unread}
+use Rattle.stt_top.specs.declared.reading.Unread.TheVariants.{Failed as ReadFailed, TooLong as TooMany, NoMemory}
+use Rattle.stt_top.specs.declared.outcome.Which.{Which}
+use Rattle.stt_top.specs.declared.outcome.Refusal.{Refusal}
+use Rattle.stt_top.specs.declared.outcome.Refusal.TheVariants.{ReadDescription, DescriptionTooLong, Description, ReadImage, ImageTooLong, Image as NoImage, Memory}
+
+-- the most bytes of a description, and of an image (docs/formats.md, "Words")
+abbrev pub description_max : ℕ
+description_max = 65536
+
+abbrev pub image_max : ℕ
+image_max = 33554432
+
+-- these may be the bytes under a name, of which there are at most so many: all that is told of them is so
+abbrev pub MayHold : Shelf → List ℕ → ℕ → List ℕ → Type 0
+MayHold shelf name max bytes = GetsTold (shelf.content name) max (Bytes bytes)
+
+-- there may be more bytes under a name
+abbrev pub MayBeLonger : Shelf → List ℕ → ℕ → Type 0
+MayBeLonger shelf name max = GetsTold (shelf.content name) max TooLong
+
+-- why a file of at most so many bytes isn't read; `old` and `new` are what the files tell before and after
+abbrev pub UnreadBy : List ℕ → ℕ → Shelf → Shelf → Unread → Type 0
+UnreadBy name max old new ReadFailed = NameFailed name old new
+UnreadBy name max old new TooMany = MayBeLonger old name max × SameCounts old new
+UnreadBy name max old new NoMemory = SameCounts old new
+
+-- ---- The description
+
+-- a run has this description: none, or that which the file named may hold
+abbrev pub HasDesc : Shelf → Option (List ℕ) → Option Desc → Type 0
+HasDesc shelf None desc = desc ≡ None
+HasDesc shelf (Some name) desc = (text : List ℕ) × (d : Desc) × MayHold shelf name description_max text × Describes text d × (desc ≡ Some d)
+
+-- why a text is refused as a description
+abbrev pub TextRefused : List ℕ → Refusal → Type 0
+TextRefused text (Description fault) = description_of text ≡ Err fault
+TextRefused text Memory = Unit {0}
+TextRefused text _ = ⊥
+
+-- why a description is refused
+abbrev pub DescriptionRefused : List ℕ → Shelf → Shelf → Refusal → Type 0
+DescriptionRefused name old new ReadDescription = NameFailed name old new
+DescriptionRefused name old new DescriptionTooLong = MayBeLonger old name description_max × SameCounts old new
+DescriptionRefused name old new (Description fault) =
+    (text : List ℕ) × MayHold old name description_max text × (description_of text ≡ Err fault) × SameCounts old new
+DescriptionRefused name old new Memory = SameCounts old new
+DescriptionRefused name old new _ = ⊥
+
+-- why the description of a run is refused, if it names one
+abbrev pub NamedRefused : Option (List ℕ) → Shelf → Shelf → Refusal → Type 0
+NamedRefused None old new refusal = ⊥
+NamedRefused (Some name) old new refusal = DescriptionRefused name old new refusal
+
+-- ---- An image
+
+-- where an image comes from: the file of this name, or a seed and a number of blocks that generate it
+pub data ImageFrom : Type 0 where
+  from_file : List ℕ → ImageFrom
+  from_seed : ℕ → ℕ → ImageFrom
+
+abbrev pub source_of : Source → ImageFrom
+source_of (File name) = from_file name.now
+source_of (Seed seed blocks) = from_seed seed blocks.count
+
+-- these are an image's bytes: such as the file may hold, or those that are generated
+abbrev pub HasBytes : Shelf → ImageFrom → List ℕ → Type 0
+HasBytes shelf (from_file name) file = MayHold shelf name image_max file
+HasBytes shelf (from_seed seed blocks) file = file ≡ generated_image seed blocks
+
+-- where the memory of a run begins, and its size: those of its description, or without one 1 MiB from 0x00010000 on
+-- (docs/formats.md, "Words")
+abbrev pub base_of : Option Desc → ℕ
+base_of None = 65536
+base_of (Some d) = d.ram_base
+
+abbrev pub size_of : Option Desc → ℕ
+size_of None = 1048576
+size_of (Some d) = d.ram_size
+
+-- what is got there is this image
+pub record IsImage (shelf : Shelf) (desc : Option Desc) (from : ImageFrom) (image : ImageText) : Type 0 where
+  pub file : List ℕ
+  pub content : HasBytes shelf from file
+  pub loads : image_of file (base_of desc) (size_of desc) ≡ Ok image
+
+-- it can't be read
+abbrev pub FailsToRead : Shelf → Shelf → ImageFrom → Type 0
+FailsToRead old new (from_file name) = NameFailed name old new
+FailsToRead old new (from_seed seed blocks) = ⊥
+
+-- it may have too many bytes
+abbrev pub HasTooMany : Shelf → ImageFrom → Type 0
+HasTooMany shelf (from_file name) = MayBeLonger shelf name image_max
+HasTooMany shelf (from_seed seed blocks) = ⊥
+
+-- its bytes are no image
+pub record HasFault (shelf : Shelf) (desc : Option Desc) (from : ImageFrom) (fault : ElfFault) : Type 0 where
+  pub file : List ℕ
+  pub content : HasBytes shelf from file
+  pub refused : image_of file (base_of desc) (size_of desc) ≡ Err fault
+
+-- the refusal of a fault of loading: want of memory is one of its own
+abbrev pub refusal_of : Which → ElfFault → Refusal
+refusal_of which elf.NoMemory = Memory
+refusal_of which fault = NoImage which fault
+
+-- why a file is refused as an image
+abbrev pub LoadRefused : Which → List ℕ → ℕ → ℕ → Refusal → Type 0
+LoadRefused which file base size (NoImage w fault) = (w ≡ which) × (image_of file base size ≡ Err fault)
+LoadRefused which file base size Memory = Unit {0}
+LoadRefused which file base size _ = ⊥
+
+-- why there are no bytes of an image
+abbrev pub BytesRefused : Which → ImageFrom → Shelf → Shelf → Refusal → Type 0
+BytesRefused which from old new (ReadImage w) = (w ≡ which) × FailsToRead old new from
+BytesRefused which from old new (ImageTooLong w) = (w ≡ which) × HasTooMany old from × SameCounts old new
+BytesRefused which from old new Memory = SameCounts old new
+BytesRefused which from old new _ = ⊥
+
+-- why an image is refused
+abbrev pub ImageRefused : Which → Option Desc → ImageFrom → Shelf → Shelf → Refusal → Type 0
+ImageRefused which desc from old new (NoImage w fault) = (w ≡ which) × HasFault old desc from fault × SameCounts old new
+ImageRefused which desc from old new refusal = BytesRefused which from old new refusal
+
+-- ---- One after the other
+
+-- at each of these places there is an image
+abbrev pub AreImages : Shelf → Option Desc → List ImageFrom → List ImageText → Type 0
+AreImages shelf desc [] [] = Unit {0}
+AreImages shelf desc (from ∷ rest) (image ∷ images) = IsImage shelf desc from image × AreImages shelf desc rest images
+AreImages shelf desc [] (image ∷ images) = ⊥
+AreImages shelf desc (from ∷ rest) [] = ⊥
+
+-- this description and these images were read, and no count of the files rose
+pub record IsRead (old new : Shelf) (name : Option (List ℕ)) (sources : List ImageFrom) (desc : Option Desc) (images : List ImageText) : Type 0 where
+  pub described : HasDesc old name desc
+  pub are_images : AreImages old desc sources images
+  pub counts : SameCounts old new
+
+-- the image at a place is refused for this cause; the description and the images before it aren't
+pub record RefusedAt (old : Shelf) (name : Option (List ℕ)) (sources : List ImageFrom) (place : ℕ) (Cause : Option Desc → ImageFrom → Type 0) : Type 0 where
+  pub desc : Option Desc
+  pub described : HasDesc old name desc
+  pub earlier : List ImageText
+  pub are_images : AreImages old desc (take place sources) earlier
+  pub from : ImageFrom
+  pub there : slice_get sources place ≡ Some from
+  pub cause : Cause desc from
+
+-- why reading is refused: for the description before any image, and for an image before any behind it
+abbrev pub Refuses : Option (List ℕ) → List ImageFrom → Shelf → Shelf → Refusal → Type 0
+Refuses name sources old new (ReadImage which) = RefusedAt old name sources (place_of which) (λ desc from. FailsToRead old new from)
+Refuses name sources old new (ImageTooLong which) = RefusedAt old name sources (place_of which) (λ desc from. HasTooMany old from) × SameCounts old new
+Refuses name sources old new (NoImage which fault) = RefusedAt old name sources (place_of which) (λ desc from. HasFault old desc from fault) × SameCounts old new
+Refuses name sources old new Memory = SameCounts old new
+Refuses name sources old new refusal = NamedRefused name old new refusal

@@ -1,0 +1,177 @@
+-- What the program does: the words, what the files and the sink tell before and after, and the status
+-- (docs/theorems.md, "The program").
+use Rattle.std.specs.Prelude.{◌≡◌, ◌≢◌, ◌≤◌, ◌<◌, ◌⊎◌, ℕ, List, [], ◌∷◌, length, slice_get, Option, Some, None, Result, Ok, Err}
+use Rattle.elf_loader.specs.Image.{ImageText, image_of}
+use Rattle.elf_loader.specs.declared.faults.ElfFault.{ElfFault}
+use Rattle.gen_image.specs.Generated.{generated_image}
+use Rattle.machine_desc.specs.Description.{description_of, Describes}
+use Rattle.machine_desc.specs.declared.Desc.{Desc}
+use Rattle.machine_desc.specs.declared.fault.DescFault.{DescFault}
+use Rattle.tool_io.specs.Outside.{Told, Shelf, Wrote, WrotePart, SameCounts, NameFailed, Rose}
+use Rattle.tool_words.specs.Words.{CommandText, command_of, isa_text, run_text, trace_text, bench_text, pair_text}
+use Rattle.stt_top.specs.declared.outcome.Which.{Which}
+use Rattle.stt_top.specs.declared.outcome.Ended.{Ended}
+use Rattle.stt_top.specs.declared.outcome.Refusal.{Refusal}
+use Rattle.stt_top.specs.declared.outcome.Refusal.TheVariants.{Words, Write, Memory}
+use Rattle.stt_top.specs.Outcome.{status_of, place_of}
+use Rattle.stt_top.specs.Input.{description_max, image_max, ImageFrom, from_file, from_seed, MayHold, MayBeLonger, IsRead, RefusedAt, FailsToRead, HasTooMany, HasFault, Refuses, base_of, size_of}
+use Rattle.stt_top.specs.Work.{TaskText, task_of, Work, ComesTo}
+
+-- ---- Commands
+
+-- where a command's images come from, in the order in which they are read: that of bench is generated, and pair has two
+abbrev pub sources : CommandText → List ImageFrom
+sources (isa_text image steps description) = from_file image ∷ []
+sources (run_text description image cycles) = from_file image ∷ []
+sources (trace_text description image cycles) = from_file image ∷ []
+sources (bench_text description seed blocks cycles) = from_seed seed blocks ∷ []
+sources (pair_text description image image2 cycles) = from_file image ∷ from_file image2 ∷ []
+
+-- the name of its description: isa may do without
+abbrev pub description_name : CommandText → Option (List ℕ)
+description_name (isa_text image steps description) = description
+description_name (run_text description image cycles) = Some description
+description_name (trace_text description image cycles) = Some description
+description_name (bench_text description seed blocks cycles) = Some description
+description_name (pair_text description image image2 cycles) = Some description
+
+-- what the files and the sink tell at one time
+pub record World : Type 0 where
+  pub files : Shelf
+  pub out : Told
+
+abbrev pub world : Shelf → Told → World
+world files out = record { files = files; out = out }
+
+-- what a command reads makes this task of it
+pub record Runs (command : CommandText) (old new : Shelf) (task : TaskText) : Type 0 where
+  pub desc : Option Desc
+  pub images : List ImageText
+  pub read : IsRead old new (description_name command) (sources command) desc images
+  pub asks : task_of command desc images ≡ Some task
+
+-- and the task comes to this
+pub record Done (command : CommandText) (old new : World) : Type 0 where
+  pub task : TaskText
+  pub runs : Runs command old.files new.files task
+  pub work : Work
+  pub comes_to : ComesTo task work
+
+-- why a command is refused before anything is written
+abbrev pub CommandRefused : CommandText → World → World → Refusal → Type 0
+CommandRefused command old new refusal = Refuses (description_name command) (sources command) old.files new.files refusal
+
+-- the words ask for a command, of which this holds
+abbrev pub Asks : List (List ℕ) → (CommandText → Type 0) → Type 0
+Asks words P = (command : CommandText) × (command_of words ≡ Some command) × P command
+
+-- how the program ends: a command's text is written whole, or in part where the sink failed; or the words are no command,
+-- there was no memory, or what the command reads is refused, and nothing is written
+abbrev pub Ends : List (List ℕ) → World → World → Result Ended Refusal → Type 0
+Ends words old new (Ok ended) = Asks words (λ command. (done : Done command old new) × Wrote done.work.text old.out new.out × (ended ≡ done.work.ended))
+Ends words old new (Err Write) = Asks words (λ command. (done : Done command old new) × WrotePart done.work.text old.out new.out)
+Ends words old new (Err Words) = (command_of words ≡ None) × SameCounts old.files new.files × (new.out ≡ old.out)
+Ends words old new (Err Memory) = SameCounts old.files new.files × (new.out ≡ old.out)
+Ends words old new (Err refusal) = Asks words (λ command. CommandRefused command old new refusal) × (new.out ≡ old.out)
+
+-- ---- The statuses
+
+-- a text is longer than a description may be, or is none
+abbrev pub IsFaultyDescription : List ℕ → Type 0
+IsFaultyDescription text = (description_max < length text) ⊎ ((fault : DescFault) × (description_of text ≡ Err fault))
+
+-- a file is longer than an image may be; a generated image never is
+abbrev pub IsTooLong : ImageFrom → List ℕ → Type 0
+IsTooLong (from_file name) file = image_max < length file
+IsTooLong (from_seed seed blocks) file = ⊥
+
+-- these bytes are too many for an image, or are none for the memory of this description
+abbrev pub IsFaultyImage : ImageFrom → List ℕ → Option Desc → Type 0
+IsFaultyImage from file desc = IsTooLong from file ⊎ ((fault : ElfFault) × (image_of file (base_of desc) (size_of desc) ≡ Err fault))
+
+-- the files tell that a run has this description
+abbrev pub TellsDesc : Shelf → Option (List ℕ) → Option Desc → Type 0
+TellsDesc shelf None desc = desc ≡ None
+TellsDesc shelf (Some name) desc =
+    (text : List ℕ) × (d : Desc) × (shelf.content name ≡ Some text) × (length text ≤ description_max) × Describes text d × (desc ≡ Some d)
+
+-- these are an image's bytes, as the files tell, or as they are generated
+abbrev pub TellsBytes : Shelf → ImageFrom → List ℕ → Type 0
+TellsBytes shelf (from_file name) file = shelf.content name ≡ Some file
+TellsBytes shelf (from_seed seed blocks) file = file ≡ generated_image seed blocks
+
+-- they tell that this image is there
+pub record TellsImage (shelf : Shelf) (desc : Option Desc) (from : ImageFrom) (image : ImageText) : Type 0 where
+  pub file : List ℕ
+  pub told : TellsBytes shelf from file
+  pub short : ¬ IsTooLong from file
+  pub loads : image_of file (base_of desc) (size_of desc) ≡ Ok image
+
+-- and so at each of these places
+abbrev pub TellsImages : Shelf → Option Desc → List ImageFrom → List ImageText → Type 0
+TellsImages shelf desc [] [] = Unit {0}
+TellsImages shelf desc (from ∷ rest) (image ∷ images) = TellsImage shelf desc from image × TellsImages shelf desc rest images
+TellsImages shelf desc [] (image ∷ images) = ⊥
+TellsImages shelf desc (from ∷ rest) [] = ⊥
+
+-- the image at this place of a command comes from there
+abbrev pub IsAt : CommandText → ℕ → ImageFrom → Type 0
+IsAt command place from = slice_get (sources command) place ≡ Some from
+
+-- a name that the words give as the description's or as an image's
+abbrev pub Names : CommandText → List ℕ → Type 0
+Names command name = (description_name command ≡ Some name) ⊎ ((place : ℕ) × IsAt command place (from_file name))
+
+-- an image may be too long, or may have a fault
+abbrev pub MayBeFaulty : Shelf → Option Desc → ImageFrom → Type 0
+MayBeFaulty shelf desc from = HasTooMany shelf from ⊎ ((fault : ElfFault) × HasFault shelf desc from fault)
+
+-- the image at a place of a command is refused for this cause; the description and the images before it aren't
+abbrev pub ImageRefusedAt : CommandText → Shelf → ℕ → (Option Desc → ImageFrom → Type 0) → Type 0
+ImageRefusedAt command old place Cause = RefusedAt old (description_name command) (sources command) place Cause
+
+-- the status of a text that is written whole
+abbrev pub IsRun : ℕ → Type 0
+IsRun status = (status ≡ 0) ⊎ (status ≡ 1) ⊎ (status ≡ 3)
+
+-- the status of a refusal that writes nothing
+abbrev pub IsRefusal : ℕ → Type 0
+IsRefusal status = (status ≡ 2) ⊎ (status ≡ 4) ⊎ (status ≡ 5) ⊎ (status ≡ 6) ⊎ (status ≡ 8)
+
+-- what each status says, and when it comes
+pub record Statuses (words : List (List ℕ)) (old new : World) (status : ℕ) : Type 0 where
+  -- 0, 1 and 3: the command's whole text is written, with the status of what it comes to: the run ended by an exit, by a
+  -- trap, or not within its budget; for pair 0 where the runs are the same and 1 where they aren't
+  pub ran : IsRun status → Asks words (λ command. (done : Done command old new) × Wrote done.work.text old.out new.out × (status ≡ status_of (Ok done.work.ended)))
+  -- 2 exactly where the words are no command, but for want of memory
+  pub two : status ≡ 2 → command_of words ≡ None
+  pub no_command : command_of words ≡ None → (status ≡ 2) ⊎ (status ≡ 8)
+  -- 4 only where the description is too long or at fault, and there always, but for a failed read and want of memory
+  pub four : status ≡ 4 → Asks words (λ command. (name : List ℕ) × (description_name command ≡ Some name)
+      × (MayBeLonger old.files name description_max
+      ⊎ ((text : List ℕ) × (fault : DescFault) × MayHold old.files name description_max text × (description_of text ≡ Err fault))))
+  pub faulty_description : (command : CommandText) (name text : List ℕ) → command_of words ≡ Some command → description_name command ≡ Some name
+      → old.files.content name ≡ Some text → IsFaultyDescription text → (status ≡ 4) ⊎ ((status ≡ 6) ⊎ (status ≡ 8))
+  -- 5 only where an image is too long or at fault and nothing before it is, and always where one is, but for a failed read
+  -- and want of memory
+  pub five : status ≡ 5 → Asks words (λ command. (which : Which) × ImageRefusedAt command old.files (place_of which) (MayBeFaulty old.files))
+  pub faulty_image : (command : CommandText) (desc : Option Desc) (place : ℕ) (from : ImageFrom) (file : List ℕ) → command_of words ≡ Some command
+      → TellsDesc old.files (description_name command) desc → IsAt command place from → TellsBytes old.files from file → IsFaultyImage from file desc
+      → (status ≡ 5) ⊎ ((status ≡ 6) ⊎ (status ≡ 8))
+  -- 6 only where the count of the description's name rose, or that of an image's file after all before it was read and had
+  -- no fault; any other status leaves all counts of the files
+  pub six : status ≡ 6 → Asks words (λ command. ((name : List ℕ) × (description_name command ≡ Some name) × NameFailed name old.files new.files)
+      ⊎ ((which : Which) × ImageRefusedAt command old.files (place_of which) (λ desc from. FailsToRead old.files new.files from)))
+  pub not_six : status ≢ 6 → SameCounts old.files new.files
+  -- 7 only where the count of the sink rose, with a part of the text written; any other status leaves that count
+  pub seven : status ≡ 7 → Asks words (λ command. (done : Done command old new) × WrotePart done.work.text old.out new.out)
+  pub not_seven : status ≢ 7 → new.out.faults ≡ old.out.faults
+  -- the other refusals write nothing
+  pub nothing : IsRefusal status → new.out ≡ old.out
+  -- where the words, the description and the images have no fault and no count rose, the whole text is written with its
+  -- status, or memory was wanting and nothing is
+  pub complete : (command : CommandText) (desc : Option Desc) (images : List ImageText) (task : TaskText) → command_of words ≡ Some command
+      → TellsDesc old.files (description_name command) desc → TellsImages old.files desc (sources command) images → task_of command desc images ≡ Some task
+      → ((name : List ℕ) → Names command name → ¬ Rose (old.files.faults name) (new.files.faults name)) → ¬ Rose old.out.faults new.out.faults
+      → ((status ≡ 8) × (new.out ≡ old.out))
+      ⊎ ((work : Work) × ComesTo task work × (status ≡ status_of (Ok work.ended)) × Wrote work.text old.out new.out)

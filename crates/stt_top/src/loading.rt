@@ -1,0 +1,30 @@
+//! The instruction set's state in which a run begins.
+ghost use Rattle.std.specs.Prelude.{◌≡◌, IfOk};
+ghost use Rattle.pair_run.specs.Starts.{loaded};
+ghost use Rattle.stt_top.specs.Running.{Begins};
+
+use byte_ram::Ram;
+use elf_loader::Image;
+use isa_step::Isa;
+use rv_types::NoMemory;
+use std::alloc::Global;
+
+/// The instruction set's state, and memory as it was when the run began.
+#[derive(Drop)]
+pub struct Machine {
+    pub isa: Isa,
+    pub before: Ram,
+}
+
+impl Machine {
+    /// The state in which an image begins. All memory that a run takes is taken here. Error: there was no memory.
+    pub fn of(alloc: Global, image: Image) -> Result<Machine, NoMemory>
+        ensures { IfOk result (λ m. Begins (loaded image) m.isa m.before) }
+    {
+        let before = image.ram.copy(alloc)?;
+        Ok(Machine {
+            isa: Isa::new(image),
+            before,
+        })
+    }
+}

@@ -1,0 +1,75 @@
+//! A run of the instruction set whose output is written as it comes, and its report.
+ghost use Rattle.std.specs.Prelude.{◌≡◌, length, None, Result, MatchResult};
+ghost use Rattle.tool_io.specs.Outside.{WrotePart};
+ghost use Rattle.rv_types.specs.Isa.{isa};
+ghost use Rattle.elf_loader.specs.Code.{word_at};
+ghost use Rattle.report_text.specs.Report.{piece_lines, report_text};
+ghost use Rattle.stt_top.specs.Running.{RanAs, Tells};
+
+use crate::loading::Machine;
+use crate::outcome::{Ended, ended_of};
+use isa_step::{Isa, Ran, Stepped};
+use report_text::{write_piece, write_report};
+use rv_types::{End, Ending, Piece};
+use tool_io::{Failed, Sink};
+
+// At most so many steps.
+fn run<S: Sink>(state: &mut Isa, steps: u64, out: &mut S) -> Result<Ran, Failed>
+    ensures { MatchResult result
+        (λ ran. RanAs (isa (word_at state.old.code) state.old.hart steps) state.new.hart ran.taken ran.ended (S.told out.old) (S.told out.new))
+        (λ _. WrotePart (piece_lines (isa (word_at state.old.code) state.old.hart steps).pieces) (S.told out.old) (S.told out.new)) }
+{
+    let mut piece = Piece::new();
+    for done in 0..steps {
+        match state.step(&mut piece) {
+            Stepped::Next => write_piece(&piece, out)?,
+            Stepped::Exit(value) => {
+                return Ok(Ran {
+                    taken: done + 1,
+                    ended: Some(End::Exit(value)),
+                });
+            }
+            Stepped::Trap(cause) => {
+                return Ok(Ran {
+                    taken: done,
+                    ended: Some(End::Trap(cause, state.pc())),
+                });
+            }
+        }
+    }
+    Ok(Ran {
+        taken: steps,
+        ended: None,
+    })
+}
+
+/// Runs the instruction set for at most so many steps and writes the report, one put a line. It takes no memory. Error:
+/// `Failed`, only where the sink's count of faults rose; then a part of the report was written.
+pub fn report<S: Sink>(machine: &mut Machine, steps: u64, out: &mut S) -> Result<Ended, Failed>
+    requires base { machine.old.before.base ≡ machine.old.isa.hart.ram.base }
+    requires size { length machine.old.before.bytes ≡ length machine.old.isa.hart.ram.bytes }
+    ensures { Tells (report_text machine.old.before (isa (word_at machine.old.isa.code) machine.old.isa.hart steps) None)
+        (isa (word_at machine.old.isa.code) machine.old.isa.hart steps).ended (S.told out.old) (S.told out.new) result }
+{
+    let ran = match run(&mut machine.isa, steps, out) {
+        Ok(ran) => ran,
+        Err(failed) => return Err(failed),
+    };
+    let ending = Ending {
+        end: ran.ended,
+        retired: ran.taken,
+        cycles: None,
+    };
+    let isa = &machine.isa;
+    match write_report(
+        isa.regs(),
+        isa.pc(),
+        &machine.before,
+        isa.ram(),
+        &ending,
+        out,
+    ) {
+        Ok(()) => Ok(ended_of(ran.ended)),
+        Err(failed) => Err(failed),
+    }
+}

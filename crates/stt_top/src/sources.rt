@@ -1,0 +1,115 @@
+//! The images of a command: where each comes from, its bytes, and the image that is loaded from them.
+ghost use Rattle.std.specs.Prelude.{◌≡◌, Ok, Result, MatchResult, IfOk, length};
+ghost use Rattle.elf_loader.specs.Image.{image_of};
+ghost use Rattle.pair_run.specs.Starts.{loaded};
+ghost use Rattle.tool_io.specs.Outside.{SameContents, SameCounts};
+ghost use Rattle.stt_top.specs.Input.{source_of, HasBytes, IsImage, BytesRefused, ImageRefused, LoadRefused, refusal_of, base_of, size_of};
+
+use crate::outcome::{Refusal, Which};
+use crate::reading::{IMAGE_MAX, Unread, read_file};
+use crate::region::Region;
+use byte_ram::Ram;
+use elf_loader::{ElfFault, Image, load, segments};
+use gen_image::generate;
+use machine_desc::Desc;
+use std::alloc::Global;
+use tool_io::{Content, Files};
+use tool_words::Blocks;
+
+/// Where an image comes from.
+#[derive(Clone, Copy, Debug)]
+pub enum Source<'a> {
+    /// The file of this name.
+    File(&'a str),
+    /// A seed and a number of blocks, which generate it.
+    Seed(u64, Blocks),
+}
+
+// The bytes of an image.
+fn bytes_of<F: Files>(
+    alloc: Global,
+    source: Source<'_>,
+    which: Which,
+    files: &mut F,
+) -> Result<Content, Refusal>
+    ensures answer { MatchResult result
+        (λ file. HasBytes (F.shelf files.old) (source_of source.entry) file × SameCounts (F.shelf files.old) (F.shelf files.new))
+        (λ e. BytesRefused which (source_of source.entry) (F.shelf files.old) (F.shelf files.new) e) }
+    ensures stays { SameContents (F.shelf files.old) (F.shelf files.new) }
+{
+    match source {
+        Source::File(name) => match read_file(alloc, name, IMAGE_MAX, files) {
+            Ok(file) => Ok(file),
+            Err(Unread::Failed) => Err(Refusal::ReadImage(which)),
+            Err(Unread::TooLong) => Err(Refusal::ImageTooLong(which)),
+            Err(Unread::NoMemory) => Err(Refusal::Memory),
+        },
+        Source::Seed(seed, blocks) => match generate(alloc, seed, blocks.count) {
+            Ok(file) => Ok(Content::new(file)),
+            Err(_) => Err(Refusal::Memory),
+        },
+    }
+}
+
+// The refusal of a fault of loading: want of memory is one of its own.
+fn refusal_of(which: Which, fault: ElfFault) -> Refusal
+    ensures { result ≡ refusal_of which fault }
+{
+    match fault {
+        ElfFault::NoMemory => Refusal::Memory,
+        _ => Refusal::Image(which, fault),
+    }
+}
+
+// The image of a file in memory that is all 0 before.
+fn image_in(alloc: Global, file: &[u8], which: Which, region: Region) -> Result<Image, Refusal>
+    ensures { MatchResult result
+        (λ i. image_of file.now region.base region.size ≡ Ok (loaded i))
+        (λ e. LoadRefused which file.now region.base region.size e) }
+{
+    let segments = match segments(file) {
+        Ok(segments) => segments,
+        Err(fault) => return Err(Refusal::Image(which, fault)),
+    };
+    let ram = match Ram::new(alloc, region.base, region.size) {
+        Ok(ram) => ram,
+        Err(_) => return Err(Refusal::Memory),
+    };
+    match load(alloc, &segments, ram) {
+        Ok(image) => Ok(image),
+        Err(fault) => Err(refusal_of(which, fault)),
+    }
+}
+
+// The image of a file in the memory of a run.
+fn load_image(
+    alloc: Global,
+    file: &[u8],
+    which: Which,
+    desc: Option<Desc>,
+) -> Result<Image, Refusal>
+    ensures { MatchResult result
+        (λ i. image_of file.now (base_of desc) (size_of desc) ≡ Ok (loaded i))
+        (λ e. LoadRefused which file.now (base_of desc) (size_of desc) e) }
+{
+    image_in(alloc, file, which, Region::of(desc))
+}
+
+/// The image from there, in the memory of this description.
+pub fn read_image<F: Files>(
+    alloc: Global,
+    source: Source<'_>,
+    which: Which,
+    desc: Option<Desc>,
+    files: &mut F,
+) -> Result<Image, Refusal>
+    ensures answer { MatchResult result
+        (λ i. IsImage (F.shelf files.old) desc (source_of source.entry) (loaded i) × SameCounts (F.shelf files.old) (F.shelf files.new))
+        (λ e. ImageRefused which desc (source_of source.entry) (F.shelf files.old) (F.shelf files.new) e) }
+    ensures base { IfOk result (λ i. i.ram.base ≡ base_of desc) }
+    ensures size { IfOk result (λ i. length i.ram.bytes ≡ size_of desc) }
+    ensures stays { SameContents (F.shelf files.old) (F.shelf files.new) }
+{
+    let file = bytes_of(alloc, source, which, files)?;
+    load_image(alloc, file.as_slice(), which, desc)
+}
