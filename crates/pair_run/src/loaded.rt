@@ -60,7 +60,8 @@ fn ends_path(model: SttModel, stepped: Stepped, passed: Option<Cause>) -> bool
 // Whether they have the memory's byte at each address that a model's path loads from, in so many steps from a state. The
 // state goes on as far as that takes.
 fn loads_agree(state: &mut Isa, model: SttModel, one: &Ram, two: &[u8], steps: u64) -> bool
-    ensures { IsTrue result ↔ All (SameByte one.now two.now) (reads (path model) (word_at state.old.code) state.old.hart steps) }
+    ensures { IsTrue result
+        ↔ All (SameByte one.now two.now) (reads (path model) (word_at state.old.code) state.old.hart steps) }
 {
     let mut piece = Piece::new();
     let mut read = Reached {
@@ -83,7 +84,8 @@ fn loads_agree(state: &mut Isa, model: SttModel, one: &Ram, two: &[u8], steps: u
 // The same of as many bytes as the memory has, taken for those of a second one at its place.
 fn memories_agree(state: &mut Isa, model: SttModel, one: &Ram, two: &[u8], steps: u64) -> bool
     requires { length two.now ≡ length one.now.bytes }
-    ensures { IsTrue result ↔ Agree one.now (record { base = one.now.base; bytes = two.now }) (reads (path model) (word_at state.old.code) state.old.hart steps) }
+    ensures { IsTrue result ↔ Agree one.now (record { base = one.now.base; bytes = two.now })
+        (reads (path model) (word_at state.old.code) state.old.hart steps) }
 {
     loads_agree(state, model, one, two, steps)
 }

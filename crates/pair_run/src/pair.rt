@@ -39,7 +39,11 @@ impl<R: RenameTaint + Drop> Model for Pair<R> {
 
     ghost coded = { images_code };
 
-    ghost view = { λ p. record { desc = p.desc; one = image_at p.one p.first.code; two = image_at p.two p.second.code } };
+    ghost view = { λ p. record {
+      desc = p.desc;
+      one = image_at p.one p.first.code;
+      two = image_at p.two p.second.code;
+    } };
 
     ghost invariant = { λ p. Opened p.desc p.one p.two p.same_code p.first p.second p.path };
 }
