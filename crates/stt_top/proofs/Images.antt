@@ -1,13 +1,12 @@
 -- What the loader's clauses say of the image of a file.
-use Rattle.std.specs.Prelude.{IsSome, Result, MatchResult, IfOk}
+use Rattle.std.specs.Prelude.{Result, MatchResult, IfOk}
 use Rattle.std.proofs.Common.{◌≡◌, ℕ, List, [], ◌∷◌, Some, None, Ok, Err, Option, length, refl, sym, ap, ap₂, ◌∙◌, ◌⊎◌, inl, inr}
 use Rattle.std.proofs.lemmas.List.FromFn.{length-map-range_with_len}
 use Rattle.rv_types.specs.Memory.{Ram, Code, zeros, length_zeros}
 use Rattle.elf_loader.specs.Fields.{entry_of}
 use Rattle.elf_loader.specs.Faults.{first_some, header_fault}
 use Rattle.elf_loader.specs.Image.{ImageText, image_of, image_in, unless, ram_fault, ram_after, code_of}
-use Rattle.elf_loader.proofs.Images.{image_without, image_outside, code_of_aligned}
-use Rattle.window_model.specs.Committed.{Aligned}
+use Rattle.elf_loader.proofs.Images.{image_without, image_outside}
 use Rattle.elf_loader.specs.declared.faults.ElfFault.{ElfFault}
 use Rattle.elf_loader.specs.declared.loading.Image.{Image}
 use Rattle.elf_loader.specs.Code.{word_at}
@@ -80,16 +79,3 @@ pub loaded_size : (file : List ℕ) (base size : ℕ) (r : Result Image Refusal)
     → IfOk r (λ i. length i.ram.bytes ≡ size)
 loaded_size file base size (Ok i) Q h = (image_stays file base size (loaded i) h).1
 loaded_size file base size (Err e) Q h = tt
-
-some_is : {T : Type 0} (o : Option T) (t : T) → o ≡ Some t → IsSome o
-some_is None t e = absurd (cc)
-some_is (Some u) t e = refl
-
--- an image's instructions stand at multiples of 4
-pub image_aligned : (file : List ℕ) (base size : ℕ) (i : ImageText) → image_of file base size ≡ Ok i → Aligned i.code
-unfolding image_of
-image_aligned file base size i e = λ pc w h.
-    let ram = empty base size in
-    let same : image_in file ram ≡ i = by_fault (first_some (header_fault file ∷ ram_fault file ram ∷ [])) (image_in file ram) i e in
-    let c : code_of file (ram_after file ram) pc ≡ i.code pc = ap (λ (x : ImageText). x.code pc) same in
-    code_of_aligned file (ram_after file ram) pc (some_is _ w (c ∙ h))

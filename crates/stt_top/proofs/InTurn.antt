@@ -43,8 +43,6 @@ fails_before old mid new (from_seed seed blocks) s h = h
 pub image_before : (old mid : Shelf) (desc : Option Desc) (from : ImageFrom) (image : ImageText) → SameContents old mid → IsImage mid desc from image → IsImage old desc from image
 image_before old mid desc from image s i = record { file = i.file; content = bytes_before old mid from i.file s i.content; loads = i.loads }
 
--- ---- An image
-
 -- ---- Refusals in turn
 
 -- what was read before an image: the description, and the images before it

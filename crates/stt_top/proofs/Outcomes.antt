@@ -42,8 +42,6 @@ pub compared_part : (d : Desc) (one two : ImageText) (n : ℕ) (answer : PairAns
     → Performs (pair_task d one two n) out out' (Err Write)
 compared_part d one two n answer out out' a w = (pair_work answer, (answer, a, refl), w)
 
--- ---- What a core's run asks for
-
 -- ---- The program
 
 -- what it asks for is done

@@ -3,6 +3,7 @@ use Rattle.std.proofs.Common.{◌≡◌, ◌≤◌, ℕ, List, Some, None, Resul
 use Rattle.rv_types.specs.Memory.{Code}
 use Rattle.rv_types.specs.Isa.{Run, start}
 use Rattle.elf_loader.specs.Image.{ImageText}
+use Rattle.elf_loader.proofs.Images.{at_words}
 use Rattle.machine_desc.specs.declared.Desc.{Desc}
 use Rattle.machine_desc.proofs.EveryDesc.{every_desc}
 use Rattle.window_model.specs.Cycle.{trace, pieces}
@@ -26,7 +27,6 @@ use Rattle.stt_top.specs.Outcome.{status_of}
 use Rattle.stt_top.specs.Work.{TaskText, isa_task, report_task, trace_task, pair_task, Work, ComesTo, run_work}
 use Rattle.stt_top.specs.Top.{World, Ends, Statuses}
 use Rattle.stt_top.specs.Promises.{Commits, MovesOn, Hides, Compares, Keeps, Promises, TracesAgree, retired_run, state_at}
-use Rattle.stt_top.proofs.Images.{image_aligned}
 use Rattle.stt_top.proofs.Tasks.{AlignedTask, task_aligned}
 use Rattle.stt_top.proofs.Statuses.{statuses_at}
 
@@ -71,7 +71,7 @@ hides d image n out out' al w = record {
 pub traces_agree : TracesAgree
 traces_agree d a b one two n f g e c agree =
     let first : trace_of d two n ≡ trace d one.code one.entry two.ram n = ap (λ (x : ℕ). trace d two.code x two.ram n) e ∙ ap (λ (x : Code). trace d x one.entry two.ram n) c in
-    ap text.trace_text (first ∙ same_trace d one.code one.entry one.ram two.ram n (image_aligned a _ _ one f) agree)
+    ap text.trace_text (first ∙ same_trace d one.code one.entry one.ram two.ram n (at_words a _ _ one f) agree)
 
 -- and so the answer on two images whose premise is true is that their runs are the same
 compares : (d : Desc) (one two : ImageText) (n : ℕ) (answer : PairAnswer) (out out' : Told) → Aligned one.code → Answers d one two n answer → Wrote (comparison answer) out out'

@@ -164,8 +164,8 @@ module _ (words : List (List ℕ)) (old new : World) where
     cut : Ends words old new (Err Write) → (done : Done command old new) × WrotePart done.work.text old.out new.out
     cut a = of_command words (λ c. (done : Done c old new) × WrotePart done.work.text old.out new.out) command k a
 
-    its_refusal : (e : Refusal) → Asks words (λ c. CommandRefused c old new e) → CommandRefused command old new e
-    its_refusal e a = of_command words (λ c. CommandRefused c old new e) command k a
+    its_refusal : (e : Refusal) → Asks words (λ c. CommandRefused c old.files new.files e) → CommandRefused command old.files new.files e
+    its_refusal e a = of_command words (λ c. CommandRefused c old.files new.files e) command k a
 
     faulty_description : (r : Result Ended Refusal) → Ends words old new r → (name text : List ℕ) → description_name command ≡ Some name
         → old.files.content name ≡ Some text → IsFaultyDescription text → (status_of r ≡ 4) ⊎ ((status_of r ≡ 6) ⊎ (status_of r ≡ 8))

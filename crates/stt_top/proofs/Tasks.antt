@@ -1,6 +1,7 @@
 -- What tasks come to: one work each.
 use Rattle.std.proofs.Common.{◌≡◌, List, [], ◌∷◌, Option, Some, None, sym, ◌∙◌, ap, subst}
 use Rattle.elf_loader.specs.Image.{ImageText}
+use Rattle.elf_loader.proofs.Images.{at_words}
 use Rattle.machine_desc.specs.declared.Desc.{Desc}
 use Rattle.pair_run.proofs.Unique.{one_answer}
 use Rattle.tool_words.specs.Words.{CommandText, isa_text, run_text, trace_text, bench_text, pair_text}
@@ -9,7 +10,6 @@ use Rattle.stt_top.specs.Input.{ImageFrom, AreImages, base_of, size_of}
 use Rattle.stt_top.specs.Top.{sources, Runs}
 use Rattle.stt_top.specs.Work.{TaskText, isa_task, report_task, trace_task, pair_task, task_of, OneWork, pair_work}
 use Rattle.tool_io.specs.Outside.{Shelf}
-use Rattle.stt_top.proofs.Images.{image_aligned}
 
 pub one_work : OneWork
 one_work (isa_task image steps) a b f g = f ∙ sym g
@@ -29,7 +29,7 @@ are_aligned shelf desc [] [] a = tt
 are_aligned shelf desc [] (x ∷ xs) a = absurd a
 are_aligned shelf desc (from ∷ rest) [] a = absurd a
 are_aligned shelf desc (from ∷ rest) (image ∷ images) a =
-    (image_aligned a.0.file (base_of desc) (size_of desc) image a.0.loads, are_aligned shelf desc rest images a.1)
+    (at_words a.0.file (base_of desc) (size_of desc) image a.0.loads, are_aligned shelf desc rest images a.1)
 
 -- those of the image that a machine's run is of, or the first of its runs
 abbrev pub AlignedTask : TaskText → Type 0

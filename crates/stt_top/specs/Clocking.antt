@@ -6,10 +6,13 @@ use Rattle.machine_desc.specs.declared.Desc.{Desc}
 use Rattle.window_model.specs.State.{Machine}
 use Rattle.window_model.specs.Retire.{hart_of}
 use Rattle.window_model.specs.Cycle.{rows, pieces, after_cycles}
+use Rattle.pair_run.specs.Running.{trace_from}
 use Rattle.report_text.specs.Report.{piece_lines, report_text}
-use Rattle.trace_text.specs.TraceText.{rows_text}
+use Rattle.trace_text.specs.TraceText.{rows_text, trace_text}
 use Rattle.tool_io.specs.Outside.{Told, Wrote, WrotePart}
 use Rattle.tool_io.specs.declared.Failed.{Failed}
+use Rattle.stt_top.specs.declared.outcome.Ended.{Ended}
+use Rattle.stt_top.specs.Running.{Tells}
 
 -- a run of at most n cycles from a state, as a report tells it: its steps are the instructions that retired
 abbrev pub run_from : Desc → Code → ℕ → Machine → Run
@@ -35,3 +38,11 @@ WritesRows d code n x y old new result =
 abbrev pub WritesPieces : Desc → Code → ℕ → Machine → Machine → Told → Told → Result (Unit {0}) Failed → Type 0
 WritesPieces d code n x y old new result =
     MatchResult result (λ _. CameTo (piece_lines (pieces d code n x)) d code n x y old new) (λ _. WrotePart (piece_lines (pieces d code n x)) old new)
+
+-- the trace of a run of at most n cycles from a state is written, whole and with how the run ended, or in part
+abbrev pub TellsTrace : Desc → Code → ℕ → Machine → Told → Told → Result Ended Failed → Type 0
+TellsTrace d code n x old new result = Tells (trace_text (trace_from d code n x)) (trace_from d code n x).end old new result
+
+-- so is its report
+abbrev pub TellsReport : Ram → Desc → Code → ℕ → Machine → Told → Told → Result Ended Failed → Type 0
+TellsReport before d code n x old new result = Tells (report_from before d code n x) (run_from d code n x).ended old new result

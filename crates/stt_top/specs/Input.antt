@@ -1,12 +1,14 @@
 -- What the program reads, and why it may be refused (docs/theorems.md, "What is read"): a description, if one is named, and
 -- then images in their order, each read and loaded before the next is read.
-use Rattle.std.specs.Prelude.{◌≡◌, ℕ, List, [], ◌∷◌, take, slice_get, Option, Some, None, Ok, Err}
+use Rattle.std.specs.Prelude.{◌≡◌, ℕ, List, [], ◌∷◌, take, slice_get, Option, Some, None, Result, Ok, Err, MatchResult}
 use Rattle.elf_loader.specs.Image.{ImageText, image_of}
 use Rattle.elf_loader.specs.declared.faults.ElfFault.{ElfFault}
 use Rattle.elf_loader.specs.declared.faults.ElfFault.TheVariants as elf
+use Rattle.elf_loader.specs.declared.loading.Image.{Image}
 use Rattle.gen_image.specs.Generated.{generated_image}
 use Rattle.machine_desc.specs.Description.{description_of, Describes}
 use Rattle.machine_desc.specs.declared.Desc.{Desc}
+use Rattle.pair_run.specs.Starts.{loaded}
 use Rattle.tool_io.specs.declared.Got.TheVariants.{Bytes, TooLong}
 use Rattle.tool_io.specs.Outside.{Shelf, GetsTold, SameCounts, NameFailed}
 use Rattle.stt_top.specs.Outcome.{place_of}
@@ -65,6 +67,10 @@ DescriptionRefused name old new _ = ⊥
 abbrev pub NamedRefused : Option (List ℕ) → Shelf → Shelf → Refusal → Type 0
 NamedRefused None old new refusal = ⊥
 NamedRefused (Some name) old new refusal = DescriptionRefused name old new refusal
+
+-- the description of a run is read, if it names one, or refused
+abbrev pub ReadsDesc : Option (List ℕ) → Shelf → Shelf → Result (Option Desc) Refusal → Type 0
+ReadsDesc name old new result = MatchResult result (λ desc. HasDesc old name desc × SameCounts old new) (NamedRefused name old new)
 
 -- ---- An image
 
@@ -132,10 +138,20 @@ BytesRefused which from old new (ImageTooLong w) = (w ≡ which) × HasTooMany o
 BytesRefused which from old new Memory = SameCounts old new
 BytesRefused which from old new _ = ⊥
 
+-- the bytes of an image are got, or there are none
+abbrev pub ReadsBytes : Which → ImageFrom → Shelf → Shelf → Result (List ℕ) Refusal → Type 0
+ReadsBytes which from old new result =
+    MatchResult result (λ file. HasBytes old from file × SameCounts old new) (BytesRefused which from old new)
+
 -- why an image is refused
 abbrev pub ImageRefused : Which → Option Desc → ImageFrom → Shelf → Shelf → Refusal → Type 0
 ImageRefused which desc from old new (NoImage w fault) = (w ≡ which) × HasFault old desc from fault × SameCounts old new
 ImageRefused which desc from old new refusal = BytesRefused which from old new refusal
+
+-- an image is read and loaded, or refused
+abbrev pub ReadsImage : Which → Option Desc → ImageFrom → Shelf → Shelf → Result Image Refusal → Type 0
+ReadsImage which desc from old new result =
+    MatchResult result (λ i. IsImage old desc from (loaded i) × SameCounts old new) (ImageRefused which desc from old new)
 
 -- ---- One after the other
 

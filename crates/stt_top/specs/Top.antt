@@ -1,6 +1,6 @@
 -- What the program does: the words, what the files and the sink tell before and after, and the status
 -- (docs/theorems.md, "The program").
-use Rattle.std.specs.Prelude.{◌≡◌, ◌≢◌, ◌≤◌, ◌<◌, ◌⊎◌, ℕ, List, [], ◌∷◌, length, slice_get, Option, Some, None, Result, Ok, Err}
+use Rattle.std.specs.Prelude.{◌≡◌, ◌≢◌, ◌≤◌, ◌<◌, ◌⊎◌, ℕ, List, [], ◌∷◌, length, slice_get, Option, Some, None, Result, Ok, Err, MatchResult}
 use Rattle.elf_loader.specs.Image.{ImageText, image_of}
 use Rattle.elf_loader.specs.declared.faults.ElfFault.{ElfFault}
 use Rattle.gen_image.specs.Generated.{generated_image}
@@ -15,7 +15,8 @@ use Rattle.stt_top.specs.declared.outcome.Refusal.{Refusal}
 use Rattle.stt_top.specs.declared.outcome.Refusal.TheVariants.{Words, Write, Memory}
 use Rattle.stt_top.specs.Outcome.{status_of, place_of}
 use Rattle.stt_top.specs.Input.{description_max, image_max, ImageFrom, from_file, from_seed, MayHold, MayBeLonger, IsRead, RefusedAt, FailsToRead, HasTooMany, HasFault, Refuses, base_of, size_of}
-use Rattle.stt_top.specs.Work.{TaskText, task_of, Work, ComesTo}
+use Rattle.stt_top.specs.declared.task.Task.{Task}
+use Rattle.stt_top.specs.Work.{TaskText, task_of, task_text, Work, ComesTo}
 
 -- ---- Commands
 
@@ -50,16 +51,20 @@ pub record Runs (command : CommandText) (old new : Shelf) (task : TaskText) : Ty
   pub read : IsRead old new (description_name command) (sources command) desc images
   pub asks : task_of command desc images ≡ Some task
 
+-- why a command is refused before anything is written
+abbrev pub CommandRefused : CommandText → Shelf → Shelf → Refusal → Type 0
+CommandRefused command old new refusal = Refuses (description_name command) (sources command) old new refusal
+
+-- what a command needs is read, and makes its task, or the command is refused
+abbrev pub ReadsTask : CommandText → Shelf → Shelf → Result Task Refusal → Type 0
+ReadsTask command old new result = MatchResult result (λ task. Runs command old new (task_text task)) (CommandRefused command old new)
+
 -- and the task comes to this
 pub record Done (command : CommandText) (old new : World) : Type 0 where
   pub task : TaskText
   pub runs : Runs command old.files new.files task
   pub work : Work
   pub comes_to : ComesTo task work
-
--- why a command is refused before anything is written
-abbrev pub CommandRefused : CommandText → World → World → Refusal → Type 0
-CommandRefused command old new refusal = Refuses (description_name command) (sources command) old.files new.files refusal
 
 -- the words ask for a command, of which this holds
 abbrev pub Asks : List (List ℕ) → (CommandText → Type 0) → Type 0
@@ -72,7 +77,7 @@ Ends words old new (Ok ended) = Asks words (λ command. (done : Done command old
 Ends words old new (Err Write) = Asks words (λ command. (done : Done command old new) × WrotePart done.work.text old.out new.out)
 Ends words old new (Err Words) = (command_of words ≡ None) × SameCounts old.files new.files × (new.out ≡ old.out)
 Ends words old new (Err Memory) = SameCounts old.files new.files × (new.out ≡ old.out)
-Ends words old new (Err refusal) = Asks words (λ command. CommandRefused command old new refusal) × (new.out ≡ old.out)
+Ends words old new (Err refusal) = Asks words (λ command. CommandRefused command old.files new.files refusal) × (new.out ≡ old.out)
 
 -- ---- The statuses
 

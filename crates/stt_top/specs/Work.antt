@@ -43,8 +43,8 @@ task_of command desc images = None
 -- the task that the code holds
 abbrev pub task_text : Task → TaskText
 task_text (Isa image steps) = isa_task (loaded image) steps
-task_text (Report d image cycles) = report_task d (loaded image) cycles
-task_text (Trace d image cycles) = trace_task d (loaded image) cycles
+task_text (Report read cycles) = report_task read.desc (loaded read.image) cycles
+task_text (Trace read cycles) = trace_task read.desc (loaded read.image) cycles
 task_text (Pair d one two cycles) = pair_task d (loaded one) (loaded two) cycles
 
 -- the machine's images lie in the memory of its description

@@ -1,10 +1,8 @@
 //! Runs of a core, cycle by cycle: their traces and their reports. They take no memory.
 ghost use Rattle.std.specs.Prelude.{◌≡◌, ◌<◌, ◌+◌, ◌^◌, length, Some};
 ghost use Rattle.machine_facts.specs.Sized.{Sized};
-ghost use Rattle.trace_text.specs.TraceText.{trace_text};
-ghost use Rattle.pair_run.specs.Running.{ending_at, trace_from};
-ghost use Rattle.stt_top.specs.Clocking.{WritesRows, WritesPieces, run_from, report_from};
-ghost use Rattle.stt_top.specs.Running.{Tells};
+ghost use Rattle.pair_run.specs.Running.{ending_at};
+ghost use Rattle.stt_top.specs.Clocking.{WritesRows, WritesPieces, TellsTrace, TellsReport};
 
 use crate::outcome::{Ended, ended_of};
 use byte_ram::Ram;
@@ -18,7 +16,8 @@ use window_model::{Clocked, empty_row};
 // At most so many cycles: the row of each by one put.
 fn write_rows<C: Clocked, S: Sink>(core: &mut C, cycles: u32, out: &mut S) -> Result<(), Failed>
     requires few { (C.machine core.old).cycle + cycles < 2 ^ 32 }
-    ensures { WritesRows (C.desc core.old) (C.code core.old) cycles (C.machine core.old) (C.machine core.new) (S.told out.old) (S.told out.new) result }
+    ensures { WritesRows (C.desc core.old) (C.code core.old) cycles (C.machine core.old) (C.machine core.new)
+        (S.told out.old) (S.told out.new) result }
 {
     let mut row = empty_row();
     let mut piece = Piece::new();
@@ -36,7 +35,8 @@ fn write_rows<C: Clocked, S: Sink>(core: &mut C, cycles: u32, out: &mut S) -> Re
 // At most so many cycles: the output of each as it comes.
 fn write_pieces<C: Clocked, S: Sink>(core: &mut C, cycles: u32, out: &mut S) -> Result<(), Failed>
     requires few { (C.machine core.old).cycle + cycles < 2 ^ 32 }
-    ensures { WritesPieces (C.desc core.old) (C.code core.old) cycles (C.machine core.old) (C.machine core.new) (S.told out.old) (S.told out.new) result }
+    ensures { WritesPieces (C.desc core.old) (C.code core.old) cycles (C.machine core.old) (C.machine core.new)
+        (S.told out.old) (S.told out.new) result }
 {
     let mut row = empty_row();
     let mut piece = Piece::new();
@@ -64,8 +64,8 @@ fn ending_at<C: Clocked>(core: &C) -> Ending
 /// count of faults rose; then a part of the trace was written.
 pub fn trace<C: Clocked, S: Sink>(core: &mut C, cycles: u32, out: &mut S) -> Result<Ended, Failed>
     requires few { (C.machine core.old).cycle + cycles < 2 ^ 32 }
-    ensures { Tells (trace_text (trace_from (C.desc core.old) (C.code core.old) cycles (C.machine core.old)))
-        (trace_from (C.desc core.old) (C.code core.old) cycles (C.machine core.old)).end (S.told out.old) (S.told out.new) result }
+    ensures { TellsTrace (C.desc core.old) (C.code core.old) cycles (C.machine core.old)
+        (S.told out.old) (S.told out.new) result }
 {
     match write_rows(core, cycles, out) {
         Ok(()) => {}
@@ -89,8 +89,8 @@ pub fn report<C: Clocked, S: Sink>(
     requires sized { Sized (C.desc core.old) (C.machine core.old) }
     requires base { before.now.base ≡ (C.machine core.old).ram.base }
     requires size { length before.now.bytes ≡ length (C.machine core.old).ram.bytes }
-    ensures { Tells (report_from before.now (C.desc core.old) (C.code core.old) cycles (C.machine core.old))
-        (run_from (C.desc core.old) (C.code core.old) cycles (C.machine core.old)).ended (S.told out.old) (S.told out.new) result }
+    ensures { TellsReport before.now (C.desc core.old) (C.code core.old) cycles (C.machine core.old)
+        (S.told out.old) (S.told out.new) result }
 {
     match write_pieces(core, cycles, out) {
         Ok(()) => {}

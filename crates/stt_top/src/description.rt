@@ -3,7 +3,7 @@ ghost use Rattle.std.specs.Prelude.{◌≡◌, Option, Some, Result, MatchResult
 ghost use Rattle.std.specs.Option.{option_map};
 ghost use Rattle.machine_desc.specs.Description.{Describes};
 ghost use Rattle.tool_io.specs.Outside.{SameContents, SameCounts};
-ghost use Rattle.stt_top.specs.Input.{TextRefused, HasDesc, DescriptionRefused, NamedRefused};
+ghost use Rattle.stt_top.specs.Input.{TextRefused, HasDesc, DescriptionRefused, ReadsDesc};
 
 use crate::outcome::Refusal;
 use crate::reading::{DESCRIPTION_MAX, Unread, read_file};
@@ -47,9 +47,8 @@ pub fn read_named<F: Files>(
     description: Option<&str>,
     files: &mut F,
 ) -> Result<Option<Desc>, Refusal>
-    ensures answer { MatchResult result
-        (λ d. HasDesc (F.shelf files.old) (option_map (λ t. t.now) description.entry) d × SameCounts (F.shelf files.old) (F.shelf files.new))
-        (λ e. NamedRefused (option_map (λ t. t.now) description.entry) (F.shelf files.old) (F.shelf files.new) e) }
+    ensures answer { ReadsDesc (option_map (λ t. t.now) description.entry)
+        (F.shelf files.old) (F.shelf files.new) result }
     ensures stays { SameContents (F.shelf files.old) (F.shelf files.new) }
 {
     let Some(name) = description else {

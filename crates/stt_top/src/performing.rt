@@ -7,7 +7,7 @@ ghost use Rattle.stt_top.specs.Work.{isa_task, report_task, trace_task, pair_tas
 use crate::building::{build, build_pair};
 use crate::loading::Machine;
 use crate::outcome::{Ended, Refusal, compared_of};
-use crate::task::Task;
+use crate::task::{Described, Task};
 use crate::{clocking, running};
 use elf_loader::Image;
 use machine_desc::Desc;
@@ -27,16 +27,16 @@ fn isa<O: Sink>(alloc: Global, image: Image, steps: u64, out: &mut O) -> Result<
 // The machine's run of an image, as a report.
 fn report<O: Sink>(
     alloc: Global,
-    desc: &Desc,
-    image: Image,
+    read: Described,
     cycles: u32,
     out: &mut O,
 ) -> Result<Ended, Refusal>
-    requires { Fits desc.now image.ram }
-    ensures { Performs (report_task desc.now (loaded image) cycles) (O.told out.old) (O.told out.new) result }
+    requires { Fits read.desc read.image.ram }
+    ensures { Performs (report_task read.desc (loaded read.image) cycles) (O.told out.old) (O.told out.new) result }
 {
+    let Described { desc, image } = read;
     let before = image.ram.copy(alloc)?;
-    let mut core = build(alloc, desc, image)?;
+    let mut core = build(alloc, &desc, image)?;
     let ended = clocking::report(&mut core, &before, cycles, out)?;
     Ok(ended)
 }
@@ -44,15 +44,15 @@ fn report<O: Sink>(
 // The same run, cycle by cycle.
 fn trace<O: Sink>(
     alloc: Global,
-    desc: &Desc,
-    image: Image,
+    read: Described,
     cycles: u32,
     out: &mut O,
 ) -> Result<Ended, Refusal>
-    requires { Fits desc.now image.ram }
-    ensures { Performs (trace_task desc.now (loaded image) cycles) (O.told out.old) (O.told out.new) result }
+    requires { Fits read.desc read.image.ram }
+    ensures { Performs (trace_task read.desc (loaded read.image) cycles) (O.told out.old) (O.told out.new) result }
 {
-    let mut core = build(alloc, desc, image)?;
+    let Described { desc, image } = read;
+    let mut core = build(alloc, &desc, image)?;
     let ended = clocking::trace(&mut core, cycles, out)?;
     Ok(ended)
 }
@@ -83,16 +83,8 @@ pub fn perform<O: Sink>(alloc: Global, task: Task, out: &mut O) -> Result<Ended,
 {
     match task {
         Task::Isa { image, steps } => isa(alloc, image, steps, out),
-        Task::Report {
-            desc,
-            image,
-            cycles,
-        } => report(alloc, &desc, image, cycles, out),
-        Task::Trace {
-            desc,
-            image,
-            cycles,
-        } => trace(alloc, &desc, image, cycles, out),
+        Task::Report { read, cycles } => report(alloc, read, cycles, out),
+        Task::Trace { read, cycles } => trace(alloc, read, cycles, out),
         Task::Pair {
             desc,
             one,

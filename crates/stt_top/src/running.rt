@@ -1,10 +1,8 @@
 //! A run of the instruction set whose output is written as it comes, and its report.
-ghost use Rattle.std.specs.Prelude.{◌≡◌, length, None, Result, MatchResult};
-ghost use Rattle.tool_io.specs.Outside.{WrotePart};
+ghost use Rattle.std.specs.Prelude.{◌≡◌, length};
 ghost use Rattle.rv_types.specs.Isa.{isa};
 ghost use Rattle.elf_loader.specs.Code.{word_at};
-ghost use Rattle.report_text.specs.Report.{piece_lines, report_text};
-ghost use Rattle.stt_top.specs.Running.{RanAs, Tells};
+ghost use Rattle.stt_top.specs.Running.{WritesOutput, TellsRun};
 
 use crate::loading::Machine;
 use crate::outcome::{Ended, ended_of};
@@ -15,9 +13,8 @@ use tool_io::{Failed, Sink};
 
 // At most so many steps.
 fn run<S: Sink>(state: &mut Isa, steps: u64, out: &mut S) -> Result<Ran, Failed>
-    ensures { MatchResult result
-        (λ ran. RanAs (isa (word_at state.old.code) state.old.hart steps) state.new.hart ran.taken ran.ended (S.told out.old) (S.told out.new))
-        (λ _. WrotePart (piece_lines (isa (word_at state.old.code) state.old.hart steps).pieces) (S.told out.old) (S.told out.new)) }
+    ensures { WritesOutput (isa (word_at state.old.code) state.old.hart steps) state.new.hart
+        (S.told out.old) (S.told out.new) result }
 {
     let mut piece = Piece::new();
     for done in 0..steps {
@@ -48,8 +45,8 @@ fn run<S: Sink>(state: &mut Isa, steps: u64, out: &mut S) -> Result<Ran, Failed>
 pub fn report<S: Sink>(machine: &mut Machine, steps: u64, out: &mut S) -> Result<Ended, Failed>
     requires base { machine.old.before.base ≡ machine.old.isa.hart.ram.base }
     requires size { length machine.old.before.bytes ≡ length machine.old.isa.hart.ram.bytes }
-    ensures { Tells (report_text machine.old.before (isa (word_at machine.old.isa.code) machine.old.isa.hart steps) None)
-        (isa (word_at machine.old.isa.code) machine.old.isa.hart steps).ended (S.told out.old) (S.told out.new) result }
+    ensures { TellsRun machine.old.before (isa (word_at machine.old.isa.code) machine.old.isa.hart steps)
+        (S.told out.old) (S.told out.new) result }
 {
     let ran = match run(&mut machine.isa, steps, out) {
         Ok(ran) => ran,

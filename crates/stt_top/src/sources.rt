@@ -2,8 +2,8 @@
 ghost use Rattle.std.specs.Prelude.{◌≡◌, Ok, Result, MatchResult, IfOk, length};
 ghost use Rattle.elf_loader.specs.Image.{image_of};
 ghost use Rattle.pair_run.specs.Starts.{loaded};
-ghost use Rattle.tool_io.specs.Outside.{SameContents, SameCounts};
-ghost use Rattle.stt_top.specs.Input.{source_of, HasBytes, IsImage, BytesRefused, ImageRefused, LoadRefused, refusal_of, base_of, size_of};
+ghost use Rattle.tool_io.specs.Outside.{SameContents};
+ghost use Rattle.stt_top.specs.Input.{source_of, ReadsBytes, ReadsImage, LoadRefused, refusal_of, base_of, size_of};
 
 use crate::outcome::{Refusal, Which};
 use crate::reading::{IMAGE_MAX, Unread, read_file};
@@ -32,9 +32,7 @@ fn bytes_of<F: Files>(
     which: Which,
     files: &mut F,
 ) -> Result<Content, Refusal>
-    ensures answer { MatchResult result
-        (λ file. HasBytes (F.shelf files.old) (source_of source.entry) file × SameCounts (F.shelf files.old) (F.shelf files.new))
-        (λ e. BytesRefused which (source_of source.entry) (F.shelf files.old) (F.shelf files.new) e) }
+    ensures answer { ReadsBytes which (source_of source.entry) (F.shelf files.old) (F.shelf files.new) result }
     ensures stays { SameContents (F.shelf files.old) (F.shelf files.new) }
 {
     match source {
@@ -103,9 +101,7 @@ pub fn read_image<F: Files>(
     desc: Option<Desc>,
     files: &mut F,
 ) -> Result<Image, Refusal>
-    ensures answer { MatchResult result
-        (λ i. IsImage (F.shelf files.old) desc (source_of source.entry) (loaded i) × SameCounts (F.shelf files.old) (F.shelf files.new))
-        (λ e. ImageRefused which desc (source_of source.entry) (F.shelf files.old) (F.shelf files.new) e) }
+    ensures answer { ReadsImage which desc (source_of source.entry) (F.shelf files.old) (F.shelf files.new) result }
     ensures base { IfOk result (λ i. i.ram.base ≡ base_of desc) }
     ensures size { IfOk result (λ i. length i.ram.bytes ≡ size_of desc) }
     ensures stays { SameContents (F.shelf files.old) (F.shelf files.new) }
