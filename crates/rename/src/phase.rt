@@ -80,7 +80,8 @@ fn take_fitting(
     requires call_alone { CallAlone rob.now.entries }
     requires counted { Counted desc.now rob.now.entries stations.now lsq.now }
     ensures item { result ≡ fitting desc.now rob.now.entries (slice_get fetch_unit.old.queue 0) }
-    ensures taken { IfSome result (λ item. fetch_unit.new ≡ record fetch_unit.old { queue = drop 1 fetch_unit.old.queue }) }
+    ensures taken { IfSome result
+        (λ item. fetch_unit.new ≡ record fetch_unit.old { queue = drop 1 fetch_unit.old.queue }) }
     ensures stays { result ≡ None → fetch_unit.new ≡ fetch_unit.old }
 {
     if !is_next_fitting(fetch_unit, desc, rob, stations, lsq) {

@@ -39,7 +39,8 @@ pub(crate) fn commit(
         (lines_moved head.now.item.kind d head.now tags) ram.new regs.new pc.new result }
     ensures told { (d : Desc) (tags : Cache) → TellsHead (head_retires d head.now tags ram.old regs.old pc.old)
         (head_told head.now.item.kind d tags head.now (length piece.new)) }
-    ensures piece { (d : Desc) (tags : Cache) → PrintsHead (head_retires d head.now tags ram.old regs.old pc.old) piece.new }
+    ensures piece { (d : Desc) (tags : Cache)
+        → PrintsHead (head_retires d head.now tags ram.old regs.old pc.old) piece.new }
     ensures shape { SameShape ram.old ram.new }
 {
     match head.item.kind {
