@@ -33,7 +33,7 @@ pub fn issue<R: RenameTaint>(parts: &mut Parts<R>, row: &mut Row)
     let seen = Seen {
         rob: &parts.rob,
         stations: &parts.stations,
-        lsq: &parts.lsq,
+        lsq: &mut parts.lsq,
         point: &parts.point,
         sources: &parts.sources,
         tags: &parts.tags,
