@@ -56,7 +56,8 @@ all_stay d now p s none = along_by (Stays d now) [] p.window (λ i e h.
 module _ (d : Desc) (now : Around) where
   each_waits : (before es : List Entry) → Along (Stays d now) before es → each_from (issue_entry d now) before es ≡ map waits es
   each_waits before [] h = refl
-  each_waits before (e ∷ es) h = ap₂ (λ b bs. b ∷ bs) (turn_is false d now before e (grants_none d now (port_of e.item.kind) before e h.0)) (each_waits (e ∷ before) es h.1)
+  each_waits before (e ∷ es) h =
+      ap₂ (λ b bs. b ∷ bs) (turn_is false d now before e (grants_none d now (port_of e.item.kind) before e h.0)) (each_waits (e ∷ before) es h.1)
 
   none_first : (port : Port) (before es : List Entry) → Along (Stays d now) before es → first_from (may_at d now port) before es ≡ None
   none_first port before [] h = refl

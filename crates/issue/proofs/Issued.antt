@@ -60,11 +60,12 @@ abbrev pub now_with : Held → Divider → Around
 now_with h v = record { cycle = h.cycle; regs = h.regs; ram = h.ram; cache = h.tags.sets; misses = h.mshrs.misses; free_from = v.free_from }
 
 -- what is decided for what is seen is decided for the machine
-pub decides : (h : Held) (v old new : Divider) (decided : Decided) → Whole h → v ≡ h.ports.divider → old ≡ h.ports.divider → Decides h.desc (now_with h v) h.rob.entries decided old new →
+pub decides : (h : Held) (v : Divider) (cycle : ℕ) (begun : Ports) (new : Divider) (decided : Decided) → Whole h → v ≡ h.ports.divider →
+    begun ≡ begun_at cycle h.ports → Decides h.desc (now_with h v) h.rob.entries decided begun.divider new →
     Decides h.desc (around (machine_of h)) h.rob.entries decided h.ports.divider new
-decides h v old new decided w q b k =
+decides h v cycle begun new decided w q b k =
     subst (λ (v : Divider). Decides h.desc (now_with h v) h.rob.entries decided h.ports.divider new) q
-    (subst (λ (old : Divider). Decides h.desc (now_with h v) h.rob.entries decided old new) b k)
+    (subst (λ (p : Ports). Decides h.desc (now_with h v) h.rob.entries decided p.divider new) b k)
 
 -- a load takes a register where one is left
 pub register_left : (h : Held) (decided : Decided) (new : Divider) → Whole h → Decides h.desc (around (machine_of h)) h.rob.entries decided h.ports.divider new → IsMiss decided.load → length h.mshrs.misses < h.mshrs.room
@@ -103,7 +104,8 @@ module _ (h : Held) (decided : Decided) (rob : Ring) (stations : Stations) (tags
       let registers = ap (λ (m : Registers). m.room) m in
       cc
 
-  pub issued_whole : ((p : InFlight) → Stands (holding h.rob h.stations p) → Stands (holding rob stations p)) → stations.room ≡ h.stations.room → ports.alus ≡ h.ports.alus → Whole new
+  pub issued_whole : ((p : InFlight) → Stands (holding h.rob h.stations p) → Stands (holding rob stations p)) → stations.room ≡ h.stations.room →
+      ports.alus ≡ h.ports.alus → Whole new
   issued_whole stands s p = record {
     sized = subst (Sized h.desc) (sym issued_machine) (sized_issue h.desc (machine_of h) (every_desc h.desc) w.sized);
     stands = stands (in_flight h) w.stands;

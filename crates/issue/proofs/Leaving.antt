@@ -45,12 +45,14 @@ leaves d x window load cache misses divider w l c m n =
     let o2 = first (may_at d (around x) DivPort) x.window in
     let entries = map (λ b. b.entry) (turns d (around x) x.window) in
     let shared : Machine → Machine = λ y. record y { window = entries; divider = divider_after x o2 } in
+    let cache2 = cache_left d (loaded d x o) x.cache in
+    let misses2 = misses_left d x.cycle (loaded d x o) x.misses in
     let whole = ap shared (load_is d x o) in
-    let a : cache ≡ cache_left d (loaded d x o) x.cache = c ∙ ap (λ l. cache_left d l x.cache) l in
-    let b : misses ≡ misses_left d x.cycle (loaded d x o) x.misses = m ∙ ap (λ l. misses_left d x.cycle l x.misses) l in
+    let a : cache ≡ cache2 = c ∙ ap (λ l. cache_left d l x.cache) l in
+    let b : misses ≡ misses2 = m ∙ ap (λ l. misses_left d x.cycle l x.misses) l in
     let e : divider ≡ divider_after x o2 = n ∙ sym (divider_is x o2) in
     let left : record x { window = window; cache = cache; misses = misses; divider = divider }
-    ≡ record x { window = entries; cache = cache_left d (loaded d x o) x.cache; misses = misses_left d x.cycle (loaded d x o) x.misses; divider = divider_after x o2 } = cc in
+    ≡ record x { window = entries; cache = cache2; misses = misses2; divider = divider_after x o2 } = cc in
     left ∙ sym whole
 
 -- ---- a load takes a register only where one is free

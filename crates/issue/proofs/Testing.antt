@@ -49,8 +49,9 @@ module _ (s : Seen) (i : ℕ) (e : Entry) (t : Stands s) (h : StandsAt s i e) wh
   stores_known = known_is (older e.serial s.lsq.now.stores) before (stores_before s.lsq.now s.rob.now.entries i e t.queues t.parts.rise h)
 
   -- an entry that waits and is ready may issue by its untainted operands, and by what is asked for besides
-  pub issue_is : (m b : Bool) (roots : List (Option ℕ)) → slice_get (each_roots s.sources.now.items) i ≡ Some roots → m ≡ may_transmit e.item.kind s.point.now.serial roots →
-      b ≡ asks_besides e.item.kind (is_free (around_of s)) before → is_waiting e.state ≡ true → ready before e ≡ true → (m && b) ≡ may_issue s.desc.now (around_of s) before e
+  pub issue_is : (m b : Bool) (roots : List (Option ℕ)) → slice_get (each_roots s.sources.now.items) i ≡ Some roots →
+      m ≡ may_transmit e.item.kind s.point.now.serial roots → b ≡ asks_besides e.item.kind (is_free (around_of s)) before →
+      is_waiting e.state ≡ true → ready before e ≡ true → (m && b) ≡ may_issue s.desc.now (around_of s) before e
   issue_is m b roots k p q w r =
       ap₂ (λ m b. m && b) p q ∙ sym (tells_issue s.desc.now (parts_of t.next t.writes s) s.point.now i e roots (around_of s) t.parts t.advanced t.model h k)
       ∙ sym (ap₂ (λ a b. a && b && may_issue_as e.item.kind s.desc.now (around_of s) before e) w r)

@@ -98,12 +98,14 @@ module _ (p : Parts) (s : Stand p) where
       sym b ∙ ap (λ (w : Waiter). w.serial) a
 
   -- its serial tells the position
-  pub stands_at : (k serial i : ℕ) → k < length p.held → option_map (λ s. s.serial) (slice_get p.held k) ≡ Some serial → i ≡ length (below serial p.window) → WaitsAt p.window k i
+  pub stands_at : (k serial i : ℕ) → k < length p.held → option_map (λ s. s.serial) (slice_get p.held k) ≡ Some serial →
+      i ≡ length (below serial p.window) → WaitsAt p.window k i
   stands_at k serial i lt h q =
       let w = waits_at k lt in
       let t = w.1 in
       let told = (has_station p w.0 t.entry s t.is t.waits).is in
-      let same = serial_of (slice_get p.held (station_of w.0 p.window)) _ serial told (ap (λ k. option_map (λ s. s.serial) (slice_get p.held k)) t.station ∙ h) in
+      let at = ap (λ k. option_map (λ s. s.serial) (slice_get p.held k)) t.station ∙ h in
+      let same = serial_of (slice_get p.held (station_of w.0 p.window)) _ serial told at in
       subst (WaitsAt p.window k) (sym (q ∙ ap (λ n. length (below n p.window)) same ∙ place_of p.window w.0 t.entry s.rise t.is)) t
 
 -- ---- the walk
@@ -138,8 +140,8 @@ at_next P window k m e keeps t h w q =
     on_to P window keeps (m - t.position) t.position m (omega (arith, older)) (let lt = slice_get_within window m e h in omega (arith, lt)) (q ∙ sym t.station) t.holds
 
 -- so it reaches one further, where what holds there holds behind it
-pub goes_on : (P Q : ℕ → Type 0) (window : List Entry) (k m : ℕ) (e : Entry) → Keeps P window → Reaches P window k → slice_get window m ≡ Some e → is_waiting e.state ≡ true →
-    station_of m window ≡ k → (P m → Q (m + 1)) → Reaches Q window (k + 1)
+pub goes_on : (P Q : ℕ → Type 0) (window : List Entry) (k m : ℕ) (e : Entry) → Keeps P window → Reaches P window k →
+    slice_get window m ≡ Some e → is_waiting e.state ≡ true → station_of m window ≡ k → (P m → Q (m + 1)) → Reaches Q window (k + 1)
 goes_on P Q window k m e keeps t h w q on = record {
   position = m + 1;
   within = let lt = slice_get_within window m e h in omega (arith, lt);

@@ -185,7 +185,10 @@ walked_none s ports puts load earlier p l left =
       holds = record {
         decided = record {
           puts_to = subst (PutsTo (window_of s) 0) (sym p)
-              (record { puts_are = record { each_put = All-nil (IsPut (window_of s)); by_age = λ i j d lt within. absurd (omega arith) }; older = All-nil (λ p. p.position < 0) });
+              (record {
+                puts_are = record { each_put = All-nil (IsPut (window_of s)); by_age = λ i j d lt within. absurd (omega arith) };
+                older = All-nil (λ p. p.position < 0);
+              });
           window = λ younger. ap (λ ps. placed ps younger) p;
           events_are = sym (append-nil earlier);
           load_is = l;

@@ -40,25 +40,26 @@ place-requires-clause-stands g c = standing _ c.parts.invariant
 
 pub take_register-requires : goal.take_register-requires
 take_register-requires g c =
-    let k = decides _ _ _ _ c.decide.new.decided c.parts.invariant c.divider-divider.ensures (ap (λ (p : Ports). p.divider) c.begin.ensures) c.decide.ensures.decides in
+    let k = decides _ _ _ _ _ c.decide.new.decided c.parts.invariant c.divider-divider.ensures c.begin.ensures c.decide.ensures.decides in
     record { room = λ m. register_left _ c.decide.new.decided _ c.parts.invariant k m }
 
 pub invariant_of-parts : goal.invariant_of-parts
 invariant_of-parts g c =
-    let k = decides _ _ _ _ c.decide.new.decided c.parts.invariant c.divider-divider.ensures (ap (λ (p : Ports). p.divider) c.begin.ensures) c.decide.ensures.decides in
+    let k = decides _ _ _ _ _ c.decide.new.decided c.parts.invariant c.divider-divider.ensures c.begin.ensures c.decide.ensures.decides in
     issued_whole _ c.decide.new.decided _ _ _ _ _ c.parts.invariant k c.place.ensures.window c.touch.ensures c.take_register.ensures
     c.place.ensures.stands c.place.ensures.same_places (c.decide.ensures.only.alus ∙ ap (λ (p : Ports). p.alus) c.begin.ensures)
 
 pub returns-clause-machine : goal.returns-clause-machine
 returns-clause-machine g c =
-    let k = decides _ _ _ _ c.decide.new.decided c.parts.invariant c.divider-divider.ensures (ap (λ (p : Ports). p.divider) c.begin.ensures) c.decide.ensures.decides in
-    issued_shown _ c.decide.new.decided _ c.place.new.stations _ _ c.decide.new.ports c.parts.invariant k c.place.ensures.window c.touch.ensures c.take_register.ensures _ c.parts.view_is
+    let k = decides _ _ _ _ _ c.decide.new.decided c.parts.invariant c.divider-divider.ensures c.begin.ensures c.decide.ensures.decides in
+    issued_shown _ c.decide.new.decided _ c.place.new.stations _ _ c.decide.new.ports c.parts.invariant k
+    c.place.ensures.window c.touch.ensures c.take_register.ensures _ c.parts.view_is
 
 pub returns-clause-row : goal.returns-clause-row
 returns-clause-row g c = issued_row _ _ _ _ _ c.parts.invariant c.divider-divider.ensures c.decide.ensures.row c.parts.view_is
 
 pub returns-clause-advanced : goal.returns-clause-advanced
 returns-clause-advanced g c =
-    let k = decides _ _ _ _ c.decide.new.decided c.parts.invariant c.divider-divider.ensures (ap (λ (p : Ports). p.divider) c.begin.ensures) c.decide.ensures.decides in
-    issued_advanced _ c.decide.new.decided _ c.place.new.stations _ _ c.decide.new.ports c.parts.invariant k c.place.ensures.window c.touch.ensures c.take_register.ensures _
-    c.parts.view_is c.requires.advanced
+    let k = decides _ _ _ _ _ c.decide.new.decided c.parts.invariant c.divider-divider.ensures c.begin.ensures c.decide.ensures.decides in
+    issued_advanced _ c.decide.new.decided _ c.place.new.stations _ _ c.decide.new.ports c.parts.invariant k
+    c.place.ensures.window c.touch.ensures c.take_register.ensures _ c.parts.view_is c.requires.advanced

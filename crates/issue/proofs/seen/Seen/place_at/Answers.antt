@@ -10,13 +10,15 @@ use Rattle.issue.proofs.seen.Seen.place_at.Goals as goal
 pub lend-requires : goal.lend-requires
 lend-requires c =
     let stands = c.requires.stands in
-    let t = stands_at (parts_of stands.next stands.writes c.args.self.now) stands.parts _ _ _ c.requires.within c.serial.ensures c.position_of-position.ensures.count in
+    let parts = parts_of stands.next stands.writes c.args.self.now in
+    let t = stands_at parts stands.parts _ _ _ c.requires.within c.serial.ensures c.position_of-position.ensures.count in
     slice_get_within _ _ t.entry t.is
 
 pub returns-clause-turn : goal.returns-clause-turn
 returns-clause-turn c =
     let stands = c.requires.stands in
-    let t = stands_at (parts_of stands.next stands.writes c.args.self.now) stands.parts _ _ _ c.requires.within c.serial.ensures c.position_of-position.ensures.count in
+    let parts = parts_of stands.next stands.writes c.args.self.now in
+    let t = stands_at parts stands.parts _ _ _ c.requires.within c.serial.ensures c.position_of-position.ensures.count in
     let e = c.lend.result.now in
     let waits = subst (λ e. is_waiting e.state ≡ true) (sym (some_of e t.entry (sym c.lend.ensures ∙ t.is))) t.waits in
     record {
