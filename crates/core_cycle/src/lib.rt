@@ -11,6 +11,3 @@ mod moves;
 mod phases;
 
 pub use by_parts::Core;
-
-#[cfg(test)]
-mod tests;

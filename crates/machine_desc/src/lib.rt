@@ -126,6 +126,3 @@ pub struct Desc {
     pub ghost size_aligned: { ram_size % 16 ≡ 0 },
     pub ghost ram_ends: { ram_base + ram_size ≤ 2 ^ 32 },
 }
-
-#[cfg(test)]
-mod tests;

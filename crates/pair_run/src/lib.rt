@@ -20,6 +20,3 @@ pub use pair::Pair;
 pub fn one_answer()
     ensures { OneAnswer }
 {}
-
-#[cfg(test)]
-mod tests;

@@ -356,6 +356,3 @@ pub fn read_words<'a>(alloc: Global, words: &'a [&'a str]) -> Result<Command<'a>
         None => Err(Refused::Words),
     }
 }
-
-#[cfg(test)]
-mod tests;

@@ -1,5 +1,5 @@
 //! Descriptions that are accepted, and each fault.
-use crate::{Desc, DescFault, EXAMPLE, SttModel, bound, read_desc};
+use machine_desc::{Desc, DescFault, EXAMPLE, SttModel, bound, read_desc};
 use std::alloc::Global;
 use std::process::Abort;
 use std::test::Fail;

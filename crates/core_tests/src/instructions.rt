@@ -1,17 +1,10 @@
 //! Every instruction once at least, traps, system calls and whole runs. The words are what an assembler makes of the
 //! lines beside them, and the values are those of the manual's formulas.
-ghost use Rattle.std.specs.Prelude.{◌≤◌, length};
-
-use crate::{Isa, Stepped};
-use byte_ram::Ram;
-use elf_loader::{load, segments};
+use crate::images::{CODE as BASE, Part, SIZE, image_of, program_image};
+use isa_step::{Isa, Stepped};
 use rv_types::{Cause, End, Piece, Width};
-use std::alloc::{AllocError, Global};
+use std::alloc::Global;
 use std::test::Fail;
-
-const BASE: u32 = 0x0001_0000;
-
-const SIZE: u32 = 0x0001_0000;
 
 // An address with a word of data, as the test of single instructions begins.
 const DATA: u32 = 0x0001_0100;
@@ -193,42 +186,39 @@ const ROWS: [(u32, u32, u32, u32, u32, u32); 86] = [
     (0x0ff0_000f, 0, 0, OLD, WORD, NEXT), // fence
 ];
 
-fn push_words(file: &mut Vec<u8>, words: &[u32]) -> Result<(), AllocError> {
-    for word in words {
-        file.extend_from_slice(&word.to_le_bytes())?;
+// `lui`, of a register and the upper 20 bits of a value, rounded for the lower 12, which `addi` takes as signed.
+fn upper_of(register: u32, value: u32) -> u32 {
+    value.wrapping_add(0x800) & 0xffff_f000 | register << 7 | 0x37
+}
+
+// `addi`, of a register and the lower 12 bits of a value.
+fn lower_of(register: u32, value: u32) -> u32 {
+    value << 20 | register << 15 | register << 7 | 0x13
+}
+
+// The word of data, and behind it the code that gives registers their values and goes to the base.
+fn set_up(alloc: Global, values: &[(u32, u32)]) -> Result<Vec<u32>, Fail> {
+    let mut words = Vec::new(alloc);
+    words.push(WORD)?;
+    for (register, value) in values {
+        words.push(upper_of(*register, *value))?;
+        words.push(lower_of(*register, *value))?;
     }
-    Ok(())
+    words.push(0x0001_0fb7)?; // lui x31, 0x10
+    words.push(0x000f_8067)?; // jalr x0, 0(x31)
+    Ok(words)
 }
 
-// The bytes of an executable file with these words at the base, from which fetch begins.
-fn file_of(alloc: Global, words: &[u32]) -> Result<Vec<u8>, AllocError>
-    requires { length words.now ≤ 1024 }
-{
-    let size = words.len() as u32 * 4;
-    let mut file = Vec::new(alloc);
-    push_words(&mut file, &[0x464c_457f, 0x0001_0101, 0, 0, 0x00f3_0002, 1])?;
-    push_words(&mut file, &[BASE, 52, 0, 0, 0x0020_0034, 1, 0])?;
-    push_words(&mut file, &[1, 84, BASE, BASE, size, size, 7, 4])?;
-    push_words(&mut file, words)?;
-    Ok(file)
-}
-
-fn isa_of(alloc: Global, words: &[u32]) -> Result<Isa, Fail>
-    requires { length words.now ≤ 1024 }
-{
-    let file = file_of(alloc, words)?;
-    let ram = Ram::new(alloc, BASE, SIZE)?;
-    let parts = segments(file.as_slice())?;
-    Ok(Isa::new(load(alloc, &parts, ram)?))
-}
-
-// A machine at an instruction at the base, with these values of x5 and x6.
-fn before(alloc: Global, word: u32, x5: u32, x6: u32) -> Result<Isa, Fail> {
-    let mut isa = isa_of(alloc, &[word])?;
-    let _ = isa.ram.put(DATA, Width::W, WORD);
-    isa.regs[5] = x5;
-    isa.regs[6] = x6;
-    isa.regs[7] = OLD;
+// A machine at an instruction at the base, with these values of registers.
+fn before(alloc: Global, word: u32, values: &[(u32, u32)]) -> Result<Isa, Fail> {
+    let words = set_up(alloc, values)?;
+    let other = Part {
+        address: DATA,
+        words: words.as_slice(),
+        fetched: true,
+    };
+    let mut isa = Isa::new(image_of(alloc, DATA + 4, &[word], other)?);
+    let _ = isa.run(words.len().saturating_sub(1) as u64);
     Ok(isa)
 }
 
@@ -242,20 +232,18 @@ fn after(isa: &mut Isa) -> (Stepped, u32, u32, Result<u32, Cause>, u32) {
 #[test]
 fn instructions_are_the_manuals(rt: HostRuntime) -> Result<(), Fail> {
     for (word, a, b, x7, data, next) in ROWS {
-        let mut isa = before(rt.alloc(), word, a, b)?;
+        let mut isa = before(rt.alloc(), word, &[(5, a), (6, b), (7, OLD)])?;
         let wanted = (Stepped::Next, 0, x7, Ok(data), next);
         assert_eq!(rt; after(&mut isa), wanted, "{word:#x} {a:#x} {b:#x}");
     }
     Ok(())
 }
 
-// The cause of the trap of an instruction at this pc, with this value of x5; None where it doesn't trap, or where it
-// changes the state or leaves output.
-fn trapped(alloc: Global, word: u32, pc: u32, x5: u32) -> Result<Option<Cause>, Fail> {
-    let mut isa = before(alloc, word, x5, 0)?;
-    isa.pc = pc;
-    let regs = isa.regs;
-    let ram = isa.ram.copy(alloc)?;
+// The cause of the trap in the next step; None where it doesn't trap, or where it changes the state or leaves output.
+fn trapped(alloc: Global, isa: &mut Isa) -> Result<Option<Cause>, Fail> {
+    let pc = isa.pc();
+    let regs = *isa.regs();
+    let ram = isa.ram().copy(alloc)?;
     let mut out = Piece::new();
     out.push(1);
     let stepped = isa.step(&mut out);
@@ -268,29 +256,43 @@ fn trapped(alloc: Global, word: u32, pc: u32, x5: u32) -> Result<Option<Cause>, 
 
 #[test]
 fn traps_change_nothing(rt: HostRuntime) -> Result<(), Fail> {
-    let rows: [(u32, u32, u32, Cause); 18] = [
-        (0x0020_03ef, BASE, 0, Cause::jump_misaligned()), // jal x7, .+2
-        (0x0022_83e7, BASE, BASE, Cause::jump_misaligned()), // jalr x7, 2(x5)
-        (0x0062_8163, BASE, 0, Cause::jump_misaligned()), // beq x5, x6, .+2
-        (0x0000_0013, BASE + 4, 0, Cause::outside_code()), // behind the last word
-        (0x0000_0013, BASE + 2, 0, Cause::outside_code()), // no multiple of 4
-        (0x0000_0013, 0, 0, Cause::outside_code()),
-        (0x0000_0000, BASE, 0, Cause::illegal()),
-        (0x0000_100f, BASE, 0, Cause::illegal()), // fence.i
-        (0x0010_0073, BASE, 0, Cause::breakpoint()),
-        (0x0022_a383, BASE, BASE, Cause::load_misaligned()), // lw x7, 2(x5)
-        (0x0010_1383, BASE, 0, Cause::load_misaligned()), // lh x7, 1(x0)
-        (0x0000_2383, BASE, 0, Cause::load_outside()), // lw x7, 0(x0)
-        (0x0002_8383, BASE, BASE + SIZE, Cause::load_outside()), // lb x7, 0(x5)
-        (0x0062_a123, BASE, BASE, Cause::store_misaligned()), // sw x6, 2(x5)
-        (0xfe62_9fa3, BASE, 0, Cause::store_misaligned()), // sh x6, -1(x5)
-        (0xfe62_8fa3, BASE, BASE, Cause::store_outside()), // sb x6, -1(x5)
-        (0x0062_a023, BASE, BASE + SIZE, Cause::store_outside()), // sw x6, 0(x5)
-        (0x0062_a023, BASE, 0, Cause::store_outside()),
+    let rows: [(u32, u32, Cause); 15] = [
+        (0x0020_03ef, 0, Cause::jump_misaligned()), // jal x7, .+2
+        (0x0022_83e7, BASE, Cause::jump_misaligned()), // jalr x7, 2(x5)
+        (0x0062_8163, 0, Cause::jump_misaligned()), // beq x5, x6, .+2
+        (0x0000_0000, 0, Cause::illegal()),
+        (0x0000_100f, 0, Cause::illegal()), // fence.i
+        (0x0010_0073, 0, Cause::breakpoint()),
+        (0x0022_a383, BASE, Cause::load_misaligned()), // lw x7, 2(x5)
+        (0x0010_1383, 0, Cause::load_misaligned()), // lh x7, 1(x0)
+        (0x0000_2383, 0, Cause::load_outside()), // lw x7, 0(x0)
+        (0x0002_8383, BASE + SIZE, Cause::load_outside()), // lb x7, 0(x5)
+        (0x0062_a123, BASE, Cause::store_misaligned()), // sw x6, 2(x5)
+        (0xfe62_9fa3, 0, Cause::store_misaligned()), // sh x6, -1(x5)
+        (0xfe62_8fa3, BASE, Cause::store_outside()), // sb x6, -1(x5)
+        (0x0062_a023, BASE + SIZE, Cause::store_outside()), // sw x6, 0(x5)
+        (0x0062_a023, 0, Cause::store_outside()),
     ];
-    for (word, pc, x5, cause) in rows {
-        let found = trapped(rt.alloc(), word, pc, x5)?;
-        assert_eq!(rt; found, Some(cause), "{word:#x} {pc:#x} {x5:#x}");
+    for (word, x5, cause) in rows {
+        let mut isa = before(rt.alloc(), word, &[(5, x5)])?;
+        let found = trapped(rt.alloc(), &mut isa)?;
+        assert_eq!(rt; found, Some(cause), "{word:#x} {x5:#x}");
+    }
+    Ok(())
+}
+
+#[test]
+fn nothing_is_fetched_outside_code(rt: HostRuntime) -> Result<(), Fail> {
+    let none = Part {
+        address: DATA,
+        words: &[],
+        fetched: false,
+    };
+    // behind the last word, no multiple of 4, and outside memory
+    for entry in [BASE + 4, BASE + 2, 0] {
+        let mut isa = Isa::new(image_of(rt.alloc(), entry, &[0x0000_0013], none)?);
+        let found = trapped(rt.alloc(), &mut isa)?;
+        assert_eq!(rt; found, Some(Cause::outside_code()), "{entry:#x}");
     }
     Ok(())
 }
@@ -333,13 +335,10 @@ fn called(
     a2: u32,
     out: &mut Piece,
 ) -> Result<(Stepped, u32, u32), Fail> {
-    let mut isa = before(alloc, 0x0000_0073, 0, 0)?;
-    isa.regs[17] = a7;
-    isa.regs[10] = a0;
-    isa.regs[11] = a1;
-    isa.regs[12] = a2;
+    let values = [(17, a7), (10, a0), (11, a1), (12, a2)];
+    let mut isa = before(alloc, 0x0000_0073, &values)?;
     let stepped = isa.step(out);
-    Ok((stepped, isa.regs[10], isa.pc()))
+    Ok((stepped, isa.regs()[10], isa.pc()))
 }
 
 #[test]
@@ -353,6 +352,11 @@ fn calls_answer(rt: HostRuntime) -> Result<(), Fail> {
     let _ = called(rt.alloc(), 64, 1, DATA, 4, &mut out)?;
     assert_eq!(rt; out.as_slice(), [0x01, 0xff, 0x80, 0x7f].as_slice());
     Ok(())
+}
+
+// A machine at the beginning of a program.
+fn program_of(alloc: Global, words: &[u32]) -> Result<Isa, Fail> {
+    Ok(Isa::new(program_image(alloc, words, &[])?))
 }
 
 // What a run of at most n steps answers, and pc behind it.
@@ -416,14 +420,14 @@ const OVERWRITES: [u32; 4] = [0x0000_0297, 0x0002_a423, 0x05d0_0893, 0x0000_0073
 
 #[test]
 fn runs_end(rt: HostRuntime) -> Result<(), Fail> {
-    let mut isa = isa_of(rt.alloc(), &DIVISIONS)?;
+    let mut isa = program_of(rt.alloc(), &DIVISIONS)?;
     assert_eq!(rt; ran(&mut isa, 8), (8, None, BASE + 32));
     assert_eq!(rt; ran(&mut isa, 5), (1, Some(End::Exit(0)), BASE + 36));
     assert_eq!(rt; *isa.regs(), DIVIDED);
-    let mut isa = isa_of(rt.alloc(), &OVERWRITES)?;
+    let mut isa = program_of(rt.alloc(), &OVERWRITES)?;
     assert_eq!(rt; ran(&mut isa, 100), (4, Some(End::Exit(0)), BASE + 16));
     assert_eq!(rt; isa.ram().get(BASE + 8, Width::W), Ok(0));
-    let mut isa = isa_of(rt.alloc(), &[0x0070_0293, 0x0010_0073])?;
+    let mut isa = program_of(rt.alloc(), &[0x0070_0293, 0x0010_0073])?;
     let trap = Some(End::Trap(Cause::breakpoint(), NEXT));
     assert_eq!(rt; ran(&mut isa, 5), (1, trap, NEXT));
     Ok(())

@@ -1,6 +1,6 @@
 //! Words that are a command, and words that are none.
-use crate::{Blocks, Command, read_words};
 use std::alloc::Global;
+use tool_words::{Blocks, Command, read_words};
 
 // The number of a command on p.elf: that of the steps, or 1000 more than the cycles, and 2000 more where they are traced;
 // 100 more with the description d.toml; for a generated image 3000, the seed, 10 for each block, and the cycles; for a pair

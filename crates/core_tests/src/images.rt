@@ -1,0 +1,102 @@
+//! Images: an ELF header, a program header for the code and one for another part, and their words.
+ghost use Rattle.std.specs.Prelude.{◌≤◌};
+
+use byte_ram::Ram;
+use elf_loader::{Image, load, segments};
+use std::alloc::Global;
+use std::test::Fail;
+
+/// The first address of memory, where code begins.
+pub const CODE: u32 = 0x0001_0000;
+
+/// How many bytes memory has.
+pub const SIZE: u32 = 0x0001_0000;
+
+// The address of a program's data, 16 bytes below the end of memory.
+const DATA: u32 = 0x0001_fff0;
+
+// Where code begins in the file, behind a header of 52 bytes and two of 32.
+const START: u32 = 116;
+
+// A part that may be read and fetched, and one that may be read and written.
+const FETCHED: u32 = 5;
+
+const WRITTEN: u32 = 6;
+
+/// A part of an image beside its code: its first address, its words, and whether they may be fetched.
+#[derive(Clone, Copy)]
+pub struct Part<'a> {
+    pub address: u32,
+    pub words: &'a [u32],
+    pub fetched: bool,
+}
+
+// Appends words, each with the lowest byte first.
+fn add_words(file: &mut Vec<u8>, words: &[u32]) -> Result<(), Fail> {
+    for word in words {
+        file.extend_from_slice(&word.to_le_bytes())?;
+    }
+    Ok(())
+}
+
+// Appends the file's header. Type 2, machine 243; version 1, entry, program headers at 52, no section headers, no flags;
+// a header of 52 bytes, two program headers of 32 bytes, no section headers.
+fn add_header(file: &mut Vec<u8>, entry: u32) -> Result<(), Fail> {
+    file.extend_from_slice(&[0x7f, b'E', b'L', b'F', 1, 1, 1, 0])?;
+    add_words(file, &[0, 0])?;
+    add_words(
+        file,
+        &[0x00f3_0002, 1, entry, 52, 0, 0, 52 + (32 << 16), 2, 0],
+    )
+}
+
+// How many bytes words have; there are at most 1,000.
+fn size_of(words: &[u32]) -> u32
+    ensures { result ≤ 4000 }
+{
+    4 * words.len().min(1000) as u32
+}
+
+// The file of this code and this other part.
+fn file_of(alloc: Global, entry: u32, code: &[u32], other: Part<'_>) -> Result<Vec<u8>, Fail> {
+    let mut file = Vec::new(alloc);
+    let size = size_of(code);
+    let other_size = size_of(other.words);
+    let from = other.address;
+    let flags = if other.fetched { FETCHED } else { WRITTEN };
+    add_header(&mut file, entry)?;
+    add_words(&mut file, &[1, START, CODE, CODE, size, size, FETCHED, 4])?;
+    add_words(
+        &mut file,
+        &[
+            1,
+            START + size,
+            from,
+            from,
+            other_size,
+            other_size,
+            flags,
+            4,
+        ],
+    )?;
+    add_words(&mut file, code)?;
+    add_words(&mut file, other.words)?;
+    Ok(file)
+}
+
+/// The image of this code and this other part in 64 KiB of memory, where fetch begins at the entry.
+pub fn image_of(alloc: Global, entry: u32, code: &[u32], other: Part<'_>) -> Result<Image, Fail> {
+    let file = file_of(alloc, entry, code, other)?;
+    let ram = Ram::new(alloc, CODE, SIZE)?;
+    Ok(load(alloc, &segments(file.as_slice())?, ram)?)
+}
+
+/// The image of a program, which begins with its first word, and of its data.
+pub fn program_image(alloc: Global, code: &[u32], data: &[u32]) -> Result<Image, Fail> {
+    let other = Part {
+        address: DATA,
+        words: data,
+        fetched: false,
+    };
+    image_of(alloc, CODE, code, other)
+}

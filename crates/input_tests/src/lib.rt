@@ -1,0 +1,10 @@
+//! Tests of what is read, as a caller sees it: machine descriptions, and the words of the command line.
+//!
+//! They use public items alone, so they stand above the crates that they test, and cost no more than their own proof
+//! (`docs/working.md`, "Where tests stand").
+#![tactic(auto)]
+
+#[cfg(test)]
+mod descriptions;
+#[cfg(test)]
+mod words;
