@@ -1,4 +1,4 @@
-//! Tests of the instruction set's step, of the core, and of the pair of runs, as a caller sees them.
+//! Tests of the instruction set's step, of the core and its phases, and of the pair of runs, as a caller sees them.
 //!
 //! They use public items alone, so they stand above the crates that they test, and cost no more than their own proof
 //! (`docs/working.md`, "Where tests stand").
@@ -9,11 +9,15 @@ mod counting;
 #[cfg(test)]
 mod cycles;
 #[cfg(test)]
+mod flights;
+#[cfg(test)]
 mod images;
 #[cfg(test)]
 mod instructions;
 #[cfg(test)]
 mod pairs;
+#[cfg(test)]
+mod phases;
 #[cfg(test)]
 mod programs;
 #[cfg(test)]

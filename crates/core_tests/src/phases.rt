@@ -1,0 +1,116 @@
+//! The phases one by one over four words in flight (`flights.rt`), over both tables of names.
+use crate::flights::{COMPLETING, Flight, ISSUING, Phase, RESOLVING};
+use complete::complete;
+use core_parts::{Parts, parts_of};
+use fill::fill;
+use issue::issue;
+use machine_desc::{Desc, EXAMPLE, SttModel, read_desc};
+use rename::rename;
+use rename_taint::{ByScan, ByTable, RenameTaint};
+use resolve::resolve;
+use std::alloc::Global;
+use std::process::Abort;
+use std::test::Fail;
+use window_model::{Progress, Row, empty_row};
+
+// The description with four words fetched a cycle, under this model.
+fn wide(desc: &Desc, model: SttModel) -> Desc {
+    let mut changed = *desc;
+    changed.core_fetch_width = 4;
+    changed.stt_model = model;
+    changed
+}
+
+// The phase goes in this cycle, on the visibility point that has moved over the window; the row has its events alone.
+fn perform<R: RenameTaint>(
+    rt: &impl Abort,
+    cycle: u32,
+    phase: Phase,
+    parts: &mut Parts<R>,
+    row: &mut Row,
+) {
+    for _ in parts.cycle..cycle {
+        if parts.cycle < cycle {
+            parts.begin();
+        }
+    }
+    row.begin(cycle);
+    parts.advance();
+    match phase {
+        Phase::Fill => fill(parts, row),
+        Phase::Complete => complete(parts, row),
+        Phase::Resolve => resolve(parts, row),
+        Phase::Issue => issue(parts, row),
+        Phase::Fetch => parts.fetch(row),
+        Phase::Rename => {
+            if parts.next_serial > 100 {
+                panic!(rt; "too many serials");
+            }
+            rename(parts, row);
+        }
+    }
+}
+
+// How far the entries in flight are, and their values.
+fn assert_left<R: RenameTaint>(rt: &impl Abort, parts: &Parts<R>, left: &[(Progress, u32)]) {
+    let rob = parts.rob();
+    assert_eq!(rt; rob.len() as usize, left.len());
+    for (i, wanted) in left.iter().enumerate() {
+        if i >= rob.len() as usize {
+            return;
+        }
+        let entry = rob.at(i as u32);
+        let value = match entry.outcome {
+            Some(outcome) => outcome.value,
+            None => 0,
+        };
+        assert_eq!(rt; (entry.state, value), *wanted);
+    }
+}
+
+// The flight goes phase by phase as it was worked out.
+fn goes_as_worked<R: RenameTaint + Drop>(
+    rt: &impl Abort,
+    alloc: Global,
+    flight: &Flight,
+) -> Result<(), Fail> {
+    let desc = wide(&read_desc(alloc, EXAMPLE.as_bytes())?, flight.model);
+    let made: Option<Parts<R>> = parts_of(alloc, &desc, flight.words)?;
+    let Some(mut parts) = made else {
+        panic!(rt; "the words are refused");
+    };
+    let mut row = empty_row();
+    perform(rt, 1, Phase::Fetch, &mut parts, &mut row);
+    perform(rt, 1, Phase::Rename, &mut parts, &mut row);
+    assert_eq!(rt; parts.rob().len(), 4);
+    for (cycle, phase, events) in flight.phases {
+        perform(rt, *cycle, *phase, &mut parts, &mut row);
+        assert_eq!(rt; row.events(), *events, "{phase:?} in {cycle}");
+    }
+    assert_left(rt, &parts, flight.left);
+    Ok(())
+}
+
+// They do over both tables.
+fn go_as_worked(rt: &impl Abort, alloc: Global, flights: &[Flight]) -> Result<(), Fail> {
+    for flight in flights {
+        goes_as_worked::<ByTable>(rt, alloc, flight)?;
+        goes_as_worked::<ByScan>(rt, alloc, flight)?;
+    }
+    Ok(())
+}
+
+#[test]
+fn who_is_due_becomes_done(rt: HostRuntime) -> Result<(), Fail> {
+    go_as_worked(&rt, rt.alloc(), &COMPLETING)
+}
+
+#[test]
+fn a_wrong_prediction_squashes(rt: HostRuntime) -> Result<(), Fail> {
+    go_as_worked(&rt, rt.alloc(), &RESOLVING)
+}
+
+#[test]
+fn who_may_issues(rt: HostRuntime) -> Result<(), Fail> {
+    go_as_worked(&rt, rt.alloc(), &ISSUING)
+}
