@@ -19,6 +19,4 @@ mod pairs;
 #[cfg(test)]
 mod phases;
 #[cfg(test)]
-mod programs;
-#[cfg(test)]
 mod traces;

@@ -1,13 +1,13 @@
 //! Two images side by side: a bounds check that is passed over by prediction, with two secrets behind it.
 use crate::cycles::with_model;
 use crate::images::program_image;
-use crate::programs::BOUNDS_CHECK;
 use elf_loader::Image;
 use machine_desc::{Desc, EXAMPLE, SttModel, read_desc};
 use pair_run::{Differ, Pair, PairAnswer};
 use rename_taint::ByTable;
 use std::alloc::Global;
 use std::test::Fail;
+use test_programs::BOUNDS_CHECK;
 
 // What is answered of two images, in at most 100 cycles; none where they don't fit the description's memory.
 fn answer(alloc: Global, desc: &Desc, one: Image, two: Image) -> Result<Option<PairAnswer>, Fail> {

@@ -13,11 +13,10 @@ mod hostile;
 mod images;
 mod machine;
 mod pairs;
-mod programs;
 mod texts;
 mod traces;
 
-use images::{DIVISIONS, EXIT_IN_TWO, OVERWRITES, WRITES, image_of};
+use images::image_of;
 use texts::report_of;
 
 /// Room for every report of these tests.
@@ -142,28 +141,28 @@ fn runs(rt: HostRuntime) -> Result<(), Fail> {
     let rows: [(&[&str], &[u32], u8, &[(usize, u32)], &str); 11] = [
         (
             five,
-            &EXIT_IN_TWO,
+            &test_programs::EXIT_IN_TWO,
             0,
             &[(2, 0x0010_fff0), (17, 0x5d)],
             "pc 00010008\nend exit 0 retired 2\n",
         ),
         (
             &["isa", "p.elf", "--steps", "1"],
-            &EXIT_IN_TWO,
+            &test_programs::EXIT_IN_TWO,
             3,
             &[(2, 0x0010_fff0), (17, 0x5d)],
             "pc 00010004\nend budget retired 1\n",
         ),
         (
             described,
-            &EXIT_IN_TWO,
+            &test_programs::EXIT_IN_TWO,
             0,
             &[(2, 0x0001_fff0), (17, 0x5d)],
             "pc 00010008\nend exit 0 retired 2\n",
         ),
         (
             hundred,
-            &DIVISIONS,
+            &test_programs::DIVISIONS,
             0,
             &[
                 (2, 0x0010_fff0),
@@ -179,7 +178,7 @@ fn runs(rt: HostRuntime) -> Result<(), Fail> {
         ),
         (
             hundred,
-            &OVERWRITES,
+            &test_programs::OVERWRITES,
             0,
             &[(2, 0x0010_fff0), (5, 0x0001_0000), (17, 0x5d)],
             "pc 00010010\nmem 00010000 9702000023a402000000000073000000\nend exit 0 retired 4\n",
@@ -193,14 +192,14 @@ fn runs(rt: HostRuntime) -> Result<(), Fail> {
         ),
         (
             clocked,
-            &OVERWRITES,
+            &test_programs::OVERWRITES,
             0,
             &[(2, 0x0001_fff0), (5, 0x0001_0000), (17, 0x5d)],
             "pc 00010010\nmem 00010000 9702000023a402000000000073000000\nend exit 0 retired 4 cycles 6\n",
         ),
         (
             clocked,
-            &programs::FORWARDING,
+            &test_programs::FORWARDING,
             0,
             &[
                 (2, 0x0001_fff0),
@@ -214,14 +213,14 @@ fn runs(rt: HostRuntime) -> Result<(), Fail> {
         ),
         (
             &["run", "d.toml", "p.elf", "--cycles", "5"],
-            &EXIT_IN_TWO,
+            &test_programs::EXIT_IN_TWO,
             0,
             &[(2, 0x0001_fff0), (17, 0x5d)],
             "pc 00010008\nend exit 0 retired 2 cycles 5\n",
         ),
         (
             &["run", "d.toml", "p.elf", "--cycles", "4"],
-            &EXIT_IN_TWO,
+            &test_programs::EXIT_IN_TWO,
             3,
             &[(2, 0x0001_fff0), (17, 0x5d)],
             "pc 00010004\nend budget retired 1 cycles 4\n",
@@ -253,7 +252,7 @@ fn runs(rt: HostRuntime) -> Result<(), Fail> {
 #[test]
 fn writes_its_output(rt: HostRuntime) -> Result<(), Fail> {
     let alloc = rt.alloc();
-    let image = image_of(alloc, &WRITES, 5)?;
+    let image = image_of(alloc, &test_programs::WRITES, 5)?;
     let zeros = vec![in alloc; b'0'; 2048]?;
     let mut want = Vec::from_slice(alloc, b"out ")?;
     want.extend_from_slice(zeros.as_slice())?;
@@ -404,7 +403,7 @@ fn refuses_words_and_names(rt: HostRuntime) -> Result<(), Fail> {
             "description K1\n",
         ),
     ];
-    let image = image_of(alloc, &EXIT_IN_TWO, 5)?;
+    let image = image_of(alloc, &test_programs::EXIT_IN_TWO, 5)?;
     for (words, status, note) in rows {
         let case = Case {
             words,

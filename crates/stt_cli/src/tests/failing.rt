@@ -1,7 +1,7 @@
 //! Reads and puts that fail, each in turn: of the smallest program, of output written on the instruction set, of dependent
 //! loads traced, of forwarding run, and of a run compared with itself.
-use super::images::{EXIT_IN_TWO, WRITES, image_with_data};
-use super::{Failures, Left, NOTHING, expect, programs, run_failing};
+use super::images::image_with_data;
+use super::{Failures, Left, NOTHING, expect, run_failing};
 use machine_desc::EXAMPLE;
 use std::alloc::Global;
 use std::process::Abort;
@@ -90,27 +90,39 @@ const BOTH: [&str; 2] = ["read description\n", "read image\n"];
 fn of_the_smallest_program(rt: HostRuntime) -> Result<(), Fail> {
     let alloc = rt.alloc();
     let words = ["isa", "p.elf", "--steps", "5"];
-    reads_fail(&rt, alloc, &words, &EXIT_IN_TWO, &["read image\n"])?;
+    reads_fail(
+        &rt,
+        alloc,
+        &words,
+        &test_programs::EXIT_IN_TWO,
+        &["read image\n"],
+    )?;
     let described = ["isa", "p.elf", "--steps", "5", "--desc", "d.toml"];
-    each_fails(&rt, alloc, &described, &EXIT_IN_TWO, &BOTH)
+    each_fails(&rt, alloc, &described, &test_programs::EXIT_IN_TWO, &BOTH)
 }
 
 #[test]
 fn of_output(rt: HostRuntime) -> Result<(), Fail> {
     let words = ["isa", "p.elf", "--steps", "100", "--desc", "d.toml"];
-    each_fails(&rt, rt.alloc(), &words, &WRITES, &BOTH)
+    each_fails(&rt, rt.alloc(), &words, &test_programs::WRITES, &BOTH)
 }
 
 #[test]
 fn of_a_trace(rt: HostRuntime) -> Result<(), Fail> {
     let words = ["trace", "d.toml", "p.elf", "--cycles", "100"];
-    each_fails(&rt, rt.alloc(), &words, &programs::HIT_UNDER_MISS, &BOTH)
+    each_fails(
+        &rt,
+        rt.alloc(),
+        &words,
+        &test_programs::HIT_UNDER_MISS,
+        &BOTH,
+    )
 }
 
 #[test]
 fn of_a_run(rt: HostRuntime) -> Result<(), Fail> {
     let words = ["run", "d.toml", "p.elf", "--cycles", "100"];
-    each_fails(&rt, rt.alloc(), &words, &programs::FORWARDING, &BOTH)
+    each_fails(&rt, rt.alloc(), &words, &test_programs::FORWARDING, &BOTH)
 }
 
 #[test]
@@ -118,5 +130,5 @@ fn of_a_comparison(rt: HostRuntime) -> Result<(), Fail> {
     let words = ["pair", "d.toml", "p.elf", "p.elf", "--cycles", "100"];
     let [description, image] = BOTH;
     let notes = [description, image, "read image2\n"];
-    each_fails(&rt, rt.alloc(), &words, &programs::FORWARDING, &notes)
+    each_fails(&rt, rt.alloc(), &words, &test_programs::FORWARDING, &notes)
 }

@@ -1,6 +1,6 @@
 //! Hostile images and descriptions: each fault with its note, under each command that reads them, and files at their limits
 //! and one byte over.
-use super::images::{EXIT_IN_TWO, image_of};
+use super::images::image_of;
 use super::texts::replaced;
 use super::{expect, run};
 use machine_desc::EXAMPLE;
@@ -52,7 +52,7 @@ fn all_refuse(
 
 // The image of an exit, with these bytes at this place.
 fn changed_image(alloc: Global, at: usize, bytes: &[u8]) -> Result<Vec<u8>, Fail> {
-    let mut image = image_of(alloc, &EXIT_IN_TWO, 5)?;
+    let mut image = image_of(alloc, &test_programs::EXIT_IN_TWO, 5)?;
     for (place, byte) in image.iter_mut().skip(at).zip(bytes) {
         *place = *byte;
     }
@@ -180,7 +180,7 @@ fn all_exit(rt: &impl Abort, alloc: Global, image: &[u8], description: &[u8]) ->
 
 // The image of an exit, with zeros behind it up to this length.
 fn image_as_long_as(alloc: Global, length: usize) -> Result<Vec<u8>, Fail> {
-    let image = image_of(alloc, &EXIT_IN_TWO, 5)?;
+    let image = image_of(alloc, &test_programs::EXIT_IN_TWO, 5)?;
     let mut longer = vec![in alloc; 0u8; length]?;
     for (place, byte) in longer.iter_mut().zip(image.as_slice()) {
         *place = *byte;
@@ -207,7 +207,7 @@ fn images_at_their_limits(rt: HostRuntime) -> Result<(), Fail> {
 fn images_cut_short(rt: HostRuntime) -> Result<(), Fail> {
     let alloc = rt.alloc();
     let text = EXAMPLE.as_bytes();
-    let image = image_of(alloc, &EXIT_IN_TWO, 5)?;
+    let image = image_of(alloc, &test_programs::EXIT_IN_TWO, 5)?;
     let rows: [(usize, &str); 4] = [
         (0, "image E1 52 0\n"),
         (51, "image E1 52 51\n"),
@@ -225,7 +225,7 @@ fn images_cut_short(rt: HostRuntime) -> Result<(), Fail> {
 fn descriptions_that_are_accepted(rt: HostRuntime) -> Result<(), Fail> {
     let alloc = rt.alloc();
     let text = EXAMPLE.as_bytes();
-    let image = image_of(alloc, &EXIT_IN_TWO, 5)?;
+    let image = image_of(alloc, &test_programs::EXIT_IN_TWO, 5)?;
     let most = padded(alloc, text, b' ', DESCRIPTION_BYTES)?;
     all_exit(&rt, alloc, image.as_slice(), most.as_slice())?;
     // The ways of the cache need be no power of two.

@@ -7,40 +7,6 @@ const CODE: u32 = 0x0001_0000;
 /// The address of the first byte of data.
 const DATA: u32 = 0x0001_fff0;
 
-/// `addi x17,x0,93` and `ecall`: exits with value 0.
-pub const EXIT_IN_TWO: [u32; 2] = [0x05d0_0893, 0x0000_0073];
-
-/// Divisions by zero and of the least number by -1, and then an exit.
-pub const DIVISIONS: [u32; 9] = [
-    0x0070_0293,
-    0x0202_c333,
-    0x0202_e3b3,
-    0x8000_0437,
-    0xfff0_0493,
-    0x0294_45b3,
-    0x0294_6633,
-    0x05d0_0893,
-    0x0000_0073,
-];
-
-/// Writes 1025 bytes of zeros, then writes from outside memory, and exits with that answer.
-pub const WRITES: [u32; 11] = [
-    0x0400_0893,
-    0x0010_0513,
-    0x0001_15b7,
-    0x4010_0613,
-    0x0000_0073,
-    0x0005_0693,
-    0x0020_0513,
-    0x0011_05b7,
-    0x0000_0073,
-    0x05d0_0893,
-    0x0000_0073,
-];
-
-/// Overwrites its own third word before it gets there.
-pub const OVERWRITES: [u32; 4] = [0x0000_0297, 0x0002_a423, 0x05d0_0893, 0x0000_0073];
-
 // Appends a number, the lowest byte first.
 fn add_word(image: &mut Vec<u8>, word: u32) -> Result<(), AllocError> {
     image.extend_from_slice(&word.to_le_bytes())?;

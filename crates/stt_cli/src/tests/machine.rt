@@ -1,7 +1,7 @@
 //! The worked traces of the out-of-order machine (`docs/machine.md`, "Worked traces").
-use super::images::{DIVISIONS, EXIT_IN_TWO, image_with_data};
+use super::images::image_with_data;
 use super::texts::{replaced, report_of};
-use super::{Left, expect, programs, run, traces};
+use super::{Left, expect, run, traces};
 use machine_desc::EXAMPLE;
 use std::alloc::Global;
 use std::test::Fail;
@@ -34,22 +34,27 @@ fn traced(
 fn traces_under_both_models(rt: HostRuntime) -> Result<(), Fail> {
     let alloc = rt.alloc();
     let rows: [(&str, &[u32], u8, &str); 11] = [
-        ("100", &EXIT_IN_TWO, 0, traces::STRAIGHT_LINE),
-        ("4", &EXIT_IN_TWO, 3, traces::CUT_SHORT),
-        ("5", &EXIT_IN_TWO, 0, traces::STRAIGHT_LINE),
-        ("100", &programs::HIT_UNDER_MISS, 0, traces::HIT_UNDER_MISS),
-        ("100", &programs::FORWARDING, 0, traces::FORWARDING),
+        ("100", &test_programs::EXIT_IN_TWO, 0, traces::STRAIGHT_LINE),
+        ("4", &test_programs::EXIT_IN_TWO, 3, traces::CUT_SHORT),
+        ("5", &test_programs::EXIT_IN_TWO, 0, traces::STRAIGHT_LINE),
         (
             "100",
-            &programs::MISALIGNED_JUMP,
+            &test_programs::HIT_UNDER_MISS,
+            0,
+            traces::HIT_UNDER_MISS,
+        ),
+        ("100", &test_programs::FORWARDING, 0, traces::FORWARDING),
+        (
+            "100",
+            &test_programs::MISALIGNED_JUMP,
             1,
             traces::MISALIGNED_JUMP,
         ),
-        ("100", &programs::WRONG_PATH, 0, traces::WRONG_PATH),
-        ("100", &programs::LOOP, 0, traces::LOOP),
-        ("100", &programs::JUMP, 0, traces::JUMP),
-        ("6", &programs::ENDLESS, 3, traces::ENDLESS),
-        ("100", &DIVISIONS, 0, traces::DIVISIONS),
+        ("100", &test_programs::WRONG_PATH, 0, traces::WRONG_PATH),
+        ("100", &test_programs::LOOP, 0, traces::LOOP),
+        ("100", &test_programs::JUMP, 0, traces::JUMP),
+        ("6", &test_programs::ENDLESS, 3, traces::ENDLESS),
+        ("100", &test_programs::DIVISIONS, 0, traces::DIVISIONS),
     ];
     for (cycles, code, status, text) in rows {
         for model in ["spectre", "futuristic"] {
@@ -64,10 +69,10 @@ fn traces_under_both_models(rt: HostRuntime) -> Result<(), Fail> {
 fn secrets_leave_no_mark(rt: HostRuntime) -> Result<(), Fail> {
     let alloc = rt.alloc();
     let rows: [(&[u32], &str); 4] = [
-        (&programs::BOUNDS_CHECK, traces::BYPASS),
-        (&programs::TAINTED_STORE, traces::TAINTED_STORE),
-        (&programs::TAINTED_DIVISOR, traces::TAINTED_DIVISOR),
-        (&programs::TARGET_INJECTION, traces::TARGET_INJECTION),
+        (&test_programs::BOUNDS_CHECK, traces::BYPASS),
+        (&test_programs::TAINTED_STORE, traces::TAINTED_STORE),
+        (&test_programs::TAINTED_DIVISOR, traces::TAINTED_DIVISOR),
+        (&test_programs::TARGET_INJECTION, traces::TARGET_INJECTION),
     ];
     for (code, text) in rows {
         for secret in [0, 1, 0x11, 0x22] {
@@ -84,17 +89,29 @@ fn secrets_leave_no_mark(rt: HostRuntime) -> Result<(), Fail> {
 fn what_the_path_reads_shows(rt: HostRuntime) -> Result<(), Fail> {
     let alloc = rt.alloc();
     let rows: [(&[u32], u8, &str, u8, &str); 4] = [
-        (&programs::BOUNDS_CHECK, 1, "spectre", 0, traces::IN_BOUNDS),
         (
-            &programs::BOUNDS_CHECK,
+            &test_programs::BOUNDS_CHECK,
+            1,
+            "spectre",
+            0,
+            traces::IN_BOUNDS,
+        ),
+        (
+            &test_programs::BOUNDS_CHECK,
             1,
             "futuristic",
             0,
             traces::IN_BOUNDS,
         ),
-        (&programs::FAULT_SHADOW, 0, "spectre", 1, traces::SHADOW),
         (
-            &programs::FAULT_SHADOW,
+            &test_programs::FAULT_SHADOW,
+            0,
+            "spectre",
+            1,
+            traces::SHADOW,
+        ),
+        (
+            &test_programs::FAULT_SHADOW,
             0,
             "futuristic",
             1,
@@ -108,7 +125,7 @@ fn what_the_path_reads_shows(rt: HostRuntime) -> Result<(), Fail> {
         let changed = text.replace(alloc, LINE_OF_11, LINE_OF_22)?;
         expect(&rt, &other, status, changed.as_bytes(), "");
     }
-    let code = &programs::TAINTED_BRANCH;
+    let code = &test_programs::TAINTED_BRANCH;
     for model in ["spectre", "futuristic"] {
         let left = traced(alloc, "100", code, &data_of(1, 0x11), model)?;
         expect(&rt, &left, 0, traces::TAINTED_BRANCH.as_bytes(), "");
@@ -118,7 +135,7 @@ fn what_the_path_reads_shows(rt: HostRuntime) -> Result<(), Fail> {
 
 // The image of an exit, with this byte at this place, cut to this length.
 fn changed(alloc: Global, place: usize, byte: u8, length: usize) -> Result<Vec<u8>, Fail> {
-    let mut image = image_with_data(alloc, &EXIT_IN_TWO, b"")?;
+    let mut image = image_with_data(alloc, &test_programs::EXIT_IN_TWO, b"")?;
     image.truncate(length);
     if let Some(old) = image.get_mut(place) {
         *old = byte;

@@ -1,7 +1,7 @@
 //! Runs of two images, compared (`docs/formats.md`, "The comparison"), and two images of which either is refused.
-use super::images::{EXIT_IN_TWO, image_with_data};
+use super::images::image_with_data;
 use super::texts::replaced;
-use super::{Left, NOTHING, expect, file_of, programs, run_with, sink_of};
+use super::{Left, NOTHING, expect, file_of, run_with, sink_of};
 use machine_desc::EXAMPLE;
 use std::alloc::Global;
 use std::process::Abort;
@@ -66,7 +66,7 @@ fn secrets_compared(rt: HostRuntime) -> Result<(), Fail> {
         (
             "100",
             "spectre",
-            &programs::BOUNDS_CHECK,
+            &test_programs::BOUNDS_CHECK,
             hidden,
             0,
             "premise yes\nequal\nretired 5 cycles 21\n",
@@ -74,7 +74,7 @@ fn secrets_compared(rt: HostRuntime) -> Result<(), Fail> {
         (
             "100",
             "futuristic",
-            &programs::BOUNDS_CHECK,
+            &test_programs::BOUNDS_CHECK,
             hidden,
             0,
             "premise yes\nequal\nretired 5 cycles 21\n",
@@ -83,7 +83,7 @@ fn secrets_compared(rt: HostRuntime) -> Result<(), Fail> {
         (
             "100",
             "spectre",
-            &programs::BOUNDS_CHECK,
+            &test_programs::BOUNDS_CHECK,
             loaded,
             1,
             "premise no\nunequal 17\nretired 9 cycles 28\n",
@@ -92,7 +92,7 @@ fn secrets_compared(rt: HostRuntime) -> Result<(), Fail> {
         (
             "5",
             "spectre",
-            &EXIT_IN_TWO,
+            &test_programs::EXIT_IN_TWO,
             none,
             0,
             "premise yes\nequal\nretired 2 cycles 5\n",
@@ -100,7 +100,7 @@ fn secrets_compared(rt: HostRuntime) -> Result<(), Fail> {
         (
             "1",
             "spectre",
-            &EXIT_IN_TWO,
+            &test_programs::EXIT_IN_TWO,
             none,
             0,
             "premise yes\nequal\nretired 0 cycles 1\n",
@@ -126,7 +126,7 @@ fn ends_and_codes_compared(rt: HostRuntime) -> Result<(), Fail> {
     );
     assert_eq!(rt; values.status, 1);
     // no row shows by which call a run ends
-    let one = image_with_data(alloc, &EXIT_IN_TWO, b"")?;
+    let one = image_with_data(alloc, &test_programs::EXIT_IN_TWO, b"")?;
     let two = image_with_data(alloc, &EXIT_OF_ALL, b"")?;
     let words = ["pair", "d.toml", "p.elf", "q.elf", "--cycles", "100"];
     let text = EXAMPLE.as_bytes();
@@ -139,7 +139,7 @@ fn ends_and_codes_compared(rt: HostRuntime) -> Result<(), Fail> {
 #[test]
 fn both_images_at_fault(rt: HostRuntime) -> Result<(), Fail> {
     let alloc = rt.alloc();
-    let whole = image_with_data(alloc, &EXIT_IN_TWO, b"")?;
+    let whole = image_with_data(alloc, &test_programs::EXIT_IN_TWO, b"")?;
     let cut = whole.as_slice().get(..60).unwrap_or(b"");
     let text = "premise yes\nequal\nretired 2 cycles 5\n";
     // The bytes of an image, none where it isn't there; the status, and the notes on it as the first and as the second one.
@@ -175,7 +175,7 @@ fn both_images_at_fault(rt: HostRuntime) -> Result<(), Fail> {
 #[test]
 fn a_second_image_over_its_limit(rt: HostRuntime) -> Result<(), Fail> {
     let alloc = rt.alloc();
-    let one = image_with_data(alloc, &EXIT_IN_TWO, b"")?;
+    let one = image_with_data(alloc, &test_programs::EXIT_IN_TWO, b"")?;
     let over = vec![in alloc; 0u8; IMAGE_BYTES + 1]?;
     let words = ["pair", "d.toml", "p.elf", "q.elf", "--cycles", "5"];
     let text = EXAMPLE.as_bytes();
