@@ -13,7 +13,7 @@ use Rattle.stations.specs.Stations.{awaits_none, strike}
 use Rattle.stations.specs.Places.{MarkWaiters, MarkWaiting, awaited, awaits_in, held_of, is_in, nobody, waits, woken}
 use Rattle.stations.proofs.Reading.{entry_at}
 
-neither : (a b : Bool) → (a || b) ≡ false → (a ≡ false) × (b ≡ false)
+pub neither : (a b : Bool) → (a || b) ≡ false → (a ≡ false) × (b ≡ false)
 neither true b h = absurd (cc)
 neither false b h = (refl, h)
 

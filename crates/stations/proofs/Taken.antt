@@ -14,6 +14,7 @@ use Rattle.stations.specs.declared.occupant.Occupant.{Occupant}
 use Rattle.stations.specs.Stations.{awaits_none}
 use Rattle.stations.specs.Places.{MarkTaken, MarkWaiting, awaited, held_of, nobody}
 use Rattle.stations.proofs.Numbers.{all_below, all_differ, taken_below}
+use Rattle.stations.proofs.Awaited.{neither}
 
 -- ---- the bits of one word that another doesn't have
 
@@ -99,10 +100,6 @@ not_idle t w false et ew h = omega (arith, et, ew)
 
 free_not_idle : (t w : ℕ) → t ≡ 0 → (t + min t w) % 2 ≡ 0
 free_not_idle t w e = omega (arith, e)
-
-neither : (a b : Bool) → (a || b) ≡ false → (a ≡ false) × (b ≡ false)
-neither true b h = absurd (cc)
-neither false b h = (refl, h)
 
 module _ (places : List Occupant) (waiting taken : ℕ) (few : length places ≤ 64) (w : MarkWaiting places waiting) where
   abbrev Idle : ℕ → ℕ
