@@ -1,6 +1,6 @@
 -- How a task ends, and with it the program, from what the parts do.
 use Rattle.std.specs.Prelude.{IsErrAnd, MatchResult}
-use Rattle.std.proofs.Common.{◌≡◌, ◌+◌, ◌^◌, ◌<◌, ℕ, List, Some, Result, Ok, Err, refl, sym, ap, ap₂, ◌∙◌, subst, arith}
+use Rattle.std.proofs.Common.{◌≡◌, ℕ, List, Some, Result, Ok, Err, refl, sym, ap, ◌∙◌, subst}
 use Rattle.std.proofs.lemmas.Result.{err_from_is_err_and}
 use Rattle.elf_loader.specs.Image.{ImageText}
 use Rattle.machine_desc.specs.declared.Desc.{Desc}
@@ -12,7 +12,6 @@ use Rattle.pair_run.specs.declared.answer.PairAnswer.{PairAnswer}
 use Rattle.pair_text.specs.Comparison.{comparison}
 use Rattle.tool_io.specs.Outside.{Told, Shelf, Wrote, WrotePart}
 use Rattle.tool_words.specs.Words.{CommandText, command_of}
-use Rattle.tool_words.specs.declared.Refused.TheVariants as refused
 use Rattle.stt_top.specs.declared.outcome.Ended.{Ended}
 use Rattle.stt_top.specs.declared.outcome.Refusal.{Refusal}
 use Rattle.stt_top.specs.declared.outcome.Refusal.TheVariants.{Write, Memory}

@@ -1,9 +1,8 @@
-use Rattle.std.proofs.Common.{◌≡◌, ◌∙◌, ◌+◌, ap, subst, IsTrue}
+use Rattle.std.proofs.Common.{◌∙◌, ◌+◌, ap, subst}
 use Rattle.window_model.specs.State.{Machine}
-use Rattle.pair_run.specs.Answer.{Answers, Premise}
+use Rattle.pair_run.specs.Answer.{Answers}
 use Rattle.pair_run.specs.Images.{Images}
 use Rattle.pair_run.specs.Starts.{loaded}
-use Rattle.pair_run.specs.declared.answer.Differ.TheVariants.{Same}
 use Rattle.pair_run.proofs.Answering.{at_end, counted_at_end, answers, hidden, is_premise}
 use Rattle.pair_run.proofs.pair.Pair.run.Goals as goal
 
