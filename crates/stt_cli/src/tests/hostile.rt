@@ -40,9 +40,9 @@ fn all_refuse(
     commands: &[&[&str]],
     image: &[u8],
     description: &[u8],
-    status: u8,
-    note: &str,
+    refusal: (u8, &str),
 ) -> Result<(), Fail> {
+    let (status, note) = refusal;
     for words in commands {
         let left = run(alloc, words, image, description)?;
         expect(rt, &left, status, b"", note);
@@ -80,7 +80,7 @@ fn refuses_images(rt: HostRuntime) -> Result<(), Fail> {
     for (at, bytes, note) in rows {
         let image = changed_image(alloc, at, bytes)?;
         let text = EXAMPLE.as_bytes();
-        all_refuse(&rt, alloc, &COMMANDS, image.as_slice(), text, 5, note)?;
+        all_refuse(&rt, alloc, &COMMANDS, image.as_slice(), text, (5, note))?;
     }
     // Of the flags only the one of compressed instructions is refused.
     let flagged = changed_image(alloc, 36, &[2])?;
@@ -145,7 +145,7 @@ fn refuses_descriptions(rt: HostRuntime) -> Result<(), Fail> {
     ];
     for (old, new, note) in rows {
         let text = replaced(alloc, EXAMPLE, old, new)?;
-        all_refuse(&rt, alloc, &DESCRIBED, b"", text.as_slice(), 4, note)?;
+        all_refuse(&rt, alloc, &DESCRIBED, b"", text.as_slice(), (4, note))?;
     }
     let whole: [(&[u8], &str); 3] = [
         (b"", "description K3 core.fetch_width\n"),
@@ -153,12 +153,12 @@ fn refuses_descriptions(rt: HostRuntime) -> Result<(), Fail> {
         (b"\xff", "description K1\n"),
     ];
     for (text, note) in whole {
-        all_refuse(&rt, alloc, &DESCRIBED, b"", text, 4, note)?;
+        all_refuse(&rt, alloc, &DESCRIBED, b"", text, (4, note))?;
     }
     let mut ended = EXAMPLE.as_bytes().to_vec(alloc)?;
     ended.push(0xff)?;
     let note = "description K1\n";
-    all_refuse(&rt, alloc, &DESCRIBED, b"", ended.as_slice(), 4, note)
+    all_refuse(&rt, alloc, &DESCRIBED, b"", ended.as_slice(), (4, note))
 }
 
 // The bytes, with so many of this byte behind them that they are `length` in all.
@@ -216,7 +216,7 @@ fn images_cut_short(rt: HostRuntime) -> Result<(), Fail> {
     ];
     for (length, note) in rows {
         let cut = image.as_slice().get(..length).unwrap_or(b"");
-        all_refuse(&rt, alloc, &COMMANDS, cut, text, 5, note)?;
+        all_refuse(&rt, alloc, &COMMANDS, cut, text, (5, note))?;
     }
     Ok(())
 }
@@ -233,5 +233,5 @@ fn descriptions_that_are_accepted(rt: HostRuntime) -> Result<(), Fail> {
     all_exit(&rt, alloc, image.as_slice(), three.as_slice())?;
     let over = padded(alloc, text, b' ', DESCRIPTION_BYTES + 1)?;
     let note = "description too long\n";
-    all_refuse(&rt, alloc, &DESCRIBED, b"", over.as_slice(), 4, note)
+    all_refuse(&rt, alloc, &DESCRIBED, b"", over.as_slice(), (4, note))
 }
