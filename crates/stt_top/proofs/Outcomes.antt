@@ -1,22 +1,28 @@
 -- How a task ends, and with it the program, from what the parts do.
 use Rattle.std.specs.Prelude.{IsErrAnd, MatchResult}
 use Rattle.std.proofs.Common.{◌≡◌, ℕ, List, Some, Result, Ok, Err, refl, sym, ap, ◌∙◌, subst}
+use Rattle.rv_types.specs.Memory.{Code, Ram}
 use Rattle.std.proofs.lemmas.Result.{err_from_is_err_and}
 use Rattle.elf_loader.specs.Image.{ImageText}
 use Rattle.machine_desc.specs.declared.Desc.{Desc}
 use Rattle.elf_loader.specs.declared.loading.Image.{Image}
 use Rattle.pair_run.specs.Answer.{Answers}
 use Rattle.pair_run.specs.Images.{Images}
+use Rattle.pair_run.specs.Running.{trace_from}
 use Rattle.pair_run.specs.Starts.{loaded}
 use Rattle.pair_run.specs.declared.answer.PairAnswer.{PairAnswer}
 use Rattle.pair_text.specs.Comparison.{comparison}
 use Rattle.tool_io.specs.Outside.{Told, Shelf, Wrote, WrotePart}
+use Rattle.trace_text.specs.TraceText.{trace_text}
+use Rattle.window_model.specs.State.{Machine}
 use Rattle.tool_words.specs.Words.{CommandText, command_of}
 use Rattle.stt_top.specs.declared.outcome.Ended.{Ended}
 use Rattle.stt_top.specs.declared.outcome.Refusal.{Refusal}
 use Rattle.stt_top.specs.declared.outcome.Refusal.TheVariants.{Write, Memory}
+use Rattle.stt_top.specs.Clocking.{report_from}
 use Rattle.stt_top.specs.Outcome.{compared_of}
-use Rattle.stt_top.specs.Work.{TaskText, pair_task, Performs, pair_work}
+use Rattle.stt_top.specs.Running.{Starts, opening_of}
+use Rattle.stt_top.specs.Work.{TaskText, report_task, trace_task, pair_task, Performs, run_work, trace_work, pair_work}
 use Rattle.stt_top.specs.Top.{world, Runs, Ends}
 
 -- what the exit of a `?` returns
@@ -27,6 +33,26 @@ pub at_err : {T E : Type 0} (r : Result T E) (P : T → Type 0) (Q : E → Type 
 at_err r P Q e h q = at_exit (λ x. MatchResult x P Q) r e h q
 
 -- ---- Tasks
+
+-- anything of a core that starts with an image is that of the machine there
+at_start : {A : Type 0} (f : Desc → Code → Machine → A) (image : ImageText) (desc d : Desc) (code : Code) (x : Machine) → Starts image desc d code x
+    → f d code x ≡ f desc image.code (opening_of desc image)
+at_start f image desc d code x s =
+    ap (λ k. f k code x) s.desc_is ∙ (ap (λ k. f desc k x) s.code_is ∙ ap (f desc image.code) s.machine_is)
+
+-- so is the part of a trace, or of a report, that a failing sink has taken
+pub trace_part : (image : ImageText) (desc d : Desc) (code : Code) (x : Machine) (n : ℕ) (out out' : Told) → Starts image desc d code x
+    → WrotePart (trace_text (trace_from d code n x)) out out' → Performs (trace_task desc image n) out out' (Err Write)
+trace_part image desc d code x n out out' s w =
+    let P : List ℕ → Type 0 = λ t. WrotePart t out out' in
+    (trace_work desc image n, refl, subst P (at_start (λ k c y. trace_text (trace_from k c n y)) image desc d code x s) w)
+
+pub report_part : (image : ImageText) (desc d : Desc) (code : Code) (x : Machine) (before : Ram) (n : ℕ) (out out' : Told) → Starts image desc d code x → before ≡ image.ram
+    → WrotePart (report_from before d code n x) out out' → Performs (report_task desc image n) out out' (Err Write)
+report_part image desc d code x before n out out' s b w =
+    let P : List ℕ → Type 0 = λ t. WrotePart t out out' in
+    let is = ap (λ m. report_from m d code n x) b ∙ at_start (λ k c y. report_from image.ram k c n y) image desc d code x s in
+    (run_work desc image n, refl, subst P is w)
 
 -- what a pair of these images answers is said of them
 pub pair_answers : (p : Images) (d : Desc) (one two : Image) (n : ℕ) (answer : PairAnswer) → p ≡ record { desc = d; one = one; two = two }

@@ -1,0 +1,12 @@
+-- What a failing sink has taken is a part of the trace of the machine where the image begins.
+use Rattle.pair_run.specs.Starts.{loaded}
+use Rattle.stt_top.specs.Work.{trace_task, Performs}
+use Rattle.stt_top.proofs.Outcomes.{at_exit, trace_part}
+use Rattle.stt_top.proofs.performing.trace.Goals as goal
+
+pub returns-in_err-ended : goal.returns-in_err-ended
+returns-in_err-ended g c =
+    let d = c.args.read.desc in
+    let image = loaded c.args.read.image in
+    at_exit (Performs (trace_task d image c.args.cycles) (g.O.Sink.told c.args.out.now) (g.O.Sink.told c.trace.new.out)) _ _ c.from_residual-in_err-ended.ensures.1
+    (trace_part image d _ _ _ c.args.cycles _ _ c.in_ok-core.ensures c.in_err-ended.ensures)
