@@ -4,6 +4,8 @@
 //! stands in `specs/Digits.antt`, the last line in `specs/EndLine.antt` (`docs/formats.md`, "The last line").
 #![tactic(auto)]
 
+mod bytes;
+mod digits;
 mod end;
 mod line;
 

@@ -1,21 +1,19 @@
 //! A line of text that is built piece by piece.
 ghost use Rattle.std.specs.Prelude.{◌≡◌, ◌<◌, ◌≤◌, ◌+◌, ◌*◌, ◌/◌, ◌%◌, ◌∷◌, [], ◌++◌, length, decimal, flat_map};
-ghost use Rattle.line_text.specs.Digits.{hex_digit, hex2, hex8};
+ghost use Rattle.line_text.specs.Digits.{hex2, hex8, decimal2};
 
-use arrayvec::ArrayVec;
+use crate::bytes::Bytes;
+use crate::digits::{decimal_pair, hex_pair};
 use itoa::Buffer;
 use std::marker::Model;
 
 /// The most bytes that a line has.
-pub const LINE_MAX: usize = 4800;
+pub const LINE_MAX: usize = 9600;
 
-/// The hexadecimal digits.
-const DIGITS: [u8; 16] = *b"0123456789abcdef";
-
-/// A line of text: at most 4,800 bytes, seen as a list. It takes no memory.
+/// A line of text: at most 9,600 bytes, seen as a list. It takes no memory.
 #[derive(Drop)]
 pub struct Line {
-    bytes: ArrayVec<u8, LINE_MAX>,
+    bytes: Bytes<LINE_MAX>,
 }
 
 impl Model for Line {
@@ -23,22 +21,7 @@ impl Model for Line {
 
     ghost Value = { List ℕ };
 
-    ghost view = { λ l. l.bytes.items };
-}
-
-#[inline]
-fn hex_digit(d: u8) -> u8
-    requires { d < 16 }
-    ensures { result ≡ hex_digit d }
-{
-    DIGITS[d as usize]
-}
-
-#[inline]
-fn hex_digits(byte: u8) -> [u8; 2]
-    ensures { result ≡ hex2 byte }
-{
-    [hex_digit(byte / 16), hex_digit(byte % 16)]
+    ghost view = { λ l. l.bytes };
 }
 
 impl Line {
@@ -47,11 +30,11 @@ impl Line {
         ensures { result ≡ [] }
     {
         Line {
-            bytes: ArrayVec::new(),
+            bytes: Bytes::new(),
         }
     }
 
-    /// Takes all bytes out. It costs what was in the line, and not its room: a line that is made once serves many texts.
+    /// Takes all bytes out. It only sets the length: a line that is made once serves many texts.
     pub fn clear(&mut self)
         ensures { self.new ≡ [] }
     {
@@ -71,7 +54,7 @@ impl Line {
         requires { length self.old + length text.now ≤ LINE_MAX }
         ensures { self.new ≡ self.old ++ text.now }
     {
-        let _ = self.bytes.try_extend_from_slice(text);
+        self.bytes.add(text);
     }
 
     /// Appends a number in decimal: at most 20 digits.
@@ -81,8 +64,7 @@ impl Line {
         ensures text { self.new ≡ self.old ++ decimal n }
         ensures short { length self.new ≤ length self.old + 20 }
     {
-        let mut buffer = Buffer::new();
-        self.add(buffer.format(n).as_bytes());
+        self.add_number(n);
     }
 
     /// Appends a number of 32 bits in decimal: at most ten digits.
@@ -92,8 +74,75 @@ impl Line {
         ensures text { self.new ≡ self.old ++ decimal n }
         ensures short { length self.new ≤ length self.old + 10 }
     {
+        self.add_number(n as u64);
+    }
+
+    // Appends a number in decimal: up to eight digits in pairs, where they stand.
+    fn add_number(&mut self, n: u64)
+        requires { length self.old + length (decimal n) ≤ LINE_MAX }
+        ensures { self.new ≡ self.old ++ decimal n }
+    {
+        if n < 10_000 {
+            self.add_four_digits(n);
+            return;
+        }
+        if n < 100_000_000 {
+            self.add_four_digits(n / 10_000);
+            self.add_pair(n % 10_000 / 100);
+            self.add_pair(n % 10_000 % 100);
+            return;
+        }
         let mut buffer = Buffer::new();
         self.add(buffer.format(n).as_bytes());
+    }
+
+    // Appends a number of up to four digits.
+    #[inline]
+    fn add_four_digits(&mut self, n: u64)
+        requires few { n < 10000 }
+        requires room { length self.old + length (decimal n) ≤ LINE_MAX }
+        ensures { self.new ≡ self.old ++ decimal n }
+    {
+        if n < 100 {
+            self.add_two_digits(n);
+            return;
+        }
+        self.add_two_digits(n / 100);
+        self.add_pair(n % 100);
+    }
+
+    // Appends a number of one digit or two.
+    #[inline]
+    fn add_two_digits(&mut self, n: u64)
+        requires few { n < 100 }
+        requires room { length self.old + length (decimal n) ≤ LINE_MAX }
+        ensures { self.new ≡ self.old ++ decimal n }
+    {
+        if n < 10 {
+            self.add_byte(b'0' + n as u8);
+            return;
+        }
+        self.add_pair(n);
+    }
+
+    // Appends the two decimal digits of a number below 100.
+    #[inline]
+    fn add_pair(&mut self, n: u64)
+        requires few { n < 100 }
+        requires room { length self.old + 2 ≤ LINE_MAX }
+        ensures text { self.new ≡ self.old ++ decimal2 n }
+        ensures len { length self.new ≡ length self.old + 2 }
+    {
+        self.add(&decimal_pair(n));
+    }
+
+    // Appends one byte.
+    #[inline]
+    fn add_byte(&mut self, byte: u8)
+        requires { length self.old < LINE_MAX }
+        ensures { self.new ≡ self.old ++ byte ∷ [] }
+    {
+        self.bytes.add_byte(byte);
     }
 
     /// Appends the two hexadecimal digits of a byte.
@@ -103,7 +152,7 @@ impl Line {
         ensures text { self.new ≡ self.old ++ hex2 byte }
         ensures len { length self.new ≡ length self.old + 2 }
     {
-        self.add(&hex_digits(byte));
+        self.add(&hex_pair(byte));
     }
 
     /// Appends the eight hexadecimal digits of a word.
@@ -113,11 +162,12 @@ impl Line {
         ensures text { self.new ≡ self.old ++ hex8 word }
         ensures len { length self.new ≡ length self.old + 8 }
     {
-        let [a, b] = hex_digits((word / 0x100_0000) as u8);
-        let [c, d] = hex_digits((word / 0x1_0000 % 0x100) as u8);
-        let [e, f] = hex_digits((word / 0x100 % 0x100) as u8);
-        let [g, h] = hex_digits((word % 0x100) as u8);
-        self.add(&[a, b, c, d, e, f, g, h]);
+        self.bytes.add_pairs(
+            hex_pair((word / 0x100_0000) as u8),
+            hex_pair((word / 0x1_0000 % 0x100) as u8),
+            hex_pair((word / 0x100 % 0x100) as u8),
+            hex_pair((word % 0x100) as u8),
+        );
     }
 
     /// Appends the two hexadecimal digits of each byte in turn.

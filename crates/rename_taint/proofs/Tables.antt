@@ -1,5 +1,5 @@
 -- Slots and undo list, oldest first: each change keeps the table.
-use Rattle.std.proofs.Common.{◌≡◌, ℕ, zero, suc, ◌+◌, ◌-◌, ◌<◌, ◌≤◌, Bool, true, false, ◌||◌, cond, List, [], ◌∷◌, ◌++◌, length, get_or, set, take, drop, replicate, Option, Some, None, refl, ap, sym, ◌∙◌, arith, subst, slice_get}
+use Rattle.std.proofs.Common.{◌≡◌, ℕ, zero, suc, ◌+◌, ◌-◌, ◌<◌, ◌≤◌, Bool, true, false, ◌||◌, cond, List, [], ◌∷◌, ◌++◌, length, get_or, set, take, drop, replicate, Some, None, refl, ap, sym, ◌∙◌, arith, subst, slice_get}
 use Rattle.std.specs.Prelude.{◌==◌, nat_le, nat_lt, reverse, if◌then◌else◌}
 use Rattle.std.specs.List.{find, filter, All, list_any}
 use Rattle.std.proofs.lemmas.List.{drop_more, length-take-le, reverse-append, reverse-reverse, map-append, append-nil, length_push, take_at, take_all, take_more, get_or-replicate, length-set}
@@ -9,8 +9,8 @@ use Rattle.std.proofs.lemmas.Bool.Decides.{nat_tests}
 use Rattle.rename_taint.specs.declared.Write.{Write}
 use Rattle.rename_taint.specs.declared.slots.Slot.{Slot}
 use Rattle.rename_taint.specs.declared.slots.Undo.{Undo}
-use Rattle.rename_taint.specs.Writes.{last_write, source_of, root_of, source_from, root_from, without_retired}
-use Rattle.rename_taint.specs.Table.{writes_of, slot_of, last_of, held, oldest_of, oldest_in, source_in, root_in, is_first, is_last, Linked, IsTable, Table}
+use Rattle.rename_taint.specs.Writes.{last_write, source_of, root_of, without_retired}
+use Rattle.rename_taint.specs.Table.{writes_of, slot_of, empty, last_of, forgotten, held, oldest_of, oldest_in, is_first, is_last, Linked, IsTable, Table}
 use Rattle.rename_taint.proofs.UndoList.{LeadsBack, Falls, leads_back, falls_from, linked_from, oldest_push, held_last, leads_drop, falls_drop, falls_front, undo_keeps, write_keeps, retire_keeps}
 
 -- what is left of a list at a place
@@ -37,8 +37,8 @@ all_map P (u ∷ us) a = All-cons P u.write (writes_of us) (All-head (λ u. P u.
 
 -- ---- nothing is held
 
-pub table_new : (undo : List Undo) → undo ≡ [] → Table (replicate 32 None) undo
-table_new undo e = subst (Table (replicate 32 None)) (sym e) (record { registers = refl; cells = λ r lt. get_or-replicate 32 r None None lt; linked = λ i d lt. absurd (omega arith) })
+pub table_new : (undo : List Undo) → undo ≡ [] → Table (replicate 32 empty) undo
+table_new undo e = subst (Table (replicate 32 empty)) (sym e) (record { registers = refl; cells = λ r lt. get_or-replicate 32 r empty empty lt; linked = λ i d lt. absurd (omega arith) })
 
 -- ---- what the table answers
 
@@ -53,21 +53,21 @@ writes_back (u ∷ us) =
 last_is : (us : List Undo) (r : ℕ) → last_write (writes_of us) r ≡ last_of r (reverse us)
 last_is us r = ap (find (λ w. w.register == r)) (writes_back us)
 
-pub cell_is : (slots : List (Option Slot)) (us : List Undo) (r : ℕ) → Table slots us → r < 32 → get_or slots r None ≡ slot_of (last_write (writes_of us) r)
+pub cell_is : (slots : List Slot) (us : List Undo) (r : ℕ) → Table slots us → r < 32 → get_or slots r empty ≡ slot_of (last_write (writes_of us) r)
 cell_is slots us r t lt = t.cells r lt ∙ ap slot_of (sym (last_is us r))
 
 -- ---- a write
 
-pub table_append : (slots : List (Option Slot)) (us : List Undo) (w : Write) → Table slots us → w.register < 32 → All (λ v. v.serial < w.serial) (writes_of us) →
-    Table (set slots w.register (Some (record { serial = w.serial; root = w.root }))) (us ++ record { write = w; previous = get_or slots w.register None } ∷ [])
+pub table_append : (slots : List Slot) (us : List Undo) (w : Write) → Table slots us → w.register < 32 → All (λ v. v.serial < w.serial) (writes_of us) →
+    Table (set slots w.register (slot_of (Some w))) (us ++ record { write = w; previous = get_or slots w.register empty } ∷ [])
 table_append slots us w t lt young =
-    let u : Undo = record { write = w; previous = get_or slots w.register None } in
+    let u : Undo = record { write = w; previous = get_or slots w.register empty } in
     let f = falls_from (reverse us) t.linked in
-    let back : held (oldest_in (reverse us)) (get_or slots w.register None) ≡ slot_of (last_of w.register (reverse us)) = ap (held (oldest_in (reverse us))) (t.cells w.register lt) ∙ held_last (reverse us) w.register f in
+    let back : held (oldest_in (reverse us)) (get_or slots w.register empty) ≡ slot_of (last_of w.register (reverse us)) = ap (held (oldest_in (reverse us))) (t.cells w.register lt) ∙ held_last (reverse us) w.register f in
     let l : Linked (u ∷ reverse us) = linked_from (u ∷ reverse us) (back, lt, leads_back (reverse us) t.linked) (all_reverse (λ v. v.write.serial < w.serial) us (all_of_map (λ v. v.serial < w.serial) us young), f) in
     record {
       registers = length-set slots w.register _ ∙ t.registers;
-      cells = subst (IsTable (set slots w.register (Some (record { serial = w.serial; root = w.root })))) (sym (reverse_push us u)) (write_keeps slots w (get_or slots w.register None) (reverse us) t.registers lt t.cells);
+      cells = subst (IsTable (set slots w.register (slot_of (Some w)))) (sym (reverse_push us u)) (write_keeps slots w (get_or slots w.register empty) (reverse us) t.registers lt t.cells);
       linked = subst Linked (sym (reverse_push us u)) l;
     }
 
@@ -81,10 +81,10 @@ all_registers : (us : List Undo) → LeadsBack us → All (λ u. u.write.registe
 all_registers [] l = All-nil (λ u. u.write.register < 32)
 all_registers (u ∷ older) l = All-cons (λ u. u.write.register < 32) u older l.1 (all_registers older l.2)
 
-pub registers_below : (slots : List (Option Slot)) (us : List Undo) → Table slots us → All (λ u. u.write.register < 32) us
+pub registers_below : (slots : List Slot) (us : List Undo) → Table slots us → All (λ u. u.write.register < 32) us
 registers_below slots us t = all_back (λ u. u.write.register < 32) us (all_registers (reverse us) (leads_back (reverse us) t.linked))
 
-pop_front_at : (slots : List (Option Slot)) (u : Undo) (us : List Undo) → Table slots (u ∷ us) → Table (set slots u.write.register (held (oldest_of us) (get_or slots u.write.register None))) us
+pop_front_at : (slots : List Slot) (u : Undo) (us : List Undo) → Table slots (u ∷ us) → Table (set slots u.write.register (forgotten u.write.serial (get_or slots u.write.register empty))) us
 pop_front_at slots u us t =
     let r : reverse (u ∷ us) ≡ reverse us ++ u ∷ [] = reverse-append (u ∷ []) us in
     let l : Linked (reverse us ++ u ∷ []) = subst Linked r t.linked in
@@ -94,16 +94,16 @@ pop_front_at slots u us t =
     let k = retire_keeps slots (reverse us) u t.registers lt f (subst (IsTable slots) r t.cells) in
     record {
       registers = length-set slots u.write.register _ ∙ t.registers;
-      cells = subst (λ o. IsTable (set slots u.write.register (held o (get_or slots u.write.register None))) (reverse us)) (oldest_same us) k;
+      cells = k;
       linked = linked_from (reverse us) (leads_drop (reverse us) u f b) (falls_drop (reverse us) u f);
     }
 
-pub pop_front_keeps : (slots : List (Option Slot)) (us us2 : List Undo) (u : Undo) (v : Option Slot) → Table slots us → Some u ≡ slice_get us 0 → us2 ≡ drop 1 us →
-    v ≡ held (oldest_of us2) (get_or slots u.write.register None) → Table (set slots u.write.register v) us2
-pop_front_keeps slots [] us2 u v t h e f = absurd (cc)
-pop_front_keeps slots (x ∷ us) us2 u v t h e f =
+pub pop_front_keeps : (slots slots2 : List Slot) (us us2 : List Undo) (u : Undo) → Table slots us → Some u ≡ slice_get us 0 → us2 ≡ drop 1 us →
+    slots2 ≡ set slots u.write.register (forgotten u.write.serial (get_or slots u.write.register empty)) → Table slots2 us2
+pop_front_keeps slots slots2 [] us2 u t h e f = absurd (cc)
+pop_front_keeps slots slots2 (x ∷ us) us2 u t h e f =
     let i : x ≡ u = cc in
-    let p = subst (λ (u : Undo). Table (set slots u.write.register (held (oldest_of us) (get_or slots u.write.register None))) us) i (pop_front_at slots x us t) in
+    let p = subst (λ (u : Undo). Table (set slots u.write.register (forgotten u.write.serial (get_or slots u.write.register empty))) us) i (pop_front_at slots x us t) in
     rw (f) (rw e p)
 
 -- ---- the youngest goes
@@ -116,7 +116,7 @@ last_split us u h =
     let all : us ≡ take n us ++ u ∷ [] = sym (take_all (length us) us (omega arith)) ∙ ap (λ k. take k us) (sym k) ∙ take_more us n u lt ∙ ap (λ y. take n us ++ y ∷ []) (get_or_from_slice_get us n u u (sym h)) in
     ap reverse all ∙ reverse_push (take n us) u
 
-pub pop_back_keeps : (slots : List (Option Slot)) (us us2 : List Undo) (u : Undo) (v : Option Slot) → Table slots us → Some u ≡ slice_get us (length us - 1) → us2 ≡ take (length us - 1) us →
+pub pop_back_keeps : (slots : List Slot) (us us2 : List Undo) (u : Undo) (v : Slot) → Table slots us → Some u ≡ slice_get us (length us - 1) → us2 ≡ take (length us - 1) us →
     v ≡ held (oldest_of us2) u.previous → Table (set slots u.write.register v) us2
 pop_back_keeps slots us us2 u v t h e f =
     let r : reverse us ≡ u ∷ reverse us2 = last_split us u h ∙ ap (λ us. u ∷ reverse us) (sym e) in
@@ -131,7 +131,7 @@ pop_back_keeps slots us us2 u v t h e f =
       linked = linked_from (reverse us2) b.2 g.1;
     }
 
-pub pop_none_keeps : (slots : List (Option Slot)) (us us2 : List Undo) → Table slots us → None ≡ slice_get us (length us - 1) → us2 ≡ take (length us - 1) us → Table slots us2
+pub pop_none_keeps : (slots : List Slot) (us us2 : List Undo) → Table slots us → None ≡ slice_get us (length us - 1) → us2 ≡ take (length us - 1) us → Table slots us2
 pop_none_keeps slots [] us2 t h e = rw e t
 pop_none_keeps slots (u ∷ us) us2 t h e = let g = slice_get-get_or (u ∷ us) (length (u ∷ us) - 1) u (omega arith) in absurd (cc)
 
@@ -152,7 +152,7 @@ kept_on serial (u ∷ us) us2 h e =
     ap (λ us. filter (λ w. nat_lt serial w.serial) (writes_of us)) e
     ∙ ap (λ b. cond b (u.write ∷ filter (λ w. nat_lt serial w.serial) (writes_of us)) (filter (λ w. nat_lt serial w.serial) (writes_of us))) (sym f)
 
-pub kept_end : (slots : List (Option Slot)) (serial : ℕ) (us : List Undo) → Table slots us → is_first (λ u. nat_le u.write.serial serial) us ≡ false → filter (λ w. nat_lt serial w.serial) (writes_of us) ≡ writes_of us
+pub kept_end : (slots : List Slot) (serial : ℕ) (us : List Undo) → Table slots us → is_first (λ u. nat_le u.write.serial serial) us ≡ false → filter (λ w. nat_lt serial w.serial) (writes_of us) ≡ writes_of us
 kept_end slots serial [] t h = refl
 kept_end slots serial (u ∷ us) t h =
     let lt : serial < u.write.serial = grind (arith, nat_tests) in
@@ -193,25 +193,17 @@ all_older first (u ∷ us) f h =
     All-cons (λ u. nat_lt u.write.serial first ≡ true) u us (grind (arith, nat_tests))
     (All-weaker (λ v. v.write.serial < u.write.serial) (λ v. nat_lt v.write.serial first ≡ true) (λ v k. let m : v.write.serial < first = omega arith in grind (arith, nat_tests)) us f.0)
 
-pub cut_end : (slots : List (Option Slot)) (first : ℕ) (us : List Undo) → Table slots us → is_last (λ u. nat_le first u.write.serial) us ≡ false → filter (λ w. nat_lt w.serial first) (writes_of us) ≡ writes_of us
+pub cut_end : (slots : List Slot) (first : ℕ) (us : List Undo) → Table slots us → is_last (λ u. nat_le first u.write.serial) us ≡ false → filter (λ w. nat_lt w.serial first) (writes_of us) ≡ writes_of us
 cut_end slots first us t h =
     filter_all (λ w. nat_lt w.serial first) (writes_of us) (all_map (λ w. nat_lt w.serial first ≡ true) us (all_back (λ u. nat_lt u.write.serial first ≡ true) us (all_older first (reverse us) (falls_from (reverse us) t.linked) h)))
 
 -- ---- source and root from a slot
 
-source_by : (o : Option Write) (s : Option Slot) → s ≡ slot_of o → source_in s ≡ source_from o
-source_by None s h = ap source_in h
-source_by (Some w) s h = ap source_in h
+pub source_is : (slots : List Slot) (us : List Undo) (r : ℕ) → Table slots us → r < 32 → (get_or slots r empty).source ≡ source_of (writes_of us) r
+source_is slots us r t lt = ap (λ (s : Slot). s.source) (cell_is slots us r t lt)
 
-pub source_is : (slots : List (Option Slot)) (us : List Undo) (r : ℕ) (s : Option Slot) → Table slots us → r < 32 → s ≡ get_or slots r None → source_in s ≡ source_of (writes_of us) r
-source_is slots us r s t lt h = source_by (last_write (writes_of us) r) s (h ∙ cell_is slots us r t lt)
-
-root_by : (o : Option Write) (s : Option Slot) → s ≡ slot_of o → root_in s ≡ root_from o
-root_by None s h = ap root_in h
-root_by (Some w) s h = ap root_in h
-
-pub root_is : (slots : List (Option Slot)) (us : List Undo) (r : ℕ) (s : Option Slot) → Table slots us → r < 32 → s ≡ get_or slots r None → root_in s ≡ root_of (writes_of us) r
-root_is slots us r s t lt h = root_by (last_write (writes_of us) r) s (h ∙ cell_is slots us r t lt)
+pub root_is : (slots : List Slot) (us : List Undo) (r : ℕ) → Table slots us → r < 32 → (get_or slots r empty).root ≡ root_of (writes_of us) r
+root_is slots us r t lt = ap (λ (s : Slot). s.root) (cell_is slots us r t lt)
 
 -- ---- whether a serial is held
 
@@ -255,7 +247,7 @@ held_at serial i us u l h le r =
     or_false false = refl
 
 -- the entry of the oldest write retires: that write goes, and all others stay
-pub front_retires : (slots : List (Option Slot)) (serial : ℕ) (us us2 : List Undo) → Table slots us → is_first (λ u. u.write.serial == serial) us ≡ true → us2 ≡ drop 1 us → writes_of us2 ≡ without_retired serial (writes_of us)
+pub front_retires : (slots : List Slot) (serial : ℕ) (us us2 : List Undo) → Table slots us → is_first (λ u. u.write.serial == serial) us ≡ true → us2 ≡ drop 1 us → writes_of us2 ≡ without_retired serial (writes_of us)
 front_retires slots serial [] us2 t h e = absurd (cc)
 front_retires slots serial (u ∷ us) us2 t h e =
     let q = λ (w : Write). nat_lt serial w.serial in
@@ -270,6 +262,15 @@ front_retires slots serial (u ∷ us) us2 t h e =
     ∙ sym stay
     ∙ kept_on serial (u ∷ us) us le refl
     ∙ ap (λ b. if b || list_any (λ w. w.serial == serial) (writes_of us) then filter q (writes_of (u ∷ us)) else writes_of (u ∷ us)) (sym h)
+
+-- where the oldest write is younger, none has the serial
+pub none_retires : (slots : List Slot) (serial : ℕ) (us : List Undo) → Table slots us → is_first (λ u. nat_le u.write.serial serial) us ≡ false → writes_of us ≡ without_retired serial (writes_of us)
+none_retires slots serial [] t h = refl
+none_retires slots serial (u ∷ us) t h =
+    let lt : serial < u.write.serial = grind (arith, nat_tests) in
+    let y : All (λ v. u.write.serial < v.write.serial) us = younger (u ∷ us) 0 u (falls_from (reverse (u ∷ us)) t.linked) refl in
+    let a = All-cons (λ v. serial < v.write.serial) u us lt (All-weaker (λ v. u.write.serial < v.write.serial) (λ v. serial < v.write.serial) (λ v k. omega (arith, k, lt)) us y) in
+    ap (λ b. if b then filter (λ w. nat_lt serial w.serial) (writes_of (u ∷ us)) else writes_of (u ∷ us)) (sym (none_has serial (u ∷ us) a))
 
 -- ---- the last of the list
 

@@ -7,9 +7,11 @@ use Rattle.std.proofs.lemmas.List.{get_or-set_same, get_or-set_other}
 use Rattle.std.proofs.lemmas.List.Elements.{All-nil, All-cons, All-head, All-tail}
 use Rattle.std.proofs.lemmas.Bool.Decides.{nat_tests}
 use Rattle.rename_taint.specs.declared.Write.{Write}
+use Rattle.rename_taint.specs.declared.Source.{Source}
+use Rattle.rename_taint.specs.declared.Source.TheVariants.{Committed, Entry}
 use Rattle.rename_taint.specs.declared.slots.Slot.{Slot}
 use Rattle.rename_taint.specs.declared.slots.Undo.{Undo}
-use Rattle.rename_taint.specs.Table.{slot_of, last_of, held, oldest_in, Linked, IsTable}
+use Rattle.rename_taint.specs.Table.{slot_of, empty, names_from, forgotten, last_of, held, oldest_in, Linked, IsTable}
 
 -- ---- links, one entry after another
 
@@ -102,7 +104,7 @@ held_found n r (u ∷ older) a =
     le = let l = All-head (λ u. n ≤ u.write.serial) u older a in grind (arith, nat_tests)
 
     by_register : (b : Bool) → held (Some n) (slot_of (last_of r older)) ≡ slot_of (last_of r older) → held (Some n) (slot_of (cond b (Some u.write) (last_of r older))) ≡ slot_of (cond b (Some u.write) (last_of r older))
-    by_register true h = ap (λ b. if b then Some (record { serial = u.write.serial; root = u.write.root }) else None) le
+    by_register true h = ap (λ b. if b then slot_of (Some u.write) else empty) le
     by_register false h = h
 
 -- the last write of a register is held
@@ -118,8 +120,8 @@ held_tail n r [] x a lt = by_register (x.write.register == r)
     gt : nat_le n x.write.serial ≡ false
     gt = grind (arith, nat_tests)
 
-    by_register : (b : Bool) → held (Some n) (slot_of (cond b (Some x.write) None)) ≡ None
-    by_register true = ap (λ b. if b then Some (record { serial = x.write.serial; root = x.write.root }) else None) gt
+    by_register : (b : Bool) → held (Some n) (slot_of (cond b (Some x.write) None)) ≡ empty
+    by_register true = ap (λ b. if b then slot_of (Some x.write) else empty) gt
     by_register false = refl
 held_tail n r (u ∷ us) x a lt =
     by_register (u.write.register == r) (held_tail n r us x (All-tail (λ u. n ≤ u.write.serial) u us a) lt)
@@ -129,29 +131,43 @@ held_tail n r (u ∷ us) x a lt =
 
     by_register : (b : Bool) → held (Some n) (slot_of (last_of r (us ++ x ∷ []))) ≡ slot_of (last_of r us) →
         held (Some n) (slot_of (cond b (Some u.write) (last_of r (us ++ x ∷ [])))) ≡ slot_of (cond b (Some u.write) (last_of r us))
-    by_register true h = ap (λ b. if b then Some (record { serial = u.write.serial; root = u.write.root }) else None) le
+    by_register true h = ap (λ b. if b then slot_of (Some u.write) else empty) le
     by_register false h = h
 
--- where the oldest goes, a slot that named it names none
-pub held_drop : (us : List Undo) (x : Undo) (r : ℕ) → Falls (us ++ x ∷ []) → held (oldest_in us) (slot_of (last_of r (us ++ x ∷ []))) ≡ slot_of (last_of r us)
-held_drop [] x r f = refl
-held_drop (u ∷ us) x r f =
-    let s = oldest_some u us in
-    let g = falls_front (u ∷ us) x f in
-    let lt : x.write.serial < s.0 = oldest_has (λ n. x.write.serial < n) (u ∷ us) s.0 g.1 s.1 in
-    ap (λ o. held o (slot_of (last_of r (u ∷ us ++ x ∷ [])))) s.1 ∙ held_tail s.0 r (u ∷ us) x (least (u ∷ us) s.0 g.0 s.1) lt
-
-held_twice : (m n : ℕ) (s : Option Slot) → m ≤ n → held (Some n) (held (Some m) s) ≡ held (Some n) s
-held_twice m n None le = refl
-held_twice m n (Some s) le = by_m (nat_le m s.serial) refl
+-- where the oldest goes, a slot that named it is cleared
+forget_last : (us : List Undo) (x : Undo) (r : ℕ) → Falls (us ++ x ∷ []) → (x.write.register == r) ≡ true → forgotten x.write.serial (slot_of (last_of r (us ++ x ∷ []))) ≡ slot_of (last_of r us)
+forget_last [] x r f q =
+    let e : (x.write.serial == x.write.serial) ≡ true = grind (arith, nat_tests) in
+    ap (λ b. forgotten x.write.serial (slot_of (cond b (Some x.write) None))) q ∙ ap (λ b. if b then empty else slot_of (Some x.write)) e
+forget_last (u ∷ us) x r f q =
+    by_register (u.write.register == r) (forget_last us x r f.1 q)
   where
-    by_m : (b : Bool) → nat_le m s.serial ≡ b → held (Some n) (if b then Some s else None) ≡ held (Some n) (Some s)
+    other : (u.write.serial == x.write.serial) ≡ false
+    other =
+        let g = falls_front (u ∷ us) x f in
+        let lt : x.write.serial < u.write.serial = All-head (λ u. x.write.serial < u.write.serial) u us g.1 in
+        grind (arith, nat_tests)
+
+    by_register : (b : Bool) → forgotten x.write.serial (slot_of (last_of r (us ++ x ∷ []))) ≡ slot_of (last_of r us) →
+        forgotten x.write.serial (slot_of (cond b (Some u.write) (last_of r (us ++ x ∷ [])))) ≡ slot_of (cond b (Some u.write) (last_of r us))
+    by_register true h = ap (λ b. if b then empty else slot_of (Some u.write)) other
+    by_register false h = h
+
+-- a writer that isn't from a serial on isn't from a later one on
+earlier : (m n : ℕ) (s : Source) → m ≤ n → names_from m s ≡ false → names_from n s ≡ false
+earlier m n Committed le h = refl
+earlier m n (Entry writer) le h = grind (arith, nat_tests)
+
+held_twice : (m n : ℕ) (s : Slot) → m ≤ n → held (Some n) (held (Some m) s) ≡ held (Some n) s
+held_twice m n s le = by_m (names_from m s.source) refl
+  where
+    by_m : (b : Bool) → names_from m s.source ≡ b → held (Some n) (if b then s else empty) ≡ held (Some n) s
     by_m true e = refl
-    by_m false e = let f : nat_le n s.serial ≡ false = grind (arith, nat_tests) in ap (λ b. if b then Some s else None) (sym f)
+    by_m false e = ap (λ b. if b then s else empty) (sym (earlier m n s.source le e))
 
 -- ---- the undo list without its oldest
 
-back_drop : (us : List Undo) (x : Undo) (r : ℕ) (p : Option Slot) → Falls (us ++ x ∷ []) → held (oldest_in (us ++ x ∷ [])) p ≡ slot_of (last_of r (us ++ x ∷ [])) → held (oldest_in us) p ≡ slot_of (last_of r us)
+back_drop : (us : List Undo) (x : Undo) (r : ℕ) (p : Slot) → Falls (us ++ x ∷ []) → held (oldest_in (us ++ x ∷ [])) p ≡ slot_of (last_of r (us ++ x ∷ [])) → held (oldest_in us) p ≡ slot_of (last_of r us)
 back_drop [] x r p f h = refl
 back_drop (u ∷ us) x r p f h =
     let s = oldest_some u us in
@@ -177,36 +193,36 @@ last_other (u ∷ us) x r h = ap (λ o. cond (u.write.register == r) (Some u.wri
 -- ---- the slots
 
 -- by whether the register is the one that is written
-by_register : (slots : List (Option Slot)) (reg r : ℕ) (v : Option Slot) (t : Option Slot) → length slots ≡ 32 → reg < 32 →
-    (b : Bool) → (reg == r) ≡ b → (b ≡ true → v ≡ t) → (b ≡ false → get_or slots r None ≡ t) → get_or (set slots reg v) r None ≡ t
+by_register : (slots : List Slot) (reg r : ℕ) (v t : Slot) → length slots ≡ 32 → reg < 32 →
+    (b : Bool) → (reg == r) ≡ b → (b ≡ true → v ≡ t) → (b ≡ false → get_or slots r empty ≡ t) → get_or (set slots reg v) r empty ≡ t
 by_register slots reg r v t n lt true q p o =
     let e : reg ≡ r = grind (arith, nat_tests) in
-    rw (← e) (get_or-set_same slots reg v None (omega arith)) ∙ p refl
+    rw (← e) (get_or-set_same slots reg v empty (omega arith)) ∙ p refl
 by_register slots reg r v t n lt false q p o =
     let e : r ≢ reg = grind (arith, nat_tests) in
-    get_or-set_other slots reg r v None e ∙ o refl
+    get_or-set_other slots reg r v empty e ∙ o refl
 
 -- undoing the youngest write
-pub undo_keeps : (slots : List (Option Slot)) (u : Undo) (older : List Undo) → length slots ≡ 32 → LeadsBack (u ∷ older) → IsTable slots (u ∷ older) → IsTable (set slots u.write.register (held (oldest_in older) u.previous)) older
+pub undo_keeps : (slots : List Slot) (u : Undo) (older : List Undo) → length slots ≡ 32 → LeadsBack (u ∷ older) → IsTable slots (u ∷ older) → IsTable (set slots u.write.register (held (oldest_in older) u.previous)) older
 undo_keeps slots u older n l t r lt =
     by_register slots u.write.register r (held (oldest_in older) u.previous) (slot_of (last_of r older)) n l.1 (u.write.register == r) refl
     (λ q. let e : u.write.register ≡ r = grind (arith, nat_tests) in l.0 ∙ ap (λ r. slot_of (last_of r older)) e)
     (λ q. t r lt ∙ ap (λ b. slot_of (cond b (Some u.write) (last_of r older))) q)
 
 -- writing
-pub write_keeps : (slots : List (Option Slot)) (w : Write) (p : Option Slot) (older : List Undo) → length slots ≡ 32 → w.register < 32 → IsTable slots older →
-    IsTable (set slots w.register (Some (record { serial = w.serial; root = w.root }))) (record { write = w; previous = p } ∷ older)
+pub write_keeps : (slots : List Slot) (w : Write) (p : Slot) (older : List Undo) → length slots ≡ 32 → w.register < 32 → IsTable slots older →
+    IsTable (set slots w.register (slot_of (Some w))) (record { write = w; previous = p } ∷ older)
 write_keeps slots w p older n lt t r rt =
     by_register slots w.register r _ _ n lt (w.register == r) refl
     (λ q. ap (λ b. slot_of (cond b (Some w) (last_of r older))) (sym q))
     (λ q. t r rt ∙ ap (λ b. slot_of (cond b (Some w) (last_of r older))) (sym q))
 
 -- the oldest retires
-pub retire_keeps : (slots : List (Option Slot)) (us : List Undo) (x : Undo) → length slots ≡ 32 → x.write.register < 32 → Falls (us ++ x ∷ []) → IsTable slots (us ++ x ∷ []) →
-    IsTable (set slots x.write.register (held (oldest_in us) (get_or slots x.write.register None))) us
+pub retire_keeps : (slots : List Slot) (us : List Undo) (x : Undo) → length slots ≡ 32 → x.write.register < 32 → Falls (us ++ x ∷ []) → IsTable slots (us ++ x ∷ []) →
+    IsTable (set slots x.write.register (forgotten x.write.serial (get_or slots x.write.register empty))) us
 retire_keeps slots us x n lt f t r rt =
     by_register slots x.write.register r _ (slot_of (last_of r us)) n lt (x.write.register == r) refl
     (λ q.
     let e : x.write.register ≡ r = grind (arith, nat_tests) in
-    ap (held (oldest_in us)) (t x.write.register lt) ∙ held_drop us x x.write.register f ∙ ap (λ r. slot_of (last_of r us)) e)
+    ap (forgotten x.write.serial) (ap (λ r. get_or slots r empty) e ∙ t r rt) ∙ forget_last us x r f q)
     (λ q. t r rt ∙ ap slot_of (last_other us x r q))

@@ -5,6 +5,7 @@ use Rattle.std.specs.Option.{option_map, option_or}
 use Rattle.rename_taint.specs.declared.Write.{Write}
 use Rattle.rename_taint.specs.declared.Source.{Source}
 use Rattle.rename_taint.specs.declared.Source.TheVariants.{Committed, Entry}
+use Rattle.rename_taint.specs.Writes.{source_from, root_from}
 use Rattle.rename_taint.specs.declared.slots.Slot.{Slot}
 use Rattle.rename_taint.specs.declared.slots.Undo.{Undo}
 
@@ -13,18 +14,12 @@ abbrev pub writes_of : List Undo → List Write
 writes_of undo = map (λ u. u.write) undo
 
 -- what a slot says of a register's last write
-abbrev pub slot_of : Option Write → Option Slot
-slot_of o = option_map (λ (w : Write). record { serial = w.serial; root = w.root }) o
+abbrev pub slot_of : Option Write → Slot
+slot_of o = record { source = source_from o; root = root_from o }
 
--- the writer that a slot names
-abbrev pub source_in : Option Slot → Source
-source_in None = Committed
-source_in (Some s) = Entry s.serial
-
--- the root that it names
-abbrev pub root_in : Option Slot → Option ℕ
-root_in None = None
-root_in (Some s) = s.root
+-- what it says where there is none
+abbrev pub empty : Slot
+empty = slot_of None
 
 -- the serial of the oldest write that is held
 abbrev pub oldest_of : List Undo → Option ℕ
@@ -39,11 +34,24 @@ is_first p (u ∷ us) = p u
 abbrev pub is_last : (Undo → Bool) → List Undo → Bool
 is_last p undo = is_first p (reverse undo)
 
+-- a value stands with the entry of this serial
+abbrev pub names : ℕ → Source → Bool
+names serial Committed = false
+names serial (Entry writer) = writer == serial
+
+-- what a slot says once this entry has retired
+abbrev pub forgotten : ℕ → Slot → Slot
+forgotten serial s = if names serial s.source then empty else s
+
+-- a value stands with an entry from this serial on
+abbrev pub names_from : ℕ → Source → Bool
+names_from oldest Committed = false
+names_from oldest (Entry writer) = nat_le oldest writer
+
 -- what a slot still says where this is the oldest serial that is held: nothing of a writer that has retired
-abbrev pub held : Option ℕ → Option Slot → Option Slot
-held None s = None
-held (Some oldest) None = None
-held (Some oldest) (Some s) = if nat_le oldest s.serial then Some s else None
+abbrev pub held : Option ℕ → Slot → Slot
+held None s = empty
+held (Some oldest) s = if names_from oldest s.source then s else empty
 
 -- ---- the undo list from its youngest on
 
@@ -66,11 +74,11 @@ abbrev pub Linked : List Undo → Type 0
 Linked undo = (i : ℕ) (d : Undo) → i < length undo → LinkedTo (drop (suc i) undo) (get_or undo i d)
 
 -- each slot says what the last write of its register does
-abbrev pub IsTable : List (Option Slot) → List Undo → Type 0
-IsTable slots undo = (r : ℕ) → r < 32 → slice_index_or slots r None ≡ slot_of (last_of r undo)
+abbrev pub IsTable : List Slot → List Undo → Type 0
+IsTable slots undo = (r : ℕ) → r < 32 → slice_index_or slots r empty ≡ slot_of (last_of r undo)
 
 -- the slots stand for the writes of the undo list, which is oldest first
-pub record Table (slots : List (Option Slot)) (undo : List Undo) : Type 0 where
+pub record Table (slots : List Slot) (undo : List Undo) : Type 0 where
   pub registers : length slots ≡ 32
   pub cells : IsTable slots (reverse undo)
   pub linked : Linked (reverse undo)

@@ -1,17 +1,17 @@
 //! The writes as a slot for each register, and a list to undo them by.
 //!
-//! A slot has the register's youngest writer and the youngest root of its value, so a look-up takes constant time. Each write
-//! that is held stands in a list with what its slot held before. A squash goes back over the list from its youngest end and
-//! restores the slots; a retirement takes the oldest off, and clears its slot where it was the last write. So what a list
-//! entry restores may name a writer that has retired since: that is one older than the oldest write that is held, and counts
-//! as none.
-ghost use Rattle.std.specs.Prelude.{◌≡◌, ◌-◌, ◌<◌, ◌∷◌, ◌++◌, [], ◌==◌, length, nat_le, nat_lt, reverse, take, drop};
+//! A slot has the register's youngest writer and the youngest root of its value, so a look-up takes constant time, and copies
+//! what it finds with no test. Each write that is held stands in a list with what its slot held before. A squash goes back over
+//! the list from its youngest end and restores the slots; a retirement takes the oldest off, and clears its slot where it was
+//! the last write. So what a list entry restores may name a writer that has retired since: that is one older than the oldest
+//! write that is held, and counts as none.
+ghost use Rattle.std.specs.Prelude.{◌≡◌, ◌-◌, ◌<◌, ◌∷◌, ◌++◌, [], ◌==◌, length, nat_le, nat_lt, reverse, take, drop, slice_index_or, slice_set};
 ghost use Rattle.std.specs.List.{filter, list_any, All};
 ghost use Rattle.circular_buffer.specs.Buffer.{buffer};
-ghost use Rattle.rename_taint.specs.Writes.{before_serial};
-ghost use Rattle.rename_taint.specs.Table.{Table, Linked, writes_of, held, oldest_of, is_first, is_last, source_in, root_in};
+ghost use Rattle.rename_taint.specs.Writes.{before_serial, without_retired};
+ghost use Rattle.rename_taint.specs.Table.{Table, Linked, writes_of, empty, names, forgotten, held, oldest_of, is_first, is_last};
 
-use crate::slots::{Slot, Undo};
+use crate::slots::{EMPTY, Slot, Undo};
 use crate::{RenameTaint, Source, Write};
 use circular_buffer::HeapCircularBuffer;
 use machine_desc::Desc;
@@ -21,7 +21,7 @@ use std::alloc::Global;
 /// The youngest writer and root of each register, and a list of the writes to undo them by.
 #[derive(Drop)]
 pub struct ByTable {
-    slots: [Option<Slot>; 32],
+    slots: [Slot; 32],
     undo: HeapCircularBuffer<Undo>,
     ghost table: { Table slots undo.items },
 }
@@ -34,7 +34,7 @@ impl RenameTaint for ByTable {
     fn new(alloc: Global, desc: &Desc) -> Result<Self, NoMemory> {
         match HeapCircularBuffer::with_capacity(alloc, desc.core_rob as usize) {
             Ok(undo) => Ok(ByTable {
-                slots: [None; 32],
+                slots: [EMPTY; 32],
                 undo,
             }),
             Err(_) => Err(NoMemory),
@@ -42,11 +42,11 @@ impl RenameTaint for ByTable {
     }
 
     fn source(&self, register: Reg) -> Source {
-        source_in(self.slots[register.number as usize])
+        self.slots[register.number as usize].source
     }
 
     fn root(&self, register: Reg) -> Option<u64> {
-        root_in(self.slots[register.number as usize])
+        self.slots[register.number as usize].root
     }
 
     fn write(&mut self, register: Reg, serial: u64, root: Option<u64>) {
@@ -63,8 +63,8 @@ impl RenameTaint for ByTable {
             pop_oldest(&mut self.slots, &mut self.undo);
             return;
         }
-        if is_held(&self.undo, serial) {
-            retire_to(&mut self.slots, &mut self.undo, serial);
+        if is_front_up_to(&self.undo, serial) {
+            retire_held(&mut self.slots, &mut self.undo, serial);
         }
     }
 
@@ -73,28 +73,8 @@ impl RenameTaint for ByTable {
     }
 }
 
-// The writer that a slot names.
-fn source_in(slot: Option<Slot>) -> Source
-    ensures { result ≡ source_in slot }
-{
-    match slot {
-        Some(found) => Source::Entry(found.serial),
-        None => Source::Committed,
-    }
-}
-
-// The root that a slot names.
-fn root_in(slot: Option<Slot>) -> Option<u64>
-    ensures { result ≡ root_in slot }
-{
-    match slot {
-        Some(found) => found.root,
-        None => None,
-    }
-}
-
 // Adds a write.
-fn append(slots: &mut [Option<Slot>], undo: &mut HeapCircularBuffer<Undo>, write: Write)
+fn append(slots: &mut [Slot], undo: &mut HeapCircularBuffer<Undo>, write: Write)
     requires table { Table slots.old undo.old.items }
     requires register { write.register < 32 }
     requires room { length undo.old.items < undo.old.capacity }
@@ -104,10 +84,10 @@ fn append(slots: &mut [Option<Slot>], undo: &mut HeapCircularBuffer<Undo>, write
     ensures same_room { undo.new.capacity ≡ undo.old.capacity }
 {
     let previous = slots[write.register as usize];
-    slots[write.register as usize] = Some(Slot {
-        serial: write.serial,
+    slots[write.register as usize] = Slot {
+        source: Source::Entry(write.serial),
         root: write.root,
-    });
+    };
     push_within(undo, Undo { write, previous });
 }
 
@@ -135,39 +115,58 @@ fn is_held(undo: &HeapCircularBuffer<Undo>, serial: u64) -> bool
 }
 
 // What a slot's content says, where these writes are held: nothing of a writer that has retired.
-fn still_held(undo: &HeapCircularBuffer<Undo>, slot: Option<Slot>) -> Option<Slot>
+fn still_held(undo: &HeapCircularBuffer<Undo>, slot: Slot) -> Slot
     ensures { result ≡ held (oldest_of undo.now.items) slot }
 {
     let Some(oldest) = undo.front().copied() else {
-        return None;
+        return EMPTY;
     };
-    match slot {
-        Some(found) if oldest.write.serial <= found.serial => slot,
-        _ => None,
+    match slot.source {
+        Source::Entry(serial) if oldest.write.serial <= serial => slot,
+        _ => EMPTY,
     }
 }
 
 // What the slot held before a write, where these older writes are held.
-fn restored(undo: &HeapCircularBuffer<Undo>, youngest: &Undo) -> Option<Slot>
+fn restored(undo: &HeapCircularBuffer<Undo>, youngest: &Undo) -> Slot
     ensures { result ≡ held (oldest_of undo.now.items) youngest.now.previous }
 {
     still_held(undo, youngest.previous)
 }
 
+// Whether the value stands with this entry.
+fn names(source: Source, serial: u64) -> bool
+    ensures { result ≡ names serial source }
+{
+    match source {
+        Source::Entry(writer) => writer == serial,
+        Source::Committed => false,
+    }
+}
+
+// Clears the register's slot, where it names this entry.
+fn forget(slots: &mut [Slot], register: u8, serial: u64)
+    requires { register < length slots.old }
+    ensures { slots.new ≡ slice_set slots.old register (forgotten serial (slice_index_or slots.old register empty)) }
+{
+    if names(slots[register as usize].source, serial) {
+        slots[register as usize] = EMPTY;
+    }
+}
+
 // Lets go of the oldest write.
-fn pop_oldest(slots: &mut [Option<Slot>], undo: &mut HeapCircularBuffer<Undo>)
+fn pop_oldest(slots: &mut [Slot], undo: &mut HeapCircularBuffer<Undo>)
     requires table { Table slots.old undo.old.items }
     ensures table { Table slots.new undo.new.items }
     ensures left { undo.new ≡ buffer (drop 1 undo.old.items) undo.old.capacity }
 {
     if let Some(oldest) = undo.pop_front() {
-        let register = oldest.write.register as usize;
-        slots[register] = still_held(undo, slots[register]);
+        forget(slots, oldest.write.register, oldest.write.serial);
     }
 }
 
 // Undoes the youngest write.
-fn pop_youngest(slots: &mut [Option<Slot>], undo: &mut HeapCircularBuffer<Undo>)
+fn pop_youngest(slots: &mut [Slot], undo: &mut HeapCircularBuffer<Undo>)
     requires table { Table slots.old undo.old.items }
     ensures table { Table slots.new undo.new.items }
     ensures left { undo.new ≡ buffer (take (length undo.old.items - 1) undo.old.items) undo.old.capacity }
@@ -207,8 +206,23 @@ fn is_back_from(undo: &HeapCircularBuffer<Undo>, first: u64) -> bool
     }
 }
 
+// Lets go of the write with this serial and of the older ones, where it is held. An entry that retires has the oldest write
+// that is held, or none.
+#[cold]
+#[inline(never)]
+fn retire_held(slots: &mut [Slot], undo: &mut HeapCircularBuffer<Undo>, serial: u64)
+    requires table { Table slots.old undo.old.items }
+    ensures table { Table slots.new undo.new.items }
+    ensures left { writes_of undo.new.items ≡ without_retired serial (writes_of undo.old.items) }
+    ensures same_room { undo.new.capacity ≡ undo.old.capacity }
+{
+    if is_held(undo, serial) {
+        retire_to(slots, undo, serial);
+    }
+}
+
 // Lets go of the writes up to a serial.
-fn retire_to(slots: &mut [Option<Slot>], undo: &mut HeapCircularBuffer<Undo>, serial: u64)
+fn retire_to(slots: &mut [Slot], undo: &mut HeapCircularBuffer<Undo>, serial: u64)
     requires table { Table slots.old undo.old.items }
     ensures table { Table slots.new undo.new.items }
     ensures left { writes_of undo.new.items ≡ filter (λ w. nat_lt serial w.serial) (writes_of undo.old.items) }
@@ -223,7 +237,7 @@ fn retire_to(slots: &mut [Option<Slot>], undo: &mut HeapCircularBuffer<Undo>, se
 }
 
 // Undoes the writes from a serial on, youngest first.
-fn undo_from(slots: &mut [Option<Slot>], undo: &mut HeapCircularBuffer<Undo>, first: u64)
+fn undo_from(slots: &mut [Slot], undo: &mut HeapCircularBuffer<Undo>, first: u64)
     requires table { Table slots.old undo.old.items }
     ensures table { Table slots.new undo.new.items }
     ensures left { writes_of undo.new.items ≡ before_serial first (writes_of undo.old.items) }

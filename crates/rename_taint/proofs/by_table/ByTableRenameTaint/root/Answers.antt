@@ -1,6 +1,5 @@
-use Rattle.std.proofs.Common.{refl, ◌∙◌}
 use Rattle.rename_taint.proofs.Tables.{root_is}
 use Rattle.rename_taint.proofs.by_table.ByTableRenameTaint.root.Goals as goal
 
 pub returns : goal.returns
-returns c = c.root_in.ensures ∙ root_is c.args.self.now.slots c.args.self.now.undo.items c.args.register.number _ c.args.self.now.table c.args.register.in_range refl
+returns c = root_is c.args.self.now.slots c.args.self.now.undo.items c.args.register.number c.args.self.now.table c.args.register.in_range
