@@ -50,6 +50,8 @@ fn done(instr: Instr, value: u32, next: u32, fault: Option<Cause>) -> Entry
         state: Progress::Done,
         outcome: Some(outcome),
         resolved: false,
+        addr_due: None,
+        data_due: None,
     }
 }
 

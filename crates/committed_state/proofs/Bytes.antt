@@ -1,24 +1,27 @@
 -- A load's bytes are those of the replay's memory.
-use Rattle.std.proofs.Common.{◌≡◌, ℕ, zero, suc, ◌+◌, ◌-◌, ◌<◌, ◌≤◌, Bool, true, false, not, ◌&&◌, List, [], ◌∷◌, length, get_or, take, drop, Option, Some, None, refl, ap, sym, ◌∙◌, arith}
+use Rattle.std.proofs.Common.{◌≡◌, ℕ, zero, suc, ◌+◌, ◌-◌, ◌<◌, ◌≤◌, Bool, true, false, not, ◌&&◌, List, [], ◌∷◌, length, get_or, take, drop, Option, Some, None, refl, ap, sym, ◌∙◌, subst, arith}
 use Rattle.std.proofs.lemmas.List.{drop_more}
 use Rattle.std.proofs.lemmas.Bool.Decides.{nat_tests}
 use Rattle.std.specs.Prelude.{if◌then◌else◌, is_some, nat_le, nat_lt, slice_index, slice_range}
-use Rattle.std.specs.List.{find}
+use Rattle.std.specs.List.{find, list_all}
 use Rattle.rv_types.specs.Word.{to_le}
-use Rattle.rv_types.specs.Memory.{Ram, with_bytes, store_fault, bytes_at}
+use Rattle.rv_types.specs.Memory.{Code, Ram, with_bytes, store_fault, bytes_at}
 use Rattle.rv_types.specs.declared.Cause.{Cause}
 use Rattle.rv_types.specs.declared.Kind.{Kind}
 use Rattle.rv_types.specs.declared.Kind.TheVariants.{Store}
 use Rattle.window_model.specs.declared.Entry.{Entry}
 use Rattle.window_model.specs.declared.Outcome.{Outcome}
-use Rattle.window_model.specs.Order.{is_store}
+use Rattle.window_model.specs.Along.{Behind}
+use Rattle.window_model.specs.Order.{is_store, has_address, has_data}
 use Rattle.window_model.specs.Retire.{addr_of, stored_of, width_of}
-use Rattle.window_model.specs.Access.{reaches, covers, byte_of, load_bytes}
-use Rattle.committed_state.specs.Replay.{Bank, bank, replayed, replayed_as, Replayed, ram_after, stored_unless}
-use Rattle.committed_state.specs.Computed.{ComesTo}
+use Rattle.window_model.specs.Access.{reaches, covers, byte_of, byte_from}
+use Rattle.committed_state.specs.Replay.{Bank, bank, bank_after, replayed, replayed_as, Replayed, ram_after, stored_unless}
+use Rattle.committed_state.specs.Computed.{ComesTo, as_known, as_known_by, bytes_found, known_of}
+use Rattle.committed_state.specs.Consistent.{FitsParts, Stands, is_issued, shares, stands_before}
+use Rattle.window_model.proofs.Booleans.{both}
 use Rattle.window_model.specs.Shape.{SameShape}
 use Rattle.window_model.proofs.Memory.{length_to_le, inside, read_before, read_within, read_after, same_shape, shape_then, store_keeps}
-use Rattle.committed_state.proofs.Onward.{byte_pick}
+use Rattle.committed_state.proofs.Onward.{InLoad, before_address, before_data, byte_pick, shares_byte}
 
 stored_keeps : (c : Option Cause) (ram : Ram) (a n v : ℕ) → store_fault ram a n ≡ c → SameShape ram (stored_unless c ram a (to_le n v))
 stored_keeps (Some c) ram a n v h = same_shape ram
@@ -36,12 +39,8 @@ keeps_bank s (e ∷ before) =
     let r = keeps_bank s before in
     shape_then s.ram (bank s before).ram (bank s (e ∷ before)).ram r k
 
--- each store has been executed
-abbrev pub KnownStores : List Entry → Type 0
-KnownStores [] = Unit {0}
-KnownStores (e ∷ before) = (is_store e.item.kind ≡ true → is_some e.outcome ≡ true) × KnownStores before
-
-abbrev Byte : Ram → ℕ → ℕ
+-- the byte of memory at an address
+abbrev pub Byte : Ram → ℕ → ℕ
 Byte ram a = slice_index ram.bytes (a - ram.base)
 
 -- a byte after a store without fault: the store's where it covers it
@@ -72,27 +71,53 @@ by_fault : (m : Ram) (f : Option Cause) (a n v b o : ℕ) → store_fault m a n 
 by_fault m (Some c) a n v b o h le e = e
 by_fault m None a n v b o h le e = one_store m a n v b b o h le (nat_le a b) (nat_lt b (a + n)) refl refl e
 
+-- an outcome that is there
 pub some_is : (c : Option Outcome) (v : Outcome) → ComesTo c v → is_some c ≡ true → c ≡ Some v
 some_is None v r h = absurd (cc)
 some_is (Some o) v r h = ap Some r
 
-by_kind : (k : Kind) (s : Bank) (ram : Ram) (e : Entry) (b : ℕ) (o : Option Entry) → e.item.kind ≡ k → (is_store k ≡ true → is_some e.outcome ≡ true) → ComesTo e.outcome (replayed s e) → s.ram.base ≤ b →
-    byte_of ram b o ≡ Byte s.ram b → byte_of ram b (if is_store k && reaches b (width_of e) e.outcome then Some e else o) ≡ Byte (ram_after k s.ram e.item.instr (replayed_as k s e)) b
-by_kind Store s ram e b o q st r le h =
-    let done : e.outcome ≡ Some (replayed_as Store s e) = some_is e.outcome (replayed s e) r (st refl) ∙ ap (λ k. Some (replayed_as k s e)) q in
-    let F : Option Outcome → ℕ = λ c.
-    if reaches b (width_of e) c then slice_index (to_le (width_of e) (stored_of c)) (b - addr_of c) else byte_of ram b o in
-    let out = replayed_as Store s e in
-    byte_pick (reaches b (width_of e) e.outcome) ram b e o
-    ∙ ap F done
-    ∙ by_fault s.ram out.fault out.addr (width_of e) out.stored b (byte_of ram b o) refl le h
-by_kind _ s ram e b o q st r le h = h
+-- ---- a byte after one entry more
 
-pub byte_is : (s : Bank) (before : List Entry) (b : ℕ) → s.ram.base ≤ b → Replayed s before → KnownStores before → byte_of s.ram b (find (covers b) before) ≡ Byte (bank s before).ram b
-byte_is s [] b le r st = refl
-byte_is s (e ∷ before) b le r st =
-    let k = keeps_bank s before in
-    by_kind e.item.kind (bank s before) s.ram e b (find (covers b) before) refl st.0 r.0 (rw k.base le) (byte_is s before b le r.1 st.1)
+if_same : (c : Bool) (x y o : ℕ) → (c ≡ true → x ≡ y) → (if c then x else o) ≡ (if c then y else o)
+if_same true x y o h = h refl
+if_same false x y o h = refl
+
+-- a store of known address, whose data is known where it covers the byte
+store_byte : (m : Bank) (e : Entry) (b v : ℕ) → ComesTo e.outcome (known_of true (has_data e) (replayed_as Store m e)) → is_some e.outcome ≡ true → (reaches b (width_of e) e.outcome ≡ true → has_data e ≡ true) → m.ram.base ≤ b → v ≡ Byte m.ram b →
+    (if reaches b (width_of e) e.outcome then byte_from b e else v) ≡ Byte (ram_after Store m.ram e.item.instr (replayed_as Store m e)) b
+store_byte m e b v c i d le h =
+    let r = replayed_as Store m e in
+    let done : e.outcome ≡ Some (known_of true (has_data e) r) = some_is e.outcome _ c i in
+    let F : Option Outcome → ℕ = λ c.
+    if reaches b (width_of e) c then slice_index (to_le (width_of e) (stored_of c)) (b - addr_of c) else v in
+    ap F done
+    ∙ if_same _ _ _ v (λ t. ap (λ h. slice_index (to_le (width_of e) (if h then r.stored else 0)) (b - r.addr)) (d (ap (reaches b (width_of e)) done ∙ t)))
+    ∙ by_fault m.ram r.fault r.addr (width_of e) r.stored b v refl le h
+
+reached : (s h r : Bool) → s ≡ true → h ≡ true → (s && h && r) ≡ r
+reached true true r p q = refl
+reached true false r p q = absurd (cc)
+reached false h r p q = absurd (cc)
+
+-- of a store what its byte needs: its address, and its data where it covers the byte
+pub record Covering (e : Entry) (b : ℕ) : Type 0 where
+  pub address : has_address e ≡ true
+  pub issued : is_some e.outcome ≡ true
+  pub datum : covers b e ≡ true → has_data e ≡ true
+
+-- the byte that is found behind an entry is that of the replay after it
+pub one_byte : (ram : Ram) (m : Bank) (e : Entry) (b : ℕ) (o : Option Entry) → (is_store e.item.kind ≡ true → Covering e b) → ComesTo e.outcome (as_known e (replayed m e)) → m.ram.base ≤ b → byte_of ram b o ≡ Byte m.ram b →
+    byte_of ram b (if covers b e then Some e else o) ≡ Byte (bank_after e m).ram b
+one_byte ram m e b o st r le h = by_kind e.item.kind refl r
+  where
+    by_kind : (k : Kind) → e.item.kind ≡ k → ComesTo e.outcome (as_known_by k (has_address e) (has_data e) (replayed_as k m e)) → byte_of ram b (if covers b e then Some e else o) ≡ Byte (ram_after k m.ram e.item.instr (replayed_as k m e)) b
+    by_kind Store q r =
+        let t : is_store e.item.kind ≡ true = ap is_store q in
+        let c = st t in
+        let found : covers b e ≡ reaches b (width_of e) e.outcome = reached (is_store e.item.kind) (has_address e) _ t c.address in
+        byte_pick (covers b e) ram b e o ∙ ap (λ f. if f then byte_from b e else byte_of ram b o) found
+        ∙ store_byte m e b (byte_of ram b o) (subst (λ h. ComesTo e.outcome (known_of h (has_data e) (replayed_as Store m e))) c.address r) c.issued (λ t. c.datum (found ∙ t)) le h
+    by_kind _ q r = let n : is_store e.item.kind ≡ false = ap is_store q in let none : (if covers b e then byte_from b e else byte_of ram b o) ≡ byte_of ram b o = rw n refl in byte_pick (covers b e) ram b e o ∙ none ∙ h
 
 pub slice_step : (bytes : List ℕ) (k n : ℕ) → k < length bytes → slice_range bytes k (k + suc n) ≡ get_or bytes k 0 ∷ slice_range bytes (k + 1) (k + 1 + n)
 slice_step bytes k n lt =
@@ -100,20 +125,48 @@ slice_step bytes k n lt =
     let b : k + 1 + n - (k + 1) ≡ n = omega arith in
     rw (a, b) (rw (drop_more bytes k 0 lt) refl)
 
--- the bytes of a load are the replay's, where older stores have been executed
-pub load_bytes_are : (s : Bank) (before : List Entry) (a n : ℕ) → s.ram.base ≤ a → a + n ≤ s.ram.base + length s.ram.bytes → Replayed s before → KnownStores before → load_bytes s.ram before a n ≡ bytes_at (bank s before).ram a n
-load_bytes_are s before a zero le fits r st =
-    let m = (bank s before).ram in
-    let z : a - m.base + 0 - (a - m.base) ≡ 0 = omega arith in
-    sym (ap (λ j. take j (drop (a - m.base) m.bytes)) z)
-load_bytes_are s before a (suc n) le fits r st =
-    let m = (bank s before).ram in
-    let k = keeps_bank s before in
-    let shift : a + 1 - m.base ≡ a - m.base + 1 = omega (arith, k.base) in
-    let lt : a - m.base < length m.bytes = omega (arith, k.base, k.size) in
-    let one = byte_is s before a le r st in
-    let rest = load_bytes_are s before (a + 1) n (omega arith) (omega arith) r st in
-    let step = slice_step m.bytes (a - m.base) n lt in
-    ap (λ (b : ℕ). b ∷ load_bytes s.ram before (a + 1) n) one
-    ∙ ap (λ (bs : List ℕ). Byte m a ∷ bs) (rest ∙ ap (λ j. slice_range m.bytes j (j + n)) shift)
-    ∙ sym step
+-- ---- a load behind stores that let it go
+
+-- a store with its address has issued
+pub store_issued : (k : Kind) (a c i : Bool) → is_store k ≡ true → FitsParts k a c i → a ≡ true → i ≡ true
+store_issued Store true c i q p h = p
+store_issued Store false c i q p h = absurd (cc)
+store_issued _ a c i q p h = absurd (cc)
+
+module _ (code : Code) (s : Bank) (l : Entry) where
+  -- of an older store what a byte of the load needs
+  covering : (before : List Entry) (e : Entry) (b : ℕ) → InLoad l b → Stands code s before e → stands_before l e ≡ true → is_store e.item.kind ≡ true → Covering e b
+  covering before e b i st sb q =
+      let address = before_address (is_store e.item.kind) (has_address e) (has_data e) (shares e l) q sb in
+      record {
+        address = address;
+        issued = store_issued e.item.kind (has_address e) (has_data e) (is_issued e) q st.parts address;
+        datum = λ c. before_data (is_store e.item.kind) (has_address e) (has_data e) (shares e l) q sb (shares_byte l e b i c);
+      }
+
+  -- a byte of the load
+  byte_is : (before : List Entry) (b : ℕ) → s.ram.base ≤ b → InLoad l b → Behind (Stands code s) before → list_all (stands_before l) before ≡ true → Replayed s before → byte_of s.ram b (find (covers b) before) ≡ Byte (bank s before).ram b
+  byte_is [] b le i st sb r = refl
+  byte_is (e ∷ before) b le i st sb r =
+      let k = keeps_bank s before in
+      let ss = both (stands_before l e) _ sb in
+      one_byte s.ram (bank s before) e b (find (covers b) before) (covering before e b i st.0 ss.0) r.0 (rw k.base le) (byte_is before b le i st.1 ss.1 r.1)
+
+  -- the bytes of a load are the replay's
+  pub load_bytes_are : (before : List Entry) (a n : ℕ) → s.ram.base ≤ a → a + n ≤ s.ram.base + length s.ram.bytes → ((x : ℕ) → a ≤ x → x < a + n → InLoad l x) →
+      Behind (Stands code s) before → list_all (stands_before l) before ≡ true → Replayed s before → bytes_found s.ram before l a n ≡ bytes_at (bank s before).ram a n
+  load_bytes_are before a zero le fits i st sb r =
+      let m = (bank s before).ram in
+      let z : a - m.base + 0 - (a - m.base) ≡ 0 = omega arith in
+      sym (ap (λ j. take j (drop (a - m.base) m.bytes)) z)
+  load_bytes_are before a (suc n) le fits i st sb r =
+      let m = (bank s before).ram in
+      let k = keeps_bank s before in
+      let shift : a + 1 - m.base ≡ a - m.base + 1 = omega (arith, k.base) in
+      let lt : a - m.base < length m.bytes = omega (arith, k.base, k.size) in
+      let one = byte_is before a le (i a (omega arith) (omega arith)) st sb r in
+      let rest = load_bytes_are before (a + 1) n (omega arith) (omega arith) (λ x le lt. i x (omega (arith, le)) (omega (arith, lt))) st sb r in
+      let step = slice_step m.bytes (a - m.base) n lt in
+      ap (λ (b : ℕ). b ∷ bytes_found s.ram before l (a + 1) n) one
+      ∙ ap (λ (bs : List ℕ). Byte m a ∷ bs) (rest ∙ ap (λ j. slice_range m.bytes j (j + n)) shift)
+      ∙ sym step

@@ -35,6 +35,7 @@ complete_one code s cycle b e h st = by_due (completes_at cycle e.state) refl
     by_due true q = record {
       stands = record {
         item = st.item;
+        parts = st.parts;
         state = fits_done e.state e cycle q st.state;
         computed = st.computed;
         operands = st.operands;
@@ -42,7 +43,7 @@ complete_one code s cycle b e h st = by_due (completes_at cycle e.state) refl
         through = st.through;
         alone = st.alone;
       };
-      moves = record { item = refl; done = λ h. (refl, refl) };
+      moves = record { item = refl; done = λ h. (refl, refl); address = λ h. (h, refl); stored = λ h. (h, refl) };
       link = refl;
     }
 

@@ -1,44 +1,39 @@
--- Issue: what begins to execute gets what it computes.
-use Rattle.std.proofs.Common.{◌≡◌, ℕ, Bool, true, false, List, [], Option, Some, None, refl, ap, sym, subst}
-use Rattle.std.specs.Prelude.{if◌then◌else◌}
+-- Issue: what begins to execute gets what it computes, and a store's parts make known what they compute.
+use Rattle.std.proofs.Common.{◌≡◌, ℕ, Bool, true, false, ◌||◌, List, [], Option, Some, None, refl, ap, sym, ◌∙◌, subst}
+use Rattle.std.specs.List.{list_all}
 use Rattle.rv_types.specs.Memory.{Code, load_fault}
 use Rattle.rv_types.specs.Isa.{Effect}
 use Rattle.rv_types.specs.declared.Cause.{Cause}
 use Rattle.rv_types.specs.declared.Kind.{Kind}
-use Rattle.rv_types.specs.declared.Kind.TheVariants.{Mul, Div, Load, Store}
+use Rattle.rv_types.specs.declared.Kind.TheVariants.{Load, Store}
 use Rattle.machine_desc.specs.declared.Desc.{Desc}
 use Rattle.window_model.specs.declared.Entry.{Entry}
 use Rattle.window_model.specs.declared.Outcome.{Outcome}
 use Rattle.window_model.specs.declared.Progress.{Progress}
 use Rattle.window_model.specs.declared.Progress.TheVariants.{Waiting, Busy, Done}
 use Rattle.window_model.specs.State.{Machine}
-use Rattle.window_model.specs.Order.{is_waiting, is_done, is_load, ready, first}
+use Rattle.window_model.specs.Order.{is_waiting, is_done, is_load, is_store, has_address, has_data, ready, sources, first}
 use Rattle.window_model.specs.Retire.{width_of, hart_of}
 use Rattle.window_model.specs.Access.{access_at}
 use Rattle.window_model.specs.Around.{Around, around}
-use Rattle.window_model.specs.Issue.{DivPort, LoadPort, issue, issue_entry, begin_as, begun, divider_after, effect_of, load_as, may_at, outcome, stores_done, Begun}
+use Rattle.window_model.specs.Issue.{DivPort, LoadPort, issue, issue_entry, begin_as, begun, divider_after, effect_of, load_as, may_at, may_issue_as, outcome, Begun}
 use Rattle.window_model.specs.Rename.{at_once}
-use Rattle.committed_state.specs.Computed.{Bank, bytes_over, computed, loaded_or, outcome_as}
+use Rattle.committed_state.specs.Computed.{ComesTo, as_known, as_known_by, bytes_over, computed, loaded_or, outcome_as}
 use Rattle.window_model.specs.Along.{Behind}
-use Rattle.committed_state.specs.Links.{Link, true_next}
-use Rattle.committed_state.specs.Consistent.{Stands, Holds, Consistent, FitsState, bank_in}
-use Rattle.committed_state.proofs.Onward.{Moves, moves_same}
+use Rattle.committed_state.specs.Consistent.{Stands, Holds, Consistent, FitsParts, FitsState, HasOperands, all_issued_by, is_issued, stands_before}
+use Rattle.committed_state.proofs.Computed.{address_is}
+use Rattle.committed_state.proofs.Letting.{stands_behind}
+use Rattle.committed_state.proofs.Parts.{bank_of, parts_so, same_link}
+use Rattle.committed_state.proofs.Onward.{Moves, load_out, moves_same}
 use Rattle.committed_state.proofs.Kept.{Kept, each_holds}
-use Rattle.window_model.specs.declared.Item.{Item}
 use Rattle.window_model.specs.declared.Divider.{Divider}
 use Rattle.window_model.proofs.EntryByEntry.{map_each}
-use Rattle.window_model.proofs.Issuing.{by_after_load, by_issue, by_served, load_behind}
+use Rattle.window_model.proofs.Issuing.{MayIssue, by_after_load, by_issue, by_served, load_behind}
 
 -- an entry stays as it is, or begins with this outcome
 data Comes (e : Entry) (o : Outcome) (r : Entry) : Type 0 where
   Remains : r ≡ e → Comes e o r
   Begins : (due : ℕ) → r ≡ begun e due o → Comes e o r
-
-abbrev made_link : Item → Option ℕ → Link
-made_link i n = record { pc = i.pc; next = n }
-
-abbrev bank_of : Machine → Bank
-bank_of x = bank_in (hart_of x)
 
 -- ---- what an entry gets is what it computes
 
@@ -51,37 +46,69 @@ module _ (d : Desc) (now : Around) (e : Entry) (f : Effect) (bytes : List ℕ) w
   load_comes b a n None =
       by_served d now (λ a. Comes e (outcome f Value None) (load_as a d now e f Value).entry) (Begins _ refl) (λ line room. Begins _ refl) (λ full. Remains refl) b a n
 
-comes : (d : Desc) (x : Machine) (b : List Entry) (e : Entry) (k : Kind) → let f = effect_of x.regs b e in Comes e (outcome_as k x.ram e.item.instr f (bytes_over (bank_of x) b e f.addr)) (begin_as k d (around x) b e).entry
-comes d x b e Load = let f = effect_of x.regs b e in load_comes d (around x) e f (bytes_over (bank_of x) b e f.addr) b f.addr (width_of e) (load_fault x.ram f.addr (width_of e))
-comes d x b e _ = Begins _ refl
+comes : (d : Desc) (x : Machine) (b : List Entry) (e : Entry) (k : Kind) → is_store k ≡ false → let f = effect_of x.regs b e in Comes e (outcome_as k x.ram e.item.instr f (bytes_over (bank_of x) b e f.addr)) (begin_as k d (around x) b e).entry
+comes d x b e Load n = let f = effect_of x.regs b e in load_comes d (around x) e f (bytes_over (bank_of x) b e f.addr) b f.addr (width_of e) (load_fault x.ram f.addr (width_of e))
+comes d x b e Store n = absurd (cc)
+comes d x b e _ n = Begins _ refl
 
--- fetch goes on as predicted after what is not resolved
-same_link : (u : Bool) (e e2 : Entry) → e2.item ≡ e.item → u ≡ false → made_link e2.item (if u then true_next e2 else e2.item.predicted) ≡ made_link e.item (if u then true_next e else e.item.predicted)
-same_link false e e2 h n = ap (λ (i : Item). made_link i i.predicted) h
-same_link true e e2 h n = absurd (cc)
+-- of what goes in one piece all is known at once
+whole_known : (k : Kind) (a c : Bool) (o : Outcome) → is_store k ≡ false → as_known_by k a c o ≡ o
+whole_known Store a c o n = absurd (cc)
+whole_known _ a c o n = refl
 
-module _ (code : Code) (x : Machine) (b : List Entry) (e : Entry) (st : Stands code (bank_of x) b e) (rd : ready b e ≡ true) where
-  stays_so : (t : Progress) → is_waiting t ≡ true → (e2 : Entry) → FitsState t e2 → (e2.resolved ≡ false) × (at_once e2.item.kind ≡ false) × (is_done t ≡ true → ⊥)
-  stays_so Waiting w e2 h = (h.1, h.2, λ q. absurd (cc))
-  stays_so Done w e2 h = absurd (cc)
-  stays_so (Busy due) w e2 h = absurd (cc)
+whole_issued : (k : Kind) (a c i : Bool) → is_store k ≡ false → all_issued_by k a c i ≡ i
+whole_issued Store a c i n = absurd (cc)
+whole_issued _ a c i n = refl
 
-  done_so : (r : Entry) → is_waiting e.state ≡ true → (is_load e.item.kind ≡ true → stores_done b ≡ true) → Comes e (computed (bank_of x) b e) r → Kept code (bank_of x) b e r
-  done_so r w sd (Remains q) = subst (λ r. Kept code (bank_of x) b e r) (sym q) (record { stands = st; moves = moves_same e; link = refl })
-  done_so r w sd (Begins due q) =
-      let t = stays_so e.state w e st.state in
+whole_parts : (k : Kind) (a c i i2 : Bool) → is_store k ≡ false → FitsParts k a c i → (a ≡ false) × (c ≡ false) × FitsParts k a c i2
+whole_parts Store a c i i2 n p = absurd (cc)
+whole_parts _ a c i i2 n p = (p.0, p.1, p)
+
+whole_operands : (k : Kind) (a c i : Bool) (b : List Entry) (e : Entry) → is_store k ≡ false → ready b e ≡ true → HasOperands k a c i b (sources e)
+whole_operands Store a c i b e n r = absurd (cc)
+whole_operands _ a c i b e n r = λ h. r
+
+module _ (code : Code) (d : Desc) (x : Machine) (b : List Entry) (e : Entry) (h : Behind (Stands code (bank_of x)) b) (st : Stands code (bank_of x) b e) where
+  waits_so : (t : Progress) → is_waiting t ≡ true → FitsState t e → (e.resolved ≡ false) × (at_once e.item.kind ≡ false) × (is_done t ≡ true → ⊥)
+  waits_so Waiting w f = (f.1, f.2, λ q. absurd (cc))
+  waits_so Done w f = absurd (cc)
+  waits_so (Busy due) w f = absurd (cc)
+
+  -- older stores let a load go that begins with what it computes
+  stores_so : (l : Entry) → l.item ≡ e.item → ComesTo l.outcome (as_known e (computed (bank_of x) b e)) → is_issued l ≡ true → is_load e.item.kind ≡ true → may_issue_as e.item.kind d (around x) b e ≡ true → list_all (stands_before l) b ≡ true
+  stores_so l item c i z m =
+      let f = effect_of x.regs b e in
+      let ad = address_is code x.regs b e st.item (ap (λ t. t || is_store e.item.kind) z) in
+      let o = load_out e.item.kind x.ram e f (bytes_over (bank_of x) b e f.addr) l.outcome z c i in
+      stands_behind code (bank_of x) l d (around x) b e item (o.0 ∙ ad) (o.1 ∙ ap (λ a. load_fault x.ram a (width_of e)) ad) h (load_behind e.item.kind d (around x) b e m z)
+
+  -- an entry in one piece that begins stands
+  begun_so : is_store e.item.kind ≡ false → MayIssue d (around x) b e → (r : Entry) → Comes e (computed (bank_of x) b e) r → Kept code (bank_of x) b e r
+  begun_so n m r (Remains q) = subst (λ r. Kept code (bank_of x) b e r) (sym q) (record { stands = st; moves = moves_same e; link = refl })
+  begun_so n m r (Begins due q) =
+      let k = e.item.kind in
+      let a = has_address e in
+      let c = has_data e in
+      let t = waits_so e.state m.waits st.state in
+      let p = whole_parts k a c (is_issued e) true n st.parts in
       let r2 = begun e due (computed (bank_of x) b e) in
-      let now : Stands code (bank_of x) b r2 = record {
+      let known : ComesTo r2.outcome (as_known e (computed (bank_of x) b e)) = sym (whole_known k a c (computed (bank_of x) b e) n) in
+      let made : Stands code (bank_of x) b r2 = record {
         item = st.item;
-        state = (refl, t.0, t.1);
-        computed = refl;
-        operands = λ i. rd;
-        stores = λ i l. sd l;
+        parts = p.2;
+        state = (whole_issued k a c true n, t.0, t.1);
+        computed = known;
+        operands = whole_operands k a c true b e n m.ready;
+        stores = λ i z. stores_so r2 refl known refl z m.kind;
         through = st.through;
         alone = st.alone;
       } in
-      let on : Moves e r2 = record { item = refl; done = λ h. absurd (t.2 h) } in
-      subst (λ r. Kept code (bank_of x) b e r) (sym q) (record { stands = now; moves = on; link = same_link e.resolved e r2 refl t.0 })
+      let on : Moves e r2 = record { item = refl; done = λ h. absurd (t.2 h); address = λ h. absurd (let z = p.0 in cc); stored = λ h. absurd (let z = p.1 in cc) } in
+      subst (λ r. Kept code (bank_of x) b e r) (sym q) (record { stands = made; moves = on; link = same_link e.resolved e r2 refl t.0 })
+
+store_kind : (k : Kind) → is_store k ≡ true → k ≡ Store
+store_kind Store h = refl
+store_kind _ h = absurd (cc)
 
 -- ---- the window
 
@@ -90,7 +117,8 @@ issued d x b e = (issue_entry d (around x) b e).entry
 
 issue_one : (code : Code) (d : Desc) (x : Machine) (b : List Entry) (e : Entry) → Behind (Stands code (bank_of x)) b → Stands code (bank_of x) b e → Kept code (bank_of x) b e (issued d x b e)
 issue_one code d x b e h st = by_issue d (around x) b e (Kept code (bank_of x) b e) (record { stands = st; moves = moves_same e; link = refl })
-    (λ m. done_so code x b e st m.ready _ m.waits (load_behind e.item.kind d (around x) b e m.kind) (comes d x b e e.item.kind))
+    (λ n m. begun_so code d x b e h st n m _ (comes d x b e e.item.kind n))
+    (λ t a c ga gc. parts_so code x b e (store_kind e.item.kind t) st a c ga gc)
 
 pub consistent_issue : (code : Code) (d : Desc) (x : Machine) → Consistent d code x → Consistent d code (issue d x).machine
 consistent_issue code d x h =

@@ -5,14 +5,15 @@ use Rattle.std.specs.List.{list_all, list_any}
 use Rattle.rv_types.specs.Memory.{Code}
 use Rattle.rv_types.specs.Isa.{Hart}
 use Rattle.rv_types.specs.declared.Kind.{Kind}
-use Rattle.rv_types.specs.declared.Kind.TheVariants.{Alu, Mul, Div, Load, Store, Branch, Jalr, Jal, Call, Stop}
+use Rattle.rv_types.specs.declared.Kind.TheVariants.{Store, Branch, Jalr, Jal, Call, Stop}
 use Rattle.machine_desc.specs.declared.Desc.{Desc}
 use Rattle.window_model.specs.declared.Entry.{Entry}
 use Rattle.window_model.specs.declared.Item.{Item}
 use Rattle.window_model.specs.declared.Progress.TheVariants.{Waiting, Done}
 use Rattle.window_model.specs.State.{Machine}
 use Rattle.window_model.specs.declared.Target.{Target}
-use Rattle.window_model.specs.Order.{is_control}
+use Rattle.window_model.specs.Order.{is_control, sources}
+use Rattle.committed_state.proofs.Onward.{of_item}
 use Rattle.window_model.specs.Retire.{hart_of}
 use Rattle.window_model.specs.Rename.{rename, renamed, fits, fits_as, at_once, is_call}
 use Rattle.window_model.specs.Fetch.{fetch, fetch_one, item_at, kind_at, predicted}
@@ -21,7 +22,7 @@ use Rattle.window_model.proofs.Walks.{rename_keep, fetch_keep}
 use Rattle.committed_state.specs.Computed.{Bank}
 use Rattle.window_model.specs.Along.{Along}
 use Rattle.committed_state.specs.Links.{Chain, links, entry_link, item_link, true_next}
-use Rattle.committed_state.specs.Consistent.{Stands, Holds, Consistent, FitsState, IsItem, Predicts, goes_through, bank_in}
+use Rattle.committed_state.specs.Consistent.{Stands, Holds, Consistent, FitsParts, FitsState, HasOperands, all_issued_by, IsItem, Predicts, goes_through, bank_in}
 use Rattle.window_model.proofs.Booleans.{both, neither, not_true}
 use Rattle.window_model.proofs.EntryByEntry.{along_push}
 use Rattle.window_model.proofs.Lists.{each_push}
@@ -71,9 +72,22 @@ alone_as Call d [] h c = refl
 alone_as Call d (e ∷ w) h c = absurd (cc)
 alone_as _ d w h c = absurd (cc)
 
+-- nothing of a new entry has issued
+not_issued : (k : Kind) → all_issued_by k false false false ≡ false
+not_issued Store = refl
+not_issued _ = refl
+
 fits_new : (c : Bool) (serial : ℕ) (i : Item) → at_once i.kind ≡ c → FitsState (if c then Done else Waiting) (renamed serial i)
-fits_new true serial i h = (sym (ap not h), λ r. absurd (cc))
-fits_new false serial i h = (refl, refl, h)
+fits_new true serial i h = (not_issued i.kind ∙ sym (ap not h), λ r. absurd (cc))
+fits_new false serial i h = (not_issued i.kind, refl, h)
+
+parts_new : (k : Kind) → FitsParts k false false false
+parts_new Store = refl
+parts_new _ = (refl, refl)
+
+operands_new : (k : Kind) (b : List Entry) (rs : List ℕ) → HasOperands k false false false b rs
+operands_new Store b rs = (λ h. absurd (cc), λ h. absurd (cc))
+operands_new _ b rs = λ h. absurd (cc)
 
 module _ (code : Code) (d : Desc) where
   rename_holds : (s : Hart) (w : List Entry) (i : Item) (rest : List Item) (fetch_pc : Option ℕ) (serial : ℕ) → fits d w i ≡ true → Holds code s w (i ∷ rest) fetch_pc → Holds code s (w ++ renamed serial i ∷ []) rest fetch_pc
@@ -83,9 +97,10 @@ module _ (code : Code) (d : Desc) where
       let f3 = both (nat_lt (length w) d.core_rob) _ f2.0 in
       let now : Stands code (bank_in s) (reverse w) (renamed serial i) = record {
         item = h.items.0;
+        parts = parts_new i.kind;
         state = fits_new (at_once i.kind) serial i refl;
         computed = tt;
-        operands = λ q. absurd (cc);
+        operands = operands_new i.kind (reverse w) (sources (of_item i));
         stores = λ q l. absurd (cc);
         through = all_reverse goes_through w ∙ through_chain code (bank_in s) [] (Some s.pc) fetch_pc w i rest h.entries h.chain (not_true _ f3.1);
         alone = alone_as i.kind d w f2.1;

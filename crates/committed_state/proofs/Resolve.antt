@@ -42,6 +42,7 @@ fits_resolved (Busy due) e d c h = absurd (cc)
 stands_resolved : (code : Code) (s : Bank) (e : Entry) → is_done e.state ≡ true → is_control e.item.kind ≡ true → (b : List Entry) → Stands code s b e → Stands code s b (resolved_one e)
 stands_resolved code s e d c b st = record {
   item = st.item;
+  parts = st.parts;
   state = fits_resolved e.state e d c st.state;
   computed = st.computed;
   operands = st.operands;
@@ -85,7 +86,7 @@ module _ (code : Code) (d : Desc) where
     entries : Along (Stands code (bank_in (hart_of x))) [] (older ++ resolved_one e ∷ p.younger)
     entries =
         let bank = bank_in (hart_of x) in
-        place_on (Stands code bank) Moves moves_same (stands_onward code bank) e (resolved_one e) (record { item = refl; done = λ q. (q, refl) })
+        place_on (Stands code bank) Moves moves_same (stands_onward code bank) e (resolved_one e) (record { item = refl; done = λ q. (q, refl); address = λ q. (q, refl); stored = λ q. (q, refl) })
         (stands_resolved code bank e t.parts.done t.parts.control) [] older p.younger here.entries
 
     kept : squashes e ≡ false → Holds code (hart_of x) (older ++ resolved_one e ∷ p.younger) x.queue x.fetch_pc

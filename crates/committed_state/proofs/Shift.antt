@@ -1,26 +1,28 @@
 -- Once the oldest has taken effect, what stood over it stands over the new retired state.
-use Rattle.std.proofs.Common.{◌≡◌, ℕ, ◌<◌, ◌≤◌, Bool, true, false, not, ◌||◌, List, [], ◌∷◌, ◌++◌, length, Option, Some, None, refl, ap, sym, ◌∙◌, arith}
+use Rattle.std.proofs.Common.{◌≡◌, ℕ, ◌<◌, ◌≤◌, Bool, true, false, List, [], ◌∷◌, ◌++◌, length, Option, Some, None, refl, ap, sym, ◌∙◌, subst, arith}
 use Rattle.std.specs.Prelude.{if◌then◌else◌, is_some}
 use Rattle.std.specs.List.{find, list_all}
 use Rattle.rv_types.specs.Isa.{Effect, reg}
 use Rattle.rv_types.specs.Memory.{Code}
 use Rattle.rv_types.specs.Regs.{writes_of}
+use Rattle.rv_types.specs.declared.Kind.{Kind}
+use Rattle.rv_types.specs.declared.Kind.TheVariants.{Store}
 use Rattle.window_model.specs.declared.Entry.{Entry}
 use Rattle.window_model.specs.Access.{covers, byte_of}
 use Rattle.window_model.specs.Along.{Along}
-use Rattle.window_model.specs.Order.{writes, operand, from_writer, is_known, is_done, is_store, sources, ready}
+use Rattle.window_model.specs.Order.{writes, operand, from_writer, is_known, is_done, is_store, has_address, has_data, sources}
 use Rattle.window_model.proofs.Booleans.{both_then}
 use Rattle.window_model.proofs.EntryByEntry.{along_drops}
 use Rattle.window_model.proofs.Memory.{inside}
 use Rattle.window_model.proofs.Registers.{read_same, read_other}
 use Rattle.window_model.specs.Issue.{effect_of}
 use Rattle.window_model.specs.Retire.{width_in}
-use Rattle.committed_state.specs.Computed.{Bank, ComesTo, bytes_over, computed}
-use Rattle.committed_state.specs.Consistent.{Stands, goes_through}
+use Rattle.committed_state.specs.Computed.{Bank, ComesTo, as_known, as_known_by, bytes_over, computed, known_of}
+use Rattle.committed_state.specs.Consistent.{Stands, goes_through, is_issued, stands_before}
 use Rattle.committed_state.specs.Replay.{bank_after, replayed}
-use Rattle.committed_state.proofs.Bytes.{byte_is, keeps_bank}
-use Rattle.committed_state.proofs.Computed.{bytes_same, effect_same, outcome_same}
-use Rattle.committed_state.proofs.Onward.{all_onward, byte_else, byte_pick, comes_to}
+use Rattle.committed_state.proofs.Bytes.{keeps_bank, one_byte}
+use Rattle.committed_state.proofs.Computed.{alike, bytes_same}
+use Rattle.committed_state.proofs.Onward.{byte_else, byte_pick, comes_to, operands_then}
 use Rattle.committed_state.proofs.Operands.{value_is}
 
 known_if : (w d k k2 : Bool) → (k ≡ true → k2 ≡ true) → (if w then d else k) ≡ true → (if w then d else k2) ≡ true
@@ -31,9 +33,6 @@ known_if false d k k2 h t = h t
 known_shift : (b : List Entry) (head : Entry) (r : ℕ) → is_known (b ++ head ∷ []) r ≡ true → is_known b r ≡ true
 known_shift [] head r h = refl
 known_shift (e ∷ b) head r h = known_if (writes r e) (is_done e.state) (is_known (b ++ head ∷ []) r) (is_known b r) (known_shift b head r) h
-
-ready_shift : (b : List Entry) (head e : Entry) → ready (b ++ head ∷ []) e ≡ true → ready b e ≡ true
-ready_shift b head e h = all_onward _ _ (sources e) (λ r. known_shift b head r) h
 
 -- without the oldest
 pub all_but : (p : Entry → Bool) (b : List Entry) (head : Entry) → list_all p (b ++ head ∷ []) ≡ true → list_all p b ≡ true
@@ -46,9 +45,18 @@ not_empty (e ∷ b) head h = absurd (cc)
 
 -- ---- what an entry reads of the oldest, it then reads of the retired state
 
-module _ (s : Bank) (head : Entry) (r : ComesTo head.outcome (replayed s head)) (issued : is_some head.outcome ≡ true) where
+module _ (s : Bank) (head : Entry) (r : ComesTo head.outcome (replayed s head)) (issued : is_some head.outcome ≡ true)
+    (parts : is_store head.item.kind ≡ true → (has_address head ≡ true) × (has_data head ≡ true)) where
   abbrev S : Bank
   S = bank_after head s
+
+  -- all of the oldest's is known
+  known : ComesTo head.outcome (as_known head (replayed s head))
+  known = by_kind head.item.kind refl
+    where
+      by_kind : (k : Kind) → head.item.kind ≡ k → ComesTo head.outcome (as_known_by k (has_address head) (has_data head) (replayed s head))
+      by_kind Store q = let p = parts (ap is_store q) in subst (λ a. ComesTo head.outcome (known_of a (has_data head) (replayed s head))) (sym p.0) (subst (λ c. ComesTo head.outcome (known_of true c (replayed s head))) (sym p.1) r)
+      by_kind _ q = r
 
   operand_if : (w : Bool) (e : Entry) (o o2 : Option Entry) (v v2 : ℕ) → from_writer o v ≡ from_writer o2 v2 → from_writer (if w then Some e else o) v ≡ from_writer (if w then Some e else o2) v2
   operand_if true e o o2 v v2 h = refl
@@ -58,33 +66,33 @@ module _ (s : Bank) (head : Entry) (r : ComesTo head.outcome (replayed s head)) 
   operand_shift [] q lt = by_head (writes q head) refl
     where
       by_head : (w : Bool) → writes q head ≡ w → from_writer (if w then Some head else None) (reg s.regs q) ≡ reg S.regs q
-      by_head true h = value_is head.outcome (replayed s head) r issued ∙ sym (read_same s.regs (writes_of head.item.instr) q _ lt h)
+      by_head true h = value_is head.outcome head (replayed s head) known issued ∙ sym (read_same s.regs (writes_of head.item.instr) q _ lt h)
       by_head false h = sym (read_other s.regs (writes_of head.item.instr) q _ h)
   operand_shift (e ∷ b) q lt = operand_if (writes q e) e (find (writes q) (b ++ head ∷ [])) (find (writes q) b) (reg s.regs q) (reg S.regs q) (operand_shift b q lt)
 
   byte_shift : (b : List Entry) (a : ℕ) → s.ram.base ≤ a → byte_of S.ram a (find (covers a) b) ≡ byte_of s.ram a (find (covers a) (b ++ head ∷ []))
-  byte_shift [] a le = sym (byte_is s (head ∷ []) a le (r, tt) (λ k. issued, tt))
+  byte_shift [] a le = sym (one_byte s.ram s head a None (λ q. let p = parts q in record { address = p.0; issued = issued; datum = λ c. p.1 }) known le refl)
   byte_shift (e ∷ b) a le =
       byte_pick (covers a e) S.ram a e (find (covers a) b) ∙ ap (byte_else a e) (byte_shift b a le) ∙ sym (byte_pick (covers a e) s.ram a e (find (covers a) (b ++ head ∷ [])))
-
-  computed_shift : length s.regs ≡ 32 → (b : List Entry) (e : Entry) → ready (b ++ head ∷ []) e ≡ true → computed S b e ≡ computed s (b ++ head ∷ []) e
-  computed_shift n b e k =
-      let old = b ++ head ∷ [] in
-      let f = effect_same s.regs S.regs old b (is_known old) (λ q lt k. sym (operand_shift b q (omega (arith, n)))) e k in
-      outcome_same s.ram S.ram e.item.instr (keeps_bank s (head ∷ [])) e.item.kind _ _ _ _ f
-      (λ l q. let i = inside _ _ s.ram (effect_of s.regs old e).addr (width_in e.item.instr) q in
-      ap (λ (f : Effect). bytes_over S b e f.addr) f ∙ bytes_same s.ram S.ram old b s.ram.base (byte_shift b) (effect_of s.regs old e).addr (width_in e.item.instr) i.0)
 
   stands_shift : length s.regs ≡ 32 → (code : Code) (b : List Entry) (e : Entry) → Stands code s (b ++ head ∷ []) e → Stands code S b e
   stands_shift n code b e k = record {
     item = k.item;
+    parts = k.parts;
     state = k.state;
-    computed = comes_to e.outcome _ _ (λ i. computed_shift n b e (k.operands i)) k.computed;
-    operands = λ i. ready_shift b head e (k.operands i);
-    stores = λ i l. all_but (λ e. not (is_store e.item.kind) || is_done e.state) b head (k.stores i l);
+    computed = comes_to e.outcome _ _ same k.computed;
+    operands = operands_then e.item.kind (has_address e) (has_data e) (is_issued e) (b ++ head ∷ []) b (sources e) (known_shift b head) k.operands;
+    stores = λ i l. all_but (stands_before e) b head (k.stores i l);
     through = all_but goes_through b head k.through;
     alone = λ c. absurd (not_empty b head (k.alone c));
   }
+    where
+      same : is_issued e ≡ true → as_known e (computed S b e) ≡ as_known e (computed s (b ++ head ∷ []) e)
+      same i =
+          let old = b ++ head ∷ [] in
+          let F : Effect = effect_of s.regs old e in
+          alike code s S old b e k.item (keeps_bank s (head ∷ [])) (λ q lt z. sym (operand_shift b q (omega (arith, n)))) (bytes_over S b e)
+          (λ l f. let j = inside _ _ s.ram F.addr (width_in e.item.instr) f in bytes_same s.ram S.ram old b e F.addr (width_in e.item.instr) (λ a le lt. byte_shift b a (omega (arith, j.0, le)))) i k.operands
 
   pub along_shift : length s.regs ≡ 32 → (code : Code) (es : List Entry) → Along (Stands code s) (head ∷ []) es → Along (Stands code S) [] es
   along_shift n code es k = along_drops (Stands code s) (Stands code S) head (stands_shift n code) [] es k

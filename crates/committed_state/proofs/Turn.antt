@@ -10,11 +10,11 @@ use Rattle.rv_types.specs.declared.Cause.{Cause}
 use Rattle.rv_types.specs.Kind.{kind_of}
 use Rattle.rv_types.specs.declared.Instr.{Instr}
 use Rattle.rv_types.specs.declared.Kind.{Kind}
-use Rattle.rv_types.specs.declared.Kind.TheVariants.{Mul, Div, Load, Store}
+use Rattle.rv_types.specs.declared.Kind.TheVariants.{Load, Store}
 use Rattle.window_model.specs.declared.Entry.{Entry}
 use Rattle.window_model.specs.declared.Item.{Item}
 use Rattle.window_model.specs.declared.Outcome.{Outcome}
-use Rattle.window_model.specs.Order.{is_done, is_control, value_of, fault_of, sources}
+use Rattle.window_model.specs.Order.{is_done, is_control, has_address, has_data, value_of, fault_of, sources}
 use Rattle.window_model.specs.Resolve.{next_of}
 use Rattle.window_model.specs.Retire.{may_leave, trap_of, trap_as, addr_of, stored_of, width_of}
 use Rattle.window_model.specs.Rename.{at_once, is_call}
@@ -22,13 +22,13 @@ use Rattle.window_model.specs.Fetch.{instr_at, kind_at}
 use Rattle.committed_state.specs.Replay.{Bank, replayed, replayed_as, ram_after, effect_on}
 use Rattle.window_model.specs.Along.{Along}
 use Rattle.committed_state.specs.Links.{Chain, links}
-use Rattle.committed_state.specs.Consistent.{Stands, Holds, Predicts, bank_in}
+use Rattle.committed_state.specs.Consistent.{Stands, Holds, Predicts, bank_in, is_issued}
 use Rattle.committed_state.proofs.Bytes.{some_is}
 use Rattle.window_model.proofs.Registers.{length_with}
 use Rattle.committed_state.proofs.Onward.{of_item}
 use Rattle.committed_state.proofs.Heads.{item_of, hart_after, head_goes, head_traps, goes_on}
 use Rattle.committed_state.proofs.Shift.{along_shift}
-use Rattle.committed_state.proofs.Known.{done_has, replayed_head}
+use Rattle.committed_state.proofs.Known.{both_parts, done_has, issued_of, replayed_head}
 use Rattle.window_model.proofs.Booleans.{some_of}
 use Rattle.window_model.proofs.Leaving.{no_trap}
 
@@ -132,7 +132,10 @@ head_leaves_so code s e rest queue fetch_pc h may t k =
     let d = done_has e.state e st.state m.0 in
     let n = no_stop e.item.kind e t k in
     let r = replayed (bank_in s) e in
-    let o = some_is e.outcome r (replayed_head code (bank_in s) h.registers e st) (d.0 ∙ ap not n.0) in
+    let all = d.0 ∙ ap not n.0 in
+    let rep = replayed_head code (bank_in s) h.registers e st all in
+    let i = issued_of e.item.kind (has_address e) (has_data e) (is_issued e) st.parts all in
+    let o = some_is e.outcome r rep i in
     let f : r.fault ≡ None = sym (ap fault_of o) ∙ n.1 in
     let left = hart_left s e e.outcome r o f in
     let c = code s.pc in
@@ -142,7 +145,7 @@ head_leaves_so code s e rest queue fetch_pc h may t k =
     let nx = link_next e.resolved e e.outcome r o f predicts in
     record {
       holds = record {
-        entries = subst (λ b. Along (Stands code b) [] rest) (sym (ap bank_in left)) (along_shift (bank_in s) e (replayed_head code (bank_in s) h.registers e st) (d.0 ∙ ap not n.0) h.registers code rest h.entries.1);
+        entries = subst (λ b. Along (Stands code b) [] rest) (sym (ap bank_in left)) (along_shift (bank_in s) e rep i (λ q. both_parts e.item.kind (has_address e) (has_data e) (is_issued e) q all) h.registers code rest h.entries.1);
         items = h.items;
         chain = subst (λ a. Chain a (links rest queue) fetch_pc) nx h.chain.1;
         registers = length_with s.regs (writes_of e.item.instr) (value_of e.outcome) ∙ h.registers;

@@ -1,9 +1,10 @@
 -- What an entry that has issued computed: what Issue makes of its operands in the window, over the retired registers and memory
 -- (docs/theorems.md, "Committed state").
-use Rattle.std.specs.Prelude.{◌≡◌, ℕ, List, Option, Some, None}
+use Rattle.std.specs.Prelude.{◌≡◌, ℕ, Bool, false, not, ◌&&◌, List, map, Option, Some, None, if◌then◌else◌}
+use Rattle.std.specs.List.{find}
 use Rattle.rv_types.specs.Word.{from_le}
 use Rattle.rv_types.specs.Value.{extend}
-use Rattle.rv_types.specs.Memory.{Ram, load_fault, store_fault}
+use Rattle.rv_types.specs.Memory.{Ram, load_fault, store_fault, range}
 use Rattle.rv_types.specs.Isa.{Effect}
 use Rattle.rv_types.specs.declared.Cause.{Cause}
 use Rattle.rv_types.specs.declared.Instr.{Instr}
@@ -11,8 +12,9 @@ use Rattle.rv_types.specs.declared.Kind.{Kind}
 use Rattle.rv_types.specs.declared.Kind.TheVariants.{Mul, Div, Load, Store}
 use Rattle.window_model.specs.declared.Entry.{Entry}
 use Rattle.window_model.specs.declared.Outcome.{Outcome}
+use Rattle.window_model.specs.Order.{has_address, has_data}
 use Rattle.window_model.specs.Retire.{op_of, width_in}
-use Rattle.window_model.specs.Access.{load_bytes}
+use Rattle.window_model.specs.Access.{covers, byte_of}
 use Rattle.window_model.specs.Issue.{effect_of, outcome, fault_if}
 
 -- registers and memory
@@ -40,11 +42,41 @@ abbrev pub ComesTo : Option Outcome → Outcome → Type 0
 ComesTo None v = Unit {0}
 ComesTo (Some o) v = o ≡ v
 
+-- of an outcome as much as the parts that have issued tell: address and fault from the address part on, the data from the data
+-- part on
+abbrev pub known_of : Bool → Bool → Outcome → Outcome
+known_of address datum o = record o {
+  addr = if address then o.addr else 0;
+  fault = if address then o.fault else None;
+  stored = if datum then o.stored else 0;
+}
+
+-- only a store goes by parts
+abbrev pub as_known_by : Kind → Bool → Bool → Outcome → Outcome
+as_known_by Store address datum o = known_of address datum o
+as_known_by _ address datum o = o
+
+-- of an entry's outcome as much as is known
+abbrev pub as_known : Entry → Outcome → Outcome
+as_known e o = as_known_by e.item.kind (has_address e) (has_data e) o
+
 -- ---- in the window
+
+-- a load's value leaves no older store out, since no load passes one
+abbrev pub left_out : Entry → Entry → Bool
+left_out load store = false
+
+-- the store that a load finds at an address
+abbrev pub finds : Entry → ℕ → Entry → Bool
+finds load a store = not (left_out load store) && covers a store
+
+-- the bytes of a load: each from the youngest older store that covers it and isn't left out, else from memory
+abbrev pub bytes_found : Ram → List Entry → Entry → ℕ → ℕ → List ℕ
+bytes_found ram before e a n = map (λ b. byte_of ram b (find (finds e b) before)) (range a n)
 
 -- the bytes that a load of this address finds
 abbrev pub bytes_over : Bank → List Entry → Entry → ℕ → List ℕ
-bytes_over s before e a = load_bytes s.ram before a (width_in e.item.instr)
+bytes_over s before e a = bytes_found s.ram before e a (width_in e.item.instr)
 
 -- the outcome of an entry behind others
 abbrev pub computed : Bank → List Entry → Entry → Outcome

@@ -1,24 +1,24 @@
 -- What holds of the retired state and of what is in flight, in every state of a run
 -- (docs/theorems.md, "Committed state").
 use Rattle.std.specs.Prelude.{◌≡◌, ℕ, Bool, true, false, not, ◌&&◌, ◌||◌, List, [], ◌∷◌, length, Option, Some, None, is_some}
-use Rattle.std.specs.List.{list_all, AllByRecursion as Each}
+use Rattle.std.specs.List.{list_all, list_any, AllByRecursion as Each}
 use Rattle.rv_types.specs.Word.{word_add}
-use Rattle.rv_types.specs.Memory.{Code}
+use Rattle.rv_types.specs.Memory.{Code, range}
 use Rattle.rv_types.specs.Isa.{Hart}
 use Rattle.rv_types.specs.declared.Kind.{Kind}
-use Rattle.rv_types.specs.declared.Kind.TheVariants.{Branch, Jalr, Jal, Stop}
+use Rattle.rv_types.specs.declared.Kind.TheVariants.{Store, Branch, Jalr, Jal, Stop}
 use Rattle.machine_desc.specs.declared.Desc.{Desc}
 use Rattle.window_model.specs.declared.Entry.{Entry}
 use Rattle.window_model.specs.declared.Item.{Item}
 use Rattle.window_model.specs.declared.Progress.{Progress}
 use Rattle.window_model.specs.declared.Progress.TheVariants.{Waiting, Busy, Done}
 use Rattle.window_model.specs.State.{Machine}
-use Rattle.window_model.specs.Order.{is_load, is_control, is_faulty, ready}
-use Rattle.window_model.specs.Retire.{hart_of}
-use Rattle.window_model.specs.Issue.{stores_done}
+use Rattle.window_model.specs.Order.{is_load, is_store, is_control, is_faulty, has_address, has_data, sources, all_known, base_of, others_of}
+use Rattle.window_model.specs.Retire.{hart_of, addr_of, width_of}
+use Rattle.window_model.specs.Access.{covers}
 use Rattle.window_model.specs.Rename.{at_once, is_call, is_stop}
 use Rattle.window_model.specs.Fetch.{instr_at, kind_at, target_of}
-use Rattle.committed_state.specs.Computed.{Bank, ComesTo, computed}
+use Rattle.committed_state.specs.Computed.{Bank, ComesTo, as_known, computed}
 use Rattle.window_model.specs.Along.{Along}
 use Rattle.committed_state.specs.Links.{Chain, links}
 
@@ -40,25 +40,55 @@ pub record IsItem (code : Code) (i : Item) : Type 0 where
 abbrev pub is_issued : Entry → Bool
 is_issued e = is_some e.outcome
 
--- when an entry has its outcome, and when it may be resolved
+-- all of the entry has issued: of a store both parts
+abbrev pub all_issued_by : Kind → Bool → Bool → Bool → Bool
+all_issued_by Store address datum issued = address && datum
+all_issued_by _ address datum issued = issued
+
+-- and so of an entry
+abbrev pub all_issued : Entry → Bool
+all_issued e = all_issued_by e.item.kind (has_address e) (has_data e) (is_issued e)
+
+-- only a store has parts, and its outcome is there from the first one on
+abbrev pub FitsParts : Kind → Bool → Bool → Bool → Type 0
+FitsParts Store address datum issued = issued ≡ (address || datum)
+FitsParts _ address datum issued = (address ≡ false) × (datum ≡ false)
+
+-- when all of an entry has issued, and when it may be resolved
 abbrev pub FitsState : Progress → Entry → Type 0
-FitsState Waiting e = (e.outcome ≡ None) × (e.resolved ≡ false) × (at_once e.item.kind ≡ false)
-FitsState (Busy due) e = (is_issued e ≡ true) × (e.resolved ≡ false) × (at_once e.item.kind ≡ false)
-FitsState Done e = (is_issued e ≡ not (at_once e.item.kind)) × (e.resolved ≡ true → is_control e.item.kind ≡ true)
+FitsState Waiting e = (all_issued e ≡ false) × (e.resolved ≡ false) × (at_once e.item.kind ≡ false)
+FitsState (Busy due) e = (all_issued e ≡ true) × (e.resolved ≡ false) × (at_once e.item.kind ≡ false)
+FitsState Done e = (all_issued e ≡ not (at_once e.item.kind)) × (e.resolved ≡ true → is_control e.item.kind ≡ true)
 
 -- the entry is no stop and no call
 abbrev pub goes_through : Entry → Bool
 goes_through e = not (at_once e.item.kind)
 
+-- the operands were known as it issued, of a store's parts each its own
+abbrev pub HasOperands : Kind → Bool → Bool → Bool → List Entry → List ℕ → Type 0
+HasOperands Store address datum issued before rs =
+    (address ≡ true → all_known before (base_of rs) ≡ true) × (datum ≡ true → all_known before (others_of rs) ≡ true)
+HasOperands _ address datum issued before rs = issued ≡ true → all_known before rs ≡ true
+
+-- the store covers a byte of a load that has issued without fault
+abbrev pub shares : Entry → Entry → Bool
+shares store load = not (is_faulty load) && list_any (λ a. covers a store) (range (addr_of load.outcome) (width_of load))
+
+-- how an older store stands before a load that has issued: its address is known; and its data is, or they share no byte
+abbrev pub stands_before : Entry → Entry → Bool
+stands_before load store =
+    not (is_store store.item.kind) || (has_address store && (has_data store || not (shares store load)))
+
 -- an entry of the window over the retired registers and memory
 pub record Stands (code : Code) (s : Bank) (before : List Entry) (e : Entry) : Type 0 where
   pub item : IsItem code e.item
+  pub parts : FitsParts e.item.kind (has_address e) (has_data e) (is_issued e)
   pub state : FitsState e.state e
-  -- its outcome is what Issue makes of its operands
-  pub computed : ComesTo e.outcome (computed s before e)
-  -- it was issued with its operands known, and a load after the older stores
-  pub operands : is_issued e ≡ true → ready before e ≡ true
-  pub stores : is_issued e ≡ true → is_load e.item.kind ≡ true → stores_done before ≡ true
+  -- its outcome is what Issue makes of its operands, as far as it is known
+  pub computed : ComesTo e.outcome (as_known e (computed s before e))
+  -- it was issued with its operands known, and a load behind stores that let it go
+  pub operands : HasOperands e.item.kind (has_address e) (has_data e) (is_issued e) before (sources e)
+  pub stores : is_issued e ≡ true → is_load e.item.kind ≡ true → list_all (stands_before e) before ≡ true
   -- nothing follows a stop or a call, and a call follows nothing
   pub through : list_all goes_through before ≡ true
   pub alone : is_call e.item.kind ≡ true → before ≡ []

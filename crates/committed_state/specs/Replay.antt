@@ -13,7 +13,7 @@ use Rattle.window_model.specs.declared.Entry.{Entry}
 use Rattle.window_model.specs.declared.Outcome.{Outcome}
 use Rattle.window_model.specs.Order.{sources}
 use Rattle.window_model.specs.Retire.{width_in}
-use Rattle.committed_state.specs.Computed.{ComesTo, outcome_as}
+use Rattle.committed_state.specs.Computed.{ComesTo, as_known, outcome_as}
 pub use Rattle.committed_state.specs.Computed.{Bank}
 
 -- what an instruction makes of its operands in these registers
@@ -49,7 +49,7 @@ abbrev pub bank : Bank → List Entry → Bank
 bank s [] = s
 bank s (e ∷ before) = bank_after e (bank s before)
 
--- each issued entry has the outcome of the replay at its place
+-- each issued entry has the outcome of the replay at its place, as far as it is known
 abbrev pub Replayed : Bank → List Entry → Type 0
 Replayed s [] = Unit {0}
-Replayed s (e ∷ before) = ComesTo e.outcome (replayed (bank s before) e) × Replayed s before
+Replayed s (e ∷ before) = ComesTo e.outcome (as_known e (replayed (bank s before) e)) × Replayed s before

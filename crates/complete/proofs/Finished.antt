@@ -1,5 +1,5 @@
 -- The parts once an entry is Done.
-use Rattle.std.proofs.Common.{◌≡◌, ℕ, ◌<◌, ◌≤◌, Bool, false, true, length, map, arith, Option, Some, None, refl, ap, sym, ◌∙◌, subst, slice_get}
+use Rattle.std.proofs.Common.{◌≡◌, ℕ, ◌<◌, ◌≤◌, Bool, not, false, true, length, map, arith, Option, Some, None, refl, ap, sym, ◌∙◌, subst, slice_get}
 use Rattle.std.specs.Prelude.{slice_set}
 use Rattle.std.specs.Option.{option_map}
 use Rattle.std.specs.Slice.Scan.{HoldsNowhere, holds_at}
@@ -51,8 +51,8 @@ module _ (h : Held) (v : Described) (i : ℕ) (e : Entry) (rob : Ring) (stations
       ∙ ap (λ (t : Stations). record h { rob = record (h.rob) { entries = slice_set h.rob.entries i (done e) }; stations = t; queues = q }) wakes
       ∙ ap (λ (q : Queues). record h { rob = record (h.rob) { entries = slice_set h.rob.entries i (done e) }; stations = record (h.stations) { held = map (struck e.serial) h.stations.held }; queues = q }) notes
 
-  entry_done : IsEntry h.ram e → IsEntry h.ram (done e)
-  entry_done k = record { kind = k.kind; memory = k.memory; outcome = λ st n. k.outcome st waits_not }
+  entry_done : IsEntry h.desc h.ram e → IsEntry h.desc h.ram (done e)
+  entry_done k = record { kind = k.kind; memory = k.memory; outcome = k.outcome; parts = λ st. k.parts st ∙ ap not waits_not; together = k.together }
 
   pub finish_whole : Whole (record h { rob = rob; stations = stations; queues = q })
   finish_whole = subst Whole (sym are) (record {

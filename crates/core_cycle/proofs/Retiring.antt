@@ -1,6 +1,6 @@
 -- Phase Retire leaves parts that hold what the machine then holds, and stand for it.
 use Rattle.std.proofs.Common.{◌≡◌, ℕ, ◌+◌, ◌-◌, ◌≤◌, true, List, [], ◌∷◌, ◌++◌, length, take, drop, Option, Some, None, refl, ap, sym, ◌∙◌, subst, arith}
-use Rattle.std.specs.Prelude.{is_some}
+use Rattle.std.specs.Prelude.{is_some, not}
 use Rattle.std.specs.List.{AllByRecursion as Each}
 use Rattle.circular_buffer.specs.Buffer.{Buffer, buffer, keep_last}
 use Rattle.rv_types.specs.Memory.{Ram, store_fault}
@@ -9,12 +9,12 @@ use Rattle.machine_desc.proofs.EveryDesc.{every_desc}
 use Rattle.window_model.specs.declared.Entry.{Entry}
 use Rattle.window_model.specs.declared.Outcome.{Outcome}
 use Rattle.window_model.specs.declared.Progress.TheVariants.{Done}
-use Rattle.window_model.specs.Order.{fault_of}
+use Rattle.window_model.specs.Order.{fault_of, has_address, has_data, is_done, is_store}
 use Rattle.window_model.specs.Retire.{retire, addr_of, width_of}
-use Rattle.window_model.proofs.Booleans.{done_waits}
+use Rattle.window_model.proofs.Booleans.{both, done_waits}
 use Rattle.window_model.specs.Row.{Row}
 use Rattle.window_model.specs.State.{Machine}
-use Rattle.machine_facts.specs.Sized.{Sized, FaultIs, FitsMemory, HasOutcome}
+use Rattle.machine_facts.specs.Sized.{Sized, FaultIs, FitsMemory, HasOutcome, HasParts}
 use Rattle.machine_facts.proofs.SizedRetire.{sized_retire}
 use Rattle.rob_ring.specs.Ring.{Ring}
 use Rattle.rob_ring.specs.declared.beside.Sources.{Sources}
@@ -38,10 +38,14 @@ takes_by : (ram : Ram) (width : ℕ) (o : Option Outcome) → FaultIs ram width 
 takes_by ram width None f s n = absurd (cc)
 takes_by ram width (Some o) f s n = sym f ∙ n
 
-pub each_takes : (ram : Ram) (es : List Entry) → Each (FitsMemory ram) es → Each HasOutcome es → Each (TakesStore ram) es
-each_takes ram [] m o = tt
-each_takes ram (e ∷ es) m o =
-    (λ s d n. takes_by ram (width_of e) e.outcome (m.0 s) (o.0 s (done_waits e.state d)) n, each_takes ram es m.1 o.1)
+-- its address part has issued, since it doesn't wait
+done_address : (e : Entry) → HasParts e → is_store e.item.kind ≡ true → is_done e.state ≡ true → has_address e ≡ true
+done_address e p s d = (both (has_address e) (has_data e) (p s ∙ ap not (done_waits e.state d))).0
+
+pub each_takes : (ram : Ram) (es : List Entry) → Each (FitsMemory ram) es → Each HasOutcome es → Each HasParts es → Each (TakesStore ram) es
+each_takes ram [] m o p = tt
+each_takes ram (e ∷ es) m o p =
+    (λ s d n. (let a = done_address e p.0 s d in takes_by ram (width_of e) e.outcome (m.0 s a) (o.0 s a) n), each_takes ram es m.1 o.1 p.1)
 
 -- ---- the queues' room stays
 

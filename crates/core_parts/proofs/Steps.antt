@@ -1,6 +1,6 @@
 -- Each step keeps the parts standing for the window.
 use Rattle.std.proofs.Common.{◌≡◌, ◌≢◌, ℕ, zero, suc, ◌+◌, ◌<◌, Bool, true, false, List, [], ◌∷◌, ◌++◌, length, map, Option, Some, None, refl, ap, ap₂, sym, ◌∙◌, subst, arith, slice_get}
-use Rattle.std.specs.Prelude.{if◌then◌else◌, is_some, slice_set, nat_lt, not, ◌==◌, ◌||◌, drop, take}
+use Rattle.std.specs.Prelude.{if◌then◌else◌, is_some, slice_set, nat_lt, not, ◌==◌, ◌&&◌, ◌||◌, drop, take}
 use Rattle.std.specs.List.{All, AllZip, filter}
 use Rattle.std.proofs.lemmas.List.{drop-map, map-append, set_split, take-map}
 use Rattle.std.proofs.lemmas.List.Elements.{All-cons, All-head, All-nil, All-weaker}
@@ -13,8 +13,7 @@ use Rattle.rv_types.specs.declared.Kind.TheVariants.{Load, Store}
 use Rattle.window_model.specs.declared.Entry.{Entry}
 use Rattle.window_model.specs.declared.Outcome.{Outcome}
 use Rattle.window_model.specs.declared.Progress.TheVariants.{Done}
-use Rattle.window_model.specs.Issue.{begun}
-use Rattle.window_model.specs.Order.{is_load, is_store, is_waiting}
+use Rattle.window_model.specs.Order.{has_address, is_load, is_store, is_waiting}
 use Rattle.window_model.proofs.Booleans.{waiting_done}
 use Rattle.rob_ring.specs.Beside.{each_roots, each_writers}
 use Rattle.rob_ring.specs.Ring.{below}
@@ -22,14 +21,14 @@ use Rattle.rob_ring.specs.declared.beside.Sources.{Sources}
 use Rattle.lsq.specs.Queues.{Queues, known_at}
 use Rattle.lsq.specs.declared.store.Store.{Store as Queued}
 use Rattle.queue_laws.proofs.Completing.{other_completes, store_completes}
-use Rattle.queue_laws.specs.Window.{Others, StandFor, known_of, seen, write_in}
+use Rattle.queue_laws.specs.Window.{Others, StandFor, known_of, seen, shown_entry, write_in}
 use Rattle.queue_laws.proofs.Keeping.{cut_stands, pop_stands}
 use Rattle.queue_laws.proofs.Renaming.{adds_load, adds_other, adds_store, opens, unseen_stands}
 use Rattle.parts_stand.specs.Addresses.{AddressesStand, base_root}
 use Rattle.parts_stand.specs.Parts.{Parts, Stand}
 use Rattle.parts_stand.specs.Points.{PointStands}
 use Rattle.parts_stand.specs.Writers.{WritersOf}
-use Rattle.parts_stand.specs.Steps.{GoesOn}
+use Rattle.parts_stand.specs.Steps.{GoesOn, begun_with}
 use Rattle.parts_stand.proofs.Addressing.{addresses_add, addresses_add_other, addresses_go_on, addresses_know, addresses_open, addresses_retire, addresses_squash}
 use Rattle.parts_stand.proofs.Keeping.{goes_same, zip_set}
 use Rattle.parts_stand.proofs.Moving.{point_advances, point_completes, point_issues, point_opens, point_renames, point_resolves, point_retires, point_squashes, point_stops}
@@ -89,24 +88,33 @@ map_set (x ∷ w) zero e e2 h q = let same : x ≡ e = cc in ap (λ s. s ∷ map
 map_set (x ∷ w) (suc i) e e2 h q = ap (λ ss. seen x ∷ ss) (map_set w i e e2 h q)
 
 -- the queues see of an entry that begins that it isn't Done
-begun_seen : (e : Entry) (due : ℕ) (o : Outcome) → is_waiting e.state ≡ true → seen (begun e due o) ≡ seen e
-begun_seen e due o w =
-    ap₂ (λ b w. record {
-      load = if is_load e.item.kind then Some e.serial else None;
-      store = if is_store e.item.kind then Some (record { serial = e.serial; write = if b then Some (write_in e) else None; computed = w || is_some e.outcome }) else None;
-    }) (sym (waiting_done e.state w)) (sym w)
+begun_shown : (e : Entry) (due : ℕ) (o : Outcome) (a c : Option ℕ) → is_waiting e.state ≡ true → is_some a ≡ true → shown_entry (begun_with e due o a c) ≡ shown_entry e
+begun_shown e due o a c w k =
+    ap (λ b. record { serial = e.serial; write = None; computed = b }) k
+    ∙ ap₂ (λ b w. record { serial = e.serial; write = if b then Some (write_in e) else None; computed = w || is_some e.outcome && has_address e })
+    (sym (waiting_done e.state w)) (sym w)
+
+begun_seen : (e : Entry) (due : ℕ) (o : Outcome) (a c : Option ℕ) → is_waiting e.state ≡ true → (is_store e.item.kind ≡ true → is_some a ≡ true) → seen (begun_with e due o a c) ≡ seen e
+begun_seen e due o a c w k =
+    ap (λ s. record { load = if is_load e.item.kind then Some e.serial else None; store = s })
+    (by_store (is_store e.item.kind) (λ t. begun_shown e due o a c w (k t)))
+  where
+    by_store : (t : Bool) → (t ≡ true → shown_entry (begun_with e due o a c) ≡ shown_entry e) →
+        (if t then Some (shown_entry (begun_with e due o a c)) else None) ≡ (if t then Some (shown_entry e) else None)
+    by_store true q = ap Some (q refl)
+    by_store false q = refl
 
 pub stands_begun : BeginsAt
-stands_begun p i due e o s h w =
+stands_begun p i due e o a c s h w k =
     let parts = table_and_stations p in
-    let new = slice_set p.window i (begun e due o) in
-    let on = goes_at p.window i e (begun e due o) h (record { serial = refl; item = refl }) in
+    let new = slice_set p.window i (begun_with e due o a c) in
+    let on = goes_at p.window i e (begun_with e due o a c) h (record { serial = refl; item = refl }) in
     record {
-      stand = issues_at parts i due e o s.stand h w;
+      stand = issues_at parts i due e o a c s.stand h w;
       writers = writers_go_on parts (each_writers p.sources) new s.writers on;
-      queues = unseen_stands p.queues p.window new s.queues (map_set p.window i e (begun e due o) h (begun_seen e due o w));
+      queues = unseen_stands p.queues p.window new s.queues (map_set p.window i e (begun_with e due o a c) h (begun_seen e due o a c w k));
       addresses = addresses_go_on parts p.queues.stores new s.addresses on;
-      point = point_issues p.point p.next p.window i due e o s.point h w;
+      point = point_issues p.point p.next p.window i due e o a c s.point h w;
     }
 
 others_older : (older : List Entry) (e : Entry) (younger : List Entry) → Rise (older ++ e ∷ younger) → Others e.serial older

@@ -42,7 +42,7 @@ sized_dropped d x a b pc v e s =
     let f = parts d x s in
     whole d (record x { window = a; queue = []; fetch_pc = pc; divider = v }) (record {
       window = thinner d (a ++ b) a (evolves_thins (a ++ b) a (evolves_left a b)) (subst (WindowFits d) e f.window);
-      entries = each_left (IsEntry x.ram) a b (subst (Each (IsEntry x.ram)) e f.entries);
+      entries = each_left (IsEntry d x.ram) a b (subst (Each (IsEntry d x.ram)) e f.entries);
       queue = record { queue = omega arith; item_kinds = tt };
       predictor = f.predictor;
       cache = f.cache;

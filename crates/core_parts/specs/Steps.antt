@@ -1,6 +1,6 @@
 -- What becomes of the parts in each step of a cycle, and that they go on to stand for the window (docs/architecture.md, "How they
 -- stand for it").
-use Rattle.std.specs.Prelude.{◌≡◌, ℕ, ◌+◌, ◌≤◌, not, ◌==◌, nat_lt, true, false, List, [], ◌∷◌, ◌++◌, length, map, reverse, take, drop, slice_get, slice_set, Option, Some, None, if◌then◌else◌}
+use Rattle.std.specs.Prelude.{◌≡◌, ℕ, ◌+◌, ◌≤◌, not, ◌==◌, nat_lt, true, false, List, [], ◌∷◌, ◌++◌, length, map, reverse, take, drop, slice_get, slice_set, Option, Some, None, is_some, if◌then◌else◌}
 use Rattle.std.specs.List.{filter, remove}
 use Rattle.std.specs.Option.{option_to_list}
 use Rattle.rv_types.specs.Regs.{two}
@@ -12,7 +12,6 @@ use Rattle.machine_desc.specs.declared.Desc.{Desc}
 use Rattle.window_model.specs.declared.Entry.{Entry}
 use Rattle.window_model.specs.declared.Outcome.{Outcome}
 use Rattle.window_model.specs.declared.Progress.TheVariants.{Done}
-use Rattle.window_model.specs.Issue.{begun}
 use Rattle.window_model.specs.Order.{is_control, is_done, is_store, is_waiting, sources}
 use Rattle.window_model.specs.Retire.{width_of}
 use Rattle.rob_ring.specs.Ring.{below}
@@ -26,7 +25,7 @@ use Rattle.queue_laws.specs.Window.{known_of}
 use Rattle.visibility.specs.Point.{moved_over}
 use Rattle.parts_stand.specs.Parts.{awaits_of, write_of}
 use Rattle.parts_stand.specs.Addresses.{base_root}
-use Rattle.parts_stand.specs.Steps.{seated, station_of}
+use Rattle.parts_stand.specs.Steps.{begun_with, seated, station_of}
 use Rattle.parts_stand.specs.Writers.{named}
 use Rattle.core_parts.specs.Stands.{InFlight, Stands}
 
@@ -70,11 +69,13 @@ RenamesIn = (p : InFlight) (e : Entry) (s : Sources) (awaits : List (Option ℕ)
 -- ---- the entry at a position goes on
 
 -- it begins, and its station is freed
-abbrev pub with_begun : ℕ → ℕ → Outcome → Entry → InFlight → InFlight
-with_begun i due o e p = record p { window = slice_set p.window i (begun e due o); held = remove p.held (station_of i p.window) }
+abbrev pub with_begun : ℕ → ℕ → Outcome → Option ℕ → Option ℕ → Entry → InFlight → InFlight
+with_begun i due o address stored e p = record p { window = slice_set p.window i (begun_with e due o address stored); held = remove p.held (station_of i p.window) }
 
+-- a store with its address
 abbrev pub BeginsAt : Type 0
-BeginsAt = (p : InFlight) (i due : ℕ) (e : Entry) (o : Outcome) → Stands p → slice_get p.window i ≡ Some e → is_waiting e.state ≡ true → Stands (with_begun i due o e p)
+BeginsAt = (p : InFlight) (i due : ℕ) (e : Entry) (o : Outcome) (address stored : Option ℕ) → Stands p → slice_get p.window i ≡ Some e → is_waiting e.state ≡ true →
+    (is_store e.item.kind ≡ true → is_some address ≡ true) → Stands (with_begun i due o address stored e p)
 
 -- it becomes Done: no station awaits it any more, and what it writes is known, if it is a store, with the width of its access
 abbrev pub known_with : Width → Entry → List Queued → List Queued

@@ -1,7 +1,7 @@
 -- Where no station is ready every entry stays as it is.
-use Rattle.std.proofs.Common.{◌≡◌, ℕ, zero, suc, Bool, true, false, ◌&&◌, List, [], ◌∷◌, take, Some, None, refl, ap, ap₂, sym, ◌∙◌, slice_get, ◌++◌, append-nil}
+use Rattle.std.proofs.Common.{◌≡◌, ℕ, zero, suc, Bool, true, false, List, [], ◌∷◌, take, Some, None, refl, ap, ap₂, sym, ◌∙◌, slice_get, ◌++◌, append-nil}
 use Rattle.std.specs.Prelude.{if◌then◌else◌, map}
-use Rattle.std.specs.List.{flat_map, list_any}
+use Rattle.std.specs.List.{flat_map, list_any, AllByRecursion as Each}
 use Rattle.std.specs.Option.{option_map}
 use mathlib.Core.List.{reverse_aux}
 use Rattle.machine_desc.specs.declared.Desc.{Desc}
@@ -11,8 +11,9 @@ use Rattle.window_model.specs.Row.{Row, with_events}
 use Rattle.window_model.specs.State.{Machine}
 use Rattle.window_model.specs.Around.{Around, around}
 use Rattle.window_model.specs.Order.{Place, before_at, each_from, first_from, is_waiting, ready}
-use Rattle.window_model.specs.Issue.{Port, DivPort, LoadPort, issue, issue_entry, may_at, may_issue, port_of, same_port, taken_for, waits}
+use Rattle.window_model.specs.Issue.{Port, DivPort, LoadPort, issue, issue_entry, may_at, taken_for, waits}
 use Rattle.window_model.proofs.Booleans.{neither}
+use Rattle.machine_facts.specs.Sized.{HasParts, Together}
 use Rattle.stations.specs.Stations.{Station, awaits_none}
 use Rattle.parts_stand.specs.Parts.{Parts, Stand}
 use Rattle.parts_stand.specs.Steps.{station_of}
@@ -23,10 +24,10 @@ use Rattle.core_parts.specs.Stands.{table_and_stations}
 use Rattle.core_parts.proofs.Whole.{shown_by, told_by}
 use Rattle.issue.specs.Shared.{divider_left}
 use Rattle.issue.proofs.Leaving.{leaves}
-use Rattle.issue.proofs.Testing.{grants_none}
-use Rattle.issue.proofs.Turning.{turn_is}
+use Rattle.issue.proofs.Asking.{AsksNone, InStep, asks_none, step_at}
+use Rattle.issue.proofs.Turning.{turn_none}
 
--- ---- no entry may issue
+-- ---- no entry asks for a port
 
 -- the answer of each station
 answer_at : (held : List Station) (n : ℕ) (b : Bool) → list_any awaits_none held ≡ false → option_map awaits_none (slice_get held n) ≡ Some b → b ≡ false
@@ -34,35 +35,32 @@ answer_at [] n b h k = absurd (cc)
 answer_at (s ∷ held) zero b h k = let no = (neither (awaits_none s) (list_any awaits_none held) h).0 in cc
 answer_at (s ∷ held) (suc n) b h k = answer_at held n b (neither (awaits_none s) (list_any awaits_none held) h).1 k
 
--- an entry that doesn't wait, and one that isn't ready, stay
-abbrev pub Stays : Desc → Around → Fact
-Stays d now before e = may_issue d now before e ≡ false
-
-stays_by : (d : Desc) (now : Around) (before : List Entry) (e : Entry) (w : Bool) → is_waiting e.state ≡ w → (is_waiting e.state ≡ true → ready before e ≡ false) → Stays d now before e
-stays_by d now before e true w r = let n = r w in cc
-stays_by d now before e false w r = cc
+-- an entry that doesn't wait, and one that isn't ready, asks for no port
+none_by : (d : Desc) (now : Around) (before : List Entry) (e : Entry) (w : Bool) → InStep d e → is_waiting e.state ≡ w → (is_waiting e.state ≡ true → ready before e ≡ false) → AsksNone d now before e
+none_by d now before e true t w r = let n = r w in asks_none d now before e t (cc)
+none_by d now before e false t w r = asks_none d now before e t (cc)
 
 -- what each position has, each entry has
 along_by : (P : Fact) (before es : List Entry) → ((i : ℕ) (e : Entry) → slice_get es i ≡ Some e → P (reverse_aux (take i es) before) e) → Along P before es
 along_by P before [] h = tt
 along_by P before (e ∷ es) h = (h 0 e refl, along_by P (e ∷ before) es (λ i e2 k. h (suc i) e2 k))
 
-pub all_stay : (d : Desc) (now : Around) (p : Parts) → Stand p → list_any awaits_none p.held ≡ false → Along (Stays d now) [] p.window
-all_stay d now p s none = along_by (Stays d now) [] p.window (λ i e h.
-    stays_by d now (before_at p.window i) e (is_waiting e.state) refl (λ w. answer_at p.held (station_of i p.window) (ready (before_at p.window i) e) none (tells_ready p i e s h w)))
+pub all_stay : (d : Desc) (now : Around) (p : Parts) → Stand p → Each HasParts p.window → Each (Together d) p.window → list_any awaits_none p.held ≡ false → Along (AsksNone d now) [] p.window
+all_stay d now p s parts together none = along_by (AsksNone d now) [] p.window (λ i e h.
+    none_by d now (before_at p.window i) e (is_waiting e.state) (step_at d p.window i e parts together h) refl (λ w. answer_at p.held (station_of i p.window) (ready (before_at p.window i) e) none (tells_ready p i e s h w)))
 
 -- ---- and nothing is left otherwise
 
 module _ (d : Desc) (now : Around) where
-  each_waits : (before es : List Entry) → Along (Stays d now) before es → each_from (issue_entry d now) before es ≡ map waits es
+  each_waits : (before es : List Entry) → Along (AsksNone d now) before es → each_from (issue_entry d now) before es ≡ map waits es
   each_waits before [] h = refl
   each_waits before (e ∷ es) h =
-      ap₂ (λ b bs. b ∷ bs) (turn_is false d now before e (grants_none d now (port_of e.item.kind) before e h.0)) (each_waits (e ∷ before) es h.1)
+      ap₂ (λ b bs. b ∷ bs) (turn_none d now before e h.0) (each_waits (e ∷ before) es h.1)
 
-  none_first : (port : Port) (before es : List Entry) → Along (Stays d now) before es → first_from (may_at d now port) before es ≡ None
+  none_first : (port : Port) (before es : List Entry) → Along (AsksNone d now) before es → first_from (may_at d now port) before es ≡ None
   none_first port before [] h = refl
   none_first port before (e ∷ es) h =
-      ap (λ m. if m && same_port (port_of e.item.kind) port then Some (record { before = before; entry = e; younger = es }) else first_from (may_at d now port) (e ∷ before) es) h.0
+      ap (λ m. if m then Some (record { before = before; entry = e; younger = es }) else first_from (may_at d now port) (e ∷ before) es) (h.0 port)
       ∙ none_first port (e ∷ before) es h.1
 
 same_entries : (es : List Entry) → map (λ b. b.entry) (map waits es) ≡ es
@@ -73,7 +71,7 @@ no_events : (es : List Entry) → flat_map (λ b. b.events) (map waits es) ≡ [
 no_events [] = refl
 no_events (e ∷ es) = no_events es
 
-module _ (d : Desc) (x : Machine) (h : Along (Stays d (around x)) [] x.window) where
+module _ (d : Desc) (x : Machine) (h : Along (AsksNone d (around x)) [] x.window) where
   -- the phase has no event
   pub idle_events : (issue d x).events ≡ []
   idle_events = ap (flat_map (λ b. b.events)) (each_waits d (around x) [] x.window h) ∙ no_events x.window
@@ -89,9 +87,9 @@ module _ (d : Desc) (x : Machine) (h : Along (Stays d (around x)) [] x.window) w
 
 -- ---- of parts with no ready station
 
--- no entry may issue
-none_may : (h : Held) → Whole h → list_any awaits_none h.stations.held ≡ false → Along (Stays h.desc (around (machine_of h))) [] h.rob.entries
-none_may h w none = all_stay h.desc (around (machine_of h)) (table_and_stations (in_flight h)) w.stands.stand none
+-- no entry asks for a port
+none_may : (h : Held) → Whole h → list_any awaits_none h.stations.held ≡ false → Along (AsksNone h.desc (around (machine_of h))) [] h.rob.entries
+none_may h w none = all_stay h.desc (around (machine_of h)) (table_and_stations (in_flight h)) w.stands.stand w.sized.parts w.sized.together none
 
 -- so the phase leaves what is seen of them, and has no event
 pub idle_shown : (h : Held) (v : Described) → Whole h → list_any awaits_none h.stations.held ≡ false → described h ≡ v → described h ≡ record v { machine = (issue v.desc v.machine).machine }

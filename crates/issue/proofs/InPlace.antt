@@ -8,12 +8,12 @@ use Rattle.std.proofs.lemmas.List.{get_or_append_left, length-append}
 use Rattle.std.proofs.lemmas.List.Elements.{All-head}
 use Rattle.std.proofs.lemmas.Option.{slice_get_within}
 use Rattle.window_model.specs.declared.Entry.{Entry}
-use Rattle.window_model.specs.Issue.{begun}
 use Rattle.window_model.specs.Order.{is_waiting}
 use Rattle.rob_ring.specs.Ring.{Ring}
 use Rattle.stations.specs.Stations.{Station, Stations}
 use Rattle.core_parts.specs.Stands.{InFlight, Stands, table_and_stations}
 use Rattle.core_parts.proofs.Steps.{stands_begun}
+use Rattle.parts_stand.specs.Steps.{begun_with}
 use Rattle.parts_stand.proofs.Answering.{has_station, stations_older}
 use Rattle.window_model.proofs.Serials.{all_left, all_right}
 use Rattle.issue.specs.declared.decide.Put.{Put}
@@ -31,8 +31,8 @@ ties_more : (entries : List Entry) (held : List Station) (now : List Entry) (hel
     Ties entries held now held_now → IsPut now put → Ties entries held (slice_set now put.position put.entry) (freed put held_now)
 ties_more entries held now held_now put t k =
     let by_entry : Entry → Type 0 = λ e. Ties entries held (slice_set now put.position e) (if is_waiting e.state then held_now else remove held_now put.station) in
-    let by_station : ℕ → Type 0 = λ n. Ties entries held (slice_set now put.position (begun k.old k.due k.outcome)) (remove held_now n) in
-    subst by_entry (sym k.is) (subst by_station (sym k.station) (λ p s. stands_begun (record p { window = now; held = held_now }) put.position k.due k.old k.outcome (t p s) k.here k.waits))
+    let by_station : ℕ → Type 0 = λ n. Ties entries held (slice_set now put.position (begun_with k.old k.due k.outcome k.address k.stored)) (remove held_now n) in
+    subst by_entry (sym k.is) (subst by_station (sym k.station) (λ p s. stands_begun (record p { window = now; held = held_now }) put.position k.due k.old k.outcome k.address k.stored (t p s) k.here k.waits k.known))
 
 -- ---- the puts
 
@@ -52,6 +52,9 @@ still_put window put m e lt k = record {
   station = k.station ∙ sym (stations_older window put.position m e (omega (arith, lt)));
   due = k.due;
   outcome = k.outcome;
+  address = k.address;
+  stored = k.stored;
+  known = k.known;
   is = k.is;
 }
 

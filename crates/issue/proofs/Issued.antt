@@ -8,7 +8,7 @@ use Rattle.window_model.specs.Around.{Around, around}
 use Rattle.window_model.specs.Issue.{issue, issue_entry}
 use Rattle.window_model.specs.Order.{each}
 use Rattle.window_model.specs.State.{Machine}
-use Rattle.window_model.specs.Row.{Row, most_issued, with_events}
+use Rattle.window_model.specs.Row.{Row, with_events}
 use Rattle.machine_facts.specs.Sized.{Sized}
 use Rattle.machine_facts.proofs.SizedPhases.{sized_issue}
 use Rattle.rob_ring.specs.Ring.{Ring}
@@ -25,7 +25,7 @@ use Rattle.core_parts.specs.Stands.{InFlight, Stands}
 use Rattle.core_parts.proofs.Whole.{shown_by, told_by}
 use Rattle.issue.specs.declared.decide.Decided.{Decided}
 use Rattle.issue.specs.Accesses.{as_access}
-use Rattle.issue.specs.Decisions.{Decides}
+use Rattle.issue.specs.Decisions.{Decides, most_begun}
 use Rattle.issue.specs.Parts.{holding}
 use Rattle.issue.specs.Ports.{left_in_all}
 use Rattle.issue.specs.Puts.{placed}
@@ -40,7 +40,7 @@ pub advanced : (h : Held) (v : Described) → Whole h → described h ≡ v → 
 advanced h v w s a = subst (λ (v : Described). HasAdvanced v.point v.machine.window) (sym s) a
 
 -- as the cycle of the ports begins at most so many are left
-pub few_left : (h : Held) (cycle : ℕ) (ports : Ports) → Whole h → ports ≡ begun_at cycle h.ports → left_in_all ports ≤ most_issued
+pub few_left : (h : Held) (cycle : ℕ) (ports : Ports) → Whole h → ports ≡ begun_at cycle h.ports → left_in_all ports ≤ most_begun
 few_left h cycle ports w b =
     let n = ap left_in_all b in
     let alus = ap (λ (s : Sizes). s.alus) w.made in
@@ -119,4 +119,4 @@ module _ (h : Held) (decided : Decided) (rob : Ring) (stations : Stations) (tags
   pub issued_advanced : (v : Described) → described h ≡ v → HasAdvanced v.point v.machine.window → HasAdvanced h.point rob.entries
   issued_advanced v s a =
       subst (HasAdvanced h.point) (sym (ap (λ (x : Machine). x.window) issued_machine))
-      (issue_advanced h.desc h.point (machine_of h) w.stands.point.unresolved (advanced h v w s a))
+      (issue_advanced h.desc h.point (machine_of h) w.sized.parts w.stands.point.unresolved (advanced h v w s a))

@@ -2,6 +2,7 @@ pub mod Options
 pub mod Writers
 pub mod Bytes
 pub mod Waiting
+pub mod Asking
 pub mod Testing
 pub mod Choosing
 pub mod Slots

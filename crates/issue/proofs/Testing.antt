@@ -10,24 +10,24 @@ use Rattle.machine_desc.specs.declared.Desc.{Desc}
 use Rattle.window_model.specs.declared.Divider.{Divider}
 use Rattle.window_model.specs.declared.Entry.{Entry}
 use Rattle.window_model.specs.Around.{Around, is_free}
-use Rattle.window_model.specs.Issue.{Port, AluPort, asking, is_granted, may_at, may_issue, may_issue_as, port_of, ports, same_port, stores_done}
+use Rattle.window_model.specs.Issue.{Port, AluPort, is_granted, may_at, may_issue, may_issue_as, stores_done}
 use Rattle.window_model.proofs.Booleans.{both}
-use Rattle.window_model.proofs.Issuing.{may_own}
 use Rattle.window_model.specs.Order.{before_at, is_waiting, ready}
 use Rattle.stations.specs.Stations.{awaits_none}
 use Rattle.rob_ring.specs.Beside.{each_roots}
 use Rattle.lsq.specs.Queues.{is_known, older}
 use Rattle.queue_laws.proofs.Telling.{known_is}
 use Rattle.transmit_gate.specs.Gate.{may_transmit}
-use Rattle.unit_ports.specs.Ports.{Ports, left_at, taken_at}
+use Rattle.unit_ports.specs.Ports.{Ports, left_at, port_for, taken_at}
 use Rattle.unit_ports.specs.Laws.{LeftAfter, asked}
-use Rattle.unit_ports.proofs.Granting.{granted_is, left_more}
+use Rattle.unit_ports.proofs.Granting.{granted_is, left_more, port_asked}
 use Rattle.parts_stand.specs.Steps.{station_of}
 use Rattle.parts_stand.specs.Telling.{asks_besides}
 use Rattle.parts_stand.proofs.Answering.{tells_issue, tells_ready}
 use Rattle.issue.specs.declared.seen.Seen.{Seen}
 use Rattle.issue.specs.Ports.{OnlyPorts, left_in_all}
 use Rattle.issue.specs.State.{Stands, StandsAt, around_of, parts_of}
+use Rattle.issue.proofs.Asking.{InStep, asks_own}
 use Rattle.issue.proofs.Bytes.{stores_before}
 
 -- ---- what an entry is asked for
@@ -70,8 +70,8 @@ only_ports : (q : Port) (p : Ports) → OnlyPorts p (taken_at q p)
 only_ports AluPort p = record { alus = refl; cycle = refl }
 only_ports _ p = record { alus = refl; cycle = refl }
 
--- an entry takes one where it may issue
-pub left_asked : (b : Bool) (d : Desc) (now : Around) (before : List Entry) (e : Entry) (p : Ports) → may_issue d now before e ≡ b → LeftAfter d now before p →
+-- an entry takes one where it may issue there
+pub left_asked : (b : Bool) (d : Desc) (now : Around) (before : List Entry) (e : Entry) (p : Ports) → may_at d now (port_for e.item.kind) before e ≡ b → LeftAfter d now before p →
     LeftAfter d now (e ∷ before) (asked b e p)
 left_asked b d now before e p h l = subst (λ b. LeftAfter d now (e ∷ before) (asked b e p)) h (left_more d now before e p l)
 
@@ -93,7 +93,7 @@ divider_stays AluPort p = refl
 divider_stays _ p = refl
 
 left_with : (d : Desc) (now : Around) (es : List Entry) (p : Ports) (v : Divider) → LeftAfter d now es p → LeftAfter d now es (record p { divider = v })
-left_with d now es p v l = record { each_port = λ q. with_divider q p v ∙ l.each_port q }
+left_with d now es p v l = record { each_port = λ q k. with_divider q p v ∙ l.each_port q k }
 
 -- what one that is served leaves
 pub record Served (d : Desc) (now : Around) (before : List Entry) (e : Entry) (old new : Ports) (v : Divider) : Type 0 where
@@ -102,17 +102,16 @@ pub record Served (d : Desc) (now : Around) (before : List Entry) (e : Entry) (o
   pub only : OnlyPorts old new
   pub divider : new.divider ≡ v
 
--- an entry that may not issue is granted no port
-pub grants_none : (d : Desc) (now : Around) (port : Port) (before : List Entry) (e : Entry) → may_issue d now before e ≡ false → is_granted d now port before e ≡ false
-grants_none d now port before e h = ap (λ m. (m && same_port (port_of e.item.kind) port) && nat_lt (asking d now port before) (ports d port)) h
-
 -- one is granted its own where one is left and it may issue
-module _ (d : Desc) (now : Around) (before : List Entry) (e : Entry) (p : Ports) (l : LeftAfter d now before p) where
+module _ (d : Desc) (now : Around) (before : List Entry) (e : Entry) (p : Ports) (t : InStep d e) (l : LeftAfter d now before p) where
   abbrev own : Port
-  own = port_of e.item.kind
+  own = port_for e.item.kind
+
+  granted_own : (may_at d now own before e && nat_lt 0 (left_at own p)) ≡ is_granted d now own before e
+  granted_own = granted_is d now own before e p (port_asked e.item.kind) l
 
   grants_left : (b : Bool) → nat_lt 0 (left_at own p) ≡ b → is_granted d now own before e ≡ (may_issue d now before e && b)
-  grants_left b n = sym (granted_is d now own before e p l) ∙ ap₂ (λ a b. a && b) (may_own d now before e) n
+  grants_left b n = sym granted_own ∙ ap₂ (λ a b. a && b) (asks_own d now before e t) n
 
   pub served_where_left : nat_lt 0 (left_at own p) ≡ true → is_granted d now own before e ≡ may_issue d now before e
   served_where_left n = grants_left true n ∙ and-true (may_issue d now before e)
@@ -122,18 +121,18 @@ module _ (d : Desc) (now : Around) (before : List Entry) (e : Entry) (p : Ports)
 
   -- one that is refused takes none
   pub left_refused : is_granted d now own before e ≡ false → LeftAfter d now (e ∷ before) p
-  left_refused h = by_may (may_issue d now before e) refl
+  left_refused h = by_may (may_at d now own before e) refl
     where
-      by_may : (m : Bool) → may_issue d now before e ≡ m → LeftAfter d now (e ∷ before) p
+      by_may : (m : Bool) → may_at d now own before e ≡ m → LeftAfter d now (e ∷ before) p
       by_may true m =
-          let refused : nat_lt 0 (left_at own p) ≡ false = sym (grants_left (nat_lt 0 (left_at own p)) refl ∙ ap (λ m. m && nat_lt 0 (left_at own p)) m) ∙ h in
+          let refused : nat_lt 0 (left_at own p) ≡ false = sym (ap (λ m. m && nat_lt 0 (left_at own p)) m) ∙ granted_own ∙ h in
           subst (LeftAfter d now (e ∷ before)) (taken_none own p refused) (left_asked true d now before e p m l)
       by_may false m = left_asked false d now before e p m l
 
   -- one that is served takes one
   module _ (h : is_granted d now own before e ≡ true) where
     is_left : nat_lt 0 (left_at own p) ≡ true
-    is_left = (both (may_at d now own before e) _ (granted_is d now own before e p l ∙ h)).1
+    is_left = (both (may_at d now own before e) _ (granted_own ∙ h)).1
 
     pub some_left : 1 ≤ left_in_all p
     some_left = let n = one_less own p in let one = ap one_if is_left in omega (arith, n, one)
@@ -141,7 +140,7 @@ module _ (d : Desc) (now : Around) (before : List Entry) (e : Entry) (p : Ports)
     pub served : (v : Divider) (begun new : Ports) → begun ≡ record p { divider = v } → new ≡ taken_at own begun → Served d now before e p new v
     served v begun new b n =
         let is : new ≡ taken_at own (record p { divider = v }) = n ∙ ap (taken_at own) b in
-        let m = (both (may_issue d now before e) _ (both (may_at d now own before e) _ h).0).0 in
+        let m = (both (may_at d now own before e) _ h).0 in
         let less = one_less own (record p { divider = v }) in
         let one : one_if (nat_lt 0 (left_at own (record p { divider = v }))) ≡ 1 = ap (λ n. one_if (nat_lt 0 n)) (with_divider own p v) ∙ ap one_if is_left in
         let all = ap left_in_all is in

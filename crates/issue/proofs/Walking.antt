@@ -13,9 +13,9 @@ use Rattle.window_model.specs.Access.{Access}
 use Rattle.machine_desc.specs.declared.Desc.{Desc}
 use Rattle.window_model.specs.Around.{Around}
 use Rattle.window_model.specs.Order.{before_at, each, is_waiting, ready}
-use Rattle.window_model.specs.Issue.{Begun, DivPort, LoadPort, access_of, is_granted, issue_entry, may_at, may_issue, port_of, taken_for, waits}
+use Rattle.window_model.specs.Issue.{Begun, DivPort, LoadPort, access_of, is_granted, issue_entry, may_at, taken_for, waits}
 use Rattle.window_model.proofs.Before.{before_more, each_push}
-use Rattle.unit_ports.specs.Ports.{Ports}
+use Rattle.unit_ports.specs.Ports.{Ports, port_for}
 use Rattle.unit_ports.specs.Laws.{LeftAfter}
 use Rattle.parts_stand.specs.Steps.{station_of}
 use Rattle.issue.specs.declared.decide.Put.{Put}
@@ -25,13 +25,14 @@ use Rattle.issue.specs.Accesses.{as_access}
 use Rattle.issue.specs.Decisions.{DecidesFor, turns_of}
 use Rattle.issue.specs.Puts.{ArePuts, IsPut, placed}
 use Rattle.issue.specs.Shared.{divider_left}
-use Rattle.issue.specs.State.{StandsAt, around_of, window_of}
+use Rattle.issue.specs.State.{Stands, StandsAt, around_of, window_of}
 use Rattle.issue.specs.Turns.{puts_of}
 use Rattle.issue.proofs.Choosing.{the_other}
 use Rattle.issue.proofs.Slots.{divider_more, of_first, one_more, slot_more}
-use Rattle.issue.proofs.Testing.{grants_none, left_asked}
+use Rattle.issue.proofs.Asking.{AsksNone, InStep, asks_none, grants_none, in_step}
+use Rattle.issue.proofs.Testing.{left_asked}
 use Rattle.issue.proofs.Waiting.{Keeps, Reaches}
-use Rattle.issue.proofs.Turning.{PutsTo, granted_waits, placed_more, puts_more, turn_acts, turn_is}
+use Rattle.issue.proofs.Turning.{PutsTo, granted_waits, placed_more, puts_more, turn_acts, turn_none}
 
 -- what is decided once the entries before a position have had their turns
 pub record DecidedTo (s : Seen) (i : ℕ) (puts : List Put) (load : Option Access) (start divider : Divider) (earlier events : List Event) : Type 0 where
@@ -50,7 +51,7 @@ events_push : (bs : List Begun) (b : Begun) → flat_map (λ b. b.events) (bs ++
 events_push [] b = append-nil b.events
 events_push (a ∷ bs) b = ap (λ es. a.events ++ es) (events_push bs b) ∙ sym (append_assoc a.events (flat_map (λ b. b.events) bs) b.events)
 
-module _ (s : Seen) (i : ℕ) (e : Entry) (h : StandsAt s i e) where
+module _ (s : Seen) (i : ℕ) (e : Entry) (stands : Stands s) (h : StandsAt s i e) where
   abbrev d : Desc
   d = s.desc.now
 
@@ -62,6 +63,9 @@ module _ (s : Seen) (i : ℕ) (e : Entry) (h : StandsAt s i e) where
 
   abbrev before : List Entry
   before = before_at (window_of s) i
+
+  step : InStep d e
+  step = in_step s i e stands h
 
   abbrev turn : Begun
   turn = issue_entry d now before e
@@ -82,7 +86,7 @@ module _ (s : Seen) (i : ℕ) (e : Entry) (h : StandsAt s i e) where
       let turned : map (λ b. b.entry) (turns (i + 1)) ≡ map (λ b. b.entry) (turns i) ++ turn.entry ∷ [] = ap (map (λ b. b.entry)) turns_more ∙ entries_push (turns i) turn in
       let whole : map (λ b. b.entry) (turns (i + 1)) ++ younger ≡ map (λ b. b.entry) (turns i) ++ turn.entry ∷ younger = ap (λ es. es ++ younger) turned ∙ append_assoc (map (λ b. b.entry) (turns i)) (turn.entry ∷ []) younger in
       ap (placed (puts ++ puts_of i station turn)) older
-      ∙ placed_more puts i station e (is_granted d now (port_of e.item.kind) before e) turn (window_up_to i) younger l (turn_acts d now before e)
+      ∙ placed_more puts i station e (is_granted d now (port_for e.item.kind) before e) turn (window_up_to i) younger l (turn_acts d now before e)
       ∙ w (turn.entry ∷ younger) ∙ sym whole
 
   events_more : (earlier events more : List Event) → more ≡ events ++ turn.events → events ≡ earlier ++ flat_map (λ b. b.events) (turns i) →
@@ -98,27 +102,27 @@ module _ (s : Seen) (i : ℕ) (e : Entry) (h : StandsAt s i e) where
       new_divider ≡ (if is_granted d now DivPort before e then taken_for now before e else divider) →
       DecidedTo s i puts load start divider earlier events → DecidedTo s (i + 1) new_puts new_load start new_divider earlier more
   decided_more station puts new_puts load new_load start divider new_divider earlier events more n p m l v t =
-      let granted = is_granted d now (port_of e.item.kind) before e in
+      let granted = is_granted d now (port_for e.item.kind) before e in
       record {
-        puts_to = subst (PutsTo (window_of s) (i + 1)) (sym p) (puts_more (window_of s) i station e puts granted turn h n (granted_waits d now before e) (turn_acts d now before e) t.puts_to);
+        puts_to = subst (PutsTo (window_of s) (i + 1)) (sym p) (puts_more (window_of s) i station e puts granted turn h n (granted_waits d now before e step) (turn_acts d now before e) t.puts_to);
         window = λ younger. ap (λ ps. placed ps (window_up_to (i + 1) ++ younger)) p ∙ window_more station puts t.window younger;
         events_are = events_more earlier events more m t.events_are;
         load_is = slot_more (access_of d now) d now LoadPort (window_of s) i e load new_load h refl l t.load_is;
         divider_is = divider_more d now (window_of s) i e start divider new_divider h v t.divider_is;
       }
 
-  -- one that doesn't wait, and one that isn't ready, may not issue
-  pub not_waiting : is_waiting e.state ≡ false → may_issue d now before e ≡ false
-  not_waiting w = cc
+  -- one that doesn't wait, and one that isn't ready, asks for no port
+  pub not_waiting : is_waiting e.state ≡ false → AsksNone d now before e
+  not_waiting w = asks_none d now before e step (cc)
 
-  pub not_ready : is_waiting e.state ≡ true → ready before e ≡ false → may_issue d now before e ≡ false
-  not_ready w r = cc
+  pub not_ready : is_waiting e.state ≡ true → ready before e ≡ false → AsksNone d now before e
+  not_ready w r = asks_none d now before e step (cc)
 
-  -- one that may not issue leaves all as it is
-  pub decided_past : (puts : List Put) (load : Option Access) (start divider : Divider) (earlier events : List Event) → may_issue d now before e ≡ false →
+  -- one that asks for no port leaves all as it is
+  pub decided_past : (puts : List Put) (load : Option Access) (start divider : Divider) (earlier events : List Event) → AsksNone d now before e →
       DecidedTo s i puts load start divider earlier events → DecidedTo s (i + 1) puts load start divider earlier events
   decided_past puts load start divider earlier events m t =
-      let stays : turn ≡ waits e = turn_is false d now before e (grants_none d now (port_of e.item.kind) before e m) in
+      let stays : turn ≡ waits e = turn_none d now before e m in
       decided_more (station_of i (window_of s)) puts puts load load start divider divider earlier events events refl
       (sym (ap (λ b. puts ++ puts_of i (station_of i (window_of s)) b) stays ∙ append-nil puts))
       (sym (ap (λ b. events ++ b.events) stays ∙ append-nil events))
@@ -128,8 +132,8 @@ module _ (s : Seen) (i : ℕ) (e : Entry) (h : StandsAt s i e) where
   pub left_on : (p : Ports) → LeftAfter d now (e ∷ before) p → LeftAfter d now (before_at (window_of s) (i + 1)) p
   left_on p l = subst (λ before. LeftAfter d now before p) (sym (before_more (window_of s) i e (slice_get_within (window_of s) i e h) ∙ ap (λ e. e ∷ before) (get_or_from_slice_get (window_of s) i e e h))) l
 
-  pub left_past : (p : Ports) → may_issue d now before e ≡ false → LeftAfter d now before p → LeftAfter d now (before_at (window_of s) (i + 1)) p
-  left_past p m l = left_on p (left_asked false d now before e p m l)
+  pub left_past : (p : Ports) → AsksNone d now before e → LeftAfter d now before p → LeftAfter d now (before_at (window_of s) (i + 1)) p
+  left_past p m l = left_on p (left_asked false d now before e p (m (port_for e.item.kind)) l)
 
 -- ---- the walk
 
@@ -138,15 +142,15 @@ pub record Walked (s : Seen) (ports : Ports) (puts : List Put) (load : Option Ac
   pub decided : DecidedTo s i puts load start ports.divider earlier events
   pub left : LeftAfter s.desc.now (around_of s) (before_at (window_of s) i) ports
 
-module _ (s : Seen) (ports : Ports) (puts : List Put) (load : Option Access) (start : Divider) (earlier events : List Event) where
-  -- one that may not issue leaves all as it is
-  pub walked_past : (i : ℕ) (e : Entry) (h : StandsAt s i e) → may_issue s.desc.now (around_of s) (before_at (window_of s) i) e ≡ false →
+module _ (s : Seen) (ports : Ports) (puts : List Put) (load : Option Access) (start : Divider) (earlier events : List Event) (stands : Stands s) where
+  -- one that asks for no port leaves all as it is
+  pub walked_past : (i : ℕ) (e : Entry) (h : StandsAt s i e) → AsksNone s.desc.now (around_of s) (before_at (window_of s) i) e →
       Walked s ports puts load start earlier events i → Walked s ports puts load start earlier events (i + 1)
-  walked_past i e h m t = record { decided = decided_past s i e h puts load start ports.divider earlier events m t.decided; left = left_past s i e h ports m t.left }
+  walked_past i e h m t = record { decided = decided_past s i e stands h puts load start ports.divider earlier events m t.decided; left = left_past s i e stands h ports m t.left }
 
   -- so does one that doesn't wait
   pub keeps : Keeps (Walked s ports puts load start earlier events) (window_of s)
-  keeps i e h w t = walked_past i e h (not_waiting s i e h w) t
+  keeps i e h w t = walked_past i e h (not_waiting s i e stands h w) t
 
 -- ---- at the end
 

@@ -1,5 +1,5 @@
 -- What the phase decides, before anything is changed (docs/machine.md, "Issue").
-use Rattle.std.specs.Prelude.{◌≡◌, List, [], map, Option, None}
+use Rattle.std.specs.Prelude.{◌≡◌, ℕ, List, [], map, Option, None}
 use Rattle.std.specs.Option.{option_map}
 use Rattle.machine_desc.specs.declared.Desc.{Desc}
 use Rattle.window_model.specs.declared.Divider.{Divider}
@@ -26,6 +26,10 @@ load_of d now window = option_map (λ p. access_of d now p.before p.entry) (firs
 -- the divider with the division that begins
 abbrev pub division_of : Desc → Around → List Entry → Option Divider
 division_of d now window = option_map (λ p. taken_for now p.before p.entry) (first (may_at d now DivPort) window)
+
+-- the most entries that begin in a cycle: four arithmetic ones, a multiplication, a division, a load and a store
+abbrev pub most_begun : ℕ
+most_begun = 8
 
 -- which entries begin, what the load's access comes to, and the divider then
 pub record Decides (d : Desc) (now : Around) (es : List Entry) (decided : Decided) (old new : Divider) : Type 0 where

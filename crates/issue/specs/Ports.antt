@@ -1,9 +1,9 @@
 -- Ports, as entries are granted them (docs/machine.md, "Issue").
 use Rattle.std.specs.Prelude.{◌≡◌, ℕ, ◌+◌, Bool, ◌∷◌}
 use Rattle.window_model.specs.Around.{is_free}
-use Rattle.window_model.specs.Issue.{Port, is_granted, port_of}
+use Rattle.window_model.specs.Issue.{Port, is_granted}
 use Rattle.unit_ports.specs.Laws.{LeftAfter}
-use Rattle.unit_ports.specs.Ports.{Ports}
+use Rattle.unit_ports.specs.Ports.{Ports, port_for}
 use Rattle.parts_stand.specs.Telling.{asks_besides}
 use Rattle.issue.specs.declared.seen.Place.{Place}
 use Rattle.issue.specs.declared.seen.Seen.{Seen}
@@ -19,9 +19,9 @@ besides s p = asks_besides p.entry.now.item.kind (is_free (around_of s)) (before
 abbrev pub granted_at : Port → Seen → Place → Bool
 granted_at port s p = is_granted s.desc.now (around_of s) port (before_of s p) p.entry.now
 
--- it is granted its own
+-- it is granted its own: a store that of its address part
 abbrev pub is_served : Seen → Place → Bool
-is_served s p = granted_at (port_of p.entry.now.item.kind) s p
+is_served s p = granted_at (port_for p.entry.now.item.kind) s p
 
 -- these ports are left to it, and to those behind it
 abbrev pub LeftFor : Seen → Place → Ports → Type 0

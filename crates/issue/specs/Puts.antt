@@ -1,16 +1,15 @@
 -- Entries that are to begin, before they do in their places (docs/machine.md, "Issue"): every test is made on the window as it
 -- was before the phase.
-use Rattle.std.specs.Prelude.{◌≡◌, ℕ, ◌<◌, true, List, [], ◌∷◌, slice_get, slice_set, Some, if◌then◌else◌}
+use Rattle.std.specs.Prelude.{◌≡◌, ℕ, ◌<◌, true, List, [], ◌∷◌, slice_get, slice_set, Option, Some, is_some, if◌then◌else◌}
 use Rattle.std.specs.List.{All, AllPairs, remove}
 use Rattle.window_model.specs.declared.Entry.{Entry}
 use Rattle.window_model.specs.declared.Outcome.{Outcome}
-use Rattle.window_model.specs.Order.{is_waiting}
-use Rattle.window_model.specs.Issue.{begun}
+use Rattle.window_model.specs.Order.{is_store, is_waiting}
 use Rattle.stations.specs.Stations.{Station}
-use Rattle.parts_stand.specs.Steps.{station_of}
+use Rattle.parts_stand.specs.Steps.{begun_with, station_of}
 use Rattle.issue.specs.declared.decide.Put.{Put}
 
--- the entry at its position waits, and begins; its station is named
+-- the entry at its position waits, and begins, a store with its address; its station is named
 pub record IsPut (window : List Entry) (p : Put) : Type 0 where
   pub old : Entry
   pub here : slice_get window p.position ≡ Some old
@@ -18,7 +17,10 @@ pub record IsPut (window : List Entry) (p : Put) : Type 0 where
   pub station : p.station ≡ station_of p.position window
   pub due : ℕ
   pub outcome : Outcome
-  pub is : p.entry ≡ begun old due outcome
+  pub address : Option ℕ
+  pub stored : Option ℕ
+  pub known : is_store old.item.kind ≡ true → is_some address ≡ true
+  pub is : p.entry ≡ begun_with old due outcome address stored
 
 -- each is one, and they are named by age
 pub record ArePuts (window : List Entry) (puts : List Put) : Type 0 where

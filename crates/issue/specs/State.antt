@@ -1,7 +1,9 @@
 -- The state that the phase looks at, when it stands for a machine, and an entry in its place (docs/machine.md, "Issue", "The
 -- parts stand for the machine").
 use Rattle.std.specs.Prelude.{◌≡◌, ℕ, List, true, slice_get, Some}
+use Rattle.std.specs.List.{AllByRecursion as Each}
 use Rattle.machine_desc.specs.declared.Desc.{Desc}
+use Rattle.machine_facts.specs.Sized.{HasParts, Together}
 use Rattle.window_model.specs.declared.Entry.{Entry}
 use Rattle.window_model.specs.Around.{Around}
 use Rattle.window_model.specs.Order.{before_at, is_waiting, ready}
@@ -36,6 +38,9 @@ pub record Stands (s : Seen) : Type 0 where
   pub writers : WritersOf next s.rob.now.entries (each_writers s.sources.now.items)
   pub queues : StandFor s.lsq.now s.rob.now.entries
   pub addresses : AddressesStand s.rob.now.entries (each_roots s.sources.now.items) s.lsq.now.stores
+  -- a store that waits lacks a part, and its parts go together
+  pub store_parts : Each HasParts s.rob.now.entries
+  pub together : Each (Together s.desc.now) s.rob.now.entries
   pub advanced : HasAdvanced s.point.now s.rob.now.entries
   pub model : s.point.now.model ≡ s.desc.now.stt_model
   pub cache : s.tags.now.desc ≡ s.desc.now

@@ -1,7 +1,8 @@
 //! What an entry does that is granted a port, by its kind (`docs/machine.md`, "Issue"). Its events go into the row.
 ghost use Rattle.std.specs.Prelude.{◌≡◌, None, Some};
 ghost use Rattle.rv_effect.specs.Seen.{seen};
-ghost use Rattle.window_model.specs.Issue.{begun, fault_if, outcome};
+ghost use Rattle.issue.specs.Turns.{with_both};
+ghost use Rattle.window_model.specs.Issue.{begun, fault_if, outcome, so_far};
 
 use crate::access::{Access, Line};
 use crate::loads::Loaded;
@@ -45,6 +46,39 @@ fn begun(entry: &Entry, due: u64, outcome: Outcome) -> Entry
         state: Progress::Busy(due),
         outcome: Some(outcome),
         resolved: entry.resolved,
+        addr_due: entry.addr_due,
+        data_due: entry.data_due,
+    }
+}
+
+// A store's outcome so far, by its next address.
+fn so_far(outcome: Option<Outcome>, next: u32) -> Outcome
+    ensures { result ≡ so_far outcome next }
+{
+    match outcome {
+        Some(outcome) => outcome,
+        None => Outcome {
+            value: 0,
+            next,
+            addr: 0,
+            stored: 0,
+            fault: None,
+        },
+    }
+}
+
+// A store of which both parts have issued: what each brings is there in this cycle, and until then it executes.
+fn with_both(entry: &Entry, due: u64, outcome: Outcome) -> Entry
+    ensures { result ≡ with_both entry.now due outcome }
+{
+    Entry {
+        serial: entry.serial,
+        item: entry.item,
+        state: Progress::Busy(due),
+        outcome: Some(outcome),
+        resolved: entry.resolved,
+        addr_due: Some(due),
+        data_due: Some(due),
     }
 }
 
@@ -54,13 +88,13 @@ impl<'a> Seen<'a> {
     ghost use Rattle.rv_types.specs.declared.Kind.TheVariants as kind;
     ghost use Rattle.rv_effect.specs.Seen.{seen};
     ghost use Rattle.window_model.specs.Access.{due_of};
-    ghost use Rattle.window_model.specs.Issue.{access_of, begin_as, is_division, stores_done};
+    ghost use Rattle.window_model.specs.Issue.{access_of, is_division, stores_done};
     ghost use Rattle.window_model.specs.Order.{is_load};
     ghost use Rattle.window_model.specs.Row.{HasRoom};
     ghost use Rattle.issue.specs.Accesses.{as_access, as_line};
     ghost use Rattle.issue.specs.Operands.{first_of};
     ghost use Rattle.issue.specs.State.{HasTurn, around_of, before_of, here};
-    ghost use Rattle.issue.specs.Turns.{Comes, begin_entry, divider_by, effect_here, load_by, loads};
+    ghost use Rattle.issue.specs.Turns.{Comes, begin_by, begin_entry, divider_by, effect_here, load_by, loads};
 
     // The cycle in which a line is there.
     fn due_of(&self, line: &Line) -> u64
@@ -120,7 +154,7 @@ impl<'a> Seen<'a> {
         ensures divider { ports.new ≡ record ports.old {
           divider = divider_by true self.now place.now ports.old.divider;
         } }
-        ensures comes { Comes (here (begin_as kind.Div) self.now place.now) (Some result) row.old row.new }
+        ensures comes { Comes (here (begin_by kind.Div) self.now place.now) (Some result) row.old row.new }
     {
         let time = div_time(place.entry.op(), first);
         let due = self.cycle as u64 + time as u64;
@@ -133,29 +167,36 @@ impl<'a> Seen<'a> {
     fn begin_product(&self, place: &Place, made: &Effect, row: &mut Row) -> Entry
         requires effect { seen made.now ≡ effect_here self.now place.now }
         requires room { HasRoom 1 row.old }
-        ensures { Comes (here (begin_as kind.Mul) self.now place.now) (Some result) row.old row.new }
+        ensures { Comes (here (begin_by kind.Mul) self.now place.now) (Some result) row.old row.new }
     {
         row.push(Event::Mul(place.entry.serial));
         let due = self.cycle as u64 + self.desc.units_mul_latency as u64;
         begun(place.entry, due, outcome(made, made.value, None))
     }
 
-    // A store: its address and value are there, and its fault.
+    // A store: both its parts go, and with its address its fault is known.
     fn begin_store(&self, place: &Place, made: &Effect, row: &mut Row) -> Entry
         requires effect { seen made.now ≡ effect_here self.now place.now }
         requires room { HasRoom 1 row.old }
-        ensures { Comes (here (begin_as kind.Store) self.now place.now) (Some result) row.old row.new }
+        ensures { Comes (here (begin_by kind.Store) self.now place.now) (Some result) row.old row.new }
     {
         row.push(Event::Agu(place.entry.serial));
-        let fault = self.ram.store_fault(made.addr, place.entry.bytes());
-        begun(place.entry, self.cycle as u64 + 1, outcome(made, 0, fault))
+        let known = so_far(place.entry.outcome, made.next);
+        let outcome = Outcome {
+            value: known.value,
+            next: known.next,
+            addr: made.addr,
+            stored: made.stored,
+            fault: self.ram.store_fault(made.addr, place.entry.bytes()),
+        };
+        with_both(place.entry, self.cycle as u64 + 1, outcome)
     }
 
     // What takes one cycle of an arithmetic unit.
     fn begin_simple(&self, place: &Place, made: &Effect, row: &mut Row) -> Entry
         requires effect { seen made.now ≡ effect_here self.now place.now }
         requires room { HasRoom 1 row.old }
-        ensures { Comes (here (begin_as kind.Alu) self.now place.now) (Some result) row.old row.new }
+        ensures { Comes (here (begin_by kind.Alu) self.now place.now) (Some result) row.old row.new }
     {
         row.push(Event::Alu(place.entry.serial));
         let outcome = outcome(made, made.value, fault_if(made.misaligned));

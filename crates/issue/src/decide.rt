@@ -42,8 +42,7 @@ pub(crate) struct Decided {
 
 impl Decided {
     ghost use Rattle.std.specs.Prelude.{◌≡◌, ◌<◌, ◌++◌, length};
-    ghost use Rattle.window_model.specs.Row.{most_issued};
-    ghost use Rattle.issue.specs.Decisions.{IsNothing};
+    ghost use Rattle.issue.specs.Decisions.{IsNothing, most_begun};
     ghost use Rattle.issue.specs.Turns.{puts_by};
 
     /// Nothing as yet.
@@ -58,7 +57,7 @@ impl Decided {
 
     // Notes what the entry is afterwards, if it has begun.
     fn note(&mut self, place: &Place, after: Option<Entry>)
-        requires few { length self.old.puts.items < most_issued }
+        requires few { length self.old.puts.items < most_begun }
         ensures puts { self.new.puts.items ≡ self.old.puts.items ++ puts_by place.now.position place.now.station after }
         ensures load { self.new.load ≡ self.old.load }
     {
@@ -81,7 +80,7 @@ impl<'a> Seen<'a> {
     ghost use Rattle.unit_ports.specs.Laws.{LeftAfter};
     ghost use Rattle.stations.specs.Stations.{awaits_none};
     ghost use Rattle.issue.specs.Accesses.{as_access};
-    ghost use Rattle.issue.specs.Decisions.{DecidesFor, IsNothing, turns_of};
+    ghost use Rattle.issue.specs.Decisions.{DecidesFor, IsNothing, most_begun, turns_of};
     ghost use Rattle.issue.specs.Ports.{LeftBehind, LeftFor, OnlyPorts, granted_at, left_in_all};
     ghost use Rattle.issue.specs.Puts.{ArePuts};
     ghost use Rattle.issue.specs.State.{HasTurn, Stands, around_of, here, window_of};
@@ -107,7 +106,7 @@ impl<'a> Seen<'a> {
     fn decide_entry(&self, place: &Place, ports: &mut Ports, decided: &mut Decided, row: &mut Row)
         requires turn { HasTurn self.now place.now }
         requires left { LeftFor self.now place.now ports.old }
-        requires few { length decided.old.puts.items + left_in_all ports.old ≤ most_issued }
+        requires few { length decided.old.puts.items + left_in_all ports.old ≤ most_begun }
         requires room { HasRoom (left_in_all ports.old) row.old }
         ensures puts { decided.new.puts.items ≡ decided.old.puts.items
             ++ puts_of place.now.position place.now.station (here issue_entry self.now place.now) }
@@ -135,7 +134,7 @@ impl<'a> Seen<'a> {
     pub(crate) fn decide(&self, ports: &mut Ports, decided: &mut Decided, row: &mut Row)
         requires stands { Stands self.now }
         requires left { LeftAfter self.now.desc.now (around_of self.now) [] ports.old }
-        requires few { left_in_all ports.old ≤ most_issued }
+        requires few { left_in_all ports.old ≤ most_begun }
         requires nothing { IsNothing decided.old }
         requires room { HasRoom most_issued row.old }
         ensures decides { DecidesFor self.now decided.new ports.old.divider ports.new.divider }

@@ -5,7 +5,7 @@ use Rattle.std.specs.Prelude.{if◌then◌else◌, ◌==◌, map}
 use Rattle.std.specs.List.{filter, find, AllByRecursion as Each}
 use Rattle.rv_types.specs.Isa.{Effect}
 use Rattle.rv_types.specs.declared.Kind.{Kind}
-use Rattle.rv_types.specs.declared.Kind.TheVariants.{Alu, Mul, Div, Load, Store, Branch, Jalr, Jal, Call, Stop}
+use Rattle.rv_types.specs.declared.Kind.TheVariants.{Mul, Div, Load, Store}
 use Rattle.machine_desc.specs.declared.Desc.{Desc}
 use Rattle.machine_desc.specs.Ranges.{IsDesc}
 use Rattle.window_model.specs.declared.Entry.{Entry}
@@ -14,15 +14,15 @@ use Rattle.window_model.specs.declared.Miss.{Miss}
 use Rattle.window_model.specs.declared.Progress.{Progress}
 use Rattle.window_model.specs.declared.Progress.TheVariants.{Waiting, Busy, Done}
 use Rattle.window_model.specs.State.{Machine}
-use Rattle.window_model.specs.Order.{Place, each_from}
+use Rattle.window_model.specs.Order.{Place, each_from, is_store}
 use Rattle.window_model.specs.Fill.{is_due, completed, completes, completes_at}
 use Rattle.window_model.specs.Around.{Around}
 use Rattle.window_model.specs.Access.{Access, Faults, Forwards, Looks, Waits, due_by, misses_after, register}
-use Rattle.window_model.specs.Issue.{Begun, issue_entry, begin_as, load_as, access_of, time_of, divider_after}
+use Rattle.window_model.specs.Issue.{Begun, issue_entry, begin_as, busy_until_both, effect_of, load_as, with_address, access_of, time_of, divider_after}
 use Rattle.window_model.specs.Rename.{renamed, at_once}
 use Rattle.window_model.proofs.Lists.{each_then, each_map, each_push, each_filter, OfSome, find_each}
-use Rattle.window_model.proofs.Issuing.{by_issue, begin_goes, by_line, by_load}
-use Rattle.machine_facts.specs.Timely.{IsSoon, DueSoon, IsDue, IsPending, Apart, latency, longest_division}
+use Rattle.window_model.proofs.Issuing.{Comes, Remains, Begins, by_issue, begin_comes, begin_goes, gone_parts, by_line, by_load}
+use Rattle.machine_facts.specs.Timely.{IsSoon, DueSoon, IsDue, PartDue, PartsDue, IsPending, Apart, latency, longest_division}
 
 -- ---- the cycle goes on
 
@@ -103,14 +103,71 @@ module _ (d : Desc) (now : Around) (i : IsDesc d) where
   begin_soon Div b e j h = let n = time_in now.regs b e in (omega (arith, n.0), omega (arith, n.1))
   begin_soon _ b e j h = (omega arith, omega arith)
 
-  issue_soon : Each (IsPending d now.cycle now.cycle) now.misses → (b : List Entry) (e : Entry) → IsDue d now.cycle now.cycle e → IsDue d now.cycle now.cycle (issue_entry d now b e).entry
-  issue_soon p b e h = by_issue d now b e (IsDue d now.cycle now.cycle) h (λ m.
-      let r = (begin_as e.item.kind d now b e).entry in
-      subst (λ (j : Item). DueSoon now.cycle now.cycle (latency j.kind d) r.state) (sym (begin_goes e.item.kind d now b e).item) (begin_soon e.item.kind b e (looks_soon d now i p b e) h))
+  -- a store takes one cycle
+  one_cycle : (k : Kind) → is_store k ≡ true → latency k d ≡ 1
+  one_cycle Store h = refl
+  one_cycle _ h = absurd (cc)
 
-  pub dues_issued : Each (IsPending d now.cycle now.cycle) now.misses → (b es : List Entry) → Each (IsDue d now.cycle now.cycle) es → Each (IsDue d now.cycle now.cycle) (map (λ (t : Begun). t.entry) (each_from (issue_entry d now) b es))
-  dues_issued p b [] h = tt
-  dues_issued p b (e ∷ es) h = (issue_soon p b e h.0, dues_issued p (e ∷ b) es h.1)
+  -- the later part is known in the next cycle
+  address_soon : (n longest : ℕ) (c : Option ℕ) (t : Progress) → longest ≡ 1 → PartDue n c → DueSoon n n longest t → DueSoon n n longest (busy_until_both (Some (n + 1)) c t)
+  address_soon n longest None t q u h = h
+  address_soon n longest (Some m) t q u h = (omega arith, omega (arith, q, u))
+
+  data_soon : (n longest : ℕ) (a : Option ℕ) (t : Progress) → longest ≡ 1 → PartDue n a → DueSoon n n longest t → DueSoon n n longest (busy_until_both a (Some (n + 1)) t)
+  data_soon n longest None t q u h = h
+  data_soon n longest (Some m) t q u h = (omega arith, omega (arith, q, u))
+
+  gone_soon : (b : List Entry) (e : Entry) (a c : Bool) → latency e.item.kind d ≡ 1 → PartsDue now.cycle e → IsDue d now.cycle now.cycle e → IsDue d now.cycle now.cycle (gone_parts now b a c e)
+  gone_soon b e true true q u h =
+      let r = with_address now (effect_of now.regs b e) e in
+      data_soon now.cycle (latency e.item.kind d) (Some (now.cycle + 1)) r.state q (omega arith) (address_soon now.cycle (latency e.item.kind d) e.data_due e.state q u.1 h)
+  gone_soon b e true false q u h = address_soon now.cycle (latency e.item.kind d) e.data_due e.state q u.1 h
+  gone_soon b e false true q u h = data_soon now.cycle (latency e.item.kind d) e.addr_due e.state q u.0 h
+  gone_soon b e false false q u h = h
+
+  issue_soon : Each (IsPending d now.cycle now.cycle) now.misses → (b : List Entry) (e : Entry) → PartsDue now.cycle e → IsDue d now.cycle now.cycle e → IsDue d now.cycle now.cycle (issue_entry d now b e).entry
+  issue_soon p b e u h = by_issue d now b e (IsDue d now.cycle now.cycle) h (λ s m.
+      let r = (begin_as e.item.kind d now b e).entry in
+      subst (λ (j : Item). DueSoon now.cycle now.cycle (latency j.kind d) r.state) (sym (begin_goes e.item.kind d now b e).item) (begin_soon e.item.kind b e (looks_soon d now i p b e) h)) (λ s a c g k. gone_soon b e a c (one_cycle e.item.kind s) u h)
+
+  pub dues_issued : Each (IsPending d now.cycle now.cycle) now.misses → (b es : List Entry) → Each (PartsDue now.cycle) es → Each (IsDue d now.cycle now.cycle) es → Each (IsDue d now.cycle now.cycle) (map (λ (t : Begun). t.entry) (each_from (issue_entry d now) b es))
+  dues_issued p b [] u h = tt
+  dues_issued p b (e ∷ es) u h = (issue_soon p b e u.0 h.0, dues_issued p (e ∷ b) es u.1 h.1)
+
+-- ---- parts that have issued
+
+part_later : (cycle : ℕ) (o : Option ℕ) → PartDue cycle o → PartDue (cycle + 1) o
+part_later cycle None h = tt
+part_later cycle (Some due) h = omega (arith, h)
+
+pub parts_later : (cycle : ℕ) (w : List Entry) → Each (PartsDue cycle) w → Each (PartsDue (cycle + 1)) w
+parts_later cycle = each_then (PartsDue cycle) (PartsDue (cycle + 1)) (λ e h. (part_later cycle e.addr_due h.0, part_later cycle e.data_due h.1))
+
+completed_parts : (past cycle : ℕ) (e : Entry) → PartsDue past e → PartsDue past (completed cycle e)
+completed_parts past cycle e h = by_due (completes cycle e)
+  where
+    by_due : (b : Bool) → PartsDue past (if b then record e { state = Done } else e)
+    by_due true = h
+    by_due false = h
+
+pub parts_left : (past cycle : ℕ) (w : List Entry) → Each (PartsDue past) w → Each (PartsDue past) (map (completed cycle) w)
+parts_left past cycle w h = each_map (PartsDue past) (completed cycle) w (each_then (PartsDue past) (λ e. PartsDue past (completed cycle e)) (completed_parts past cycle) w h)
+
+-- what begins has the parts that it had
+begun_parts : (n : ℕ) (e r : Entry) → Comes e r → PartsDue n e → PartsDue n r
+begun_parts n e r (Remains q) h = subst (PartsDue n) (sym q) h
+begun_parts n e r (Begins due o q) h = subst (PartsDue n) (sym q) h
+
+gone_parts_due : (now : Around) (b : List Entry) (e : Entry) (a c : Bool) → PartsDue now.cycle e → PartsDue now.cycle (gone_parts now b a c e)
+gone_parts_due now b e true true h = (omega arith, omega arith)
+gone_parts_due now b e true false h = (omega arith, h.1)
+gone_parts_due now b e false true h = (h.0, omega arith)
+gone_parts_due now b e false false h = h
+
+pub parts_issued : (d : Desc) (now : Around) (b es : List Entry) → Each (PartsDue now.cycle) es → Each (PartsDue now.cycle) (map (λ (t : Begun). t.entry) (each_from (issue_entry d now) b es))
+parts_issued d now b [] h = tt
+parts_issued d now b (e ∷ es) h =
+    (by_issue d now b e (PartsDue now.cycle) h.0 (λ s m. begun_parts now.cycle e _ (begin_comes e.item.kind d now b e) h.0) (λ s a c g k. gone_parts_due now b e a c h.0), parts_issued d now (e ∷ b) es h.1)
 
 pub divider_soon : (x : Machine) (o : Option Place) → x.divider.free_from ≤ x.cycle + longest_division → (divider_after x o).free_from ≤ x.cycle + longest_division
 divider_soon x None h = h

@@ -1,4 +1,6 @@
 pub mod Parts
+pub mod Together
+pub mod StoreParts
 pub mod Caches
 pub mod SizedWindow
 pub mod SizedPhases

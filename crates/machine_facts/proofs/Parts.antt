@@ -9,7 +9,7 @@ use Rattle.window_model.specs.declared.Item.{Item}
 use Rattle.window_model.specs.State.{Machine}
 use Rattle.window_model.specs.declared.Target.{Target}
 use Rattle.window_model.proofs.Lists.{each_then}
-use Rattle.machine_facts.specs.Sized.{Sized, HasKind, FitsMemory, HasOutcome, awaits, loads, stores, calls}
+use Rattle.machine_facts.specs.Sized.{Sized, HasKind, FitsMemory, HasOutcome, HasParts, Together, awaits, loads, stores, calls}
 
 -- the window has the room that the description gives
 pub record WindowFits (d : Desc) (w : List Entry) : Type 0 where
@@ -20,10 +20,12 @@ pub record WindowFits (d : Desc) (w : List Entry) : Type 0 where
   pub call_alone : 1 ≤ count_by calls w → length w ≤ 1
 
 -- an entry is what its instruction says
-pub record IsEntry (ram : Ram) (e : Entry) : Type 0 where
+pub record IsEntry (d : Desc) (ram : Ram) (e : Entry) : Type 0 where
   pub kind : HasKind e.item
   pub memory : FitsMemory ram e
   pub outcome : HasOutcome e
+  pub parts : HasParts e
+  pub together : Together d e
 
 pub record QueueFits (d : Desc) (q : List Item) : Type 0 where
   pub queue : length q ≤ d.core_queue
@@ -40,21 +42,21 @@ pub record CacheFits (d : Desc) (cache : List (List ℕ)) : Type 0 where
 -- all parts of a state
 pub record Fits (d : Desc) (x : Machine) : Type 0 where
   pub window : WindowFits d x.window
-  pub entries : Each (IsEntry x.ram) x.window
+  pub entries : Each (IsEntry d x.ram) x.window
   pub queue : QueueFits d x.queue
   pub predictor : PredictorFits d x.counters x.targets
   pub cache : CacheFits d x.cache
   pub misses : length x.misses ≤ d.cache_mshrs
   pub registers : length x.regs ≡ 32
 
-each_entry : (ram : Ram) (w : List Entry) → Each (λ (e : Entry). HasKind e.item) w → Each (FitsMemory ram) w → Each HasOutcome w → Each (IsEntry ram) w
-each_entry ram [] k m o = tt
-each_entry ram (e ∷ w) k m o = (record { kind = k.0; memory = m.0; outcome = o.0 }, each_entry ram w k.1 m.1 o.1)
+each_entry : (d : Desc) (ram : Ram) (w : List Entry) → Each (λ (e : Entry). HasKind e.item) w → Each (FitsMemory ram) w → Each HasOutcome w → Each HasParts w → Each (Together d) w → Each (IsEntry d ram) w
+each_entry d ram [] k m o p t = tt
+each_entry d ram (e ∷ w) k m o p t = (record { kind = k.0; memory = m.0; outcome = o.0; parts = p.0; together = t.0 }, each_entry d ram w k.1 m.1 o.1 p.1 t.1)
 
 pub parts : (d : Desc) (x : Machine) → Sized d x → Fits d x
 parts d x s = record {
   window = record { entries = s.entries; loads_fit = s.loads_fit; stores_fit = s.stores_fit; waiting_fit = s.waiting_fit; call_alone = s.call_alone };
-  entries = each_entry x.ram x.window s.kinds s.memory s.outcomes;
+  entries = each_entry d x.ram x.window s.kinds s.memory s.outcomes s.parts s.together;
   queue = record { queue = s.queue; item_kinds = s.item_kinds };
   predictor = record { counters = s.counters; targets = s.targets };
   cache = record { sets = s.sets; ways = s.ways };
@@ -76,8 +78,10 @@ whole d x f = record {
   ways = f.cache.ways;
   misses = f.misses;
   registers = f.registers;
-  kinds = each_then (IsEntry x.ram) (λ (e : Entry). HasKind e.item) (λ e h. h.kind) x.window f.entries;
+  kinds = each_then (IsEntry d x.ram) (λ (e : Entry). HasKind e.item) (λ e h. h.kind) x.window f.entries;
   item_kinds = f.queue.item_kinds;
-  memory = each_then (IsEntry x.ram) (FitsMemory x.ram) (λ e h. h.memory) x.window f.entries;
-  outcomes = each_then (IsEntry x.ram) HasOutcome (λ e h. h.outcome) x.window f.entries;
+  memory = each_then (IsEntry d x.ram) (FitsMemory x.ram) (λ e h. h.memory) x.window f.entries;
+  outcomes = each_then (IsEntry d x.ram) HasOutcome (λ e h. h.outcome) x.window f.entries;
+  parts = each_then (IsEntry d x.ram) HasParts (λ e h. h.parts) x.window f.entries;
+  together = each_then (IsEntry d x.ram) (Together d) (λ e h. h.together) x.window f.entries;
 }

@@ -1,6 +1,6 @@
 -- No port is granted more often than it is there, so Issue has few events.
 use Rattle.std.proofs.Common.{◌≡◌, ℕ, ◌+◌, ◌-◌, ◌≤◌, ◌<◌, Bool, true, false, ◌&&◌, cond, List, [], ◌∷◌, length, refl, arith, length-append}
-use Rattle.std.specs.Prelude.{if◌then◌else◌, nat_lt}
+use Rattle.std.specs.Prelude.{if◌then◌else◌, nat_lt, ◌==◌}
 use Rattle.std.specs.List.{flat_map}
 use Rattle.rv_types.specs.Value.{one_if}
 use Rattle.rv_types.specs.Isa.{Effect}
@@ -9,10 +9,12 @@ use Rattle.rv_types.specs.declared.Kind.TheVariants.{Load}
 use Rattle.machine_desc.specs.declared.Desc.{Desc}
 use Rattle.window_model.specs.declared.Divider.{Divider}
 use Rattle.window_model.specs.declared.Entry.{Entry}
+use Rattle.window_model.specs.declared.Event.{Event}
+use Rattle.window_model.specs.declared.Event.TheVariants as event
 use Rattle.window_model.specs.State.{Machine}
-use Rattle.window_model.specs.Order.{first, each_from}
+use Rattle.window_model.specs.Order.{first, each_from, is_store}
 use Rattle.window_model.specs.Around.{Around, around}
-use Rattle.window_model.specs.Issue.{Begun, Port, AluPort, MulPort, DivPort, AddressPort, LoadPort, port_of, ports, asking, is_granted, may_at, issue, issue_entry, begin_as, load_as, access_of, waits}
+use Rattle.window_model.specs.Issue.{Begun, Port, AluPort, MulPort, DivPort, AddressPort, DataPort, LoadPort, port_of, ports, asking, is_granted, may_at, issue, issue_entry, issue_parts, issue_whole, effect_of, if_granted, data_events, with_address, with_data, begin_as, load_as, access_of, waits}
 use Rattle.window_model.proofs.Issuing.{by_after_load, by_load}
 use Rattle.window_model.proofs.Booleans.{below}
 use Rattle.machine_facts.proofs.Adds.{Adds}
@@ -47,49 +49,82 @@ granted_few : (b : Bool) (s t : Begun) → length s.events ≤ 1 → length t.ev
 granted_few true s t p q = p
 granted_few false s t p q = q
 
--- ---- an entry has one port
+-- ---- an entry in one piece has one port, and each part of a store its own
 
 -- how often an entry is granted a port
 abbrev somewhere : Desc → Around → List Entry → Entry → ℕ
 somewhere d now b e =
     cond (is_granted d now AluPort b e) 1 0
-    + (cond (is_granted d now MulPort b e) 1 0 + (cond (is_granted d now DivPort b e) 1 0 + (cond (is_granted d now AddressPort b e) 1 0 + cond (is_granted d now LoadPort b e) 1 0)))
+    + (cond (is_granted d now MulPort b e) 1 0 + (cond (is_granted d now DivPort b e) 1 0 + (cond (is_granted d now LoadPort b e) 1 0 + (cond (is_granted d now AddressPort b e) 1 0 + cond (is_granted d now DataPort b e) 1 0))))
 
 one_port : (d : Desc) (now : Around) (b : List Entry) (e : Entry) (p : Port) → cond (is_granted d now p b e) 1 0 ≤ somewhere d now b e
 one_port d now b e AluPort = omega arith
 one_port d now b e MulPort = omega arith
 one_port d now b e DivPort = omega arith
 one_port d now b e AddressPort = omega arith
+one_port d now b e DataPort = omega arith
 one_port d now b e LoadPort = omega arith
 
+whole_few : (d : Desc) (now : Around) (b : List Entry) (e : Entry) → length (issue_whole d now b e).events ≤ somewhere d now b e
+whole_few d now b e =
+    let here = granted_few (is_granted d now (port_of e.item.kind) b e) (begin_as e.item.kind d now b e) (waits e) (begin_few e.item.kind d now b e) (omega arith) in
+    let once = one_port d now b e (port_of e.item.kind) in
+    omega (arith, here, once)
+
+part_few : (g : Bool) (part : Entry → Entry) (es : List Event) (e : Entry) → length es ≤ 1 → length (if_granted g part es e).events ≤ cond g 1 0
+part_few true part es e h = h
+part_few false part es e h = omega arith
+
+data_few : (d : Desc) (e : Entry) → length (data_events d e) ≤ 1
+data_few d e = by_version (d.version == 1)
+  where
+    by_version : (v : Bool) → length (if v then [] else event.Std e.serial ∷ []) ≤ 1
+    by_version true = omega arith
+    by_version false = omega arith
+
+parts_few : (d : Desc) (now : Around) (b : List Entry) (e : Entry) → length (issue_parts d now b e).events ≤ somewhere d now b e
+parts_few d now b e =
+    let f = effect_of now.regs b e in
+    let a = if_granted (is_granted d now AddressPort b e) (with_address now f) (event.Agu e.serial ∷ []) e in
+    let p = part_few (is_granted d now AddressPort b e) (with_address now f) (event.Agu e.serial ∷ []) e (omega arith) in
+    let q = part_few (is_granted d now DataPort b e) (with_data now f) (data_events d e) a.entry (data_few d e) in
+    let l = length-append a.events (if_granted (is_granted d now DataPort b e) (with_data now f) (data_events d e) a.entry).events in
+    omega (arith, p, q, l)
+
+entry_few : (d : Desc) (now : Around) (b : List Entry) (e : Entry) → length (issue_entry d now b e).events ≤ somewhere d now b e
+entry_few d now b e = by_kind (is_store e.item.kind)
+  where
+    by_kind : (s : Bool) → length (if s then issue_parts d now b e else issue_whole d now b e).events ≤ somewhere d now b e
+    by_kind true = parts_few d now b e
+    by_kind false = whole_few d now b e
+
 abbrev all_taken : Desc → Around → List Entry → List Entry → ℕ
-all_taken d now b es = taken d now AluPort b es + (taken d now MulPort b es + (taken d now DivPort b es + (taken d now AddressPort b es + taken d now LoadPort b es)))
+all_taken d now b es = taken d now AluPort b es + (taken d now MulPort b es + (taken d now DivPort b es + (taken d now LoadPort b es + (taken d now AddressPort b es + taken d now DataPort b es))))
 
 issued_few : (d : Desc) (now : Around) (before es : List Entry) → length (flat_map (λ (b : Begun). b.events) (each_from (issue_entry d now) before es)) ≤ all_taken d now before es
 issued_few d now before [] = omega arith
 issued_few d now before (e ∷ es) =
-    let g = is_granted d now (port_of e.item.kind) before e in
-    let here = granted_few g (begin_as e.item.kind d now before e) (waits e) (begin_few e.item.kind d now before e) (omega arith) in
-    let once = one_port d now before e (port_of e.item.kind) in
+    let here = entry_few d now before e in
     let more = issued_few d now (e ∷ before) es in
     let l = length-append (issue_entry d now before e).events (flat_map (λ (b : Begun). b.events) (each_from (issue_entry d now) (e ∷ before) es)) in
     omega arith
 
 -- ---- the phase
 
-issue_few : (d : Desc) (x : Machine) → length (issue d x).events ≤ d.units_alus + 4
+issue_few : (d : Desc) (x : Machine) → length (issue d x).events ≤ d.units_alus + 5
 issue_few d x =
     let now = around x in
     let a = taken_few d now AluPort [] x.window in
     let m = taken_few d now MulPort [] x.window in
     let v = taken_few d now DivPort [] x.window in
     let s = taken_few d now AddressPort [] x.window in
+    let t = taken_few d now DataPort [] x.window in
     let l = taken_few d now LoadPort [] x.window in
     let i = issued_few d now [] x.window in
     omega arith
 
-pub issue_adds : (d : Desc) (x : Machine) → Adds (d.units_alus + 4) x (issue d x)
+pub issue_adds : (d : Desc) (x : Machine) → Adds (d.units_alus + 5) x (issue d x)
 issue_adds d x =
     let few = issue_few d x in
-    by_after_load d x (λ y. (w : List Entry) (v : Divider) → Adds (d.units_alus + 4) x (record { machine = record y { window = w; divider = v }; events = (issue d x).events }))
+    by_after_load d x (λ y. (w : List Entry) (v : Divider) → Adds (d.units_alus + 5) x (record { machine = record y { window = w; divider = v }; events = (issue d x).events }))
     (λ c m w v. record { events = few; cycle = refl; serials = refl; retired = refl }) (first (may_at d (around x) LoadPort) x.window) _ _

@@ -1,10 +1,11 @@
 -- The reason why nothing is fetched stays: the youngest is a stop or a known fault.
 use Rattle.std.proofs.Common.{◌≡◌, ℕ, Bool, true, false, ◌&&◌, ◌||◌, List, [], ◌∷◌, ◌++◌, Option, Some, None, refl, ap, sym, ◌∙◌}
 use Rattle.std.specs.Prelude.{if◌then◌else◌, is_some, map}
+use Rattle.std.specs.List.{AllByRecursion as Each}
 use Rattle.rv_types.specs.declared.Cause.{Cause}
 use Rattle.rv_types.specs.declared.Instr.{Instr}
 use Rattle.rv_types.specs.declared.Kind.{Kind}
-use Rattle.rv_types.specs.declared.Kind.TheVariants.{Alu, Mul, Div, Load, Store, Branch, Jalr, Jal, Call, Stop}
+use Rattle.rv_types.specs.declared.Kind.TheVariants.{Stop}
 use Rattle.machine_desc.specs.declared.Desc.{Desc}
 use Rattle.window_model.specs.declared.Entry.{Entry}
 use Rattle.window_model.specs.declared.Item.{Item}
@@ -14,12 +15,14 @@ use Rattle.window_model.specs.Order.{each_from, is_done, is_faulty, fault_of}
 use Rattle.window_model.specs.Fill.{completed, completes}
 use Rattle.window_model.specs.Retire.{trap_of}
 use Rattle.window_model.specs.Around.{Around}
-use Rattle.window_model.specs.Issue.{Begun, issue_entry, begin_as}
+use Rattle.window_model.specs.Issue.{Begun, issue_entry}
 use Rattle.window_model.specs.Rename.{is_stop, renamed}
 use Rattle.window_model.specs.Fetch.{predicted}
-use Rattle.window_model.proofs.Issuing.{by_issue, begin_goes}
+use Rattle.window_model.proofs.Issuing.{issue_goes}
+use Rattle.machine_facts.proofs.StoreParts.{issued_stays}
+use Rattle.machine_facts.specs.Sized.{HasParts}
 use Rattle.machine_facts.specs.Timely.{is_last, last_from, last_item_from}
-use Rattle.window_model.proofs.Booleans.{waiting_done}
+use Rattle.window_model.proofs.Booleans.{done_waits}
 use Rattle.window_model.proofs.Leaving.{no_trap}
 
 -- ---- folds over the window and the queue
@@ -66,21 +69,22 @@ last_completed cycle e h = by_due (completes cycle e)
 
 -- ---- entries that begin
 
-still_stop : (s s2 t t2 f f2 : Bool) → s ≡ s2 → t ≡ false → (s || t && f) ≡ true → (s2 || t2 && f2) ≡ true
-still_stop true true t t2 f f2 p q h = refl
-still_stop false s2 false t2 f f2 p q h = absurd (cc)
-still_stop true false t t2 f f2 p q h = absurd (cc)
-still_stop false s2 true t2 f f2 p q h = absurd (cc)
+-- an entry that is the last, by what becomes of it
+last_by : (s t f s2 t2 f2 : Bool) → s ≡ s2 → (t ≡ true → (s2 || t2 && f2) ≡ true) → (s || t && f) ≡ true → (s2 || t2 && f2) ≡ true
+last_by true t f true t2 f2 p k h = refl
+last_by true t f false t2 f2 p k h = absurd (cc)
+last_by false true f s2 t2 f2 p k h = k refl
+last_by false false f s2 t2 f2 p k h = absurd (cc)
 
-last_begins : (d : Desc) (now : Around) (b : List Entry) (e : Entry) → is_last e ≡ true → is_last (issue_entry d now b e).entry ≡ true
-last_begins d now b e h = by_issue d now b e (λ r. is_last r ≡ true) h (λ m.
-    let r = (begin_as e.item.kind d now b e).entry in
-    still_stop (is_stop e.item.kind) (is_stop r.item.kind) (is_done e.state) (is_done r.state) (is_faulty e) (is_faulty r)
-    (ap (λ (i : Item). is_stop i.kind) (sym (begin_goes e.item.kind d now b e).item)) (waiting_done e.state m.waits) h)
+last_begins : (d : Desc) (now : Around) (b : List Entry) (e : Entry) → HasParts e → is_last e ≡ true → is_last (issue_entry d now b e).entry ≡ true
+last_begins d now b e p h =
+    let r = (issue_entry d now b e).entry in
+    last_by (is_stop e.item.kind) (is_done e.state) (is_faulty e) (is_stop r.item.kind) (is_done r.state) (is_faulty r)
+    (ap (λ (i : Item). is_stop i.kind) (sym (issue_goes d now b e).item)) (λ t. ap is_last (issued_stays d now b e p (done_waits e.state t)) ∙ h) h
 
-pub last_issued : (d : Desc) (now : Around) (b : List Entry) (n n2 : Bool) → (n ≡ true → n2 ≡ true) → (es : List Entry) → last_from n es ≡ true → last_from n2 (map (λ (t : Begun). t.entry) (each_from (issue_entry d now) b es)) ≡ true
-last_issued d now b n n2 i [] h = i h
-last_issued d now b n n2 i (e ∷ es) h = last_issued d now (e ∷ b) (is_last e) (is_last (issue_entry d now b e).entry) (last_begins d now b e) es h
+pub last_issued : (d : Desc) (now : Around) (b : List Entry) (n n2 : Bool) → (n ≡ true → n2 ≡ true) → (es : List Entry) → Each HasParts es → last_from n es ≡ true → last_from n2 (map (λ (t : Begun). t.entry) (each_from (issue_entry d now) b es)) ≡ true
+last_issued d now b n n2 i [] p h = i h
+last_issued d now b n n2 i (e ∷ es) p h = last_issued d now (e ∷ b) (is_last e) (is_last (issue_entry d now b e).entry) (last_begins d now b e p.0) es p.1 h
 
 -- ---- a head that doesn't trap is not the last
 

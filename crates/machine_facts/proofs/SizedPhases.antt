@@ -1,14 +1,13 @@
 -- Each phase but Retire keeps sizes and entries.
-use Rattle.std.proofs.Common.{◌≡◌, ℕ, ◌+◌, ◌≤◌, Bool, true, false, not, List, [], ◌∷◌, ◌++◌, length, Option, Some, None, refl, ap, sym, ◌∙◌, subst, arith, length-append}
+use Rattle.std.proofs.Common.{◌≡◌, ℕ, ◌+◌, ◌≤◌, Bool, true, false, not, List, [], ◌∷◌, ◌++◌, length, Option, Some, None, refl, ap, ◌∙◌, subst, arith, length-append}
 use Rattle.std.proofs.lemmas.List.{length-map, length-set, length-replicate}
-use Rattle.std.specs.Prelude.{if◌then◌else◌, map, nat_lt, reverse, is_some}
+use Rattle.std.specs.Prelude.{if◌then◌else◌, map, nat_lt, reverse}
 use Rattle.std.specs.List.{filter, AllByRecursion as Each}
 use Rattle.rv_types.specs.Decode.{decode}
-use Rattle.rv_types.specs.Value.{size_of}
 use Rattle.rv_types.specs.Kind.{kind_of}
 use Rattle.rv_types.specs.Memory.{Code, Ram}
 use Rattle.rv_types.specs.declared.Kind.{Kind}
-use Rattle.rv_types.specs.declared.Kind.TheVariants.{Alu, Mul, Div, Load, Store, Branch, Jalr, Jal, Call, Stop}
+use Rattle.rv_types.specs.declared.Kind.TheVariants.{Store, Branch, Stop}
 use Rattle.machine_desc.specs.declared.Desc.{Desc}
 use Rattle.machine_desc.specs.Ranges.{IsDesc}
 use Rattle.window_model.specs.declared.Divider.{Divider}
@@ -22,22 +21,22 @@ use Rattle.window_model.specs.State.{Machine, opening}
 use Rattle.window_model.specs.Order.{Place, first, each_from, is_waiting, is_faulty, is_store}
 use Rattle.window_model.specs.Fill.{fill, complete, completed, completes, completes_at, is_due}
 use Rattle.window_model.specs.Resolve.{resolve, Learnt, learn, learn_as, squash, keep}
-use Rattle.window_model.specs.Retire.{op_of, width_of}
 use Rattle.window_model.specs.Around.{Around, around}
 use Rattle.window_model.specs.Access.{cache_after, line_at, look_up, misses_after, register, taken_lines}
-use Rattle.window_model.specs.Issue.{Begun, LoadPort, issue, issue_entry, begin_as, access_of, after_load, may_at}
+use Rattle.window_model.specs.Issue.{Begun, LoadPort, issue, issue_entry, access_of, after_load, may_at}
 use Rattle.window_model.specs.Rename.{rename, rename_one, renamed, fits, at_once}
 use Rattle.window_model.specs.Fetch.{fetch, fetch_one, item_at, instr_at, kind_at}
 use Rattle.window_model.proofs.Booleans.{below}
 use Rattle.window_model.proofs.Lists.{each_then, each_map, each_join, each_left, each_right, each_push, each_replicate, filter_shortens}
 use Rattle.window_model.proofs.Placing.{Taken, resolve_keep, taught}
 use Rattle.window_model.proofs.Counts.{Evolves, evolves_same, evolves_thins, map_evolves, place_evolves, completed_goes}
-use Rattle.window_model.proofs.Issuing.{by_issue, begin_goes, issue_evolves, by_after_load, by_load}
+use Rattle.window_model.proofs.Issuing.{issue_evolves, by_after_load, by_load}
 use Rattle.window_model.proofs.Walks.{rename_keep, fetch_keep}
-use Rattle.machine_facts.specs.Sized.{Sized, HasKind, FitsKind, FaultIs}
+use Rattle.machine_facts.specs.Sized.{Sized, HasKind, FitsKind}
 use Rattle.machine_facts.proofs.Parts.{WindowFits, IsEntry, PredictorFits, CacheFits, Fits, parts, whole}
 use Rattle.machine_facts.proofs.Caches.{filled_fits, lines_fit}
 use Rattle.machine_facts.proofs.SizedWindow.{thinner, renamed_fits}
+use Rattle.machine_facts.proofs.StoreParts.{issue_sizes}
 use Rattle.window_model.proofs.Resolving.{resolved_one, resolved_goes}
 
 -- ---- the first state
@@ -80,19 +79,19 @@ not_waiting (Busy due) cycle h = refl
 not_waiting Waiting cycle h = absurd (cc)
 not_waiting Done cycle h = refl
 
-complete_entry : (ram : Ram) (cycle : ℕ) (e : Entry) → IsEntry ram e → IsEntry ram (completed cycle e)
-complete_entry ram cycle e h = by_due (completes cycle e) refl
+complete_entry : (d : Desc) (ram : Ram) (cycle : ℕ) (e : Entry) → IsEntry d ram e → IsEntry d ram (completed cycle e)
+complete_entry d ram cycle e h = by_due (completes cycle e) refl
   where
-    by_due : (b : Bool) → completes cycle e ≡ b → IsEntry ram (if b then record e { state = Done } else e)
+    by_due : (b : Bool) → completes cycle e ≡ b → IsEntry d ram (if b then record e { state = Done } else e)
     by_due false q = h
-    by_due true q = record { kind = h.kind; memory = h.memory; outcome = λ st w. h.outcome st (not_waiting e.state cycle q) }
+    by_due true q = record { kind = h.kind; memory = h.memory; outcome = h.outcome; parts = λ st. h.parts st ∙ ap not (not_waiting e.state cycle q); together = h.together }
 
 pub sized_complete : (d : Desc) (x : Machine) → IsDesc d → Sized d x → Sized d (complete x).machine
 sized_complete d x i s =
     let f = parts d x s in
     whole d (complete x).machine (record {
       window = thinner d x.window _ (evolves_thins x.window _ (map_evolves (completed x.cycle) (completed_goes x.cycle) x.window)) f.window;
-      entries = each_map (IsEntry x.ram) (completed x.cycle) x.window (each_then (IsEntry x.ram) (λ e. IsEntry x.ram (completed x.cycle e)) (complete_entry x.ram x.cycle) x.window f.entries);
+      entries = each_map (IsEntry d x.ram) (completed x.cycle) x.window (each_then (IsEntry d x.ram) (λ e. IsEntry d x.ram (completed x.cycle e)) (complete_entry d x.ram x.cycle) x.window f.entries);
       queue = f.queue;
       predictor = f.predictor;
       cache = f.cache;
@@ -118,12 +117,12 @@ module _ (d : Desc) where
         let on = place_evolves (reverse p.before) p.entry (resolved_one p.entry) p.younger zs (resolved_goes p.entry) v in
         thinner d _ (reverse p.before ++ resolved_one p.entry ∷ zs) (evolves_thins _ _ on) here
 
-    entries : (zs : List Entry) → (Each (IsEntry x.ram) p.younger → Each (IsEntry x.ram) zs) → Each (IsEntry x.ram) (reverse p.before ++ resolved_one p.entry ∷ zs)
+    entries : (zs : List Entry) → (Each (IsEntry d x.ram) p.younger → Each (IsEntry d x.ram) zs) → Each (IsEntry d x.ram) (reverse p.before ++ resolved_one p.entry ∷ zs)
     entries zs v =
-        let all = subst (Each (IsEntry x.ram)) t.window f.entries in
-        let behind = each_right (IsEntry x.ram) (reverse p.before) _ all in
+        let all = subst (Each (IsEntry d x.ram)) t.window f.entries in
+        let behind = each_right (IsEntry d x.ram) (reverse p.before) _ all in
         let e = behind.0 in
-        each_join (IsEntry x.ram) (reverse p.before) _ (each_left (IsEntry x.ram) (reverse p.before) _ all) (record { kind = e.kind; memory = e.memory; outcome = e.outcome }, v behind.1)
+        each_join (IsEntry d x.ram) (reverse p.before) _ (each_left (IsEntry d x.ram) (reverse p.before) _ all) (record { kind = e.kind; memory = e.memory; outcome = e.outcome; parts = e.parts; together = e.together }, v behind.1)
 
     predictor : let l = learn d p.entry x.counters x.targets in PredictorFits d l.counters l.targets
     predictor = learns_in p.entry.item.kind p.entry x.counters x.targets f.predictor
@@ -155,21 +154,7 @@ sized_resolve d x i = resolve_keep d (Sized d) (λ x p t q s. squashed d x (part
 
 -- ---- issue
 
--- a store that begins has memory's fault
-store_begins : (k : Kind) (d : Desc) (now : Around) (b : List Entry) (e : Entry) → is_store k ≡ true → FaultIs now.ram (width_of e) (begin_as k d now b e).entry.outcome × (is_some (begin_as k d now b e).entry.outcome ≡ true)
-store_begins Store d now b e h = (refl, refl)
-store_begins _ d now b e h = absurd (cc)
-
--- the same, told of the entry that has begun
-begun_entry : (ram : Ram) (e r : Entry) → r.item ≡ e.item → (is_store e.item.kind ≡ true → FaultIs ram (width_of e) r.outcome × (is_some r.outcome ≡ true)) → IsEntry ram e → IsEntry ram r
-begun_entry ram e r q f h =
-    let own = subst (λ (i : Item). (is_store i.kind ≡ true → FaultIs ram (size_of (op_of i.instr)) r.outcome × (is_some r.outcome ≡ true))) (sym q) f in
-    record { kind = subst HasKind (sym q) h.kind; memory = λ st. (own st).0; outcome = λ st w. (own st).1 }
-
-issue_sizes : (d : Desc) (now : Around) (b : List Entry) (e : Entry) → IsEntry now.ram e → IsEntry now.ram (issue_entry d now b e).entry
-issue_sizes d now b e h = by_issue d now b e (IsEntry now.ram) h (λ m. begun_entry now.ram e _ (begin_goes e.item.kind d now b e).item (store_begins e.item.kind d now b e) h)
-
-issue_entries : (d : Desc) (now : Around) (b es : List Entry) → Each (IsEntry now.ram) es → Each (IsEntry now.ram) (map (λ (t : Begun). t.entry) (each_from (issue_entry d now) b es))
+issue_entries : (d : Desc) (now : Around) (b es : List Entry) → Each (IsEntry d now.ram) es → Each (IsEntry d now.ram) (map (λ (t : Begun). t.entry) (each_from (issue_entry d now) b es))
 issue_entries d now b [] h = tt
 issue_entries d now b (e ∷ es) h = (issue_sizes d now b e h.0, issue_entries d now (e ∷ b) es h.1)
 
@@ -195,7 +180,7 @@ after_shares : (d : Desc) (x : Machine) (o : Option Place) → Fits d x → Shar
 after_shares d x None f = record { cache = f.cache; misses = f.misses }
 after_shares d x (Some p) f = load_shares d (around x) f.cache f.misses p.before p.entry
 
-after_same : (d : Desc) (x : Machine) (o : Option Place) (w : List Entry) (v : Divider) → WindowFits d w → Each (IsEntry x.ram) w → Fits d x → Sized d (record (after_load d o x) { window = w; divider = v })
+after_same : (d : Desc) (x : Machine) (o : Option Place) (w : List Entry) (v : Divider) → WindowFits d w → Each (IsEntry d x.ram) w → Fits d x → Sized d (record (after_load d o x) { window = w; divider = v })
 after_same d x o w v f e g =
     let s = after_shares d x o g in
     by_after_load d x (λ y. SharedFits d y.cache y.misses → Sized d (record y { window = w; divider = v }))
@@ -209,12 +194,13 @@ sized_issue d x i s =
 
 -- ---- rename and fetch
 
-store_waits : (k : Kind) → is_store k ≡ true → is_waiting (if at_once k then Done else Waiting) ≡ false → ⊥
-store_waits Store h w = absurd (cc)
-store_waits _ h w = absurd (cc)
+-- a store that is renamed waits
+store_waits : (k : Kind) → is_store k ≡ true → false ≡ not (is_waiting (if at_once k then Done else Waiting))
+store_waits Store h = refl
+store_waits _ h = absurd (cc)
 
-renamed_entry : (ram : Ram) (i : Item) (serial : ℕ) → HasKind i → IsEntry ram (renamed serial i)
-renamed_entry ram i serial h = record { kind = h; memory = λ st. tt; outcome = λ st w. absurd (store_waits i.kind st w) }
+renamed_entry : (d : Desc) (ram : Ram) (i : Item) (serial : ℕ) → HasKind i → IsEntry d ram (renamed serial i)
+renamed_entry d ram i serial h = record { kind = h; memory = λ s a. tt; outcome = λ s a. absurd (cc); parts = store_waits i.kind; together = λ v s. refl }
 
 -- an item that fits is renamed
 pub rename_item : (d : Desc) (x : Machine) (i : Item) (rest : List Item) → x.queue ≡ i ∷ rest → fits d x.window i ≡ true → Sized d x → Sized d (rename_one d i rest x).machine
@@ -224,7 +210,7 @@ rename_item d x i rest q r s =
     let items = subst (Each HasKind) q f.queue.item_kinds in
     whole d (rename_one d i rest x).machine (record {
       window = renamed_fits d x.window i x.next_serial r f.window;
-      entries = each_push (IsEntry x.ram) x.window (renamed x.next_serial i) f.entries (renamed_entry x.ram i x.next_serial items.0);
+      entries = each_push (IsEntry d x.ram) x.window (renamed x.next_serial i) f.entries (renamed_entry d x.ram i x.next_serial items.0);
       queue = record { queue = omega (arith, n, f.queue.queue); item_kinds = items.1 };
       predictor = f.predictor;
       cache = f.cache;

@@ -1,5 +1,5 @@
 -- Retire keeps sizes and entries, and leaves memory where it is.
-use Rattle.std.proofs.Common.{◌≡◌, ℕ, true, List, ◌∷◌, length, Option, Some, None, ap, sym, ◌∙◌, subst}
+use Rattle.std.proofs.Common.{◌≡◌, ℕ, Bool, true, false, not, ◌&&◌, refl, List, ◌∷◌, length, Option, Some, None, ap, sym, ◌∙◌, subst}
 use Rattle.std.specs.Prelude.{is_some}
 use Rattle.std.specs.List.{AllByRecursion as Each}
 use Rattle.rv_types.specs.Memory.{Ram, store_fault}
@@ -12,7 +12,7 @@ use Rattle.window_model.specs.declared.Entry.{Entry}
 use Rattle.window_model.specs.declared.Outcome.{Outcome}
 use Rattle.window_model.specs.Shape.{SameShape}
 use Rattle.window_model.specs.State.{Machine}
-use Rattle.window_model.specs.Order.{is_store, is_done, value_of, fault_of}
+use Rattle.window_model.specs.Order.{is_store, is_done, is_waiting, has_address, has_data, value_of, fault_of}
 use Rattle.window_model.specs.Retire.{retire, head_leaves, addr_of, lines_in, stored_of, width_of, may_leave, trap_of}
 use Rattle.window_model.proofs.Booleans.{both, done_waits}
 use Rattle.window_model.proofs.Lists.{each_then}
@@ -20,7 +20,7 @@ use Rattle.window_model.proofs.Memory.{same_shape, shape_then, store_keeps, same
 use Rattle.window_model.proofs.Registers.{length_with}
 use Rattle.window_model.proofs.Counts.{rest_thins}
 use Rattle.window_model.proofs.Walks.{heads_keep}
-use Rattle.machine_facts.specs.Sized.{Sized, FaultIs}
+use Rattle.machine_facts.specs.Sized.{Sized, FaultIs, HasParts}
 use Rattle.machine_facts.proofs.Parts.{WindowFits, IsEntry, CacheFits, parts, whole}
 use Rattle.machine_facts.proofs.Caches.{lines_fit}
 use Rattle.machine_facts.proofs.SizedWindow.{thinner}
@@ -32,8 +32,16 @@ fault_is : (ram ram2 : Ram) (width : ℕ) (o : Option Outcome) → SameShape ram
 fault_is ram ram2 width None k h = tt
 fault_is ram ram2 width (Some o) k h = h ∙ sym (same_fault _ _ ram ram2 o.addr width k)
 
-over_shape : (ram ram2 : Ram) → SameShape ram ram2 → (e : Entry) → IsEntry ram e → IsEntry ram2 e
-over_shape ram ram2 k e h = record { kind = h.kind; memory = λ st. fault_is ram ram2 (width_of e) e.outcome k (h.memory st); outcome = h.outcome }
+over_shape : (d : Desc) (ram ram2 : Ram) → SameShape ram ram2 → (e : Entry) → IsEntry d ram e → IsEntry d ram2 e
+over_shape d ram ram2 k e h = record { kind = h.kind; memory = λ s a. fault_is ram ram2 (width_of e) e.outcome k (h.memory s a); outcome = h.outcome; parts = h.parts; together = h.together }
+
+-- a store that doesn't wait has its address
+both_there : (a c w : Bool) → (a && c) ≡ not w → w ≡ false → a ≡ true
+both_there true c w h q = refl
+both_there false c w h q = absurd (cc)
+
+pub stored_at : (e : Entry) → HasParts e → is_store e.item.kind ≡ true → is_done e.state ≡ true → has_address e ≡ true
+stored_at e h s l = both_there (has_address e) (has_data e) (is_waiting e.state) (h s) (done_waits e.state l)
 
 -- ---- what a head leaves
 
@@ -55,7 +63,7 @@ module _ (d : Desc) (ram : Ram) where
       record {
         sized = whole d (gone x rest regs pc ram2 cache retired end) (record {
           window = thinner d (e ∷ rest) rest (rest_thins e rest) (subst (WindowFits d) w f.window);
-          entries = each_then (IsEntry x.ram) (IsEntry ram2) (over_shape x.ram ram2 k) rest (subst (Each (IsEntry x.ram)) w f.entries).1;
+          entries = each_then (IsEntry d x.ram) (IsEntry d ram2) (over_shape d x.ram ram2 k) rest (subst (Each (IsEntry d x.ram)) w f.entries).1;
           queue = f.queue;
           predictor = f.predictor;
           cache = c;
@@ -69,9 +77,10 @@ module _ (d : Desc) (ram : Ram) where
   stores : (x : Machine) (e : Entry) (rest : List Entry) → e.item.kind ≡ Store → x.window ≡ e ∷ rest → is_done e.state ≡ true → fault_of e.outcome ≡ None → Lies d ram x →
       store_fault x.ram (addr_of e.outcome) (width_of e) ≡ None
   stores x e rest q w l t h =
-      let own : IsEntry x.ram e = (subst (Each (IsEntry x.ram)) w (parts d x h.sized).entries).0 in
+      let own : IsEntry d x.ram e = (subst (Each (IsEntry d x.ram)) w (parts d x h.sized).entries).0 in
       let st : is_store e.item.kind ≡ true = ap is_store q in
-      no_fault x.ram (width_of e) e.outcome (own.memory st) (own.outcome st (done_waits e.state l)) t
+      let a = stored_at e own.parts st l in
+      no_fault x.ram (width_of e) e.outcome (own.memory st a) (own.outcome st a) t
 
   leaves : (x : Machine) (e : Entry) (rest : List Entry) → x.window ≡ e ∷ rest → may_leave e ≡ true → trap_of e ≡ None → Lies d ram x → Lies d ram (head_leaves e.item.kind d e rest x).machine
   leaves x e rest w l t h =

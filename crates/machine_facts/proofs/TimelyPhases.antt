@@ -25,9 +25,10 @@ use Rattle.window_model.proofs.Placing.{Taken, resolve_keep, taught}
 use Rattle.window_model.proofs.Registers.{read_other, writes_not_zero}
 use Rattle.window_model.proofs.Counts.{Evolves, evolves_same, map_evolves, place_evolves, completed_goes}
 use Rattle.window_model.proofs.Walks.{heads_keep, rename_keep, fetch_keep}
-use Rattle.machine_facts.specs.Timely.{Rises, IsDue, longest_division, last_from, last_item_from, TimelyFrom, Timely}
+use Rattle.machine_facts.specs.Sized.{HasParts}
+use Rattle.machine_facts.specs.Timely.{Rises, IsDue, PartsDue, longest_division, last_from, last_item_from, TimelyFrom, Timely}
 use Rattle.machine_facts.proofs.Serials.{rises_from, rises_on, rises_push}
-use Rattle.machine_facts.proofs.Dues.{dues_later, misses_later, misses_left, dues_left, dues_issued, divider_soon, due_new, apart_filter, MissesSoon, taken_soon}
+use Rattle.machine_facts.proofs.Dues.{dues_later, misses_later, misses_left, dues_left, dues_issued, parts_later, parts_left, parts_issued, divider_soon, due_new, apart_filter, MissesSoon, taken_soon}
 use Rattle.machine_facts.proofs.Reasons.{last_map, items_more, last_more, last_join, last_push, last_item_push, last_completed, last_issued, last_rest, last_new, stop_predicts}
 use Rattle.window_model.proofs.Resolving.{resolved_one, resolved_goes}
 use Rattle.window_model.proofs.Leaving.{gone, head_by}
@@ -36,13 +37,14 @@ use Rattle.window_model.proofs.Issuing.{by_after_load, issue_evolves}
 -- ---- the first state, and the next cycle
 
 pub timely_opening : (d : Desc) (entry : ℕ) (ram : Ram) → IsDesc d → Timely d (opening d entry ram)
-timely_opening d entry ram i = record { serials = omega arith; dues = tt; misses = tt; lines = tt; divider = omega arith; fetches = λ h. absurd (cc); zero = refl }
+timely_opening d entry ram i = record { serials = omega arith; dues = tt; parts = tt; misses = tt; lines = tt; divider = omega arith; fetches = λ h. absurd (cc); zero = refl }
 
 -- the number rises, and what was due later than the last cycle still is
 pub timely_begin : (d : Desc) (x : Machine) → IsDesc d → Timely d x → TimelyFrom x.cycle x.cycle d (record x { cycle = x.cycle + 1 })
 timely_begin d x i h = record {
   serials = h.serials;
   dues = dues_later d x.cycle x.cycle x.window h.dues;
+  parts = parts_later x.cycle x.window h.parts;
   misses = misses_later d x.cycle x.cycle x.misses h.misses;
   lines = h.lines;
   divider = omega (arith, h.divider);
@@ -56,6 +58,7 @@ pub timely_fill : (past_misses past : ℕ) (d : Desc) (x : Machine) → IsDesc d
 timely_fill past_misses past d x i q h = record {
   serials = h.serials;
   dues = h.dues;
+  parts = h.parts;
   misses = misses_left d past_misses x.cycle x.misses q h.misses;
   lines = apart_filter (λ m. not (is_due x.cycle m)) x.misses h.lines;
   divider = h.divider;
@@ -67,6 +70,7 @@ pub timely_complete : (past : ℕ) (d : Desc) (x : Machine) → IsDesc d → x.c
 timely_complete past d x i q h = record {
   serials = rises_on 0 x.next_serial x.window _ (map_evolves (completed x.cycle) (completed_goes x.cycle) x.window) h.serials;
   dues = dues_left d past x.cycle x.window q h.dues;
+  parts = parts_left x.cycle x.cycle x.window h.parts;
   misses = h.misses;
   lines = h.lines;
   divider = h.divider;
@@ -97,16 +101,24 @@ module _ (d : Desc) where
     serials : (zs : List Entry) → Evolves p.younger zs → Rises 0 (Marked zs) x.next_serial
     serials zs v = rises_on 0 x.next_serial x.window _ (subst (λ w. Evolves w (Marked zs)) (sym t.window) (place_evolves (reverse p.before) p.entry (resolved_one p.entry) p.younger zs (resolved_goes p.entry) v)) h.serials
 
+    -- what holds of each entry, and doesn't ask whether it is resolved
+    marked : (P : Entry → Type 0) → (P p.entry → P (resolved_one p.entry)) → Each P x.window → (zs : List Entry) → (Each P p.younger → Each P zs) → Each P (Marked zs)
+    marked P f k zs v =
+        let all = subst (Each P) t.window k in
+        let behind = each_right P (reverse p.before) _ all in
+        each_join P (reverse p.before) _ (each_left P (reverse p.before) _ all) (f behind.0, v behind.1)
+
     dues : (zs : List Entry) → (Each (IsDue d x.cycle x.cycle) p.younger → Each (IsDue d x.cycle x.cycle) zs) → Each (IsDue d x.cycle x.cycle) (Marked zs)
-    dues zs v =
-        let all = subst (Each (IsDue d x.cycle x.cycle)) t.window h.dues in
-        let behind = each_right (IsDue d x.cycle x.cycle) (reverse p.before) _ all in
-        each_join (IsDue d x.cycle x.cycle) (reverse p.before) _ (each_left (IsDue d x.cycle x.cycle) (reverse p.before) _ all) (behind.0, v behind.1)
+    dues = marked (IsDue d x.cycle x.cycle) (λ k. k) h.dues
+
+    parts : (zs : List Entry) → (Each (PartsDue x.cycle) p.younger → Each (PartsDue x.cycle) zs) → Each (PartsDue x.cycle) (Marked zs)
+    parts = marked (PartsDue x.cycle) (λ k. k) h.parts
 
     squashed : Timely d (squash d p (taught d p x)).machine
     squashed = record {
       serials = serials [] tt;
       dues = dues [] (λ k. tt);
+      parts = parts [] (λ k. tt);
       misses = h.misses;
       lines = h.lines;
       divider = freed_in (is_from (p.entry.serial + 1) x.divider.user) x.divider (x.cycle + longest_division) h.divider;
@@ -120,6 +132,7 @@ module _ (d : Desc) where
     kept = record {
       serials = serials p.younger (evolves_same p.younger);
       dues = dues p.younger (λ k. k);
+      parts = parts p.younger (λ k. k);
       misses = h.misses;
       lines = h.lines;
       divider = h.divider;
@@ -143,6 +156,7 @@ module _ (d : Desc) where
   timely_gone x e rest regs pc ram cache retired end w t z h = record {
     serials = rises_from (suc e.serial) 0 x.next_serial rest (omega arith) (subst (λ w. Rises 0 w x.next_serial) w h.serials).1;
     dues = (subst (Each (IsDue d x.cycle x.cycle)) w h.dues).1;
+    parts = (subst (Each (PartsDue x.cycle)) w h.parts).1;
     misses = h.misses;
     lines = h.lines;
     divider = h.divider;
@@ -160,6 +174,7 @@ module _ (d : Desc) where
   ends x end h = record {
     serials = h.serials;
     dues = h.dues;
+    parts = h.parts;
     misses = h.misses;
     lines = h.lines;
     divider = h.divider;
@@ -176,21 +191,23 @@ after_soon : (d : Desc) (x : Machine) (o : Option Place) → IsDesc d → Timely
 after_soon d x None i h = record { misses = h.misses; lines = h.lines }
 after_soon d x (Some p) i h = taken_soon d (around x) i (record { misses = h.misses; lines = h.lines }) p.before p.entry
 
-issue_done : (d : Desc) (x : Machine) (o : Option Place) (w : List Entry) (v : Divider) → IsDesc d → Rises 0 w x.next_serial → Each (IsDue d x.cycle x.cycle) w → v.free_from ≤ x.cycle + longest_division →
+issue_done : (d : Desc) (x : Machine) (o : Option Place) (w : List Entry) (v : Divider) → IsDesc d → Rises 0 w x.next_serial → Each (IsDue d x.cycle x.cycle) w → Each (PartsDue x.cycle) w → v.free_from ≤ x.cycle + longest_division →
     (x.fetch_pc ≡ None → last_item_from (last_from (is_some x.end) w) x.queue ≡ true) → Timely d x → Timely d (record (after_load d o x) { window = w; divider = v })
-issue_done d x o w v i r u f n h =
+issue_done d x o w v i r u p f n h =
     let soon = after_soon d x o i h in
     by_after_load d x (λ y. MissesSoon d x.cycle y.misses → Timely d (record y { window = w; divider = v }))
-    (λ c m s. record { serials = r; dues = u; misses = s.misses; lines = s.lines; divider = f; fetches = n; zero = h.zero }) o soon
+    (λ c m s. record { serials = r; dues = u; parts = p; misses = s.misses; lines = s.lines; divider = f; fetches = n; zero = h.zero }) o soon
 
-pub timely_issue : (d : Desc) (x : Machine) → IsDesc d → Timely d x → Timely d (issue d x).machine
-timely_issue d x i h =
+-- a store that lacks a part waits: so no fault that is known is lost
+pub timely_issue : (d : Desc) (x : Machine) → IsDesc d → Each HasParts x.window → Timely d x → Timely d (issue d x).machine
+timely_issue d x i k h =
     let now = around x in
     issue_done d x (first (may_at d now LoadPort) x.window) _ _ i
     (rises_on 0 x.next_serial x.window _ (issue_evolves d now [] x.window) h.serials)
-    (dues_issued d now i h.misses [] x.window h.dues)
+    (dues_issued d now i h.misses [] x.window h.parts h.dues)
+    (parts_issued d now [] x.window h.parts)
     (divider_soon x (first (may_at d now DivPort) x.window) h.divider)
-    (λ n. items_more _ _ (last_issued d now [] (is_some x.end) (is_some x.end) (λ h. h) x.window) x.queue (h.fetches n)) h
+    (λ n. items_more _ _ (last_issued d now [] (is_some x.end) (is_some x.end) (λ h. h) x.window k) x.queue (h.fetches n)) h
 
 -- ---- rename and fetch
 
@@ -198,6 +215,7 @@ rename_item : (d : Desc) (x : Machine) (j : Item) (rest : List Item) → x.queue
 rename_item d x j rest q f h = record {
   serials = rises_push 0 x.next_serial x.window (renamed x.next_serial j) refl h.serials;
   dues = each_push (IsDue d x.cycle x.cycle) x.window (renamed x.next_serial j) h.dues (due_new d x.cycle x.cycle x.next_serial j);
+  parts = each_push (PartsDue x.cycle) x.window (renamed x.next_serial j) h.parts (tt, tt);
   misses = h.misses;
   lines = h.lines;
   divider = h.divider;
@@ -214,6 +232,7 @@ fetch_item : (d : Desc) (code : Code) (x : Machine) (pc : ℕ) → x.fetch_pc �
 fetch_item d code x pc q r h = record {
   serials = h.serials;
   dues = h.dues;
+  parts = h.parts;
   misses = h.misses;
   lines = h.lines;
   divider = h.divider;

@@ -1,6 +1,6 @@
 -- What each phase keeps, whatever the others do: how much each part holds, and what the entries are
 -- (docs/theorems.md, "What every state keeps").
-use Rattle.std.specs.Prelude.{◌≡◌, ℕ, ◌≤◌, Bool, true, false, length, Option, None, Some, is_some}
+use Rattle.std.specs.Prelude.{◌≡◌, ℕ, ◌≤◌, Bool, true, not, ◌&&◌, length, Option, None, Some, is_some}
 use Rattle.std.specs.Prelude.{count_by}
 use Rattle.std.specs.List.{AllByRecursion as Each}
 use Rattle.rv_types.specs.Memory.{Ram, store_fault}
@@ -12,7 +12,7 @@ use Rattle.window_model.specs.declared.Entry.{Entry}
 use Rattle.window_model.specs.declared.Item.{Item}
 use Rattle.window_model.specs.declared.Outcome.{Outcome}
 use Rattle.window_model.specs.State.{Machine}
-use Rattle.window_model.specs.Order.{is_waiting, is_load, is_store}
+use Rattle.window_model.specs.Order.{is_waiting, is_load, is_store, has_address, has_data}
 use Rattle.window_model.specs.Retire.{width_of}
 use Rattle.window_model.specs.Rename.{CallAlone}
 pub use Rattle.window_model.specs.Rename.{calls}
@@ -42,13 +42,21 @@ abbrev pub FaultIs : Ram → ℕ → Option Outcome → Type 0
 FaultIs ram width None = Unit {0}
 FaultIs ram width (Some o) = o.fault ≡ store_fault ram o.addr width
 
--- a store is refused by its outcome exactly where memory would refuse it
+-- a store whose address part has issued is refused by its outcome exactly where memory would refuse it
 abbrev pub FitsMemory : Ram → Entry → Type 0
-FitsMemory ram e = is_store e.item.kind ≡ true → FaultIs ram (width_of e) e.outcome
+FitsMemory ram e = is_store e.item.kind ≡ true → has_address e ≡ true → FaultIs ram (width_of e) e.outcome
 
--- a store that no longer waits has its outcome
+-- such a store has an outcome
 abbrev pub HasOutcome : Entry → Type 0
-HasOutcome e = is_store e.item.kind ≡ true → awaits e ≡ false → is_some e.outcome ≡ true
+HasOutcome e = is_store e.item.kind ≡ true → has_address e ≡ true → is_some e.outcome ≡ true
+
+-- a store that waits lacks a part, and one that doesn't has both
+abbrev pub HasParts : Entry → Type 0
+HasParts e = is_store e.item.kind ≡ true → (has_address e && has_data e) ≡ not (awaits e)
+
+-- in version 1 both parts of a store go in one cycle
+abbrev pub Together : Desc → Entry → Type 0
+Together d e = d.version ≡ 1 → is_store e.item.kind ≡ true → has_address e ≡ has_data e
 
 -- each part holds at most what the description says, and each entry is what its instruction says
 pub record Sized (d : Desc) (x : Machine) : Type 0 where
@@ -69,3 +77,5 @@ pub record Sized (d : Desc) (x : Machine) : Type 0 where
   pub item_kinds : Each HasKind x.queue
   pub memory : Each (FitsMemory x.ram) x.window
   pub outcomes : Each HasOutcome x.window
+  pub parts : Each HasParts x.window
+  pub together : Each (Together d) x.window

@@ -1,6 +1,6 @@
 -- What every state keeps of times: serials rise, all that is under way ends soon, and fetching stops only for a reason
 -- (docs/theorems.md, "What every state keeps").
-use Rattle.std.specs.Prelude.{◌≡◌, ◌≢◌, ℕ, suc, ◌+◌, ◌*◌, ◌<◌, ◌≤◌, Bool, true, false, ◌&&◌, ◌||◌, List, [], ◌∷◌, None, is_some}
+use Rattle.std.specs.Prelude.{◌≡◌, ◌≢◌, ℕ, suc, ◌+◌, ◌*◌, ◌<◌, ◌≤◌, Bool, true, false, ◌&&◌, ◌||◌, List, [], ◌∷◌, Option, Some, None, is_some}
 use Rattle.std.specs.List.{AllByRecursion as Each}
 use Rattle.rv_types.specs.Isa.{reg}
 use Rattle.rv_types.specs.declared.Kind.{Kind}
@@ -53,6 +53,15 @@ WaitsOrDone e = is_store e.item.kind ≡ true → is_busy e.state ≡ false
 abbrev pub IsDue : Desc → ℕ → ℕ → Entry → Type 0
 IsDue d past cycle e = DueSoon past cycle (latency e.item.kind d) e.state
 
+-- a part that has issued is known in the next cycle at the latest
+abbrev pub PartDue : ℕ → Option ℕ → Type 0
+PartDue cycle None = Unit {0}
+PartDue cycle (Some due) = due ≤ cycle + 1
+
+-- so it is with both parts of a store
+abbrev pub PartsDue : ℕ → Entry → Type 0
+PartsDue cycle e = PartDue cycle e.addr_due × PartDue cycle e.data_due
+
 -- a miss register is freed within the latency of a miss
 abbrev pub IsPending : Desc → ℕ → ℕ → Miss → Type 0
 IsPending d past cycle m = IsSoon past cycle d.cache_miss_latency m.due
@@ -84,6 +93,7 @@ stopped x = last_item_from (last_from (is_some x.end) x.window) x.queue
 pub record TimelyFrom (past_misses past : ℕ) (d : Desc) (x : Machine) : Type 0 where
   pub serials : Rises 0 x.window x.next_serial
   pub dues : Each (IsDue d past x.cycle) x.window
+  pub parts : Each (PartsDue x.cycle) x.window
   pub misses : Each (IsPending d past_misses x.cycle) x.misses
   pub lines : Apart x.misses
   pub divider : x.divider.free_from ≤ x.cycle + longest_division

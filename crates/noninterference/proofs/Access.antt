@@ -5,28 +5,26 @@ use Rattle.std.specs.List.{find}
 use Rattle.rv_types.specs.Causes.{load_misaligned, load_outside}
 use Rattle.rv_types.specs.Memory.{Code, load_fault, range}
 use Rattle.rv_types.specs.declared.Cause.{Cause}
-use Rattle.rv_types.specs.declared.Kind.{Kind}
-use Rattle.rv_types.specs.declared.Kind.TheVariants.{Store}
 use Rattle.machine_desc.specs.declared.Desc.{Desc}
 use Rattle.machine_desc.specs.declared.SttModel.{SttModel}
 use Rattle.window_model.specs.declared.Entry.{Entry}
-use Rattle.window_model.specs.declared.Outcome.{Outcome}
 use Rattle.window_model.specs.State.{Machine}
-use Rattle.window_model.specs.Order.{fault_of, is_load, is_store}
-use Rattle.window_model.specs.Retire.{addr_of, op_of, width_of}
+use Rattle.window_model.specs.Order.{is_load, is_store}
+use Rattle.window_model.specs.Retire.{op_of, width_of}
 use Rattle.window_model.specs.Taint.{any_tainted, address_tainted}
 use Rattle.window_model.specs.Around.{Around, around}
 use Rattle.window_model.specs.Issue.{effect_of, time_of, access_of}
-use Rattle.window_model.specs.Access.{access, access_at, reaches, covers, all_covered, any_store_hidden}
+use Rattle.window_model.specs.Access.{access, access_at, covers, all_covered, any_store_hidden}
 use Rattle.window_model.specs.Shape.{SameShape}
 use Rattle.window_model.proofs.Booleans.{neither}
 use Rattle.window_model.proofs.Memory.{same_fault}
 use Rattle.committed_state.specs.Consistent.{IsItem}
 use Rattle.noninterference.specs.Alike.{Alike, without_outcome}
-use Rattle.noninterference.specs.Outcomes.{SameOutcome, SameOutcomes}
+use Rattle.noninterference.specs.Outcomes.{SameOutcomes}
 use Rattle.noninterference.proofs.Looking.{same_kind}
 use Rattle.noninterference.proofs.Operand.{same_address, all_same_list}
 use Rattle.noninterference.proofs.Effects.{addresses_alike, base_alike, untainted_base_of}
+use Rattle.noninterference.proofs.Letting.{same_covers}
 use Rattle.noninterference.proofs.Loads.{by_base}
 
 and_when : (a b : Bool) → a ≡ true → (a && b) ≡ false → b ≡ false
@@ -45,20 +43,6 @@ same_hidden model (e ∷ b) (e2 ∷ b2) s =
 same_hidden model [] (e2 ∷ b2) s = absurd s
 same_hidden model (e ∷ b) [] s = absurd s
 
--- two outcomes with one address and fault, or none twice, reach the same bytes
-same_reaches : (a n : ℕ) (o o2 : Option Outcome) → is_some o ≡ is_some o2 → addr_of o ≡ addr_of o2 → fault_of o ≡ fault_of o2 → reaches a n o ≡ reaches a n o2
-same_reaches a n None None i ad f = refl
-same_reaches a n (Some o) (Some o2) i ad f = cc
-same_reaches a n None (Some o2) i ad f = absurd (cc)
-same_reaches a n (Some o) None i ad f = absurd (cc)
-
-covers_by : (k : Kind) (model : SttModel) (b : List Entry) (e e2 : Entry) (a : ℕ) → is_some e.outcome ≡ is_some e2.outcome → SameOutcome k model b e e2 →
-    (is_store k ≡ true → address_tainted model b e ≡ false) → width_of e ≡ width_of e2 → (is_store k && reaches a (width_of e) e.outcome) ≡ (is_store k && reaches a (width_of e2) e2.outcome)
-covers_by Store model b e e2 a i o t w =
-    let q = o.0 (t refl) in
-    same_reaches a (width_of e) e.outcome e2.outcome i q.0 q.1 ∙ ap (λ n. reaches a n e2.outcome) w
-covers_by _ model b e e2 a i o t w = refl
-
 some_if : (c c2 : Bool) (e e2 : Entry) (o o2 : Option Entry) → c ≡ c2 → is_some o ≡ is_some o2 → is_some (if c then Some e else o) ≡ is_some (if c2 then Some e2 else o2)
 some_if true true e e2 o o2 q h = refl
 some_if false false e e2 o o2 q h = h
@@ -70,11 +54,7 @@ same_covered model [] [] a s h = refl
 same_covered model (e ∷ b) (e2 ∷ b2) a s h =
     let here = (neither (is_store e.item.kind && address_tainted model b e) (any_store_hidden model b) h).0 in
     let later = (neither (is_store e.item.kind && address_tainted model b e) (any_store_hidden model b) h).1 in
-    let w = ap width_of s.0.but_outcome in
-    let k = same_kind e e2 s.0.but_outcome in
-    let c : covers a e ≡ covers a e2 =
-    covers_by e.item.kind model b e e2 a s.0.issued s.0.outcomes (λ st. and_when (is_store e.item.kind) (address_tainted model b e) st here) w
-    ∙ ap (λ k. is_store k && reaches a (width_of e2) e2.outcome) k in
+    let c : covers a e ≡ covers a e2 = same_covers model b e e2 a s.0 (λ st. and_when (is_store e.item.kind) (address_tainted model b e) st here) in
     some_if (covers a e) (covers a e2) e e2 (find (covers a) b) (find (covers a) b2) c (same_covered model b b2 a s.1 later)
 same_covered model [] (e2 ∷ b2) a s h = absurd s
 same_covered model (e ∷ b) [] a s h = absurd s

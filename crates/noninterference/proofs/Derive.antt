@@ -12,7 +12,7 @@ use Rattle.window_model.specs.Taint.{visible}
 use Rattle.window_model.specs.Issue.{effect_of}
 use Rattle.window_model.specs.Shape.{SameShape}
 use Rattle.window_model.proofs.Booleans.{or_true}
-use Rattle.committed_state.specs.Computed.{Bank, ComesTo, computed}
+use Rattle.committed_state.specs.Computed.{Bank, ComesTo, as_known, computed}
 use Rattle.committed_state.specs.Consistent.{bank_in}
 use Rattle.committed_state.proofs.Onward.{of_item}
 use Rattle.noninterference.specs.Alike.{without_outcome}
@@ -50,7 +50,7 @@ module _ (model : SttModel) (code : Code) (x x2 : Machine) (regs : x.regs ≡ x2
       let h = a.0.but_outcome in
       let st = w.stands.0 in
       let item = ap (λ (t : Entry). t.item) h in
-      let c2 : ComesTo e2.outcome (computed s2 b2 e) = subst (λ i. ComesTo e2.outcome (computed s2 b2 (of_item i))) (sym item) w2.stands.0.computed in
+      let c2 : ComesTo e2.outcome (as_known e (computed s2 b2 e)) = subst (ComesTo e2.outcome) (sym (ap (λ (t : Entry). as_known t (computed s2 b2 t)) h)) w2.stands.0.computed in
       let of_x2 : effect_of x2.regs b2 e2 ≡ effect_of x2.regs b2 e = ap (λ i. effect_of x2.regs b2 (of_item i)) (sym item) in (
         record {
           but_outcome = h;

@@ -6,30 +6,30 @@ use mathlib.Core.List.{reverse_aux}
 use Rattle.rv_types.specs.Memory.{Code}
 use Rattle.rv_types.specs.Isa.{Effect}
 use Rattle.rv_types.specs.declared.Kind.{Kind}
-use Rattle.rv_types.specs.declared.Kind.TheVariants.{Mul, Div, Load, Store}
+use Rattle.rv_types.specs.declared.Kind.TheVariants.{Mul, Div, Load}
 use Rattle.machine_desc.specs.declared.Desc.{Desc}
 use Rattle.window_model.specs.declared.Entry.{Entry}
 use Rattle.window_model.specs.declared.Event.{Event}
 use Rattle.window_model.specs.declared.Progress.TheVariants.{Busy}
 use Rattle.window_model.specs.State.{Machine, After}
 use Rattle.window_model.specs.declared.Divider.{Divider}
-use Rattle.window_model.specs.Order.{Place, each, each_from, first, is_load}
-use Rattle.window_model.specs.Around.{Around, around, is_free}
+use Rattle.window_model.specs.Order.{Place, each, each_from, first, is_load, is_store}
+use Rattle.window_model.specs.Around.{Around, around}
 use Rattle.window_model.specs.Access.{Access, Faults, Forwards, Looks, Waits, Line, Hits, Joins, Takes, cache_after, due_of, latest, look_events, misses_after}
-use Rattle.window_model.specs.Issue.{Port, DivPort, LoadPort, issue, issue_entry, begin_as, Begun, waits, load_as, access_of, value_loaded, effect_of, is_granted, may_at, may_issue, may_issue_as, port_of, is_division, after_load, divider_after}
+use Rattle.window_model.specs.Issue.{Port, AddressPort, DataPort, DivPort, LoadPort, issue, issue_entry, issue_parts, issue_whole, begin_as, Begun, waits, with_address, with_data, if_granted, data_events, load_as, access_of, value_loaded, effect_of, is_granted, may_at, may_issue_as, port_of, is_division, after_load, divider_after}
 use Rattle.window_model.specs.Along.{Along}
 use Rattle.window_model.specs.Shape.{SameShape}
 use Rattle.window_model.specs.Retire.{hart_of}
 use Rattle.window_model.specs.declared.Event.TheVariants as event
 use Rattle.window_model.proofs.Booleans.{both}
 use Rattle.window_model.proofs.Places.{Found, found}
-use Rattle.window_model.proofs.Issuing.{at_division_port, at_load_port, may_parts, load_clean, division_clean}
+use Rattle.window_model.proofs.Issuing.{asks_division, asks_load, may_own, may_parts, load_clean, division_clean}
 use Rattle.committed_state.specs.Consistent.{IsItem, Stands, bank_in}
 use Rattle.noninterference.specs.Alike.{Alike, shown, shown_after, without_outcome}
 use Rattle.noninterference.specs.Outcomes.{SameOutcomes}
 use Rattle.noninterference.specs.Laws.{IssueTellsNothing}
 use Rattle.noninterference.proofs.Looking.{same_kind}
-use Rattle.noninterference.proofs.Operand.{same_may, same_granted}
+use Rattle.noninterference.proofs.May.{at_alike, granted_alike}
 use Rattle.noninterference.proofs.Places.{SamePlaces, SeenAlike, first_same, peel}
 use Rattle.noninterference.proofs.Access.{same_access_of, same_time}
 
@@ -64,6 +64,22 @@ same_load_as Forwards d now now2 e e2 f f2 v v2 h q = same_begins e e2 _ _ _ _ h
 same_load_as (Looks found) d now now2 e e2 f f2 v v2 h q = same_begins e e2 _ _ _ _ h (ap latest (same_dues d now now2 found q)) (ap (λ (t : Entry). look_events t.serial found) h)
 same_load_as Waits d now now2 e e2 f f2 v v2 h q = same_waits e e2 h
 
+-- ---- a store's parts
+
+-- a store of which the parts that are granted go
+abbrev parts_of : Bool → Bool → Desc → Around → Effect → Entry → Begun
+parts_of address datum d now f e =
+    let a = if_granted address (with_address now f) (event.Agu e.serial ∷ []) e in
+    let b = if_granted datum (with_data now f) (data_events d e) a.entry in
+    record { entry = b.entry; events = a.events ++ b.events }
+
+-- it hides what it computes: address, fault and data
+parts_hide : (a c : Bool) (d : Desc) (now now2 : Around) (f f2 : Effect) (e : Entry) → now.cycle ≡ now2.cycle → begun_without (parts_of a c d now f e) ≡ begun_without (parts_of a c d now2 f2 (without_outcome e))
+parts_hide true true d now now2 f f2 e q = ap (λ n. begun_without (parts_of true true d (record now2 { cycle = n }) f2 (without_outcome e))) q
+parts_hide true false d now now2 f f2 e q = ap (λ n. begun_without (parts_of true false d (record now2 { cycle = n }) f2 (without_outcome e))) q
+parts_hide false true d now now2 f f2 e q = ap (λ n. begun_without (parts_of false true d (record now2 { cycle = n }) f2 (without_outcome e))) q
+parts_hide false false d now now2 f f2 e q = refl
+
 module _ (d : Desc) (code : Code) (x x2 : Machine) (r : Alike x x2) (place : SameShape x.ram x2.ram) where
   abbrev now : Around
   now = around x
@@ -73,9 +89,6 @@ module _ (d : Desc) (code : Code) (x x2 : Machine) (r : Alike x x2) (place : Sam
 
   cycle_same : x.cycle ≡ x2.cycle
   cycle_same = ap (λ (m : Machine). m.cycle) r
-
-  free_same : is_free now ≡ is_free now2
-  free_same = ap (λ (m : Machine). is_free (around m)) r
 
   begin_alike : (k : Kind) (b b2 : List Entry) (e e2 : Entry) → e.item.kind ≡ k → SameOutcomes d.stt_model b b2 → without_outcome e ≡ without_outcome e2 → IsItem code e.item → may_issue_as k d now b e ≡ true → begun_without (begin_as k d now b e) ≡ begun_without (begin_as k d now2 b2 e2)
   begin_alike Load b b2 e e2 q s h item m =
@@ -88,7 +101,6 @@ module _ (d : Desc) (code : Code) (x x2 : Machine) (r : Alike x x2) (place : Sam
       let t = same_time d code x x2 r place b b2 s e e2 h (division_clean Div d now b e m refl) in
       same_begins e e2 _ _ _ _ h (let c = cycle_same in cc) (let g = ap (λ (t : Entry). t.serial) h in cc)
   begin_alike Mul b b2 e e2 q s h item m = same_begins e e2 _ _ _ _ h (ap (λ n. n + d.units_mul_latency) cycle_same) (ap (λ (t : Entry). event.Mul t.serial ∷ []) h)
-  begin_alike Store b b2 e e2 q s h item m = same_begins e e2 _ _ _ _ h (ap (λ n. n + 1) cycle_same) (ap (λ (t : Entry). event.Agu t.serial ∷ []) h)
   begin_alike k b b2 e e2 q s h item m = same_begins e e2 _ _ _ _ h (ap (λ n. n + 1) cycle_same) (ap (λ (t : Entry). event.Alu t.serial ∷ []) h)
 
   entry_if : (g g2 : Bool) (e e2 : Entry) (o o2 : Begun) → g ≡ g2 → without_outcome e ≡ without_outcome e2 → (g ≡ true → begun_without o ≡ begun_without o2) → begun_without (if g then o else waits e) ≡ begun_without (if g2 then o2 else waits e2)
@@ -97,13 +109,37 @@ module _ (d : Desc) (code : Code) (x x2 : Machine) (r : Alike x x2) (place : Sam
   entry_if true false e e2 o o2 q h p = absurd (cc)
   entry_if false true e e2 o o2 q h p = absurd (cc)
 
-  entry_alike : (b b2 : List Entry) (e e2 : Entry) → SameOutcomes d.stt_model b b2 → without_outcome e ≡ without_outcome e2 → IsItem code e.item → begun_without (issue_entry d now b e) ≡ begun_without (issue_entry d now2 b2 e2)
-  entry_alike b b2 e e2 s h item =
+  -- in one piece
+  whole_alike : (b b2 : List Entry) (e e2 : Entry) → is_store e.item.kind ≡ false → SameOutcomes d.stt_model b b2 → without_outcome e ≡ without_outcome e2 → IsItem code e.item → begun_without (issue_whole d now b e) ≡ begun_without (issue_whole d now2 b2 e2)
+  whole_alike b b2 e e2 n s h item =
       let port = port_of e.item.kind in
       let k = same_kind e e2 h in
-      let g = same_granted d now now2 free_same port b b2 e e2 s h ∙ ap (λ k. is_granted d now2 (port_of k) b2 e2) k in
+      let g = granted_alike d x x2 r place b b2 s e e2 h port ∙ ap (λ k. is_granted d now2 (port_of k) b2 e2) k in
       entry_if (is_granted d now port b e) (is_granted d now2 (port_of e2.item.kind) b2 e2) e e2 (begin_as e.item.kind d now b e) (begin_as e2.item.kind d now2 b2 e2) g h
-      (λ t. begin_alike e.item.kind b b2 e e2 refl s h item (may_parts d now b e (both (may_issue d now b e) _ (both (may_at d now port b e) _ t).0).0).kind ∙ ap (λ k. begun_without (begin_as k d now2 b2 e2)) k)
+      (λ t. begin_alike e.item.kind b b2 e e2 refl s h item (may_parts d now b e (sym (may_own d now b e n) ∙ (both (may_at d now port b e) _ t).0)).kind ∙ ap (λ k. begun_without (begin_as k d now2 b2 e2)) k)
+
+  -- by parts
+  parts_alike : (b b2 : List Entry) (e e2 : Entry) → SameOutcomes d.stt_model b b2 → without_outcome e ≡ without_outcome e2 → begun_without (issue_parts d now b e) ≡ begun_without (issue_parts d now2 b2 e2)
+  parts_alike b b2 e e2 s h =
+      let f = effect_of x.regs b e in
+      let f2 = effect_of x2.regs b2 e2 in
+      let address2 = is_granted d now2 AddressPort b2 e2 in
+      let datum2 = is_granted d now2 DataPort b2 e2 in
+      ap₂ (λ a c. begun_without (parts_of a c d now f e)) (granted_alike d x x2 r place b b2 s e e2 h AddressPort) (granted_alike d x x2 r place b b2 s e e2 h DataPort)
+      ∙ parts_hide address2 datum2 d now now2 f f2 e cycle_same
+      ∙ ap (λ t. begun_without (parts_of address2 datum2 d now2 f2 t)) h
+      ∙ sym (parts_hide address2 datum2 d now2 now2 f2 f2 e2 refl)
+
+  by_parts : (t t2 : Bool) (a a2 w w2 : Begun) → t ≡ t2 → begun_without a ≡ begun_without a2 → (t ≡ false → begun_without w ≡ begun_without w2) → begun_without (if t then a else w) ≡ begun_without (if t2 then a2 else w2)
+  by_parts true true a a2 w w2 q p h = p
+  by_parts false false a a2 w w2 q p h = h refl
+  by_parts true false a a2 w w2 q p h = absurd (cc)
+  by_parts false true a a2 w w2 q p h = absurd (cc)
+
+  entry_alike : (b b2 : List Entry) (e e2 : Entry) → SameOutcomes d.stt_model b b2 → without_outcome e ≡ without_outcome e2 → IsItem code e.item → begun_without (issue_entry d now b e) ≡ begun_without (issue_entry d now2 b2 e2)
+  entry_alike b b2 e e2 s h item =
+      by_parts (is_store e.item.kind) (is_store e2.item.kind) (issue_parts d now b e) (issue_parts d now2 b2 e2) (issue_whole d now b e) (issue_whole d now2 b2 e2)
+      (ap is_store (same_kind e e2 h)) (parts_alike b b2 e e2 s h) (λ n. whole_alike b b2 e e2 n s h item)
 
   each_alike : (es es2 b b2 : List Entry) → map without_outcome es ≡ map without_outcome es2 → SameOutcomes d.stt_model (reverse_aux es b) (reverse_aux es2 b2) → Along (Stands code (bank_in (hart_of x))) b es →
       map begun_without (each_from (issue_entry d now) b es) ≡ map begun_without (each_from (issue_entry d now2) b2 es2)
@@ -120,7 +156,7 @@ module _ (d : Desc) (code : Code) (x x2 : Machine) (r : Alike x x2) (place : Sam
   -- ---- the load that is tried, and the division
 
   at_port : (port : Port) → SeenAlike d.stt_model (may_at d now port) (may_at d now2 port)
-  at_port port b b2 e e2 s h = same_may d now now2 free_same port b b2 e e2 s h.but_outcome
+  at_port port b b2 e e2 s h = at_alike d x x2 r place b b2 s e e2 h.but_outcome port
 
   load_shown : (a : Access) (m m2 : Machine) → Alike m m2 →
       shown (record m { cache = cache_after a d m.cache; misses = misses_after a d m.cycle m.misses }) ≡ shown (record m2 { cache = cache_after a d m2.cache; misses = misses_after a d m2.cycle m2.misses })
@@ -135,8 +171,8 @@ module _ (d : Desc) (code : Code) (x x2 : Machine) (r : Alike x x2) (place : Sam
   tried_alike_at None None s i f = r
   tried_alike_at (Some p) (Some p2) s i f =
       let at = f p refl in
-      let t = both (may_issue d now p.before p.entry) _ at.has in
-      let l : is_load p.entry.item.kind ≡ true = ap is_load (at_load_port p.entry.item.kind t.1) in
+      let t = asks_load d now p.before p.entry at.has in
+      let l : is_load p.entry.item.kind ≡ true = ap is_load t.1 in
       let item = item_at [] at.older p.younger p.entry (subst (Along (Stands code (bank_in (hart_of x))) []) at.all i) in
       let m = load_clean p.entry.item.kind d now p.before p.entry (may_parts d now p.before p.entry t.0).kind l in
       let a = same_access_of d code x x2 r place p.before p2.before s.before p.entry p2.entry s.here.but_outcome item l m in
@@ -148,8 +184,8 @@ module _ (d : Desc) (code : Code) (x x2 : Machine) (r : Alike x x2) (place : Sam
   divider_alike : (o o2 : Option Place) → SamePlaces d.stt_model o o2 → ((p : Place) → o ≡ Some p → may_at d now DivPort p.before p.entry ≡ true) → divider_after x o ≡ divider_after x2 o2
   divider_alike None None s f = ap (λ (m : Machine). m.divider) r
   divider_alike (Some p) (Some p2) s f =
-      let t = both (may_issue d now p.before p.entry) _ (f p refl) in
-      let m = division_clean p.entry.item.kind d now p.before p.entry (may_parts d now p.before p.entry t.0).kind (ap is_division (at_division_port p.entry.item.kind t.1)) in
+      let t = asks_division d now p.before p.entry (f p refl) in
+      let m = division_clean p.entry.item.kind d now p.before p.entry (may_parts d now p.before p.entry t.0).kind (ap is_division t.1) in
       let a = same_time d code x x2 r place p.before p2.before s.before p.entry p2.entry s.here.but_outcome m in
       let c = cycle_same in
       let g = ap (λ (t : Entry). t.serial) s.here.but_outcome in

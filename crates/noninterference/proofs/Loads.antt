@@ -19,9 +19,9 @@ use Rattle.rv_types.specs.declared.Instr.TheVariants as instr
 use Rattle.rv_types.specs.declared.Op.TheVariants as op
 use Rattle.machine_desc.specs.declared.SttModel.{SttModel}
 use Rattle.window_model.specs.declared.Entry.{Entry}
-use Rattle.window_model.specs.Order.{is_load, is_store}
+use Rattle.window_model.specs.Order.{base_of, is_load, is_store}
 use Rattle.window_model.specs.Retire.{width_of, width_in}
-use Rattle.window_model.specs.Taint.{base_of, tainted, any_tainted, address_tainted}
+use Rattle.window_model.specs.Taint.{tainted, any_tainted, address_tainted}
 use Rattle.window_model.specs.Fetch.{instr_at, kind_at}
 use Rattle.window_model.specs.Shape.{SameShape}
 use Rattle.window_model.proofs.Memory.{inside}

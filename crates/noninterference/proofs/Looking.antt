@@ -2,13 +2,13 @@
 use Rattle.std.proofs.Common.{Option, map, ◌≡◌, ℕ, Bool, true, false, ◌&&◌, List, [], ◌∷◌, refl, ap, sym, ◌∙◌, arith}
 use Rattle.std.specs.List.{list_any}
 use Rattle.rv_types.specs.declared.Kind.{Kind}
-use Rattle.rv_types.specs.declared.Kind.TheVariants.{Load, Store, Branch, Jalr}
+use Rattle.rv_types.specs.declared.Kind.TheVariants.{Load, Store}
 use Rattle.machine_desc.specs.declared.SttModel.{SttModel}
 use Rattle.machine_desc.specs.declared.SttModel.TheVariants.{Spectre, Futuristic}
 use Rattle.window_model.specs.declared.Entry.{Entry}
 use Rattle.window_model.specs.declared.Outcome.{Outcome}
-use Rattle.window_model.specs.Order.{writes, sources, is_load, fault_of}
-use Rattle.window_model.specs.Taint.{address_tainted, any_tainted, base_of, passes, safe, safe_as, settled, tainted, visible}
+use Rattle.window_model.specs.Order.{writes, sources, base_of, is_load, fault_of}
+use Rattle.window_model.specs.Taint.{address_tainted, any_tainted, passes, safe, safe_as, settled, tainted, visible}
 use Rattle.window_model.proofs.Booleans.{both}
 use Rattle.window_model.proofs.Taints.{any_agree, tainted_cons, none_any}
 use Rattle.noninterference.specs.Outcomes.{SameEntry, SameOutcome, SameOutcomes}

@@ -1,22 +1,26 @@
 -- What one run knows of the entries that are looked back on.
-use Rattle.std.proofs.Common.{◌≡◌, ℕ, true, false, List, [], ◌∷◌, Option, Some, refl, ap}
+use Rattle.std.proofs.Common.{◌≡◌, ℕ, true, false, not, ◌&&◌, List, [], ◌∷◌, Option, Some, refl, ap, ap₂, ◌∙◌}
 use Rattle.std.specs.Prelude.{reverse}
 use mathlib.Core.List.{reverse_aux}
 use Rattle.rv_types.specs.Memory.{Code}
+use Rattle.rv_types.specs.declared.Kind.{Kind}
+use Rattle.rv_types.specs.declared.Kind.TheVariants.{Store}
 use Rattle.machine_desc.specs.declared.Desc.{Desc}
 use Rattle.machine_desc.specs.declared.SttModel.{SttModel}
 use Rattle.window_model.specs.declared.Entry.{Entry}
 use Rattle.window_model.specs.declared.Item.{Item}
 use Rattle.window_model.specs.declared.Progress.{Progress}
-use Rattle.window_model.specs.declared.Progress.TheVariants.{Waiting}
+use Rattle.window_model.specs.declared.Progress.TheVariants.{Waiting, Busy, Done}
 use Rattle.window_model.specs.State.{Machine}
-use Rattle.window_model.specs.Order.{is_waiting}
+use Rattle.window_model.specs.Order.{has_address, has_data, is_store, is_waiting}
+use Rattle.window_model.specs.Rename.{at_once}
 use Rattle.window_model.specs.Retire.{hart_of}
 use Rattle.window_model.specs.Along.{Behind}
 use Rattle.window_model.proofs.EntryByEntry.{behind_of}
-use Rattle.committed_state.specs.Consistent.{FitsState, Stands, bank_in}
+use Rattle.committed_state.specs.Consistent.{FitsState, Stands, all_issued, bank_in, is_issued}
 use Rattle.committed_state.specs.Guarded.{IsGuarded}
 use Rattle.committed_state.specs.Links.{entry_link, Chain, links}
+use Rattle.committed_state.proofs.Known.{both_parts}
 use Rattle.noninterference.specs.Together.{OwnFacts}
 use Rattle.noninterference.proofs.Looking.{untainted_base, untainted_sources}
 
@@ -60,8 +64,21 @@ waits_unresolved : (t : Progress) (e : Entry) → FitsState t e → is_waiting t
 waits_unresolved Waiting e f h = f.1
 waits_unresolved _ e f h = absurd (cc)
 
+-- a store that doesn't wait has issued both parts
+store_goes : (k : Kind) → is_store k ≡ true → not (at_once k) ≡ true
+store_goes Store s = refl
+store_goes _ s = absurd (cc)
+
+has_all : (t : Progress) (e : Entry) → FitsState t e → is_waiting t ≡ false → is_store e.item.kind ≡ true → all_issued e ≡ true
+has_all Waiting e f w s = absurd (cc)
+has_all (Busy due) e f w s = f.0
+has_all Done e f w s = f.0 ∙ store_goes e.item.kind s
+
+has_parts : (e : Entry) → FitsState e.state e → is_waiting e.state ≡ false → is_store e.item.kind ≡ true → (has_address e && has_data e) ≡ true
+has_parts e f w s = let p = both_parts e.item.kind (has_address e) (has_data e) (is_issued e) s (has_all e.state e f w s) in ap₂ (λ a c. a && c) p.0 p.1
+
 -- and of the head alone: nothing is older, so none of its operands is tainted
 pub head_alone : (code : Code) (model : SttModel) (x : Machine) (e : Entry) → Stands code (bank_in (hart_of x)) [] e → x.pc ≡ e.item.pc → OneRun code model x (e ∷ [])
 head_alone code model x e st pc =
-    let guarded : IsGuarded model [] e = record { load = λ i l. untainted_base model [] e refl; division = λ i l. untainted_sources model [] e refl; fresh = waits_unresolved e.state e st.state } in
+    let guarded : IsGuarded model [] e = record { load = λ i l. untainted_base model [] e refl; division = λ i l. untainted_sources model [] e refl; fresh = waits_unresolved e.state e st.state; whole = has_parts e st.state } in
     record { stands = (st, tt); guarded = (guarded, tt); linked = (ap Some pc, tt) }

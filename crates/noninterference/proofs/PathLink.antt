@@ -28,5 +28,5 @@ module _ (model : SttModel) (code : Code) (aligned : Aligned code) where
       let through = b.0.through in (
         hart e.item.pc (bank s before),
         leads_to s m pc before e.item.pc b.1 l.1 through vs.1 l.0,
-        passed_steps code aligned (bank s before) e n b.0.item b.0.state (replayed_behind code s m (e ∷ before) b).0 (not_true (at_once e.item.kind) (both (goes_through e) (list_all goes_through before) t).0) r model vs.0,
+        passed_steps code aligned (bank s before) e n b.0.item b.0.state b.0.parts (replayed_behind code s m (e ∷ before) b).0 (not_true (at_once e.item.kind) (both (goes_through e) (list_all goes_through before) t).0) r model vs.0,
       )

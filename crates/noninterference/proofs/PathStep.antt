@@ -17,27 +17,27 @@ use Rattle.window_model.specs.declared.Item.{Item}
 use Rattle.window_model.specs.declared.Outcome.{Outcome}
 use Rattle.window_model.specs.declared.Progress.{Progress}
 use Rattle.window_model.specs.declared.Progress.TheVariants.{Waiting, Busy, Done}
-use Rattle.window_model.specs.Order.{fault_of, is_control, is_done, is_faulty, sources}
+use Rattle.window_model.specs.Order.{fault_of, has_address, has_data, is_control, is_done, is_faulty, sources}
 use Rattle.window_model.specs.Resolve.{next_of}
 use Rattle.window_model.specs.Taint.{passes, safe_as, settled_as}
 use Rattle.window_model.specs.Rename.{at_once}
 use Rattle.window_model.specs.Committed.{Aligned}
 use Rattle.window_model.specs.Path.{path}
 use Rattle.window_model.proofs.Booleans.{both, not_true, some_of}
-use Rattle.committed_state.specs.Consistent.{FitsState, IsItem, Predicts}
+use Rattle.committed_state.specs.Consistent.{FitsParts, FitsState, IsItem, Predicts, all_issued, is_issued}
 use Rattle.committed_state.specs.Links.{entry_link}
-use Rattle.committed_state.specs.Computed.{Bank, ComesTo}
+use Rattle.committed_state.specs.Computed.{Bank, ComesTo, as_known}
 use Rattle.committed_state.specs.Replay.{bank_after, replayed}
 use Rattle.committed_state.proofs.Bytes.{some_is}
 use Rattle.committed_state.proofs.Heads.{item_of, goes_on}
-use Rattle.committed_state.proofs.Known.{done_has}
+use Rattle.committed_state.proofs.Known.{done_has, issued_of, known_all}
 use Rattle.committed_state.proofs.Onward.{of_item}
 use Rattle.committed_state.proofs.Turn.{item_eq, step_as, replayed_next}
 use Rattle.noninterference.proofs.Loads.{is_access, word_of}
 use Rattle.noninterference.proofs.Paths.{path_goes}
 use Rattle.noninterference.proofs.Faults.{hart, entry_of, no_fault, passed_over}
 
-module _ (code : Code) (aligned : Aligned code) (s : Bank) (e : Entry) (n : ℕ) (item : IsItem code e.item) (f : FitsState e.state e) (r : ComesTo e.outcome (replayed s e)) (g : at_once e.item.kind ≡ false) (l : (entry_link e).next ≡ Some n) where
+module _ (code : Code) (aligned : Aligned code) (s : Bank) (e : Entry) (n : ℕ) (item : IsItem code e.item) (f : FitsState e.state e) (parts : FitsParts e.item.kind (has_address e) (has_data e) (is_issued e)) (r : ComesTo e.outcome (as_known e (replayed s e))) (g : at_once e.item.kind ≡ false) (l : (entry_link e).next ≡ Some n) where
   abbrev O : Outcome
   O = replayed s e
 
@@ -79,8 +79,14 @@ module _ (code : Code) (aligned : Aligned code) (s : Bank) (e : Entry) (n : ℕ)
       let to = goes_on i e.item.pc a b e.item.predicted (subst (λ (t : Item). Predicts t.kind t) item_is item.next) (ap is_control (sym word_there.3) ∙ c) (ap at_once (sym word_there.3) ∙ g) in
       some_of n O.next (sym l ∙ q ∙ to ∙ ap (λ j. Some (effect e.item.pc j a b).next) (sym word_there.2) ∙ ap Some (sym (replayed_next e.item.kind s e)))
 
-  -- a branch or JALR that is resolved has the replay's outcome
-  issued_when : (t : Progress) → FitsState t e → e.resolved ≡ true → is_some e.outcome ≡ true
+  -- what is all issued has the replay's outcome
+  whole : all_issued e ≡ true → e.outcome ≡ Some O
+  whole a =
+      let k = e.item.kind in
+      some_is e.outcome O (subst (ComesTo e.outcome) (known_all k (has_address e) (has_data e) (is_issued e) O a) r) (issued_of k (has_address e) (has_data e) (is_issued e) parts a)
+
+  -- so has a branch or JALR that is resolved
+  issued_when : (t : Progress) → FitsState t e → e.resolved ≡ true → all_issued e ≡ true
   issued_when Waiting f q = absurd (let d = f.1 in cc)
   issued_when (Busy due) f q = absurd (let d = f.1 in cc)
   issued_when Done f q = f.0 ∙ ap not g
@@ -91,7 +97,7 @@ module _ (code : Code) (aligned : Aligned code) (s : Bank) (e : Entry) (n : ℕ)
 
   resolved_goes : (model : SttModel) → e.resolved ≡ true → Steps model
   resolved_goes model q =
-      let o = some_is e.outcome O r (issued_when e.state f q) in
+      let o = whole (issued_when e.state f q) in
       let to : (entry_link e).next ≡ (if is_some (fault_of e.outcome) then None else Some (next_of e.outcome)) = rw q refl in
       let there = no_fault_if O.fault O.next (ap (λ t. if is_some (fault_of t) then None else Some (next_of t)) (sym o) ∙ sym to ∙ l) in
       of_isa model there.0 there.1
@@ -104,7 +110,7 @@ module _ (code : Code) (aligned : Aligned code) (s : Bank) (e : Entry) (n : ℕ)
   safe_goes : (model : SttModel) → is_control e.item.kind ≡ false → (is_done e.state && not (is_faulty e)) ≡ true → Steps model
   safe_goes model c v =
       let ds = both (is_done e.state) _ v in
-      let o = some_is e.outcome O r ((done_has e.state e f ds.0).0 ∙ ap not g) in
+      let o = whole ((done_has e.state e f ds.0).0 ∙ ap not g) in
       of_isa model (ap fault_of (sym o) ∙ none_of (fault_of e.outcome) (not_true _ ds.1)) (predicted_next c)
 
   -- under the spectre model it is passed over where it faults

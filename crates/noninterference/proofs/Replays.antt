@@ -1,5 +1,5 @@
 -- Outcomes of two runs: what equal effects, addresses or bytes make equal of them.
-use Rattle.std.proofs.Common.{◌≡◌, ℕ, true, false, List, Option, Some, None, refl, ap, sym, ◌∙◌, subst}
+use Rattle.std.proofs.Common.{◌≡◌, ℕ, Bool, true, false, List, Option, Some, None, refl, ap, sym, ◌∙◌, subst}
 use Rattle.std.specs.Prelude.{is_some}
 use Rattle.std.specs.Option.{unwrap_or, option_map}
 use Rattle.rv_types.specs.Isa.{Effect}
@@ -12,13 +12,13 @@ use Rattle.rv_types.specs.declared.Kind.TheVariants.{Load, Store}
 use Rattle.machine_desc.specs.declared.SttModel.{SttModel}
 use Rattle.window_model.specs.declared.Entry.{Entry}
 use Rattle.window_model.specs.declared.Outcome.{Outcome}
-use Rattle.window_model.specs.Order.{is_load, is_store, fault_of}
+use Rattle.window_model.specs.Order.{has_address, has_data, is_load, is_store, fault_of}
 use Rattle.window_model.specs.Retire.{addr_of, width_in}
 use Rattle.window_model.specs.Taint.{visible, any_tainted, address_tainted}
 use Rattle.window_model.specs.Shape.{SameShape}
 use Rattle.window_model.proofs.Memory.{same_fault}
 use Rattle.window_model.specs.Issue.{effect_of}
-use Rattle.committed_state.specs.Computed.{Bank, ComesTo, bytes_over, computed, outcome_as}
+use Rattle.committed_state.specs.Computed.{Bank, ComesTo, as_known, as_known_by, bytes_over, computed, known_of, outcome_as}
 use Rattle.committed_state.proofs.Computed.{outcome_same}
 use Rattle.noninterference.specs.Outcomes.{but_value, SameOutcome}
 
@@ -58,12 +58,18 @@ module _ (ram ram2 : Ram) (p : SameShape ram ram2) (i : Instr) where
   unfolding part
   store_part f f2 bytes bytes2 q = let c = sym (same_fault store_misaligned store_outside ram ram2 f2.addr (width_in i) p) in cc
 
+-- so of what is known of it
+known_part : (address datum : Bool) (v v2 : Outcome) → part v ≡ part v2 → part (known_of address datum v) ≡ part (known_of address datum v2)
+unfolding part
+known_part true datum v v2 h = h
+known_part false datum v v2 h = refl
+
 -- ---- every entry
 
 -- two entries of one instruction that have issued both or neither, each behind its older ones: what makes their outcomes equal
 -- where they may be looked at
 module _ (model : SttModel) (s s2 : Bank) (b b2 : List Entry) (e e2 : Entry) (p : SameShape s.ram s2.ram) (o : is_some e.outcome ≡ is_some e2.outcome)
-    (c : ComesTo e.outcome (computed s b e)) (c2 : ComesTo e2.outcome (computed s2 b2 e))
+    (c : ComesTo e.outcome (as_known e (computed s b e))) (c2 : ComesTo e2.outcome (as_known e (computed s2 b2 e)))
     (seen : is_load e.item.kind ≡ true → visible model b ≡ true → e.outcome ≡ e2.outcome)
     (clean : is_load e.item.kind ≡ true → is_some e.outcome ≡ true → any_tainted model b e ≡ false)
     (effects : any_tainted model b e ≡ false → effect_of s.regs b e ≡ effect_of s2.regs b2 e)
@@ -77,19 +83,23 @@ module _ (model : SttModel) (s s2 : Bank) (b b2 : List Entry) (e e2 : Entry) (p 
   abbrev As : Kind → Bank → List Entry → Outcome
   As k s b = outcome_as k s.ram e.item.instr (F s b) (Found s b)
 
-  -- what is equal of what they compute is equal of their outcomes
-  by_kind : {A : Type 0} (g : Outcome → A) (k : Kind) → e.item.kind ≡ k → (is_some e.outcome ≡ true → g (As k s b) ≡ g (As k s2 b2)) → option_map g e.outcome ≡ option_map g e2.outcome
-  by_kind g k q m = by_outcomes g e.outcome e2.outcome _ _ o c c2 (λ i. subst (λ k. g (As k s b) ≡ g (As k s2 b2)) (sym q) (m i))
+  -- and as far as it is known
+  abbrev KnownAs : Kind → Bank → List Entry → Outcome
+  KnownAs k s b = as_known_by k (has_address e) (has_data e) (As k s b)
+
+  -- what is equal of what they compute, as far as it is known, is equal of their outcomes
+  by_kind : {A : Type 0} (g : Outcome → A) (k : Kind) → e.item.kind ≡ k → (is_some e.outcome ≡ true → g (KnownAs k s b) ≡ g (KnownAs k s2 b2)) → option_map g e.outcome ≡ option_map g e2.outcome
+  by_kind g k q m = by_outcomes g e.outcome e2.outcome _ _ o c c2 (λ i. subst (λ k. g (KnownAs k s b) ≡ g (KnownAs k s2 b2)) (sym q) (m i))
 
   -- what is no load has one outcome where no operand is tainted
   other : (k : Kind) → e.item.kind ≡ k → is_load k ≡ false → any_tainted model b e ≡ false → e.outcome ≡ e2.outcome
   other k q n t =
       same_outcome e.outcome e2.outcome _ _ o c c2
-      (λ i. sym (outcome_same s.ram s2.ram e.item.instr p e.item.kind _ _ _ _ (sym (effects t)) (λ l f. absurd (let z = sym l ∙ ap is_load q ∙ n in cc))))
+      (λ i. ap (as_known e) (sym (outcome_same s.ram s2.ram e.item.instr p e.item.kind (F s b) (F s2 b2) (Found s b) (Found s2 b2) (sym (effects t)) (λ l f. absurd (let z = sym l ∙ ap is_load q ∙ n in cc)))))
 
   entry_as : (k : Kind) → e.item.kind ≡ k → SameOutcome k model b e e2
   entry_as Load q = (by_kind but_value Load q (λ i. load_but_value s.ram s2.ram p e.item.instr (F s b) (F s2 b2) (Found s b) (Found s2 b2) (effects (clean (ap is_load q) i))), seen (ap is_load q))
-  entry_as Store q = (λ t. from_part e.outcome e2.outcome (by_kind part Store q (λ i. store_part s.ram s2.ram p e.item.instr (F s b) (F s2 b2) (Found s b) (Found s2 b2) (addresses (ap is_store q) t))), other Store q refl)
+  entry_as Store q = (λ t. from_part e.outcome e2.outcome (by_kind part Store q (λ i. known_part (has_address e) (has_data e) (As Store s b) (As Store s2 b2) (store_part s.ram s2.ram p e.item.instr (F s b) (F s2 b2) (Found s b) (Found s2 b2) (addresses (ap is_store q) t)))), other Store q refl)
   entry_as k q = other k q refl
 
   pub entry_same : SameOutcome e.item.kind model b e e2

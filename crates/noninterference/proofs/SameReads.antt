@@ -1,18 +1,20 @@
 -- Visible loads of both runs have read the same, so all outcomes that may be looked at are equal.
-use Rattle.std.proofs.Common.{◌≡◌, ℕ, ◌+◌, ◌≤◌, true, not, List, [], ◌∷◌, length, map, refl, ap, sym, ◌∙◌, subst, arith}
+use Rattle.std.proofs.Common.{◌≡◌, ℕ, ◌+◌, ◌≤◌, Bool, true, not, List, [], ◌∷◌, length, map, refl, ap, sym, ◌∙◌, subst, arith}
 use Rattle.std.specs.Prelude.{is_some}
 use Rattle.std.specs.List.{AllByRecursion as All}
 use Rattle.std.proofs.lemmas.List.{length-map}
 use Rattle.rv_types.specs.Decode.{decode}
 use Rattle.rv_types.specs.Memory.{Code}
 use Rattle.rv_types.specs.Path.{loads_at}
-use Rattle.rv_types.specs.declared.Kind.TheVariants.{Load}
+use Rattle.rv_types.specs.declared.Kind.{Kind}
+use Rattle.rv_types.specs.declared.Kind.TheVariants.{Load, Store}
 use Rattle.machine_desc.specs.declared.SttModel.{SttModel}
 use Rattle.window_model.specs.declared.Entry.{Entry}
+use Rattle.window_model.specs.declared.Outcome.{Outcome}
 use Rattle.window_model.specs.declared.Progress.{Progress}
 use Rattle.window_model.specs.declared.Progress.TheVariants.{Waiting, Busy, Done}
 use Rattle.window_model.specs.State.{Machine}
-use Rattle.window_model.specs.Order.{is_load}
+use Rattle.window_model.specs.Order.{has_address, has_data, is_load}
 use Rattle.window_model.specs.Retire.{hart_of}
 use Rattle.window_model.specs.Taint.{visible}
 use Rattle.window_model.specs.Rename.{at_once}
@@ -21,7 +23,8 @@ use Rattle.window_model.specs.Path.{path}
 use Rattle.window_model.proofs.Lists.{each_left}
 use Rattle.committed_state.specs.Replay.{Bank, bank, effect_on, replayed, replayed_as}
 use Rattle.committed_state.proofs.Known.{replayed_behind}
-use Rattle.committed_state.specs.Consistent.{FitsState, bank_in}
+use Rattle.committed_state.specs.Computed.{ComesTo, as_known, as_known_by}
+use Rattle.committed_state.specs.Consistent.{FitsParts, FitsState, all_issued, all_issued_by, bank_in, is_issued}
 use Rattle.noninterference.specs.Alike.{without_outcome}
 use Rattle.noninterference.specs.Outcomes.{SameOutcomes}
 use Rattle.noninterference.specs.InStep.{byte, InStep}
@@ -34,11 +37,26 @@ use Rattle.noninterference.proofs.PathLink.{leads_to}
 use Rattle.noninterference.proofs.Faults.{hart}
 use Rattle.noninterference.proofs.Replays.{same_outcome}
 
--- the same entries have been issued
-issued_alike : (st : Progress) (e e2 : Entry) → FitsState st e → FitsState st e2 → at_once e.item.kind ≡ at_once e2.item.kind → is_some e.outcome ≡ is_some e2.outcome
-issued_alike Waiting e e2 f f2 k = ap is_some (f.0 ∙ sym f2.0)
-issued_alike (Busy due) e e2 f f2 k = f.0 ∙ sym f2.0
-issued_alike Done e e2 f f2 k = f.0 ∙ ap not k ∙ sym f2.0
+-- the same entries have been issued, of a store the same parts
+all_alike : (st : Progress) (e e2 : Entry) → FitsState st e → FitsState st e2 → at_once e.item.kind ≡ at_once e2.item.kind → all_issued e ≡ all_issued e2
+all_alike Waiting e e2 f f2 k = f.0 ∙ sym f2.0
+all_alike (Busy due) e e2 f f2 k = f.0 ∙ sym f2.0
+all_alike Done e e2 f f2 k = f.0 ∙ ap not k ∙ sym f2.0
+
+issued_by : (k : Kind) (a c i j : Bool) → FitsParts k a c i → FitsParts k a c j → all_issued_by k a c i ≡ all_issued_by k a c j → i ≡ j
+issued_by Store a c i j p p2 h = p ∙ sym p2
+issued_by _ a c i j p p2 h = h
+
+issued_alike : (e e2 : Entry) → without_outcome e ≡ without_outcome e2 → FitsParts e.item.kind (has_address e) (has_data e) (is_issued e) → FitsParts e2.item.kind (has_address e2) (has_data e2) (is_issued e2) → FitsState e.state e → FitsState e2.state e2 → is_issued e ≡ is_issued e2
+issued_alike e e2 h p p2 f f2 =
+    let P : Entry → Type 0 = λ t. FitsParts t.item.kind (has_address t) (has_data t) (is_issued e2) in
+    let A : Entry → Bool = λ t. all_issued_by t.item.kind (has_address t) (has_data t) (is_issued e2) in
+    let all = all_alike e.state e e2 f (subst (λ st. FitsState st e2) (sym (ap (λ (t : Entry). t.state) h)) f2) (ap (λ (t : Entry). at_once t.item.kind) h) in
+    issued_by e.item.kind (has_address e) (has_data e) (is_issued e) (is_issued e2) p (subst P (sym h) p2) (all ∙ ap A (sym h))
+
+-- all of a load's outcome is known
+of_load : (e : Entry) (v : Outcome) → e.item.kind ≡ Load → ComesTo e.outcome (as_known e v) → ComesTo e.outcome v
+of_load e v k c = subst (ComesTo e.outcome) (ap (λ k. as_known_by k (has_address e) (has_data e) v) k) c
 
 module _ (model : SttModel) (code : Code) (aligned : Aligned code) (x x2 : Machine) (limit : ℕ) (n : length x.regs ≡ 32) (n2 : length x2.regs ≡ 32) (in_step : (k : ℕ) → k ≤ limit → InStep (path model) code k (hart_of x) (hart_of x2)) where
   abbrev s : Bank
@@ -68,7 +86,9 @@ module _ (model : SttModel) (code : Code) (aligned : Aligned code) (x x2 : Machi
       let q = ap (λ o. loads_at o t) word.1 ∙ is_load_instr (decode word.0) (sym word.3 ∙ kl) (bank s b) e word.2 in
       let bytes = subst (All (λ a. byte (bank s b).ram a ≡ byte (bank s2 b2).ram a)) q (each_left _ (loads_at (code e.item.pc) t) _ there.bytes) in
       let same = load_same (bank s b) (bank s2 b2) e e2 there.place (ap (λ (x : Entry). x.item.instr) h) f bytes in
-      same_outcome e.outcome e2.outcome (replayed (bank s b) e) (replayed (bank s2 b2) e2) i (replayed_behind code s n (e ∷ b) w.stands).0 (replayed_behind code s2 n2 (e2 ∷ b2) w2.stands).0
+      let r = of_load e (replayed (bank s b) e) kl (replayed_behind code s n (e ∷ b) w.stands).0 in
+      let r2 = of_load e2 (replayed (bank s2 b2) e2) kl2 (replayed_behind code s2 n2 (e2 ∷ b2) w2.stands).0 in
+      same_outcome e.outcome e2.outcome (replayed (bank s b) e) (replayed (bank s2 b2) e2) i r r2
       (λ y. ap (λ k. replayed_as k (bank s b) e) kl ∙ same ∙ ap (λ k. replayed_as k (bank s2 b2) e2) (sym kl2))
 
   derived : (b b2 : List Entry) → One b → Two b2 → AllSameReads model b b2 → SameOutcomes model b b2
@@ -82,7 +102,7 @@ module _ (model : SttModel) (code : Code) (aligned : Aligned code) (x x2 : Machi
       let rest = same_reads b b2 (omega (arith, lt)) (older code model x e b w) (older code model x2 e2 b2 w2) h2 in
       let same = derived b b2 (older code model x e b w) (older code model x2 e2 b2 w2) rest in
       let l : length b ≡ length b2 = sym (length-map b without_outcome) ∙ ap length h2 ∙ length-map b2 without_outcome in
-      let i = issued_alike e.state e e2 w.stands.0.state (subst (λ st. FitsState st e2) (sym (ap (λ (x : Entry). x.state) h1)) w2.stands.0.state) (ap (λ (x : Entry). at_once x.item.kind) h1) in (
+      let i = issued_alike e e2 h1 w.stands.0.parts w2.stands.0.parts w.stands.0.state w2.stands.0.state in (
         record {
           but_outcome = h1;
           issued = i;

@@ -1,6 +1,6 @@
 -- What the parts tell of the window.
 use Rattle.std.proofs.Common.{◌≡◌, ℕ, zero, suc, ◌+◌, ◌<◌, ◌≤◌, Bool, true, false, not, ◌&&◌, ◌||◌, cond, List, [], ◌∷◌, ◌++◌, length, take, Option, Some, None, refl, ap, ap₂, sym, ◌∙◌, arith, subst, slice_get, is_none, is_some}
-use Rattle.std.specs.Prelude.{if◌then◌else◌, map, reverse, slice_set}
+use Rattle.std.specs.Prelude.{◌==◌, if◌then◌else◌, map, reverse, slice_set}
 use Rattle.std.specs.List.{All, count_by, list_all, list_any}
 use Rattle.std.specs.Option.{option_map}
 use Rattle.std.proofs.lemmas.List.{length-map, take_more}
@@ -14,10 +14,10 @@ use Rattle.machine_desc.specs.declared.Desc.{Desc}
 use Rattle.window_model.specs.declared.Entry.{Entry}
 use Rattle.window_model.specs.Along.{Along, Behind, Fact}
 use Rattle.window_model.specs.Around.{Around, is_free}
-use Rattle.window_model.specs.Order.{Place, before_at, first_from, is_control, is_done, is_known, is_waiting, sources, writer, writes}
+use Rattle.window_model.specs.Order.{Place, base_of, before_at, first_from, is_control, is_done, is_known, is_waiting, sources, writer, writes}
 use Rattle.window_model.specs.Resolve.{may_resolve}
-use Rattle.window_model.specs.Issue.{may_issue_as, stores_done}
-use Rattle.window_model.specs.Taint.{tainted, any_tainted, address_tainted, base_of}
+use Rattle.window_model.specs.Issue.{bytes_of, may_issue_as, stores_done, stores_let}
+use Rattle.window_model.specs.Taint.{tainted, any_tainted, address_tainted}
 use Rattle.window_model.proofs.Counts.{count, count_is, count_pushed}
 use Rattle.rename_taint.specs.Writes.{root_of, source_of}
 use Rattle.stations.specs.Stations.{Station, awaits_none}
@@ -225,7 +225,9 @@ tells_operands p point i e roots s m h k = by_window p.window s.rise m h (roots_
 
 issue_by : (d : Desc) (point : Point) (before : List Entry) (e : Entry) (roots : List (Option ℕ)) (now : Around) → point.model ≡ d.stt_model → OperandsTold point before e roots → (k : Kind) →
     may_issue_as k d now before e ≡ (may_transmit k point.serial roots && asks_besides k (is_free now) before)
-issue_by d point before e roots now q t Load = ap (λ b. not b && stores_done before) (ap (λ m. address_tainted m before e) (sym q) ∙ sym t.base)
+issue_by d point before e roots now q t Load =
+    ap (λ v. not (address_tainted d.stt_model before e) && (if v == 1 then stores_done before else stores_let d.stt_model (bytes_of now before e) before)) d.first_version
+    ∙ ap (λ b. not b && stores_done before) (ap (λ m. address_tainted m before e) (sym q) ∙ sym t.base)
 issue_by d point before e roots now q t Div = ap (λ b. not b && is_free now) (ap (λ m. any_tainted m before e) (sym q) ∙ sym t.any)
 issue_by d point before e roots now q t _ = refl
 

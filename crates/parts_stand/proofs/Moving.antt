@@ -1,5 +1,5 @@
 -- The point can move on, whatever changes in the window.
-use Rattle.std.proofs.Common.{◌≡◌, ℕ, zero, suc, ◌+◌, ◌<◌, ◌≤◌, Bool, true, false, not, cond, List, [], ◌∷◌, ◌++◌, Some, refl, ap, sym, ◌∙◌, arith, subst, slice_get}
+use Rattle.std.proofs.Common.{◌≡◌, ℕ, zero, suc, ◌+◌, ◌<◌, ◌≤◌, Bool, true, false, not, cond, List, [], ◌∷◌, ◌++◌, Option, Some, refl, ap, sym, ◌∙◌, arith, subst, slice_get}
 use Rattle.std.specs.Prelude.{nat_le, nat_lt, slice_set}
 use Rattle.std.specs.List.{All}
 use Rattle.std.proofs.lemmas.Bool.Decides.{nat_tests}
@@ -10,6 +10,11 @@ use Rattle.window_model.specs.declared.Outcome.{Outcome}
 use Rattle.window_model.specs.declared.Progress.TheVariants.{Done}
 use Rattle.window_model.specs.Order.{is_control, is_waiting}
 use Rattle.window_model.specs.Issue.{begun}
+use Rattle.window_model.specs.Taint.{safe_as}
+use Rattle.rv_types.specs.declared.Kind.{Kind}
+use Rattle.rv_types.specs.declared.Kind.TheVariants.{Branch, Jalr, Load, Store}
+use Rattle.machine_desc.specs.declared.SttModel.TheVariants.{Spectre, Futuristic}
+use Rattle.parts_stand.specs.Steps.{begun_with}
 use Rattle.rob_ring.specs.Ring.{below}
 use Rattle.visibility.specs.Point.{Point, HasMoved, moved_over, next_after, passes}
 use Rattle.visibility.proofs.Moving.{has_advanced}
@@ -125,12 +130,24 @@ sets point next window i e e2 s h q p u =
       unresolved = All-set Unresolved window i e2 u s.unresolved;
     }
 
+-- whether it passes is nothing to a store's parts
+safe_parts : (k : Kind) (e : Entry) (a c : Option ℕ) → safe_as k (record e { addr_due = a; data_due = c }) ≡ safe_as k e
+safe_parts Branch e a c = refl
+safe_parts Jalr e a c = refl
+safe_parts Load e a c = refl
+safe_parts Store e a c = refl
+safe_parts _ e a c = refl
+
+passes_parts : (m : SttModel) (e : Entry) (a c : Option ℕ) → passes m (record e { addr_due = a; data_due = c }) ≡ passes m e
+passes_parts Spectre e a c = refl
+passes_parts Futuristic e a c = safe_parts e.item.kind e a c
+
 -- an entry issues
-pub point_issues : (point : Point) (next : ℕ) (window : List Entry) (i due : ℕ) (e : Entry) (o : Outcome) → PointStands point next window →
-    slice_get window i ≡ Some e → is_waiting e.state ≡ true → PointStands point next (slice_set window i (begun e due o))
-point_issues point next window i due e o s h w =
+pub point_issues : (point : Point) (next : ℕ) (window : List Entry) (i due : ℕ) (e : Entry) (o : Outcome) (a c : Option ℕ) → PointStands point next window →
+    slice_get window i ≡ Some e → is_waiting e.state ≡ true → PointStands point next (slice_set window i (begun_with e due o a c))
+point_issues point next window i due e o a c s h w =
     let u = all_at Unresolved window i e s.unresolved h w in
-    sets point next window i e (begun e due o) s h refl (λ p. passes_begun point.model e due o w u ∙ p) (λ w. absurd (cc))
+    sets point next window i e (begun_with e due o a c) s h refl (λ p. passes_parts point.model (begun e due o) a c ∙ passes_begun point.model e due o w u ∙ p) (λ w. absurd (cc))
 
 -- it becomes Done
 pub point_completes : (point : Point) (next : ℕ) (window : List Entry) (i : ℕ) (e : Entry) → PointStands point next window →

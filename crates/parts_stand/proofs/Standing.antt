@@ -9,7 +9,6 @@ use Rattle.rv_types.specs.Regs.{two}
 use Rattle.window_model.specs.declared.Entry.{Entry}
 use Rattle.window_model.specs.declared.Progress.TheVariants.{Done}
 use Rattle.window_model.specs.Order.{is_waiting, is_done, sources}
-use Rattle.window_model.specs.Issue.{begun}
 use Rattle.window_model.proofs.Booleans.{done_waits, is_below, waiting_done}
 use Rattle.window_model.proofs.Counts.{count_is}
 use Rattle.rob_ring.specs.Ring.{below}
@@ -25,7 +24,7 @@ use Rattle.parts_stand.proofs.Serials.{oldest_least}
 use Rattle.parts_stand.proofs.Youngest.{map_same, map_twice}
 use Rattle.parts_stand.proofs.Tables.{root_is, as_many, writes_join, writes_one, writes_have, keeps_all, keeps_none, without_head}
 use Rattle.parts_stand.proofs.Keeping.{roots_push, roots_left, roots_rest, roots_on, writes_on, all_on, rise_on, oldest_on, goes_same, zip_set, waiters_join, waiters_have, waiters_rest, Steady, Still, still_same, still_goes, waiters_still, map_remove, waiters_issue, struck_waiter, set_done, alone, waiters_done}
-use Rattle.parts_stand.specs.Steps.{empty, with_entry}
+use Rattle.parts_stand.specs.Steps.{begun_with, empty, with_entry}
 use Rattle.parts_stand.specs.Parts.{Parts, awaits_of}
 use Rattle.std.specs.List.{AllZip}
 use Rattle.window_model.specs.declared.Outcome.{Outcome}
@@ -229,12 +228,12 @@ completes_at p i e s h w =
     ∙ sym (waiters_done e.serial [] p.window (alone p.window i e s.rise h w)) ∙ ap (waiters_from []) (sym (set_done p.window i e s.rise h)))
 
 -- an entry that waits issues, and its station is freed
-pub issues_at : (p : Parts) (i due : ℕ) (e : Entry) (o : Outcome) → Stand p → slice_get p.window i ≡ Some e → is_waiting e.state ≡ true →
-    Stand (record p { window = slice_set p.window i (begun e due o); held = remove p.held (station_of i p.window) })
-issues_at p i due e o s h w =
-    let v = zip_set GoesOn goes_same p.window i e (begun e due o) h (record { serial = refl; item = refl }) in
-    let steady : Steady e (begun e due o) = record { on = record { serial = refl; item = refl }; done = sym (waiting_done e.state w) } in
-    go_on p (slice_set p.window i (begun e due o)) (remove p.held (station_of i p.window)) s v
+pub issues_at : (p : Parts) (i due : ℕ) (e : Entry) (o : Outcome) (a c : Option ℕ) → Stand p → slice_get p.window i ≡ Some e → is_waiting e.state ≡ true →
+    Stand (record p { window = slice_set p.window i (begun_with e due o a c); held = remove p.held (station_of i p.window) })
+issues_at p i due e o a c s h w =
+    let v = zip_set GoesOn goes_same p.window i e (begun_with e due o a c) h (record { serial = refl; item = refl }) in
+    let steady : Steady e (begun_with e due o a c) = record { on = record { serial = refl; item = refl }; done = sym (waiting_done e.state w) } in
+    go_on p (slice_set p.window i (begun_with e due o a c)) (remove p.held (station_of i p.window)) s v
     (map_remove waiter_in p.held (station_of i p.window) ∙ ap (λ ws. remove ws (station_of i p.window)) s.held
     ∙ ap (remove (waiters_from [] p.window)) (sym (count_is (λ e. is_waiting e.state) (take i p.window)))
-    ∙ sym (waiters_issue [] p.window i e (begun e due o) h w refl steady))
+    ∙ sym (waiters_issue [] p.window i e (begun_with e due o a c) h w refl steady))

@@ -3,6 +3,8 @@ use Rattle.std.specs.Prelude.{◌≡◌, ℕ, ◌+◌, List, [], ◌∷◌, ◌+
 use Rattle.std.specs.List.{count_by}
 use Rattle.std.specs.Option.{option_to_list}
 use Rattle.window_model.specs.declared.Entry.{Entry}
+use Rattle.window_model.specs.declared.Outcome.{Outcome}
+use Rattle.window_model.specs.Issue.{begun}
 use Rattle.window_model.specs.Order.{is_waiting}
 use Rattle.stations.specs.Stations.{Station}
 use Rattle.parts_stand.specs.Parts.{Parts, write_of}
@@ -29,6 +31,10 @@ with_entry place roots awaits e p = record {
 pub record GoesOn (e e2 : Entry) : Type 0 where
   pub serial : e2.serial ≡ e.serial
   pub item : e2.item ≡ e.item
+
+-- an entry begins to execute, until a cycle and with an outcome; and of a store it is known from when on its parts are there
+abbrev pub begun_with : Entry → ℕ → Outcome → Option ℕ → Option ℕ → Entry
+begun_with e due o address stored = record (begun e due o) { addr_due = address; data_due = stored }
 
 -- the position among the stations of the entry at a position of the window: how many older ones wait
 abbrev pub station_of : ℕ → List Entry → ℕ

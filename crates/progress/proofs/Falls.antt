@@ -27,7 +27,7 @@ use Rattle.progress.proofs.RenameFetch.{Appends, appends_then, rename_appends, r
 use Rattle.progress.proofs.Oldest.{resolve_oldest, resolve_resolves}
 use Rattle.progress.proofs.Stops.{Stuck}
 use Rattle.progress.proofs.IssueOldest.{needs, Began, oldest_nearer}
-use Rattle.progress.proofs.Idle.{Idle, idle, before_resolve, after_fetch, timely_at_retire}
+use Rattle.progress.proofs.Idle.{Idle, idle, before_resolve, after_fetch, sized_at_retire, timely_at_retire}
 
 -- the measure falls from x, whose window and queue the lemmas below take apart
 abbrev FallsAt : Desc → Code → Machine → Type 0
@@ -104,7 +104,8 @@ entry_there d code e es x i s t h =
     let spare : completed c e ≡ e = spared (completes c e) e waits in
     let f = resolve_resolves d a in
     let began : Began d x0 b2 = record { cycle = f.cycle; misses = f.misses; divider = f.divider } in
-    let nearer = oldest_nearer d x0 b2 o.entry o.rest (ap is_done o.state ∙ waits) i u began in
+    let sizes : Sized d b2 = subst (Sized d) same (sized_at_retire d x0 i s) in
+    let nearer = oldest_nearer d x0 b2 o.entry o.rest (ap is_done o.state ∙ waits) sizes.parts.0 sizes.together.0 i u began in
     let y1 = (issue d b2).machine in
     let z = (rename d y1).machine in
     let y = (fetch d code z).machine in

@@ -1,7 +1,7 @@
 -- An oldest entry that isn't done comes nearer to it in Issue.
-use Rattle.std.proofs.Common.{◌≡◌, ℕ, ◌+◌, ◌-◌, ◌≤◌, ◌<◌, max, Bool, true, false, not, ◌&&◌, List, [], ◌∷◌, length, Option, Some, None, refl, ap, sym, ◌∙◌, subst, arith}
+use Rattle.std.proofs.Common.{◌≡◌, ℕ, ◌+◌, ◌-◌, ◌≤◌, ◌<◌, max, Bool, true, false, not, ◌&&◌, ◌||◌, List, [], ◌∷◌, length, Option, Some, None, is_some, refl, ap, sym, ◌∙◌, subst, arith, eqb-true}
 use Rattle.std.proofs.lemmas.Bool.Decides.{nat_tests}
-use Rattle.std.specs.Prelude.{if◌then◌else◌, nat_lt, nat_le}
+use Rattle.std.specs.Prelude.{if◌then◌else◌, nat_lt, nat_le, ◌==◌}
 use Rattle.std.specs.Cmp.Derive.{both_true}
 use Rattle.std.specs.List.{filter, AllByRecursion as Each}
 use Rattle.rv_types.specs.Isa.{Effect}
@@ -10,24 +10,27 @@ use Rattle.rv_types.specs.declared.Kind.TheVariants.{Mul, Div, Load, Store}
 use Rattle.machine_desc.specs.declared.Desc.{Desc}
 use Rattle.machine_desc.specs.Ranges.{IsDesc}
 use Rattle.window_model.specs.declared.Entry.{Entry}
+use Rattle.window_model.specs.declared.Event.TheVariants as event
 use Rattle.window_model.specs.declared.Miss.{Miss}
 use Rattle.window_model.specs.declared.Progress.{Progress}
 use Rattle.window_model.specs.declared.Progress.TheVariants.{Waiting, Busy, Done}
 use Rattle.window_model.specs.State.{Machine}
-use Rattle.window_model.specs.Order.{Place, first, first_from, is_waiting, is_done, ready}
+use Rattle.window_model.specs.Order.{Place, first, first_from, is_waiting, is_done, is_store, has_address, has_data, ready, all_known, sources, base_of, others_of}
 use Rattle.window_model.specs.Taint.{any_tainted}
 use Rattle.window_model.specs.Fill.{is_due}
 use Rattle.window_model.specs.Around.{Around, around, is_free}
 use Rattle.window_model.specs.Access.{Access, Faults, Forwards, Looks, Waits, misses_after}
-use Rattle.window_model.specs.Issue.{Begun, DivPort, LoadPort, issue, issue_entry, begin_as, load_as, access_of, waits, effect_of, value_loaded, time_of, is_granted, may_at, may_issue_as, after_load, divider_after, ports, port_of, same_port}
-use Rattle.window_model.proofs.Issuing.{by_load, same_self}
+use Rattle.window_model.specs.Issue.{Begun, AddressPort, DataPort, DivPort, LoadPort, busy_until_both, data_events, if_granted, is_whole, with_address, with_data, issue, issue_entry, begin_as, load_as, access_of, waits, effect_of, value_loaded, time_of, is_granted, may_at, may_issue_as, after_load, divider_after, ports, port_of, same_port}
+use Rattle.window_model.proofs.Issuing.{by_load, may_own}
 use Rattle.window_model.proofs.Booleans.{is_below}
-use Rattle.machine_facts.specs.Timely.{Timely, IsPending, longest_division}
+use Rattle.machine_facts.specs.Sized.{HasParts, Together}
+use Rattle.machine_facts.specs.Timely.{Timely, IsPending, PartDue, PartsDue, longest_division}
 use Rattle.machine_facts.proofs.Dues.{LooksSoon, looks_soon}
 use Rattle.machine_facts.proofs.Ports.{issue_adds}
+use Rattle.machine_facts.proofs.StoreParts.{issued_stays}
 use Rattle.progress.specs.Measure.{wait, takes}
 use Rattle.progress.proofs.Bounds.{register_nearer, miss_takes_time}
-use Rattle.progress.proofs.Oldest.{oldest_ready, oldest_untainted, oldest_address}
+use Rattle.progress.proofs.Oldest.{oldest_known, oldest_ready, oldest_untainted, oldest_address}
 
 -- the cycles until the entry is done
 abbrev pub needs : Entry → Desc → ℕ → List Miss → ℕ → ℕ
@@ -48,14 +51,40 @@ headed x e es = record x { window = e ∷ es }
 
 -- ---- the oldest may issue
 
--- an oldest entry that may issue has a port
-granted : (k : Kind) (d : Desc) (now : Around) (e : Entry) → may_issue_as k d now [] (made Waiting k e) ≡ true → 1 ≤ ports d (port_of k) → is_granted d now (port_of k) [] (made Waiting k e) ≡ true
-granted k d now e m p =
-    both_true (both_true (both_true (oldest_ready (made Waiting k e)) m) (same_self (port_of k))) (is_below 0 (ports d (port_of k)) (omega arith))
+-- an oldest entry in one piece that may issue has a port
+granted : (k : Kind) (d : Desc) (now : Around) (e : Entry) → is_store k ≡ false → may_issue_as k d now [] (made Waiting k e) ≡ true → 1 ≤ ports d (port_of k) → is_granted d now (port_of k) [] (made Waiting k e) ≡ true
+granted k d now e s m p =
+    both_true (may_own d now [] (made Waiting k e) s ∙ both_true (oldest_ready (made Waiting k e)) m) (is_below 0 (ports d (port_of k)) (omega arith))
+
+-- so has each part of an oldest store that hasn't issued, in version 1 where the other hasn't either
+part_ready : (v r w k : Bool) → r ≡ true → (v ≡ true → w ≡ true) → k ≡ true → (if v then r && w else k) ≡ true
+part_ready true r w k p q s = both_true p (q refl)
+part_ready false r w k p q s = s
+
+neither : (a c : Bool) → a ≡ false → a ≡ c → not (a || c) ≡ true
+neither false false p q = refl
+neither true c p q = absurd (cc)
+neither false true p q = absurd (cc)
+
+address_granted : (d : Desc) (now : Around) (e : Entry) → Together d (made Waiting Store e) → has_address e ≡ false → is_granted d now AddressPort [] (made Waiting Store e) ≡ true
+address_granted d now e t h =
+    let a = made Waiting Store e in
+    both_true (both_true (ap not h) (part_ready (d.version == 1) (ready [] a) (is_whole a) (all_known [] (base_of (sources a))) (oldest_ready a)
+    (λ v. neither (has_address e) (has_data e) h (t (eqb-true _ _ v) refl)) (oldest_known (base_of (sources a))))) refl
+
+data_granted : (d : Desc) (now : Around) (e : Entry) → Together d (made Waiting Store e) → has_data e ≡ false → is_granted d now DataPort [] (made Waiting Store e) ≡ true
+data_granted d now e t h =
+    let a = made Waiting Store e in
+    both_true (both_true (ap not h) (part_ready (d.version == 1) (ready [] a) (is_whole a) (all_known [] (others_of (sources a))) (oldest_ready a)
+    (λ v. let q = t (eqb-true _ _ v) refl in neither (has_address e) (has_data e) (q ∙ h) q) (oldest_known (others_of (sources a))))) refl
 
 -- a load may issue, and a division where the divider is free
 load_may : (d : Desc) (now : Around) (e : Entry) → may_issue_as Load d now [] (made Waiting Load e) ≡ true
-load_may d now e = both_true (ap not (oldest_address d (made Waiting Load e))) refl
+load_may d now e = both_true (ap not (oldest_address d (made Waiting Load e))) (in_each (d.version == 1))
+  where
+    in_each : (b : Bool) → (if b then true else true) ≡ true
+    in_each true = refl
+    in_each false = refl
 
 division_may : (d : Desc) (now : Around) (e : Entry) → is_free now ≡ true → may_issue_as Div d now [] (made Waiting Div e) ≡ true
 division_may d now e h = both_true (ap not (oldest_untainted d (made Waiting Div e))) h
@@ -128,7 +157,13 @@ none_if true p o h k = absurd (cc)
 
 none_divides : (d : Desc) (now : Around) (before es : List Entry) → is_free now ≡ false → first_from (may_at d now DivPort) before es ≡ None
 none_divides d now before [] f = refl
-none_divides d now before (e ∷ es) f = none_if (may_at d now DivPort before e) (record { before = before; entry = e; younger = es }) _ (busy_divider e.item.kind d now before e f) (none_divides d now (e ∷ before) es f)
+none_divides d now before (e ∷ es) f =
+    none_if (may_at d now DivPort before e) (record { before = before; entry = e; younger = es }) _ (by_kind (is_store e.item.kind) _ (busy_divider e.item.kind d now before e f))
+    (none_divides d now (e ∷ before) es f)
+  where
+    by_kind : (s m : Bool) → m ≡ false → (if s then false else m) ≡ false
+    by_kind true m h = refl
+    by_kind false m h = h
 
 same_divider : (d : Desc) (x : Machine) → is_free (around x) ≡ false → (divider_after x (first (may_at d (around x) DivPort) x.window)).free_from ≡ x.divider.free_from
 same_divider d x h = ap (λ (o : Option Place). (divider_after x o).free_from) (none_divides d (around x) [] x.window h)
@@ -141,7 +176,7 @@ refused d now e h = ap (λ b. b && nat_lt 0 1) (busy_divider Div d now [] (made 
 -- after Issue the oldest entry needs less than at the cycle's beginning
 abbrev pub Nearer : Progress → Kind → Desc → Machine → Machine → Entry → List Entry → Type 0
 Nearer s k d x0 x e es =
-    IsDesc d → Timely d (headed x (made s k e) es) → Began d x0 (headed x (made s k e) es) →
+    HasParts (made s k e) → Together d (made s k e) → IsDesc d → Timely d (headed x (made s k e) es) → Began d x0 (headed x (made s k e) es) →
     let y = (issue d (headed x (made s k e) es)).machine in
     needs (issue_entry d (around x) [] (made s k e)).entry d y.cycle y.misses y.divider.free_from < takes s k d x0.cycle x0.misses x0.divider.free_from
 
@@ -160,15 +195,15 @@ not_free : (f c : ℕ) → nat_le f c ≡ false → c < f
 not_free f c h = grind (arith, nat_tests)
 
 division_nearer : (d : Desc) (x0 x : Machine) (e : Entry) (es : List Entry) (b : Bool) → is_free (around x) ≡ b → Nearer Waiting Div d x0 x e es
-division_nearer d x0 x e es true h i s o =
+division_nearer d x0 x e es true h p t i s o =
     let x2 = headed x (made Waiting Div e) es in
     let a = made Waiting Div e in
     let now = around x in
     let y = (issue d x2).machine in
-    let t : time_of x.regs [] a ≤ longest_division = omega arith in
-    needs_then (is_granted d now DivPort [] a) (begin_as Div d now [] a) (waits a) d y.cycle y.misses y.divider.free_from _ (granted Div d now e (division_may d now e h) (omega arith))
+    let longest : time_of x.regs [] a ≤ longest_division = omega arith in
+    needs_then (is_granted d now DivPort [] a) (begin_as Div d now [] a) (waits a) d y.cycle y.misses y.divider.free_from _ (granted Div d now e refl (division_may d now e h) (omega arith))
     (soon x.cycle y.cycle (time_of x.regs [] a) _ (issue_adds d x2).cycle (omega arith))
-division_nearer d x0 x e es false h i s o =
+division_nearer d x0 x e es false h p t i s o =
     let x2 = headed x (made Waiting Div e) es in
     let a = made Waiting Div e in
     let now = around x in
@@ -176,9 +211,51 @@ division_nearer d x0 x e es false h i s o =
     needs_else (is_granted d now DivPort [] a) (begin_as Div d now [] a) (waits a) d y.cycle y.misses y.divider.free_from _ (refused d now e h)
     (later x.divider.free_from y.divider.free_from y.cycle x.cycle x0.cycle x0.divider.free_from (same_divider d x2 h) (issue_adds d x2).cycle o.cycle o.divider (not_free x.divider.free_from x.cycle h))
 
+-- ---- a store: each part that hasn't issued does, and both are known in the next cycle
+
+both_soon : (a c : Option ℕ) (s : Progress) (k : Kind) (d : Desc) (cycle y g : ℕ) (ms : List Miss) → is_some a ≡ true → is_some c ≡ true → PartDue cycle a → PartDue cycle c → y ≡ cycle →
+    takes (busy_until_both a c s) k d y ms g < 2
+both_soon (Some a) (Some c) s k d cycle y g ms p q l m e = omega arith
+both_soon None c s k d cycle y g ms p q l m e = absurd (cc)
+both_soon (Some a) None s k d cycle y g ms p q l m e = absurd (cc)
+
+parts_soon : (ga gc : Bool) (d : Desc) (now : Around) (f : Effect) (e : Entry) (y g : ℕ) (ms : List Miss) → (ga ≡ false → has_address e ≡ true) → (gc ≡ false → has_data e ≡ true) → (ga ≡ false → gc ≡ false → ⊥) →
+    PartsDue now.cycle e → y ≡ now.cycle →
+    needs (if_granted gc (with_data now f) (data_events d e) (if_granted ga (with_address now f) (event.Agu e.serial ∷ []) e).entry).entry d y ms g < 2
+parts_soon true true d now f e y g ms p q n l h = both_soon (Some (now.cycle + 1)) (Some (now.cycle + 1)) e.state e.item.kind d now.cycle y g ms refl refl (omega arith) (omega arith) h
+parts_soon true false d now f e y g ms p q n l h = both_soon (Some (now.cycle + 1)) e.data_due e.state e.item.kind d now.cycle y g ms refl (q refl) (omega arith) l.1 h
+parts_soon false true d now f e y g ms p q n l h = both_soon e.addr_due (Some (now.cycle + 1)) e.state e.item.kind d now.cycle y g ms (p refl) refl l.0 (omega arith) h
+parts_soon false false d now f e y g ms p q n l h = absurd (n refl refl)
+
+else_has : (h g : Bool) → (h ≡ false → g ≡ true) → g ≡ false → h ≡ true
+else_has true g f q = refl
+else_has false g f q = absurd (let r = f refl in cc)
+
+not_both : (a c : Bool) → (a && c) ≡ false → a ≡ true → c ≡ true → ⊥
+not_both true true h p q = absurd (cc)
+not_both false c h p q = absurd (cc)
+not_both true false h p q = absurd (cc)
+
+store_nearer : (d : Desc) (x : Machine) (e : Entry) (es : List Entry) → HasParts (made Waiting Store e) → Together d (made Waiting Store e) → Timely d (headed x (made Waiting Store e) es) →
+    let y = (issue d (headed x (made Waiting Store e) es)).machine in
+    needs (issue_entry d (around x) [] (made Waiting Store e)).entry d y.cycle y.misses y.divider.free_from < 2
+store_nearer d x e es p t s =
+    let a = made Waiting Store e in
+    let now = around x in
+    let x2 = headed x a es in
+    let y = (issue d x2).machine in
+    let ha = else_has (has_address e) (is_granted d now AddressPort [] a) (address_granted d now e t) in
+    let hc = else_has (has_data e) (is_granted d now DataPort [] a) (data_granted d now e t) in
+    parts_soon (is_granted d now AddressPort [] a) (is_granted d now DataPort [] a) d now (effect_of x.regs [] a) a y.cycle y.divider.free_from y.misses ha hc
+    (λ g h. not_both (has_address e) (has_data e) (p refl) (ha g) (hc h)) s.parts.0 (issue_adds d x2).cycle
+
+-- what executes goes on
+busy_stays : (d : Desc) (now : Around) (e : Entry) (due : ℕ) → e.state ≡ Busy due → HasParts e → (issue_entry d now [] e).entry.state ≡ Busy due
+busy_stays d now e due q p = ap (λ (r : Entry). r.state) (issued_stays d now [] e p (ap is_waiting q)) ∙ q
+
 -- where it waits: it issues, or a register or the divider comes nearer
 waiting_nearer : (k : Kind) (d : Desc) (x0 x : Machine) (e : Entry) (es : List Entry) → Nearer Waiting k d x0 x e es
-waiting_nearer Load d x0 x e es i s o =
+waiting_nearer Load d x0 x e es p t i s o =
     let x2 = headed x (made Waiting Load e) es in
     let a = made Waiting Load e in
     let now = around x in
@@ -187,26 +264,28 @@ waiting_nearer Load d x0 x e es i s o =
     let f = effect_of x.regs [] a in
     let m : y.misses ≡ misses_after (access_of d now [] a) d x.cycle x.misses =
     misses_of_tried (may_at d now LoadPort [] a) (record { before = []; entry = a; younger = es }) (first_from (may_at d now LoadPort) (a ∷ []) es) d x2 (both_true (both_true (oldest_ready a) may) refl) in
-    needs_then (is_granted d now LoadPort [] a) (begin_as Load d now [] a) (waits a) d y.cycle y.misses y.divider.free_from _ (granted Load d now e may (omega arith))
+    needs_then (is_granted d now LoadPort [] a) (begin_as Load d now [] a) (waits a) d y.cycle y.misses y.divider.free_from _ (granted Load d now e refl may (omega arith))
     (load_nearer (access_of d now [] a) d x0 x2 e f (value_loaded x.ram [] a f.addr) y.cycle y.misses y.divider.free_from i s o (looks_soon d now i s.misses [] a) (waits_full d now [] a) (issue_adds d x2).cycle m)
-waiting_nearer Div d x0 x e es i s o = division_nearer d x0 x e es (is_free (around x)) refl i s o
-waiting_nearer Mul d x0 x e es i s o =
+waiting_nearer Div d x0 x e es p t i s o = division_nearer d x0 x e es (is_free (around x)) refl p t i s o
+waiting_nearer Mul d x0 x e es p t i s o =
     let x2 = headed x (made Waiting Mul e) es in
-    plain_nearer Mul d.units_mul_latency _ d (around x) e _ x.cycle _ _ _ refl (granted Mul d (around x) e refl (omega arith)) (issue_adds d x2).cycle (omega arith)
-waiting_nearer Store d x0 x e es i s o =
-    let x2 = headed x (made Waiting Store e) es in
-    plain_nearer Store 1 2 d (around x) e _ x.cycle _ _ _ refl (granted Store d (around x) e refl (omega arith)) (issue_adds d x2).cycle (omega arith)
-waiting_nearer k d x0 x e es i s o =
+    plain_nearer Mul d.units_mul_latency _ d (around x) e _ x.cycle _ _ _ refl (granted Mul d (around x) e refl refl (omega arith)) (issue_adds d x2).cycle (omega arith)
+waiting_nearer Store d x0 x e es p t i s o = store_nearer d x e es p t s
+waiting_nearer k d x0 x e es p t i s o =
     let x2 = headed x (made Waiting k e) es in
-    plain_nearer k 1 2 d (around x) e _ x.cycle _ _ _ refl (granted k d (around x) e refl i.alus.0) (issue_adds d x2).cycle (omega arith)
+    plain_nearer k 1 2 d (around x) e _ x.cycle _ _ _ refl (granted k d (around x) e refl refl i.alus.0) (issue_adds d x2).cycle (omega arith)
 
 state_nearer : (s : Progress) (k : Kind) (d : Desc) (x0 x : Machine) (e : Entry) (es : List Entry) → is_done s ≡ false → Nearer s k d x0 x e es
-state_nearer Waiting k d x0 x e es h i s o = waiting_nearer k d x0 x e es i s o
-state_nearer Done k d x0 x e es h i s o = absurd (cc)
-state_nearer (Busy due) k d x0 x e es h i s o =
+state_nearer Waiting k d x0 x e es h p t i s o = waiting_nearer k d x0 x e es p t i s o
+state_nearer Done k d x0 x e es h p t i s o = absurd (cc)
+state_nearer (Busy due) k d x0 x e es h p t i s o =
     let x2 = headed x (made (Busy due) k e) es in
     let q = (issue_adds d x2).cycle in
-    one_nearer due _ x0.cycle (q ∙ o.cycle) (let b = s.dues.0.0 in omega arith)
+    let y = (issue d x2).machine in
+    let r = (issue_entry d (around x) [] (made (Busy due) k e)).entry in
+    let stays : r.state ≡ Busy due = busy_stays d (around x) (made (Busy due) k e) due refl p in
+    subst (λ (v : Progress). takes v r.item.kind d y.cycle y.misses y.divider.free_from < due - x0.cycle) (sym stays)
+    (one_nearer due _ x0.cycle (q ∙ o.cycle) (let b = s.dues.0.0 in omega arith))
 
 -- an oldest entry that isn't done comes nearer to it
 pub oldest_nearer : (d : Desc) (x0 x : Machine) (e : Entry) (es : List Entry) → is_done e.state ≡ false → Nearer e.state e.item.kind d x0 x e es

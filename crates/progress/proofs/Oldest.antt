@@ -7,8 +7,8 @@ use Rattle.machine_desc.specs.declared.Desc.{Desc}
 use Rattle.window_model.specs.declared.Entry.{Entry}
 use Rattle.window_model.specs.declared.Divider.{Divider}
 use Rattle.window_model.specs.State.{Machine}
-use Rattle.window_model.specs.Order.{Place, first_from, is_done, is_control, is_known, ready, sources}
-use Rattle.window_model.specs.Taint.{any_tainted, address_tainted, tainted, base_of}
+use Rattle.window_model.specs.Order.{Place, first_from, is_done, is_control, is_known, all_known, base_of, ready, sources}
+use Rattle.window_model.specs.Taint.{any_tainted, address_tainted, tainted}
 use Rattle.window_model.specs.Resolve.{resolve, resolve_at, may_resolve, learn, squash, keep, squashes, is_from, with_predictor}
 use Rattle.window_model.specs.Retire.{may_leave}
 use Rattle.window_model.proofs.Places.{found}
@@ -22,8 +22,11 @@ all_of f [] h = refl
 all_of f (r ∷ rs) h = ap (λ b. b && list_all f rs) (h r) ∙ all_of f rs h
 
 -- so its operands are known, and none is tainted
+pub oldest_known : (rs : List ℕ) → all_known [] rs ≡ true
+oldest_known rs = all_of (is_known []) rs (λ r. refl)
+
 pub oldest_ready : (e : Entry) → ready [] e ≡ true
-oldest_ready e = all_of (is_known []) (sources e) (λ r. refl)
+oldest_ready e = oldest_known (sources e)
 
 pub oldest_untainted : (d : Desc) (e : Entry) → any_tainted d.stt_model [] e ≡ false
 oldest_untainted d e = none_any (tainted d.stt_model []) (sources e) (λ r. refl)

@@ -79,7 +79,7 @@ module _ (d : Desc) (code : Code) where
   retires_in zero x i s t = λ p m. absurd (let h = measure_at_least d x t in omega arith)
   retires_in (suc n) x i s t = λ p m.
       let y = (cycle d code x).machine in
-      let more = retires_in n y i (sized_cycle d code x i s) (timely_cycle d code x i t) in
+      let more = retires_in n y i (sized_cycle d code x i s) (timely_cycle d code x i s t) in
       by_end x.end x (after_cycles d code n y) refl (in_one_more n x i s t more m) p
 
 -- ---- the laws of runs

@@ -1,13 +1,13 @@
 -- An entry that becomes Done, with the store of the queue that stands for it.
 use Rattle.std.proofs.Common.{◌≡◌, ◌≢◌, ℕ, Bool, true, false, cond, List, [], ◌∷◌, ◌++◌, Some, refl, ap, ap₂, sym, ◌∙◌, arith}
-use Rattle.std.specs.Prelude.{◌||◌, is_some, map, ◌==◌, if◌then◌else◌}
+use Rattle.std.specs.Prelude.{◌&&◌, ◌||◌, is_some, map, ◌==◌, if◌then◌else◌}
 use Rattle.std.specs.List.{filter}
 use Rattle.std.proofs.lemmas.List.{map-append}
 use Rattle.std.proofs.lemmas.List.Elements.{filter-append, All-head, All-tail}
 use Rattle.std.proofs.lemmas.Bool.Decides.{nat_tests}
 use Rattle.window_model.specs.declared.Entry.{Entry}
 use Rattle.window_model.specs.declared.Progress.TheVariants.{Done}
-use Rattle.window_model.specs.Order.{fault_of, is_load, is_store, is_waiting}
+use Rattle.window_model.specs.Order.{fault_of, has_address, is_load, is_store, is_waiting}
 use Rattle.window_model.specs.Retire.{addr_of, stored_of}
 use Rattle.lsq.specs.declared.store.Known.{Known}
 use Rattle.lsq.specs.declared.store.Store.{Store}
@@ -94,7 +94,7 @@ own_one : (e : Entry) (k : Known) (s : Bool) → write_of k ≡ write_in e → i
 own_one e k true h w =
     let same : (e.serial == e.serial) ≡ true = grind (arith, nat_tests) in
     ap (λ b. (if b then record (shown_entry e) { write = Some (write_of k) } else shown_entry e) ∷ []) same
-    ∙ ap₂ (λ v w. record { serial = e.serial; write = Some v; computed = w || is_some e.outcome } ∷ []) h w
+    ∙ ap₂ (λ v w. record { serial = e.serial; write = Some v; computed = w || is_some e.outcome && has_address e } ∷ []) h w
 own_one e k false h w = refl
 
 known_stands : (ss : List Store) (k : Known) (old young : List Entry) (e : Entry) → write_of k ≡ write_in e → is_waiting e.state ≡ false → StoresStandFor ss (old ++ e ∷ young) →

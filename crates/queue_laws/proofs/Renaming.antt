@@ -1,6 +1,6 @@
 -- Entries that are renamed, that change unseen, and how many there are.
 use Rattle.std.proofs.Common.{◌≡◌, ℕ, Bool, true, false, cond, List, [], ◌∷◌, ◌++◌, length, Option, Some, None, refl, ap, ap₂, sym, ◌∙◌, append-nil}
-use Rattle.std.specs.Prelude.{◌||◌, is_some, map, if◌then◌else◌}
+use Rattle.std.specs.Prelude.{◌&&◌, ◌||◌, is_some, map, if◌then◌else◌}
 use Rattle.std.specs.List.{filter}
 use Rattle.std.proofs.lemmas.List.{map-append, length-map}
 use Rattle.std.proofs.lemmas.List.Elements.{filter-append}
@@ -8,7 +8,7 @@ use Rattle.std.proofs.lemmas.List.Sums.{length-filter}
 use Rattle.rv_types.specs.declared.Kind.{Kind}
 use Rattle.rv_types.specs.declared.Kind.TheVariants.{Load, Store as StoreKind}
 use Rattle.window_model.specs.declared.Entry.{Entry}
-use Rattle.window_model.specs.Order.{is_load, is_store}
+use Rattle.window_model.specs.Order.{has_address, is_load, is_store}
 use Rattle.window_model.proofs.Booleans.{waiting_done}
 use Rattle.queue_laws.specs.Window.{Seen, Shown, loads_in, seen, shown_entry, shown_store, stores_in, write_in}
 use Rattle.queue_laws.specs.Laws.{RoomAsCounted}
@@ -69,7 +69,7 @@ pub adds_store : (q : Queues) (window : List Entry) (e : Entry) (root : Option �
 adds_store q window e root s h w = let d = waiting_done e.state w in record {
   loads = s.loads ∙ sym (no_load window e (store_no_load e.item.kind h));
   stores = map-append shown_store q.stores _ ∙ ap (λ ws. ws ++ record { serial = e.serial; write = None; computed = true } ∷ []) s.stores
-      ∙ ap₂ (λ d w. stores_in window ++ record { serial = e.serial; write = if d then Some (write_in e) else None; computed = w || is_some e.outcome } ∷ []) (sym d) (sym w)
+      ∙ ap₂ (λ d w. stores_in window ++ record { serial = e.serial; write = if d then Some (write_in e) else None; computed = w || is_some e.outcome && has_address e } ∷ []) (sym d) (sym w)
       ∙ sym (stores_push window e true h);
 }
 

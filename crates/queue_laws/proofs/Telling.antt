@@ -9,7 +9,7 @@ use Rattle.window_model.specs.declared.Entry.{Entry}
 use Rattle.window_model.specs.declared.Outcome.{Outcome}
 use Rattle.window_model.specs.declared.Progress.{Progress}
 use Rattle.window_model.specs.declared.Progress.TheVariants.{Waiting, Busy, Done}
-use Rattle.window_model.specs.Order.{fault_of, is_done, is_store, is_waiting}
+use Rattle.window_model.specs.Order.{fault_of, has_address, is_done, is_store, is_waiting}
 use Rattle.window_model.specs.Access.{byte_from, byte_of, covers, reaches}
 use Rattle.window_model.specs.Issue.{stores_done}
 use Rattle.window_model.specs.Retire.{addr_of, width_of}
@@ -66,7 +66,7 @@ known_entries : (before : List Entry) → all_known (stores_in before) ≡ store
 known_entries [] = refl
 known_entries (e ∷ before) = done_one (is_store e.item.kind) e (filter (λ e. is_store e.item.kind) before) (stores_done before) (known_entries before)
 
--- none of these stores is without its outcome but one that waits
+-- each of these stores waits, or has its outcome and its address
 abbrev all_computed : List Shown → Bool
 all_computed ss = list_all (λ s. s.computed) ss
 
@@ -74,19 +74,22 @@ queue_computed : (ss : List Store) → all_computed (map shown_store ss) ≡ tru
 queue_computed [] = refl
 queue_computed (s ∷ ss) = queue_computed ss
 
--- a Done one has its outcome
-has_outcome : (s : Progress) (o : Option Outcome) → is_done s ≡ true → (is_waiting s || is_some o) ≡ true → is_some o ≡ true
-has_outcome Done o d h = h
-has_outcome Waiting o d h = absurd (cc)
-has_outcome (Busy due) o d h = absurd (cc)
+-- a Done one has its outcome and its address
+has_both : (s : Progress) (o a : Bool) → is_done s ≡ true → (is_waiting s || o && a) ≡ true → (o ≡ true) × (a ≡ true)
+has_both Done o a d h = both o a h
+has_both Waiting o a d h = absurd (cc)
+has_both (Busy due) o a d h = absurd (cc)
 
 -- and what it writes shows which bytes it reaches
 reach_shown : (a n : ℕ) (o : Option Outcome) → is_some o ≡ true → (not (is_some (fault_of o)) && nat_le (addr_of o) a && nat_lt a (addr_of o + n)) ≡ reaches a n o
 reach_shown a n (Some o) h = refl
 reach_shown a n None h = absurd (cc)
 
-covers_by : (a : ℕ) (e : Entry) (b : Bool) → is_store e.item.kind ≡ b → covers a e ≡ (b && reaches a (width_of e) e.outcome)
-covers_by a e b h = ap (λ b. b && reaches a (width_of e) e.outcome) h
+covers_by : (a : ℕ) (e : Entry) → is_store e.item.kind ≡ true → has_address e ≡ true → covers a e ≡ reaches a (width_of e) e.outcome
+covers_by a e h k = ap₂ (λ b c. b && c && reaches a (width_of e) e.outcome) h k
+
+covers_none : (a : ℕ) (e : Entry) → is_store e.item.kind ≡ false → covers a e ≡ false
+covers_none a e h = ap (λ b. b && has_address e && reaches a (width_of e) e.outcome) h
 
 by_reach : (c : Bool) (a : ℕ) (e : Entry) (r : Option ℕ) (p : Option Entry) → r ≡ option_map (byte_from a) p →
     option_or (if c then Some (byte_from a e) else None) r ≡ option_map (byte_from a) (cond c (Some e) p)
@@ -102,12 +105,13 @@ found_one : (a : ℕ) (b d : Bool) (e : Entry) (f : List Entry) (p : Option Entr
     forwarded_shown (map shown_entry f) a ≡ option_map (byte_from a) p →
     forwarded_shown (map shown_entry (cond b (e ∷ f) f)) a ≡ option_map (byte_from a) (cond (covers a e) (Some e) p)
 found_one a true true e f p s d t u h =
+    let k = has_both e.state (is_some e.outcome) (has_address e) d (u refl) in
     ap (λ d. option_or (byte_shown a (if d then Some (write_in e) else None)) (forwarded_shown (map shown_entry f) a)) d
-    ∙ ap (λ c. option_or (if c then Some (byte_from a e) else None) (forwarded_shown (map shown_entry f) a)) (reach_shown a (width_of e) e.outcome (has_outcome e.state e.outcome d (u refl)))
+    ∙ ap (λ c. option_or (if c then Some (byte_from a e) else None) (forwarded_shown (map shown_entry f) a)) (reach_shown a (width_of e) e.outcome k.0)
     ∙ by_reach (reaches a (width_of e) e.outcome) a e (forwarded_shown (map shown_entry f) a) p h
-    ∙ ap (λ c. option_map (byte_from a) (cond c (Some e) p)) (sym (covers_by a e true s))
+    ∙ ap (λ c. option_map (byte_from a) (cond c (Some e) p)) (sym (covers_by a e s k.1))
 found_one a true false e f p s d t u h = absurd (cc)
-found_one a false d e f p s k t u h = h ∙ ap (λ c. option_map (byte_from a) (cond c (Some e) p)) (sym (covers_by a e false s))
+found_one a false d e f p s k t u h = h ∙ ap (λ c. option_map (byte_from a) (cond c (Some e) p)) (sym (covers_none a e s))
 
 found_entries : (a : ℕ) (before : List Entry) → stores_done before ≡ true → all_computed (stores_in before) ≡ true → forwarded_shown (stores_in before) a ≡ option_map (byte_from a) (find (covers a) before)
 found_entries a [] t u = refl

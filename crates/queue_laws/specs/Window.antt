@@ -1,5 +1,5 @@
 -- The queues that stand for a window's loads and stores (docs/machine.md, "State" and "Entries").
-use Rattle.std.specs.Prelude.{◌≡◌, ◌≢◌, ◌<◌, ◌≤◌, ◌||◌, ℕ, Bool, true, false, not, if◌then◌else◌, List, [], ◌∷◌, is_some, map, Option, Some, None, All}
+use Rattle.std.specs.Prelude.{◌≡◌, ◌≢◌, ◌<◌, ◌≤◌, ◌&&◌, ◌||◌, ℕ, Bool, true, false, not, if◌then◌else◌, List, [], ◌∷◌, is_some, map, Option, Some, None, All}
 use Rattle.std.specs.List.{filter}
 use Rattle.std.specs.Option.{option_map}
 use Rattle.rv_types.specs.Value.{bytes_in}
@@ -7,7 +7,7 @@ use Rattle.rv_types.specs.declared.Cause.{Cause}
 use Rattle.rv_types.specs.declared.Width.{Width}
 use Rattle.machine_desc.specs.declared.SttModel.{SttModel}
 use Rattle.window_model.specs.declared.Entry.{Entry}
-use Rattle.window_model.specs.Order.{fault_of, is_done, is_load, is_store, is_waiting}
+use Rattle.window_model.specs.Order.{fault_of, has_address, is_done, is_load, is_store, is_waiting}
 use Rattle.window_model.specs.Retire.{addr_of, stored_of, width_of}
 use Rattle.window_model.specs.Taint.{address_tainted}
 use Rattle.lsq.specs.declared.store.Known.{Known}
@@ -23,13 +23,13 @@ pub record Write : Type 0 where
   pub stored : ℕ
   pub fault : Option Cause
 
--- a store: its serial, what it writes once it is Done, and whether it waits or has its outcome
+-- a store: its serial, what it writes once it is Done, and whether it waits or has its outcome and its address
 pub record Shown : Type 0 where
   pub serial : ℕ
   pub write : Option Write
   pub computed : Bool
 
--- of a store of the queue: so it holds none that no longer waits and has no outcome
+-- of a store of the queue: so it holds none that no longer waits and lacks its outcome or its address
 abbrev pub write_of : Known → Write
 write_of k = record { addr = k.addr; bytes = bytes_in k.width; stored = k.stored; fault = k.fault }
 
@@ -41,7 +41,7 @@ abbrev pub write_in : Entry → Write
 write_in e = record { addr = addr_of e.outcome; bytes = width_of e; stored = stored_of e.outcome; fault = fault_of e.outcome }
 
 abbrev pub shown_entry : Entry → Shown
-shown_entry e = record { serial = e.serial; write = if is_done e.state then Some (write_in e) else None; computed = is_waiting e.state || is_some e.outcome }
+shown_entry e = record { serial = e.serial; write = if is_done e.state then Some (write_in e) else None; computed = is_waiting e.state || is_some e.outcome && has_address e }
 
 -- ---- queues and window
 
@@ -53,7 +53,7 @@ stores_in es = map shown_entry (filter (λ e. is_store e.item.kind) es)
 abbrev pub loads_in : List Entry → List ℕ
 loads_in es = map (λ e. e.serial) (filter (λ e. is_load e.item.kind) es)
 
--- these stores are those of the entries: known exactly where Done, and none without its outcome but one that waits. Of their
+-- these stores are those of the entries: known exactly where Done, and with outcome and address, but one that waits. Of their
 -- roots it says nothing
 abbrev pub StoresStandFor : List Store → List Entry → Type 0
 StoresStandFor stores es = map shown_store stores ≡ stores_in es

@@ -1,5 +1,5 @@
 -- Issue in a later cycle, while the divider is free or not as before: no entry begins that didn't before.
-use Rattle.std.proofs.Common.{◌≡◌, ℕ, ◌+◌, ◌<◌, Bool, true, false, not, ◌&&◌, List, [], ◌∷◌, Option, Some, None, refl, ap, ap₂, ◌∙◌, arith}
+use Rattle.std.proofs.Common.{◌≡◌, ℕ, ◌+◌, ◌<◌, Bool, true, false, not, ◌&&◌, List, [], ◌∷◌, ◌++◌, Option, Some, None, refl, ap, ap₂, sym, ◌∙◌, arith}
 use Rattle.std.proofs.lemmas.Bool.Decides.{nat_tests}
 use Rattle.std.specs.Prelude.{if◌then◌else◌, nat_le, nat_lt}
 use Rattle.rv_types.specs.Isa.{Effect}
@@ -7,16 +7,18 @@ use Rattle.rv_types.specs.Memory.{load_fault}
 use Rattle.rv_types.specs.Value.{one_if}
 use Rattle.rv_types.specs.declared.Cause.{Cause}
 use Rattle.rv_types.specs.declared.Kind.{Kind}
-use Rattle.rv_types.specs.declared.Kind.TheVariants.{Mul, Div, Load, Store}
+use Rattle.rv_types.specs.declared.Kind.TheVariants.{Div, Load}
 use Rattle.machine_desc.specs.declared.Desc.{Desc}
 use Rattle.window_model.specs.declared.Entry.{Entry}
+use Rattle.window_model.specs.declared.Event.{Event}
+use Rattle.window_model.specs.declared.Event.TheVariants as event
 use Rattle.window_model.specs.Around.{Around, around, is_free}
 use Rattle.window_model.specs.State.{Machine}
-use Rattle.window_model.specs.Order.{is_waiting, ready}
+use Rattle.window_model.specs.Order.{is_store, is_waiting, ready}
 use Rattle.window_model.specs.Taint.{any_tainted}
 use Rattle.window_model.specs.Retire.{width_of}
-use Rattle.window_model.specs.Access.{Access, Faults, Forwards, Looks, Waits, access_at}
-use Rattle.window_model.specs.Issue.{Port, port_of, ports, same_port, asking, is_granted, may_at, may_issue_as, issue_entry, begin_as, load_as, access_of, effect_of, value_loaded, waits}
+use Rattle.window_model.specs.Access.{Access, Faults, access_at}
+use Rattle.window_model.specs.Issue.{Port, AddressPort, DataPort, port_of, ports, part_may, same_port, asking, is_granted, may_at, may_issue_as, data_events, if_granted, with_address, with_data, issue_entry, issue_parts, issue_whole, begin_as, load_as, access_of, effect_of, value_loaded, waits}
 use Rattle.quiet_cycles.specs.Still.{NotDueBefore, at_cycle}
 use Rattle.quiet_cycles.proofs.Waiting.{NoneBegins}
 
@@ -56,6 +58,19 @@ module _ (d : Desc) (x : Machine) (c : ℕ) where
   if_as_before true before e = begins_as_before e.item.kind before e
   if_as_before false before e = refl
 
+  -- a store's events by which of its parts go
+  abbrev events_by : Bool → Bool → Entry → List Event
+  events_by a c e = (if a then event.Agu e.serial ∷ [] else []) ++ (if c then data_events d e else [])
+
+  parts_have : (i : Around) (f : Effect) (a c : Bool) (e : Entry) →
+      let x = if_granted a (with_address i f) (event.Agu e.serial ∷ []) e in
+      let y = if_granted c (with_data i f) (data_events d e) x.entry in
+      x.events ++ y.events ≡ events_by a c e
+  parts_have i f true true e = refl
+  parts_have i f true false e = refl
+  parts_have i f false true e = refl
+  parts_have i f false false e = refl
+
   -- ---- who is granted a port asks for the cycle only where the divider is free or not
 
   module _ (q : is_free later ≡ is_free now) where
@@ -65,7 +80,7 @@ module _ (d : Desc) (x : Machine) (c : ℕ) where
     same_kind_may _ before e = refl
 
     same_may : (port : Port) (before : List Entry) (e : Entry) → may_at d later port before e ≡ may_at d now port before e
-    same_may port before e = ap (λ m. (is_waiting e.state && ready before e && m) && same_port (port_of e.item.kind) port) (same_kind_may e.item.kind before e)
+    same_may port before e = ap (λ m. if is_store e.item.kind then part_may port d before e else (is_waiting e.state && ready before e && m) && same_port (port_of e.item.kind) port) (same_kind_may e.item.kind before e)
 
     same_asking : (port : Port) (before : List Entry) → asking d later port before ≡ asking d now port before
     same_asking port [] = refl
@@ -74,10 +89,23 @@ module _ (d : Desc) (x : Machine) (c : ℕ) where
     same_grant : (port : Port) (before : List Entry) (e : Entry) → is_granted d later port before e ≡ is_granted d now port before e
     same_grant port before e = ap₂ (λ b n. b && nat_lt n (ports d port)) (same_may port before e) (same_asking port before)
 
+    parts_as_before : (before : List Entry) (e : Entry) → (issue_parts d later before e).events ≡ (issue_parts d now before e).events
+    parts_as_before before e =
+        parts_have later (effect_of x.regs before e) (is_granted d later AddressPort before e) (is_granted d later DataPort before e) e
+        ∙ ap₂ (λ a c. events_by a c e) (same_grant AddressPort before e) (same_grant DataPort before e)
+        ∙ sym (parts_have now (effect_of x.regs before e) (is_granted d now AddressPort before e) (is_granted d now DataPort before e) e)
+
     entry_as_before : (before : List Entry) (e : Entry) → (issue_entry d later before e).events ≡ (issue_entry d now before e).events
-    entry_as_before before e =
-        ap (λ b. (if b then begin_as e.item.kind d later before e else waits e).events) (same_grant (port_of e.item.kind) before e)
-        ∙ if_as_before (is_granted d now (port_of e.item.kind) before e) before e
+    entry_as_before before e = by_kind (is_store e.item.kind)
+      where
+        whole : (issue_whole d later before e).events ≡ (issue_whole d now before e).events
+        whole =
+            ap (λ b. (if b then begin_as e.item.kind d later before e else waits e).events) (same_grant (port_of e.item.kind) before e)
+            ∙ if_as_before (is_granted d now (port_of e.item.kind) before e) before e
+
+        by_kind : (s : Bool) → (if s then issue_parts d later before e else issue_whole d later before e).events ≡ (if s then issue_parts d now before e else issue_whole d now before e).events
+        by_kind true = parts_as_before before e
+        by_kind false = whole
 
     none_begin_later : (before es : List Entry) → NoneBegins d now before es → NoneBegins d later before es
     none_begin_later before [] h = tt

@@ -1,23 +1,24 @@
 -- Issue where nothing happens in it: no entry begins, and the load that is tried, if there is one, finds no miss register.
-use Rattle.std.proofs.Common.{◌≡◌, ℕ, ◌+◌, Bool, true, false, List, [], ◌∷◌, ◌++◌, Option, Some, None, refl, ap, ◌∙◌, subst, arith}
-use Rattle.std.specs.Prelude.{if◌then◌else◌, nat_lt, map}
+use Rattle.std.proofs.Common.{◌≡◌, ℕ, ◌+◌, Bool, true, false, List, [], ◌∷◌, ◌++◌, Option, Some, None, refl, ap, ◌∙◌, subst, arith, eqb-true}
+use Rattle.std.specs.Prelude.{if◌then◌else◌, nat_lt, ◌==◌, map}
 use Rattle.std.specs.Cmp.Derive.{both_true}
 use Rattle.std.specs.List.{flat_map}
 use Rattle.rv_types.specs.Isa.{Effect}
 use Rattle.rv_types.specs.Value.{one_if}
 use Rattle.rv_types.specs.declared.Kind.{Kind}
-use Rattle.rv_types.specs.declared.Kind.TheVariants.{Mul, Div, Load, Store}
+use Rattle.rv_types.specs.declared.Kind.TheVariants.{Div, Load}
 use Rattle.machine_desc.specs.declared.Desc.{Desc}
 use Rattle.window_model.specs.declared.Entry.{Entry}
 use Rattle.window_model.specs.declared.Event.{Event}
+use Rattle.window_model.specs.declared.Event.TheVariants as event
 use Rattle.window_model.specs.Along.{Along, Fact}
 use Rattle.window_model.specs.State.{Machine, After, nothing}
 use Rattle.window_model.specs.Around.{Around, around}
-use Rattle.window_model.specs.Order.{Place, each_from, first, first_from}
+use Rattle.window_model.specs.Order.{Place, each_from, first, first_from, is_store}
 use Rattle.window_model.specs.Access.{Access, Waits, cache_after, misses_after}
-use Rattle.window_model.specs.Issue.{Begun, DivPort, LoadPort, port_of, ports, asking, is_granted, may_at, may_issue, issue, issue_entry, begin_as, load_as, access_of, effect_of, value_loaded, waits, after_load, divider_after}
-use Rattle.window_model.proofs.Booleans.{both}
-use Rattle.window_model.proofs.Issuing.{at_division_port, at_load_port, by_load}
+use Rattle.window_model.specs.Issue.{Begun, AddressPort, DataPort, DivPort, LoadPort, port_of, ports, asking, is_granted, may_at, issue, issue_entry, issue_parts, issue_whole, begin_as, if_granted, with_address, with_data, load_as, access_of, effect_of, value_loaded, waits, after_load, divider_after}
+use Rattle.window_model.proofs.Issuing.{asks_division, asks_load, by_load}
+use Rattle.window_model.proofs.Together.{granted_together}
 use Rattle.quiet_cycles.proofs.Nothing.{both_empty}
 
 -- the entry does not begin
@@ -64,21 +65,45 @@ module _ (d : Desc) (now : Around) (before : List Entry) (e : Entry) where
   if_stays true h = begin_stays e.item.kind h
   if_stays false h = refl
 
+  -- nor does a part of a store go: that of the address has an event, and that of the data has one or goes with it
+  parts_stay : (a c : Bool) (v : ℕ) (f : Effect) → (v ≡ 1 → c ≡ a) →
+      let x = if_granted a (with_address now f) (event.Agu e.serial ∷ []) e in
+      let y = if_granted c (with_data now f) (if v == 1 then [] else event.Std e.serial ∷ []) x.entry in
+      x.events ++ y.events ≡ [] → y.entry ≡ e
+  parts_stay true c v f p h = absurd (cc)
+  parts_stay false false v f p h = refl
+  parts_stay false true v f p h = by_version (v == 1) refl h
+    where
+      by_version : (b : Bool) → (v == 1) ≡ b → (if b then [] else event.Std e.serial ∷ []) ≡ [] → with_data now f e ≡ e
+      by_version true q n = absurd (let w = p (eqb-true _ _ q) in cc)
+      by_version false q n = absurd (cc)
+
+  entry_stays : DoesNotBegin d now before e → (issue_entry d now before e).entry ≡ e
+  entry_stays = by_kind (is_store e.item.kind)
+    where
+      by_kind : (s : Bool) → let r = (if s then issue_parts d now before e else issue_whole d now before e) in r.events ≡ [] → r.entry ≡ e
+      by_kind true h =
+          parts_stay (is_granted d now AddressPort before e) (is_granted d now DataPort before e) d.version (effect_of now.regs before e)
+          (λ first. granted_together d now first before e) h
+      by_kind false h = if_stays (is_granted d now (port_of e.item.kind) before e) h
+
 window_stays : (d : Desc) (now : Around) (before es : List Entry) → NoneBegins d now before es → map (λ (b : Begun). b.entry) (each_from (issue_entry d now) before es) ≡ es
 window_stays d now before [] h = refl
 window_stays d now before (e ∷ es) h =
-    ap (λ e2. e2 ∷ map (λ (b : Begun). b.entry) (each_from (issue_entry d now) (e ∷ before) es)) (if_stays d now before e (is_granted d now (port_of e.item.kind) before e) h.0)
+    ap (λ e2. e2 ∷ map (λ (b : Begun). b.entry) (each_from (issue_entry d now) (e ∷ before) es)) (entry_stays d now before e h.0)
     ∙ ap (λ w. e ∷ w) (window_stays d now (e ∷ before) es h.1)
 
 -- ---- the load that is tried, and the division
 
 -- the first that may issue at a port of which there is one is granted it: it is what it begins as that has no event
-begun : (d : Desc) (now : Around) (before : List Entry) (e : Entry) (k : Kind) → e.item.kind ≡ k → may_at d now (port_of k) before e ≡ true → ports d (port_of k) ≡ 1 → asking d now (port_of k) before ≡ 0 → DoesNotBegin d now before e →
+begun : (d : Desc) (now : Around) (before : List Entry) (e : Entry) (k : Kind) → e.item.kind ≡ k → is_store k ≡ false → may_at d now (port_of k) before e ≡ true → ports d (port_of k) ≡ 1 → asking d now (port_of k) before ≡ 0 → DoesNotBegin d now before e →
     (begin_as k d now before e).events ≡ []
-begun d now before e k q m o a h =
+begun d now before e k q s m o a h =
     let g : is_granted d now (port_of k) before e ≡ true = both_true m (ap (nat_lt (asking d now (port_of k) before)) o ∙ ap (λ n. nat_lt n 1) a) in
     let own : is_granted d now (port_of e.item.kind) before e ≡ true = ap (λ k. is_granted d now (port_of k) before e) q ∙ g in
-    subst (λ k. (begin_as k d now before e).events ≡ []) q (subst (λ b. (if b then begin_as e.item.kind d now before e else waits e).events ≡ []) own h)
+    let whole : is_store e.item.kind ≡ false = ap is_store q ∙ s in
+    let piece : (issue_whole d now before e).events ≡ [] = subst (λ b. (if b then issue_parts d now before e else issue_whole d now before e).events ≡ []) whole h in
+    subst (λ k. (begin_as k d now before e).events ≡ []) q (subst (λ b. (if b then begin_as e.item.kind d now before e else waits e).events ≡ []) own piece)
 
 -- one that does not ask leaves the port
 none_more : (s : Bool) (n : ℕ) → s ≡ false → n ≡ 0 → one_if s + n ≡ 0
@@ -96,9 +121,9 @@ module _ (d : Desc) (x : Machine) where
   tried_waits : (b : Bool) (before : List Entry) (e : Entry) (es : List Entry) (o : Option Place) → may_at d now LoadPort before e ≡ b → asking d now LoadPort before ≡ 0 → DoesNotBegin d now before e →
       (b ≡ false → after_load d o x ≡ x) → after_load d (if b then Some (record { before = before; entry = e; younger = es }) else o) x ≡ x
   tried_waits true before e es o t a h more =
-      let k = at_load_port e.item.kind (both (may_issue d now before e) _ t).1 in
+      let k = (asks_load d now before e t).1 in
       let f = effect_of x.regs before e in
-      ap loaded (load_waits d now before e f (value_loaded x.ram before e f.addr) (begun d now before e Load k t refl a h))
+      ap loaded (load_waits d now before e f (value_loaded x.ram before e f.addr) (begun d now before e Load k refl t refl a h))
   tried_waits false before e es o t a h more = more refl
 
   load_waiting : (before es : List Entry) → asking d now LoadPort before ≡ 0 → NoneBegins d now before es → after_load d (first_from (may_at d now LoadPort) before es) x ≡ x
@@ -110,8 +135,8 @@ module _ (d : Desc) (x : Machine) where
   division_absent : (b : Bool) (before : List Entry) (e : Entry) (es : List Entry) (o : Option Place) → may_at d now DivPort before e ≡ b → asking d now DivPort before ≡ 0 → DoesNotBegin d now before e →
       (b ≡ false → o ≡ None) → (if b then Some (record { before = before; entry = e; younger = es }) else o) ≡ None
   division_absent true before e es o t a h more =
-      let k = at_division_port e.item.kind (both (may_issue d now before e) _ t).1 in
-      let none = begun d now before e Div k t refl a h in
+      let k = (asks_division d now before e t).1 in
+      let none = begun d now before e Div k refl t refl a h in
       absurd (cc)
   division_absent false before e es o t a h more = more refl
 

@@ -33,6 +33,8 @@ pub(crate) fn renamed(serial: u64, item: Item) -> Entry
         state,
         outcome: None,
         resolved: false,
+        addr_due: None,
+        data_due: None,
     }
 }
 

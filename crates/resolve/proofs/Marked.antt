@@ -73,7 +73,8 @@ sized_marked d x i e h s =
     let f = parts d x s in
     whole d (marked d i e x) (record {
       window = thinner d x.window _ (evolves_thins x.window _ (evolves_set x.window i e (resolved_one e) h (resolved_goes e))) f.window;
-      entries = each_set (IsEntry x.ram) x.window i e (resolved_one e) h (λ k. record { kind = k.kind; memory = k.memory; outcome = k.outcome }) f.entries;
+      entries = each_set (IsEntry d x.ram) x.window i e (resolved_one e) h
+          (λ k. record { kind = k.kind; memory = k.memory; outcome = k.outcome; parts = k.parts; together = k.together }) f.entries;
       queue = f.queue;
       predictor = learns_in d e.item.kind e x.counters x.targets f.predictor;
       cache = f.cache;

@@ -47,6 +47,8 @@ fn done(serial: u64, instr: Instr, kind: Kind, value: u32, addr: u32, stored: u3
             fault: None,
         }),
         resolved: false,
+        addr_due: None,
+        data_due: None,
     }
 }
 

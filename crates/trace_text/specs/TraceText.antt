@@ -4,7 +4,7 @@ use Rattle.rv_types.specs.declared.Ending.{Ending}
 use Rattle.line_text.specs.Digits.{hex8}
 use Rattle.line_text.specs.EndLine.{end_line}
 use Rattle.window_model.specs.declared.Event.{Event}
-use Rattle.window_model.specs.declared.Event.TheVariants.{Fill, Done, Res, Bp, Bt, Sq, Ret, St, Call, Alu, Mul, Div, Agu, Ld, LdForward, LdFault, Ren, Fet}
+use Rattle.window_model.specs.declared.Event.TheVariants.{Fill, Done, Res, Bp, Bt, Sq, Ret, St, Call, Alu, Mul, Div, Agu, Std, Ld, LdForward, LdFault, Ren, Fet}
 use Rattle.window_model.specs.declared.Way.{Way}
 use Rattle.window_model.specs.declared.Way.TheVariants.{Taken, NotTaken, Jump}
 use Rattle.window_model.specs.declared.Look.{Look}
@@ -52,6 +52,7 @@ event_text (Alu serial) = codes "alu" ++ and_number serial
 event_text (Mul serial) = codes "mul" ++ and_number serial
 event_text (Div serial time) = codes "div" ++ and_number serial ++ and_number time
 event_text (Agu serial) = codes "agu" ++ and_number serial
+event_text (Std serial) = codes "std" ++ and_number serial
 event_text (Ld serial line look) = codes "ld" ++ and_number serial ++ and_address line ++ look_text look
 event_text (LdForward serial) = codes "ld" ++ and_number serial ++ codes ":f"
 event_text (LdFault serial) = codes "ld" ++ and_number serial ++ codes ":x"

@@ -201,6 +201,7 @@ pub fn add_event(line: &mut Line, event: Event)
         Event::Mul(serial) => add_of(line, b" mul:", serial),
         Event::Div(serial, time) => add_of_count(line, b" div:", serial, time as u32),
         Event::Agu(serial) => add_of(line, b" agu:", serial),
+        Event::Std(serial) => add_of(line, b" std:", serial),
         Event::Ld(serial, addr, look) => add_of_at_text(
             line,
             b" ld:",

@@ -7,7 +7,7 @@ use window_model::{Event, Look, Way, empty_row};
 #[test]
 fn events(rt: HostRuntime) -> Result<(), Fail> {
     let alloc = rt.alloc();
-    let rows: [(Event, &[u8]); 22] = [
+    let rows: [(Event, &[u8]); 23] = [
         (Event::Fill(0x0001_fff0), b"7 fill:0001fff0\n"),
         (Event::Done(0), b"7 done:0\n"),
         (Event::Res(2, Way::Taken), b"7 res:2:T\n"),
@@ -30,6 +30,7 @@ fn events(rt: HostRuntime) -> Result<(), Fail> {
         (Event::Mul(1), b"7 mul:1\n"),
         (Event::Div(0, 35), b"7 div:0:35\n"),
         (Event::Agu(5), b"7 agu:5\n"),
+        (Event::Std(5), b"7 std:5\n"),
         (Event::Ld(6, 0x0001_fff0, Look::Hit), b"7 ld:6:0001fff0:h\n"),
         (
             Event::Ld(6, 0x0001_fff0, Look::Join),
@@ -57,14 +58,14 @@ fn the_longest_line(rt: HostRuntime) -> Result<(), Fail> {
     let mut row = empty_row();
     row.begin(4294967295);
     let mut want = b"4294967295".to_vec(alloc)?;
-    for _ in 0..128 {
-        if row.events().len() < 128 {
+    for _ in 0..256 {
+        if row.events().len() < 256 {
             row.push(Event::Call(u64::MAX, 4294967295));
         }
         want.extend_from_slice(b" call:18446744073709551615:4294967295")?;
     }
     want.push(b'\n')?;
-    let mut out = MemSink::new(alloc, 5000, Vec::new(alloc))?;
+    let mut out = MemSink::new(alloc, 10000, Vec::new(alloc))?;
     assert_eq!(rt; write_row(&row, &mut out), Ok(()));
     assert_eq!(rt; out.as_slice(), want.as_slice());
     Ok(())

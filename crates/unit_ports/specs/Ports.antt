@@ -2,7 +2,9 @@
 use Rattle.std.specs.Prelude.{ℕ, ◌-◌, None}
 use Rattle.machine_desc.specs.declared.Desc.{Desc}
 use Rattle.window_model.specs.declared.Divider.{Divider}
-use Rattle.window_model.specs.Issue.{Port, AluPort, MulPort, DivPort, AddressPort, LoadPort}
+use Rattle.rv_types.specs.declared.Kind.{Kind}
+use Rattle.rv_types.specs.declared.Kind.TheVariants.{Store}
+use Rattle.window_model.specs.Issue.{Port, AluPort, MulPort, DivPort, AddressPort, DataPort, LoadPort, port_of}
 
 -- how many arithmetic units there are, the cycle, how many ports of each kind are left in it, and the divider
 pub record Ports : Type 0 where
@@ -27,12 +29,18 @@ begun_at cycle p = record p { cycle = cycle; alu = p.alus; mul = 1; div = 1; sto
 abbrev pub opening : Desc → Ports
 opening d = record { alus = d.units_alus; cycle = 0; alu = d.units_alus; mul = 1; div = 1; store = 1; load = 1; divider = free_divider }
 
--- how many are left of a port
+-- the port that an entry of this kind asks for: a store for its address part's, since in version 1 its data part goes with it
+abbrev pub port_for : Kind → Port
+port_for Store = AddressPort
+port_for k = port_of k
+
+-- how many are left of a port: one count stands for both parts of a store
 abbrev pub left_at : Port → Ports → ℕ
 left_at AluPort p = p.alu
 left_at MulPort p = p.mul
 left_at DivPort p = p.div
 left_at AddressPort p = p.store
+left_at DataPort p = p.store
 left_at LoadPort p = p.load
 
 -- one fewer of a port, where one is left
@@ -41,4 +49,5 @@ taken_at AluPort p = record p { alu = p.alu - 1 }
 taken_at MulPort p = record p { mul = p.mul - 1 }
 taken_at DivPort p = record p { div = p.div - 1 }
 taken_at AddressPort p = record p { store = p.store - 1 }
+taken_at DataPort p = record p { store = p.store - 1 }
 taken_at LoadPort p = record p { load = p.load - 1 }

@@ -1,8 +1,7 @@
 //! The ports themselves.
 ghost use Rattle.std.specs.Prelude.{◌≡◌, ◌-◌, nat_lt, nat_le, Some};
-ghost use Rattle.window_model.specs.Issue.{port_of};
 ghost use Rattle.window_model.specs.Resolve.{freed_from};
-ghost use Rattle.unit_ports.specs.Ports.{begun_at, free_divider, left_at, opening, taken_at};
+ghost use Rattle.unit_ports.specs.Ports.{begun_at, free_divider, left_at, opening, port_for, taken_at};
 
 use machine_desc::Desc;
 use rv_types::Kind;
@@ -72,7 +71,7 @@ impl Ports {
 
     /// Whether a port is left for an entry of this kind.
     pub fn has(&self, kind: Kind) -> bool
-        ensures { result ≡ nat_lt 0 (left_at (port_of kind) self.now) }
+        ensures { result ≡ nat_lt 0 (left_at (port_for kind) self.now) }
     {
         match kind {
             Kind::Mul => self.mul > 0,
@@ -85,8 +84,8 @@ impl Ports {
 
     /// Takes a port for an entry of this kind. False exactly where none of that port is left, and nothing changes then.
     pub fn grant(&mut self, kind: Kind) -> bool
-        ensures granted { result ≡ nat_lt 0 (left_at (port_of kind) self.old) }
-        ensures left { self.new ≡ taken_at (port_of kind) self.old }
+        ensures granted { result ≡ nat_lt 0 (left_at (port_for kind) self.old) }
+        ensures left { self.new ≡ taken_at (port_for kind) self.old }
     {
         match kind {
             Kind::Mul => take_one(&mut self.mul),

@@ -49,6 +49,8 @@ fn entry(serial: u64, instr: Instr, state: Progress, fault: Option<Cause>, resol
         state,
         outcome: Some(outcome),
         resolved,
+        addr_due: None,
+        data_due: None,
     }
 }
 

@@ -1,5 +1,5 @@
--- What Issue makes of an entry: it remains, or it begins; and what a load's access comes to.
-use Rattle.std.proofs.Common.{◌≡◌, ℕ, ◌+◌, ◌<◌, ◌≤◌, Bool, true, false, not, ◌&&◌, List, [], ◌∷◌, length, Option, Some, None, refl, sym, subst, arith}
+-- What Issue makes of an entry: it remains, or it begins, or a store's parts go; and what a load's access comes to.
+use Rattle.std.proofs.Common.{◌≡◌, ℕ, ◌+◌, ◌<◌, ◌≤◌, Bool, true, false, not, ◌&&◌, List, [], ◌∷◌, length, Option, Some, None, refl, sym, subst, ◌∙◌, arith}
 use Rattle.std.proofs.lemmas.Bool.Decides.{nat_tests}
 use Rattle.std.specs.List.{find}
 use Rattle.std.specs.Prelude.{if◌then◌else◌, nat_le, nat_lt, ◌==◌, map}
@@ -10,17 +10,19 @@ use Rattle.rv_types.specs.declared.Kind.{Kind}
 use Rattle.rv_types.specs.declared.Kind.TheVariants.{Load, Div}
 use Rattle.machine_desc.specs.declared.Desc.{Desc}
 use Rattle.window_model.specs.declared.Entry.{Entry}
+use Rattle.window_model.specs.declared.Event.TheVariants as event
+use Rattle.window_model.specs.declared.Progress.{Progress}
 use Rattle.window_model.specs.declared.Outcome.{Outcome}
 use Rattle.window_model.specs.declared.Miss.{Miss}
 use Rattle.window_model.specs.Around.{Around}
 use Rattle.window_model.specs.Retire.{has_line, width_of}
-use Rattle.window_model.specs.Order.{Place, each_from, is_waiting, is_load, ready}
+use Rattle.window_model.specs.Order.{Place, each_from, is_waiting, is_load, is_store, has_address, has_data, is_known, all_known, ready, sources, base_of, others_of}
 use Rattle.window_model.specs.State.{Machine, line_of}
 use Rattle.window_model.specs.Taint.{any_tainted, address_tainted}
 use Rattle.window_model.specs.Access.{Access, Faults, Forwards, Looks, Waits, Line, Hits, Joins, Takes, access_at, look_up, joined, taken_lines, unless_lacking, all_covered, any_store_hidden}
-use Rattle.window_model.specs.Issue.{Begun, Port, AluPort, DivPort, LoadPort, issue_entry, may_issue, may_issue_as, stores_done, begin_as, begun, load_as, access_of, effect_of, waits, is_division, asking, may_at, port_of, same_port, ports, after_load}
+use Rattle.window_model.specs.Issue.{Begun, Port, AluPort, AddressPort, DataPort, DivPort, LoadPort, issue_entry, issue_parts, issue_whole, may_issue, may_issue_as, goes_behind, is_whole, ready_part, part_may, begin_as, begun, busy_until_both, if_granted, data_events, with_address, with_data, load_as, access_of, effect_of, waits, is_division, is_granted, may_at, port_of, same_port, after_load}
 use Rattle.window_model.proofs.Booleans.{both, not_true}
-use Rattle.window_model.proofs.Counts.{Goes, goes_same, Evolves}
+use Rattle.window_model.proofs.Counts.{Goes, goes_same, goes_then, Evolves}
 
 -- ---- who may issue
 
@@ -39,7 +41,8 @@ pub load_clean : (k : Kind) (d : Desc) (now : Around) (b : List Entry) (e : Entr
 load_clean Load d now b e h l = not_true _ (both _ _ h).0
 load_clean _ d now b e h l = absurd (cc)
 
-pub load_behind : (k : Kind) (d : Desc) (now : Around) (b : List Entry) (e : Entry) → may_issue_as k d now b e ≡ true → is_load k ≡ true → stores_done b ≡ true
+-- what a load asks of the older stores
+pub load_behind : (k : Kind) (d : Desc) (now : Around) (b : List Entry) (e : Entry) → may_issue_as k d now b e ≡ true → is_load k ≡ true → goes_behind d now b e ≡ true
 load_behind Load d now b e h l = (both _ _ h).1
 load_behind _ d now b e h l = absurd (cc)
 
@@ -62,15 +65,66 @@ pub at_division_port : (k : Kind) → same_port (port_of k) DivPort ≡ true →
 at_division_port Div h = refl
 at_division_port _ h = absurd (cc)
 
--- an entry may issue at its own port where it may issue
-pub may_own : (d : Desc) (now : Around) (b : List Entry) (e : Entry) → may_at d now (port_of e.item.kind) b e ≡ may_issue d now b e
-may_own d now b e = own (may_issue d now b e) _ (same_self (port_of e.item.kind))
+-- an entry in one piece may issue at its own port where it may issue
+pub may_own : (d : Desc) (now : Around) (b : List Entry) (e : Entry) → is_store e.item.kind ≡ false → may_at d now (port_of e.item.kind) b e ≡ may_issue d now b e
+may_own d now b e q = own (is_store e.item.kind) _ (may_issue d now b e) _ q (same_self (port_of e.item.kind))
   where
-    own : (m s : Bool) → s ≡ true → (m && s) ≡ m
-    own true s h = h
-    own false s h = refl
+    own : (s p m q : Bool) → s ≡ false → q ≡ true → (if s then p else m && q) ≡ m
+    own false p true q z h = h
+    own false p false q z h = refl
+    own true p m q z h = absurd (cc)
+
+-- what asks for the loads' port or the divider's is in one piece, may issue, and has that port
+pub record AsksWhole (d : Desc) (now : Around) (port : Port) (b : List Entry) (e : Entry) : Type 0 where
+  pub may : may_issue d now b e ≡ true
+  pub own : same_port (port_of e.item.kind) port ≡ true
+
+asks_whole : (d : Desc) (now : Around) (port : Port) (b : List Entry) (e : Entry) → part_may port d b e ≡ false → may_at d now port b e ≡ true → AsksWhole d now port b e
+asks_whole d now port b e n h = by_kind (is_store e.item.kind) _ n h
+  where
+    by_kind : (s p : Bool) → p ≡ false → (if s then p else may_issue d now b e && same_port (port_of e.item.kind) port) ≡ true → AsksWhole d now port b e
+    by_kind false p z h = let q = both (may_issue d now b e) _ h in record { may = q.0; own = q.1 }
+    by_kind true p z h = absurd (cc)
+
+-- an entry that asks for the loads' port is a load that may issue
+pub asks_load : (d : Desc) (now : Around) (b : List Entry) (e : Entry) → may_at d now LoadPort b e ≡ true → (may_issue d now b e ≡ true) × (e.item.kind ≡ Load)
+asks_load d now b e h = let a = asks_whole d now LoadPort b e refl h in (a.may, at_load_port e.item.kind a.own)
+
+-- an entry that asks for the divider is a division that may issue
+pub asks_division : (d : Desc) (now : Around) (b : List Entry) (e : Entry) → may_at d now DivPort b e ≡ true → (may_issue d now b e ≡ true) × (e.item.kind ≡ Div)
+asks_division d now b e h = let a = asks_whole d now DivPort b e refl h in (a.may, at_division_port e.item.kind a.own)
+
+-- ---- a store's parts
+
+-- a store's part that may go: it hasn't, and its own source is there
+pub record MayGo (has : Bool) (own : List ℕ) (b : List Entry) : Type 0 where
+  pub fresh : has ≡ false
+  pub known : all_known b own ≡ true
+
+known_base : (b : List Entry) (rs : List ℕ) → all_known b rs ≡ true → all_known b (base_of rs) ≡ true
+known_base b [] h = refl
+known_base b (r ∷ rs) h = let q = (both (is_known b r) (all_known b rs) h).0 in rw q refl
+
+known_others : (b : List Entry) (rs : List ℕ) → all_known b rs ≡ true → all_known b (others_of rs) ≡ true
+known_others b [] h = refl
+known_others b (r ∷ rs) h = (both (is_known b r) (all_known b rs) h).1
+
+own_ready : (v : Bool) (own : List ℕ) (b : List Entry) (e : Entry) → (ready b e ≡ true → all_known b own ≡ true) → (if v then ready b e && is_whole e else all_known b own) ≡ true → all_known b own ≡ true
+own_ready true own b e f h = f (both (ready b e) _ h).0
+own_ready false own b e f h = h
+
+go_of : (has : Bool) (d : Desc) (own : List ℕ) (b : List Entry) (e : Entry) → (ready b e ≡ true → all_known b own ≡ true) → (not has && ready_part d own b e) ≡ true → MayGo has own b
+go_of has d own b e f h =
+    let p = both (not has) _ h in record { fresh = not_true has p.0; known = own_ready (d.version == 1) own b e f p.1 }
 
 -- ---- what becomes of it
+
+-- the parts that go
+abbrev pub gone_parts : Around → List Entry → Bool → Bool → Entry → Entry
+gone_parts now b address data_ e =
+    let f = effect_of now.regs b e in
+    let a = (if address then with_address now f e else e) in
+    if data_ then with_data now f a else a
 
 -- an entry remains as it is, or begins
 pub data Comes (e r : Entry) : Type 0 where
@@ -87,16 +141,42 @@ pub begin_comes : (k : Kind) (d : Desc) (now : Around) (b : List Entry) (e : Ent
 begin_comes Load d now b e = load_comes (access_of d now b e) d now e _ _
 begin_comes _ d now b e = Begins _ _ refl
 
--- what holds of an entry that remains and of one that begins holds of what Issue makes of it
-pub by_issue : (d : Desc) (now : Around) (b : List Entry) (e : Entry) (P : Entry → Type 0) → P e → (MayIssue d now b e → P (begin_as e.item.kind d now b e).entry) → P (issue_entry d now b e).entry
-by_issue d now b e P remains begins =
-    by_may (may_issue d now b e) (same_port (port_of e.item.kind) (port_of e.item.kind)) (nat_lt (asking d now (port_of e.item.kind) b) (ports d (port_of e.item.kind))) refl
-  where
-    by_may : (m s g : Bool) → may_issue d now b e ≡ m → P (if (m && s) && g then begin_as e.item.kind d now b e else waits e).entry
-    by_may true true true q = begins (may_parts d now b e q)
-    by_may true true false q = remains
-    by_may true false g q = remains
-    by_may false s g q = remains
+-- what holds of an entry that remains, of one that begins and of a store whose parts go holds of what Issue makes of it
+module _ (d : Desc) (now : Around) (b : List Entry) (e : Entry) (P : Entry → Type 0) (remains : P e)
+    (begins : is_store e.item.kind ≡ false → MayIssue d now b e → P (begin_as e.item.kind d now b e).entry)
+    (parts : is_store e.item.kind ≡ true → (a c : Bool) → (a ≡ true → MayGo (has_address e) (base_of (sources e)) b) → (c ≡ true → MayGo (has_data e) (others_of (sources e)) b) → P (gone_parts now b a c e)) where
+  granted_if : (a c : Bool) → P (gone_parts now b a c e) → P (if_granted c (with_data now (effect_of now.regs b e)) (data_events d e) (if_granted a (with_address now (effect_of now.regs b e)) (event.Agu e.serial ∷ []) e).entry).entry
+  granted_if true true h = h
+  granted_if true false h = h
+  granted_if false true h = h
+  granted_if false false h = h
+
+  by_store : is_store e.item.kind ≡ true → P (issue_parts d now b e).entry
+  by_store s =
+      granted_if (is_granted d now AddressPort b e) (is_granted d now DataPort b e)
+      (parts s _ _
+      (λ g. go_of (has_address e) d (base_of (sources e)) b e (known_base b (sources e)) (may_go (is_store e.item.kind) s _ _ (both (may_at d now AddressPort b e) _ g).0))
+      (λ g. go_of (has_data e) d (others_of (sources e)) b e (known_others b (sources e)) (may_go (is_store e.item.kind) s _ _ (both (may_at d now DataPort b e) _ g).0)))
+    where
+      may_go : (s : Bool) → s ≡ true → (p m : Bool) → (if s then p else m) ≡ true → p ≡ true
+      may_go true q p m h = h
+      may_go false q p m h = absurd (cc)
+
+  by_whole : is_store e.item.kind ≡ false → P (issue_whole d now b e).entry
+  by_whole s = by_grant (is_granted d now (port_of e.item.kind) b e) refl
+    where
+      by_grant : (g : Bool) → is_granted d now (port_of e.item.kind) b e ≡ g → P (if g then begin_as e.item.kind d now b e else waits e).entry
+      by_grant true q = begins s (may_parts d now b e (sym (may_own d now b e s) ∙ (both (may_at d now (port_of e.item.kind) b e) _ q).0))
+      by_grant false q = remains
+
+  pub by_issue : P (issue_entry d now b e).entry
+  by_issue = by_kind (is_store e.item.kind) refl
+    where
+      by_kind : (s : Bool) → is_store e.item.kind ≡ s → P (if s then issue_parts d now b e else issue_whole d now b e).entry
+      by_kind true q = by_store q
+      by_kind false q = by_whole q
+
+-- ---- it goes on
 
 comes_goes : (e r : Entry) → Comes e r → Goes e r
 comes_goes e r (Remains q) = subst (Goes e) (sym q) (goes_same e)
@@ -105,8 +185,27 @@ comes_goes e r (Begins due o q) = subst (Goes e) (sym q) (record { item = refl; 
 pub begin_goes : (k : Kind) (d : Desc) (now : Around) (b : List Entry) (e : Entry) → Goes e (begin_as k d now b e).entry
 begin_goes k d now b e = comes_goes e _ (begin_comes k d now b e)
 
+-- a store's part goes: it keeps its item and serial, and doesn't wait again
+both_goes : (a c : Option ℕ) (s : Progress) → is_waiting (busy_until_both a c s) ≡ true → is_waiting s ≡ true
+both_goes (Some a) (Some c) s h = absurd (cc)
+both_goes (Some a) None s h = h
+both_goes None c s h = h
+
+pub address_goes : (now : Around) (f : Effect) (e : Entry) → Goes e (with_address now f e)
+address_goes now f e = record { item = refl; serial = refl; waits = both_goes (Some (now.cycle + 1)) e.data_due e.state }
+
+pub data_goes : (now : Around) (f : Effect) (e : Entry) → Goes e (with_data now f e)
+data_goes now f e = record { item = refl; serial = refl; waits = both_goes e.addr_due (Some (now.cycle + 1)) e.state }
+
+pub parts_go : (now : Around) (b : List Entry) (e : Entry) (a c : Bool) → Goes e (gone_parts now b a c e)
+parts_go now b e true true =
+    let f = effect_of now.regs b e in goes_then e (with_address now f e) _ (address_goes now f e) (data_goes now f (with_address now f e))
+parts_go now b e true false = address_goes now (effect_of now.regs b e) e
+parts_go now b e false true = data_goes now (effect_of now.regs b e) e
+parts_go now b e false false = goes_same e
+
 pub issue_goes : (d : Desc) (now : Around) (b : List Entry) (e : Entry) → Goes e (issue_entry d now b e).entry
-issue_goes d now b e = by_issue d now b e (Goes e) (goes_same e) (λ m. begin_goes e.item.kind d now b e)
+issue_goes d now b e = by_issue d now b e (Goes e) (goes_same e) (λ s m. begin_goes e.item.kind d now b e) (λ s a c g h. parts_go now b e a c)
 
 pub issue_evolves : (d : Desc) (now : Around) (b es : List Entry) → Evolves es (map (λ (t : Begun). t.entry) (each_from (issue_entry d now) b es))
 issue_evolves d now b [] = tt

@@ -18,3 +18,4 @@ pub mod Placing
 pub mod Leaving
 pub mod Walks
 pub mod Quiet
+pub mod Together

@@ -14,19 +14,18 @@ use Rattle.window_model.specs.declared.Outcome.{Outcome}
 use Rattle.machine_desc.specs.declared.SttModel.{SttModel}
 use Rattle.window_model.specs.State.{Miss, lines_of}
 use Rattle.window_model.specs.Around.{Around}
-use Rattle.window_model.specs.Order.{is_store}
+use Rattle.window_model.specs.Order.{is_store, has_address}
 use Rattle.window_model.specs.Taint.{address_tainted}
 use Rattle.window_model.specs.Retire.{has_line, touched, addr_of, stored_of, width_of}
 
--- an access of n bytes with this outcome reaches the byte at an address: it has no fault, and the byte is one of its own.
--- Where there is no outcome yet there is no address, and it reaches none
+-- an access of n bytes with this outcome reaches the byte at an address: it has no fault, and the byte is one of its own
 abbrev pub reaches : ℕ → ℕ → Option Outcome → Bool
 reaches a n None = false
 reaches a n (Some o) = not (is_some o.fault) && nat_le o.addr a && nat_lt a (o.addr + n)
 
--- the entry is a store that writes the byte at this address
+-- the entry is a store that writes the byte at this address: none where its address isn't known yet
 abbrev pub covers : ℕ → Entry → Bool
-covers a e = is_store e.item.kind && reaches a (width_of e) e.outcome
+covers a e = is_store e.item.kind && has_address e && reaches a (width_of e) e.outcome
 
 -- the byte that a store writes at an address that it covers
 abbrev pub byte_from : ℕ → Entry → ℕ

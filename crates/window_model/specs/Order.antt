@@ -62,6 +62,14 @@ abbrev pub is_store : Kind → Bool
 is_store Store = true
 is_store _ = false
 
+-- a store's address part has issued: it is known in the next cycle, in which nothing asks before
+abbrev pub has_address : Entry → Bool
+has_address e = is_some e.addr_due
+
+-- a store's data part has issued
+abbrev pub has_data : Entry → Bool
+has_data e = is_some e.data_due
+
 -- a branch or JALR: what can be wrongly predicted
 abbrev pub is_control : Kind → Bool
 is_control Branch = true
@@ -85,6 +93,16 @@ is_faulty e = is_some (fault_of e.outcome)
 -- the registers that an entry reads
 abbrev pub sources : Entry → List ℕ
 sources e = reads_of e.item.instr
+
+-- the base register: the first source
+abbrev pub base_of : List ℕ → List ℕ
+base_of [] = []
+base_of (r ∷ rs) = r ∷ []
+
+-- the sources but the first: the register that a store writes
+abbrev pub others_of : List ℕ → List ℕ
+others_of [] = []
+others_of (r ∷ rs) = rs
 
 -- this is the register
 abbrev pub is_register : ℕ → Option ℕ → Bool
@@ -115,6 +133,10 @@ abbrev pub is_known : List Entry → ℕ → Bool
 is_known [] r = true
 is_known (e ∷ before) r = if writes r e then is_done e.state else is_known before r
 
--- the writer of each source has its value, or there is none
+-- the writer of each of these registers has its value, or there is none
+abbrev pub all_known : List Entry → List ℕ → Bool
+all_known before rs = list_all (is_known before) rs
+
+-- so it is with each source
 abbrev pub ready : List Entry → Entry → Bool
-ready before e = list_all (is_known before) (sources e)
+ready before e = all_known before (sources e)

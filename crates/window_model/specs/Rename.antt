@@ -52,7 +52,15 @@ fits d window item =
 -- the item as an entry
 abbrev pub renamed : ℕ → Item → Entry
 renamed serial item =
-    record { serial = serial; item = item; state = if at_once item.kind then Done else Waiting; outcome = None; resolved = false }
+    record {
+      serial = serial;
+      item = item;
+      state = if at_once item.kind then Done else Waiting;
+      outcome = None;
+      resolved = false;
+      addr_due = None;
+      data_due = None;
+    }
 
 -- the item goes behind the youngest entry, with the next serial
 abbrev pub rename_one : Desc → Item → List Item → Machine → After

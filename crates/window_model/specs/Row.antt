@@ -9,7 +9,7 @@ pub record Row : Type 0 where
 
 -- for how many events a row has room
 abbrev pub row_room : ℕ
-row_room = 128
+row_room = 256
 
 -- the row has room for so many events more
 abbrev pub HasRoom : ℕ → Row → Type 0
@@ -25,9 +25,9 @@ IsLonger n old new = length new.events ≤ length old.events + n
 
 -- ---- the most events of each phase, under every description
 
--- the most entries that are in flight: core.rob is at most this
+-- the most entries that are in flight, in either version: core.rob is at most this
 abbrev pub most_entries : ℕ
-most_entries = 64
+most_entries = 192
 
 -- of Fill: as many as there are miss registers
 abbrev pub most_filled : ℕ
@@ -45,9 +45,9 @@ most_resolved = 3
 abbrev pub most_retired : ℕ
 most_retired = 8
 
--- of Issue: four arithmetic ones, a multiplication, a division, a store and a load
+-- of Issue: four arithmetic ones, a multiplication, a division, a load, and a store's address and data
 abbrev pub most_issued : ℕ
-most_issued = 8
+most_issued = 9
 
 -- of Rename, and of Fetch: as many as are fetched in a cycle
 abbrev pub most_fetched : ℕ

@@ -7,7 +7,7 @@ use Rattle.rv_types.specs.declared.Kind.TheVariants.{Load, Store, Branch, Jalr, 
 use Rattle.window_model.specs.declared.Entry.{Entry}
 use Rattle.machine_desc.specs.declared.SttModel.{SttModel}
 use Rattle.machine_desc.specs.declared.SttModel.TheVariants.{Spectre, Futuristic}
-use Rattle.window_model.specs.Order.{is_done, is_load, is_faulty, writes, sources}
+use Rattle.window_model.specs.Order.{is_done, is_load, is_faulty, writes, sources, base_of}
 
 -- nothing squashes what comes after it
 abbrev pub safe_as : Kind → Entry → Bool
@@ -61,11 +61,6 @@ tainted model before r = list_any (λ j. not (visible model (oldest j before))) 
 -- an operand of the entry is tainted
 abbrev pub any_tainted : SttModel → List Entry → Entry → Bool
 any_tainted model before e = list_any (tainted model before) (sources e)
-
--- the base register: the first source
-abbrev pub base_of : List ℕ → List ℕ
-base_of [] = []
-base_of (r ∷ rs) = r ∷ []
 
 -- the base register of a load or store is tainted
 abbrev pub address_tainted : SttModel → List Entry → Entry → Bool

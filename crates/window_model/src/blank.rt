@@ -31,6 +31,8 @@ impl Default for Entry {
           state = state.Done;
           outcome = None;
           resolved = false;
+          addr_due = None;
+          data_due = None;
         } }
     {
         Entry {
@@ -39,6 +41,8 @@ impl Default for Entry {
             state: Progress::Done,
             outcome: None,
             resolved: false,
+            addr_due: None,
+            data_due: None,
         }
     }
 }

@@ -69,10 +69,14 @@ pub struct Entry {
     pub item: Item,
     /// How far it is.
     pub state: Progress,
-    /// What it comes to: there from the cycle in which it issues.
+    /// What it comes to: there from the cycle in which it issues, of a store from the first of its two parts.
     pub outcome: Option<Outcome>,
     /// A branch or JALR that has taken effect.
     pub resolved: bool,
+    /// The cycle from which on a store's address is known: there once its address part has issued.
+    pub addr_due: Option<u64>,
+    /// The cycle from which on a store's data is known: there once its data part has issued.
+    pub data_due: Option<u64>,
 }
 
 /// How a branch or JALR went.
@@ -124,8 +128,10 @@ pub enum Event {
     Mul(u64),
     /// An entry issued to the divider, for so many cycles.
     Div(u64, u8),
-    /// A store issued: its address is computed.
+    /// A store's address part issued, in version 1 both parts.
     Agu(u64),
+    /// A store's data part issued.
+    Std(u64),
     /// A load issued; its line, and what it found.
     Ld(u64, u32, Look),
     /// A load issued whose bytes all come from older stores.

@@ -6,9 +6,9 @@ use arrayvec::ArrayVec;
 use std::marker::Model;
 
 /// The most events of one cycle.
-pub const ROW_MAX: usize = 128;
+pub const ROW_MAX: usize = 256;
 
-/// What happened in a cycle, at most 128 events. It takes no memory.
+/// What happened in a cycle, at most 256 events. It takes no memory.
 #[derive(Drop)]
 pub struct Row {
     cycle: u32,

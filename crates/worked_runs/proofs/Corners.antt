@@ -32,7 +32,15 @@ item_of w = record { pc = 0x10000; instr = decode w; kind = kind_of (decode w); 
 
 -- an entry that waits
 abbrev waiting : ℕ → ℕ → Entry
-waiting serial w = record { serial = serial; item = item_of w; state = Waiting; outcome = None; resolved = false }
+waiting serial w = record {
+  serial = serial;
+  item = item_of w;
+  state = Waiting;
+  outcome = None;
+  resolved = false;
+  addr_due = None;
+  data_due = None;
+}
 
 -- an entry that is done, with an address and a fault
 abbrev done_at : ℕ → ℕ → ℕ → Option Cause → Entry
@@ -42,6 +50,8 @@ done_at serial w a fault = record {
   state = Done;
   outcome = Some (record { value = 1; next = 0x10004; addr = a; stored = 0; fault = fault });
   resolved = false;
+  addr_due = Some 1;
+  data_due = Some 1;
 }
 
 -- bgeu x0,x5,+16, not resolved

@@ -7,7 +7,7 @@ use Rattle.core_cycle.proofs.Retiring.{each_takes, retire_whole, retire_shown, r
 use Rattle.core_cycle.proofs.phases.retire.Goals as goal
 
 pub retire-parts-inside-requires-clause-stores_fit : goal.retire-parts-inside-requires-clause-stores_fit
-retire-parts-inside-requires-clause-stores_fit g c = each_takes _ _ c.parts.invariant.sized.memory c.parts.invariant.sized.outcomes
+retire-parts-inside-requires-clause-stores_fit g c = each_takes _ _ c.parts.invariant.sized.memory c.parts.invariant.sized.outcomes c.parts.invariant.sized.parts
 
 pub retire-parts-inside-requires-clause-sets : goal.retire-parts-inside-requires-clause-sets
 retire-parts-inside-requires-clause-sets g c = ap (λ (s : Sizes). s.tags.cache_sets) c.parts.invariant.made

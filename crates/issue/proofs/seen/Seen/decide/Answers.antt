@@ -34,10 +34,10 @@ loop-station-preserved-then-not-ready c =
     let w = waits_at (parts_of stands.next stands.writes s) stands.parts c.loop-station.station (omega (arith, len, in_range)) in
     let at = w.1 in
     let is = ready_is s w.0 at.entry stands at.is c.loop-station.station c.ready.result at.waits (sym at.station) c.ready.ensures in
-    let none = not_ready s w.0 at.entry at.is at.waits (sym is ∙ c.if-not-ready.true) in
+    let none = not_ready s w.0 at.entry stands at.is at.waits (sym is ∙ c.if-not-ready.true) in
     record {
-      walked = goes_on _ _ (window_of s) c.loop-station.station w.0 at.entry (keeps s c.loop-station.ports _ _ _ _ _) t.walked at.is at.waits at.station
-          (walked_past s c.loop-station.ports _ _ _ _ _ w.0 at.entry at.is none);
+      walked = goes_on _ _ (window_of s) c.loop-station.station w.0 at.entry (keeps s c.loop-station.ports _ _ _ _ _ c.requires.stands) t.walked at.is at.waits at.station
+          (walked_past s c.loop-station.ports _ _ _ _ _ stands w.0 at.entry at.is none);
       only = t.only;
       few = t.few;
       room = t.room;
@@ -53,7 +53,7 @@ decide_entry-requires-clause-left c =
     let p = c.place_at-place.result in
     let turn = c.place_at-place.ensures.turn in
     let at = sym turn.station ∙ c.place_at-place.ensures.station in
-    (at_next _ (window_of s) c.loop-station.station p.position p.entry.now (keeps s c.loop-station.ports _ _ _ _ _) c.loop-station.invariant.walked turn.at turn.waits at).left
+    (at_next _ (window_of s) c.loop-station.station p.position p.entry.now (keeps s c.loop-station.ports _ _ _ _ _ c.requires.stands) c.loop-station.invariant.walked turn.at turn.waits at).left
 
 pub loop-station-preserved : goal.loop-station-preserved
 loop-station-preserved c =
@@ -72,10 +72,10 @@ loop-station-preserved c =
     let few = t.few in
     let room = t.room in
     record {
-      walked = goes_on _ _ (window_of s) c.loop-station.station i e (keeps s c.loop-station.ports _ _ _ _ _) t.walked turn.at turn.waits at (λ walked. record {
-        decided = decided_more s i e turn.at p.station _ _ _ _ _ _ _ _ _ _ turn.station c.decide_entry.ensures.puts events c.decide_entry.ensures.load
+      walked = goes_on _ _ (window_of s) c.loop-station.station i e (keeps s c.loop-station.ports _ _ _ _ _ c.requires.stands) t.walked turn.at turn.waits at (λ walked. record {
+        decided = decided_more s i e c.requires.stands turn.at p.station _ _ _ _ _ _ _ _ _ _ turn.station c.decide_entry.ensures.puts events c.decide_entry.ensures.load
             c.decide_entry.ensures.divider walked.decided;
-        left = left_on s i e turn.at _ c.decide_entry.ensures.left;
+        left = left_on s i e c.requires.stands turn.at _ c.decide_entry.ensures.left;
       });
       only = only_both _ _ _ t.only c.decide_entry.ensures.only;
       few = omega (arith, puts, fewer, few);
@@ -93,7 +93,7 @@ returns c =
     let up_to : c.loop-station.station ≤ c.len-station-end.result = c.loop-station.auto.station-end in
     let room = t.room in
     let many = all_wait (parts_of stands.next stands.writes s) stands.parts in
-    let walked = at_end _ (window_of s) c.loop-station.station (keeps s c.loop-station.ports _ _ _ _ _) t.walked (omega (arith, many, len, end, up_to)) in
+    let walked = at_end _ (window_of s) c.loop-station.station (keeps s c.loop-station.ports _ _ _ _ _ c.requires.stands) t.walked (omega (arith, many, len, end, up_to)) in
     let all = decided_all s (length (window_of s)) c.loop-station.decided _ _ _ _ (omega arith) walked.decided in
     record {
       decides = all.decides;

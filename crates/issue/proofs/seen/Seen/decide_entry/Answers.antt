@@ -1,11 +1,13 @@
 use Rattle.std.proofs.Common.{◌≡◌, ◌∙◌, ◌++◌, length, ap, refl, sym, arith, false, true, append-nil}
 use Rattle.std.specs.Option.{option_map}
 use Rattle.rv_types.specs.Value.{one_if}
-use Rattle.window_model.specs.Issue.{is_granted, port_of}
+use Rattle.window_model.specs.Issue.{is_granted}
 use Rattle.window_model.specs.Row.{with_events}
 use Rattle.issue.specs.Accesses.{as_access}
 use Rattle.issue.specs.State.{around_of, before_of}
 use Rattle.issue.specs.Turns.{after_of, divider_by, load_by, puts_by, puts_of}
+use Rattle.unit_ports.specs.Ports.{port_for}
+use Rattle.issue.proofs.Asking.{in_step}
 use Rattle.issue.proofs.Choosing.{division_where, granted_done, load_where, the_other}
 use Rattle.issue.proofs.Noting.{same_row}
 use Rattle.issue.proofs.Testing.{left_refused, served, some_left}
@@ -20,7 +22,8 @@ returns-then-not-is_served c =
     let now = around_of s in
     let before = before_of s p in
     let e = p.entry.now in
-    let refused : is_granted d now (port_of e.item.kind) before e ≡ false = sym c.is_served.ensures ∙ c.if-not-is_served.true in
+    let refused : is_granted d now (port_for e.item.kind) before e ≡ false = sym c.is_served.ensures ∙ c.if-not-is_served.true in
+    let step = in_step s p.position e c.requires.turn.stands c.requires.turn.at in
     let stays = turn_is false d now before e refused in
     let none = ap (λ b. length b.events) stays in
     record {
@@ -28,7 +31,7 @@ returns-then-not-is_served c =
       row = sym (ap (λ b. with_events c.args.row.now b.events) stays ∙ same_row c.args.row.now);
       load = the_other _ _ _ (load_where d now before e false refused);
       divider = the_other _ _ _ (division_where d now before e false refused);
-      left = left_refused d now before e _ c.requires.left refused;
+      left = left_refused d now before e _ step c.requires.left refused;
       fewer = omega (arith, none);
       only = record { alus = refl; cycle = refl };
     }
@@ -37,17 +40,17 @@ pub begin-after-requires-clause-done : goal.begin-after-requires-clause-done
 begin-after-requires-clause-done c =
     let s = c.args.self.now in
     let p = c.args.place.now in
-    granted_done s.desc.now (around_of s) (before_of s p) p.entry.now (sym c.is_served.ensures ∙ c.if-not-is_served.false)
+    granted_done s.desc.now (around_of s) (before_of s p) p.entry.now (in_step s p.position p.entry.now c.requires.turn.stands c.requires.turn.at) (sym c.is_served.ensures ∙ c.if-not-is_served.false)
 
 pub begin-after-requires-clause-room : goal.begin-after-requires-clause-room
 begin-after-requires-clause-room c =
-    let some = some_left _ _ _ c.args.place.now.entry.now _ c.requires.left (sym c.is_served.ensures ∙ c.if-not-is_served.false) in
+    let some = some_left _ _ _ c.args.place.now.entry.now _ (in_step c.args.self.now c.args.place.now.position c.args.place.now.entry.now c.requires.turn.stands c.requires.turn.at) c.requires.left (sym c.is_served.ensures ∙ c.if-not-is_served.false) in
     let room = c.requires.room in
     omega (arith, some, room)
 
 pub note-requires : goal.note-requires
 note-requires c =
-    let some = some_left _ _ _ c.args.place.now.entry.now _ c.requires.left (sym c.is_served.ensures ∙ c.if-not-is_served.false) in
+    let some = some_left _ _ _ c.args.place.now.entry.now _ (in_step c.args.self.now c.args.place.now.position c.args.place.now.entry.now c.requires.turn.stands c.requires.turn.at) c.requires.left (sym c.is_served.ensures ∙ c.if-not-is_served.false) in
     let few = c.requires.few in
     omega (arith, some, few)
 
@@ -59,10 +62,11 @@ returns c =
     let now = around_of s in
     let before = before_of s p in
     let e = p.entry.now in
-    let granted : is_granted d now (port_of e.item.kind) before e ≡ true = sym c.is_served.ensures ∙ c.if-not-is_served.false in
+    let granted : is_granted d now (port_for e.item.kind) before e ≡ true = sym c.is_served.ensures ∙ c.if-not-is_served.false in
+    let step = in_step s p.position e c.requires.turn.stands c.requires.turn.at in
     let begins = turn_is true d now before e granted in
     let comes = c.begin-after.ensures.comes in
-    let left = served d now before e _ c.requires.left granted _ _ _ c.begin-after.ensures.divider c.grant.ensures.left in
+    let left = served d now before e _ step c.requires.left granted _ _ _ c.begin-after.ensures.divider c.grant.ensures.left in
     let few = few_events _ e _ (turn_acts d now before e) in
     let one = ap one_if granted in
     let fewer = left.fewer in
