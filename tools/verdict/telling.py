@@ -3,12 +3,12 @@ showed them.
 
 What may show an operand is a load's access, a division's time, where a branch or JALR goes, the line that a store writes, and
 whether a load gets its bytes from a store. Where the operand is tainted the instruction waits; and a load behind a store of a tainted
-address goes to the cache whether the store covers it or not (docs/machine.md). An equal pair of traces is telling where something was
-held on an operand made of the differing bytes, and by taint alone; else it is vacuous."""
+address goes to the cache whether the store covers it or not, or waits as long as the store has no data (docs/machine.md). An equal pair
+of traces is telling where something was held on an operand made of the differing bytes, and by taint alone; else it is vacuous."""
 from typing import NamedTuple
 
 from view.instruction import BRANCH, CALL, DIVISION, JALR, LOAD, STORE
-from view.reasons import TAINT, TAINTED_OUTCOME
+from view.reasons import STORE_TAINT, TAINT, TAINTED_OUTCOME
 from view.replay import Replay
 
 from .hart import EXITS, WRITE
@@ -90,7 +90,10 @@ class Telling(Replay):
         super().retire(events, ends)
 
     def issue(self, events):
-        hidden, stores = [item for item in self.pipeline.waiting if self.hidden(item)], list(self.pipeline.open_stores)
+        hidden = [item for item in self.pipeline.waiting if self.hidden(item)]
+        kept = [item for item in hidden if item.code.kind == LOAD and self.reasons.behind_stores(item, taint=False)[0]]
+        stores = {store.serial: store for store in self.pipeline.open_stores if self.hidden_source(store, 0)}
+        loads = [item for item in self.pipeline.waiting if item.code.kind == LOAD]
         for words in events:
             item = self.pipeline.entry(words)
             if item.code.kind == LOAD:
@@ -99,9 +102,10 @@ class Telling(Replay):
                 self.shows(item, any(self.marked(item)))
         super().issue(events)
         for item in hidden:
-            behind_store = item.code.kind == LOAD and stores and stores[0].serial < item.serial
-            if self.waited(item, TAINT) and not behind_store:
+            if self.waited(item, TAINT) and item not in kept:
                 self.holds(item, SHOWS[item.code.kind])
+        for store in {item.waits[-1].serial for item in loads if self.waited(item, STORE_TAINT)} & set(stores):
+            self.holds(stores[store], BEFORE_A_LOAD)
 
     def load(self, item, accesses):
         """A load that issues: what it shows, what it loads, and which stores it goes to the cache for, covered or not."""

@@ -104,6 +104,12 @@ class Valued(Pipeline):
         self.compare(item, f"tells {words[0]}:{':'.join(told)}", told == computed, ":".join(computed))
         super().issue(item, words)
 
+    def shares(self, load, store):
+        """Whether the two have a byte in common; where one faults it has none."""
+        one, two = self.values[load.serial], self.values[store.serial]
+        bytes_of = [range(value.effect.address, value.effect.address + value.size) for value in (one, two)]
+        return one.fault is two.fault is None and bytes_of[0].start < bytes_of[1].stop and bytes_of[1].start < bytes_of[0].stop
+
     def told_by_issue(self, item, words):
         """What the event of its issue tells behind the serial: how a load finds its line is for others to say."""
         value = self.values[item.serial]

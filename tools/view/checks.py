@@ -1,6 +1,6 @@
 """Whether what happens is what the machine's rules ask for: when lines come, when results are there, what loads find."""
 from .instruction import BRANCH, CALL, STORE
-from .reasons import MISS_REGISTER
+from .pipeline import DATA_PART
 
 
 class Checks:
@@ -41,8 +41,15 @@ class Checks:
             self.tell(f"the last line tells of {end.retired} retired, and {retired} did")
 
     def issued(self, item):
-        """Remembers when the entry will be done."""
-        self.due.setdefault(item.due, []).append(item)
+        """Remembers when the entry will be done: a store once both of its parts have issued."""
+        if item.issued is not None:
+            self.due.setdefault(item.due, []).append(item)
+
+    def order(self, events):
+        """Entries issue oldest first, the address part of a store before its data part."""
+        places = [(int(words[1]), words[0] == DATA_PART) for words in events]
+        if places != sorted(places):
+            self.tell(f"the events of Issue don't go from the oldest entry on: {' '.join(':'.join(words) for words in events)}")
 
     def access(self, item, words):
         """What a load finds: its line is in the cache, on its way, or neither, and then a register is free.
@@ -51,13 +58,14 @@ class Checks:
         before finds its line neither in the cache nor on its way.
         """
         answer, pipeline = words[-1], self.pipeline
+        if answer == "x" and item.sharers:
+            self.tell(f"load {item.serial} faults, but waited for a store's data, and a load that faults has no bytes")
         if answer == "f":
             hidden = next((store for store in self.older_stores(item) if pipeline.is_hidden(store.roots[0])), None)
             if hidden or not any(self.older_stores(item)):
                 self.tell(f"load {item.serial} is forwarded, but " + (f"store {hidden.serial} has a tainted address" if hidden
                                                                         else "no older store is in flight"))
-        last = item.waits[-1] if item.waits else None
-        if answer not in "mf" and last and last.reason == MISS_REGISTER and last.last == pipeline.cycle - 1:
+        if answer not in "mf" and item.lacking == pipeline.cycle - 1:
             self.tell(f"load {item.serial}: `{answer}`, but in the cycle before it waited for a miss register")
         if len(words) == 4:
             line = int(words[2], 16)
@@ -74,9 +82,9 @@ class Checks:
             self.tell(f"store {item.serial}: `{answer}` for line {line:08x} is wrong")
 
     def unit(self, item, name):
-        """The event of an entry's issue is that of its kind."""
+        """The event of an entry's issue is that of its kind. The data part of a store has one in version 2 alone."""
         right = {"load": "ld", "store": "agu", "multiplication": "mul", "division": "div"}.get(item.code.kind, "alu")
-        if name != right:
+        if name != right and (name, item.code.kind, self.pipeline.description.version) != (DATA_PART, STORE, 2):
             self.tell(f"entry {item.serial}: `{name}` for a {item.code.kind}")
 
     def squash(self, told, dropped):

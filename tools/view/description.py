@@ -19,6 +19,7 @@ KEYS = {
 class Description(NamedTuple):
     """The values of a description, by their keys' names."""
 
+    version: int
     fetch_width: int
     retire_width: int
     rob: int
@@ -54,4 +55,4 @@ def read_description(name):
         raise Fault(f"{name}: the description has no {error}") from None
     if values["model"] not in (SPECTRE, FUTURISTIC):
         raise Fault(f"{name}: stt.model is neither {SPECTRE} nor {FUTURISTIC}")
-    return Description(**values)
+    return Description(version=tables.get("version", 1), **values)

@@ -6,7 +6,9 @@ from html import escape
 from itertools import islice
 
 from .listing import tip
-from .reasons import DIVIDER, MISS_REGISTER, OLDER_STORE, OPERAND, PORT, TAINT, TAINTED_OUTCOME
+from .reasons import (
+    ADDRESS_PORT, BASE, DATA, DATA_PORT, DIVIDER, MISS_REGISTER, OLDER_STORE, OPERAND, PORT, STORE_ADDRESS, STORE_DATA, STORE_TAINT, TAINT,
+    TAINTED_OUTCOME)
 from .spans import DONE, QUEUE, RENAMED, RETIRED, SQUASHED, TRAPPED, spans_of
 
 BEFORE, SPAN = 30, 80
@@ -23,7 +25,14 @@ STATES = {
     OPERAND: ("o", "#fdf3c4", "#765", "waits for an operand"),
     TAINT: ("t", "#d7301f", "#fff", "held by taint"),
     OLDER_STORE: ("s", "#d9c29b", "#432", "waits for an older store"),
+    STORE_ADDRESS: ("a", "#d9c29b", "#432", "waits for an older store's address"),
+    STORE_DATA: ("s", "#e8d9bd", "#432", "waits for an older store's data"),
+    STORE_TAINT: ("t", "#d7301f", "#fff", "held by taint of a store's address"),
+    BASE: ("b", "#fdf3c4", "#765", "store: waits for its base"),
+    DATA: ("w", "#fbe8a0", "#765", "store: waits for its data"),
     PORT: ("p", "#f4c7dc", "#524", "waits for a port"),
+    ADDRESS_PORT: ("p", "#f4c7dc", "#524", "store: waits for the address port"),
+    DATA_PORT: ("p", "#eab0cc", "#524", "store: waits for the data port"),
     MISS_REGISTER: ("r", "#e9a3c9", "#413", "waits for a miss register"),
     DIVIDER: ("v", "#cab2d6", "#324", "waits for the divider"),
     "alu": ("+", "#6fa8dc", "#123", "executes: simple, jump"),

@@ -1,9 +1,10 @@
 """`list`: one line an instruction with all its times."""
 from .pipeline import NEVER
 from .reasons import HELD
-from .why import cycles
+from .why import cycles, held_by
 
 TIMES = ("fetched", "renamed", "ready", "issued", "done", "resolved", "retired")
+PART_NAMES = {"agu": "address", "std": "data"}
 HEADER = f"{'serial':>8}" + "".join(f"{name:>9}" for name in TIMES) + "  instruction"
 
 
@@ -29,13 +30,15 @@ def notes(item):
     """What the times don't tell: the access, the outcome, taint, and how it went."""
     if item.unit and item.code.kind == "load":
         yield f"{item.unit}" + (f" {item.line:08x}" if item.line is not None else "")
+    if len(set(item.parts.values())) > 1 or item.parts and item.issued is None:
+        yield ", ".join(f"{PART_NAMES[part]} {cycle}" for part, cycle in sorted(item.parts.items(), key=lambda part: part[1]))
     if item.store:
         yield f"writes {item.line:08x}, {'hit' if item.store == 'h' else 'miss'}"
     if item.output is not None:
         yield f"puts out {item.output} bytes"
     if item.outcome:
         yield {"T": "taken", "N": "not taken", "J": "jump"}[item.outcome] + (", mispredicted" if item.mispredicted else "")
-    yield from (f"held by taint {cycles(wait)} of load {wait.serial}" for wait in item.waits if wait.reason in HELD)
+    yield from (f"held by taint {cycles(wait)} of {held_by(wait)} {wait.serial}" for wait in item.waits if wait.reason in HELD)
     if item.squashed is not None:
         yield f"squashed {item.squashed}"
     elif item.trapped is not None:

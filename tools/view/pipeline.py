@@ -11,6 +11,8 @@ from .instruction import CALL, LOAD, STORE
 from .memory_side import Cache, Divider
 
 NEVER = 1 << 62
+# the parts of a store, by the names of their events
+PARTS = ADDRESS_PART, DATA_PART = "agu", "std"
 
 
 class Wait:
@@ -28,13 +30,15 @@ class Item:
     """A fetched instruction. Its times are numbers of cycles, and None where it didn't come to that.
 
     `unit` is how it issued: `alu`, `mul`, `div`, `agu`, or a load by its access: `hit`, `miss`, `join`, `forward`, `fault`.
+    A store has issued once both of its parts have: `parts` has the cycle of each, by the name of its event.
     `roots` are, for each source, the youngest load from which the value flows, or None. `ready` is the first cycle in which
-    it could have issued as far as its operands go.
+    it could have issued as far as its operands go. Of a load `sharers` are the stores of which one kept it for its data, and
+    `lacking` is the last cycle in which it surely lacked a miss register.
     """
 
     __slots__ = ("number", "pc", "code", "serial", "fetched", "renamed", "ready", "issued", "unit", "line", "due", "done",
                  "resolved", "outcome", "mispredicted", "retired", "squashed", "trapped", "store", "output", "sources",
-                 "awaits", "consumers", "roots", "waits", "producers")
+                 "awaits", "consumers", "roots", "waits", "producers", "parts", "sharers", "lacking")
 
     def __init__(self, number, pc, code, cycle):
         self.number, self.pc, self.code, self.fetched = number, pc, code, cycle
@@ -42,7 +46,7 @@ class Item:
         self.resolved = self.outcome = self.retired = self.squashed = self.trapped = self.store = self.output = None
         self.mispredicted = False
         self.sources, self.roots, self.consumers, self.awaits = (), (), [], 0
-        self.waits, self.producers = [], ()
+        self.waits, self.producers, self.parts, self.sharers, self.lacking = [], (), {}, (), None
 
     @property
     def gone(self):
@@ -65,7 +69,7 @@ class Item:
 
     def forget(self):
         """Lets go of the other items that it names, so that a long trace takes no memory."""
-        self.sources, self.roots, self.consumers = (), (), []
+        self.sources, self.roots, self.consumers, self.sharers = (), (), [], ()
 
 
 def youngest(items):
@@ -184,8 +188,11 @@ class Pipeline:
 
     def issue(self, item, words):
         """The entry begins to execute; `due` is when it will be done."""
-        if item.issued is not None or item not in self.waiting:
+        if item.issued is not None or item not in self.waiting or words[0] in item.parts:
             raise Fault(f"cycle {self.cycle}: `{':'.join(words)}` is of an entry that doesn't wait")
+        if words[0] in PARTS:
+            self.issue_parts(item, words[0])
+            return
         self.waiting.remove(item)
         item.issued, item.unit = self.cycle, words[0]
         if words[0] == "ld":
@@ -195,6 +202,16 @@ class Pipeline:
         item.due = self.cycle + time
         if words[0] == "div":
             self.divider.take(item, item.due)
+
+    def issue_parts(self, item, name):
+        """A part of a store issues, in version 1 both with one event. It executes from the later one on."""
+        item.parts.update(dict.fromkeys(PARTS if self.description.version == 1 else (name,), self.cycle))
+        if len(item.parts) == len(PARTS):
+            self.waiting.remove(item)
+            item.issued, item.unit, item.due = self.cycle, ADDRESS_PART, self.cycle + 1
+
+    def shares(self, load, store):
+        """Whether the two have a byte in common, which a trace doesn't tell: None."""
 
     def access(self, item, words):
         """What a load found: its unit, its line if it has one, and when its value comes."""

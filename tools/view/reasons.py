@@ -8,14 +8,20 @@ from collections import Counter
 
 from .description import FUTURISTIC
 from .instruction import CALL, DIVISION, LOAD, MULTIPLICATION, STORE
+from .pipeline import PARTS
 
 # to issue
 OPERAND, TAINT, OLDER_STORE, PORT, MISS_REGISTER, DIVIDER = (
     "operand", "taint", "older store", "port", "miss register", "divider")
+# to issue in version 2: a part of a store; a load
+BASE, DATA, ADDRESS_PORT, DATA_PORT = "base", "data", "address port", "data port"
+STORE_ADDRESS, STORE_DATA, STORE_TAINT = "older store's address", "older store's data", "older store's tainted address"
 # to be resolved
 TAINTED_OUTCOME, ONE_A_CYCLE = "taint, to be resolved", "one resolved a cycle"
-HELD = (TAINT, TAINTED_OUTCOME)
+HELD = (TAINT, STORE_TAINT, TAINTED_OUTCOME)
 
+# what each part of a store waits for: its operand, and its port
+PART_REASONS = dict(zip(PARTS, ((BASE, ADDRESS_PORT), (DATA, DATA_PORT))))
 PORT_OF = {LOAD: "load", STORE: "store", MULTIPLICATION: "multiplier", DIVISION: "divider"}
 
 
@@ -28,7 +34,7 @@ class Reasons:
     def __init__(self, pipeline):
         self.pipeline, self.description = pipeline, pipeline.description
         self.unexplained, self.idle = [], Counter()
-        self.presumed, self.head, self.ports = set(), None, {}
+        self.presumed, self.head, self.ports, self.last_load = set(), None, {}, -1
 
     def tell(self, text):
         self.unexplained.append(f"cycle {self.pipeline.cycle}: {text}")
@@ -61,10 +67,16 @@ class Reasons:
     # ---- Issue
 
     def issue(self, issued):
-        """Each entry that may issue does, oldest first, as long as its port is left."""
-        cycle = self.pipeline.cycle
+        """Each entry that may issue does, oldest first, as long as its port is left. `issued` has the names of the events of each
+        serial."""
+        cycle, loads = self.pipeline.cycle, [serial for serial, told in issued.items() if "ld" in told]
+        self.last_load = max(loads, default=-1)
         self.ports = {"load": 1, "store": 1, "multiplier": 1, "divider": 1, "arithmetic": self.description.alus}
+        self.ports.update(dict.fromkeys(PARTS, 1))
         for item in self.pipeline.waiting:
+            if item.code.kind == STORE and self.description.version != 1:
+                self.issue_parts(item, issued.get(item.serial, ()))
+                continue
             goes = item.serial in issued
             last = item.waits[-1] if item.waits and not goes else None
             if item.awaits and last and last.reason == OPERAND and self.is_awaited(last, cycle):
@@ -74,6 +86,28 @@ class Reasons:
             if reason is None and not goes and self.presume_fault(item.youngest_root, item.code.kind):
                 reason, cause = self.to_issue(item, goes)
             self.keep(item, goes, reason, cause)
+
+    def issue_parts(self, item, told):
+        """Each part of a store goes as soon as its own source is there and its port is left. Told is what the first of them waits for."""
+        waits = []
+        for part, writer in zip(PARTS, item.sources):
+            if part in item.parts:
+                continue
+            operand, port = PART_REASONS[part]
+            if writer is not None and writer.done is None:
+                waits.append((operand, writer))
+            elif not self.ports[part]:
+                waits.append((port, None))
+            elif part in told:
+                self.ports[part] -= 1
+                continue
+            else:
+                self.tell(f"store {item.serial} lacks its `{part}`, and nothing tells why")
+                continue
+            if part in told:
+                self.tell(f"store {item.serial} issues `{part}`, but has to wait: {waits[-1][0]}")
+        if waits:
+            item.wait(self.pipeline.cycle, *waits[0])
 
     def is_awaited(self, wait, cycle):
         """It waited for this writer in the cycle before, and the writer still isn't Done."""
@@ -101,30 +135,77 @@ class Reasons:
             root = self.tainted_root(item)
             if root is not None:
                 return TAINT, root
-        if kind == LOAD and self.pipeline.open_stores and self.pipeline.open_stores[0].serial < item.serial:
-            return OLDER_STORE, self.pipeline.open_stores[0]
+        if kind == LOAD:
+            reason, store = self.behind_stores(item)
+            if reason is not None:
+                return reason, store
         if kind == DIVISION and self.pipeline.cycle < self.pipeline.divider.free_from:
             return DIVIDER, self.pipeline.divider.user
         if not self.ports[PORT_OF.get(kind, "arithmetic")]:
             return PORT, None
-        if kind == LOAD and not goes and len(self.pipeline.misses) >= self.description.mshrs:
+        return self.tried(item, goes) if kind == LOAD else (None, None)
+
+    # ---- loads behind stores
+
+    def behind_stores(self, load, taint=True):
+        """What in the older stores keeps a load from issuing, and which store: as far as the trace tells it.
+
+        In version 1 a store that isn't Done. In version 2 one whose address isn't known; or whose data isn't, where its address is
+        tainted, or it covers a byte of the load. Without `taint`: what would keep it if nothing were tainted.
+        """
+        stores = self.older_open_stores(load)
+        if self.description.version == 1:
+            return (OLDER_STORE, stores[0]) if stores else (None, None)
+        tests = [
+            (STORE_ADDRESS, lambda store: PARTS[0] not in store.parts),
+            (STORE_TAINT, lambda store: taint and self.pipeline.is_hidden(store.roots[0])),
+            (STORE_DATA, lambda store: self.pipeline.shares(load, store)),
+        ]
+        return next(((reason, store) for reason, test in tests for store in stores if test(store)), (None, None))
+
+    def older_open_stores(self, load):
+        """The older stores that aren't Done; in version 2, when Issue begins, these lack a part."""
+        return [store for store in self.pipeline.open_stores if store.serial < load.serial]
+
+    def tried(self, load, goes):
+        """Why a load doesn't issue that no other rule keeps: it finds no miss register. Or, in version 2, an older store without data
+        covers a byte of it, which a trace tells by that alone: that is certain where a register is free, or a younger load goes.
+        """
+        stores = [] if self.description.version == 1 else self.may_share(load)
+        full = len(self.pipeline.misses) >= self.description.mshrs
+        if goes:
+            self.check_sharers(load, stores)
+        elif stores and (not full or load.serial < self.last_load):
+            load.sharers = stores
+            return STORE_DATA, stores[-1]
+        elif full:
+            load.lacking = load.lacking if stores else self.pipeline.cycle
             return MISS_REGISTER, None
         return None, None
+
+    def may_share(self, load):
+        """The older stores without data of which it isn't known whether they cover a byte of the load."""
+        return [store for store in self.older_open_stores(load)
+                if PARTS[1] not in store.parts and self.pipeline.shares(load, store) is None]
+
+    def check_sharers(self, load, stores):
+        """A load that waited for data doesn't go before one of the stores has it that can have kept it."""
+        if load.sharers and all(store in stores for store in load.sharers):
+            self.tell(f"load {load.serial} issues, and no store has got the data that it waited for")
 
     # ---- stores that fault
 
     def presume_fault(self, root, kind=LOAD):
         """Under futuristic a store that faults hides all behind it, and the trace doesn't tell that it faults.
 
-        Where that alone can explain a wait, a Done store older than the root is taken to fault. It then must not retire:
-        `retire` tells if it does.
+        Where that alone can explain a wait, the youngest Done store older than the root is taken to fault: if it is an older one, that
+        never lets it retire. It then must not retire: `retire` tells if it does.
         """
         if self.description.model != FUTURISTIC or root is None or kind not in (LOAD, DIVISION):
             return False
-        for store in self.pipeline.window:
-            if store.serial >= root.serial:
-                return False
-            if store.code.kind == STORE and store.done is not None and store not in self.pipeline.shadows:
+        for store in reversed(self.pipeline.window):
+            if (store.serial < root.serial and store.code.kind == STORE and store.done is not None
+                    and store not in self.pipeline.shadows):
                 self.presumed.add(store.serial)
                 self.pipeline.shadows.append(store)
                 self.pipeline.shadows.sort(key=lambda item: item.serial)

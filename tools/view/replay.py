@@ -115,7 +115,11 @@ class Replay:
         self.retired += len(retired)
 
     def issue(self, events):
-        self.reasons.issue({int(words[1]) for words in events})
+        told = {}
+        for words in events:
+            told.setdefault(int(words[1]), set()).add(words[0])
+        self.reasons.issue(told)
+        self.checks.order(events)
         for words in events:
             item = self.pipeline.entry(words)
             self.checks.unit(item, words[0])

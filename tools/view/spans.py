@@ -1,8 +1,11 @@
 """What an instruction does in each cycle from its fetch until it is gone: the stages of pictures and of Konata's log."""
-from .reasons import DIVIDER, MISS_REGISTER, OLDER_STORE, OPERAND, PORT, TAINT, TAINTED_OUTCOME
+from .reasons import (
+    ADDRESS_PORT, BASE, DATA, DATA_PORT, DIVIDER, MISS_REGISTER, OLDER_STORE, OPERAND, PORT, STORE_ADDRESS, STORE_DATA, STORE_TAINT, TAINT,
+    TAINTED_OUTCOME)
 
 QUEUE, RENAMED, DONE, RETIRED, SQUASHED, TRAPPED = "queue", "renamed", "done", "retired", "squashed", "trapped"
-WAITS = (OPERAND, TAINT, OLDER_STORE, PORT, MISS_REGISTER, DIVIDER)
+WAITS = (OPERAND, TAINT, OLDER_STORE, PORT, MISS_REGISTER, DIVIDER, BASE, DATA, ADDRESS_PORT, DATA_PORT, STORE_ADDRESS, STORE_DATA,
+         STORE_TAINT)
 UNITS = ("alu", "mul", "div", "agu", "hit", "miss", "join", "forward", "fault")
 
 

@@ -12,7 +12,7 @@ FILL, COMPLETE, RESOLVE, RETIRE, ISSUE, RENAME, FETCH = range(7)
 EVENTS = {
     "fill": (FILL, 2), "done": (COMPLETE, 2), "res": (RESOLVE, 3), "bp": (RESOLVE, 3), "bt": (RESOLVE, 3), "sq": (RESOLVE, 2),
     "ret": (RETIRE, 2), "st": (RETIRE, 4), "call": (RETIRE, 3), "alu": (ISSUE, 2), "mul": (ISSUE, 2), "div": (ISSUE, 3),
-    "agu": (ISSUE, 2), "ld": (ISSUE, 4), "ren": (RENAME, 3), "fet": (FETCH, 2),
+    "agu": (ISSUE, 2), "std": (ISSUE, 2), "ld": (ISSUE, 4), "ren": (RENAME, 3), "fet": (FETCH, 2),
 }
 WITHOUT_LINE = ("f", "x")
 

@@ -2,7 +2,7 @@
 from collections import Counter
 
 from .pipeline import NEVER
-from .reasons import HELD
+from .reasons import HELD, STORE_TAINT
 
 
 def lines_of(replay, disassembler, first, last, summary):
@@ -13,7 +13,7 @@ def lines_of(replay, disassembler, first, last, summary):
         for wait in item.waits:
             waits[wait.reason] += wait.last - wait.first + 1
             if wait.reason in HELD:
-                held[item.pc, wait.pc] += wait.last - wait.first + 1
+                held[item.pc, held_by(wait), wait.pc] += wait.last - wait.first + 1
             if not summary and wait.first <= last and wait.last >= first:
                 yield wait_line(item, wait, disassembler)
     if not summary:
@@ -26,6 +26,11 @@ def lines_of(replay, disassembler, first, last, summary):
 def cycles(span):
     """`17` or `5..12`."""
     return f"{span.first}" if span.first == span.last else f"{span.first}..{span.last}"
+
+
+def held_by(wait):
+    """What it is that taint holds it by: a load that isn't visible, or a store whose address flows from one."""
+    return "store" if wait.reason == STORE_TAINT else "load"
 
 
 def wait_line(item, wait, disassembler):
@@ -41,8 +46,8 @@ def sums(replay, waits, held, disassembler):
     yield listed("waits of instructions, in cycles", waits)
     yield listed("rename stops short, in cycles", replay.front.rename)
     yield listed("fetch stops short, in cycles", replay.front.fetch)
-    for (pc, root), number in held.most_common():
-        yield f"held by taint, in cycles: {number} at {disassembler.place(pc)}, by the load {disassembler.place(root)}"
+    for (pc, what, cause), number in held.most_common():
+        yield f"held by taint, in cycles: {number} at {disassembler.place(pc)}, by the {what} {disassembler.place(cause)}"
     yield f"unexplained: {len(unexplained)}"
     yield from ("  " + text for text in unexplained)
 

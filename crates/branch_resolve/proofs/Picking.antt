@@ -2,16 +2,20 @@
 use Rattle.std.proofs.Common.{◌≡◌, ℕ, zero, suc, ◌+◌, ◌<◌, ◌≤◌, Bool, true, false, not, ◌&&◌, if◌then◌else◌, List, [], ◌∷◌, length, drop, Option, Some, None, refl, ap, ap₂, sym, ◌∙◌, arith, slice_get}
 use Rattle.std.specs.List.{list_any}
 use Rattle.std.specs.Slice.Scan.{HoldsNowhere, holds_at}
-use Rattle.std.proofs.lemmas.Option.{slice_get_within}
+use Rattle.std.proofs.lemmas.List.{drop_more}
+use Rattle.std.proofs.lemmas.Option.{get_or_from_slice_get, slice_get_within}
 use Rattle.window_model.specs.declared.Entry.{Entry}
 use Rattle.window_model.specs.Order.{is_control, is_done}
 use Rattle.visibility.specs.Point.{is_hidden}
-use Rattle.visibility.proofs.Walking.{drop_here}
 use Rattle.rob_ring.specs.Ring.{IsNext, is_open}
 use Rattle.rob_ring.proofs.Gaps.{to_end, to_next}
 use Rattle.branch_resolve.specs.Pick.{pick_from, can_resolve}
 
 -- ---- at a position
+
+-- what is left there
+drop_here : {X : Type 0} (xs : List X) (i : ℕ) (x : X) → slice_get xs i ≡ Some x → drop i xs ≡ x ∷ drop (i + 1) xs
+drop_here xs i x h = drop_more xs i x (slice_get_within xs i x h) ∙ ap (λ y. y ∷ drop (i + 1) xs) (get_or_from_slice_get xs i x x h)
 
 module _ (point i : ℕ) (es : List Entry) (roots : List (List (Option ℕ))) (e : Entry) (rs : List (Option ℕ)) (r : Option ℕ) (b : Bool)
     (entry : slice_get es i ≡ Some e) (pair : slice_get roots i ≡ Some rs) (is : b ≡ can_resolve point e rs) (h : pick_from point i (drop i es) (drop i roots) ≡ r) where

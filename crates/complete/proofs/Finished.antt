@@ -1,26 +1,21 @@
 -- The parts once an entry is Done.
-use Rattle.std.proofs.Common.{◌≡◌, ℕ, ◌<◌, ◌≤◌, Bool, not, false, true, length, map, arith, Option, Some, None, refl, ap, sym, ◌∙◌, subst, slice_get}
+use Rattle.std.proofs.Common.{◌≡◌, ℕ, ◌<◌, ◌≤◌, Bool, not, false, length, map, arith, Option, Some, None, refl, ap, sym, ◌∙◌, subst, lit≤, slice_get}
 use Rattle.std.specs.Prelude.{slice_set}
 use Rattle.std.specs.Option.{option_map}
 use Rattle.std.specs.Slice.Scan.{HoldsNowhere, holds_at}
 use Rattle.std.proofs.lemmas.Option.{slice_get_within}
+use Rattle.machine_desc.proofs.Versions.{most_up_to}
 use Rattle.window_model.specs.declared.Entry.{Entry}
 use Rattle.window_model.specs.Fill.{completes}
 use Rattle.window_model.specs.Order.{is_waiting}
-use Rattle.window_model.specs.Retire.{op_of, width_of}
-use Rattle.machine_facts.specs.Sized.{Sized}
 use Rattle.machine_facts.proofs.Parts.{IsEntry}
 use Rattle.rob_ring.specs.Ring.{IsNext, Ring, is_busy}
 use Rattle.stations.specs.Stations.{Stations, struck}
-use Rattle.lsq.specs.Queues.{Queues}
 use Rattle.core_parts.specs.Described.{Described}
 use Rattle.core_parts.specs.Held.{Held, Whole, described, in_flight, machine_of}
-use Rattle.core_parts.specs.Steps.{known_with}
 use Rattle.core_parts.proofs.Sizes.{sized_set}
 use Rattle.core_parts.proofs.Steps.{stands_done}
-use Rattle.complete.specs.Completed.{width_for}
 use Rattle.complete.proofs.Turns.{done}
-use Rattle.complete.proofs.Width.{size_is}
 
 some_here : (o : Option Entry) → option_map (λ (e : Entry). is_waiting e.state) o ≡ Some false → (e : Entry) × (o ≡ Some e) × (is_waiting e.state ≡ false)
 some_here None h = absurd (cc)
@@ -31,37 +26,34 @@ is_inside h v i w s a =
     let k = some_here (slice_get h.rob.entries i) (ap (λ (v : Described). option_map (λ (e : Entry). is_waiting e.state) (slice_get v.machine.window i)) s ∙ a) in
     slice_get_within h.rob.entries i k.0 k.1
 
-module _ (h : Held) (v : Described) (i : ℕ) (e : Entry) (rob : Ring) (stations : Stations) (q : Queues) (w : Whole h) (s : described h ≡ v) (a : option_map (λ (e : Entry). is_waiting e.state) (slice_get v.machine.window i) ≡ Some false)
-    (here : slice_get h.rob.entries i ≡ Some e) (sets : rob ≡ record (h.rob) { entries = slice_set h.rob.entries i (done e) }) (wakes : stations ≡ record (h.stations) { held = map (struck e.serial) h.stations.held })
-    (notes : q ≡ record (h.queues) { stores = known_with (width_for (width_of e)) e h.queues.stores }) where
+module _ (h : Held) (v : Described) (i : ℕ) (e : Entry) (rob : Ring) (stations : Stations) (w : Whole h) (s : described h ≡ v) (a : option_map (λ (e : Entry). is_waiting e.state) (slice_get v.machine.window i) ≡ Some false)
+    (here : slice_get h.rob.entries i ≡ Some e) (sets : rob ≡ record (h.rob) { entries = slice_set h.rob.entries i (done e) }) (wakes : stations ≡ record (h.stations) { held = map (struck e.serial) h.stations.held }) where
   waits_not : is_waiting e.state ≡ false
   waits_not =
       let b = sym (ap (option_map (λ (e : Entry). is_waiting e.state)) here) ∙ ap (λ (v : Described). option_map (λ (e : Entry). is_waiting e.state) (slice_get v.machine.window i)) s ∙ a in
       let k : Some (is_waiting e.state) ≡ Some false = b in
       cc
 
-  are : record h { rob = rob; stations = stations; queues = q }
+  are : record h { rob = rob; stations = stations }
       ≡ record h {
         rob = record (h.rob) { entries = slice_set h.rob.entries i (done e) };
         stations = record (h.stations) { held = map (struck e.serial) h.stations.held };
-        queues = record (h.queues) { stores = known_with (width_for (width_of e)) e h.queues.stores };
       }
   are =
-      ap (λ (r : Ring). record h { rob = r; stations = stations; queues = q }) sets
-      ∙ ap (λ (t : Stations). record h { rob = record (h.rob) { entries = slice_set h.rob.entries i (done e) }; stations = t; queues = q }) wakes
-      ∙ ap (λ (q : Queues). record h { rob = record (h.rob) { entries = slice_set h.rob.entries i (done e) }; stations = record (h.stations) { held = map (struck e.serial) h.stations.held }; queues = q }) notes
+      ap (λ (r : Ring). record h { rob = r; stations = stations }) sets
+      ∙ ap (λ (t : Stations). record h { rob = record (h.rob) { entries = slice_set h.rob.entries i (done e) }; stations = t }) wakes
 
   entry_done : IsEntry h.desc h.ram e → IsEntry h.desc h.ram (done e)
   entry_done k = record { kind = k.kind; memory = k.memory; outcome = k.outcome; parts = λ st. k.parts st ∙ ap not waits_not; together = k.together }
 
-  pub finish_whole : Whole (record h { rob = rob; stations = stations; queues = q })
+  pub finish_whole : Whole (record h { rob = rob; stations = stations })
   finish_whole = subst Whole (sym are) (record {
     sized = sized_set h.desc (machine_of h) i e (done e) here (record { item = refl; serial = refl; waits = λ k. absurd (cc) }) entry_done w.sized;
-    stands = stands_done (in_flight h) i e (width_for (width_of e)) w.stands here waits_not (size_is (op_of e.item.instr));
+    stands = stands_done (in_flight h) i e w.stands here waits_not;
     made = w.made;
   })
 
-  pub finish_shown : described (record h { rob = rob; stations = stations; queues = q }) ≡ record v { machine = record (v.machine) { window = slice_set v.machine.window i (done e) } }
+  pub finish_shown : described (record h { rob = rob; stations = stations }) ≡ record v { machine = record (v.machine) { window = slice_set v.machine.window i (done e) } }
   finish_shown = ap described are ∙ ap (λ (v : Described). record v { machine = record (v.machine) { window = slice_set v.machine.window i (done e) } }) s
 
   pub was_here : slice_get v.machine.window i ≡ Some e
@@ -79,10 +71,10 @@ next_here h v from i w s t = subst (λ (v : Described). IsNext is_busy v.machine
 pub none_here : (h : Held) (v : Described) (from : ℕ) → Whole h → described h ≡ v → HoldsNowhere (holds_at is_busy h.rob.entries) from (length h.rob.entries) → HoldsNowhere (holds_at is_busy v.machine.window) from (length v.machine.window)
 none_here h v from w s t = subst (λ (v : Described). HoldsNowhere (holds_at is_busy v.machine.window) from (length v.machine.window)) s t
 
--- no more than 64
-pub few_entries : (h : Held) (v : Described) → Whole h → described h ≡ v → length v.machine.window ≤ 64
+-- no more than 192
+pub few_entries : (h : Held) (v : Described) → Whole h → described h ≡ v → length v.machine.window ≤ 192
 few_entries h v w e =
     let m = ap (λ (v : Described). length v.machine.window) e in
     let a = w.sized.entries in
-    let b = h.desc.few_entries in
+    let b = most_up_to 64 192 h.desc.version h.desc.core_rob (lit≤ tt) h.desc.few_entries in
     omega (arith, m, a, b)

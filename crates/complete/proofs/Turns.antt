@@ -1,5 +1,5 @@
 -- Completing entry by entry: what is left to complete makes the whole.
-use Rattle.std.proofs.Common.{◌≡◌, ℕ, zero, suc, ◌+◌, ◌<◌, ◌≤◌, Bool, true, false, cond, List, [], ◌∷◌, ◌++◌, length, take, drop, Option, Some, None, refl, ap, ap₂, sym, ◌∙◌, arith, slice_get}
+use Rattle.std.proofs.Common.{◌≡◌, ℕ, zero, suc, ◌+◌, ◌≤◌, Bool, true, false, cond, List, [], ◌∷◌, ◌++◌, length, take, drop, Option, Some, None, refl, ap, ap₂, sym, ◌∙◌, arith, slice_get}
 use Rattle.std.specs.Prelude.{if◌then◌else◌, map, slice_set}
 use Rattle.std.specs.List.{filter, fold}
 use Rattle.std.specs.Option.{option_map}

@@ -3,14 +3,11 @@ ghost use Rattle.std.specs.Prelude.{◌≡◌, ◌<◌, false, length, Some, sli
 ghost use Rattle.std.specs.Option.{option_map};
 ghost use Rattle.window_model.specs.Fill.{complete, completes, completes_at};
 ghost use Rattle.window_model.specs.Order.{is_waiting};
-ghost use Rattle.window_model.specs.Retire.{width_of};
 ghost use Rattle.window_model.specs.Row.{HasRoom, IsLonger, most_done, with_events};
 ghost use Rattle.core_parts.specs.Described.{with_window};
-ghost use Rattle.core_parts.specs.Steps.{known_with};
-ghost use Rattle.complete.specs.Completed.{done_at, width_for};
+ghost use Rattle.complete.specs.Completed.{done_at};
 
 use core_parts::Parts;
-use lsq::Lsq;
 use rename_taint::RenameTaint;
 use rob_ring::RobRing;
 use window_model::{Entry, Event, Progress, Row};
@@ -51,8 +48,7 @@ fn is_due(state: Progress, cycle: u64) -> bool
     }
 }
 
-// The entry at a position, which doesn't wait, becomes Done: no station awaits it any more, and what it writes is known, if it is
-// a store. The answer is the entry as it was.
+// The entry at a position, which doesn't wait, becomes Done: no station awaits it any more. The answer is the entry as it was.
 fn finish<R: RenameTaint>(i: u32, parts: &mut Parts<R>) -> Entry
     requires { option_map (λ e. is_waiting e.state) (slice_get parts.old.machine.window i) ≡ Some false }
     ensures entry { slice_get parts.old.machine.window i ≡ Some result }
@@ -61,24 +57,5 @@ fn finish<R: RenameTaint>(i: u32, parts: &mut Parts<R>) -> Entry
     let entry = parts.rob.at(i);
     parts.rob.finish(i);
     parts.stations.wake(entry.serial);
-    note_store(&entry, &mut parts.lsq);
     entry
-}
-
-// What an entry writes that is Done is known to the queue of stores, if it is a store.
-#[tactic(auto, using(crate::proofs::Width::width_is))]
-fn note_store(entry: &Entry, lsq: &mut Lsq)
-    ensures { lsq.new ≡ record lsq.old {
-      stores = known_with (width_for (width_of entry.now)) entry.now lsq.old.stores;
-    } }
-{
-    if entry.is_store() {
-        lsq.store_known(
-            entry.serial,
-            entry.addr(),
-            entry.width(),
-            entry.stored(),
-            entry.fault(),
-        );
-    }
 }

@@ -15,6 +15,9 @@ use Rattle.window_model.specs.Cycle.{Cycled, after_retire, begins_cycle, cycle}
 use Rattle.window_model.specs.Committed.{Aligned, Commits}
 use Rattle.window_model.proofs.Quiet.{at_retire, before_quiet}
 use Rattle.window_model.proofs.Walks.{fetch_keep}
+use Rattle.std.specs.List.{AllByRecursion as Each}
+use Rattle.machine_facts.specs.Timely.{Timely, WaitsOrDone}
+use Rattle.machine_facts.proofs.Stores.{none_busy}
 use Rattle.machine_facts.proofs.Adds.{fill_adds, complete_adds, resolve_adds, retire_turns}
 use Rattle.quiet_cycles.specs.Still.{NothingDueBefore, StillUntil, empty_row}
 use Rattle.visibility.specs.Point.{HasAdvanced}
@@ -111,6 +114,10 @@ module _ (s s1 s2 : Described) (p : Fronts s s1 s2) where
 
     machine_left : s3.machine ≡ (retire s.desc (at_retire s.desc s.machine)).machine
     machine_left = ap (λ (s : Described). s.machine) q ∙ ap (λ (r : Retired). r.machine) retired
+
+    -- and no store executes
+    pub settled_left : Timely s.desc s.machine → Each WaitsOrDone s3.machine.window
+    settled_left t = subst (λ (x : Machine). Each WaitsOrDone x.window) (sym machine_left) (none_busy s.desc s.machine t)
 
     pub serial_stays : s3.machine.next_serial ≡ s.machine.next_serial
     serial_stays =

@@ -24,11 +24,11 @@ leaves_done : (e : Entry) → may_leave e ≡ true → is_done e.state ≡ true
 leaves_done e m = by_parts (is_done e.state) (not (is_control e.item.kind) || e.resolved) m
 
 -- the oldest entry goes
-one_gone : (next : ℕ) (e : Entry) (es : List Entry) (sources : List Sources) (writes : List Write) (held : List Station) (q : Queues) (point : Point) →
-    is_done e.state ≡ true → Tied next (e ∷ es) sources writes held q point →
-    Tied next es (drop 1 sources) (without_retired e.serial writes) held (without e.serial q) point
-one_gone next e es sources writes held q point d t =
-    stands_retired (record { next = next; window = e ∷ es; sources = sources; writes = writes; held = held; queues = q; point = point }) e t refl d
+one_gone : (version next : ℕ) (e : Entry) (es : List Entry) (sources : List Sources) (writes : List Write) (held : List Station) (q : Queues) (point : Point) →
+    is_done e.state ≡ true → Tied version next (e ∷ es) sources writes held q point →
+    Tied version next es (drop 1 sources) (without_retired e.serial writes) held (without e.serial q) point
+one_gone version next e es sources writes held q point d t =
+    stands_retired (record { version = version; next = next; window = e ∷ es; sources = sources; writes = writes; held = held; queues = q; point = point }) e t refl d
 
 drop_none : (n : ℕ) (xs : List Sources) → xs ≡ [] → drop n xs ≡ xs
 drop_none zero xs e = refl
@@ -40,11 +40,11 @@ drop_more n [] = drop_none n [] refl
 drop_more n (x ∷ xs) = refl
 
 -- the oldest entries go, one after the other
-pub all_gone : (next : ℕ) (gone rest : List Entry) (sources : List Sources) (writes : List Write) (held : List Station) (q : Queues) (point : Point) →
-    Each MayRetire gone → Tied next (gone ++ rest) sources writes held q point →
-    Tied next rest (drop (length gone) sources) (without_each gone writes) held (popped gone q) point
-all_gone next [] rest sources writes held q point m t = t
-all_gone next (e ∷ gone) rest sources writes held q point m t =
-    let one = one_gone next e (gone ++ rest) sources writes held q point (leaves_done e m.0.0) t in
-    let all = all_gone next gone rest (drop 1 sources) (without_retired e.serial writes) held (without e.serial q) point m.1 one in
-    subst (λ sources. Tied next rest sources (without_each (e ∷ gone) writes) held (popped (e ∷ gone) q) point) (drop_more (length gone) sources) all
+pub all_gone : (version next : ℕ) (gone rest : List Entry) (sources : List Sources) (writes : List Write) (held : List Station) (q : Queues) (point : Point) →
+    Each MayRetire gone → Tied version next (gone ++ rest) sources writes held q point →
+    Tied version next rest (drop (length gone) sources) (without_each gone writes) held (popped gone q) point
+all_gone version next [] rest sources writes held q point m t = t
+all_gone version next (e ∷ gone) rest sources writes held q point m t =
+    let one = one_gone version next e (gone ++ rest) sources writes held q point (leaves_done e m.0.0) t in
+    let all = all_gone version next gone rest (drop 1 sources) (without_retired e.serial writes) held (without e.serial q) point m.1 one in
+    subst (λ sources. Tied version next rest sources (without_each (e ∷ gone) writes) held (popped (e ∷ gone) q) point) (drop_more (length gone) sources) all

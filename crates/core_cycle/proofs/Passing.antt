@@ -8,7 +8,10 @@ use Rattle.window_model.specs.State.{Machine}
 use Rattle.window_model.specs.Row.{Row}
 use Rattle.window_model.specs.Cycle.{Cycled, cycle}
 use Rattle.window_model.specs.Committed.{Aligned, Commits}
-use Rattle.machine_facts.specs.Timely.{Counted}
+use Rattle.machine_facts.specs.Sized.{Sized}
+use Rattle.machine_facts.specs.Timely.{Counted, Timely}
+use Rattle.machine_facts.proofs.SizedRun.{sized_cycle}
+use Rattle.machine_facts.proofs.TimelyRun.{timely_cycle}
 use Rattle.machine_facts.proofs.FewEvents.{counts_cycle}
 use Rattle.committed_state.specs.Consistent.{Consistent}
 use Rattle.committed_state.proofs.Cycle.{cycle_commits, consistent_cycle}
@@ -27,6 +30,8 @@ module _ (code : Code) (s s1 : Described) (e : s1.machine ≡ (cycle s.desc code
     counted = subst Counted (sym e) (counts_cycle s.desc code s.machine (every_desc s.desc) h.counted);
     consistent = subst (λ d. Consistent d code s1.machine) (sym q) (subst (Consistent s.desc code) (sym e) (consistent_cycle s.desc code s.machine aligned h.consistent n));
     advanced = a;
+    sized = subst (λ d. Sized d s1.machine) (sym q) (subst (Sized s.desc) (sym e) (sized_cycle s.desc code s.machine (every_desc s.desc) h.sized));
+    timely = subst (λ d. Timely d s1.machine) (sym q) (subst (Timely s.desc) (sym e) (timely_cycle s.desc code s.machine (every_desc s.desc) h.sized h.timely));
   }
 
   -- and what retires are steps of the instruction set

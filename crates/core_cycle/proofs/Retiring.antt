@@ -8,7 +8,6 @@ use Rattle.rv_types.specs.declared.End.{End}
 use Rattle.machine_desc.proofs.EveryDesc.{every_desc}
 use Rattle.window_model.specs.declared.Entry.{Entry}
 use Rattle.window_model.specs.declared.Outcome.{Outcome}
-use Rattle.window_model.specs.declared.Progress.TheVariants.{Done}
 use Rattle.window_model.specs.Order.{fault_of, has_address, has_data, is_done, is_store}
 use Rattle.window_model.specs.Retire.{retire, addr_of, width_of}
 use Rattle.window_model.proofs.Booleans.{both, done_waits}
@@ -78,15 +77,15 @@ pub record Left (h : Held) (rob : Ring) (sources : Buffer Sources) (writes : Lis
 
 -- what stands beside the window stands for what is left of it
 left_tied : (h : Held) (rob : Ring) (sources : Buffer Sources) (writes : List Write) (room : ℕ) (queues : Queues) (tags : Cache) (retired : ℕ) → Whole h →
-    Left h rob sources writes room queues tags retired → Tied h.next_serial rob.entries sources.items writes h.stations.held queues h.point
+    Left h rob sources writes room queues tags retired → Tied h.desc.version h.next_serial rob.entries sources.items writes h.stations.held queues h.point
 left_tied h rob sources writes room queues tags retired w l =
-    let here : Tied h.next_serial (gone h.rob rob ++ rob.entries) h.sources.items h.writes h.stations.held h.queues h.point =
-    subst (λ es. Tied h.next_serial es h.sources.items h.writes h.stations.held h.queues h.point) l.entries w.stands in
-    let all = all_gone h.next_serial (gone h.rob rob) rob.entries h.sources.items h.writes h.stations.held h.queues h.point l.may_retire here in
+    let here : Tied h.desc.version h.next_serial (gone h.rob rob ++ rob.entries) h.sources.items h.writes h.stations.held h.queues h.point =
+    subst (λ es. Tied h.desc.version h.next_serial es h.sources.items h.writes h.stations.held h.queues h.point) l.entries w.stands in
+    let all = all_gone h.desc.version h.next_serial (gone h.rob rob) rob.entries h.sources.items h.writes h.stations.held h.queues h.point l.may_retire here in
     let sources_are = stays h.rob.entries rob.entries h.sources.items (each_has_sources h w) ∙ sym (ap (λ (b : Buffer Sources). b.items) l.beside) in
-    subst (λ ss. Tied h.next_serial rob.entries ss writes h.stations.held queues h.point) sources_are
-    (subst (λ ns. Tied h.next_serial rob.entries (drop (length (gone h.rob rob)) h.sources.items) ns h.stations.held queues h.point) (sym l.table)
-    (subst (λ q. Tied h.next_serial rob.entries (drop (length (gone h.rob rob)) h.sources.items) (without_each (gone h.rob rob) h.writes) h.stations.held q h.point) (sym l.lsq) all))
+    subst (λ ss. Tied h.desc.version h.next_serial rob.entries ss writes h.stations.held queues h.point) sources_are
+    (subst (λ ns. Tied h.desc.version h.next_serial rob.entries (drop (length (gone h.rob rob)) h.sources.items) ns h.stations.held queues h.point) (sym l.table)
+    (subst (λ q. Tied h.desc.version h.next_serial rob.entries (drop (length (gone h.rob rob)) h.sources.items) (without_each (gone h.rob rob) h.writes) h.stations.held q h.point) (sym l.lsq) all))
 
 -- the machine that they then hold
 left_machine : (h : Held) (rob : Ring) (tags : Cache) (ram : Ram) (regs : List ℕ) (pc : ℕ) (end : Option End) (retired : ℕ) → h.end ≡ None →

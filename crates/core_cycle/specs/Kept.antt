@@ -1,7 +1,8 @@
 -- What holds between two cycles of a core.
 use Rattle.std.specs.Prelude.{ℕ}
 use Rattle.rv_types.specs.Memory.{Code}
-use Rattle.machine_facts.specs.Timely.{Counted}
+use Rattle.machine_facts.specs.Sized.{Sized}
+use Rattle.machine_facts.specs.Timely.{Counted, Timely}
 use Rattle.committed_state.specs.Consistent.{Consistent}
 use Rattle.quiet_cycles.specs.Still.{StillUntil}
 use Rattle.visibility.specs.Point.{HasAdvanced}
@@ -14,6 +15,9 @@ pub record Kept (code : Code) (s : Described) : Type 0 where
   -- each entry is an instruction of the program, and has the outcome that the instruction set gives it in its place
   pub consistent : Consistent s.desc code s.machine
   pub advanced : HasAdvanced s.point s.machine.window
+  -- each part holds at most what the description says, and all that is under way ends soon: so no store executes as Issue begins
+  pub sized : Sized s.desc s.machine
+  pub timely : Timely s.desc s.machine
 
 -- and nothing happens in the cycles before the one with this number
 pub record KeptUntil (n : ℕ) (code : Code) (s : Described) : Type 0 where

@@ -1,5 +1,7 @@
 //! A cycle's phases in their order (`docs/machine.md`, "A cycle").
 ghost use Rattle.std.specs.Prelude.{◌≡◌, ◌<◌, ◌+◌, ◌^◌};
+ghost use Rattle.std.specs.List.{AllByRecursion as Each};
+ghost use Rattle.machine_facts.specs.Timely.{WaitsOrDone};
 ghost use Rattle.visibility.specs.Point.{HasAdvanced};
 ghost use Rattle.window_model.specs.Row.{HasRoom, IsLonger, most_after_retire, most_before_retire, most_fetched, with_events};
 ghost use Rattle.core_cycle.specs.Phases.{phases_after, phases_before};
@@ -34,10 +36,11 @@ pub(crate) fn before_retire<R: RenameTaint>(parts: &mut Parts<R>, row: &mut Row)
     advance_after(parts, completed, row);
 }
 
-/// The phases after Retire, unless the run has ended. The visibility point says which entries are visible as Issue asks for
+/// The phases after Retire, unless the run has ended; no store executes as they begin. The visibility point says which entries are visible as Issue asks for
 /// it, and once Rename has brought in others.
 pub(crate) fn after_retire<R: RenameTaint>(parts: &mut Parts<R>, row: &mut Row)
     requires advanced { HasAdvanced parts.old.point parts.old.machine.window }
+    requires settled { Each WaitsOrDone parts.old.machine.window }
     requires serials { parts.old.machine.next_serial + most_fetched < 2 ^ 64 }
     requires room { HasRoom most_after_retire row.old }
     ensures machine { parts.new

@@ -25,8 +25,8 @@ lent_names h v w s = subst (λ (v : Described). NamesWriters h.writes v.machine.
 pub lent_name_roots : (h : Held) (v : Described) → Whole h → described h ≡ v → NamesRoots v.machine.next_serial h.writes v.machine.window
 lent_name_roots h v w s = subst (λ (v : Described). NamesRoots v.machine.next_serial h.writes v.machine.window) s (λ r. names_root _ r w.stands.stand)
 
-pub lent_waiting : (h : Held) (v : Described) → Whole h → described h ≡ v → HoldsWaiting h.stations v.machine.window
-lent_waiting h v w s = subst (λ (v : Described). HoldsWaiting h.stations v.machine.window) s w.stands.stand.held
+pub lent_waiting : (h : Held) (v : Described) → Whole h → described h ≡ v → HoldsWaiting v.desc.version h.stations v.machine.window
+lent_waiting h v w s = subst (λ (v : Described). HoldsWaiting v.desc.version h.stations v.machine.window) s w.stands.stand.held
 
 pub lent_ready : (h : Held) (v : Described) → Whole h → described h ≡ v → TellsReady h.stations v.machine.window
 lent_ready h v w s = subst (λ (v : Described). TellsReady h.stations v.machine.window) s (λ i e a b. tells_ready _ i e w.stands.stand a b)

@@ -1,50 +1,46 @@
 -- Each step keeps the parts standing for the window.
-use Rattle.std.proofs.Common.{◌≡◌, ◌≢◌, ℕ, zero, suc, ◌+◌, ◌<◌, Bool, true, false, List, [], ◌∷◌, ◌++◌, length, map, Option, Some, None, refl, ap, ap₂, sym, ◌∙◌, subst, arith, slice_get}
-use Rattle.std.specs.Prelude.{if◌then◌else◌, is_some, slice_set, nat_lt, not, ◌==◌, ◌&&◌, ◌||◌, drop, take}
+use Rattle.std.proofs.Common.{◌≡◌, ◌≢◌, ℕ, zero, suc, ◌+◌, ◌<◌, Bool, true, false, List, [], ◌∷◌, ◌++◌, length, map, Option, Some, refl, ap, sym, ◌∙◌, subst, arith, slice_get}
+use Rattle.std.specs.Prelude.{if◌then◌else◌, slice_set, nat_lt, not, ◌==◌, drop, take}
 use Rattle.std.specs.List.{All, AllZip, filter}
-use Rattle.std.proofs.lemmas.List.{drop-map, map-append, set_split, take-map}
-use Rattle.std.proofs.lemmas.List.Elements.{All-cons, All-head, All-nil, All-weaker}
-use Rattle.std.proofs.lemmas.Option.{slice_get_within}
-use Rattle.rv_types.specs.Value.{bytes_in}
-use Rattle.rv_types.specs.declared.Width.{Width}
-use Rattle.window_model.specs.Retire.{width_of}
+use Rattle.std.proofs.lemmas.List.{drop-map, map-append, take-map}
+use Rattle.std.proofs.lemmas.List.Elements.{All-weaker}
 use Rattle.rv_types.specs.declared.Kind.{Kind}
 use Rattle.rv_types.specs.declared.Kind.TheVariants.{Load, Store}
 use Rattle.window_model.specs.declared.Entry.{Entry}
-use Rattle.window_model.specs.declared.Outcome.{Outcome}
 use Rattle.window_model.specs.declared.Progress.TheVariants.{Done}
-use Rattle.window_model.specs.Order.{has_address, is_load, is_store, is_waiting}
-use Rattle.window_model.proofs.Booleans.{waiting_done}
+use Rattle.window_model.specs.Order.{has_address, has_data, is_load, is_store}
 use Rattle.rob_ring.specs.Beside.{each_roots, each_writers}
 use Rattle.rob_ring.specs.Ring.{below}
 use Rattle.rob_ring.specs.declared.beside.Sources.{Sources}
-use Rattle.lsq.specs.Queues.{Queues, known_at}
+use Rattle.rv_types.specs.declared.Width.{Width}
+use Rattle.window_model.specs.Retire.{stored_of}
+use Rattle.lsq.specs.Queues.{Queues, addressed_at, filled_at}
 use Rattle.lsq.specs.declared.store.Store.{Store as Queued}
-use Rattle.queue_laws.proofs.Completing.{other_completes, store_completes}
-use Rattle.queue_laws.specs.Window.{Others, StandFor, known_of, seen, shown_entry, write_in}
+use Rattle.queue_laws.proofs.Issuing.{issues_noted}
+use Rattle.queue_laws.specs.Window.{Others, StandFor, noted, seen, span_in, with_span, with_stored}
 use Rattle.queue_laws.proofs.Keeping.{cut_stands, pop_stands}
 use Rattle.queue_laws.proofs.Renaming.{adds_load, adds_other, adds_store, opens, unseen_stands}
-use Rattle.parts_stand.specs.Addresses.{AddressesStand, base_root}
+use Rattle.parts_stand.specs.Addresses.{AddressesStand, address_in, base_root}
 use Rattle.parts_stand.specs.Parts.{Parts, Stand}
 use Rattle.parts_stand.specs.Points.{PointStands}
 use Rattle.parts_stand.specs.Writers.{WritersOf}
-use Rattle.parts_stand.specs.Steps.{GoesOn, begun_with}
+use Rattle.parts_stand.specs.Steps.{GoesOn}
 use Rattle.parts_stand.proofs.Addressing.{addresses_add, addresses_add_other, addresses_go_on, addresses_know, addresses_open, addresses_retire, addresses_squash}
 use Rattle.parts_stand.proofs.Keeping.{goes_same, zip_set}
 use Rattle.parts_stand.proofs.Moving.{point_advances, point_completes, point_issues, point_opens, point_renames, point_resolves, point_retires, point_squashes, point_stops}
 use Rattle.window_model.specs.Serials.{Rise}
-use Rattle.window_model.proofs.Serials.{all_right, rise_head, rise_tail, splits}
+use Rattle.window_model.proofs.Serials.{rise_head, splits}
 use Rattle.parts_stand.proofs.Standing.{changes_unseen, completes_at, issues_at, opens_empty, renames_in, retires_head, squashes_from}
 use Rattle.parts_stand.proofs.Writing.{writers_go_on, writers_open, writers_rename, writers_retire, writers_squash}
 use Rattle.core_parts.specs.Stands.{InFlight, Stands, table_and_stations}
-use Rattle.core_parts.specs.Steps.{BeginsAt, CompletesAt, DropsYounger, OpensEmpty, PointMoves, PointStops, RenamesIn, ResolvesAt, RetiresHead, below_serial, known_with, queued, with_entry, without_head}
+use Rattle.core_parts.specs.Steps.{CompletesAt, DropsYounger, IssuesAt, OpensEmpty, PointMoves, PointStops, RenamesIn, ResolvesAt, RetiresHead, below_serial, queued, with_entry, without_head}
 
 -- by the roots and the writers as lists of their own
 stands_by : (p : InFlight) (roots writers : List (List (Option ℕ))) → roots ≡ each_roots p.sources → writers ≡ each_writers p.sources →
-    Stand (record { next = p.next; window = p.window; roots = roots; writes = p.writes; held = p.held }) → WritersOf p.next p.window writers → StandFor p.queues p.window →
+    Stand (record { version = p.version; next = p.next; window = p.window; roots = roots; writes = p.writes; held = p.held }) → WritersOf p.next p.window writers → StandFor p.queues p.window →
     AddressesStand p.window roots p.queues.stores → PointStands p.point p.next p.window → Stands p
 stands_by p roots writers r w s ws q a at = record {
-  stand = subst (λ r. Stand (record { next = p.next; window = p.window; roots = r; writes = p.writes; held = p.held })) r s;
+  stand = subst (λ r. Stand (record { version = p.version; next = p.next; window = p.window; roots = r; writes = p.writes; held = p.held })) r s;
   writers = subst (WritersOf p.next p.window) w ws;
   queues = q;
   addresses = subst (λ r. AddressesStand p.window r p.queues.stores) r a;
@@ -52,14 +48,14 @@ stands_by p roots writers r w s ws q a at = record {
 }
 
 pub stands_empty : OpensEmpty
-stands_empty d = record { stand = opens_empty 0; writers = writers_open 0; queues = opens d; addresses = addresses_open; point = point_opens d.stt_model 0 }
+stands_empty d = record { stand = opens_empty d.version 0; writers = writers_open 0; queues = opens d; addresses = addresses_open; point = point_opens d.stt_model 0 }
 
 -- ---- an entry is renamed
 
-queues_by : (k : Kind) (q : Queues) (w : List Entry) (e : Entry) (root : Option ℕ) → e.item.kind ≡ k → (k ≡ Store → is_waiting e.state ≡ true) → StandFor q w → StandFor (queued k e.serial root q) (w ++ e ∷ [])
-queues_by Load q w e root h d s = adds_load q w e s (ap is_load h)
-queues_by Store q w e root h d s = adds_store q w e root s (ap is_store h) (d refl)
-queues_by _ q w e root h d s = adds_other q w e s (ap is_load h) (ap is_store h)
+queues_by : (k : Kind) (q : Queues) (w : List Entry) (e : Entry) (root : Option ℕ) → e.item.kind ≡ k → has_address e ≡ false → has_data e ≡ false → StandFor q w → StandFor (queued k e.serial root q) (w ++ e ∷ [])
+queues_by Load q w e root h a d s = adds_load q w e s (ap is_load h)
+queues_by Store q w e root h a d s = adds_store q w e root s (ap is_store h) a d
+queues_by _ q w e root h a d s = adds_other q w e s (ap is_load h) (ap is_store h)
 
 addresses_by : (k : Kind) (p : Parts) (q : Queues) (e : Entry) (roots : List (Option ℕ)) → e.item.kind ≡ k → Stand p → AddressesStand p.window p.roots q.stores →
     AddressesStand (p.window ++ e ∷ []) (p.roots ++ roots ∷ []) (queued k e.serial (base_root roots) q).stores
@@ -73,7 +69,7 @@ stands_renamed p e k awaits place s f rs ws aw =
     (sym (map-append (λ (k : Sources). k.roots) p.sources (k ∷ []))) (sym (map-append (λ (k : Sources). k.writers) p.sources (k ∷ [])))
     (renames_in parts e k.roots awaits place s.stand f.serial rs aw)
     (writers_rename parts (each_writers p.sources) e k.writers s.stand s.writers f.serial ws)
-    (queues_by e.item.kind p.queues p.window e (base_root k.roots) refl f.waits s.queues)
+    (queues_by e.item.kind p.queues p.window e (base_root k.roots) refl f.address f.stored s.queues)
     (addresses_by e.item.kind parts p.queues e k.roots refl s.stand s.addresses)
     (point_renames p.point p.next p.window e s.point f.serial f.unresolved)
 
@@ -87,79 +83,52 @@ map_set [] i e e2 h q = absurd (cc)
 map_set (x ∷ w) zero e e2 h q = let same : x ≡ e = cc in ap (λ s. s ∷ map seen w) (q ∙ ap seen (sym same))
 map_set (x ∷ w) (suc i) e e2 h q = ap (λ ss. seen x ∷ ss) (map_set w i e e2 h q)
 
--- the queues see of an entry that begins that it isn't Done
-begun_shown : (e : Entry) (due : ℕ) (o : Outcome) (a c : Option ℕ) → is_waiting e.state ≡ true → is_some a ≡ true → shown_entry (begun_with e due o a c) ≡ shown_entry e
-begun_shown e due o a c w k =
-    ap (λ b. record { serial = e.serial; write = None; computed = b }) k
-    ∙ ap₂ (λ b w. record { serial = e.serial; write = if b then Some (write_in e) else None; computed = w || is_some e.outcome && has_address e })
-    (sym (waiting_done e.state w)) (sym w)
-
-begun_seen : (e : Entry) (due : ℕ) (o : Outcome) (a c : Option ℕ) → is_waiting e.state ≡ true → (is_store e.item.kind ≡ true → is_some a ≡ true) → seen (begun_with e due o a c) ≡ seen e
-begun_seen e due o a c w k =
-    ap (λ s. record { load = if is_load e.item.kind then Some e.serial else None; store = s })
-    (by_store (is_store e.item.kind) (λ t. begun_shown e due o a c w (k t)))
+-- what is noted of a store leaves its root
+addresses_by_span : (noted : Bool) (p : Parts) (stores : List Queued) (w : Width) (e : Entry) → AddressesStand p.window p.roots stores → AddressesStand p.window p.roots (with_span noted w e stores)
+addresses_by_span false p stores w e a = a
+addresses_by_span true p stores w e a = addresses_know p stores (addressed_at e.serial (span_in w e)) (λ s. by_test (s.serial == e.serial) s) a
   where
-    by_store : (t : Bool) → (t ≡ true → shown_entry (begun_with e due o a c) ≡ shown_entry e) →
-        (if t then Some (shown_entry (begun_with e due o a c)) else None) ≡ (if t then Some (shown_entry e) else None)
-    by_store true q = ap Some (q refl)
-    by_store false q = refl
+    by_test : (b : Bool) (s : Queued) → address_in (if b then record s { span = Some (span_in w e) } else s) ≡ address_in s
+    by_test true s = refl
+    by_test false s = refl
 
-pub stands_begun : BeginsAt
-stands_begun p i due e o a c s h w k =
+addresses_by_stored : (noted : Bool) (p : Parts) (stores : List Queued) (e : Entry) → AddressesStand p.window p.roots stores → AddressesStand p.window p.roots (with_stored noted e stores)
+addresses_by_stored false p stores e a = a
+addresses_by_stored true p stores e a = addresses_know p stores (filled_at e.serial (stored_of e.outcome)) (λ s. by_test (s.serial == e.serial) s) a
+  where
+    by_test : (b : Bool) (s : Queued) → address_in (if b then record s { stored = Some (stored_of e.outcome) } else s) ≡ address_in s
+    by_test true s = refl
+    by_test false s = refl
+
+addresses_noted : (store : Bool) (p : Parts) (stores : List Queued) (w : Width) (e : Entry) → AddressesStand p.window p.roots stores →
+    AddressesStand p.window p.roots (if store then with_stored (has_data e) e (with_span (has_address e) w e stores) else stores)
+addresses_noted false p stores w e a = a
+addresses_noted true p stores w e a = addresses_by_stored (has_data e) p (with_span (has_address e) w e stores) e (addresses_by_span (has_address e) p stores w e a)
+
+pub stands_issued : IssuesAt
+stands_issued p i e e2 w s h waits issued on_so =
     let parts = table_and_stations p in
-    let new = slice_set p.window i (begun_with e due o a c) in
-    let on = goes_at p.window i e (begun_with e due o a c) h (record { serial = refl; item = refl }) in
+    let new = slice_set p.window i e2 in
+    let on = goes_at p.window i e e2 h issued.on in
     record {
-      stand = issues_at parts i due e o a c s.stand h w;
+      stand = issues_at parts i e e2 s.stand h waits issued;
       writers = writers_go_on parts (each_writers p.sources) new s.writers on;
-      queues = unseen_stands p.queues p.window new s.queues (map_set p.window i e (begun_with e due o a c) h (begun_seen e due o a c w k));
-      addresses = addresses_go_on parts p.queues.stores new s.addresses on;
-      point = point_issues p.point p.next p.window i due e o a c s.point h w;
+      queues = issues_noted p.queues p.window i e e2 w s.queues h s.stand.rise issued.on.serial issued.on.item on_so;
+      addresses = addresses_go_on parts (noted w e2 p.queues).stores new (addresses_noted (is_store e2.item.kind) parts p.queues.stores w e2 s.addresses) on;
+      point = point_issues p.point p.next p.window i e e2 s.point h waits issued;
     }
 
-others_older : (older : List Entry) (e : Entry) (younger : List Entry) → Rise (older ++ e ∷ younger) → Others e.serial older
-others_older [] e younger r = All-nil (λ d. d.serial ≢ e.serial)
-others_older (x ∷ older) e younger r =
-    let lt : x.serial < e.serial = All-head (λ d. x.serial < d.serial) e younger (all_right (λ d. x.serial < d.serial) older (e ∷ younger) (rise_head x (older ++ e ∷ younger) r)) in
-    All-cons (λ d. d.serial ≢ e.serial) x older (omega (arith, lt)) (others_older older e younger (rise_tail x (older ++ e ∷ younger) r))
-
-others_younger : (older : List Entry) (e : Entry) (younger : List Entry) → Rise (older ++ e ∷ younger) → Others e.serial younger
-others_younger [] e younger r = All-weaker (λ d. e.serial < d.serial) (λ d. d.serial ≢ e.serial) (λ d lt. omega (arith, lt)) younger (rise_head e younger r)
-others_younger (x ∷ older) e younger r = others_younger older e younger (rise_tail x (older ++ e ∷ younger) r)
-
--- an entry in its place
-split_at : (entries : List Entry) (i : ℕ) (e : Entry) → slice_get entries i ≡ Some e → entries ≡ take i entries ++ e ∷ drop (suc i) entries
-split_at [] i e h = absurd (cc)
-split_at (x ∷ entries) zero e h = let q : x ≡ e = cc in ap (λ x. x ∷ entries) q
-split_at (x ∷ entries) (suc i) e h = ap (λ es. x ∷ es) (split_at entries i e h)
-
-done_by : (q : Queues) (older younger : List Entry) (e : Entry) (w : Width) (b : Bool) → is_store e.item.kind ≡ b → is_waiting e.state ≡ false → bytes_in w ≡ width_of e → Rise (older ++ e ∷ younger) → StandFor q (older ++ e ∷ younger) →
-    StandFor (record q { stores = if b then map (known_at e.serial (known_of w e)) q.stores else q.stores }) (older ++ record e { state = Done } ∷ younger)
-done_by q older younger e w true k n b r s = store_completes q older younger e w s k n b (others_older older e younger r) (others_younger older e younger r)
-done_by q older younger e w false k n b r s = other_completes q older younger e s k
-
-queues_done : (q : Queues) (entries : List Entry) (i : ℕ) (e : Entry) (w : Width) → slice_get entries i ≡ Some e → is_waiting e.state ≡ false → bytes_in w ≡ width_of e → Rise entries → StandFor q entries →
-    StandFor (record q { stores = known_with w e q.stores }) (slice_set entries i (record e { state = Done }))
-queues_done q entries i e w h n b r s =
-    let whole = split_at entries i e h in
-    subst (StandFor (record q { stores = known_with w e q.stores })) (sym (set_split entries i (record e { state = Done }) (slice_get_within entries i e h)))
-    (done_by q (take i entries) (drop (suc i) entries) e w (is_store e.item.kind) refl n b (subst Rise whole r) (subst (StandFor q) whole s))
-
-addresses_known : (p : Parts) (stores : List Queued) (e : Entry) (w : Width) (b : Bool) → AddressesStand p.window p.roots stores →
-    AddressesStand p.window p.roots (if b then map (known_at e.serial (known_of w e)) stores else stores)
-addresses_known p stores e w true s = addresses_know p stores e.serial (known_of w e) s
-addresses_known p stores e w false s = s
-
 pub stands_done : CompletesAt
-stands_done p i e w s h n b =
+stands_done p i e s h n =
     let parts = table_and_stations p in
     let e2 = record e { state = Done } in
+    let new = slice_set p.window i e2 in
     let on = goes_at p.window i e e2 h (record { serial = refl; item = refl }) in
     record {
       stand = completes_at parts i e s.stand h n;
-      writers = writers_go_on parts (each_writers p.sources) (slice_set p.window i e2) s.writers on;
-      queues = queues_done p.queues p.window i e w h n b s.stand.rise s.queues;
-      addresses = addresses_go_on parts (known_with w e p.queues.stores) (slice_set p.window i e2) (addresses_known parts p.queues.stores e w (is_store e.item.kind) s.addresses) on;
+      writers = writers_go_on parts (each_writers p.sources) new s.writers on;
+      queues = unseen_stands p.queues p.window new s.queues (map_set p.window i e e2 h refl);
+      addresses = addresses_go_on parts p.queues.stores new s.addresses on;
       point = point_completes p.point p.next p.window i e s.point h;
     }
 
@@ -171,7 +140,7 @@ stands_resolved p i e s h w =
     let go : GoesOn e e2 = record { serial = refl; item = refl } in
     let on = goes_at p.window i e e2 h go in
     record {
-      stand = changes_unseen parts i e e2 s.stand h go refl;
+      stand = changes_unseen parts i e e2 s.stand h go refl (λ version. refl);
       writers = writers_go_on parts (each_writers p.sources) new s.writers on;
       queues = unseen_stands p.queues p.window new s.queues (map_set p.window i e e2 h refl);
       addresses = addresses_go_on parts p.queues.stores new s.addresses on;

@@ -1,10 +1,10 @@
 -- The parts once all that is younger than an entry is gone.
-use Rattle.std.proofs.Common.{◌≡◌, ℕ, ◌+◌, ◌<◌, ◌≤◌, List, [], ◌∷◌, ◌++◌, length, take, Option, refl, ap, sym, ◌∙◌, subst, arith}
-use Rattle.std.specs.Prelude.{◌^◌, ◌-◌, nat_lt}
-use Rattle.std.specs.List.{All, AllByRecursion as Each, filter}
-use Rattle.std.proofs.lemmas.List.{length-append}
+use Rattle.std.proofs.Common.{◌≡◌, ℕ, ◌+◌, ◌<◌, ◌≤◌, List, [], ◌∷◌, ◌++◌, length, take, Option, ap, sym, ◌∙◌, subst, arith, lit≤}
+use Rattle.std.specs.Prelude.{◌^◌, nat_lt}
+use Rattle.std.specs.List.{AllByRecursion as Each, filter}
 use Rattle.circular_buffer.specs.Buffer.{Buffer, buffer}
 use Rattle.machine_desc.specs.declared.Desc.{Desc}
+use Rattle.machine_desc.proofs.Versions.{most_up_to}
 use Rattle.window_model.specs.declared.Entry.{Entry}
 use Rattle.window_model.specs.Resolve.{freed_from}
 use Rattle.window_model.specs.declared.Divider.{Divider}
@@ -22,7 +22,6 @@ use Rattle.stations.specs.Stations.{Stations}
 use Rattle.lsq.specs.Queues.{Queues}
 use Rattle.unit_ports.specs.Ports.{Ports}
 use Rattle.fetch_unit.specs.Unit.{FetchUnit}
-use Rattle.visibility.specs.Point.{Point}
 use Rattle.window_model.proofs.Serials.{all_at, splits}
 use Rattle.core_parts.specs.Described.{Described}
 use Rattle.core_parts.specs.Held.{Held, Whole, described, in_flight, machine_of}
@@ -127,6 +126,6 @@ pub few_dropped : (h : Held) → Whole h → length h.rob.entries + length h.fet
 few_dropped h w =
     let a = w.sized.entries in
     let b = w.sized.queue in
-    let c = h.desc.few_entries in
-    let d = h.desc.short_queue in
+    let c = most_up_to 64 192 h.desc.version h.desc.core_rob (lit≤ tt) h.desc.few_entries in
+    let d = most_up_to 16 32 h.desc.version h.desc.core_queue (lit≤ tt) h.desc.short_queue in
     omega (arith, a, b, c, d)

@@ -76,6 +76,7 @@ described h = record { desc = h.desc; code = h.code; machine = machine_of h; poi
 -- what they hold of the entries in flight
 abbrev pub in_flight : Held → InFlight
 in_flight h = record {
+  version = h.desc.version;
   next = h.next_serial;
   window = h.rob.entries;
   sources = h.sources.items;

@@ -35,9 +35,9 @@ address_roots before (e ∷ es) =
 abbrev pub HasAddressRoots : ℕ → List Store → List Entry → Type 0
 HasAddressRoots next stores window = map (λ s. unretired (oldest_of next window) s.root) stores ≡ address_roots [] window
 
--- the stations hold the entries that wait, and what their sources await
-abbrev pub HoldsWaiting : Stations → List Entry → Type 0
-HoldsWaiting s window = map waiter_in s.held ≡ waiters_from [] window
+-- the stations hold the entries that wait, what they want in this version of the machine, and what their sources await
+abbrev pub HoldsWaiting : ℕ → Stations → List Entry → Type 0
+HoldsWaiting version s window = map waiter_in s.held ≡ waiters_from version [] window
 
 -- and one awaits nothing exactly where its entry is ready
 abbrev pub TellsReady : Stations → List Entry → Type 0

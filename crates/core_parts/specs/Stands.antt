@@ -16,6 +16,8 @@ use Rattle.parts_stand.specs.Writers.{WritersOf}
 
 -- what the parts hold of the entries in flight, all lists oldest first
 pub record InFlight : Type 0 where
+  -- the version of the machine
+  pub version : ℕ
   -- the serial that the next entry gets
   pub next : ℕ
   -- the entries
@@ -33,7 +35,7 @@ pub record InFlight : Type 0 where
 
 -- those of which `parts_stand` speaks
 abbrev pub table_and_stations : InFlight → Parts
-table_and_stations p = record { next = p.next; window = p.window; roots = each_roots p.sources; writes = p.writes; held = p.held }
+table_and_stations p = record { version = p.version; next = p.next; window = p.window; roots = each_roots p.sources; writes = p.writes; held = p.held }
 
 -- the parts stand for the window
 pub record Stands (p : InFlight) : Type 0 where

@@ -1,38 +1,34 @@
 -- What becomes of the parts in each step of a cycle, and that they go on to stand for the window (docs/architecture.md, "How they
 -- stand for it").
-use Rattle.std.specs.Prelude.{◌≡◌, ℕ, ◌+◌, ◌≤◌, not, ◌==◌, nat_lt, true, false, List, [], ◌∷◌, ◌++◌, length, map, reverse, take, drop, slice_get, slice_set, Option, Some, None, is_some, if◌then◌else◌}
-use Rattle.std.specs.List.{filter, remove}
+use Rattle.std.specs.Prelude.{◌≡◌, ℕ, ◌+◌, ◌≤◌, not, ◌==◌, nat_lt, true, false, List, [], ◌∷◌, ◌++◌, length, map, reverse, take, drop, slice_get, slice_set, Option, Some, None}
+use Rattle.std.specs.List.{filter}
 use Rattle.std.specs.Option.{option_to_list}
 use Rattle.rv_types.specs.Regs.{two}
-use Rattle.rv_types.specs.Value.{bytes_in}
 use Rattle.rv_types.specs.declared.Width.{Width}
 use Rattle.rv_types.specs.declared.Kind.{Kind}
 use Rattle.rv_types.specs.declared.Kind.TheVariants.{Load, Store}
 use Rattle.machine_desc.specs.declared.Desc.{Desc}
 use Rattle.window_model.specs.declared.Entry.{Entry}
-use Rattle.window_model.specs.declared.Outcome.{Outcome}
 use Rattle.window_model.specs.declared.Progress.TheVariants.{Done}
-use Rattle.window_model.specs.Order.{is_control, is_done, is_store, is_waiting, sources}
-use Rattle.window_model.specs.Retire.{width_of}
+use Rattle.window_model.specs.Order.{has_address, has_data, is_control, is_done, is_store, is_waiting, sources}
 use Rattle.rob_ring.specs.Ring.{below}
 use Rattle.rob_ring.specs.declared.beside.Sources.{Sources}
 use Rattle.rename_taint.specs.Writes.{before_serial, root_at, without_retired}
 use Rattle.stations.specs.Stations.{struck}
 use Rattle.lsq.specs.Queues as queues
-use Rattle.lsq.specs.Queues.{Queues, known_at}
-use Rattle.lsq.specs.declared.store.Store.{Store as Queued}
-use Rattle.queue_laws.specs.Window.{known_of}
+use Rattle.lsq.specs.Queues.{Queues}
+use Rattle.queue_laws.specs.Window.{PartsGoOn, noted}
 use Rattle.visibility.specs.Point.{moved_over}
 use Rattle.parts_stand.specs.Parts.{awaits_of, write_of}
 use Rattle.parts_stand.specs.Addresses.{base_root}
-use Rattle.parts_stand.specs.Steps.{begun_with, seated, station_of}
+use Rattle.parts_stand.specs.Steps.{Issues, left_held, seated, station_of}
 use Rattle.parts_stand.specs.Writers.{named}
 use Rattle.core_parts.specs.Stands.{InFlight, Stands}
 
 -- ---- before the first cycle
 
 abbrev pub empty : Desc → InFlight
-empty d = record { next = 0; window = []; sources = []; writes = []; held = []; queues = queues.empty d; point = record { serial = 0; model = d.stt_model } }
+empty d = record { version = d.version; next = 0; window = []; sources = []; writes = []; held = []; queues = queues.empty d; point = record { serial = 0; model = d.stt_model } }
 
 abbrev pub OpensEmpty : Type 0
 OpensEmpty = (d : Desc) → Stands (empty d)
@@ -42,7 +38,7 @@ OpensEmpty = (d : Desc) → Stands (empty d)
 -- the queues with a load or store more, with the youngest root of its address
 abbrev pub queued : Kind → ℕ → Option ℕ → Queues → Queues
 queued Load serial root q = record q { loads = q.loads ++ serial ∷ [] }
-queued Store serial root q = record q { stores = q.stores ++ record { serial = serial; root = root; known = None } ∷ [] }
+queued Store serial root q = record q { stores = q.stores ++ record { serial = serial; root = root; span = None; stored = None } ∷ [] }
 queued _ serial root q = q
 
 -- with what the table names for its sources, what they await, and a place for its station
@@ -52,15 +48,16 @@ with_entry place s awaits e p = record p {
   window = p.window ++ e ∷ [];
   sources = p.sources ++ s ∷ [];
   writes = p.writes ++ option_to_list (write_of e s.roots);
-  held = seated place awaits e p.held;
+  held = seated p.version place awaits e p.held;
   queues = queued e.item.kind e.serial (base_root s.roots) p.queues;
 }
 
--- it has the next serial, and isn't resolved; a store waits
+-- it has the next serial, isn't resolved, and no part of it has issued
 pub record Fresh (p : InFlight) (e : Entry) : Type 0 where
   pub serial : e.serial ≡ p.next
   pub unresolved : e.resolved ≡ false
-  pub waits : e.item.kind ≡ Store → is_waiting e.state ≡ true
+  pub address : has_address e ≡ false
+  pub stored : has_data e ≡ false
 
 abbrev pub RenamesIn : Type 0
 RenamesIn = (p : InFlight) (e : Entry) (s : Sources) (awaits : List (Option ℕ)) (place : ℕ) → Stands p → Fresh p e → s.roots ≡ map (root_at p.writes) (two (sources e)) →
@@ -68,28 +65,25 @@ RenamesIn = (p : InFlight) (e : Entry) (s : Sources) (awaits : List (Option ℕ)
 
 -- ---- the entry at a position goes on
 
--- it begins, and its station is freed
-abbrev pub with_begun : ℕ → ℕ → Outcome → Option ℕ → Option ℕ → Entry → InFlight → InFlight
-with_begun i due o address stored e p = record p { window = slice_set p.window i (begun_with e due o address stored); held = remove p.held (station_of i p.window) }
-
--- a store with its address
-abbrev pub BeginsAt : Type 0
-BeginsAt = (p : InFlight) (i due : ℕ) (e : Entry) (o : Outcome) (address stored : Option ℕ) → Stands p → slice_get p.window i ≡ Some e → is_waiting e.state ≡ true →
-    (is_store e.item.kind ≡ true → is_some address ≡ true) → Stands (with_begun i due o address stored e p)
-
--- it becomes Done: no station awaits it any more, and what it writes is known, if it is a store, with the width of its access
-abbrev pub known_with : Width → Entry → List Queued → List Queued
-known_with w e stores = if is_store e.item.kind then map (known_at e.serial (known_of w e)) stores else stores
-
-abbrev pub with_done : ℕ → Width → Entry → InFlight → InFlight
-with_done i w e p = record p {
-  window = slice_set p.window i (record e { state = Done });
-  held = map (struck e.serial) p.held;
-  queues = record (p.queues) { stores = known_with w e p.queues.stores };
+-- it issues, or a part of it: its station is freed or waits for what is left, and a store's parts that have issued are noted, with
+-- the width of its access
+abbrev pub with_issued : ℕ → Width → Entry → InFlight → InFlight
+with_issued i w e p = record p {
+  window = slice_set p.window i e;
+  held = left_held p.version (station_of i p.window) e p.held;
+  queues = noted w e p.queues;
 }
 
+abbrev pub IssuesAt : Type 0
+IssuesAt = (p : InFlight) (i : ℕ) (e e2 : Entry) (w : Width) → Stands p → slice_get p.window i ≡ Some e → is_waiting e.state ≡ true →
+    Issues e e2 → (is_store e.item.kind ≡ true → PartsGoOn w e e2) → Stands (with_issued i w e2 p)
+
+-- it becomes Done: no station awaits it any more
+abbrev pub with_done : ℕ → Entry → InFlight → InFlight
+with_done i e p = record p { window = slice_set p.window i (record e { state = Done }); held = map (struck e.serial) p.held }
+
 abbrev pub CompletesAt : Type 0
-CompletesAt = (p : InFlight) (i : ℕ) (e : Entry) (w : Width) → Stands p → slice_get p.window i ≡ Some e → is_waiting e.state ≡ false → bytes_in w ≡ width_of e → Stands (with_done i w e p)
+CompletesAt = (p : InFlight) (i : ℕ) (e : Entry) → Stands p → slice_get p.window i ≡ Some e → is_waiting e.state ≡ false → Stands (with_done i e p)
 
 -- it is marked as resolved
 abbrev pub with_resolved : ℕ → Entry → InFlight → InFlight

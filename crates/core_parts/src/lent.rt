@@ -26,9 +26,9 @@ impl<R: RenameTaint> Parts<R> {
         &self.table
     }
 
-    /// The stations: they hold the entries that wait, and tell which are ready.
+    /// The stations: they hold the entries that wait and what these want, and tell which are ready.
     pub fn stations(&self) -> &Stations
-        ensures waiting { HoldsWaiting result.now self.now.machine.window }
+        ensures waiting { HoldsWaiting self.now.desc.version result.now self.now.machine.window }
         ensures ready { TellsReady result.now self.now.machine.window }
     {
         &self.stations

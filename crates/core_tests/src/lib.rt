@@ -19,4 +19,6 @@ mod pairs;
 #[cfg(test)]
 mod phases;
 #[cfg(test)]
+mod stores;
+#[cfg(test)]
 mod traces;

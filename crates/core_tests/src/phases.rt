@@ -1,5 +1,10 @@
-//! The phases one by one over four words in flight (`flights.rt`), over both tables of names.
+//! The phases one by one over words in flight (`flights.rt`, `stores.rt`), over both tables of names.
+ghost use Rattle.std.specs.Prelude.{◌≡◌, true};
+ghost use Rattle.std.specs.List.{AllByRecursion as Each};
+ghost use Rattle.machine_facts.specs.Timely.{WaitsOrDone};
+
 use crate::flights::{COMPLETING, Flight, ISSUING, Phase, RESOLVING};
+use crate::stores::STORES;
 use complete::complete;
 use core_parts::{Parts, parts_of};
 use fill::fill;
@@ -8,10 +13,11 @@ use machine_desc::{Desc, EXAMPLE, SttModel, read_desc};
 use rename::rename;
 use rename_taint::{ByScan, ByTable, RenameTaint};
 use resolve::resolve;
+use rob_ring::RobRing;
 use std::alloc::Global;
 use std::process::Abort;
 use std::test::Fail;
-use window_model::{Progress, Row, empty_row};
+use window_model::{Entry, Progress, Row, empty_row};
 
 // The description with four words fetched a cycle, under this model.
 fn wide(desc: &Desc, model: SttModel) -> Desc {
@@ -19,6 +25,28 @@ fn wide(desc: &Desc, model: SttModel) -> Desc {
     changed.core_fetch_width = 4;
     changed.stt_model = model;
     changed
+}
+
+// Whether the entry is no store that executes.
+fn is_settled(entry: &Entry) -> bool
+    ensures { result ≡ true → WaitsOrDone entry.now }
+{
+    if let Progress::Busy(_) = entry.state {
+        return !entry.is_store();
+    }
+    true
+}
+
+// Whether no store executes.
+fn are_settled(rob: &RobRing) -> bool
+    ensures { result ≡ true → Each WaitsOrDone rob.now.entries }
+{
+    for i in 0..rob.len() {
+        if !is_settled(rob.lend(i)) {
+            return false;
+        }
+    }
+    true
 }
 
 // The phase goes in this cycle, on the visibility point that has moved over the window; the row has its events alone.
@@ -40,7 +68,12 @@ fn perform<R: RenameTaint>(
         Phase::Fill => fill(parts, row),
         Phase::Complete => complete(parts, row),
         Phase::Resolve => resolve(parts, row),
-        Phase::Issue => issue(parts, row),
+        Phase::Issue => {
+            if !are_settled(parts.rob()) {
+                panic!(rt; "a store executes as Issue begins");
+            }
+            issue(parts, row);
+        }
         Phase::Fetch => parts.fetch(row),
         Phase::Rename => {
             if parts.next_serial > 100 {
@@ -68,14 +101,14 @@ fn assert_left<R: RenameTaint>(rt: &impl Abort, parts: &Parts<R>, left: &[(Progr
     }
 }
 
-// The flight goes phase by phase as it was worked out.
+// The flight goes phase by phase as it was worked out, under this description.
 fn goes_as_worked<R: RenameTaint + Drop>(
     rt: &impl Abort,
     alloc: Global,
+    desc: &Desc,
     flight: &Flight,
 ) -> Result<(), Fail> {
-    let desc = wide(&read_desc(alloc, EXAMPLE.as_bytes())?, flight.model);
-    let made: Option<Parts<R>> = parts_of(alloc, &desc, flight.words)?;
+    let made: Option<Parts<R>> = parts_of(alloc, &wide(desc, flight.model), flight.words)?;
     let Some(mut parts) = made else {
         panic!(rt; "the words are refused");
     };
@@ -91,26 +124,44 @@ fn goes_as_worked<R: RenameTaint + Drop>(
     Ok(())
 }
 
-// They do over both tables.
-fn go_as_worked(rt: &impl Abort, alloc: Global, flights: &[Flight]) -> Result<(), Fail> {
+// They do over both tables, under the example description in this version.
+fn go_as_worked(
+    rt: &impl Abort,
+    alloc: Global,
+    version: u32,
+    flights: &[Flight],
+) -> Result<(), Fail> {
+    let text = format!(in alloc; "version = {version}\n{EXAMPLE}")?;
+    let desc = read_desc(alloc, text.as_bytes())?;
     for flight in flights {
-        goes_as_worked::<ByTable>(rt, alloc, flight)?;
-        goes_as_worked::<ByScan>(rt, alloc, flight)?;
+        goes_as_worked::<ByTable>(rt, alloc, &desc, flight)?;
+        goes_as_worked::<ByScan>(rt, alloc, &desc, flight)?;
     }
     Ok(())
 }
 
 #[test]
 fn who_is_due_becomes_done(rt: HostRuntime) -> Result<(), Fail> {
-    go_as_worked(&rt, rt.alloc(), &COMPLETING)
+    for version in [1, 2] {
+        go_as_worked(&rt, rt.alloc(), version, &COMPLETING)?;
+    }
+    Ok(())
 }
 
 #[test]
 fn a_wrong_prediction_squashes(rt: HostRuntime) -> Result<(), Fail> {
-    go_as_worked(&rt, rt.alloc(), &RESOLVING)
+    for version in [1, 2] {
+        go_as_worked(&rt, rt.alloc(), version, &RESOLVING)?;
+    }
+    Ok(())
 }
 
 #[test]
 fn who_may_issues(rt: HostRuntime) -> Result<(), Fail> {
-    go_as_worked(&rt, rt.alloc(), &ISSUING)
+    go_as_worked(&rt, rt.alloc(), 1, &ISSUING)
+}
+
+#[test]
+fn a_store_issues_in_two_parts(rt: HostRuntime) -> Result<(), Fail> {
+    go_as_worked(&rt, rt.alloc(), 2, &STORES)
 }

@@ -112,8 +112,54 @@ fn the_example_is_accepted(rt: HostRuntime) -> Result<(), Fail> {
     Ok(())
 }
 
-// Each number: its line, its name, its whole name, a number below its range, its least, its most, a number above.
-const NUMBERS: [(&str, &str, &str, i64, i64, i64, i64); 19] = [
+/// A description of version 2: what is wider there at its most, and no number twice where its range lets it be another.
+const LARGE: &str = "\
+version = 2\n\
+[core]\n\
+fetch_width = 4\n\
+retire_width = 3\n\
+rob = 192\n\
+stations = 96\n\
+loads = 64\n\
+stores = 48\n\
+queue = 32\n\
+[units]\n\
+alus = 2\n\
+mul_latency = 5\n\
+[predictor]\n\
+counters = 4096\n\
+btb = 256\n\
+[cache]\n\
+sets = 128\n\
+ways = 7\n\
+line = 16\n\
+hit_latency = 6\n\
+miss_latency = 200\n\
+mshrs = 8\n\
+[ram]\n\
+base = 65552\n\
+size = 1048576\n\
+[stt]\n\
+model = \"futuristic\"\n\
+";
+
+#[test]
+fn a_description_of_version_2(rt: HostRuntime) -> Result<(), Fail> {
+    let desc = read_desc(rt.alloc(), LARGE.as_bytes())?;
+    let wanted = [
+        4, 3, 192, 96, 64, 48, 32, 2, 5, 4096, 256, 128, 7, 16, 6, 200, 8, 65552, 1048576,
+    ];
+    assert_eq!(rt; numbers(&desc).as_slice(), wanted.as_slice());
+    assert_eq!(rt; desc.version, 2);
+    assert_eq!(rt; desc.stt_model, SttModel::Futuristic);
+    assert_eq!(rt; bound(&desc), 507);
+    Ok(())
+}
+
+/// A number: its line, its name, its whole name, a number below its range, its least, its most, a number above.
+type Number = (&'static str, &'static str, &'static str, i64, i64, i64, i64);
+
+const NUMBERS: [Number; 19] = [
     (
         "fetch_width = 2",
         "fetch_width",
@@ -199,21 +245,51 @@ const NUMBERS: [(&str, &str, &str, i64, i64, i64, i64); 19] = [
     ),
 ];
 
+// The numbers whose ranges are other ones in version 2.
+const WIDER: [Number; 5] = [
+    ("rob = 16", "rob", "core.rob", 3, 4, 192, 193),
+    ("stations = 8", "stations", "core.stations", 1, 2, 96, 97),
+    ("loads = 4", "loads", "core.loads", 0, 1, 64, 65),
+    ("stores = 4", "stores", "core.stores", 0, 1, 48, 49),
+    ("queue = 8", "queue", "core.queue", 0, 1, 32, 33),
+];
+
+// What is told of the example with this version at the top and this number in the place of the line.
+fn expect_number(
+    rt: &impl Abort,
+    alloc: Global,
+    version: u32,
+    number: (&str, &str, i64),
+    wanted: &str,
+) -> Result<(), Fail> {
+    let (line, name, value) = number;
+    let top = format!(in alloc; "version = {version}\n[core]")?;
+    let changed = format!(in alloc; "{name} = {value}")?;
+    let text = text(alloc, ("[core]", top.as_str()), (line, changed.as_str()))?;
+    expect(rt, alloc, text.as_bytes(), wanted)
+}
+
+// In this version the number has this range.
+fn has_range(rt: &impl Abort, alloc: Global, version: u32, number: Number) -> Result<(), Fail> {
+    let (line, name, whole, below, least, most, above) = number;
+    for inside in [least, most] {
+        expect_number(rt, alloc, version, (line, name, inside), "accepted")?;
+    }
+    for outside in [below, above] {
+        let wanted = format!(in alloc; "K5 {whole} {outside}")?;
+        expect_number(rt, alloc, version, (line, name, outside), wanted.as_str())?;
+    }
+    Ok(())
+}
+
 #[test]
 fn each_number_at_its_ends(rt: HostRuntime) -> Result<(), Fail> {
     let alloc = rt.alloc();
-    for (line, name, whole, below, least, most, above) in NUMBERS {
-        for number in [least, most] {
-            let changed = format!(in alloc; "{name} = {number}")?;
-            let text = text(alloc, (line, changed.as_str()), ("", ""))?;
-            expect(&rt, alloc, text.as_bytes(), "accepted")?;
-        }
-        for number in [below, above] {
-            let changed = format!(in alloc; "{name} = {number}")?;
-            let text = text(alloc, (line, changed.as_str()), ("", ""))?;
-            let wanted = format!(in alloc; "K5 {whole} {number}")?;
-            expect(&rt, alloc, text.as_bytes(), wanted.as_str())?;
-        }
+    for number in NUMBERS {
+        has_range(&rt, alloc, 1, number)?;
+    }
+    for number in WIDER {
+        has_range(&rt, alloc, 2, number)?;
     }
     Ok(())
 }
@@ -316,10 +392,10 @@ fn each_fault(rt: HostRuntime) -> Result<(), Fail> {
 }
 
 // What stands at the top, a changed line of the example, and what is told.
-const VERSIONS: [(&str, (&str, &str), &str); 20] = [
+const VERSIONS: [(&str, (&str, &str), &str); 25] = [
     ("", ("", ""), "accepted"),
     ("version = 1", ("", ""), "accepted"),
-    ("version = 2", ("", ""), "K5 version 2"),
+    ("version = 2", ("", ""), "accepted"),
     ("version = 0", ("", ""), "K5 version 0"),
     ("version = 3", ("", ""), "K5 version 3"),
     ("version = -1", ("", ""), "K5 version -1"),
@@ -338,11 +414,21 @@ const VERSIONS: [(&str, (&str, &str), &str); 20] = [
     ("", ("rob = 16", "rob = 16\nversion = 1"), "K2 core.version"),
     // the ranges of version 1
     ("version = 1", ("rob = 16", "rob = 65"), "K5 core.rob 65"),
+    (
+        "version = 1",
+        ("queue = 8", "queue = 32"),
+        "K5 core.queue 32",
+    ),
+    // what no version changes
+    ("version = 2", ("alus = 2", "alus = 5"), "K5 units.alus 5"),
+    ("version = 2", ("[stt]", "[sttt]"), "K2 sttt"),
+    ("version = 2", ("rob = 16", ""), "K3 core.rob"),
     // the first of two faults
     ("version = 3", ("rob = 16", "rob ="), "K1"),
     ("version = 3", ("[stt]", "[sttt]"), "K5 version 3"),
     ("version = \"1\"", ("alus = 2", "alu = 2"), "K4 version"),
     ("version = 3", ("rob = 16", "rob = 193"), "K5 version 3"),
+    ("version = 2.0", ("rob = 16", "rob = 193"), "K4 version"),
 ];
 
 #[test]

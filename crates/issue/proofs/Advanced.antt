@@ -35,18 +35,18 @@ comes_alike model e r (Begins due o q) w u = subst (Alike model e) (sym q) (refl
 -- ---- a store whose parts go isn't Done, before or after
 
 -- one that lacks a part waits
-lacks_address : (a b w : Bool) → (a && b) ≡ not w → a ≡ false → w ≡ true
+pub lacks_address : (a b w : Bool) → (a && b) ≡ not w → a ≡ false → w ≡ true
 lacks_address false b true h q = refl
 lacks_address false b false h q = absurd (cc)
 lacks_address true b w h q = absurd (cc)
 
-lacks_data : (a b w : Bool) → (a && b) ≡ not w → b ≡ false → w ≡ true
+pub lacks_data : (a b w : Bool) → (a && b) ≡ not w → b ≡ false → w ≡ true
 lacks_data a b true h q = refl
 lacks_data true false false h q = absurd (cc)
 lacks_data false false false h q = absurd (cc)
 lacks_data a true false h q = absurd (cc)
 
-still_undone : (a c : Option ℕ) (s : Progress) → is_done s ≡ false → is_done (busy_until_both a c s) ≡ false
+pub still_undone : (a c : Option ℕ) (s : Progress) → is_done s ≡ false → is_done (busy_until_both a c s) ≡ false
 still_undone (Some a) (Some c) s h = refl
 still_undone (Some a) None s h = h
 still_undone None c s h = h

@@ -1,20 +1,25 @@
--- Which ports an entry asks for in version 1, where both parts of a store go together: a store asks for the ports of both exactly where
--- it waits and is ready.
-use Rattle.std.proofs.Common.{◌≡◌, ℕ, zero, suc, Bool, true, false, not, ◌&&◌, ◌||◌, List, [], ◌∷◌, Some, refl, ap, ap₂, sym, subst, ◌∙◌, slice_get}
+-- Which ports an entry asks for: one in one piece for its own, where it may issue; a store for that of each part, where the part may.
+use Rattle.std.proofs.Common.{◌≡◌, ℕ, zero, suc, Bool, true, false, not, ◌&&◌, ◌||◌, List, [], ◌∷◌, Some, refl, ap, ap₂, sym, subst, ◌∙◌, slice_get, eqb-true}
 use Rattle.std.specs.Prelude.{◌==◌, if◌then◌else◌, nat_lt}
 use Rattle.std.specs.List.{AllByRecursion as Each}
-use Rattle.std.proofs.Math.Bool.{and-true}
+use Rattle.std.proofs.Math.Bool.{and-false, and-true}
 use Rattle.rv_types.specs.declared.Kind.{Kind}
 use Rattle.rv_types.specs.declared.Kind.TheVariants.{Div, Load, Mul, Store}
 use Rattle.machine_desc.specs.declared.Desc.{Desc}
 use Rattle.window_model.specs.declared.Entry.{Entry}
 use Rattle.window_model.specs.Around.{Around}
 use Rattle.window_model.specs.Along.{Fact}
-use Rattle.window_model.specs.Issue.{Port, AddressPort, DataPort, asking, bytes_of, goes_behind, is_granted, is_whole, may_at, may_issue, may_issue_as, part_may, port_of, ports, ready_part, same_port, stores_done, stores_let}
-use Rattle.window_model.proofs.Booleans.{both}
+use Rattle.window_model.specs.Issue.{Port, AddressPort, DataPort, asking, is_granted, is_whole, may_at, may_issue, may_issue_as, part_may, port_of, ports, ready_part, same_port}
+use Rattle.window_model.proofs.Booleans.{both, neither}
 use Rattle.window_model.specs.Order.{all_known, base_of, has_address, has_data, is_store, is_waiting, others_of, ready, sources}
 use Rattle.machine_facts.specs.Sized.{HasParts, Together}
 use Rattle.unit_ports.specs.Ports.{port_for}
+use Rattle.stations.specs.declared.wants.Part.{Part}
+use Rattle.stations.specs.declared.wants.Part.TheVariants as part
+use Rattle.stations.specs.declared.wants.Wants.TheVariants as wants
+use Rattle.parts_stand.specs.Parts.{wants_by, wants_of}
+use Rattle.parts_stand.specs.Telling.{has_sources, own_of}
+use Rattle.issue.specs.Ports.{has_issued, part_port}
 use Rattle.issue.specs.declared.seen.Seen.{Seen}
 use Rattle.issue.specs.State.{Stands, StandsAt}
 
@@ -28,7 +33,7 @@ each_here P [] i x a h = absurd (cc)
 each_here P (y ∷ xs) zero x a h = let same : y ≡ x = cc in subst P same a.0
 each_here P (y ∷ xs) (suc i) x a h = each_here P xs i x a.1 h
 
--- what is known of the parts of a store: one that waits has neither, any other has both
+-- what is known of the parts of a store: one that waits lacks one, any other has both; in version 1 they go together
 pub record InStep (d : Desc) (e : Entry) : Type 0 where
   pub parts : HasParts e
   pub together : Together d e
@@ -40,83 +45,104 @@ step_at d es i e p t h = record { parts = each_here HasParts es i e p h; togethe
 pub in_step : (s : Seen) (i : ℕ) (e : Entry) → Stands s → StandsAt s i e → InStep s.desc.now e
 in_step s i e t h = step_at s.desc.now s.rob.now.entries i e t.store_parts t.together h
 
--- ---- a part asks as the entry does
+-- ---- an entry in one piece
 
--- it has not issued exactly where the entry waits
-fresh_by : (a b w : Bool) → (a && b) ≡ not w → a ≡ b → not a ≡ w
-fresh_by true true true h q = absurd (cc)
-fresh_by true true false h q = refl
-fresh_by false false true h q = refl
-fresh_by false false false h q = absurd (cc)
-fresh_by true false w h q = absurd (cc)
-fresh_by false true w h q = absurd (cc)
+own_as : (k : Kind) (p m : Bool) → is_store k ≡ false → (if is_store k then p else m && same_port (port_of k) (port_for k)) ≡ m
+own_as Store p m h = absurd (cc)
+own_as Mul p m h = and-true m
+own_as Div p m h = and-true m
+own_as Load p m h = and-true m
+own_as _ p m h = and-true m
 
--- and the store is whole exactly there
-whole_by : (a b w : Bool) → (a && b) ≡ not w → a ≡ b → not (a || b) ≡ w
-whole_by true true true h q = absurd (cc)
-whole_by true true false h q = refl
-whole_by false false true h q = refl
-whole_by false false false h q = absurd (cc)
-whole_by true false w h q = absurd (cc)
-whole_by false true w h q = absurd (cc)
+module _ (d : Desc) (now : Around) (before : List Entry) (e : Entry) where
+  -- it may issue at its own port exactly where it may issue
+  pub asks_own : is_store e.item.kind ≡ false → may_at d now (port_for e.item.kind) before e ≡ may_issue d now before e
+  asks_own s = own_as e.item.kind (part_may (port_for e.item.kind) d before e) (may_issue d now before e) s
 
-asked_twice : (w r : Bool) → (w && (r && w)) ≡ (w && r && true)
-asked_twice true true = refl
-asked_twice true false = refl
-asked_twice false r = refl
+  -- one that is granted its own may issue
+  pub granted_may : is_store e.item.kind ≡ false → is_granted d now (port_for e.item.kind) before e ≡ true → may_issue d now before e ≡ true
+  granted_may s g = sym (asks_own s) ∙ (both (may_at d now (port_for e.item.kind) before e) _ g).0
 
--- a store asks for nothing besides
-nothing_besides : (k : Kind) (d : Desc) (now : Around) (before : List Entry) (e : Entry) → is_store k ≡ true → may_issue_as k d now before e ≡ true
-nothing_besides Store d now before e h = refl
-nothing_besides _ d now before e h = absurd (cc)
+  whole_none : is_store e.item.kind ≡ false → may_issue d now before e ≡ false → AsksNone d now before e
+  whole_none s n port =
+      ap (λ t. if t then part_may port d before e else may_issue d now before e && same_port (port_of e.item.kind) port) s
+      ∙ ap (λ m. m && same_port (port_of e.item.kind) port) n
 
--- only version 1 is described
-pub first_version : (d : Desc) → (d.version == 1) ≡ true
-first_version d = ap (λ v. v == 1) d.first_version
+  -- ---- a store
 
-module _ (d : Desc) (now : Around) (before : List Entry) (e : Entry) (t : InStep d e) where
-  part_is : (has : Bool) (own : List ℕ) → is_store e.item.kind ≡ true → not has ≡ is_waiting e.state → (not has && ready_part d own before e) ≡ may_issue d now before e
-  part_is has own s f =
-      let w = whole_by (has_address e) (has_data e) (is_waiting e.state) (t.parts s) (t.together d.first_version s) in
-      ap₂ (λ a v. a && (if v then ready before e && is_whole e else all_known before own)) f (first_version d)
-      ∙ ap (λ w. is_waiting e.state && (ready before e && w)) w ∙ asked_twice (is_waiting e.state) (ready before e)
-      ∙ sym (ap (λ m. is_waiting e.state && ready before e && m) (nothing_besides e.item.kind d now before e s))
+  -- a part of it asks at its port where it may issue
+  pub part_asks : (port : Port) → is_store e.item.kind ≡ true → may_at d now port before e ≡ part_may port d before e
+  part_asks port s = ap (λ t. if t then part_may port d before e else may_issue d now before e && same_port (port_of e.item.kind) port) s
 
-  address_asks : is_store e.item.kind ≡ true → part_may AddressPort d before e ≡ may_issue d now before e
-  address_asks s =
-      part_is (has_address e) (base_of (sources e)) s (fresh_by (has_address e) (has_data e) (is_waiting e.state) (t.parts s) (t.together d.first_version s))
+  -- one that is granted its port hasn't issued
+  pub fresh_address : is_store e.item.kind ≡ true → is_granted d now AddressPort before e ≡ true → has_address e ≡ false
+  fresh_address s g = lacks (has_address e) (both (not (has_address e)) _ (sym (part_asks AddressPort s) ∙ (both (may_at d now AddressPort before e) _ g).0)).0
+    where
+      lacks : (b : Bool) → not b ≡ true → b ≡ false
+      lacks true h = absurd (cc)
+      lacks false h = refl
 
-  data_asks : is_store e.item.kind ≡ true → part_may DataPort d before e ≡ may_issue d now before e
-  data_asks s =
-      let same = t.together d.first_version s in
-      part_is (has_data e) (others_of (sources e)) s (ap not (sym same) ∙ fresh_by (has_address e) (has_data e) (is_waiting e.state) (t.parts s) same)
+  pub fresh_data : is_store e.item.kind ≡ true → is_granted d now DataPort before e ≡ true → has_data e ≡ false
+  fresh_data s g = lacks (has_data e) (both (not (has_data e)) _ (sym (part_asks DataPort s) ∙ (both (may_at d now DataPort before e) _ g).0)).0
+    where
+      lacks : (b : Bool) → not b ≡ true → b ≡ false
+      lacks true h = absurd (cc)
+      lacks false h = refl
 
-  own_as : (k : Kind) → (is_store k ≡ true → part_may AddressPort d before e ≡ may_issue d now before e) →
-      (if is_store k then part_may (port_for k) d before e else may_issue d now before e && same_port (port_of k) (port_for k)) ≡ may_issue d now before e
-  own_as Store h = h refl
-  own_as Mul h = and-true (may_issue d now before e)
-  own_as Div h = and-true (may_issue d now before e)
-  own_as Load h = and-true (may_issue d now before e)
-  own_as _ h = and-true (may_issue d now before e)
+  store_none : is_store e.item.kind ≡ true → part_may AddressPort d before e ≡ false → part_may DataPort d before e ≡ false → AsksNone d now before e
+  store_none s a c port = part_asks port s ∙ by_port port
+    where
+      by_port : (port : Port) → part_may port d before e ≡ false
+      by_port AddressPort = a
+      by_port DataPort = c
+      by_port _ = refl
 
-  -- an entry may issue at its own port exactly where it may issue
-  pub asks_own : may_at d now (port_for e.item.kind) before e ≡ may_issue d now before e
-  asks_own = own_as e.item.kind address_asks
+  address_gone : has_address e ≡ true → part_may AddressPort d before e ≡ false
+  address_gone h = ap (λ a. not a && ready_part d (base_of (sources e)) before e) h
 
-  none_as : (k : Kind) (port : Port) (m : Bool) → m ≡ false → (is_store k ≡ true → part_may AddressPort d before e ≡ m) → (is_store k ≡ true → part_may DataPort d before e ≡ m) →
-      (if is_store k then part_may port d before e else m && same_port (port_of k) port) ≡ false
-  none_as Store AddressPort m n a b = a refl ∙ n
-  none_as Store DataPort m n a b = b refl ∙ n
-  none_as Store _ m n a b = refl
-  none_as k port m n a b = ap (λ m. m && same_port (port_of k) port) n
+  data_gone : has_data e ≡ true → part_may DataPort d before e ≡ false
+  data_gone h = ap (λ a. not a && ready_part d (others_of (sources e)) before e) h
 
-  -- one that may not issue asks for no port
-  pub asks_none : may_issue d now before e ≡ false → AsksNone d now before e
-  asks_none n port = none_as e.item.kind port (may_issue d now before e) n address_asks data_asks
+  address_waits : ready_part d (base_of (sources e)) before e ≡ false → part_may AddressPort d before e ≡ false
+  address_waits h = ap (λ r. not (has_address e) && r) h ∙ and-false (not (has_address e))
 
-  -- one that is granted its own port may issue
-  pub granted_may : is_granted d now (port_for e.item.kind) before e ≡ true → may_issue d now before e ≡ true
-  granted_may g = sym asks_own ∙ (both (may_at d now (port_for e.item.kind) before e) _ g).0
+  data_waits : ready_part d (others_of (sources e)) before e ≡ false → part_may DataPort d before e ≡ false
+  data_waits h = ap (λ r. not (has_data e) && r) h ∙ and-false (not (has_data e))
+
+  -- ---- who asks for none
+
+  -- one that doesn't wait
+  pub not_waiting : InStep d e → is_waiting e.state ≡ false → AsksNone d now before e
+  not_waiting t w = by_store (is_store e.item.kind) refl
+    where
+      by_store : (s : Bool) → is_store e.item.kind ≡ s → AsksNone d now before e
+      by_store false s = whole_none s (ap (λ w. w && ready before e && may_issue_as e.item.kind d now before e) w)
+      by_store true s = let p = both (has_address e) (has_data e) (t.parts s ∙ ap not w) in store_none s (address_gone p.0) (data_gone p.1)
+
+  -- in version 1 a part asks for both sources, in version 2 for its own
+  ready_in : (v : Bool) (own : List ℕ) (r : Bool) → (d.version == 1) ≡ v → (if v then ready before e && is_whole e else all_known before own) ≡ r → ready_part d own before e ≡ r
+  ready_in v own r q h = ap (λ v. if v then ready before e && is_whole e else all_known before own) q ∙ h
+
+  parts_none : (a c : Bool) → (d.version == 1) ≡ false → is_store e.item.kind ≡ true → has_address e ≡ a → has_data e ≡ c → has_sources (wants_by a c) before e ≡ false → AsksNone d now before e
+  parts_none false false v s a c h =
+      let n = neither (all_known before (base_of (sources e))) (all_known before (others_of (sources e))) h in
+      store_none s (address_waits (ready_in false (base_of (sources e)) false v n.0)) (data_waits (ready_in false (others_of (sources e)) false v n.1))
+  parts_none false true v s a c h = store_none s (address_waits (ready_in false (base_of (sources e)) false v h)) (data_gone c)
+  parts_none true c v s a q h = store_none s (address_gone a) (data_waits (ready_in false (others_of (sources e)) false v h))
+
+  by_wants : (s v : Bool) → is_store e.item.kind ≡ s → (d.version == 1) ≡ v → is_waiting e.state ≡ true →
+      has_sources (if s && not v then wants_by (has_address e) (has_data e) else wants.Whole) before e ≡ false → AsksNone d now before e
+  by_wants false v s q w h =
+      whole_none s (ap (λ r. is_waiting e.state && r && may_issue_as e.item.kind d now before e) h
+      ∙ ap (λ w. w && may_issue_as e.item.kind d now before e) (and-false (is_waiting e.state)))
+  by_wants true true s q w h =
+      let none : (ready before e && is_whole e) ≡ false = ap (λ r. r && is_whole e) h in
+      store_none s (address_waits (ready_in true (base_of (sources e)) false q none)) (data_waits (ready_in true (others_of (sources e)) false q none))
+  by_wants true false s q w h = parts_none (has_address e) (has_data e) q s refl refl h
+
+  -- one that waits, and lacks what it wants
+  pub not_able : is_waiting e.state ≡ true → has_sources (wants_of d.version e) before e ≡ false → AsksNone d now before e
+  not_able w h = by_wants (is_store e.item.kind) (d.version == 1) refl refl w h
 
 -- ---- what it is granted
 
@@ -124,8 +150,42 @@ module _ (d : Desc) (now : Around) (before : List Entry) (e : Entry) (t : InStep
 pub grants_none : (d : Desc) (now : Around) (port : Port) (before : List Entry) (e : Entry) → AsksNone d now before e → is_granted d now port before e ≡ false
 grants_none d now port before e h = ap (λ m. m && nat_lt (asking d now port before) (ports d port)) (h port)
 
--- ---- a load asks for older stores that are Done
+-- ---- what is there where an entry is able
 
-pub done_behind : (d : Desc) (now : Around) (before : List Entry) (e : Entry) → goes_behind d now before e ≡ true → stores_done before ≡ true
-done_behind d now before e h =
-    sym (ap (λ v. if v then stores_done before else stores_let d.stt_model (bytes_of now before e) before) (first_version d)) ∙ h
+-- one in one piece has all its sources
+pub whole_ready : (version : ℕ) (before : List Entry) (e : Entry) → is_store e.item.kind ≡ false → has_sources (wants_of version e) before e ≡ true → ready before e ≡ true
+whole_ready version before e s h = sym (ap (λ s. has_sources (if s && not (version == 1) then wants_by (has_address e) (has_data e) else wants.Whole) before e) s) ∙ h
+
+-- so has a store in version 1, which has issued neither part
+whole_by : (a b w : Bool) → (a && b) ≡ not w → a ≡ b → w ≡ true → not (a || b) ≡ true
+whole_by true true true h q p = absurd (cc)
+whole_by false false true h q p = refl
+whole_by true false w h q p = absurd (cc)
+whole_by false true w h q p = absurd (cc)
+whole_by a b false h q p = absurd (cc)
+
+pub first_ready : (d : Desc) (before : List Entry) (e : Entry) (own : List ℕ) → InStep d e → d.version ≡ 1 → is_store e.item.kind ≡ true → is_waiting e.state ≡ true →
+    has_sources (wants_of d.version e) before e ≡ true → ready_part d own before e ≡ true
+first_ready d before e own t one s w h =
+    let v : (d.version == 1) ≡ true = ap (λ v. v == 1) one in
+    let all : ready before e ≡ true = sym (ap₂ (λ s v. has_sources (if s && not v then wants_by (has_address e) (has_data e) else wants.Whole) before e) s v) ∙ h in
+    ap (λ v. if v then ready before e && is_whole e else all_known before own) v
+    ∙ ap₂ (λ r w. r && w) all (whole_by (has_address e) (has_data e) (is_waiting e.state) (t.parts s) (t.together one s) w)
+
+-- in version 2 a part asks for its own sources alone
+pub second_ready : (d : Desc) (before : List Entry) (e : Entry) (own : List ℕ) → (d.version ≡ 1 → ⊥) → ready_part d own before e ≡ all_known before own
+second_ready d before e own other = by_version (d.version == 1) refl
+  where
+    by_version : (v : Bool) → (d.version == 1) ≡ v → (if v then ready before e && is_whole e else all_known before own) ≡ all_known before own
+    by_version true q = absurd (other (eqb-true _ _ q))
+    by_version false q = refl
+
+-- a part that hasn't issued may where it is ready
+pub part_may_by : (part : Part) (d : Desc) (before : List Entry) (e : Entry) (r : Bool) → has_issued part e ≡ false → ready_part d (own_of part (sources e)) before e ≡ r → part_may (part_port part) d before e ≡ r
+part_may_by part.Base d before e r f h = ap₂ (λ a r. not a && r) f h
+part_may_by part.Other d before e r f h = ap₂ (λ a r. not a && r) f h
+
+-- one that has issued may not
+pub part_gone : (part : Part) (d : Desc) (before : List Entry) (e : Entry) → has_issued part e ≡ true → part_may (part_port part) d before e ≡ false
+part_gone part.Base d before e h = ap (λ a. not a && ready_part d (base_of (sources e)) before e) h
+part_gone part.Other d before e h = ap (λ a. not a && ready_part d (others_of (sources e)) before e) h

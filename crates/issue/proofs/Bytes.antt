@@ -1,24 +1,33 @@
 -- What the queue of stores gives to a load is what the older entries give to it.
-use Rattle.std.proofs.Common.{◌≡◌, ℕ, Bool, true, not, ◌&&◌, List, Some, ap, ap₂, subst, ◌∙◌, slice_get}
-use Rattle.std.specs.Prelude.{reverse}
+use Rattle.std.proofs.Common.{◌≡◌, ℕ, ◌≤◌, Bool, true, not, ◌&&◌, List, Option, Some, ap, ap₂, sym, subst, ◌∙◌, arith, slice_get}
+use Rattle.std.specs.Prelude.{is_some, map, nat_le, reverse}
+use Rattle.std.specs.List.{filter, list_any}
+use Rattle.std.proofs.lemmas.Bool.Decides.{nat_tests}
+use Rattle.rv_types.specs.Memory.{range}
+use Rattle.rv_types.specs.declared.Cause.{Cause}
+use Rattle.machine_desc.specs.declared.SttModel.{SttModel}
 use Rattle.rv_types.specs.Value.{bytes_in}
 use Rattle.rv_types.specs.Word.{from_le}
 use Rattle.rv_types.specs.declared.Width.{Width}
 use Rattle.window_model.specs.declared.Entry.{Entry}
 use Rattle.window_model.specs.Access.{all_covered, any_store_hidden, load_bytes}
-use Rattle.window_model.specs.Issue.{stores_done}
+use Rattle.window_model.specs.Issue.{stores_let}
 use Rattle.window_model.specs.Order.{before_at}
 use Rattle.window_model.specs.Retire.{width_of}
 use Rattle.rob_ring.specs.Ring.{below}
 use Rattle.lsq.specs.Queues.{Queues, older, youngest_root}
 use Rattle.lsq.specs.Merging.{all_forwarded, merged_bytes}
-use Rattle.queue_laws.specs.Window.{StandFor, StoresStandFor}
+use Rattle.lsq.specs.Pending.{bytes_asked, lacks_address, lacks_data_for}
+use Rattle.lsq.specs.declared.store.Store.{Store}
+use Rattle.queue_laws.specs.Window.{StandFor, StoresStandFor, hides, tainted_stores}
 use Rattle.queue_laws.proofs.Keeping.{older_stands}
+use Rattle.queue_laws.proofs.Letting.{lets_are}
+use Rattle.queue_laws.proofs.Roots.{hidden_is}
 use Rattle.queue_laws.proofs.Telling.{bytes_are, covered_is}
 use Rattle.visibility.specs.Point.{is_hidden}
 use Rattle.window_model.specs.Serials.{Rise}
 use Rattle.window_model.proofs.Serials.{splits}
-use Rattle.parts_stand.proofs.Addressing.{below_is, tells_stores}
+use Rattle.parts_stand.proofs.Addressing.{below_is, hides_root, tells_each_store}
 use Rattle.issue.specs.declared.seen.Seen.{Seen}
 use Rattle.issue.specs.State.{Stands, StandsAt, parts_of}
 
@@ -29,20 +38,47 @@ stores_before q es i e s r h =
     subst (λ es. StoresStandFor (older e.serial q.stores) (reverse es)) (below_is es i e r h)
     (older_stands q (below e.serial es) t.gone e.serial (subst (StandFor q) t.whole s) t.older t.younger)
 
+-- what is older than a visible entry is visible
+down : (point a b : ℕ) → a ≤ b → nat_le b point ≡ true → nat_le a point ≡ true
+down point a b le h = grind (arith, nat_tests)
+
 module _ (s : Seen) (i : ℕ) (e : Entry) (t : Stands s) (h : StandsAt s i e) where
   abbrev before : List Entry
   before = before_at s.rob.now.entries i
 
-  pub number_is : (a : ℕ) (w : Width) → bytes_in w ≡ width_of e → stores_done before ≡ true →
-      from_le (merged_bytes s.ram.now (older e.serial s.lsq.now.stores) a (bytes_in w)) ≡ from_le (load_bytes s.ram.now before a (width_of e))
+  -- the stores that are older
+  abbrev pub stores : List Store
+  stores = older e.serial s.lsq.now.stores
+
+  abbrev model : SttModel
+  model = s.desc.now.stt_model
+
+  pub stand : StoresStandFor stores before
+  stand = stores_before s.lsq.now s.rob.now.entries i e t.queues t.parts.rise h
+
+  -- of each its root tells whether its address is tainted
+  each_told : map (λ s2. hides (λ root. nat_le root s.point.now.serial) s2.root) stores ≡ tainted_stores model before
+  each_told = tells_each_store (parts_of t.next t.writes s) s.point.now s.lsq.now.stores i e t.parts t.advanced t.addresses h ∙ ap (λ m. tainted_stores m before) t.model
+
+  -- a load goes behind them where the queue says so
+  pub let_is : (fault : Option Cause) (a n : ℕ) →
+      stores_let model (bytes_asked fault a n) before
+      ≡ (not (list_any lacks_address stores) && not (list_any (lacks_data_for (bytes_asked fault a n)) stores) && not (is_hidden s.point.now.serial (youngest_root (filter (λ s. not (is_some s.stored)) stores))))
+  let_is fault a n =
+      lets_are model (λ root. nat_le root s.point.now.serial) (down s.point.now.serial) stores before fault a n stand each_told
+      ∙ ap (λ b. not (list_any lacks_address stores) && not (list_any (lacks_data_for (bytes_asked fault a n)) stores) && not b) (hides_root s.point.now.serial (youngest_root (filter (λ s. not (is_some s.stored)) stores)))
+
+  -- then it finds their bytes
+  pub number_is : (a : ℕ) (w : Width) → bytes_in w ≡ width_of e → stores_let model (range a (width_of e)) before ≡ true →
+      from_le (merged_bytes s.ram.now stores a (bytes_in w)) ≡ from_le (load_bytes s.ram.now before a (width_of e))
   number_is a w n d =
-      ap from_le (bytes_are s.ram.now (older e.serial s.lsq.now.stores) before a (bytes_in w) (stores_before s.lsq.now s.rob.now.entries i e t.queues t.parts.rise h) d)
+      ap from_le (bytes_are model s.ram.now stores before a (bytes_in w) stand (ap (λ n. stores_let model (range a n) before) n ∙ d))
       ∙ ap (λ n. from_le (load_bytes s.ram.now before a n)) n
 
-  pub forwarded_is : (a : ℕ) (w : Width) (b c : Bool) → bytes_in w ≡ width_of e → stores_done before ≡ true →
-      b ≡ all_forwarded (older e.serial s.lsq.now.stores) a (bytes_in w) → c ≡ is_hidden s.point.now.serial (youngest_root (older e.serial s.lsq.now.stores)) →
-      (b && not c) ≡ (all_covered before a (width_of e) && not (any_store_hidden s.desc.now.stt_model before))
+  pub forwarded_is : (a : ℕ) (w : Width) (b c : Bool) → bytes_in w ≡ width_of e → stores_let model (range a (width_of e)) before ≡ true →
+      b ≡ all_forwarded stores a (bytes_in w) → c ≡ is_hidden s.point.now.serial (youngest_root stores) →
+      (b && not c) ≡ (all_covered before a (width_of e) && not (any_store_hidden model before))
   forwarded_is a w b c n d p q =
-      let covered = p ∙ covered_is (older e.serial s.lsq.now.stores) before a (bytes_in w) (stores_before s.lsq.now s.rob.now.entries i e t.queues t.parts.rise h) d ∙ ap (all_covered before a) n in
-      let hidden = q ∙ tells_stores (parts_of t.next t.writes s) s.point.now s.lsq.now.stores i e t.parts t.advanced t.addresses h ∙ ap (λ m. any_store_hidden m before) t.model in
+      let covered = p ∙ covered_is model stores before a (bytes_in w) stand (ap (λ n. stores_let model (range a n) before) n ∙ d) ∙ ap (all_covered before a) n in
+      let hidden = q ∙ sym (hides_root s.point.now.serial (youngest_root stores)) ∙ hidden_is model (λ root. nat_le root s.point.now.serial) (down s.point.now.serial) stores before each_told in
       ap₂ (λ b c. b && not c) covered hidden

@@ -8,10 +8,10 @@ use Rattle.machine_desc.specs.declared.Desc.{Desc}
 use Rattle.window_model.specs.declared.Entry.{Entry}
 use Rattle.window_model.specs.Around.{Around}
 use Rattle.window_model.specs.Order.{is_load, is_store}
-use Rattle.window_model.specs.Issue.{Port, DivPort, LoadPort, asking, is_division, is_granted, may_issue, part_may, port_of, ports, same_port, stores_done}
+use Rattle.window_model.specs.Issue.{Port, DivPort, LoadPort, asking, goes_behind, is_division, is_granted, may_issue, part_may, port_of, ports, same_port}
 use Rattle.window_model.proofs.Issuing.{load_behind, may_parts}
 use Rattle.unit_ports.specs.Ports.{port_for}
-use Rattle.issue.proofs.Asking.{InStep, done_behind, granted_may}
+use Rattle.issue.proofs.Asking.{granted_may, part_asks}
 
 pub the_other : {A : Type 0} (b : Bool) (x y : A) → b ≡ false → y ≡ (if b then x else y)
 the_other b x y h = ap (λ b. if b then x else y) (sym h)
@@ -50,8 +50,15 @@ module _ (d : Desc) (now : Around) (before : List Entry) (e : Entry) (b : Bool) 
   pub division_where : is_granted d now DivPort before e ≡ (b && is_division e.item.kind)
   division_where = at_division e.item.kind (may_issue d now before e) part left ∙ ap (λ b. b && is_division e.item.kind) h
 
--- ---- a load that is granted a port has only Done stores before it
+-- ---- a load that is granted a port goes behind the older stores
 
-pub granted_done : (d : Desc) (now : Around) (before : List Entry) (e : Entry) → InStep d e → is_granted d now (port_for e.item.kind) before e ≡ true → is_load e.item.kind ≡ true → stores_done before ≡ true
-granted_done d now before e t h l =
-    done_behind d now before e (load_behind e.item.kind d now before e (may_parts d now before e (granted_may d now before e t h)).kind l)
+pub granted_goes : (d : Desc) (now : Around) (before : List Entry) (e : Entry) → is_store e.item.kind ≡ false → is_granted d now (port_for e.item.kind) before e ≡ true → is_load e.item.kind ≡ true → goes_behind d now before e ≡ true
+granted_goes d now before e s h l = load_behind e.item.kind d now before e (may_parts d now before e (granted_may d now before e s h)).kind l
+
+-- ---- a store is granted neither the load's port nor the divider's
+
+pub no_load : (d : Desc) (now : Around) (before : List Entry) (e : Entry) → is_store e.item.kind ≡ true → is_granted d now LoadPort before e ≡ false
+no_load d now before e s = ap (λ m. m && nat_lt (asking d now LoadPort before) (ports d LoadPort)) (part_asks d now before e LoadPort s)
+
+pub no_division : (d : Desc) (now : Around) (before : List Entry) (e : Entry) → is_store e.item.kind ≡ true → is_granted d now DivPort before e ≡ false
+no_division d now before e s = ap (λ m. m && nat_lt (asking d now DivPort before) (ports d DivPort)) (part_asks d now before e DivPort s)

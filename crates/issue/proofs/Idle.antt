@@ -1,5 +1,5 @@
--- Where no station is ready every entry stays as it is.
-use Rattle.std.proofs.Common.{◌≡◌, ℕ, zero, suc, Bool, true, false, List, [], ◌∷◌, take, Some, None, refl, ap, ap₂, sym, ◌∙◌, slice_get, ◌++◌, append-nil}
+-- Where no station is able every entry stays as it is.
+use Rattle.std.proofs.Common.{◌≡◌, ℕ, zero, suc, Bool, true, false, List, [], ◌∷◌, take, Some, None, refl, ap, ap₂, sym, subst, ◌∙◌, slice_get, ◌++◌, append-nil}
 use Rattle.std.specs.Prelude.{if◌then◌else◌, map}
 use Rattle.std.specs.List.{flat_map, list_any, AllByRecursion as Each}
 use Rattle.std.specs.Option.{option_map}
@@ -10,44 +10,45 @@ use Rattle.window_model.specs.Along.{Along, Fact}
 use Rattle.window_model.specs.Row.{Row, with_events}
 use Rattle.window_model.specs.State.{Machine}
 use Rattle.window_model.specs.Around.{Around, around}
-use Rattle.window_model.specs.Order.{Place, before_at, each_from, first_from, is_waiting, ready}
+use Rattle.window_model.specs.Order.{Place, before_at, each_from, first_from, is_waiting}
 use Rattle.window_model.specs.Issue.{Port, DivPort, LoadPort, issue, issue_entry, may_at, taken_for, waits}
 use Rattle.window_model.proofs.Booleans.{neither}
 use Rattle.machine_facts.specs.Sized.{HasParts, Together}
-use Rattle.stations.specs.Stations.{Station, awaits_none}
-use Rattle.parts_stand.specs.Parts.{Parts, Stand}
+use Rattle.stations.specs.Stations.{Station, is_able}
+use Rattle.parts_stand.specs.Parts.{Parts, Stand, wants_of}
+use Rattle.parts_stand.specs.Telling.{has_sources}
 use Rattle.parts_stand.specs.Steps.{station_of}
-use Rattle.parts_stand.proofs.Answering.{tells_ready}
+use Rattle.parts_stand.proofs.Answering.{tells_able}
 use Rattle.core_parts.specs.Described.{Described}
 use Rattle.core_parts.specs.Held.{Held, Whole, described, in_flight, machine_of}
 use Rattle.core_parts.specs.Stands.{table_and_stations}
 use Rattle.core_parts.proofs.Whole.{shown_by, told_by}
 use Rattle.issue.specs.Shared.{divider_left}
 use Rattle.issue.proofs.Leaving.{leaves}
-use Rattle.issue.proofs.Asking.{AsksNone, InStep, asks_none, step_at}
+use Rattle.issue.proofs.Asking.{AsksNone, InStep, not_able, not_waiting, step_at}
 use Rattle.issue.proofs.Turning.{turn_none}
 
 -- ---- no entry asks for a port
 
 -- the answer of each station
-answer_at : (held : List Station) (n : ℕ) (b : Bool) → list_any awaits_none held ≡ false → option_map awaits_none (slice_get held n) ≡ Some b → b ≡ false
+answer_at : (held : List Station) (n : ℕ) (b : Bool) → list_any is_able held ≡ false → option_map is_able (slice_get held n) ≡ Some b → b ≡ false
 answer_at [] n b h k = absurd (cc)
-answer_at (s ∷ held) zero b h k = let no = (neither (awaits_none s) (list_any awaits_none held) h).0 in cc
-answer_at (s ∷ held) (suc n) b h k = answer_at held n b (neither (awaits_none s) (list_any awaits_none held) h).1 k
+answer_at (s ∷ held) zero b h k = let no = (neither (is_able s) (list_any is_able held) h).0 in cc
+answer_at (s ∷ held) (suc n) b h k = answer_at held n b (neither (is_able s) (list_any is_able held) h).1 k
 
--- an entry that doesn't wait, and one that isn't ready, asks for no port
-none_by : (d : Desc) (now : Around) (before : List Entry) (e : Entry) (w : Bool) → InStep d e → is_waiting e.state ≡ w → (is_waiting e.state ≡ true → ready before e ≡ false) → AsksNone d now before e
-none_by d now before e true t w r = let n = r w in asks_none d now before e t (cc)
-none_by d now before e false t w r = asks_none d now before e t (cc)
+-- an entry that doesn't wait, and one that lacks what it wants, asks for no port
+none_by : (d : Desc) (now : Around) (before : List Entry) (e : Entry) (w : Bool) → InStep d e → is_waiting e.state ≡ w → (is_waiting e.state ≡ true → has_sources (wants_of d.version e) before e ≡ false) → AsksNone d now before e
+none_by d now before e true t w r = not_able d now before e w (r w)
+none_by d now before e false t w r = not_waiting d now before e t w
 
 -- what each position has, each entry has
 along_by : (P : Fact) (before es : List Entry) → ((i : ℕ) (e : Entry) → slice_get es i ≡ Some e → P (reverse_aux (take i es) before) e) → Along P before es
 along_by P before [] h = tt
 along_by P before (e ∷ es) h = (h 0 e refl, along_by P (e ∷ before) es (λ i e2 k. h (suc i) e2 k))
 
-pub all_stay : (d : Desc) (now : Around) (p : Parts) → Stand p → Each HasParts p.window → Each (Together d) p.window → list_any awaits_none p.held ≡ false → Along (AsksNone d now) [] p.window
-all_stay d now p s parts together none = along_by (AsksNone d now) [] p.window (λ i e h.
-    none_by d now (before_at p.window i) e (is_waiting e.state) (step_at d p.window i e parts together h) refl (λ w. answer_at p.held (station_of i p.window) (ready (before_at p.window i) e) none (tells_ready p i e s h w)))
+pub all_stay : (d : Desc) (now : Around) (p : Parts) → p.version ≡ d.version → Stand p → Each HasParts p.window → Each (Together d) p.window → list_any is_able p.held ≡ false → Along (AsksNone d now) [] p.window
+all_stay d now p v s parts together none = along_by (AsksNone d now) [] p.window (λ i e h.
+    none_by d now (before_at p.window i) e (is_waiting e.state) (step_at d p.window i e parts together h) refl (λ w. subst (λ v. has_sources (wants_of v e) (before_at p.window i) e ≡ false) v (answer_at p.held (station_of i p.window) (has_sources (wants_of p.version e) (before_at p.window i) e) none (tells_able p i e s h w))))
 
 -- ---- and nothing is left otherwise
 
@@ -85,17 +86,17 @@ module _ (d : Desc) (x : Machine) (h : Along (AsksNone d (around x)) [] x.window
       refl refl
       (sym (ap (λ o. divider_left (option_map (λ (p : Place). taken_for (around x) p.before p.entry) o) x.divider) (none_first d (around x) DivPort [] x.window h)))
 
--- ---- of parts with no ready station
+-- ---- of parts with no station that is able
 
 -- no entry asks for a port
-none_may : (h : Held) → Whole h → list_any awaits_none h.stations.held ≡ false → Along (AsksNone h.desc (around (machine_of h))) [] h.rob.entries
-none_may h w none = all_stay h.desc (around (machine_of h)) (table_and_stations (in_flight h)) w.stands.stand w.sized.parts w.sized.together none
+none_may : (h : Held) → Whole h → list_any is_able h.stations.held ≡ false → Along (AsksNone h.desc (around (machine_of h))) [] h.rob.entries
+none_may h w none = all_stay h.desc (around (machine_of h)) (table_and_stations (in_flight h)) refl w.stands.stand w.sized.parts w.sized.together none
 
 -- so the phase leaves what is seen of them, and has no event
-pub idle_shown : (h : Held) (v : Described) → Whole h → list_any awaits_none h.stations.held ≡ false → described h ≡ v → described h ≡ record v { machine = (issue v.desc v.machine).machine }
+pub idle_shown : (h : Held) (v : Described) → Whole h → list_any is_able h.stations.held ≡ false → described h ≡ v → described h ≡ record v { machine = (issue v.desc v.machine).machine }
 idle_shown h v w none s = shown_by (λ d x. (issue d x).machine) h (machine_of h) v (idle_machine h.desc (machine_of h) (none_may h w none)) s
 
-pub idle_row : (h : Held) (v : Described) (row : Row) → Whole h → list_any awaits_none h.stations.held ≡ false → described h ≡ v → row ≡ with_events row (issue v.desc v.machine).events
+pub idle_row : (h : Held) (v : Described) (row : Row) → Whole h → list_any is_able h.stations.held ≡ false → described h ≡ v → row ≡ with_events row (issue v.desc v.machine).events
 idle_row h v row w none s =
     told_by (λ d x. issue d x) h v row row
     (ap (λ es. record row { events = es }) (sym (ap (λ es. row.events ++ es) (idle_events h.desc (machine_of h) (none_may h w none)) ∙ append-nil row.events))) s

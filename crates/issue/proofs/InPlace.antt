@@ -1,38 +1,43 @@
--- Parts that stand for the window go on to do so as the entries that have begun come in their places, the youngest first.
+-- Parts that stand for the window go on to do so as the entries that have issued, or of which a part has, come in their places, the
+-- youngest first.
 use Rattle.std.proofs.Common.{◌≡◌, ℕ, zero, suc, ◌+◌, ◌<◌, List, [], ◌∷◌, ◌++◌, length, Option, Some, refl, ap, sym, ◌∙◌, subst, arith, get_or, slice_get}
-use Rattle.std.specs.Prelude.{if◌then◌else◌, slice_set}
-use Rattle.std.specs.List.{All, AllPairs, remove}
+use Rattle.std.specs.Prelude.{slice_set}
+use Rattle.std.specs.List.{All, AllPairs}
 use Rattle.std.specs.Option.{option_to_list}
 use Rattle.std.proofs.Math.Seq.{get_or-append_seam}
 use Rattle.std.proofs.lemmas.List.{get_or_append_left, length-append}
 use Rattle.std.proofs.lemmas.List.Elements.{All-head}
 use Rattle.std.proofs.lemmas.Option.{slice_get_within}
 use Rattle.window_model.specs.declared.Entry.{Entry}
-use Rattle.window_model.specs.Order.{is_waiting}
+use Rattle.window_model.specs.Retire.{width_of}
+use Rattle.lsq.specs.Queues.{Queues}
 use Rattle.rob_ring.specs.Ring.{Ring}
 use Rattle.stations.specs.Stations.{Station, Stations}
 use Rattle.core_parts.specs.Stands.{InFlight, Stands, table_and_stations}
-use Rattle.core_parts.proofs.Steps.{stands_begun}
-use Rattle.parts_stand.specs.Steps.{begun_with}
+use Rattle.core_parts.proofs.Steps.{stands_issued}
+use Rattle.parts_stand.specs.Steps.{left_held}
 use Rattle.parts_stand.proofs.Answering.{has_station, stations_older}
 use Rattle.window_model.proofs.Serials.{all_left, all_right}
 use Rattle.issue.specs.declared.decide.Put.{Put}
-use Rattle.issue.specs.Puts.{ArePuts, IsPut, freed, placed}
+use Rattle.issue.specs.Puts.{ArePuts, IsPut, known_in, placed, width_for}
 use Rattle.issue.proofs.Turning.{placed_push}
 
 -- ---- what stands
 
--- whatever stood for the one window, with these stations, does for the other with those
-abbrev pub Ties : List Entry → List Station → List Entry → List Station → Type 0
-Ties entries held now held_now = (p : InFlight) → Stands (record p { window = entries; held = held }) → Stands (record p { window = now; held = held_now })
+-- whatever stood for the one window, with these stations and queues, does for the other with those
+abbrev pub Ties : ℕ → List Entry → List Station → Queues → List Entry → List Station → Queues → Type 0
+Ties version entries held queues now held_now queues_now =
+    (p : InFlight) → Stands (record p { version = version; window = entries; held = held; queues = queues }) →
+    Stands (record p { version = version; window = now; held = held_now; queues = queues_now })
 
--- an entry that has begun comes in its place, and its station is freed
-ties_more : (entries : List Entry) (held : List Station) (now : List Entry) (held_now : List Station) (put : Put) →
-    Ties entries held now held_now → IsPut now put → Ties entries held (slice_set now put.position put.entry) (freed put held_now)
-ties_more entries held now held_now put t k =
-    let by_entry : Entry → Type 0 = λ e. Ties entries held (slice_set now put.position e) (if is_waiting e.state then held_now else remove held_now put.station) in
-    let by_station : ℕ → Type 0 = λ n. Ties entries held (slice_set now put.position (begun_with k.old k.due k.outcome k.address k.stored)) (remove held_now n) in
-    subst by_entry (sym k.is) (subst by_station (sym k.station) (λ p s. stands_begun (record p { window = now; held = held_now }) put.position k.due k.old k.outcome k.address k.stored (t p s) k.here k.waits k.known))
+-- an entry comes in its place, its station is freed or waits for what is left, and what has issued of it is known
+ties_more : (version : ℕ) (entries : List Entry) (held : List Station) (queues : Queues) (now : List Entry) (held_now : List Station) (queues_now : Queues) (put : Put) →
+    Ties version entries held queues now held_now queues_now → IsPut now put →
+    Ties version entries held queues (slice_set now put.position put.entry) (left_held version put.station put.entry held_now) (known_in queues_now put.entry)
+ties_more version entries held queues now held_now queues_now put t k =
+    let P : ℕ → Type 0 = λ n. Ties version entries held queues (slice_set now put.position put.entry) (left_held version n put.entry held_now) (known_in queues_now put.entry) in
+    subst P (sym k.station)
+    (λ p s. stands_issued (record p { version = version; window = now; held = held_now; queues = queues_now }) put.position k.old put.entry (width_for (width_of put.entry)) (t p s) k.here k.waits k.issues k.stay)
 
 -- ---- the puts
 
@@ -50,12 +55,8 @@ still_put window put m e lt k = record {
   here = get_other window put.position m e lt ∙ k.here;
   waits = k.waits;
   station = k.station ∙ sym (stations_older window put.position m e (omega (arith, lt)));
-  due = k.due;
-  outcome = k.outcome;
-  address = k.address;
-  stored = k.stored;
-  known = k.known;
-  is = k.is;
+  issues = k.issues;
+  stay = k.stay;
 }
 
 -- the others are still to be put in their places, whatever comes in the youngest one's
@@ -87,17 +88,20 @@ still_left window puts put e a =
 -- ---- the loop
 
 -- with those that are left these parts come to what the first ones come to with all
-pub record PlacesOn (puts : List Put) (rob : Ring) (stations : Stations) (left : List Put) (r : Ring) (s : Stations) : Type 0 where
+pub record PlacesOn (version : ℕ) (puts : List Put) (rob : Ring) (stations : Stations) (queues : Queues) (left : List Put) (r : Ring) (s : Stations) (q : Queues) : Type 0 where
   pub whole : placed left r.entries ≡ placed puts rob.entries
   pub rest : ArePuts r.entries left
   pub same_room : r.room ≡ rob.room
   pub same_places : s.room ≡ stations.room
-  pub ties : Ties rob.entries stations.held r.entries s.held
+  pub same_loads : q.max_loads ≡ queues.max_loads
+  pub same_stores : q.max_stores ≡ queues.max_stores
+  pub ties : Ties version rob.entries stations.held queues r.entries s.held q
 
-pub places_start : (puts : List Put) (rob : Ring) (stations : Stations) → ArePuts rob.entries puts → PlacesOn puts rob stations puts rob stations
-places_start puts rob stations a = record { whole = refl; rest = a; same_room = refl; same_places = refl; ties = λ p s. s }
+pub places_start : (version : ℕ) (puts : List Put) (rob : Ring) (stations : Stations) (queues : Queues) → ArePuts rob.entries puts → PlacesOn version puts rob stations queues puts rob stations queues
+places_start version puts rob stations queues a = record { whole = refl; rest = a; same_room = refl; same_places = refl; same_loads = refl; same_stores = refl; ties = λ p s. s }
 
-module _ (puts : List Put) (rob : Ring) (stations : Stations) (left rest : List Put) (r : Ring) (s : Stations) (put : Put) (o : Option Put) (t : PlacesOn puts rob stations left r s) (is : o ≡ Some put) (popped : left ≡ rest ++ option_to_list o) where
+module _ (version : ℕ) (puts : List Put) (rob : Ring) (stations : Stations) (queues : Queues) (left rest : List Put) (r : Ring) (s : Stations) (q : Queues) (put : Put) (o : Option Put)
+    (t : PlacesOn version puts rob stations queues left r s q) (is : o ≡ Some put) (popped : left ≡ rest ++ option_to_list o) where
   split : left ≡ rest ++ put ∷ []
   split = popped ∙ ap (λ o. rest ++ option_to_list o) is
 
@@ -111,19 +115,23 @@ module _ (puts : List Put) (rob : Ring) (stations : Stations) (left rest : List 
   pub place_within : put.position < length r.entries
   place_within = slice_get_within r.entries put.position here.old here.here
 
-  pub station_within : (p : InFlight) × Stands (record p { window = rob.entries; held = stations.held }) → put.station < length s.held
+  pub station_within : (p : InFlight) × Stands (record p { version = version; window = rob.entries; held = stations.held; queues = queues }) → put.station < length s.held
   station_within k =
       subst (λ n. n < length s.held) (sym here.station)
-      ((has_station (table_and_stations (record k.0 { window = r.entries; held = s.held })) put.position here.old (t.ties k.0 k.1).stand here.here here.waits).within)
+      ((has_station (table_and_stations (record k.0 { version = version; window = r.entries; held = s.held; queues = q })) put.position here.old (t.ties k.0 k.1).stand here.here here.waits).within)
 
-  pub places_more : (r2 : Ring) (s2 : Stations) → r2 ≡ record r { entries = slice_set r.entries put.position put.entry } → s2 ≡ record s { held = freed put s.held } → PlacesOn puts rob stations rest r2 s2
-  places_more r2 s2 h k =
-      subst (λ r2. PlacesOn puts rob stations rest r2 s2) (sym h)
-      (subst (λ s2. PlacesOn puts rob stations rest (record r { entries = slice_set r.entries put.position put.entry }) s2) (sym k)
+  pub places_more : (r2 : Ring) (s2 : Stations) (q2 : Queues) → r2 ≡ record r { entries = slice_set r.entries put.position put.entry } → s2 ≡ record s { held = left_held version put.station put.entry s.held } →
+      q2 ≡ known_in q put.entry → PlacesOn version puts rob stations queues rest r2 s2 q2
+  places_more r2 s2 q2 h k n =
+      subst (λ r2. PlacesOn version puts rob stations queues rest r2 s2 q2) (sym h)
+      (subst (λ s2. PlacesOn version puts rob stations queues rest (record r { entries = slice_set r.entries put.position put.entry }) s2 q2) (sym k)
+      (subst (λ q2. PlacesOn version puts rob stations queues rest (record r { entries = slice_set r.entries put.position put.entry }) (record s { held = left_held version put.station put.entry s.held }) q2) (sym n)
       (record {
         whole = sym (placed_push rest put r.entries) ∙ ap (λ ps. placed ps r.entries) (sym split) ∙ t.whole;
         rest = still_left r.entries rest put put.entry are;
         same_room = t.same_room;
         same_places = t.same_places;
-        ties = ties_more rob.entries stations.held r.entries s.held put t.ties here;
-      }))
+        same_loads = t.same_loads;
+        same_stores = t.same_stores;
+        ties = ties_more version rob.entries stations.held queues r.entries s.held q put t.ties here;
+      })))

@@ -1,6 +1,6 @@
 -- The phase leaves parts that hold what the machine then holds, and stand for it.
 use Rattle.std.proofs.Common.{◌≡◌, ℕ, ◌<◌, ◌≤◌, length, [], ap, sym, ◌∙◌, subst, arith}
-use Rattle.std.specs.List.{flat_map}
+use Rattle.std.specs.List.{AllByRecursion as Each, flat_map}
 use Rattle.std.specs.Option.{option_map}
 use Rattle.machine_desc.proofs.EveryDesc.{every_desc}
 use Rattle.window_model.specs.declared.Divider.{Divider}
@@ -10,9 +10,11 @@ use Rattle.window_model.specs.Order.{each}
 use Rattle.window_model.specs.State.{Machine}
 use Rattle.window_model.specs.Row.{Row, with_events}
 use Rattle.machine_facts.specs.Sized.{Sized}
+use Rattle.machine_facts.specs.Timely.{WaitsOrDone}
 use Rattle.machine_facts.proofs.SizedPhases.{sized_issue}
 use Rattle.rob_ring.specs.Ring.{Ring}
 use Rattle.stations.specs.Stations.{Stations}
+use Rattle.lsq.specs.Queues.{Queues}
 use Rattle.cache_tags.specs.Sets.{Cache}
 use Rattle.mshr_file.specs.Registers.{Registers}
 use Rattle.unit_ports.specs.Ports.{Ports, begun_at}
@@ -39,6 +41,10 @@ use Rattle.issue.proofs.Leaving.{has_room, leaves}
 pub advanced : (h : Held) (v : Described) → Whole h → described h ≡ v → HasAdvanced v.point v.machine.window → HasAdvanced h.point h.rob.entries
 advanced h v w s a = subst (λ (v : Described). HasAdvanced v.point v.machine.window) (sym s) a
 
+-- no store executed
+pub settled : (h : Held) (v : Described) → Whole h → described h ≡ v → Each WaitsOrDone v.machine.window → Each WaitsOrDone h.rob.entries
+settled h v w s a = subst (λ (v : Described). Each WaitsOrDone v.machine.window) (sym s) a
+
 -- as the cycle of the ports begins at most so many are left
 pub few_left : (h : Held) (cycle : ℕ) (ports : Ports) → Whole h → ports ≡ begun_at cycle h.ports → left_in_all ports ≤ most_begun
 few_left h cycle ports w b =
@@ -52,7 +58,7 @@ pub all_left : (h : Held) (cycle : ℕ) (now : Around) (ports : Ports) → Whole
 all_left h cycle now ports w b = subst (LeftAfter h.desc now []) (sym b) (left_first h.desc now cycle h.ports (ap (λ (s : Sizes). s.alus) w.made))
 
 -- the parts stand for the window
-pub standing : (h : Held) → Whole h → (p : InFlight) × Stands (holding h.rob h.stations p)
+pub standing : (h : Held) → Whole h → (p : InFlight) × Stands (holding h.desc.version h.rob h.stations h.queues p)
 standing h w = (in_flight h, w.stands)
 
 -- what an entry looks at, with this divider
@@ -81,13 +87,13 @@ issued_row h divider v old new w q e s =
 -- ---- what the phase leaves
 
 -- the parts that are written, by what is decided
-module _ (h : Held) (decided : Decided) (rob : Ring) (stations : Stations) (tags : Cache) (mshrs : Registers) (ports : Ports) (w : Whole h)
+module _ (h : Held) (decided : Decided) (rob : Ring) (stations : Stations) (queues : Queues) (tags : Cache) (mshrs : Registers) (ports : Ports) (w : Whole h)
     (k : Decides h.desc (around (machine_of h)) h.rob.entries decided h.ports.divider ports.divider)
     (r : rob ≡ record (h.rob) { entries = placed decided.puts.items h.rob.entries })
     (t : tags ≡ record (h.tags) { sets = cache_left h.tags.desc (option_map as_access decided.load) h.tags.sets })
     (m : mshrs ≡ record (h.mshrs) { misses = misses_left h.desc h.cycle (option_map as_access decided.load) h.mshrs.misses }) where
   abbrev new : Held
-  new = record h { rob = rob; stations = stations; tags = tags; mshrs = mshrs; ports = ports }
+  new = record h { rob = rob; stations = stations; queues = queues; tags = tags; mshrs = mshrs; ports = ports }
 
   -- they hold what the definition leaves
   issued_machine : machine_of new ≡ (issue h.desc (machine_of h)).machine
@@ -97,19 +103,19 @@ module _ (h : Held) (decided : Decided) (rob : Ring) (stations : Stations) (tags
       (ap (λ (t : Cache). t.sets) t ∙ ap (λ (s : Sizes). cache_left s.tags (option_map as_access decided.load) h.tags.sets) w.made)
       (ap (λ (m : Registers). m.misses) m) k.divider
 
-  issued_sizes : stations.room ≡ h.stations.room → ports.alus ≡ h.ports.alus → sizes new ≡ sizes h
-  issued_sizes s p =
+  issued_sizes : stations.room ≡ h.stations.room → queues.max_loads ≡ h.queues.max_loads → queues.max_stores ≡ h.queues.max_stores → ports.alus ≡ h.ports.alus → sizes new ≡ sizes h
+  issued_sizes s a b p =
       let entries = ap (λ (r : Ring). r.room) r in
       let lines = ap (λ (t : Cache). t.desc) t in
       let registers = ap (λ (m : Registers). m.room) m in
       cc
 
-  pub issued_whole : ((p : InFlight) → Stands (holding h.rob h.stations p) → Stands (holding rob stations p)) → stations.room ≡ h.stations.room →
-      ports.alus ≡ h.ports.alus → Whole new
-  issued_whole stands s p = record {
+  pub issued_whole : ((p : InFlight) → Stands (holding h.desc.version h.rob h.stations h.queues p) → Stands (holding h.desc.version rob stations queues p)) → stations.room ≡ h.stations.room →
+      queues.max_loads ≡ h.queues.max_loads → queues.max_stores ≡ h.queues.max_stores → ports.alus ≡ h.ports.alus → Whole new
+  issued_whole stands s a b p = record {
     sized = subst (Sized h.desc) (sym issued_machine) (sized_issue h.desc (machine_of h) (every_desc h.desc) w.sized);
     stands = stands (in_flight h) w.stands;
-    made = issued_sizes s p ∙ w.made;
+    made = issued_sizes s a b p ∙ w.made;
   }
 
   pub issued_shown : (v : Described) → described h ≡ v → described new ≡ record v { machine = (issue v.desc v.machine).machine }

@@ -1,7 +1,6 @@
 -- What the parts tell of an entry at its position is what the machine's definitions find there.
 use Rattle.std.proofs.Common.{◌≡◌, ℕ, zero, suc, ◌+◌, ◌-◌, ◌≤◌, Bool, true, false, ◌&&◌, List, ◌∷◌, Option, Some, refl, ap, ap₂, sym, subst, ◌∙◌, slice_get, arith}
 use Rattle.std.specs.Prelude.{nat_lt}
-use Rattle.std.specs.List.{list_all}
 use Rattle.std.specs.Option.{option_map}
 use Rattle.std.proofs.lemmas.Bool.Decides.{nat_tests}
 use Rattle.std.proofs.Math.Bool.{and-false, and-true}
@@ -9,26 +8,25 @@ use Rattle.rv_types.specs.Value.{one_if}
 use Rattle.machine_desc.specs.declared.Desc.{Desc}
 use Rattle.window_model.specs.declared.Divider.{Divider}
 use Rattle.window_model.specs.declared.Entry.{Entry}
-use Rattle.window_model.specs.Around.{Around, is_free}
-use Rattle.window_model.specs.Issue.{Port, AluPort, is_granted, may_at, may_issue, may_issue_as, stores_done}
+use Rattle.window_model.specs.Around.{Around}
+use Rattle.window_model.specs.Issue.{Port, AddressPort, AluPort, DataPort, is_granted, may_at, may_issue, may_issue_as}
 use Rattle.window_model.proofs.Booleans.{both}
-use Rattle.window_model.specs.Order.{before_at, is_waiting, ready}
-use Rattle.stations.specs.Stations.{awaits_none}
+use Rattle.window_model.specs.Order.{all_known, before_at, is_store, is_waiting, ready, sources}
+use Rattle.stations.specs.Stations.{is_able, ready_part}
+use Rattle.stations.specs.declared.wants.Part.{Part}
 use Rattle.rob_ring.specs.Beside.{each_roots}
-use Rattle.lsq.specs.Queues.{is_known, older}
-use Rattle.queue_laws.proofs.Telling.{known_is}
 use Rattle.transmit_gate.specs.Gate.{may_transmit}
 use Rattle.unit_ports.specs.Ports.{Ports, left_at, port_for, taken_at}
-use Rattle.unit_ports.specs.Laws.{LeftAfter, asked}
-use Rattle.unit_ports.proofs.Granting.{granted_is, left_more, port_asked}
+use Rattle.unit_ports.specs.Laws.{LeftAfter, asked, if_asked}
+use Rattle.unit_ports.proofs.Granting.{granted_is, left_more}
 use Rattle.parts_stand.specs.Steps.{station_of}
-use Rattle.parts_stand.specs.Telling.{asks_besides}
-use Rattle.parts_stand.proofs.Answering.{tells_issue, tells_ready}
+use Rattle.parts_stand.specs.Parts.{wants_of}
+use Rattle.parts_stand.specs.Telling.{asks_besides, has_sources, own_of}
+use Rattle.parts_stand.proofs.Answering.{tells_able, tells_issue, tells_part}
 use Rattle.issue.specs.declared.seen.Seen.{Seen}
 use Rattle.issue.specs.Ports.{OnlyPorts, left_in_all}
 use Rattle.issue.specs.State.{Stands, StandsAt, around_of, parts_of}
-use Rattle.issue.proofs.Asking.{InStep, asks_own}
-use Rattle.issue.proofs.Bytes.{stores_before}
+use Rattle.issue.proofs.Asking.{AsksNone, asks_own}
 
 -- ---- what an entry is asked for
 
@@ -36,21 +34,25 @@ module _ (s : Seen) (i : ℕ) (e : Entry) (t : Stands s) (h : StandsAt s i e) wh
   abbrev before : List Entry
   before = before_at s.rob.now.entries i
 
-  -- an entry that waits has a station, which tells whether it is ready
-  pub ready_is : (n : ℕ) (b : Bool) → is_waiting e.state ≡ true → n ≡ station_of i s.rob.now.entries → option_map awaits_none (slice_get s.stations.now.held n) ≡ Some b → b ≡ ready before e
-  ready_is n b w q k =
-      let told = tells_ready (parts_of t.next t.writes s) i e t.parts h w in
-      let here : option_map awaits_none (slice_get s.stations.now.held (station_of i s.rob.now.entries)) ≡ Some b = subst (λ n. option_map awaits_none (slice_get s.stations.now.held n) ≡ Some b) q k in
-      let both : Some b ≡ Some (ready before e) = sym here ∙ told in
+  -- an entry that waits has a station, which tells whether what it wants is there
+  pub able_is : (n : ℕ) (b : Bool) → is_waiting e.state ≡ true → n ≡ station_of i s.rob.now.entries → option_map is_able (slice_get s.stations.now.held n) ≡ Some b → b ≡ has_sources (wants_of s.desc.now.version e) before e
+  able_is n b w q k =
+      let told = tells_able (parts_of t.next t.writes s) i e t.parts h w in
+      let here : option_map is_able (slice_get s.stations.now.held (station_of i s.rob.now.entries)) ≡ Some b = subst (λ n. option_map is_able (slice_get s.stations.now.held n) ≡ Some b) q k in
+      let both : Some b ≡ Some (has_sources (wants_of s.desc.now.version e) before e) = sym here ∙ told in
       cc
 
-  -- older stores are known where they are Done
-  pub stores_known : list_all is_known (older e.serial s.lsq.now.stores) ≡ stores_done before
-  stores_known = known_is (older e.serial s.lsq.now.stores) before (stores_before s.lsq.now s.rob.now.entries i e t.queues t.parts.rise h)
+  -- and whether the source of a part is
+  pub part_is : (part : Part) (n : ℕ) (b : Bool) → is_waiting e.state ≡ true → n ≡ station_of i s.rob.now.entries → option_map (ready_part part) (slice_get s.stations.now.held n) ≡ Some b → b ≡ all_known before (own_of part (sources e))
+  part_is part n b w q k =
+      let told = tells_part part (parts_of t.next t.writes s) i e t.parts h w in
+      let here : option_map (ready_part part) (slice_get s.stations.now.held (station_of i s.rob.now.entries)) ≡ Some b = subst (λ n. option_map (ready_part part) (slice_get s.stations.now.held n) ≡ Some b) q k in
+      let both : Some b ≡ Some (all_known before (own_of part (sources e))) = sym here ∙ told in
+      cc
 
   -- an entry that waits and is ready may issue by its untainted operands, and by what is asked for besides
   pub issue_is : (m b : Bool) (roots : List (Option ℕ)) → slice_get (each_roots s.sources.now.items) i ≡ Some roots →
-      m ≡ may_transmit e.item.kind s.point.now.serial roots → b ≡ asks_besides e.item.kind (is_free (around_of s)) before →
+      m ≡ may_transmit e.item.kind s.point.now.serial roots → b ≡ asks_besides e.item.kind s.desc.now (around_of s) before e →
       is_waiting e.state ≡ true → ready before e ≡ true → (m && b) ≡ may_issue s.desc.now (around_of s) before e
   issue_is m b roots k p q w r =
       ap₂ (λ m b. m && b) p q ∙ sym (tells_issue s.desc.now (parts_of t.next t.writes s) s.point.now i e roots (around_of s) t.parts t.advanced t.model h k)
@@ -70,10 +72,14 @@ only_ports : (q : Port) (p : Ports) → OnlyPorts p (taken_at q p)
 only_ports AluPort p = record { alus = refl; cycle = refl }
 only_ports _ p = record { alus = refl; cycle = refl }
 
--- an entry takes one where it may issue there
-pub left_asked : (b : Bool) (d : Desc) (now : Around) (before : List Entry) (e : Entry) (p : Ports) → may_at d now (port_for e.item.kind) before e ≡ b → LeftAfter d now before p →
+-- an entry in one piece takes one where it may issue there
+left_asked : (b : Bool) (d : Desc) (now : Around) (before : List Entry) (e : Entry) (p : Ports) → is_store e.item.kind ≡ false → may_at d now (port_for e.item.kind) before e ≡ b → LeftAfter d now before p →
     LeftAfter d now (e ∷ before) (asked b e p)
-left_asked b d now before e p h l = subst (λ b. LeftAfter d now (e ∷ before) (asked b e p)) h (left_more d now before e p l)
+left_asked b d now before e p s h l = subst (λ b. LeftAfter d now (e ∷ before) (asked b e p)) h (left_more d now before e p s l)
+
+-- one that asks for no port takes none
+pub left_none : (d : Desc) (now : Around) (before : List Entry) (e : Entry) (p : Ports) → AsksNone d now before e → LeftAfter d now before p → LeftAfter d now (e ∷ before) p
+left_none d now before e p none l = record { each_port = λ q. let a = l.each_port q in let b = ap one_if (none q) in omega (arith, a, b) }
 
 -- where none is left none is taken
 none_less : (a : ℕ) → nat_lt 0 a ≡ false → a - 1 ≡ a
@@ -93,7 +99,25 @@ divider_stays AluPort p = refl
 divider_stays _ p = refl
 
 left_with : (d : Desc) (now : Around) (es : List Entry) (p : Ports) (v : Divider) → LeftAfter d now es p → LeftAfter d now es (record p { divider = v })
-left_with d now es p v l = record { each_port = λ q k. with_divider q p v ∙ l.each_port q k }
+left_with d now es p v l = record { each_port = λ q. with_divider q p v ∙ l.each_port q }
+
+-- of each port as many fewer as are taken
+pub asked_less : (may : Bool) (q : Port) (p : Ports) → left_in_all (if_asked may q p) + one_if (may && nat_lt 0 (left_at q p)) ≡ left_in_all p
+asked_less true q p = one_less q p
+asked_less false q p = omega arith
+
+pub asked_only : (may : Bool) (q : Port) (p : Ports) → OnlyPorts p (if_asked may q p)
+asked_only true q p = only_ports q p
+asked_only false q p = record { alus = refl; cycle = refl }
+
+pub asked_divider : (may : Bool) (q : Port) (p : Ports) → (if_asked may q p).divider ≡ p.divider
+asked_divider true q p = divider_stays q p
+asked_divider false q p = refl
+
+-- the data part's port is left whatever the address part asks for
+pub data_left : (may : Bool) (p : Ports) → left_at DataPort (if_asked may AddressPort p) ≡ left_at DataPort p
+data_left true p = refl
+data_left false p = refl
 
 -- what one that is served leaves
 pub record Served (d : Desc) (now : Around) (before : List Entry) (e : Entry) (old new : Ports) (v : Divider) : Type 0 where
@@ -102,16 +126,16 @@ pub record Served (d : Desc) (now : Around) (before : List Entry) (e : Entry) (o
   pub only : OnlyPorts old new
   pub divider : new.divider ≡ v
 
--- one is granted its own where one is left and it may issue
-module _ (d : Desc) (now : Around) (before : List Entry) (e : Entry) (p : Ports) (t : InStep d e) (l : LeftAfter d now before p) where
+-- an entry in one piece is granted its own where one is left and it may issue
+module _ (d : Desc) (now : Around) (before : List Entry) (e : Entry) (p : Ports) (s : is_store e.item.kind ≡ false) (l : LeftAfter d now before p) where
   abbrev own : Port
   own = port_for e.item.kind
 
   granted_own : (may_at d now own before e && nat_lt 0 (left_at own p)) ≡ is_granted d now own before e
-  granted_own = granted_is d now own before e p (port_asked e.item.kind) l
+  granted_own = granted_is d now own before e p l
 
   grants_left : (b : Bool) → nat_lt 0 (left_at own p) ≡ b → is_granted d now own before e ≡ (may_issue d now before e && b)
-  grants_left b n = sym granted_own ∙ ap₂ (λ a b. a && b) (asks_own d now before e t) n
+  grants_left b n = sym granted_own ∙ ap₂ (λ a b. a && b) (asks_own d now before e s) n
 
   pub served_where_left : nat_lt 0 (left_at own p) ≡ true → is_granted d now own before e ≡ may_issue d now before e
   served_where_left n = grants_left true n ∙ and-true (may_issue d now before e)
@@ -126,8 +150,8 @@ module _ (d : Desc) (now : Around) (before : List Entry) (e : Entry) (p : Ports)
       by_may : (m : Bool) → may_at d now own before e ≡ m → LeftAfter d now (e ∷ before) p
       by_may true m =
           let refused : nat_lt 0 (left_at own p) ≡ false = sym (ap (λ m. m && nat_lt 0 (left_at own p)) m) ∙ granted_own ∙ h in
-          subst (LeftAfter d now (e ∷ before)) (taken_none own p refused) (left_asked true d now before e p m l)
-      by_may false m = left_asked false d now before e p m l
+          subst (LeftAfter d now (e ∷ before)) (taken_none own p refused) (left_asked true d now before e p s m l)
+      by_may false m = left_asked false d now before e p s m l
 
   -- one that is served takes one
   module _ (h : is_granted d now own before e ≡ true) where
@@ -146,7 +170,7 @@ module _ (d : Desc) (now : Around) (before : List Entry) (e : Entry) (p : Ports)
         let all = ap left_in_all is in
         let only = only_ports own (record p { divider = v }) in
         record {
-          left = subst (LeftAfter d now (e ∷ before)) (sym is) (left_asked true d now before e (record p { divider = v }) m (left_with d now before p v l));
+          left = subst (LeftAfter d now (e ∷ before)) (sym is) (left_asked true d now before e (record p { divider = v }) s m (left_with d now before p v l));
           fewer = omega (arith, all, less, one);
           only = subst (OnlyPorts p) (sym is) (record { alus = only.alus; cycle = only.cycle });
           divider = ap (λ (p : Ports). p.divider) is ∙ divider_stays own (record p { divider = v });

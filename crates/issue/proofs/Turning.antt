@@ -1,6 +1,6 @@
--- What an entry's turn comes to: it waits on, or it begins with one event.
-use Rattle.std.proofs.Common.{◌≡◌, ℕ, ◌+◌, ◌<◌, ◌≤◌, Bool, true, false, List, [], ◌∷◌, ◌++◌, length, Option, Some, refl, ap, sym, subst, ◌∙◌, inl, inr, arith, append-nil, slice_get}
-use Rattle.std.specs.Prelude.{if◌then◌else◌, is_some, max, slice_set, ◌⊎◌}
+-- What an entry's turn comes to: it waits on, or it goes on with an event.
+use Rattle.std.proofs.Common.{◌≡◌, ℕ, ◌+◌, ◌<◌, ◌≤◌, Bool, true, false, List, [], ◌∷◌, ◌++◌, length, refl, ap, ap₂, sym, subst, ◌∙◌, inl, inr, arith, append-nil, slice_get, Some, eqb-true}
+use Rattle.std.specs.Prelude.{◌==◌, ◌||◌, if◌then◌else◌, slice_set, ◌⊎◌}
 use Rattle.std.specs.List.{All}
 use Rattle.std.proofs.lemmas.List.{set_at}
 use Rattle.std.proofs.lemmas.List.Elements.{All-push}
@@ -14,108 +14,192 @@ use Rattle.window_model.specs.declared.Entry.{Entry}
 use Rattle.window_model.specs.declared.Event.{Event}
 use Rattle.window_model.specs.declared.Event.TheVariants as event
 use Rattle.window_model.specs.declared.Outcome.{Outcome}
-use Rattle.window_model.specs.declared.Progress.TheVariants.{Busy}
 use Rattle.window_model.specs.Around.{Around}
-use Rattle.window_model.specs.Order.{is_store, is_waiting}
-use Rattle.window_model.specs.Issue.{AddressPort, Begun, access_of, begin_as, begins, effect_of, is_granted, issue_entry, issue_parts, load_as, port_of, waits, with_address, with_data}
+use Rattle.window_model.specs.Order.{has_address, has_data, is_store, is_waiting}
+use Rattle.window_model.specs.Retire.{op_of, width_of}
+use Rattle.window_model.specs.Issue.{AddressPort, Begun, DataPort, access_of, begin_as, begins, data_events, effect_of, if_granted, is_granted, issue_entry, issue_parts, load_as, port_of, waits, with_address, with_data}
+use Rattle.window_model.proofs.Booleans.{waiting_done}
 use Rattle.window_model.proofs.Issuing.{by_load, may_parts}
-use Rattle.machine_facts.proofs.Together.{parts_in_one}
+use Rattle.window_model.proofs.Together.{granted_together}
 use Rattle.unit_ports.specs.Ports.{port_for}
-use Rattle.parts_stand.specs.Steps.{begun_with, station_of}
+use Rattle.queue_laws.specs.Window.{PartsGoOn}
+use Rattle.parts_stand.specs.Steps.{Issues, station_of}
 use Rattle.issue.specs.declared.decide.Put.{Put}
-use Rattle.issue.specs.Puts.{ArePuts, IsPut, placed}
-use Rattle.issue.specs.Turns.{begin_by, begin_entry, begin_store, puts_of, stored_by, with_both}
-use Rattle.issue.proofs.Asking.{AsksNone, InStep, granted_may, grants_none}
+use Rattle.issue.specs.Puts.{ArePuts, IsPut, placed, width_for}
+use Rattle.issue.specs.Turns.{after_by, begin_entry, puts_by, puts_of}
+use Rattle.issue.proofs.Advanced.{lacks_address, lacks_data, still_undone}
+use Rattle.issue.proofs.Asking.{AsksNone, InStep, fresh_address, fresh_data, granted_may, grants_none}
+use Rattle.issue.proofs.Width.{size_is}
 
--- ---- what it comes to, by whether it is granted its port
+-- ---- what one in one piece comes to, by whether it is granted its port
 
--- both parts are known in one cycle
-one_cycle : (n : ℕ) → max n n ≡ n
-one_cycle n = omega arith
-
-both_parts : (now : Around) (before : List Entry) (e : Entry) (b : Bool) →
-    (let f = effect_of now.regs before e in if b then record { entry = with_data now f (with_address now f e); events = event.Agu e.serial ∷ [] } else waits e) ≡ (if b then begin_store now before e else waits e)
-both_parts now before e true =
-    ap (λ n. record { entry = record (with_both e (now.cycle + 1) (stored_by now.ram e (effect_of now.regs before e))) { state = Busy n }; events = event.Agu e.serial ∷ [] }) (one_cycle (now.cycle + 1))
-both_parts now before e false = refl
-
-turn_by : (k : Kind) (b : Bool) (d : Desc) (now : Around) (before : List Entry) (e : Entry) → is_granted d now (port_for k) before e ≡ b →
-    (if is_store k then issue_parts d now before e else (if is_granted d now (port_of k) before e then begin_as k d now before e else waits e)) ≡ (if b then begin_by k d now before e else waits e)
-turn_by Store b d now before e h =
-    parts_in_one d now before e d.first_version ∙ both_parts now before e (is_granted d now AddressPort before e) ∙ ap (λ b. if b then begin_store now before e else waits e) h
-turn_by Mul b d now before e h = ap (λ b. if b then begin_as Mul d now before e else waits e) h
-turn_by Div b d now before e h = ap (λ b. if b then begin_as Div d now before e else waits e) h
-turn_by Load b d now before e h = ap (λ b. if b then begin_as Load d now before e else waits e) h
-turn_by k b d now before e h = ap (λ b. if b then begin_as k d now before e else waits e) h
+turn_by : (k : Kind) (b : Bool) (d : Desc) (now : Around) (before : List Entry) (e : Entry) → is_store k ≡ false → is_granted d now (port_for k) before e ≡ b →
+    (if is_store k then issue_parts d now before e else (if is_granted d now (port_of k) before e then begin_as k d now before e else waits e)) ≡ (if b then begin_as k d now before e else waits e)
+turn_by Store b d now before e s h = absurd (cc)
+turn_by Mul b d now before e s h = ap (λ b. if b then begin_as Mul d now before e else waits e) h
+turn_by Div b d now before e s h = ap (λ b. if b then begin_as Div d now before e else waits e) h
+turn_by Load b d now before e s h = ap (λ b. if b then begin_as Load d now before e else waits e) h
+turn_by k b d now before e s h = ap (λ b. if b then begin_as k d now before e else waits e) h
 
 -- one that is served does what its kind does, one that is granted no port waits on
-pub turn_is : (b : Bool) (d : Desc) (now : Around) (before : List Entry) (e : Entry) → is_granted d now (port_for e.item.kind) before e ≡ b →
+pub turn_is : (b : Bool) (d : Desc) (now : Around) (before : List Entry) (e : Entry) → is_store e.item.kind ≡ false → is_granted d now (port_for e.item.kind) before e ≡ b →
     issue_entry d now before e ≡ (if b then begin_entry d now before e else waits e)
-turn_is b d now before e h = turn_by e.item.kind b d now before e h
+turn_is b d now before e s h = turn_by e.item.kind b d now before e s h
+
+-- ---- what a store comes to, by whether each of its parts is granted its port
+
+abbrev pub parts_as : Bool → Bool → Desc → Around → List Entry → Entry → Begun
+parts_as a c d now before e =
+    let f = effect_of now.regs before e in
+    let g = if_granted a (with_address now f) (event.Agu e.serial ∷ []) e in
+    let r = if_granted c (with_data now f) (data_events d e) g.entry in
+    record { entry = r.entry; events = g.events ++ r.events }
+
+pub store_turn : (a c : Bool) (d : Desc) (now : Around) (before : List Entry) (e : Entry) → is_store e.item.kind ≡ true → is_granted d now AddressPort before e ≡ a → is_granted d now DataPort before e ≡ c →
+    issue_entry d now before e ≡ parts_as a c d now before e
+store_turn a c d now before e s p q =
+    ap (λ s. if s then issue_parts d now before e else (if is_granted d now (port_of e.item.kind) before e then begin_as e.item.kind d now before e else waits e)) s
+    ∙ ap₂ (λ a c. parts_as a c d now before e) p q
 
 -- one that asks for no port waits on
 pub turn_none : (d : Desc) (now : Around) (before : List Entry) (e : Entry) → AsksNone d now before e → issue_entry d now before e ≡ waits e
-turn_none d now before e n = turn_is false d now before e (grants_none d now (port_for e.item.kind) before e n)
+turn_none d now before e n = by_store (is_store e.item.kind) refl
+  where
+    by_store : (s : Bool) → is_store e.item.kind ≡ s → issue_entry d now before e ≡ waits e
+    by_store false s = turn_is false d now before e s (grants_none d now (port_for e.item.kind) before e n)
+    by_store true s = store_turn false false d now before e s (grants_none d now AddressPort before e n) (grants_none d now DataPort before e n)
 
--- ---- it waits on, or it begins with one event
+-- ---- it waits on, or it goes on with an event
 
--- it is granted its port, and begins with one event
-pub record Begins (granted : Bool) (e : Entry) (b : Begun) : Type 0 where
-  pub due : ℕ
-  pub outcome : Outcome
-  pub address : Option ℕ
-  pub stored : Option ℕ
-  pub known : is_store e.item.kind ≡ true → is_some address ≡ true
+-- it waited, and goes on with an event
+pub record Acts (e : Entry) (b : Begun) : Type 0 where
   pub event : Event
-  pub has_port : granted ≡ true
-  pub is : b ≡ record { entry = begun_with e due outcome address stored; events = event ∷ [] }
+  pub more : List Event
+  pub has : b.events ≡ event ∷ more
+  pub waits : is_waiting e.state ≡ true
+  pub issues : Issues e b.entry
+  pub stay : is_store e.item.kind ≡ true → PartsGoOn (width_for (width_of b.entry)) e b.entry
 
-abbrev pub Acts : Bool → Entry → Begun → Type 0
-Acts granted e b = (b ≡ waits e) ⊎ Begins granted e b
+abbrev pub Turns : Entry → Begun → Type 0
+Turns e b = (b ≡ waits e) ⊎ Acts e b
 
-one_event : (e : Entry) (due : ℕ) (o : Outcome) (v : Event) → is_store e.item.kind ≡ false → Acts true e (begins e due o (v ∷ []))
-one_event e due o v s = inr (record { due = due; outcome = o; address = e.addr_due; stored = e.data_due; known = λ t. absurd (cc); event = v; has_port = refl; is = refl })
+one_event : (e : Entry) (due : ℕ) (o : Outcome) (v : Event) → is_store e.item.kind ≡ false → is_waiting e.state ≡ true → Turns e (begins e due o (v ∷ []))
+one_event e due o v s w = inr (record {
+  event = v;
+  more = [];
+  has = refl;
+  waits = w;
+  issues = record { on = record { serial = refl; item = refl }; undone = refl; resolved = refl };
+  stay = λ t. absurd (cc);
+})
 
-load_acts : (d : Desc) (now : Around) (b : List Entry) (e : Entry) (f : Effect) (v : ℕ) → is_store e.item.kind ≡ false → Acts true e (load_as (access_of d now b e) d now e f v)
-load_acts d now b e f v s =
-    by_load d now (λ a. Acts true e (load_as a d now e f v)) (one_event e _ _ _ s) (λ line room. one_event e _ _ _ s) (λ full. inl refl) (λ c. one_event e _ _ _ s) b e
+load_turns : (d : Desc) (now : Around) (b : List Entry) (e : Entry) (f : Effect) (v : ℕ) → is_store e.item.kind ≡ false → is_waiting e.state ≡ true → Turns e (load_as (access_of d now b e) d now e f v)
+load_turns d now b e f v s w =
+    by_load d now (λ a. Turns e (load_as a d now e f v)) (one_event e _ _ _ s w) (λ line room. one_event e _ _ _ s w) (λ full. inl refl) (λ c. one_event e _ _ _ s w) b e
 
-begin_acts : (k : Kind) (d : Desc) (now : Around) (before : List Entry) (e : Entry) → e.item.kind ≡ k → Acts true e (begin_by k d now before e)
-begin_acts Load d now before e q = load_acts d now before e _ _ (ap is_store q)
-begin_acts Store d now before e q =
-    let due = now.cycle + 1 in
-    inr (record {
-      due = due;
-      outcome = stored_by now.ram e (effect_of now.regs before e);
-      address = Some due;
-      stored = Some due;
-      known = λ t. refl;
-      event = event.Agu e.serial;
-      has_port = refl;
-      is = refl;
-    })
-begin_acts _ d now before e q = one_event e _ _ _ (ap is_store q)
+begin_turns : (k : Kind) (d : Desc) (now : Around) (before : List Entry) (e : Entry) → is_store e.item.kind ≡ false → is_waiting e.state ≡ true → Turns e (begin_as k d now before e)
+begin_turns Load d now before e s w = load_turns d now before e _ _ s w
+begin_turns _ d now before e s w = one_event e _ _ _ s w
 
-by_grant : (granted : Bool) (e : Entry) (b : Begun) → Acts true e b → Acts granted e (if granted then b else waits e)
-by_grant true e b h = h
-by_grant false e b h = inl refl
+parts_turns : (a c : Bool) (d : Desc) (now : Around) (before : List Entry) (e : Entry) → ((a || c) ≡ true → is_waiting e.state ≡ true) → (a ≡ false → c ≡ true → (d.version == 1) ≡ false) → Turns e (parts_as a c d now before e)
+parts_turns false false d now before e w v = inl refl
+parts_turns true true d now before e w v = inr (record {
+  event = event.Agu e.serial;
+  more = data_events d e;
+  has = refl;
+  waits = w refl;
+  issues = record { on = record { serial = refl; item = refl }; undone = refl; resolved = refl };
+  stay = λ t. record { address = λ h. refl; stored = λ h. refl; outcome = λ h. refl; size = size_is (op_of e.item.instr) };
+})
+parts_turns true false d now before e w v = inr (record {
+  event = event.Agu e.serial;
+  more = [];
+  has = refl;
+  waits = w refl;
+  issues = record {
+    on = record { serial = refl; item = refl };
+    undone = still_undone (Some (now.cycle + 1)) e.data_due e.state (waiting_done e.state (w refl));
+    resolved = refl;
+  };
+  stay = λ t. record { address = λ h. refl; stored = λ h. h; outcome = λ h. refl; size = size_is (op_of e.item.instr) };
+})
+parts_turns false true d now before e w v = inr (record {
+  event = event.Std e.serial;
+  more = [];
+  has = ap (λ one. if one then [] else event.Std e.serial ∷ []) (v refl refl);
+  waits = w refl;
+  issues = record {
+    on = record { serial = refl; item = refl };
+    undone = still_undone e.addr_due (Some (now.cycle + 1)) e.state (waiting_done e.state (w refl));
+    resolved = refl;
+  };
+  stay = λ t. record { address = λ h. h; stored = λ h. refl; outcome = λ h. refl; size = size_is (op_of e.item.instr) };
+})
 
-pub turn_acts : (d : Desc) (now : Around) (before : List Entry) (e : Entry) → Acts (is_granted d now (port_for e.item.kind) before e) e (issue_entry d now before e)
-turn_acts d now before e =
-    let granted = is_granted d now (port_for e.item.kind) before e in
-    subst (Acts granted e) (sym (turn_is granted d now before e refl)) (by_grant granted e _ (begin_acts e.item.kind d now before e refl))
+module _ (d : Desc) (now : Around) (before : List Entry) (e : Entry) where
+  whole_turns : (b : Bool) → is_store e.item.kind ≡ false → is_granted d now (port_for e.item.kind) before e ≡ b → Turns e (if b then begin_entry d now before e else waits e)
+  whole_turns true s g = begin_turns e.item.kind d now before e s (may_parts d now before e (granted_may d now before e s g)).waits
+  whole_turns false s g = inl refl
 
--- ---- its events, and whether it waits
+  -- a store of which a part is granted its port waits
+  part_waits : (a c : Bool) → InStep d e → is_store e.item.kind ≡ true → is_granted d now AddressPort before e ≡ a → is_granted d now DataPort before e ≡ c → (a || c) ≡ true → is_waiting e.state ≡ true
+  part_waits true c t s p q h = lacks_address (has_address e) (has_data e) (is_waiting e.state) (t.parts s) (fresh_address d now before e s p)
+  part_waits false true t s p q h = lacks_data (has_address e) (has_data e) (is_waiting e.state) (t.parts s) (fresh_data d now before e s q)
+  part_waits false false t s p q h = absurd (cc)
 
-pub few_events : (granted : Bool) (e : Entry) (b : Begun) → Acts granted e b → length b.events ≤ one_if granted
-few_events granted e b (inl q) = let n : length b.events ≡ 0 = ap (λ b. length b.events) q in omega (arith, n)
-few_events granted e b (inr t) =
-    let n : length b.events ≡ 1 = ap (λ b. length b.events) t.is in
-    let one : one_if granted ≡ 1 = ap one_if t.has_port in
-    omega (arith, n, one)
+  -- in version 1 the data part doesn't go alone
+  pub not_alone : (v : Bool) → (d.version == 1) ≡ v → is_granted d now AddressPort before e ≡ false → is_granted d now DataPort before e ≡ true → (d.version == 1) ≡ false
+  not_alone false v p q = v
+  not_alone true v p q = let one : d.version ≡ 1 = eqb-true _ _ v in let same = granted_together d now one before e in absurd (cc)
 
-pub granted_waits : (d : Desc) (now : Around) (before : List Entry) (e : Entry) → InStep d e → is_granted d now (port_for e.item.kind) before e ≡ true → is_waiting e.state ≡ true
-granted_waits d now before e t h = (may_parts d now before e (granted_may d now before e t h)).waits
+  store_turns : (a c : Bool) → InStep d e → is_store e.item.kind ≡ true → is_granted d now AddressPort before e ≡ a → is_granted d now DataPort before e ≡ c → Turns e (parts_as a c d now before e)
+  store_turns a c t s p q = parts_turns a c d now before e (part_waits a c t s p q) (λ x y. not_alone (d.version == 1) refl (p ∙ x) (q ∙ y))
+
+  pub entry_turns : InStep d e → Turns e (issue_entry d now before e)
+  entry_turns t = by_store (is_store e.item.kind) refl
+    where
+      by_store : (s : Bool) → is_store e.item.kind ≡ s → Turns e (issue_entry d now before e)
+      by_store false s =
+          let granted = is_granted d now (port_for e.item.kind) before e in
+          subst (Turns e) (sym (turn_is granted d now before e s refl)) (whole_turns granted s refl)
+      by_store true s =
+          let a = is_granted d now AddressPort before e in
+          let c = is_granted d now DataPort before e in
+          subst (Turns e) (sym (store_turn a c d now before e s refl refl)) (store_turns a c t s refl refl)
+
+-- ---- how many events it has
+
+load_few : (d : Desc) (now : Around) (b : List Entry) (e : Entry) (f : Effect) (v : ℕ) → length (load_as (access_of d now b e) d now e f v).events ≤ 1
+load_few d now b e f v = by_load d now (λ a. length (load_as a d now e f v).events ≤ 1) (omega arith) (λ line room. omega arith) (λ full. omega arith) (λ c. omega arith) b e
+
+begin_few : (k : Kind) (d : Desc) (now : Around) (before : List Entry) (e : Entry) → length (begin_as k d now before e).events ≤ 1
+begin_few Load d now before e = load_few d now before e _ _
+begin_few _ d now before e = omega arith
+
+-- one in one piece has one at most
+pub few_events : (d : Desc) (now : Around) (before : List Entry) (e : Entry) → length (begin_entry d now before e).events ≤ 1
+few_events d now before e = begin_few e.item.kind d now before e
+
+data_few : (d : Desc) (e : Entry) (v : Bool) → (d.version == 1) ≡ v → length (data_events d e) ≤ 1
+data_few d e v q = by_version (d.version == 1)
+  where
+    by_version : (v : Bool) → length (if v then [] else event.Std e.serial ∷ []) ≤ 1
+    by_version true = omega arith
+    by_version false = omega arith
+
+-- and a store one at most for each part
+pub few_parts : (a c : Bool) (d : Desc) (now : Around) (before : List Entry) (e : Entry) → length (parts_as a c d now before e).events ≤ one_if a + one_if c
+few_parts true true d now before e = let few = data_few d e (d.version == 1) refl in omega (arith, few)
+few_parts true false d now before e = omega arith
+few_parts false true d now before e = let few = data_few d e (d.version == 1) refl in omega (arith, few)
+few_parts false false d now before e = omega arith
+
+-- so what changes has a put
+pub parts_put : (a c : Bool) (d : Desc) (now : Around) (before : List Entry) (e : Entry) → (a || c) ≡ true → (a ≡ false → c ≡ true → (d.version == 1) ≡ false) →
+    after_by (parts_as a c d now before e).entry (parts_as a c d now before e).events ≡ Some (parts_as a c d now before e).entry
+parts_put true c d now before e h v = refl
+parts_put false true d now before e h v = ap (λ one. after_by (parts_as false true d now before e).entry (if one then [] else event.Std e.serial ∷ [])) (v refl refl)
+parts_put false false d now before e h v = absurd (cc)
 
 -- ---- the puts
 
@@ -127,15 +211,15 @@ pub record PutsTo (window : List Entry) (i : ℕ) (puts : List Put) : Type 0 whe
 later : (i : ℕ) (puts : List Put) → All (λ p. p.position < i) puts → All (λ p. p.position < i + 1) puts
 later i puts a k d within = let h = a k d within in omega (arith, h)
 
-pub puts_more : (window : List Entry) (i station : ℕ) (e : Entry) (puts : List Put) (granted : Bool) (b : Begun) → slice_get window i ≡ Some e → station ≡ station_of i window → (granted ≡ true → is_waiting e.state ≡ true) →
-    Acts granted e b → PutsTo window i puts → PutsTo window (i + 1) (puts ++ puts_of i station b)
-puts_more window i station e puts granted b h n w (inl q) t =
+pub puts_more : (window : List Entry) (i station : ℕ) (e : Entry) (puts : List Put) (b : Begun) → slice_get window i ≡ Some e → station ≡ station_of i window →
+    Turns e b → PutsTo window i puts → PutsTo window (i + 1) (puts ++ puts_of i station b)
+puts_more window i station e puts b h n (inl q) t =
     subst (PutsTo window (i + 1)) (sym (ap (λ b. puts ++ puts_of i station b) q ∙ append-nil puts))
     (record { puts_are = t.puts_are; older = later i puts t.older })
-puts_more window i station e puts granted b h n w (inr a) t =
-    let p : Put = record { position = i; station = station; entry = begun_with e a.due a.outcome a.address a.stored } in
-    let put : IsPut window p = record { old = e; here = h; waits = w a.has_port; station = n; due = a.due; outcome = a.outcome; address = a.address; stored = a.stored; known = a.known; is = refl } in
-    subst (PutsTo window (i + 1)) (sym (ap (λ b. puts ++ puts_of i station b) a.is))
+puts_more window i station e puts b h n (inr a) t =
+    let p : Put = record { position = i; station = station; entry = b.entry } in
+    let put : IsPut window p = record { old = e; here = h; waits = a.waits; station = n; issues = a.issues; stay = a.stay } in
+    subst (λ events. PutsTo window (i + 1) (puts ++ puts_by i station (after_by b.entry events))) (sym a.has)
     (record {
       puts_are = record {
         each_put = All-push (IsPut window) puts p t.puts_are.each_put put;
@@ -149,12 +233,12 @@ pub placed_push : (puts : List Put) (p : Put) (window : List Entry) → placed (
 placed_push [] p window = refl
 placed_push (q ∷ ps) p window = ap (λ window. slice_set window q.position q.entry) (placed_push ps p window)
 
-pub placed_more : (puts : List Put) (i station : ℕ) (e : Entry) (granted : Bool) (b : Begun) (older younger : List Entry) → length older ≡ i → Acts granted e b →
+pub placed_more : (puts : List Put) (i station : ℕ) (e : Entry) (b : Begun) (older younger : List Entry) → length older ≡ i → Turns e b →
     placed (puts ++ puts_of i station b) (older ++ e ∷ younger) ≡ placed puts (older ++ b.entry ∷ younger)
-placed_more puts i station e granted b older younger l (inl q) =
+placed_more puts i station e b older younger l (inl q) =
     let P : Begun → Type 0 = λ b. placed (puts ++ puts_of i station b) (older ++ e ∷ younger) ≡ placed puts (older ++ b.entry ∷ younger) in
     subst P (sym q) (ap (λ ps. placed ps (older ++ e ∷ younger)) (append-nil puts))
-placed_more puts i station e granted b older younger l (inr a) =
-    let P : Begun → Type 0 = λ b. placed (puts ++ puts_of i station b) (older ++ e ∷ younger) ≡ placed puts (older ++ b.entry ∷ younger) in
-    let p : Put = record { position = i; station = station; entry = begun_with e a.due a.outcome a.address a.stored } in
-    subst P (sym a.is) (placed_push puts p (older ++ e ∷ younger) ∙ ap (placed puts) (set_at older e younger (begun_with e a.due a.outcome a.address a.stored) i l))
+placed_more puts i station e b older younger l (inr a) =
+    let P : List Event → Type 0 = λ events. placed (puts ++ puts_by i station (after_by b.entry events)) (older ++ e ∷ younger) ≡ placed puts (older ++ b.entry ∷ younger) in
+    let p : Put = record { position = i; station = station; entry = b.entry } in
+    subst P (sym a.has) (placed_push puts p (older ++ e ∷ younger) ∙ ap (placed puts) (set_at older e younger b.entry i l))

@@ -1,5 +1,5 @@
 -- The walk, an entry at a time.
-use Rattle.std.proofs.Common.{◌≡◌, ℕ, ◌+◌, ◌<◌, ◌≤◌, true, false, List, [], ◌∷◌, ◌++◌, length, map, take, Option, Some, None, refl, ap, sym, subst, ◌∙◌, arith, append-nil, append_assoc}
+use Rattle.std.proofs.Common.{◌≡◌, ℕ, ◌+◌, ◌<◌, ◌≤◌, List, [], ◌∷◌, ◌++◌, length, map, take, Option, Some, None, refl, ap, sym, subst, ◌∙◌, arith, append-nil, append_assoc}
 use Rattle.std.specs.Prelude.{if◌then◌else◌}
 use Rattle.std.specs.List.{flat_map}
 use Rattle.std.specs.Option.{option_map}
@@ -12,10 +12,10 @@ use Rattle.window_model.specs.declared.Event.{Event}
 use Rattle.window_model.specs.Access.{Access}
 use Rattle.machine_desc.specs.declared.Desc.{Desc}
 use Rattle.window_model.specs.Around.{Around}
-use Rattle.window_model.specs.Order.{before_at, each, is_waiting, ready}
+use Rattle.window_model.specs.Order.{before_at, each}
 use Rattle.window_model.specs.Issue.{Begun, DivPort, LoadPort, access_of, is_granted, issue_entry, may_at, taken_for, waits}
 use Rattle.window_model.proofs.Before.{before_more, each_push}
-use Rattle.unit_ports.specs.Ports.{Ports, port_for}
+use Rattle.unit_ports.specs.Ports.{Ports}
 use Rattle.unit_ports.specs.Laws.{LeftAfter}
 use Rattle.parts_stand.specs.Steps.{station_of}
 use Rattle.issue.specs.declared.decide.Put.{Put}
@@ -29,10 +29,10 @@ use Rattle.issue.specs.State.{Stands, StandsAt, around_of, window_of}
 use Rattle.issue.specs.Turns.{puts_of}
 use Rattle.issue.proofs.Choosing.{the_other}
 use Rattle.issue.proofs.Slots.{divider_more, of_first, one_more, slot_more}
-use Rattle.issue.proofs.Asking.{AsksNone, InStep, asks_none, grants_none, in_step}
-use Rattle.issue.proofs.Testing.{left_asked}
+use Rattle.issue.proofs.Asking.{AsksNone, InStep, grants_none, in_step, not_waiting}
+use Rattle.issue.proofs.Testing.{left_none}
 use Rattle.issue.proofs.Waiting.{Keeps, Reaches}
-use Rattle.issue.proofs.Turning.{PutsTo, granted_waits, placed_more, puts_more, turn_acts, turn_none}
+use Rattle.issue.proofs.Turning.{PutsTo, entry_turns, placed_more, puts_more, turn_none}
 
 -- what is decided once the entries before a position have had their turns
 pub record DecidedTo (s : Seen) (i : ℕ) (puts : List Put) (load : Option Access) (start divider : Divider) (earlier events : List Event) : Type 0 where
@@ -86,7 +86,7 @@ module _ (s : Seen) (i : ℕ) (e : Entry) (stands : Stands s) (h : StandsAt s i 
       let turned : map (λ b. b.entry) (turns (i + 1)) ≡ map (λ b. b.entry) (turns i) ++ turn.entry ∷ [] = ap (map (λ b. b.entry)) turns_more ∙ entries_push (turns i) turn in
       let whole : map (λ b. b.entry) (turns (i + 1)) ++ younger ≡ map (λ b. b.entry) (turns i) ++ turn.entry ∷ younger = ap (λ es. es ++ younger) turned ∙ append_assoc (map (λ b. b.entry) (turns i)) (turn.entry ∷ []) younger in
       ap (placed (puts ++ puts_of i station turn)) older
-      ∙ placed_more puts i station e (is_granted d now (port_for e.item.kind) before e) turn (window_up_to i) younger l (turn_acts d now before e)
+      ∙ placed_more puts i station e turn (window_up_to i) younger l (entry_turns d now before e step)
       ∙ w (turn.entry ∷ younger) ∙ sym whole
 
   events_more : (earlier events more : List Event) → more ≡ events ++ turn.events → events ≡ earlier ++ flat_map (λ b. b.events) (turns i) →
@@ -102,21 +102,13 @@ module _ (s : Seen) (i : ℕ) (e : Entry) (stands : Stands s) (h : StandsAt s i 
       new_divider ≡ (if is_granted d now DivPort before e then taken_for now before e else divider) →
       DecidedTo s i puts load start divider earlier events → DecidedTo s (i + 1) new_puts new_load start new_divider earlier more
   decided_more station puts new_puts load new_load start divider new_divider earlier events more n p m l v t =
-      let granted = is_granted d now (port_for e.item.kind) before e in
       record {
-        puts_to = subst (PutsTo (window_of s) (i + 1)) (sym p) (puts_more (window_of s) i station e puts granted turn h n (granted_waits d now before e step) (turn_acts d now before e) t.puts_to);
+        puts_to = subst (PutsTo (window_of s) (i + 1)) (sym p) (puts_more (window_of s) i station e puts turn h n (entry_turns d now before e step) t.puts_to);
         window = λ younger. ap (λ ps. placed ps (window_up_to (i + 1) ++ younger)) p ∙ window_more station puts t.window younger;
         events_are = events_more earlier events more m t.events_are;
         load_is = slot_more (access_of d now) d now LoadPort (window_of s) i e load new_load h refl l t.load_is;
         divider_is = divider_more d now (window_of s) i e start divider new_divider h v t.divider_is;
       }
-
-  -- one that doesn't wait, and one that isn't ready, asks for no port
-  pub not_waiting : is_waiting e.state ≡ false → AsksNone d now before e
-  not_waiting w = asks_none d now before e step (cc)
-
-  pub not_ready : is_waiting e.state ≡ true → ready before e ≡ false → AsksNone d now before e
-  not_ready w r = asks_none d now before e step (cc)
 
   -- one that asks for no port leaves all as it is
   pub decided_past : (puts : List Put) (load : Option Access) (start divider : Divider) (earlier events : List Event) → AsksNone d now before e →
@@ -133,7 +125,7 @@ module _ (s : Seen) (i : ℕ) (e : Entry) (stands : Stands s) (h : StandsAt s i 
   left_on p l = subst (λ before. LeftAfter d now before p) (sym (before_more (window_of s) i e (slice_get_within (window_of s) i e h) ∙ ap (λ e. e ∷ before) (get_or_from_slice_get (window_of s) i e e h))) l
 
   pub left_past : (p : Ports) → AsksNone d now before e → LeftAfter d now before p → LeftAfter d now (before_at (window_of s) (i + 1)) p
-  left_past p m l = left_on p (left_asked false d now before e p (m (port_for e.item.kind)) l)
+  left_past p m l = left_on p (left_none d now before e p m l)
 
 -- ---- the walk
 
@@ -150,7 +142,7 @@ module _ (s : Seen) (ports : Ports) (puts : List Put) (load : Option Access) (st
 
   -- so does one that doesn't wait
   pub keeps : Keeps (Walked s ports puts load start earlier events) (window_of s)
-  keeps i e h w t = walked_past i e h (not_waiting s i e stands h w) t
+  keeps i e h w t = walked_past i e h (not_waiting s.desc.now (around_of s) (before_at (window_of s) i) e (in_step s i e stands h) w) t
 
 -- ---- at the end
 

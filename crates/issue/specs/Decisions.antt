@@ -1,5 +1,5 @@
 -- What the phase decides, before anything is changed (docs/machine.md, "Issue").
-use Rattle.std.specs.Prelude.{◌≡◌, ℕ, List, [], map, Option, None}
+use Rattle.std.specs.Prelude.{◌≡◌, ◌≤◌, ◌+◌, ℕ, List, [], ◌++◌, length, map, Option, None}
 use Rattle.std.specs.Option.{option_map}
 use Rattle.machine_desc.specs.declared.Desc.{Desc}
 use Rattle.window_model.specs.declared.Divider.{Divider}
@@ -13,7 +13,12 @@ use Rattle.issue.specs.declared.seen.Seen.{Seen}
 use Rattle.issue.specs.Accesses.{as_access}
 use Rattle.issue.specs.Puts.{placed}
 use Rattle.issue.specs.Shared.{divider_left}
-use Rattle.issue.specs.State.{around_of, window_of}
+use Rattle.issue.specs.declared.seen.Place.{Place}
+use Rattle.issue.specs.Ports.{LeftBehind, OnlyPorts, granted_at, left_in_all}
+use Rattle.issue.specs.State.{around_of, here, window_of}
+use Rattle.issue.specs.Turns.{divider_by, load_by, puts_of}
+use Rattle.unit_ports.specs.Ports.{Ports}
+use Rattle.window_model.specs.Row.{Row, with_events}
 
 -- what becomes of each entry
 abbrev pub turns : Desc → Around → List Entry → List Begun
@@ -27,9 +32,10 @@ load_of d now window = option_map (λ p. access_of d now p.before p.entry) (firs
 abbrev pub division_of : Desc → Around → List Entry → Option Divider
 division_of d now window = option_map (λ p. taken_for now p.before p.entry) (first (may_at d now DivPort) window)
 
--- the most entries that begin in a cycle: four arithmetic ones, a multiplication, a division, a load and a store
+-- the most entries that issue in a cycle, or of which a part does: four arithmetic ones, a multiplication, a division, a load and
+-- two stores
 abbrev pub most_begun : ℕ
-most_begun = 8
+most_begun = 9
 
 -- which entries begin, what the load's access comes to, and the divider then
 pub record Decides (d : Desc) (now : Around) (es : List Entry) (decided : Decided) (old new : Divider) : Type 0 where
@@ -49,3 +55,14 @@ turns_of s = turns s.desc.now (around_of s) (window_of s)
 
 abbrev pub DecidesFor : Seen → Decided → Divider → Divider → Type 0
 DecidesFor s decided old new = Decides s.desc.now (around_of s) (window_of s) decided old new
+
+-- what an entry's turn leaves
+pub record HadTurn (s : Seen) (p : Place) (ports : Ports) (decided : Decided) (row : Row) (new_ports : Ports) (new_decided : Decided) (new_row : Row) : Type 0 where
+  pub puts : new_decided.puts.items ≡ decided.puts.items ++ puts_of p.position p.station (here issue_entry s p)
+  pub row_is : new_row ≡ with_events row (here issue_entry s p).events
+  pub load : option_map as_access new_decided.load ≡ load_by (granted_at LoadPort s p) s p (option_map as_access decided.load)
+  pub divider : new_ports.divider ≡ divider_by (granted_at DivPort s p) s p ports.divider
+  pub left : LeftBehind s p new_ports
+  -- each event took a port
+  pub fewer : length (here issue_entry s p).events + left_in_all new_ports ≤ left_in_all ports
+  pub only : OnlyPorts ports new_ports

@@ -1,5 +1,6 @@
 pub mod State
 pub mod Operands
+pub mod Pending
 pub mod Accesses
 pub mod Ports
 pub mod Turns

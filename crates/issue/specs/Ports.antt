@@ -1,7 +1,10 @@
 -- Ports, as entries are granted them (docs/machine.md, "Issue").
 use Rattle.std.specs.Prelude.{◌≡◌, ℕ, ◌+◌, Bool, ◌∷◌}
-use Rattle.window_model.specs.Around.{is_free}
-use Rattle.window_model.specs.Issue.{Port, is_granted}
+use Rattle.window_model.specs.declared.Entry.{Entry}
+use Rattle.window_model.specs.Order.{has_address, has_data}
+use Rattle.window_model.specs.Issue.{AddressPort, DataPort, Port, is_granted, may_at}
+use Rattle.stations.specs.declared.wants.Part.{Part}
+use Rattle.stations.specs.declared.wants.Part.TheVariants as part
 use Rattle.unit_ports.specs.Laws.{LeftAfter}
 use Rattle.unit_ports.specs.Ports.{Ports, port_for}
 use Rattle.parts_stand.specs.Telling.{asks_besides}
@@ -13,13 +16,27 @@ use Rattle.issue.specs.State.{around_of, before_of}
 
 -- it may issue, but for tainted operands
 abbrev pub besides : Seen → Place → Bool
-besides s p = asks_besides p.entry.now.item.kind (is_free (around_of s)) (before_of s p)
+besides s p = asks_besides p.entry.now.item.kind s.desc.now (around_of s) (before_of s p) p.entry.now
+
+-- it may issue at this port
+abbrev pub may_here : Port → Seen → Place → Bool
+may_here port s p = may_at s.desc.now (around_of s) port (before_of s p) p.entry.now
+
+-- a part of a store has issued
+abbrev pub has_issued : Part → Entry → Bool
+has_issued part.Base e = has_address e
+has_issued part.Other e = has_data e
+
+-- the port of a part of a store
+abbrev pub part_port : Part → Port
+part_port part.Base = AddressPort
+part_port part.Other = DataPort
 
 -- it is granted this port
 abbrev pub granted_at : Port → Seen → Place → Bool
 granted_at port s p = is_granted s.desc.now (around_of s) port (before_of s p) p.entry.now
 
--- it is granted its own: a store that of its address part
+-- it is granted its own
 abbrev pub is_served : Seen → Place → Bool
 is_served s p = granted_at (port_for p.entry.now.item.kind) s p
 
@@ -34,7 +51,7 @@ LeftBehind s p ports = LeftAfter s.desc.now (around_of s) (p.entry.now ∷ befor
 
 -- how many are left in all
 abbrev pub left_in_all : Ports → ℕ
-left_in_all p = p.alu + p.mul + p.div + p.store + p.load
+left_in_all p = p.alu + p.mul + p.div + p.address_part + p.data_part + p.load
 
 -- but for the ports that are left, and the divider, nothing changes
 pub record OnlyPorts (old new : Ports) : Type 0 where

@@ -4,14 +4,16 @@ use Rattle.std.specs.Prelude.{◌≡◌, ℕ, List, true, slice_get, Some}
 use Rattle.std.specs.List.{AllByRecursion as Each}
 use Rattle.machine_desc.specs.declared.Desc.{Desc}
 use Rattle.machine_facts.specs.Sized.{HasParts, Together}
+use Rattle.machine_facts.specs.Timely.{WaitsOrDone}
 use Rattle.window_model.specs.declared.Entry.{Entry}
 use Rattle.window_model.specs.Around.{Around}
-use Rattle.window_model.specs.Order.{before_at, is_waiting, ready}
+use Rattle.window_model.specs.Order.{before_at, is_waiting}
 use Rattle.rob_ring.specs.Beside.{each_roots, each_writers}
 use Rattle.rename_taint.specs.declared.Write.{Write}
 use Rattle.visibility.specs.Point.{HasAdvanced}
 use Rattle.queue_laws.specs.Window.{StandFor}
-use Rattle.parts_stand.specs.Parts.{Parts, Stand}
+use Rattle.parts_stand.specs.Parts.{Parts, Stand, wants_of}
+use Rattle.parts_stand.specs.Telling.{has_sources}
 use Rattle.parts_stand.specs.Addresses.{AddressesStand}
 use Rattle.parts_stand.specs.Steps.{station_of}
 use Rattle.parts_stand.specs.Writers.{WritersOf}
@@ -28,7 +30,7 @@ window_of s = s.rob.now.entries
 
 -- what stands for the window, with the next serial and the writes of the rename table
 abbrev pub parts_of : ℕ → List Write → Seen → Parts
-parts_of next writes s = record { next = next; window = s.rob.now.entries; roots = each_roots s.sources.now.items; writes = writes; held = s.stations.now.held }
+parts_of next writes s = record { version = s.desc.now.version; next = next; window = s.rob.now.entries; roots = each_roots s.sources.now.items; writes = writes; held = s.stations.now.held }
 
 -- the parts stand for the window, the point has just moved, and the cache and the registers are of the description
 pub record Stands (s : Seen) : Type 0 where
@@ -41,6 +43,8 @@ pub record Stands (s : Seen) : Type 0 where
   -- a store that waits lacks a part, and its parts go together
   pub store_parts : Each HasParts s.rob.now.entries
   pub together : Each (Together s.desc.now) s.rob.now.entries
+  -- and no store executes
+  pub settled : Each WaitsOrDone s.rob.now.entries
   pub advanced : HasAdvanced s.point.now s.rob.now.entries
   pub model : s.point.now.model ≡ s.desc.now.stt_model
   pub cache : s.tags.now.desc ≡ s.desc.now
@@ -60,10 +64,10 @@ here f s p = f s.desc.now (around_of s) (before_of s p) p.entry.now
 abbrev pub StandsAt : Seen → ℕ → Entry → Type 0
 StandsAt s i e = slice_get s.rob.now.entries i ≡ Some e
 
--- it stands there, it waits at its station, and it is ready
+-- it stands there, it waits at its station, and what it wants is there
 pub record HasTurn (s : Seen) (p : Place) : Type 0 where
   pub stands : Stands s
   pub at : StandsAt s p.position p.entry.now
   pub waits : is_waiting p.entry.now.state ≡ true
-  pub ready : ready (before_of s p) p.entry.now ≡ true
+  pub able : has_sources (wants_of s.desc.now.version p.entry.now) (before_of s p) p.entry.now ≡ true
   pub station : p.station ≡ station_of p.position s.rob.now.entries

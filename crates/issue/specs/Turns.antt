@@ -1,24 +1,19 @@
 -- What becomes of an entry that has its turn, in its place (docs/machine.md, "Issue").
-use Rattle.std.specs.Prelude.{◌≡◌, ℕ, ◌+◌, Bool, List, [], ◌∷◌, Option, None, Some, if◌then◌else◌}
+use Rattle.std.specs.Prelude.{◌≡◌, ℕ, Bool, List, [], ◌∷◌, ◌++◌, Option, None, Some, if◌then◌else◌}
 use Rattle.std.specs.Option.{option_map, option_to_list}
 use Rattle.rv_effect.specs.Seen.{seen}
 use Rattle.rv_effect.specs.declared.fields.Effect as made
 use Rattle.rv_types.specs.Isa.{Effect}
-use Rattle.rv_types.specs.Memory.{Ram, store_fault}
-use Rattle.rv_types.specs.declared.Kind.{Kind}
-use Rattle.rv_types.specs.declared.Kind.TheVariants.{Store}
 use Rattle.machine_desc.specs.declared.Desc.{Desc}
 use Rattle.window_model.specs.declared.Divider.{Divider}
 use Rattle.window_model.specs.declared.Entry.{Entry}
 use Rattle.window_model.specs.declared.Event.{Event}
 use Rattle.window_model.specs.declared.Event.TheVariants as event
-use Rattle.window_model.specs.declared.Outcome.{Outcome}
 use Rattle.window_model.specs.Access.{Access, access_at}
 use Rattle.window_model.specs.Around.{Around}
-use Rattle.window_model.specs.Issue.{Begun, access_of, begin_as, effect_of, load_as, so_far, taken_for, value_loaded}
+use Rattle.window_model.specs.Issue.{Begun, access_of, begin_as, data_events, effect_of, if_granted, load_as, taken_for, value_loaded, with_address, with_data}
 use Rattle.window_model.specs.Retire.{width_of}
 use Rattle.window_model.specs.Row.{Row, with_events}
-use Rattle.parts_stand.specs.Steps.{begun_with}
 use Rattle.issue.specs.declared.decide.Put.{Put}
 use Rattle.issue.specs.declared.loads.Loaded.{Loaded}
 use Rattle.issue.specs.declared.seen.Place.{Place}
@@ -41,27 +36,28 @@ value_from a d now before e = value_loaded now.ram before e a
 abbrev pub loads : Seen → Place → made.Effect → Loaded → Begun
 loads s p f l = load_as (as_access l.access) s.desc.now (around_of s) p.entry.now (seen f) l.value
 
--- a store of which both parts have issued: both are known in a cycle, until which it executes
-abbrev pub with_both : Entry → ℕ → Outcome → Entry
-with_both e due o = begun_with e due o (Some due) (Some due)
+-- a store by whether its address part is granted its port, and its data part
+abbrev pub address_by : Bool → Seen → Place → Effect → Begun
+address_by granted s p f = if_granted granted (with_address (around_of s) f) (event.Agu p.entry.now.serial ∷ []) p.entry.now
 
--- what a store's outcome is then, by what its instruction makes of its operands
-abbrev pub stored_by : Ram → Entry → Effect → Outcome
-stored_by ram e f = record (so_far e.outcome f.next) { addr = f.addr; stored = f.stored; fault = store_fault ram f.addr (width_of e) }
+abbrev pub data_by : Bool → Seen → Entry → Effect → Begun
+data_by granted s e f = if_granted granted (with_data (around_of s) f) (data_events s.desc.now e) e
 
--- a store that is granted its port: in version 1 both parts go together, with the event of the address
-abbrev pub begin_store : Around → List Entry → Entry → Begun
-begin_store now before e =
-    record { entry = with_both e (now.cycle + 1) (stored_by now.ram e (effect_of now.regs before e)); events = event.Agu e.serial ∷ [] }
+-- by both, the address first
+abbrev pub parts_by : Bool → Bool → Seen → Place → Begun
+parts_by address stored s p =
+    let a = address_by address s p (effect_here s p) in
+    let b = data_by stored s a.entry (effect_here s p) in
+    record { entry = b.entry; events = a.events ++ b.events }
 
--- what one of a kind comes to if it is granted its port
-abbrev pub begin_by : Kind → Desc → Around → List Entry → Entry → Begun
-begin_by Store d now before e = begin_store now before e
-begin_by k d now before e = begin_as k d now before e
+-- this is the entry afterwards, changed or not, and the row has its events
+pub record Goes (b : Begun) (after : Entry) (old new : Row) : Type 0 where
+  pub entry : after ≡ b.entry
+  pub row : new ≡ with_events old b.events
 
--- and this one
+-- what an entry in one piece comes to that is granted its port
 abbrev pub begin_entry : Desc → Around → List Entry → Entry → Begun
-begin_entry d now before e = begin_by e.item.kind d now before e
+begin_entry d now before e = begin_as e.item.kind d now before e
 
 -- the entry afterwards; none where it stays as it is, which has no event
 abbrev pub after_by : Entry → List Event → Option Entry

@@ -1,8 +1,7 @@
-//! What an entry does that is granted a port, by its kind (`docs/machine.md`, "Issue"). Its events go into the row.
+//! What an entry does in one piece that is granted a port, by its kind (`docs/machine.md`, "Issue"). Its events go into the row.
 ghost use Rattle.std.specs.Prelude.{◌≡◌, None, Some};
 ghost use Rattle.rv_effect.specs.Seen.{seen};
-ghost use Rattle.issue.specs.Turns.{with_both};
-ghost use Rattle.window_model.specs.Issue.{begun, fault_if, outcome, so_far};
+ghost use Rattle.window_model.specs.Issue.{begun, fault_if, outcome};
 
 use crate::access::{Access, Line};
 use crate::loads::Loaded;
@@ -51,50 +50,19 @@ fn begun(entry: &Entry, due: u64, outcome: Outcome) -> Entry
     }
 }
 
-// A store's outcome so far, by its next address.
-fn so_far(outcome: Option<Outcome>, next: u32) -> Outcome
-    ensures { result ≡ so_far outcome next }
-{
-    match outcome {
-        Some(outcome) => outcome,
-        None => Outcome {
-            value: 0,
-            next,
-            addr: 0,
-            stored: 0,
-            fault: None,
-        },
-    }
-}
-
-// A store of which both parts have issued: what each brings is there in this cycle, and until then it executes.
-fn with_both(entry: &Entry, due: u64, outcome: Outcome) -> Entry
-    ensures { result ≡ with_both entry.now due outcome }
-{
-    Entry {
-        serial: entry.serial,
-        item: entry.item,
-        state: Progress::Busy(due),
-        outcome: Some(outcome),
-        resolved: entry.resolved,
-        addr_due: Some(due),
-        data_due: Some(due),
-    }
-}
-
 impl<'a> Seen<'a> {
     ghost use Rattle.std.specs.Prelude.{◌≡◌, Some, false, true};
     ghost use Rattle.std.specs.Option.{option_map};
     ghost use Rattle.rv_types.specs.declared.Kind.TheVariants as kind;
     ghost use Rattle.rv_effect.specs.Seen.{seen};
     ghost use Rattle.window_model.specs.Access.{due_of};
-    ghost use Rattle.window_model.specs.Issue.{access_of, is_division, stores_done};
-    ghost use Rattle.window_model.specs.Order.{is_load};
+    ghost use Rattle.window_model.specs.Issue.{begin_as, goes_behind, is_division};
+    ghost use Rattle.window_model.specs.Order.{is_load, is_store};
     ghost use Rattle.window_model.specs.Row.{HasRoom};
     ghost use Rattle.issue.specs.Accesses.{as_access, as_line};
     ghost use Rattle.issue.specs.Operands.{first_of};
-    ghost use Rattle.issue.specs.State.{HasTurn, around_of, before_of, here};
-    ghost use Rattle.issue.specs.Turns.{Comes, begin_by, begin_entry, divider_by, effect_here, load_by, loads};
+    ghost use Rattle.issue.specs.State.{HasTurn, around_of, here};
+    ghost use Rattle.issue.specs.Turns.{Comes, begin_entry, divider_by, effect_here, load_by, loads};
 
     // The cycle in which a line is there.
     fn due_of(&self, line: &Line) -> u64
@@ -154,7 +122,7 @@ impl<'a> Seen<'a> {
         ensures divider { ports.new ≡ record ports.old {
           divider = divider_by true self.now place.now ports.old.divider;
         } }
-        ensures comes { Comes (here (begin_by kind.Div) self.now place.now) (Some result) row.old row.new }
+        ensures comes { Comes (here (begin_as kind.Div) self.now place.now) (Some result) row.old row.new }
     {
         let time = div_time(place.entry.op(), first);
         let due = self.cycle as u64 + time as u64;
@@ -167,43 +135,25 @@ impl<'a> Seen<'a> {
     fn begin_product(&self, place: &Place, made: &Effect, row: &mut Row) -> Entry
         requires effect { seen made.now ≡ effect_here self.now place.now }
         requires room { HasRoom 1 row.old }
-        ensures { Comes (here (begin_by kind.Mul) self.now place.now) (Some result) row.old row.new }
+        ensures { Comes (here (begin_as kind.Mul) self.now place.now) (Some result) row.old row.new }
     {
         row.push(Event::Mul(place.entry.serial));
         let due = self.cycle as u64 + self.desc.units_mul_latency as u64;
         begun(place.entry, due, outcome(made, made.value, None))
     }
 
-    // A store: both its parts go, and with its address its fault is known.
-    fn begin_store(&self, place: &Place, made: &Effect, row: &mut Row) -> Entry
-        requires effect { seen made.now ≡ effect_here self.now place.now }
-        requires room { HasRoom 1 row.old }
-        ensures { Comes (here (begin_by kind.Store) self.now place.now) (Some result) row.old row.new }
-    {
-        row.push(Event::Agu(place.entry.serial));
-        let known = so_far(place.entry.outcome, made.next);
-        let outcome = Outcome {
-            value: known.value,
-            next: known.next,
-            addr: made.addr,
-            stored: made.stored,
-            fault: self.ram.store_fault(made.addr, place.entry.bytes()),
-        };
-        with_both(place.entry, self.cycle as u64 + 1, outcome)
-    }
-
     // What takes one cycle of an arithmetic unit.
     fn begin_simple(&self, place: &Place, made: &Effect, row: &mut Row) -> Entry
         requires effect { seen made.now ≡ effect_here self.now place.now }
         requires room { HasRoom 1 row.old }
-        ensures { Comes (here (begin_by kind.Alu) self.now place.now) (Some result) row.old row.new }
+        ensures { Comes (here (begin_as kind.Alu) self.now place.now) (Some result) row.old row.new }
     {
         row.push(Event::Alu(place.entry.serial));
         let outcome = outcome(made, made.value, fault_if(made.misaligned));
         begun(place.entry, self.cycle as u64 + 1, outcome)
     }
 
-    /// What becomes of the entry, by its kind; None where it stays as it is. A load leaves what its access came to, a division
+    /// What becomes of the entry, which is no store, by its kind; None where it stays as it is. A load leaves what its access came to, a division
     /// the divider. No port is taken.
     pub(crate) fn begin(
         &self,
@@ -213,8 +163,8 @@ impl<'a> Seen<'a> {
         row: &mut Row,
     ) -> Option<Entry>
         requires turn { HasTurn self.now place.now }
-        requires done { is_load place.now.entry.now.item.kind ≡ true
-            → stores_done (before_of self.now place.now) ≡ true }
+        requires whole { is_store place.now.entry.now.item.kind ≡ false }
+        requires goes { is_load place.now.entry.now.item.kind ≡ true → here goes_behind self.now place.now ≡ true }
         requires room { HasRoom 1 row.old }
         ensures comes { Comes (here begin_entry self.now place.now) result row.old row.new }
         ensures load { option_map as_access load.new
@@ -234,7 +184,6 @@ impl<'a> Seen<'a> {
             }
             Kind::Div => Some(self.begin_division(place, &made, operands.first, ports, row)),
             Kind::Mul => Some(self.begin_product(place, &made, row)),
-            Kind::Store => Some(self.begin_store(place, &made, row)),
             _ => Some(self.begin_simple(place, &made, row)),
         }
     }

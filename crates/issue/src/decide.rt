@@ -6,10 +6,10 @@ use arrayvec::ArrayVec;
 use unit_ports::Ports;
 use window_model::{Entry, Row};
 
-/// At most so many entries begin in a cycle: four arithmetic units, and one port of each other kind.
-pub(crate) const PUTS_MAX: usize = 8;
+/// At most so many entries issue in a cycle, or a part of them: four arithmetic units, and one port of each other kind.
+pub(crate) const PUTS_MAX: usize = 9;
 
-/// An entry that begins, before it does in its place.
+/// An entry that issues, or of which a part does, before it does in its place.
 #[derive(Clone, Copy, Debug, PartialEq, Eq)]
 pub(crate) struct Put {
     /// Its position, counted from the oldest entry.
@@ -34,7 +34,7 @@ impl Default for Put {
 /// What is decided.
 #[derive(Drop)]
 pub(crate) struct Decided {
-    /// The entries that begin, oldest first.
+    /// The entries that issue, or of which a part does, oldest first.
     pub(crate) puts: ArrayVec<Put, PUTS_MAX>,
     /// What the access of the load that was tried came to.
     pub(crate) load: Option<Access>,
@@ -55,8 +55,8 @@ impl Decided {
         }
     }
 
-    // Notes what the entry is afterwards, if it has begun.
-    fn note(&mut self, place: &Place, after: Option<Entry>)
+    /// Notes what the entry is afterwards, if it changes.
+    pub(crate) fn note(&mut self, place: &Place, after: Option<Entry>)
         requires few { length self.old.puts.items < most_begun }
         ensures puts { self.new.puts.items ≡ self.old.puts.items ++ puts_by place.now.position place.now.station after }
         ensures load { self.new.load ≡ self.old.load }
@@ -72,25 +72,23 @@ impl Decided {
 }
 
 impl<'a> Seen<'a> {
-    ghost use Rattle.std.specs.Prelude.{◌≡◌, ◌≤◌, ◌<◌, ◌+◌, ◌++◌, [], ◌∷◌, length, slice_get, Some, true};
+    ghost use Rattle.std.specs.Prelude.{◌≡◌, ◌≤◌, ◌<◌, ◌+◌, ◌++◌, [], ◌∷◌, length, slice_get, Some, false, true};
     ghost use Rattle.std.specs.List.{flat_map};
     ghost use Rattle.std.specs.Option.{option_map};
-    ghost use Rattle.window_model.specs.Issue.{DivPort, LoadPort, issue_entry};
+    ghost use Rattle.window_model.specs.Order.{is_store};
     ghost use Rattle.window_model.specs.Row.{HasRoom, IsLonger, most_issued, with_events};
     ghost use Rattle.unit_ports.specs.Laws.{LeftAfter};
-    ghost use Rattle.stations.specs.Stations.{awaits_none};
-    ghost use Rattle.issue.specs.Accesses.{as_access};
-    ghost use Rattle.issue.specs.Decisions.{DecidesFor, IsNothing, most_begun, turns_of};
-    ghost use Rattle.issue.specs.Ports.{LeftBehind, LeftFor, OnlyPorts, granted_at, left_in_all};
+    ghost use Rattle.stations.specs.Stations.{is_able};
+    ghost use Rattle.issue.specs.Decisions.{DecidesFor, HadTurn, IsNothing, most_begun, turns_of};
+    ghost use Rattle.issue.specs.Ports.{LeftFor, OnlyPorts, left_in_all};
     ghost use Rattle.issue.specs.Puts.{ArePuts};
-    ghost use Rattle.issue.specs.State.{HasTurn, Stands, around_of, here, window_of};
-    ghost use Rattle.issue.specs.Turns.{divider_by, load_by, puts_of};
+    ghost use Rattle.issue.specs.State.{HasTurn, Stands, around_of, window_of};
 
-    // The place of the entry that waits at a station, where it is ready.
+    // The place of the entry that waits at a station, where what it wants is there.
     fn place_at(&self, station: u32) -> Place<'_>
         requires stands { Stands self.now }
         requires within { station < length self.now.stations.now.held }
-        requires ready { option_map awaits_none (slice_get self.now.stations.now.held station) ≡ Some true }
+        requires able { option_map is_able (slice_get self.now.stations.now.held station) ≡ Some true }
         ensures turn { HasTurn self.now result }
         ensures station { result.station ≡ station }
     {
@@ -102,24 +100,14 @@ impl<'a> Seen<'a> {
         }
     }
 
-    // An entry has its turn. What it comes to is made before it takes its port.
-    fn decide_entry(&self, place: &Place, ports: &mut Ports, decided: &mut Decided, row: &mut Row)
+    // An entry that is no store has its turn. What it comes to is made before it takes its port.
+    fn decide_whole(&self, place: &Place, ports: &mut Ports, decided: &mut Decided, row: &mut Row)
         requires turn { HasTurn self.now place.now }
+        requires whole { is_store place.now.entry.now.item.kind ≡ false }
         requires left { LeftFor self.now place.now ports.old }
         requires few { length decided.old.puts.items + left_in_all ports.old ≤ most_begun }
         requires room { HasRoom (left_in_all ports.old) row.old }
-        ensures puts { decided.new.puts.items ≡ decided.old.puts.items
-            ++ puts_of place.now.position place.now.station (here issue_entry self.now place.now) }
-        ensures row { row.new ≡ with_events row.old (here issue_entry self.now place.now).events }
-        ensures load { option_map as_access decided.new.load
-            ≡ load_by (granted_at LoadPort self.now place.now) self.now place.now
-            (option_map as_access decided.old.load) }
-        ensures divider { ports.new.divider
-            ≡ divider_by (granted_at DivPort self.now place.now) self.now place.now ports.old.divider }
-        ensures left { LeftBehind self.now place.now ports.new }
-        ensures fewer { length (here issue_entry self.now place.now).events + left_in_all ports.new
-            ≤ left_in_all ports.old }
-        ensures only { OnlyPorts ports.old ports.new }
+        ensures { HadTurn self.now place.now ports.old decided.old row.old ports.new decided.new row.new }
     {
         if !self.is_served(place, ports) {
             return;
@@ -129,7 +117,23 @@ impl<'a> Seen<'a> {
         decided.note(place, after);
     }
 
-    /// Goes over the stations, oldest first: entries that don't wait, or aren't ready, stay as they are. All ports of the cycle
+    // An entry has its turn.
+    fn decide_entry(&self, place: &Place, ports: &mut Ports, decided: &mut Decided, row: &mut Row)
+        requires turn { HasTurn self.now place.now }
+        requires left { LeftFor self.now place.now ports.old }
+        requires few { length decided.old.puts.items + left_in_all ports.old ≤ most_begun }
+        requires room { HasRoom (left_in_all ports.old) row.old }
+        ensures { HadTurn self.now place.now ports.old decided.old row.old ports.new decided.new row.new }
+    {
+        if place.entry.is_store() {
+            self.decide_store(place, ports, decided, row);
+        } else {
+            self.decide_whole(place, ports, decided, row);
+        }
+    }
+
+    /// Goes over the stations, oldest first: entries that don't wait, or lack what they want, stay as
+    /// they are. All ports of the cycle
     /// are left, and nothing is decided as yet.
     pub(crate) fn decide(&self, ports: &mut Ports, decided: &mut Decided, row: &mut Row)
         requires stands { Stands self.now }
@@ -144,7 +148,7 @@ impl<'a> Seen<'a> {
         ensures few { IsLonger most_issued row.old row.new }
     {
         for station in 0..self.stations.len() {
-            if !self.stations.ready(station) {
+            if !self.stations.able(station) {
                 continue;
             }
             let place = self.place_at(station);

@@ -1,15 +1,19 @@
 //! Which entries may issue, and which are granted a port (`docs/machine.md`, "Issue").
 use crate::seen::{Place, Seen};
+use lsq::Pending;
 use rob_ring::{Sources, sources_at};
+use rv_effect::effect;
 use rv_types::Kind;
 use transmit_gate::may_transmit;
 use unit_ports::Ports;
 
 impl<'a> Seen<'a> {
-    ghost use Rattle.std.specs.Prelude.{◌≡◌, Some, slice_get};
-    ghost use Rattle.window_model.specs.Issue.{may_issue};
+    ghost use Rattle.std.specs.Prelude.{◌≡◌, Some, false, slice_get};
+    ghost use Rattle.window_model.specs.Issue.{goes_behind, may_issue};
+    ghost use Rattle.window_model.specs.Order.{is_store};
     ghost use Rattle.rob_ring.specs.Beside.{each_roots, each_writers};
     ghost use Rattle.issue.specs.Ports.{LeftFor, besides, is_served};
+    ghost use Rattle.issue.specs.Pending.{lets_by, pending_here};
     ghost use Rattle.issue.specs.State.{HasTurn, here};
 
     /// What stands of the entry's sources at its position: their youngest roots, and the serials of their writers.
@@ -22,21 +26,57 @@ impl<'a> Seen<'a> {
         *sources_at(self.sources, place.position)
     }
 
-    // What loads and divisions ask for beside untainted operands: older stores that are Done, a divider that is free.
+    // Whether the older stores let a load go: each has both its parts; or in version 2 each has its address, and each without data
+    // an untainted one that covers none of the load's bytes.
+    fn goes(&self, place: &Place) -> bool
+        requires turn { HasTurn self.now place.now }
+        ensures { result ≡ here goes_behind self.now place.now }
+    {
+        if self.lsq.all_older_known(place.entry.serial) {
+            return true;
+        }
+        if self.desc.version == 1 {
+            return false;
+        }
+        self.is_let(&self.pending(place))
+    }
+
+    // Whether a load that waits for this is let go.
+    fn is_let(&self, pending: &Pending) -> bool
+        ensures { result ≡ lets_by self.now.point.now.serial pending.now }
+    {
+        !pending.address && !pending.overlap && !self.point.tainted(pending.root)
+    }
+
+    // What a load waits for in the older stores, by its address: its base alone decides it.
+    fn pending(&self, place: &Place) -> Pending
+        requires turn { HasTurn self.now place.now }
+        ensures { result ≡ pending_here self.now place.now }
+    {
+        let item = &place.entry.item;
+        let first = self.operands(place).first;
+        let addr = effect(item.pc, &item.instr, first, 0).addr;
+        let fault = self.ram.load_fault(addr, place.entry.bytes());
+        self.lsq
+            .pending(place.entry.serial, addr, place.entry.width(), fault)
+    }
+
+    // What loads and divisions ask for beside untainted operands: older stores that let it go, a divider that is free.
     fn has_besides(&self, place: &Place) -> bool
         requires turn { HasTurn self.now place.now }
         ensures { result ≡ besides self.now place.now }
     {
         match place.entry.item.kind {
-            Kind::Load => self.lsq.all_older_known(place.entry.serial),
+            Kind::Load => self.goes(place),
             Kind::Div => self.free_from <= self.cycle as u64,
             _ => true,
         }
     }
 
-    // Whether the entry may issue.
+    // Whether the entry, which is no store, may issue.
     fn may_issue(&self, place: &Place) -> bool
         requires turn { HasTurn self.now place.now }
+        requires whole { is_store place.now.entry.now.item.kind ≡ false }
         ensures { result ≡ here may_issue self.now place.now }
     {
         let roots = self.sources_of(place).roots;
@@ -46,9 +86,10 @@ impl<'a> Seen<'a> {
         self.has_besides(place)
     }
 
-    /// Whether the entry is granted a port: one of its kind is left, and it may issue.
+    /// Whether the entry, which is no store, is granted a port: one of its kind is left, and it may issue.
     pub(crate) fn is_served(&self, place: &Place, ports: &Ports) -> bool
         requires turn { HasTurn self.now place.now }
+        requires whole { is_store place.now.entry.now.item.kind ≡ false }
         requires left { LeftFor self.now place.now ports.now }
         ensures { result ≡ is_served self.now place.now }
     {

@@ -12,6 +12,7 @@ mod decide;
 mod gate;
 mod loads;
 mod operands;
+mod parts;
 mod phase;
 mod placing;
 mod seen;

@@ -17,9 +17,9 @@ pub(crate) struct Loaded {
 impl<'a> Seen<'a> {
     ghost use Rattle.std.specs.Prelude.{◌≡◌, ◌&&◌, not, None, true};
     ghost use Rattle.rv_types.specs.declared.Kind.TheVariants as kind;
-    ghost use Rattle.rv_types.specs.Memory.{load_fault};
+    ghost use Rattle.rv_types.specs.Memory.{load_fault, range};
     ghost use Rattle.rv_effect.specs.Seen.{seen};
-    ghost use Rattle.window_model.specs.Issue.{access_of, begin_as, stores_done};
+    ghost use Rattle.window_model.specs.Issue.{access_of, begin_as, goes_behind, stores_let};
     ghost use Rattle.window_model.specs.Retire.{width_of};
     ghost use Rattle.visibility.specs.Point.{is_hidden};
     ghost use Rattle.issue.specs.Accesses.{as_access};
@@ -36,7 +36,7 @@ impl<'a> Seen<'a> {
     // What a load without fault finds from an address on.
     fn load_sound(&self, place: &Place, addr: u32) -> Loaded
         requires turn { HasTurn self.now place.now }
-        requires done { stores_done (before_of self.now place.now) ≡ true }
+        requires lets { stores_let self.now.desc.now.stt_model (range addr (width_of place.now.entry.now)) (before_of self.now place.now) ≡ true }
         requires sound { load_fault self.now.ram.now addr (width_of place.now.entry.now) ≡ None }
         ensures access { as_access result.access ≡ here (access_from addr) self.now place.now }
         ensures value { result.value ≡ here (value_from addr) self.now place.now }
@@ -50,10 +50,10 @@ impl<'a> Seen<'a> {
         }
     }
 
-    /// What a load, behind stores that are Done, finds by what its instruction makes of its operands.
+    /// What a load, behind stores that let it go, finds by what its instruction makes of its operands.
     pub(crate) fn load(&self, place: &Place, made: &Effect) -> Loaded
         requires turn { HasTurn self.now place.now }
-        requires done { stores_done (before_of self.now place.now) ≡ true }
+        requires goes { here goes_behind self.now place.now ≡ true }
         requires effect { seen made.now ≡ effect_here self.now place.now }
         ensures access { as_access result.access ≡ here access_of self.now place.now }
         ensures begun { loads self.now place.now made.now result ≡ here (begin_as kind.Load) self.now place.now }

@@ -1,5 +1,7 @@
 //! The phase: it decides first, and writes then.
 ghost use Rattle.std.specs.Prelude.{◌≡◌};
+ghost use Rattle.std.specs.List.{AllByRecursion as Each};
+ghost use Rattle.machine_facts.specs.Timely.{WaitsOrDone};
 ghost use Rattle.window_model.specs.Issue.{issue};
 ghost use Rattle.window_model.specs.Row.{HasRoom, IsLonger, most_issued, with_events};
 ghost use Rattle.visibility.specs.Point.{HasAdvanced};
@@ -12,19 +14,21 @@ use core_parts::Parts;
 use rename_taint::RenameTaint;
 use window_model::Row;
 
-/// Phase Issue of this cycle, once the visibility point has moved over the window: each entry that may issue begins to execute,
-/// oldest first, as far as there are ports, with its event in the row, and its station is freed. A load's line moves to the
-/// front of its set where the cache has it, and takes a miss register where it needs one; a division takes the divider. The
-/// point goes on to say which entries are visible.
+/// Phase Issue of this cycle, once the visibility point has moved over the window, in which no store executes: each entry that may
+/// issue begins to execute, oldest first, as far as there are ports, with its event in the row, and its station is freed. A store
+/// issues in two parts, each at a port of its own, and begins to execute once both have issued; what has issued of it is known to
+/// the queue of stores. A load's line moves to the front of its set where the cache has it, and takes a miss register where it
+/// needs one; a division takes the divider. The point goes on to say which entries are visible.
 pub fn issue<R: RenameTaint>(parts: &mut Parts<R>, row: &mut Row)
     requires advanced { HasAdvanced parts.old.point parts.old.machine.window }
+    requires settled { Each WaitsOrDone parts.old.machine.window }
     requires room { HasRoom most_issued row.old }
     ensures machine { parts.new ≡ record parts.old { machine = (issue parts.old.desc parts.old.machine).machine } }
     ensures row { row.new ≡ with_events row.old (issue parts.old.desc parts.old.machine).events }
     ensures advanced { HasAdvanced parts.new.point parts.new.machine.window }
     ensures few { IsLonger most_issued row.old row.new }
 {
-    if !parts.stations.any_ready() {
+    if !parts.stations.any_able() {
         return;
     }
     let divider = parts.ports.divider();
@@ -33,7 +37,7 @@ pub fn issue<R: RenameTaint>(parts: &mut Parts<R>, row: &mut Row)
     let seen = Seen {
         rob: &parts.rob,
         stations: &parts.stations,
-        lsq: &mut parts.lsq,
+        lsq: &parts.lsq,
         point: &parts.point,
         sources: &parts.sources,
         tags: &parts.tags,
@@ -45,7 +49,13 @@ pub fn issue<R: RenameTaint>(parts: &mut Parts<R>, row: &mut Row)
         cycle: parts.cycle,
     };
     seen.decide(&mut parts.ports, &mut decided, row);
-    place(&mut decided.puts, &mut parts.rob, &mut parts.stations);
+    place(
+        &mut decided.puts,
+        parts.desc.version,
+        &mut parts.rob,
+        &mut parts.stations,
+        &mut parts.lsq,
+    );
     touch(&mut parts.tags, decided.load);
     take_register(&mut parts.mshrs, decided.load, parts.cycle, &parts.desc);
 }

@@ -1,38 +1,90 @@
-//! The entries that begin, in their places (`docs/architecture.md`, "How they stand for it").
-ghost use Rattle.std.specs.Prelude.{◌≡◌, ◌<◌, length};
+//! The entries that issue, or of which a part does, in their places (`docs/architecture.md`, "How they stand for it").
+ghost use Rattle.std.specs.Prelude.{◌≡◌, ◌<◌, length, true};
+ghost use Rattle.window_model.specs.Order.{has_address, has_data, is_store, is_waiting};
+ghost use Rattle.parts_stand.specs.Parts.{wants_by, wants_of};
+ghost use Rattle.parts_stand.specs.Steps.{left_held};
 ghost use Rattle.core_parts.specs.Stands.{InFlight, Stands};
 ghost use Rattle.issue.specs.Parts.{holding};
-ghost use Rattle.issue.specs.Puts.{ArePuts, freed, placed};
+ghost use Rattle.issue.specs.Puts.{ArePuts, known_in, placed};
 
 use crate::decide::{PUTS_MAX, Put};
 use arrayvec::ArrayVec;
+use lsq::Lsq;
 use rob_ring::RobRing;
-use stations::Stations;
-use window_model::Progress;
+use stations::{Stations, Wants};
+use window_model::{Entry, Progress};
 
-// The station of an entry that is put in its place is freed, where it no longer waits.
-fn free(stations: &mut Stations, put: &Put)
+// What a store wants whose address and data part have issued or not.
+fn wants_by(address: bool, stored: bool) -> Wants
+    ensures { result ≡ wants_by address stored }
+{
+    match (address, stored) {
+        (false, false) => Wants::Either,
+        (false, true) => Wants::Base,
+        (true, _) => Wants::Other,
+    }
+}
+
+// What an entry that waits wants, in this version of the machine.
+fn wants_of(version: u32, entry: &Entry) -> Wants
+    ensures { result ≡ wants_of version entry.now }
+{
+    if entry.is_store() && version != 1 {
+        return wants_by(entry.addr_due.is_some(), entry.data_due.is_some());
+    }
+    Wants::Whole
+}
+
+// The station of an entry that is put in its place is freed, where it no longer waits; else it waits for what is left.
+fn settle(stations: &mut Stations, version: u32, put: &Put)
     requires within { put.now.station < length stations.old.held }
-    ensures { stations.new ≡ record stations.old { held = freed put.now stations.old.held } }
+    ensures { stations.new ≡ record stations.old {
+      held = left_held version put.now.station put.now.entry stations.old.held;
+    } }
 {
     match put.entry.state {
-        Progress::Waiting => (),
+        Progress::Waiting => stations.leave(put.station, wants_of(version, &put.entry)),
         _ => stations.remove(put.station),
     }
 }
 
-/// Each entry begins in its place, and its station is freed. The youngest comes first, so that the others' stations stay where
-/// they are.
-pub(crate) fn place(puts: &mut ArrayVec<Put, PUTS_MAX>, rob: &mut RobRing, stations: &mut Stations)
+// What has issued of an entry is known to the queue of stores, if it is a store.
+#[tactic(auto, using(crate::proofs::Width::width_is))]
+fn note(lsq: &mut Lsq, entry: &Entry)
+    ensures { lsq.new ≡ known_in lsq.old entry.now }
+{
+    if !entry.is_store() {
+        return;
+    }
+    if entry.addr_due.is_some() {
+        lsq.store_addr(entry.serial, entry.addr(), entry.width(), entry.fault());
+    }
+    if entry.data_due.is_some() {
+        lsq.store_data(entry.serial, entry.stored());
+    }
+}
+
+/// Each entry comes in its place, its station is freed or waits for what is left, and a store's parts that have issued are known to
+/// its queue. The youngest comes first, so that the others' stations stay where they are.
+pub(crate) fn place(
+    puts: &mut ArrayVec<Put, PUTS_MAX>,
+    version: u32,
+    rob: &mut RobRing,
+    stations: &mut Stations,
+    lsq: &mut Lsq,
+)
     requires puts { ArePuts rob.old.entries puts.old.items }
-    requires stands { (p : InFlight) × Stands (holding rob.old stations.old p) }
+    requires stands { (p : InFlight) × Stands (holding version rob.old stations.old lsq.old p) }
     ensures window { rob.new ≡ record rob.old { entries = placed puts.old.items rob.old.entries } }
     ensures same_places { stations.new.room ≡ stations.old.room }
-    ensures stands { (p : InFlight) → Stands (holding rob.old stations.old p)
-        → Stands (holding rob.new stations.new p) }
+    ensures same_loads { lsq.new.max_loads ≡ lsq.old.max_loads }
+    ensures same_stores { lsq.new.max_stores ≡ lsq.old.max_stores }
+    ensures stands { (p : InFlight) → Stands (holding version rob.old stations.old lsq.old p)
+        → Stands (holding version rob.new stations.new lsq.new p) }
 {
     while let Some(put) = puts.pop() {
         rob.set(put.position, put.entry);
-        free(stations, &put);
+        settle(stations, version, &put);
+        note(lsq, &put.entry);
     }
 }

@@ -18,8 +18,8 @@ pub(crate) struct Seen<'a> {
     pub(crate) rob: &'a RobRing,
     /// The entries that wait.
     pub(crate) stations: &'a Stations,
-    /// The loads and stores in flight, lent to be written: what Issue makes known of them is noted there. That is nothing yet.
-    pub(crate) lsq: &'a mut Lsq,
+    /// The loads and stores in flight.
+    pub(crate) lsq: &'a Lsq,
     /// The visibility point.
     pub(crate) point: &'a VisPoint,
     /// At each entry's position the youngest roots and the writers of its sources, as it was renamed.
@@ -40,7 +40,7 @@ pub(crate) struct Seen<'a> {
     pub(crate) cycle: u32,
 }
 
-/// An entry that has its turn, in its place: it waits, and its operands are there.
+/// An entry that has its turn, in its place: it waits, and what it wants is there.
 #[derive(Clone, Copy)]
 pub(crate) struct Place<'a> {
     /// Its position, counted from the oldest entry.

@@ -1,6 +1,6 @@
 -- Who isn't in a queue needn't be taken out of it.
 use Rattle.std.proofs.Common.{◌≡◌, ◌∙◌, Bool, false, cond, List, [], ◌∷◌, refl, ap}
-use Rattle.std.specs.Prelude.{not, ◌||◌}
+use Rattle.std.specs.Prelude.{not}
 use Rattle.std.specs.List.{filter, list_any}
 use Rattle.window_model.proofs.Booleans.{neither}
 

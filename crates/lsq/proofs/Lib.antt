@@ -1,4 +1,5 @@
 pub mod Older
 pub mod Gathers
+pub mod Awaiting
 pub mod Faultless
 mod Absent

@@ -28,10 +28,10 @@ nothing = record { first = None; second = None; third = None; fourth = None; roo
 -- what is gathered once a younger store is passed
 abbrev pub passed : ℕ → Store → Gathered → Gathered
 passed a s g = record {
-  first = option_or (byte_by a s.known) g.first;
-  second = option_or (byte_by (a + 1) s.known) g.second;
-  third = option_or (byte_by (a + 1 + 1) s.known) g.third;
-  fourth = option_or (byte_by (a + 1 + 1 + 1) s.known) g.fourth;
+  first = option_or (byte_by a s) g.first;
+  second = option_or (byte_by (a + 1) s) g.second;
+  third = option_or (byte_by (a + 1 + 1) s) g.third;
+  fourth = option_or (byte_by (a + 1 + 1 + 1) s) g.fourth;
   root = later s.root g.root;
 }
 

@@ -1,3 +1,4 @@
 pub mod Queues
 pub mod Merging
 pub mod Gathering
+pub mod Pending

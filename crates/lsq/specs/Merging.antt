@@ -5,22 +5,28 @@ use Rattle.std.specs.List.{list_all}
 use Rattle.rv_types.specs.Word.{to_le}
 use Rattle.rv_types.specs.Memory.{Ram, range}
 use Rattle.rv_types.specs.Value.{bytes_in}
-use Rattle.lsq.specs.declared.store.Known.{Known}
+use Rattle.lsq.specs.declared.store.Span.{Span}
 use Rattle.lsq.specs.declared.store.Store.{Store}
 
 -- what a store writes reaches an address; with a fault it reaches none
-abbrev pub reaches : ℕ → Known → Bool
+abbrev pub reaches : ℕ → Span → Bool
 reaches a k = not (is_some k.fault) && nat_le k.addr a && nat_lt a (k.addr + bytes_in k.width)
 
--- the byte that a store writes at an address, if it is known and reaches it
-abbrev pub byte_by : ℕ → Option Known → Option ℕ
-byte_by a None = None
-byte_by a (Some k) = if reaches a k then Some (slice_index (to_le (bytes_in k.width) k.stored) (a - k.addr)) else None
+-- the byte at an address of a number that is written there, where both are known and it is reached
+abbrev pub byte_in_span : ℕ → Option Span → Option ℕ → Option ℕ
+byte_in_span a None stored = None
+byte_in_span a (Some k) None = None
+byte_in_span a (Some k) (Some stored) =
+    if reaches a k then Some (slice_index (to_le (bytes_in k.width) stored) (a - k.addr)) else None
+
+-- the byte that a store writes at an address, if both its parts are known and it reaches it
+abbrev pub byte_by : ℕ → Store → Option ℕ
+byte_by a s = byte_in_span a s.span s.stored
 
 -- the byte that these stores, youngest first, give to a load at an address: that of the youngest that writes it
 abbrev pub forwarded : List Store → ℕ → Option ℕ
 forwarded [] a = None
-forwarded (s ∷ stores) a = option_or (byte_by a s.known) (forwarded stores a)
+forwarded (s ∷ stores) a = option_or (byte_by a s) (forwarded stores a)
 
 -- a byte that is given, else the one that memory holds
 abbrev pub byte_or_memory : Ram → ℕ → Option ℕ → ℕ

@@ -1,9 +1,9 @@
 -- The loads and stores in flight as contracts see them (docs/machine.md, "Issue" and "Loads").
-use Rattle.std.specs.Prelude.{ℕ, Bool, nat_lt, ◌==◌, if◌then◌else◌, List, [], ◌∷◌, reverse, Option, Some, None, is_some}
+use Rattle.std.specs.Prelude.{ℕ, nat_lt, ◌==◌, if◌then◌else◌, List, [], ◌∷◌, reverse, Option, Some, None, is_some, Bool, ◌&&◌}
 use Rattle.std.specs.List.{filter}
 use Rattle.machine_desc.specs.declared.Desc.{Desc}
 use Rattle.rename_taint.specs.Writes.{later}
-use Rattle.lsq.specs.declared.store.Known.{Known}
+use Rattle.lsq.specs.declared.store.Span.{Span}
 use Rattle.lsq.specs.declared.store.Store.{Store}
 
 -- the loads' serials and the stores, oldest first, and for how many of each there is room
@@ -21,13 +21,17 @@ empty d = record { loads = []; stores = []; max_loads = d.core_loads; max_stores
 abbrev pub older : ℕ → List Store → List Store
 older serial stores = reverse (filter (λ s. nat_lt s.serial serial) stores)
 
--- what the store writes is known
-abbrev pub is_known : Store → Bool
-is_known s = is_some s.known
+-- the store, with where the one with this serial writes
+abbrev pub addressed_at : ℕ → Span → Store → Store
+addressed_at serial span s = if s.serial == serial then record s { span = Some span } else s
 
--- the store, with what is known of the one with this serial
-abbrev pub known_at : ℕ → Known → Store → Store
-known_at serial known s = if s.serial == serial then record s { known = Some known } else s
+-- the store, with the number whose lowest bytes the one with this serial writes
+abbrev pub filled_at : ℕ → ℕ → Store → Store
+filled_at serial stored s = if s.serial == serial then record s { stored = Some stored } else s
+
+-- both where the store writes and what are known
+abbrev pub is_known : Store → Bool
+is_known s = is_some s.span && is_some s.stored
 
 -- the youngest root of these stores' addresses
 abbrev pub youngest_root : List Store → Option ℕ

@@ -7,7 +7,7 @@ ghost use Rattle.lsq.specs.Queues.{older, youngest_root};
 ghost use Rattle.lsq.specs.Merging.{all_forwarded, byte_by, byte_or_memory, merged_bytes, reaches};
 ghost use Rattle.lsq.specs.Gathering.{covered_in, gathered, nothing, number_in, passed};
 
-use crate::store::{Known, Store};
+use crate::store::{Span, Store};
 use byte_ram::Ram;
 use rename_taint::later;
 use rv_types::Width;
@@ -35,12 +35,12 @@ pub(crate) struct Gathered {
 }
 
 // Whether what a store writes reaches an address. A store with a fault reaches none.
-fn reaches(known: &Known, addr: u64) -> bool
-    ensures { result ≡ reaches addr known.now }
+pub(crate) fn reaches(span: &Span, addr: u64) -> bool
+    ensures { result ≡ reaches addr span.now }
 {
-    known.fault.is_none()
-        && known.addr as u64 <= addr
-        && addr < known.addr as u64 + known.width.bytes() as u64
+    span.fault.is_none()
+        && span.addr as u64 <= addr
+        && addr < span.addr as u64 + span.width.bytes() as u64
 }
 
 // A byte of a number of this width, the lowest first, and 0 past its last.
@@ -56,15 +56,15 @@ fn byte_in(width: Width, number: u32, place: u64) -> u8
     }
 }
 
-// The byte that a store writes at an address, if it is known and reaches it.
+// The byte that a store writes at an address, if both its parts are known and it reaches it.
 fn byte_by(store: &Store, addr: u64) -> Option<u8>
-    ensures { result ≡ byte_by addr store.now.known }
+    ensures { result ≡ byte_by addr store.now }
 {
-    match &store.known {
-        Some(known) if reaches(known, addr) => Some(byte_in(
-            known.width,
-            known.stored,
-            addr.saturating_sub(known.addr as u64),
+    match (&store.span, store.stored) {
+        (Some(span), Some(stored)) if reaches(span, addr) => Some(byte_in(
+            span.width,
+            stored,
+            addr.saturating_sub(span.addr as u64),
         )),
         _ => None,
     }

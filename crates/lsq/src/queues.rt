@@ -1,14 +1,16 @@
 //! The queue of loads and the queue of stores.
-ghost use Rattle.std.specs.Prelude.{◌≡◌, ◌<◌, ◌≤◌, ◌*◌, ◌^◌, not, ◌==◌, ◌||◌, nat_le, nat_lt, [], ◌∷◌, ◌++◌, length, map, None, IfOk, vec_len, vec_capacity};
+ghost use Rattle.std.specs.Prelude.{◌≡◌, ◌<◌, ◌≤◌, ◌*◌, ◌^◌, not, ◌==◌, ◌||◌, nat_le, nat_lt, [], ◌∷◌, ◌++◌, length, map, None, is_some, IfOk, vec_len, vec_capacity};
 ghost use Rattle.std.specs.List.{filter, list_all, list_any};
 ghost use Rattle.rv_types.specs.Memory.{load_fault};
 ghost use Rattle.rv_types.specs.Value.{bytes_in};
 ghost use Rattle.rv_types.specs.Word.{from_le};
-ghost use Rattle.lsq.specs.Queues.{empty, is_known, known_at, older, youngest_root};
+ghost use Rattle.lsq.specs.Queues.{addressed_at, empty, filled_at, is_known, older, youngest_root};
 ghost use Rattle.lsq.specs.Merging.{all_forwarded, merged_bytes};
+ghost use Rattle.lsq.specs.Pending.{bytes_asked, lacks_address, lacks_data_for};
 
 use crate::merging::{Merged, merge};
-use crate::store::{Known, Store};
+use crate::pending::{Pending, pending_in};
+use crate::store::{Span, Store};
 use byte_ram::Ram;
 use machine_desc::Desc;
 use rv_types::{Cause, NoMemory, Width};
@@ -81,42 +83,49 @@ impl Lsq {
     pub fn add_store(&mut self, serial: u64, root: Option<u64>)
         requires room { length self.old.stores < self.old.max_stores }
         ensures { self.new ≡ record self.old {
-          stores = self.old.stores ++ record { serial = serial; root = root; known = None } ∷ [];
+          stores = self.old.stores ++ record { serial = serial; root = root; span = None; stored = None } ∷ [];
         } }
     {
         let store = Store {
             serial,
             root,
-            known: None,
+            span: None,
+            stored: None,
         };
         push_within(&mut self.stores, store);
     }
 
-    /// Notes what the store with this serial writes, which is Done: the lowest bytes of a number from an address on, or nothing
-    /// where it has a fault.
-    pub fn store_known(
-        &mut self,
-        serial: u64,
-        addr: u32,
-        width: Width,
-        stored: u32,
-        fault: Option<Cause>,
-    )
+    /// Notes where the store with this serial writes, whose address part has issued: a width's bytes from an address on, or
+    /// nothing where it has a fault.
+    pub fn store_addr(&mut self, serial: u64, addr: u32, width: Width, fault: Option<Cause>)
         ensures { self.new ≡ record self.old {
-          stores = map (known_at serial (record { addr = addr; width = width; stored = stored; fault = fault }))
-              self.old.stores;
+          stores = map (addressed_at serial (record { addr = addr; width = width; fault = fault })) self.old.stores;
         } }
     {
-        let known = Known {
-            addr,
-            width,
-            stored,
-            fault,
-        };
-        set_known(&mut self.stores, serial, known);
+        address_store(&mut self.stores, serial, Span { addr, width, fault });
     }
 
-    /// Whether of each store older than this serial is known what it writes.
+    /// Notes the number whose lowest bytes the store with this serial writes, whose data part has issued.
+    pub fn store_data(&mut self, serial: u64, stored: u32)
+        ensures { self.new ≡ record self.old { stores = map (filled_at serial stored) self.old.stores } }
+    {
+        fill_store(&mut self.stores, serial, stored);
+    }
+
+    /// What a load with this serial still waits for, if the fault is its own: whether of some older store it isn't known
+    /// where it writes; whether of one that writes bytes of the load it isn't known what; and the youngest root of the
+    /// addresses of those of which it isn't known what they write.
+    pub fn pending(&self, serial: u64, addr: u32, width: Width, fault: Option<Cause>) -> Pending
+        ensures address { result.address ≡ list_any lacks_address (older serial self.now.stores) }
+        ensures overlap { result.overlap
+            ≡ list_any (lacks_data_for (bytes_asked fault addr (bytes_in width))) (older serial self.now.stores) }
+        ensures root { result.root
+            ≡ youngest_root (filter (λ s. not (is_some s.stored)) (older serial self.now.stores)) }
+    {
+        pending_in(self.stores.as_slice(), serial, addr as u64, width, fault)
+    }
+
+    /// Whether each store older than this serial has both its address and its data.
     #[tactic(auto, using(crate::proofs::Older::all_older))]
     pub fn all_older_known(&self, serial: u64) -> bool
         ensures { result ≡ list_all is_known (older serial self.now.stores) }
@@ -161,6 +170,15 @@ impl Lsq {
     }
 }
 
+// Whether each store has a serial from this one on, or both its parts.
+fn are_known(stores: &[Store], serial: u64) -> bool
+    ensures { result ≡ list_all (λ s. nat_le serial s.serial || is_known s) stores.now }
+{
+    stores
+        .iter()
+        .all(|store| store.serial >= serial || store.is_known())
+}
+
 // Appends where there is room.
 fn push_within<T: Drop>(items: &mut Vec<T>, item: T)
     requires { vec_len items.old < vec_capacity items.old }
@@ -173,42 +191,62 @@ fn push_within<T: Drop>(items: &mut Vec<T>, item: T)
     }
 }
 
-// Whether each store has a serial from this one on, or is known.
-fn are_known(stores: &[Store], serial: u64) -> bool
-    ensures { result ≡ list_all (λ s. nat_le serial s.serial || is_known s) stores.now }
-{
-    stores
-        .iter()
-        .all(|store| store.serial >= serial || store.known.is_some())
-}
-
-// The store, with what is known of it, where it has this serial.
-fn known_at(store: Store, serial: u64, known: Known) -> Store
-    ensures { result ≡ known_at serial known store }
+// The store, with where it writes, where it has this serial.
+fn addressed_at(store: Store, serial: u64, span: Span) -> Store
+    ensures { result ≡ addressed_at serial span store }
 {
     if store.serial == serial {
         return Store {
-            known: Some(known),
+            span: Some(span),
             ..store
         };
     }
     store
 }
 
-// Notes what is known in a list of stores.
-fn set_known_in(stores: &mut [Store], serial: u64, known: Known)
-    ensures { stores.new ≡ map (known_at serial known) stores.old }
+// The store, with the number that it writes, where it has this serial.
+fn filled_at(store: Store, serial: u64, stored: u32) -> Store
+    ensures { result ≡ filled_at serial stored store }
+{
+    if store.serial == serial {
+        return Store {
+            stored: Some(stored),
+            ..store
+        };
+    }
+    store
+}
+
+// Notes in a list of stores where one writes.
+fn address_in(stores: &mut [Store], serial: u64, span: Span)
+    ensures { stores.new ≡ map (addressed_at serial span) stores.old }
 {
     for store in stores.iter_mut() {
-        *store = known_at(*store, serial, known);
+        *store = addressed_at(*store, serial, span);
     }
 }
 
-fn set_known(stores: &mut Vec<Store>, serial: u64, known: Known)
-    ensures items { stores.new.items ≡ map (known_at serial known) stores.old.items }
+fn address_store(stores: &mut Vec<Store>, serial: u64, span: Span)
+    ensures items { stores.new.items ≡ map (addressed_at serial span) stores.old.items }
     ensures capacity { vec_capacity stores.new ≡ vec_capacity stores.old }
 {
-    set_known_in(stores.as_mut_slice(), serial, known);
+    address_in(stores.as_mut_slice(), serial, span);
+}
+
+// Notes in a list of stores the number that one writes.
+fn fill_in(stores: &mut [Store], serial: u64, stored: u32)
+    ensures { stores.new ≡ map (filled_at serial stored) stores.old }
+{
+    for store in stores.iter_mut() {
+        *store = filled_at(*store, serial, stored);
+    }
+}
+
+fn fill_store(stores: &mut Vec<Store>, serial: u64, stored: u32)
+    ensures items { stores.new.items ≡ map (filled_at serial stored) stores.old.items }
+    ensures capacity { vec_capacity stores.new ≡ vec_capacity stores.old }
+{
+    fill_in(stores.as_mut_slice(), serial, stored);
 }
 
 fn cut_loads(loads: &mut Vec<u64>, first: u64)

@@ -1,6 +1,6 @@
 //! Queues that are filled, asked and emptied. The expected values follow from `docs/machine.md`, "Loads", "Rename" and
 //! "Issue".
-use crate::{Lsq, Merged};
+use crate::{Lsq, Merged, Pending};
 use byte_ram::Ram;
 use machine_desc::{EXAMPLE, read_desc};
 use rv_types::{Cause, Width};
@@ -54,14 +54,13 @@ fn a_load_finds_the_youngest_bytes_before_it(rt: HostRuntime) -> Result<(), Fail
     assert_eq!(rt; add_store(&mut lsq, 8, Some(1)), true);
     assert_eq!(rt; add_store(&mut lsq, 12, Some(11)), true);
     assert_eq!(rt; add_store(&mut lsq, 13, None), false);
-    lsq.store_known(3, BASE, Width::H, 0xbeef, None);
-    assert_eq!(rt;
-        (lsq.all_older_known(5), lsq.all_older_known(6)),
-        (true, false)
-    );
-    lsq.store_known(5, BASE + 1, Width::B, 0x1cd, None);
+    lsq.store_addr(3, BASE, Width::H, None);
+    lsq.store_data(3, 0xbeef);
+    lsq.store_data(5, 0x1cd);
+    lsq.store_addr(5, BASE + 1, Width::B, None);
     // A store with a fault gives nothing, but its address has a root as any other's.
-    lsq.store_known(8, BASE, Width::W, 0x5566_7788, Some(Cause::store_outside()));
+    lsq.store_addr(8, BASE, Width::W, Some(Cause::store_outside()));
+    lsq.store_data(8, 0x5566_7788);
     let rows: [(u64, u32, Width, Option<Merged>); 7] = [
         (3, BASE, Width::W, merged(0x4433_2211, false, None)),
         (5, BASE, Width::H, merged(0xbeef, true, None)),
@@ -79,10 +78,52 @@ fn a_load_finds_the_youngest_bytes_before_it(rt: HostRuntime) -> Result<(), Fail
         );
     }
     lsq.cut(8);
-    assert_eq!(rt; lsq.all_older_known(20), true);
     lsq.pop(3);
     let left = found(&lsq, 20, &ram, BASE, Width::H);
     assert_eq!(rt; left, merged(0xcd11, false, Some(2)));
+    Ok(())
+}
+
+fn waits(address: bool, overlap: bool, root: Option<u64>) -> Pending {
+    Pending {
+        address,
+        overlap,
+        root,
+    }
+}
+
+#[test]
+fn a_load_waits_for_parts_of_older_stores(rt: HostRuntime) -> Result<(), Fail> {
+    let alloc = rt.alloc();
+    let mut lsq = Lsq::new(alloc, &read_desc(alloc, EXAMPLE.as_bytes())?)?;
+    assert_eq!(rt; add_store(&mut lsq, 3, Some(1)), true);
+    assert_eq!(rt; add_store(&mut lsq, 5, Some(2)), true);
+    assert_eq!(rt; add_store(&mut lsq, 8, Some(4)), true);
+    assert_eq!(rt; add_store(&mut lsq, 12, Some(11)), true);
+    // The first has both its parts; the second only its address, the third too, with a fault; the last only its data.
+    lsq.store_addr(3, BASE, Width::W, None);
+    lsq.store_data(3, 7);
+    lsq.store_addr(5, BASE + 2, Width::H, None);
+    lsq.store_addr(8, BASE + 4, Width::W, Some(Cause::store_outside()));
+    lsq.store_data(12, 9);
+    let fault = Some(Cause::load_misaligned());
+    let rows: [(u64, u32, Width, Option<Cause>, Pending); 8] = [
+        (4, BASE, Width::W, None, waits(false, false, None)),
+        (6, BASE + 3, Width::B, None, waits(false, true, Some(2))),
+        (6, BASE, Width::W, None, waits(false, true, Some(2))),
+        (6, BASE, Width::H, None, waits(false, false, Some(2))),
+        (6, BASE + 1, Width::W, fault, waits(false, false, Some(2))),
+        (9, BASE + 4, Width::B, None, waits(false, false, Some(4))),
+        (13, BASE + 2, Width::H, None, waits(true, true, Some(4))),
+        (13, BASE + 8, Width::W, None, waits(true, false, Some(4))),
+    ];
+    for (serial, addr, width, fault, want) in rows {
+        assert_eq!(rt;
+            lsq.pending(serial, addr, width, fault),
+            want,
+            "{serial} at {addr}"
+        );
+    }
     Ok(())
 }
 

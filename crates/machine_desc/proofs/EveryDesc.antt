@@ -5,7 +5,7 @@ use Rattle.machine_desc.specs.Ranges.{IsDesc}
 
 pub every_desc : (d : Desc) → IsDesc d
 every_desc d = record {
-  version = d.first_version;
+  version = (d.some_version, d.known_version);
   fetch_width = (d.some_fetches, d.few_fetches, tt);
   retire_width = (d.some_retires, d.few_retires, tt);
   rob = (d.some_entries, d.few_entries, tt);

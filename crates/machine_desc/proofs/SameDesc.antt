@@ -9,6 +9,7 @@ use Rattle.machine_desc.specs.declared.Desc.{Desc}
 use Rattle.machine_desc.specs.declared.fault.DescFault.{DescFault}
 use Rattle.machine_desc.specs.Description.{Contents, contents, description_of, Describes}
 use Rattle.machine_desc.specs.Power.{power_prop}
+use Rattle.machine_desc.specs.Version.{most}
 
 -- two proofs of one fact, at two descriptions along a path of the number that it is about
 up : (least : ℕ) {a b : ℕ} (p : a ≡ b) (u : least ≤ a) (v : least ≤ b) → PathP (λ i. least ≤ p i) u v
@@ -29,8 +30,8 @@ above p q u v = is_prop→PathP (λ i. p i < q i) (λ i. le_prop) u v
 ends : {a b c d : ℕ} (p : a ≡ b) (q : c ≡ d) (u : a + c ≤ 2 ^ 32) (v : b + d ≤ 2 ^ 32) → PathP (λ i. p i + q i ≤ 2 ^ 32) u v
 ends p q u v = is_prop→PathP (λ i. p i + q i ≤ 2 ^ 32) (λ i. le_prop) u v
 
-first : {a b : ℕ} (p : a ≡ b) (u : a ≡ 1) (v : b ≡ 1) → PathP (λ i. p i ≡ 1) u v
-first p u v = is_prop→PathP (λ i. p i ≡ 1) (λ i. hedberg ℕ_discrete (p i) 1) u v
+by_version : (in_1 in_2 : ℕ) {a b v w : ℕ} (p : a ≡ b) (q : v ≡ w) (u : a ≤ most in_1 in_2 v) (x : b ≤ most in_1 in_2 w) → PathP (λ i. p i ≤ most in_1 in_2 (q i)) u x
+by_version in_1 in_2 p q u x = is_prop→PathP (λ i. p i ≤ most in_1 in_2 (q i)) (λ i. le_prop) u x
 
 pub same_desc : (d e : Desc) → contents d ≡ contents e → d ≡ e
 same_desc d e h =
@@ -77,21 +78,22 @@ same_desc d e h =
       ram_base = ram_base i;
       ram_size = ram_size i;
       stt_model = stt_model i;
-      first_version = first version d.first_version e.first_version i;
+      some_version = up _ version d.some_version e.some_version i;
+      known_version = down _ version d.known_version e.known_version i;
       some_fetches = up _ core_fetch_width d.some_fetches e.some_fetches i;
       few_fetches = down _ core_fetch_width d.few_fetches e.few_fetches i;
       some_retires = up _ core_retire_width d.some_retires e.some_retires i;
       few_retires = down _ core_retire_width d.few_retires e.few_retires i;
       some_entries = up _ core_rob d.some_entries e.some_entries i;
-      few_entries = down _ core_rob d.few_entries e.few_entries i;
+      few_entries = by_version 64 192 core_rob version d.few_entries e.few_entries i;
       some_stations = up _ core_stations d.some_stations e.some_stations i;
-      few_stations = down _ core_stations d.few_stations e.few_stations i;
+      few_stations = by_version 32 96 core_stations version d.few_stations e.few_stations i;
       some_loads = up _ core_loads d.some_loads e.some_loads i;
-      few_loads = down _ core_loads d.few_loads e.few_loads i;
+      few_loads = by_version 16 64 core_loads version d.few_loads e.few_loads i;
       some_stores = up _ core_stores d.some_stores e.some_stores i;
-      few_stores = down _ core_stores d.few_stores e.few_stores i;
+      few_stores = by_version 16 48 core_stores version d.few_stores e.few_stores i;
       some_queue = up _ core_queue d.some_queue e.some_queue i;
-      short_queue = down _ core_queue d.short_queue e.short_queue i;
+      short_queue = by_version 16 32 core_queue version d.short_queue e.short_queue i;
       some_alus = up _ units_alus d.some_alus e.some_alus i;
       few_alus = down _ units_alus d.few_alus e.few_alus i;
       some_mul_latency = up _ units_mul_latency d.some_mul_latency e.some_mul_latency i;

@@ -1,5 +1,5 @@
 -- A text without a fault describes something: its numbers are all that is asked of a description.
-use Rattle.std.proofs.Common.{◌≡◌, ℕ, List, Option, Some, None, Result, Ok, Err, Bool, true, false, if◌then◌else◌, refl, subst, ◌∙◌, map}
+use Rattle.std.proofs.Common.{◌≡◌, ℕ, List, Option, Some, None, Result, Ok, Err, Bool, true, false, if◌then◌else◌, refl, ◌∙◌, map}
 use Rattle.std.specs.Prelude.{pos, negsuc, nat_le, ◌&&◌}
 use borrow.Author.Tests.{leb-true}
 use Rattle.std.specs.Str.{is_utf8}
@@ -16,11 +16,12 @@ use Rattle.machine_desc.specs.declared.fault.DescFault.{DescFault}
 use Rattle.machine_desc.specs.declared.fault.DescFault.TheVariants.{Syntax}
 use Rattle.machine_desc.specs.Table.{row, number_keys}
 use Rattle.machine_desc.specs.Description.{has_shape, value_at, number_in, number_or_zero, number_of, number, fault_of, value_fault, key_fault, document_fault, version, model, Contents, contents, contents_or, contents_by, text_contents, description_of}
+use Rattle.machine_desc.specs.Version.{IsKnown}
 use Rattle.machine_desc.specs.Clean.{PassesAs, IsClean}
 use Rattle.machine_desc.specs.Ranges.{MayBe}
 use Rattle.machine_desc.proofs.Fitting.{fits_from_test}
 use Rattle.machine_desc.proofs.Faultless.{is_clean}
-use Rattle.machine_desc.proofs.Versions.{only_first}
+use Rattle.machine_desc.proofs.Versions.{is_known}
 
 -- both tests hold where no fault is found
 passes : (n least most : ℕ) (shape : Shape) (low high fits : Bool) (a b : DescFault) → nat_le least n ≡ low → nat_le n most ≡ high → has_shape shape n ≡ fits
@@ -43,39 +44,40 @@ value_passes : (key : Key) (values : Values) (v : Option Data) → value_fault k
 value_passes key (Numbers least most shape) v e = number_passes key least most shape v e
 value_passes key Models v e = tt
 
--- each number of a document of version 1 without fault is one of its key's values
-fits : (document : Members) → IsClean 1 document → (key : Key) → MayBe key (number 1 document key)
+-- each number of a document without fault is one of its key's values
+fits : (v : ℕ) (document : Members) → IsClean v document → (key : Key) → MayBe v key (number v document key)
 unfolding key_fault
-fits document clean key =
-    fits_from_test (row 1 key).values (number 1 document key) (value_passes key (row 1 key).values (value_at document key) (clean.keys key))
+fits v document clean key =
+    fits_from_test (row v key).values (number v document key) (value_passes key (row v key).values (value_at document key) (clean.keys key))
 
--- the description of a document of version 1 without fault
-desc_of : (document : Members) (m : SttModel) → IsClean 1 document → Desc
-desc_of document m clean =
-    let f = fits document clean in
+-- the description of a document without fault
+desc_of : (v : ℕ) → IsKnown v → (document : Members) (m : SttModel) → IsClean v document → Desc
+desc_of v known document m clean =
+    let f = fits v document clean in
     record {
-      version = 1;
-      core_fetch_width = number 1 document CoreFetchWidth;
-      core_retire_width = number 1 document CoreRetireWidth;
-      core_rob = number 1 document CoreRob;
-      core_stations = number 1 document CoreStations;
-      core_loads = number 1 document CoreLoads;
-      core_stores = number 1 document CoreStores;
-      core_queue = number 1 document CoreQueue;
-      units_alus = number 1 document UnitsAlus;
-      units_mul_latency = number 1 document UnitsMulLatency;
-      predictor_counters = number 1 document PredictorCounters;
-      predictor_btb = number 1 document PredictorBtb;
-      cache_sets = number 1 document CacheSets;
-      cache_ways = number 1 document CacheWays;
-      cache_line = number 1 document CacheLine;
-      cache_hit_latency = number 1 document CacheHitLatency;
-      cache_miss_latency = number 1 document CacheMissLatency;
-      cache_mshrs = number 1 document CacheMshrs;
-      ram_base = number 1 document RamBase;
-      ram_size = number 1 document RamSize;
+      version = v;
+      core_fetch_width = number v document CoreFetchWidth;
+      core_retire_width = number v document CoreRetireWidth;
+      core_rob = number v document CoreRob;
+      core_stations = number v document CoreStations;
+      core_loads = number v document CoreLoads;
+      core_stores = number v document CoreStores;
+      core_queue = number v document CoreQueue;
+      units_alus = number v document UnitsAlus;
+      units_mul_latency = number v document UnitsMulLatency;
+      predictor_counters = number v document PredictorCounters;
+      predictor_btb = number v document PredictorBtb;
+      cache_sets = number v document CacheSets;
+      cache_ways = number v document CacheWays;
+      cache_line = number v document CacheLine;
+      cache_hit_latency = number v document CacheHitLatency;
+      cache_miss_latency = number v document CacheMissLatency;
+      cache_mshrs = number v document CacheMshrs;
+      ram_base = number v document RamBase;
+      ram_size = number v document RamSize;
       stt_model = m;
-      first_version = refl;
+      some_version = known.0;
+      known_version = known.1;
       some_fetches = (f CoreFetchWidth).0;
       few_fetches = (f CoreFetchWidth).1;
       some_retires = (f CoreRetireWidth).0;
@@ -123,22 +125,21 @@ desc_of document m clean =
     }
 
 -- its contents are the document's
-contents_are : (document : Members) (m : SttModel) (clean : IsClean 1 document)
-    → contents (desc_of document m clean) ≡ record { version = 1; numbers = map (number 1 document) number_keys; model = m }
+contents_are : (v : ℕ) (known : IsKnown v) (document : Members) (m : SttModel) (clean : IsClean v document)
+    → contents (desc_of v known document m clean) ≡ record { version = v; numbers = map (number v document) number_keys; model = m }
 unfolding desc_of
-contents_are document m clean = refl
+contents_are v known document m clean = refl
 
-by_fault : (document : Members) (c : Contents) (fault : Option DescFault) (m : Result SttModel DescFault) → document_fault 1 document ≡ fault
-    → contents_or fault 1 (map (number 1 document) number_keys) m ≡ Ok c → (d : Desc) × (contents d ≡ c)
-by_fault document c (Some e) m f h = absurd (cc)
-by_fault document c None (Err e) f h = absurd (cc)
-by_fault document c None (Ok m) f h = (desc_of document m (is_clean 1 document f), contents_are document m (is_clean 1 document f) ∙ (cc))
+by_fault : (v : ℕ) → IsKnown v → (document : Members) (c : Contents) (fault : Option DescFault) (m : Result SttModel DescFault) → document_fault v document ≡ fault
+    → contents_or fault v (map (number v document) number_keys) m ≡ Ok c → (d : Desc) × (contents d ≡ c)
+by_fault v known document c (Some e) m f h = absurd (cc)
+by_fault v known document c None (Err e) f h = absurd (cc)
+by_fault v known document c None (Ok m) f h =
+    (desc_of v known document m (is_clean v document f), contents_are v known document m (is_clean v document f) ∙ (cc))
 
 by_version : (document : Members) (c : Contents) (v : Result ℕ DescFault) → version document ≡ v → contents_by v document ≡ Ok c → (d : Desc) × (contents d ≡ c)
 by_version document c (Err e) b h = absurd (cc)
-by_version document c (Ok v) b h =
-    let P : ℕ → Type 0 = λ v. contents_by (Ok v) document ≡ Ok c in
-    by_fault document c (document_fault 1 document) (model document) refl (subst P (only_first document v b) h)
+by_version document c (Ok v) b h = by_fault v (is_known document v b) document c (document_fault v document) (model document) refl h
 
 by_text : (c : Contents) (utf8 : Bool) (document : Option Members) → (if utf8 then text_contents document else Err Syntax) ≡ Ok c → (d : Desc) × (contents d ≡ c)
 by_text c false document h = absurd (cc)

@@ -1,35 +1,43 @@
--- A version that is read is 1, the only one that is known; and the facts that pin versions and ranges.
-use Rattle.std.proofs.Common.{◌≡◌, ◌≤◌, ℕ, Bool, true, false, if◌then◌else◌, Option, Some, None, Ok, Err, refl, sym, arith}
+-- A version that is read is known; what holds of a number in every version; and the facts that pin versions and ranges.
+use Rattle.std.proofs.Common.{◌≡◌, ◌≤◌, ℕ, Bool, true, false, if◌then◌else◌, Option, Some, None, Ok, Err, refl, subst, arith, lit≤}
 use borrow.Author.Tests.{leb-true}
-use Rattle.std.specs.Prelude.{pos, negsuc, nat_le, ◌&&◌, codes}
+use Rattle.std.specs.Prelude.{pos, negsuc, nat_le, ◌&&◌, ◌==◌, codes}
 use Rattle.toml.specs.Data.{Data, integer, string, Members, get_member}
 use Rattle.machine_desc.specs.declared.keys.Key.{Key}
 use Rattle.machine_desc.specs.declared.keys.Key.TheVariants.{CoreRob, CoreStations, CoreLoads, CoreStores, CoreQueue}
 use Rattle.machine_desc.specs.declared.fault.DescFault.{DescFault}
 use Rattle.machine_desc.specs.declared.fault.DescFault.TheVariants.{Kind, Version, Range}
 use Rattle.machine_desc.specs.declared.fault.Subject.TheVariants.{Version as OfVersion}
+use Rattle.machine_desc.specs.Version.{newest, IsKnown, most}
 use Rattle.machine_desc.specs.Table.{row, version_name}
 use Rattle.machine_desc.specs.Description.{version_in, version, value_fault}
 
-within : (n v : ℕ) (low high : Bool) (e : DescFault) → nat_le 1 n ≡ low → nat_le n 1 ≡ high → (if low && high then Ok n else Err e) ≡ Ok v → v ≡ 1
+within : (n v : ℕ) (low high : Bool) (e : DescFault) → nat_le 1 n ≡ low → nat_le n newest ≡ high → (if low && high then Ok n else Err e) ≡ Ok v → IsKnown v
 within n v true true e l h q =
     let i : n ≡ v = cc in
-    let a : 1 ≤ n = leb-true 1 n l in
-    let b : n ≤ 1 = leb-true n 1 h in
-    omega (arith, i, a, b)
+    subst IsKnown i (leb-true 1 n l, leb-true n newest h)
 within n v true false e l h q = absurd (cc)
 within n v false high e l h q = absurd (cc)
 
-by_value : (o : Option Data) (v : ℕ) → version_in o ≡ Ok v → v ≡ 1
-by_value None v q = let i : 1 ≡ v = cc in sym i
-by_value (Some (integer (pos n))) v q = within n v (nat_le 1 n) (nat_le n 1) _ refl refl q
+by_value : (o : Option Data) (v : ℕ) → version_in o ≡ Ok v → IsKnown v
+by_value None v q = let i : 1 ≡ v = cc in subst IsKnown i (lit≤ tt, lit≤ tt)
+by_value (Some (integer (pos n))) v q = within n v (nat_le 1 n) (nat_le n newest) _ refl refl q
 by_value (Some (integer (negsuc n))) v q = absurd (cc)
 by_value (Some _) v q = absurd (cc)
 
-pub only_first : (document : Members) (v : ℕ) → version document ≡ Ok v → v ≡ 1
-only_first document v q = by_value (get_member version_name document) v q
+pub is_known : (document : Members) (v : ℕ) → version document ≡ Ok v → IsKnown v
+is_known document v q = by_value (get_member version_name document) v q
 
--- ---- versions: without a value it is 1; 1 is known; no other number is, and nothing else is a version
+-- ---- a number that is in its version's range is in that of the newest
+
+by_first : (in_1 in_2 n : ℕ) (one : Bool) → in_1 ≤ in_2 → n ≤ (if one then in_1 else in_2) → n ≤ in_2
+by_first in_1 in_2 n true wider h = omega (arith, wider, h)
+by_first in_1 in_2 n false wider h = h
+
+pub most_up_to : (in_1 in_2 version n : ℕ) → in_1 ≤ in_2 → n ≤ most in_1 in_2 version → n ≤ in_2
+most_up_to in_1 in_2 version n wider h = by_first in_1 in_2 n (version == 1) wider h
+
+-- ---- versions: without a value it is 1; 1 and 2 are known; no other number is, and nothing else is a version
 
 absent : version_in None ≡ Ok 1
 absent = refl
@@ -37,7 +45,10 @@ absent = refl
 one : version_in (Some (integer (pos 1))) ≡ Ok 1
 one = refl
 
-none_yet : version_in (Some (integer (pos 2))) ≡ Err (Version (pos 2))
+two : version_in (Some (integer (pos 2))) ≡ Ok 2
+two = refl
+
+none_yet : version_in (Some (integer (pos 3))) ≡ Err (Version (pos 3))
 none_yet = refl
 
 zeroth : version_in (Some (integer (pos 0))) ≡ Err (Version (pos 0))

@@ -50,8 +50,8 @@ pub enum DescFault {
     /// name.
     #[error("K4: {0} is of another kind")]
     Kind(Subject),
-    /// This program doesn't know the version: it knows version 1 alone.
-    #[error("K5: version is {0}, and the only version that is known is 1")]
+    /// This program doesn't know the version: it knows versions 1 and 2.
+    #[error("K5: version is {0}, and the versions that are known are 1 and 2")]
     Version(i64),
     /// The number is outside the key's range.
     #[error("K5: {0} is {1}, outside its range")]

@@ -7,6 +7,7 @@
 ghost use Rattle.std.specs.Prelude.{◌≡◌, ◌+◌, ◌%◌, ◌^◌, ◌<◌, ◌≤◌};
 ghost use Rattle.std.specs.Int.{IsPowerOfTwo};
 ghost use Rattle.machine_desc.specs.Power.{power_prop};
+ghost use Rattle.machine_desc.specs.Version.{most};
 
 mod document;
 mod example;
@@ -34,8 +35,8 @@ pub enum SttModel {
     Futuristic,
 }
 
-/// A machine description of version 1: every number is in its key's range and of its key's shape, a miss takes longer
-/// than a hit, and RAM ends at or below 2^32.
+/// A machine description of a known version: every number is in its key's range in that version and of its key's shape,
+/// a miss takes longer than a hit, and RAM ends at or below 2^32.
 #[derive(Clone, Copy, Debug, PartialEq, Eq)]
 pub struct Desc {
     /// The version of the machine that is described.
@@ -80,21 +81,22 @@ pub struct Desc {
     pub ram_size: u32,
     /// When taint ends.
     pub stt_model: SttModel,
-    pub ghost first_version: { version ≡ 1 },
+    pub ghost some_version: { 1 ≤ version },
+    pub ghost known_version: { version ≤ 2 },
     pub ghost some_fetches: { 1 ≤ core_fetch_width },
     pub ghost few_fetches: { core_fetch_width ≤ 4 },
     pub ghost some_retires: { 1 ≤ core_retire_width },
     pub ghost few_retires: { core_retire_width ≤ 4 },
     pub ghost some_entries: { 4 ≤ core_rob },
-    pub ghost few_entries: { core_rob ≤ 64 },
+    pub ghost few_entries: { core_rob ≤ most 64 192 version },
     pub ghost some_stations: { 2 ≤ core_stations },
-    pub ghost few_stations: { core_stations ≤ 32 },
+    pub ghost few_stations: { core_stations ≤ most 32 96 version },
     pub ghost some_loads: { 1 ≤ core_loads },
-    pub ghost few_loads: { core_loads ≤ 16 },
+    pub ghost few_loads: { core_loads ≤ most 16 64 version },
     pub ghost some_stores: { 1 ≤ core_stores },
-    pub ghost few_stores: { core_stores ≤ 16 },
+    pub ghost few_stores: { core_stores ≤ most 16 48 version },
     pub ghost some_queue: { 1 ≤ core_queue },
-    pub ghost short_queue: { core_queue ≤ 16 },
+    pub ghost short_queue: { core_queue ≤ most 16 32 version },
     pub ghost some_alus: { 1 ≤ units_alus },
     pub ghost few_alus: { units_alus ≤ 4 },
     pub ghost some_mul_latency: { 1 ≤ units_mul_latency },

@@ -7,6 +7,7 @@ ghost use Rattle.toml.specs.Data.{get_member};
 ghost use Rattle.machine_desc.specs.Table.{number_keys};
 ghost use Rattle.machine_desc.specs.Clean.{IsClean};
 ghost use Rattle.machine_desc.specs.Ranges.{MayBe};
+ghost use Rattle.machine_desc.specs.Version.{IsKnown};
 ghost use Rattle.machine_desc.specs.Description.{checked, first, version, top_fault, name_fault, section_fault, sections_fault, key_fault, keys_fault, number, model, latency_fault, end_fault, document_contents, document_fault, Contents, contents, description_of, Describes};
 
 use crate::document::{
@@ -164,17 +165,16 @@ fn check_document(version: u32, document: &Table) -> Result<(), DescFault>
 // The number of a key without fault.
 #[tactic(auto, unfolding(crate::specs::Description::key_fault))]
 fn clean_number(version: u32, document: &Table, key: Key) -> u32
-    requires first { version ≡ 1 }
     requires clean { key_fault version (table_view document.now) key ≡ None }
     ensures number { result ≡ number version (table_view document.now) key }
-    ensures fits { MayBe key result }
+    ensures fits { MayBe version key result }
 {
     number(version, document, key)
 }
 
 // The description of a document of this version without fault.
 fn desc(version: u32, document: &Table, stt_model: SttModel) -> Desc
-    requires first { version ≡ 1 }
+    requires known { IsKnown version }
     requires clean { IsClean version (table_view document.now) }
     ensures { contents result ≡ record {
       version = version;

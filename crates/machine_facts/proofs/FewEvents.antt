@@ -1,9 +1,10 @@
 -- A cycle has few events, and raises serials and the count of the retired by no more than four.
-use Rattle.std.proofs.Common.{◌≡◌, ℕ, ◌+◌, ◌*◌, ◌≤◌, ◌++◌, length, Option, Some, None, refl, ◌∙◌, arith}
+use Rattle.std.proofs.Common.{◌≡◌, ℕ, ◌+◌, ◌*◌, ◌≤◌, ◌++◌, length, Option, Some, None, refl, ◌∙◌, arith, lit≤}
 use Rattle.rv_types.specs.Memory.{Code, Ram}
 use Rattle.rv_types.specs.declared.End.{End}
 use Rattle.machine_desc.specs.declared.Desc.{Desc}
 use Rattle.machine_desc.specs.Ranges.{IsDesc}
+use Rattle.machine_desc.proofs.Versions.{most_up_to}
 use Rattle.window_model.specs.State.{Machine, After, opening, then_does, nothing}
 use Rattle.window_model.specs.Fill.{fill, complete}
 use Rattle.window_model.specs.Resolve.{resolve}
@@ -71,11 +72,12 @@ few_events d code x i s =
     let k = after_retire d code r.machine in
     let n = length x.misses + (length x.window + 3) in
     let w = joined n (2 * d.core_retire_width) f.events r.events (before_adds d x1).events (retire_turns d f.machine).events in
+    let rob = most_up_to 64 192 d.version d.core_rob (lit≤ tt) i.rob.1 in
     let all = joined (n + 2 * d.core_retire_width) (d.units_alus + 5 + (d.core_fetch_width + d.core_fetch_width)) (f.events ++ r.events) k.events w (after_adds d code r.machine.end r.machine).events in
     small (length ((f.events ++ r.events) ++ k.events)) (length x.misses) (length x.window) d.core_retire_width d.units_alus d.core_fetch_width all
-    (omega (arith, s.misses, i.mshrs.1)) (omega (arith, s.entries, i.rob.1)) i.retire_width.1 i.alus.1 i.fetch_width.1
+    (omega (arith, s.misses, i.mshrs.1)) (omega (arith, s.entries, rob)) i.retire_width.1 i.alus.1 i.fetch_width.1
   where
-    small : (n m w r u f : ℕ) → n ≤ m + (w + 3) + 2 * r + (u + 5 + (f + f)) → m ≤ 8 → w ≤ 64 → r ≤ 4 → u ≤ 4 → f ≤ 4 → n ≤ most_events
+    small : (n m w r u f : ℕ) → n ≤ m + (w + 3) + 2 * r + (u + 5 + (f + f)) → m ≤ 8 → w ≤ 192 → r ≤ 4 → u ≤ 4 → f ≤ 4 → n ≤ most_events
     small n m w r u f h a b c e g = omega arith
 
 pub cycle_number : (d : Desc) (code : Code) (x : Machine) → (cycle d code x).machine.cycle ≡ x.cycle + 1

@@ -8,6 +8,7 @@ pub mod SizedRetire
 pub mod SizedRun
 pub mod Serials
 pub mod Stores
+pub mod GoesBehind
 pub mod Dues
 pub mod Reasons
 pub mod TimelyPhases

@@ -1,26 +1,24 @@
 -- The roots of the stores' addresses, as entries come, go on and leave, and what they tell.
-use Rattle.std.proofs.Common.{◌≡◌, ℕ, zero, suc, ◌<◌, ◌≤◌, Bool, true, false, not, ◌&&◌, ◌||◌, cond, List, [], ◌∷◌, ◌++◌, length, take, drop, Option, Some, None, refl, ap, ap₂, sym, ◌∙◌, arith, slice_get}
-use Rattle.std.specs.Prelude.{if◌then◌else◌, map, nat_le, nat_lt, ◌==◌, reverse}
+use Rattle.std.proofs.Common.{◌≡◌, ℕ, zero, suc, ◌<◌, ◌≤◌, Bool, true, false, not, cond, List, [], ◌∷◌, ◌++◌, length, take, drop, Option, Some, None, refl, ap, ap₂, sym, ◌∙◌, arith, slice_get}
+use Rattle.std.specs.Prelude.{if◌then◌else◌, map, nat_le, nat_lt, ◌==◌}
 use Rattle.std.specs.List.{All, AllZip, filter, list_any}
 use Rattle.std.proofs.lemmas.Bool.Decides.{nat_tests}
-use Rattle.std.proofs.lemmas.List.{map-append, append-nil, length-append, reverse-append}
+use Rattle.std.proofs.lemmas.List.{map-append, append-nil, length-append}
 use Rattle.std.proofs.lemmas.List.Elements.{All-nil, All-cons, All-head, All-tail, All-weaker}
-use Rattle.std.proofs.lemmas.List.Folds.{list_any-append}
 use mathlib.Core.List.{reverse_aux}
 use Rattle.window_model.specs.declared.Entry.{Entry}
 use Rattle.window_model.specs.declared.Item.{Item}
-use Rattle.window_model.specs.Access.{any_store_hidden}
 use Rattle.window_model.specs.Along.{Along, Behind}
 use Rattle.window_model.specs.Order.{before_at, is_store}
 use Rattle.window_model.specs.Taint.{address_tainted}
 use Rattle.rob_ring.specs.Ring.{below}
 use Rattle.lsq.specs.declared.store.Store.{Store}
-use Rattle.rename_taint.specs.Writes.{later as younger}
-use Rattle.lsq.specs.Queues.{known_at, older, youngest_root}
+use Rattle.lsq.specs.Queues.{older}
+use Rattle.queue_laws.specs.Window.{hides, tainted_stores}
 use Rattle.visibility.specs.Point.{Point, HasAdvanced, is_hidden}
 use Rattle.parts_stand.specs.Parts.{Parts, Stand, RootsStand, oldest_of}
 use Rattle.parts_stand.specs.Steps.{GoesOn}
-use Rattle.parts_stand.specs.Addresses.{Addressed, AddressesStand, TellsStores, address_in, addresses_of, base_root}
+use Rattle.parts_stand.specs.Addresses.{Addressed, AddressesStand, TellsEachStore, address_in, addresses_of, base_root}
 use Rattle.window_model.specs.Serials.{Rise}
 use Rattle.window_model.proofs.Serials.{Falls, place_of, rise_head, splits}
 use Rattle.window_model.proofs.Booleans.{or_false}
@@ -28,7 +26,6 @@ use Rattle.parts_stand.proofs.Youngest.{Tells, map_same, map_twice}
 use Rattle.parts_stand.proofs.Tables.{as_many, keeps_all}
 use Rattle.parts_stand.proofs.Standing.{halves, keeps_older, take_first, take_length}
 use Rattle.parts_stand.proofs.Answering.{operands_told, told}
-use Rattle.lsq.specs.declared.store.Known.{Known}
 
 -- no stores, and no entries
 pub addresses_open : AddressesStand [] [] []
@@ -75,9 +72,9 @@ addresses_push p stores e rs s h =
 
 -- a store is renamed
 pub addresses_add : (p : Parts) (stores : List Store) (e : Entry) (rs : List (Option ℕ)) → Stand p → AddressesStand p.window p.roots stores → is_store e.item.kind ≡ true →
-    AddressesStand (p.window ++ e ∷ []) (p.roots ++ rs ∷ []) (stores ++ record { serial = e.serial; root = base_root rs; known = None } ∷ [])
+    AddressesStand (p.window ++ e ∷ []) (p.roots ++ rs ∷ []) (stores ++ record { serial = e.serial; root = base_root rs; span = None; stored = None } ∷ [])
 addresses_add p stores e rs s h t =
-    map-append address_in stores (record { serial = e.serial; root = base_root rs; known = None } ∷ [])
+    map-append address_in stores (record { serial = e.serial; root = base_root rs; span = None; stored = None } ∷ [])
     ∙ ap (λ b. map address_in stores ++ (if b then record { serial = e.serial; root = base_root rs } ∷ [] else [])) (sym t)
     ∙ sym (addresses_push p stores e rs s h)
 
@@ -153,75 +150,46 @@ pub addresses_go_on : (p : Parts) (stores : List Store) (window : List Entry) �
     AddressesStand window p.roots stores
 addresses_go_on p stores window a v = a ∙ sym (same_addresses p.window window p.roots v)
 
--- a store becomes known
-pub addresses_know : (p : Parts) (stores : List Store) (serial : ℕ) (known : Known) → AddressesStand p.window p.roots stores →
-    AddressesStand p.window p.roots (map (known_at serial known) stores)
-addresses_know p stores serial known a = map_twice address_in (known_at serial known) stores ∙ map_same (λ s. address_in (known_at serial known s)) address_in stores each ∙ a
-  where
-    by_test : (b : Bool) (s : Store) → address_in (if b then record s { known = Some known } else s) ≡ address_in s
-    by_test true s = refl
-    by_test false s = refl
+-- of a store something becomes known
+pub addresses_know : (p : Parts) (stores : List Store) (known : Store → Store) → ((s : Store) → address_in (known s) ≡ address_in s) → AddressesStand p.window p.roots stores →
+    AddressesStand p.window p.roots (map known stores)
+addresses_know p stores known same a = map_twice address_in known stores ∙ map_same (λ s. address_in (known s)) address_in stores same ∙ a
 
-    each : (s : Store) → address_in (known_at serial known s) ≡ address_in s
-    each s = by_test (s.serial == serial) s
-
--- ---- what the youngest root tells
-
-hidden_younger : (point : ℕ) (a b : Option ℕ) → is_hidden point (younger a b) ≡ (is_hidden point a || is_hidden point b)
-hidden_younger point None b = refl
-hidden_younger point (Some a) None = sym (or_false (not (nat_le a point)))
-hidden_younger point (Some a) (Some b) = grind (arith, nat_tests)
-
-hidden_youngest : (point : ℕ) (stores : List Store) → is_hidden point (youngest_root stores) ≡ list_any (λ s. is_hidden point s.root) stores
-hidden_youngest point [] = refl
-hidden_youngest point (s ∷ stores) = hidden_younger point s.root (youngest_root stores) ∙ ap (λ b. is_hidden point s.root || b) (hidden_youngest point stores)
-
-or_swap : (a b : Bool) → (a || (b || false)) ≡ (b || a)
-or_swap true true = refl
-or_swap true false = refl
-or_swap false true = refl
-or_swap false false = refl
-
-any_reverse : {X : Type 0} (t : X → Bool) (xs : List X) → list_any t (reverse xs) ≡ list_any t xs
-any_reverse t [] = refl
-any_reverse t (x ∷ xs) =
-    ap (list_any t) (reverse-append (x ∷ []) xs) ∙ list_any-append t (reverse xs) (x ∷ []) ∙ or_swap (list_any t (reverse xs)) (t x) ∙ ap (λ b. t x || b) (any_reverse t xs)
-
-any_addresses : (point : ℕ) (stores : List Store) → list_any (λ s. is_hidden point s.root) stores ≡ list_any (λ (a : Addressed). is_hidden point a.root) (map address_in stores)
-any_addresses point [] = refl
-any_addresses point (s ∷ stores) = ap (λ b. is_hidden point s.root || b) (any_addresses point stores)
+-- ---- what the roots tell
 
 base_told : (point : ℕ) (rs : List (Option ℕ)) → list_any (is_hidden point) (take 1 rs) ≡ is_hidden point (base_root rs)
 base_told point [] = refl
 base_told point (r ∷ rs) = or_false (is_hidden point r)
 
--- of entries from the oldest on, as far as a position
-hidden_from : (p : Point) (f : ℕ) (before es : List Entry) (roots : List (List (Option ℕ))) (i : ℕ) → ((s : ℕ) → s < f → s ≤ p.serial) →
+map_back : {X Y : Type 0} (f : X → Y) (xs ys : List X) → map f (reverse_aux xs ys) ≡ reverse_aux (map f xs) (map f ys)
+map_back f [] ys = refl
+map_back f (x ∷ xs) ys = map_back f xs (x ∷ ys)
+
+pub hides_root : (point : ℕ) (r : Option ℕ) → hides (λ root. nat_le root point) r ≡ is_hidden point r
+hides_root point None = refl
+hides_root point (Some root) = refl
+
+-- of entries from the oldest on, as far as a position: whether each store's address is tainted, youngest first
+each_hidden : (p : Point) (f : ℕ) (before es : List Entry) (roots : List (List (Option ℕ))) (i : ℕ) → ((s : ℕ) → s < f → s ≤ p.serial) →
     Behind (Tells p) before → Behind Falls before → Along (Tells p) before es → Along Falls before es → RootsStand f before es roots →
-    (list_any (λ (a : Addressed). is_hidden p.serial a.root) (addresses_of (take i es) (take i roots)) || any_store_hidden p.model before) ≡ any_store_hidden p.model (reverse_aux (take i es) before)
-hidden_from p f before es roots zero old t u a b s = refl
-hidden_from p f before [] [] (suc i) old t u a b s = refl
-hidden_from p f before [] (r ∷ roots) (suc i) old t u a b s = absurd s
-hidden_from p f before (e ∷ es) [] (suc i) old t u a b s = absurd s
-hidden_from p f before (e ∷ es) (rs ∷ roots) (suc i) old t u a b s =
-    by_store (is_store e.item.kind) (list_any (λ (a : Addressed). is_hidden p.serial a.root) (addresses_of (take i es) (take i roots))) (any_store_hidden p.model before)
-    ∙ hidden_from p f (e ∷ before) es roots i old (a.0, t) (b.0, u) a.1 b.1 s.1
+    reverse_aux (map (λ (a : Addressed). is_hidden p.serial a.root) (addresses_of (take i es) (take i roots))) (tainted_stores p.model before) ≡ tainted_stores p.model (reverse_aux (take i es) before)
+each_hidden p f before es roots zero old t u a b s = refl
+each_hidden p f before [] [] (suc i) old t u a b s = refl
+each_hidden p f before [] (r ∷ roots) (suc i) old t u a b s = absurd s
+each_hidden p f before (e ∷ es) [] (suc i) old t u a b s = absurd s
+each_hidden p f before (e ∷ es) (rs ∷ roots) (suc i) old t u a b s =
+    by_store (is_store e.item.kind) ∙ each_hidden p f (e ∷ before) es roots i old (a.0, t) (b.0, u) a.1 b.1 s.1
   where
     base : is_hidden p.serial (base_root rs) ≡ address_tainted p.model before e
     base = sym (base_told p.serial rs) ∙ (operands_told p f before e rs t u old s.0).base
 
-    shuffle : (x m n : Bool) → ((x || m) || n) ≡ (m || (x || n))
-    shuffle true true n = refl
-    shuffle true false n = refl
-    shuffle false true n = refl
-    shuffle false false n = refl
+    rest : List Bool
+    rest = map (λ (a : Addressed). is_hidden p.serial a.root) (addresses_of (take i es) (take i roots))
 
-    by_store : (w m n : Bool) → (list_any (λ (a : Addressed). is_hidden p.serial a.root) (if w then record { serial = e.serial; root = base_root rs } ∷ addresses_of (take i es) (take i roots) else addresses_of (take i es) (take i roots)) || any_store_hidden p.model before)
-        ≡ (list_any (λ (a : Addressed). is_hidden p.serial a.root) (addresses_of (take i es) (take i roots)) || (w && address_tainted p.model before e || any_store_hidden p.model before))
-    by_store true m n =
-        ap (λ b. (b || list_any (λ (a : Addressed). is_hidden p.serial a.root) (addresses_of (take i es) (take i roots))) || any_store_hidden p.model before) base
-        ∙ shuffle (address_tainted p.model before e) (list_any (λ (a : Addressed). is_hidden p.serial a.root) (addresses_of (take i es) (take i roots))) (any_store_hidden p.model before)
-    by_store false m n = refl
+    by_store : (w : Bool) → reverse_aux (map (λ (a : Addressed). is_hidden p.serial a.root) (if w then record { serial = e.serial; root = base_root rs } ∷ addresses_of (take i es) (take i roots) else addresses_of (take i es) (take i roots))) (tainted_stores p.model before)
+        ≡ reverse_aux (map (λ (a : Addressed). is_hidden p.serial a.root) (addresses_of (take i es) (take i roots))) (if w then address_tainted p.model before e ∷ tainted_stores p.model before else tainted_stores p.model before)
+    by_store true = ap (λ b. reverse_aux rest (b ∷ tainted_stores p.model before)) base
+    by_store false = refl
 
 -- the entries below an entry's serial are those before it
 pub below_is : (es : List Entry) (i : ℕ) (e : Entry) → Rise es → slice_get es i ≡ Some e → below e.serial es ≡ take i es
@@ -229,23 +197,23 @@ below_is es i e r h =
     let t = splits e.serial es r in
     sym (take_first (below e.serial es) t.gone) ∙ ap (take (length (below e.serial es))) (sym t.whole) ∙ ap (λ n. take n es) (place_of es i e r h)
 
-pub tells_stores : TellsStores
-tells_stores p point stores i e s m a h = by_window p.window s.rise m s.roots h has
+pub tells_each_store : TellsEachStore
+tells_each_store p point stores i e s m a h = by_window p.window s.rise m s.roots h has
   where
     has : map address_in (filter (λ s. nat_lt s.serial e.serial) stores) ≡ addresses_of (take i p.window) (take i p.roots)
-    has =
-        addresses_below p stores e.serial s a
+    has = addresses_below p stores e.serial s a
         ∙ ap₂ (λ (es : List Entry) (n : ℕ). addresses_of es (take n p.roots)) (below_is p.window i e s.rise h) (place_of p.window i e s.rise h)
 
     by_window : (es : List Entry) → Rise es → HasAdvanced point es → RootsStand (oldest_of p.next es) [] es p.roots → slice_get es i ≡ Some e →
         map address_in (filter (λ s. nat_lt s.serial e.serial) stores) ≡ addresses_of (take i es) (take i p.roots) →
-        is_hidden point.serial (youngest_root (older e.serial stores)) ≡ any_store_hidden point.model (before_at es i)
+        map (λ s. hides (λ root. nat_le root point.serial) s.root) (older e.serial stores) ≡ tainted_stores point.model (before_at es i)
     by_window [] r m s h k = absurd (cc)
     by_window (x ∷ es) r m s h k =
         let t = told point p.next x es r m in
-        hidden_youngest point.serial (older e.serial stores)
-        ∙ any_reverse (λ s. is_hidden point.serial s.root) (filter (λ s. nat_lt s.serial e.serial) stores)
-        ∙ any_addresses point.serial (filter (λ s. nat_lt s.serial e.serial) stores)
-        ∙ ap (list_any (λ (a : Addressed). is_hidden point.serial a.root)) k
-        ∙ sym (or_false (list_any (λ (a : Addressed). is_hidden point.serial a.root) (addresses_of (take i (x ∷ es)) (take i p.roots))))
-        ∙ hidden_from point x.serial [] (x ∷ es) p.roots i t.retired tt tt t.tells t.falls s
+        let olds : List Store = filter (λ s. nat_lt s.serial e.serial) stores in
+        map_back (λ s. hides (λ root. nat_le root point.serial) s.root) olds []
+        ∙ ap (λ bs. reverse_aux bs [])
+        (map_same (λ s. hides (λ root. nat_le root point.serial) s.root) (λ s. is_hidden point.serial s.root) olds (λ s. hides_root point.serial s.root)
+        ∙ sym (map_twice (λ (a : Addressed). is_hidden point.serial a.root) address_in olds)
+        ∙ ap (map (λ (a : Addressed). is_hidden point.serial a.root)) k)
+        ∙ each_hidden point x.serial [] (x ∷ es) p.roots i t.retired tt tt t.tells t.falls s

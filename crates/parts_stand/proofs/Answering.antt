@@ -1,6 +1,6 @@
 -- What the parts tell of the window.
 use Rattle.std.proofs.Common.{◌≡◌, ℕ, zero, suc, ◌+◌, ◌<◌, ◌≤◌, Bool, true, false, not, ◌&&◌, ◌||◌, cond, List, [], ◌∷◌, ◌++◌, length, take, Option, Some, None, refl, ap, ap₂, sym, ◌∙◌, arith, subst, slice_get, is_none, is_some}
-use Rattle.std.specs.Prelude.{◌==◌, if◌then◌else◌, map, reverse, slice_set}
+use Rattle.std.specs.Prelude.{if◌then◌else◌, map, reverse, slice_set}
 use Rattle.std.specs.List.{All, count_by, list_all, list_any}
 use Rattle.std.specs.Option.{option_map}
 use Rattle.std.proofs.lemmas.List.{length-map, take_more}
@@ -14,20 +14,26 @@ use Rattle.machine_desc.specs.declared.Desc.{Desc}
 use Rattle.window_model.specs.declared.Entry.{Entry}
 use Rattle.window_model.specs.Along.{Along, Behind, Fact}
 use Rattle.window_model.specs.Around.{Around, is_free}
-use Rattle.window_model.specs.Order.{Place, base_of, before_at, first_from, is_control, is_done, is_known, is_waiting, sources, writer, writes}
+use Rattle.window_model.specs.Order.{Place, all_known, base_of, before_at, first_from, is_control, is_done, is_known, is_waiting, others_of, sources, writer, writes}
 use Rattle.window_model.specs.Resolve.{may_resolve}
-use Rattle.window_model.specs.Issue.{bytes_of, may_issue_as, stores_done, stores_let}
+use Rattle.window_model.specs.Issue.{goes_behind, may_issue_as}
 use Rattle.window_model.specs.Taint.{tainted, any_tainted, address_tainted}
+use Rattle.window_model.proofs.Booleans.{or_false}
 use Rattle.window_model.proofs.Counts.{count, count_is, count_pushed}
-use Rattle.rename_taint.specs.Writes.{root_of, source_of}
-use Rattle.stations.specs.Stations.{Station, awaits_none}
+use Rattle.rename_taint.specs.Writes.{root_of}
+use Rattle.rename_taint.specs.Writes as writing
+use Rattle.stations.specs.Stations.{Station, able_as, awaits_none, nothing_at, source_of}
+use Rattle.stations.specs.declared.wants.Part.{Part}
+use Rattle.stations.specs.declared.wants.Part.TheVariants as part
+use Rattle.stations.specs.declared.wants.Wants.{Wants}
+use Rattle.stations.specs.declared.wants.Wants.TheVariants as wants
 use Rattle.visibility.specs.Point.{Point, HasAdvanced, HasMoved, is_hidden}
 use Rattle.branch_resolve.specs.Pick.{can_resolve, pick_from}
 use Rattle.transmit_gate.specs.Gate.{may_transmit}
 use Rattle.parts_stand.specs.Roots.{youngest_root, root_of_source, source_roots, unretired}
-use Rattle.parts_stand.specs.Parts.{RootsStand, Waiter, awaited, awaited_of, oldest_of, waiter_in, waiter_of, waiters_from, writes_in}
+use Rattle.parts_stand.specs.Parts.{RootsStand, Waiter, awaited, awaited_of, oldest_of, waiter_in, waiter_of, waiters_from, wants_of, writes_in}
 use Rattle.parts_stand.specs.Steps.{station_of}
-use Rattle.parts_stand.specs.Telling.{CountsRoom, CountsStations, FindsAwaited, FindsWriter, HasStation, HoldsOlderOnes, NamesEntry, NamesRoot, NamesWriter, OperandsTold, PicksFirst, TellsIssue, TellsOperands, StationsOlder, StationsYounger, TellsReady, TellsTaint, TellsVisible, asks_besides, entry_of}
+use Rattle.parts_stand.specs.Telling.{CountsRoom, CountsStations, FindsAwaited, FindsWriter, HasStation, HoldsOlderOnes, NamesEntry, NamesRoot, NamesWriter, OperandsTold, PicksFirst, TellsAble, TellsIssue, TellsOperands, TellsPart, StationsOlder, StationsYounger, TellsReady, TellsTaint, TellsVisible, asks_besides, entry_of, has_sources, own_of}
 use Rattle.window_model.specs.Serials.{Rise}
 use Rattle.window_model.proofs.Serials.{Falls, behind, behind_at, falls, rise_head}
 use Rattle.parts_stand.proofs.Serials.{oldest_least}
@@ -41,7 +47,7 @@ pub counts_room : CountsRoom
 counts_room p s = record {
   roots = as_many (oldest_of p.next p.window) [] p.window p.roots s.roots;
   writes = let a = ap length s.writes in let b = few_writes p.window p.roots in omega (arith, a, b);
-  held = sym (length-map p.held waiter_in) ∙ ap length s.held ∙ waiters_count [] p.window ∙ count_is (λ e. is_waiting e.state) p.window;
+  held = sym (length-map p.held waiter_in) ∙ ap length s.held ∙ waiters_count p.version [] p.window ∙ count_is (λ e. is_waiting e.state) p.window;
 }
 
 of_waiters : (n : ℕ) (held : List Station) → All (λ w. w.serial < n) (map waiter_in held) → All (λ s. s.serial < n) held
@@ -51,13 +57,13 @@ of_waiters n (s ∷ held) a = All-cons (λ s. s.serial < n) s held (All-head (λ
 pub holds_older : HoldsOlderOnes
 holds_older p s = record {
   writes = subst (All (λ w. w.serial < p.next)) (sym s.writes) (writes_have (λ n. n < p.next) p.window p.roots s.next);
-  held = of_waiters p.next p.held (subst (All (λ w. w.serial < p.next)) (sym s.held) (waiters_have (λ n. n < p.next) [] p.window s.next));
+  held = of_waiters p.next p.held (subst (All (λ w. w.serial < p.next)) (sym s.held) (waiters_have p.version (λ n. n < p.next) [] p.window s.next));
 }
 
 -- ---- writers
 
 pub names_writer : NamesWriter
-names_writer p r s = ap (λ ws. source_of ws r) s.writes ∙ source_is (oldest_of p.next p.window) r p.window p.roots s.roots
+names_writer p r s = ap (λ ws. writing.source_of ws r) s.writes ∙ source_is (oldest_of p.next p.window) r p.window p.roots s.roots
 
 pub names_entry : NamesEntry
 names_entry p r n s q = within r n p.window s.rise (writer (reverse p.window) r) refl (sym (names_writer p r s) ∙ q)
@@ -83,8 +89,8 @@ pub has_station : HasStation
 has_station p i e s h w =
     let is =
     sym (slice_get-map waiter_in p.held (station_of i p.window)) ∙ ap (λ ws. slice_get ws (station_of i p.window)) s.held
-    ∙ ap (slice_get (waiters_from [] p.window)) (sym (count_is (λ e. is_waiting e.state) (take i p.window))) ∙ station_is [] p.window i e h w in
-    record { within = some_within p.held (station_of i p.window) (within_map waiter_in (slice_get p.held (station_of i p.window)) (waiter_of (before_at p.window i) e) is); is = is }
+    ∙ ap (slice_get (waiters_from p.version [] p.window)) (sym (count_is (λ e. is_waiting e.state) (take i p.window))) ∙ station_is p.version [] p.window i e h w in
+    record { within = some_within p.held (station_of i p.window) (within_map waiter_in (slice_get p.held (station_of i p.window)) (waiter_of p.version (before_at p.window i) e) is); is = is }
 
 pub counts_stations : CountsStations
 counts_stations window i e h =
@@ -149,6 +155,54 @@ pub tells_ready : TellsReady
 tells_ready p i e s h w =
     awaits_as (slice_get p.held (station_of i p.window)) ∙ ap (option_map (λ (w : Waiter). list_all is_none w.awaits)) (has_station p i e s h w).is
     ∙ ap Some (ready_by (before_at p.window i) (sources e) (few_reads e.item.instr))
+
+and_true : (b : Bool) → (b && true) ≡ b
+and_true true = refl
+and_true false = refl
+
+or_none : (a b : Bool) → (a || (b || false)) ≡ (a || b)
+or_none true b = refl
+or_none false b = or_false b
+
+-- each source by itself
+part_by : (part : Part) (before : List Entry) (rs : List ℕ) → length rs ≤ 2 → nothing_at (source_of part) (map (awaited before) (two rs)) ≡ all_known before (own_of part rs)
+part_by part.Base before [] le = refl
+part_by part.Other before [] le = refl
+part_by part.Base before (a ∷ []) le = none_awaited before a ∙ sym (and_true (is_known before a))
+part_by part.Other before (a ∷ []) le = refl
+part_by part.Base before (a ∷ b ∷ []) le = none_awaited before a ∙ sym (and_true (is_known before a))
+part_by part.Other before (a ∷ b ∷ []) le = none_awaited before b ∙ sym (and_true (is_known before b))
+part_by part before (a ∷ b ∷ c ∷ rs) le = absurd (omega (arith, le))
+
+either_by : (before : List Entry) (rs : List ℕ) → length rs ≤ 2 → list_any is_none (map (awaited before) (two rs)) ≡ (all_known before (base_of rs) || all_known before (others_of rs))
+either_by before [] le = refl
+either_by before (a ∷ []) le = or_none (is_none (awaited before (Some a))) true ∙ ap (λ b. b || true) (none_awaited before a ∙ sym (and_true (is_known before a)))
+either_by before (a ∷ b ∷ []) le =
+    or_none (is_none (awaited before (Some a))) (is_none (awaited before (Some b)))
+    ∙ ap₂ (λ p q. p || q) (none_awaited before a ∙ sym (and_true (is_known before a))) (none_awaited before b ∙ sym (and_true (is_known before b)))
+either_by before (a ∷ b ∷ c ∷ rs) le = absurd (omega (arith, le))
+
+able_by : (w : Wants) (before : List Entry) (e : Entry) → able_as w (map (awaited before) (two (sources e))) ≡ has_sources w before e
+able_by wants.Whole before e = ready_by before (sources e) (few_reads e.item.instr)
+able_by wants.Either before e = either_by before (sources e) (few_reads e.item.instr)
+able_by wants.Base before e = part_by part.Base before (sources e) (few_reads e.item.instr)
+able_by wants.Other before e = part_by part.Other before (sources e) (few_reads e.item.instr)
+
+-- a test of what a station wants and awaits is one of its waiter
+tested_as : (t : Wants → List (Option ℕ) → Bool) (o : Option Station) → option_map (λ s. t s.wants s.awaits) o ≡ option_map (λ (w : Waiter). t w.wants w.awaits) (option_map waiter_in o)
+tested_as t None = refl
+tested_as t (Some s) = refl
+
+pub tells_able : TellsAble
+tells_able p i e s h w =
+    tested_as able_as (slice_get p.held (station_of i p.window)) ∙ ap (option_map (λ (w : Waiter). able_as w.wants w.awaits)) (has_station p i e s h w).is
+    ∙ ap Some (able_by (wants_of p.version e) (before_at p.window i) e)
+
+pub tells_part : TellsPart
+tells_part part p i e s h w =
+    tested_as (λ wants awaits. nothing_at (source_of part) awaits) (slice_get p.held (station_of i p.window))
+    ∙ ap (option_map (λ (w : Waiter). nothing_at (source_of part) w.awaits)) (has_station p i e s h w).is
+    ∙ ap Some (part_by part (before_at p.window i) (sources e) (few_reads e.item.instr))
 
 -- ---- roots
 
@@ -224,10 +278,9 @@ tells_operands p point i e roots s m h k = by_window p.window s.rise m h (roots_
         operands_told point d.serial (before_at (d ∷ es) i) e roots (behind_at (Tells point) [] (d ∷ es) i tt t.tells) (behind_at Falls [] (d ∷ es) i tt t.falls) t.retired k
 
 issue_by : (d : Desc) (point : Point) (before : List Entry) (e : Entry) (roots : List (Option ℕ)) (now : Around) → point.model ≡ d.stt_model → OperandsTold point before e roots → (k : Kind) →
-    may_issue_as k d now before e ≡ (may_transmit k point.serial roots && asks_besides k (is_free now) before)
+    may_issue_as k d now before e ≡ (may_transmit k point.serial roots && asks_besides k d now before e)
 issue_by d point before e roots now q t Load =
-    ap (λ v. not (address_tainted d.stt_model before e) && (if v == 1 then stores_done before else stores_let d.stt_model (bytes_of now before e) before)) d.first_version
-    ∙ ap (λ b. not b && stores_done before) (ap (λ m. address_tainted m before e) (sym q) ∙ sym t.base)
+    ap (λ b. not b && goes_behind d now before e) (ap (λ m. address_tainted m before e) (sym q) ∙ sym t.base)
 issue_by d point before e roots now q t Div = ap (λ b. not b && is_free now) (ap (λ m. any_tainted m before e) (sym q) ∙ sym t.any)
 issue_by d point before e roots now q t _ = refl
 

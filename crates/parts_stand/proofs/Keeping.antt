@@ -16,7 +16,8 @@ use Rattle.window_model.proofs.EntryByEntry.{zip_same}
 use Rattle.rename_taint.specs.Writes.{root_written}
 use Rattle.stations.specs.Stations.{strike}
 use Rattle.parts_stand.specs.Roots.{youngest_root, root_of_source, source_roots, unretired}
-use Rattle.parts_stand.specs.Parts.{RootsStand, Waiter, awaited, awaited_of, oldest_of, waiter_of, waiters_from, writes_in}
+use Rattle.stations.specs.declared.wants.Wants.{Wants}
+use Rattle.parts_stand.specs.Parts.{RootsStand, Waiter, awaited, awaited_of, oldest_of, waiter_of, waiters_from, wants_of, writes_in}
 use Rattle.parts_stand.specs.Steps.{GoesOn}
 use Rattle.window_model.specs.Serials.{Rise}
 use Rattle.window_model.proofs.Serials.{rise_cons, rise_head, rise_tail, all_at}
@@ -126,31 +127,31 @@ zip_set R same (x ∷ es) (suc i) e e2 h g = (same x, zip_set R same es i e e2 h
 
 -- ---- stations
 
-pub waiters_join : (before a b : List Entry) → waiters_from before (a ++ b) ≡ waiters_from before a ++ waiters_from (reverse_aux a before) b
-waiters_join before [] b = refl
-waiters_join before (e ∷ a) b = by_wait (is_waiting e.state) (waiters_join (e ∷ before) a b)
+pub waiters_join : (version : ℕ) (before a b : List Entry) → waiters_from version before (a ++ b) ≡ waiters_from version before a ++ waiters_from version (reverse_aux a before) b
+waiters_join version before [] b = refl
+waiters_join version before (e ∷ a) b = by_wait (is_waiting e.state) (waiters_join version (e ∷ before) a b)
   where
-    by_wait : (w : Bool) → waiters_from (e ∷ before) (a ++ b) ≡ waiters_from (e ∷ before) a ++ waiters_from (reverse_aux a (e ∷ before)) b →
-        (if w then waiter_of before e ∷ waiters_from (e ∷ before) (a ++ b) else waiters_from (e ∷ before) (a ++ b))
-        ≡ (if w then waiter_of before e ∷ waiters_from (e ∷ before) a else waiters_from (e ∷ before) a) ++ waiters_from (reverse_aux a (e ∷ before)) b
-    by_wait true h = ap (λ ws. waiter_of before e ∷ ws) h
+    by_wait : (w : Bool) → waiters_from version (e ∷ before) (a ++ b) ≡ waiters_from version (e ∷ before) a ++ waiters_from version (reverse_aux a (e ∷ before)) b →
+        (if w then waiter_of version before e ∷ waiters_from version (e ∷ before) (a ++ b) else waiters_from version (e ∷ before) (a ++ b))
+        ≡ (if w then waiter_of version before e ∷ waiters_from version (e ∷ before) a else waiters_from version (e ∷ before) a) ++ waiters_from version (reverse_aux a (e ∷ before)) b
+    by_wait true h = ap (λ ws. waiter_of version before e ∷ ws) h
     by_wait false h = h
 
 -- a fact of serials that all entries have
-pub waiters_have : (P : ℕ → Type 0) (before es : List Entry) → All (λ e. P e.serial) es → All (λ w. P w.serial) (waiters_from before es)
-waiters_have P before [] a = All-nil (λ w. P w.serial)
-waiters_have P before (e ∷ es) a = by_wait (is_waiting e.state) (waiters_have P (e ∷ before) es (All-tail (λ e. P e.serial) e es a))
+pub waiters_have : (version : ℕ) (P : ℕ → Type 0) (before es : List Entry) → All (λ e. P e.serial) es → All (λ w. P w.serial) (waiters_from version before es)
+waiters_have version P before [] a = All-nil (λ w. P w.serial)
+waiters_have version P before (e ∷ es) a = by_wait (is_waiting e.state) (waiters_have version P (e ∷ before) es (All-tail (λ e. P e.serial) e es a))
   where
-    by_wait : (w : Bool) → All (λ w. P w.serial) (waiters_from (e ∷ before) es) → All (λ w. P w.serial) (if w then waiter_of before e ∷ waiters_from (e ∷ before) es else waiters_from (e ∷ before) es)
-    by_wait true h = All-cons (λ w. P w.serial) (waiter_of before e) (waiters_from (e ∷ before) es) (All-head (λ e. P e.serial) e es a) h
+    by_wait : (w : Bool) → All (λ w. P w.serial) (waiters_from version (e ∷ before) es) → All (λ w. P w.serial) (if w then waiter_of version before e ∷ waiters_from version (e ∷ before) es else waiters_from version (e ∷ before) es)
+    by_wait true h = All-cons (λ w. P w.serial) (waiter_of version before e) (waiters_from version (e ∷ before) es) (All-head (λ e. P e.serial) e es a) h
     by_wait false h = h
 
-pub waiters_count : (before es : List Entry) → length (waiters_from before es) ≡ count (λ e. is_waiting e.state) es
-waiters_count before [] = refl
-waiters_count before (e ∷ es) = by_wait (is_waiting e.state) (waiters_count (e ∷ before) es)
+pub waiters_count : (version : ℕ) (before es : List Entry) → length (waiters_from version before es) ≡ count (λ e. is_waiting e.state) es
+waiters_count version before [] = refl
+waiters_count version before (e ∷ es) = by_wait (is_waiting e.state) (waiters_count version (e ∷ before) es)
   where
-    by_wait : (w : Bool) → length (waiters_from (e ∷ before) es) ≡ count (λ e. is_waiting e.state) es →
-        length (if w then waiter_of before e ∷ waiters_from (e ∷ before) es else waiters_from (e ∷ before) es) ≡ cond w 1 0 + count (λ e. is_waiting e.state) es
+    by_wait : (w : Bool) → length (waiters_from version (e ∷ before) es) ≡ count (λ e. is_waiting e.state) es →
+        length (if w then waiter_of version before e ∷ waiters_from version (e ∷ before) es else waiters_from version (e ∷ before) es) ≡ cond w 1 0 + count (λ e. is_waiting e.state) es
     by_wait true h = omega (arith, h)
     by_wait false h = omega (arith, h)
 
@@ -168,10 +169,10 @@ awaited_without (e ∷ before) h d (Some r) = by_writes (writes r e) (awaited_wi
     by_writes true k = refl
     by_writes false k = k
 
-pub waiters_rest : (before es : List Entry) (h : Entry) → is_done h.state ≡ true → waiters_from (before ++ h ∷ []) es ≡ waiters_from before es
-waiters_rest before [] h d = refl
-waiters_rest before (e ∷ es) h d =
-    ap₂ (λ a ws. if is_waiting e.state then record { serial = e.serial; awaits = a } ∷ ws else ws) (map_same (awaited (before ++ h ∷ [])) (awaited before) (two (sources e)) (awaited_without before h d)) (waiters_rest (e ∷ before) es h d)
+pub waiters_rest : (version : ℕ) (before es : List Entry) (h : Entry) → is_done h.state ≡ true → waiters_from version (before ++ h ∷ []) es ≡ waiters_from version before es
+waiters_rest version before [] h d = refl
+waiters_rest version before (e ∷ es) h d =
+    ap₂ (λ a ws. if is_waiting e.state then record { serial = e.serial; awaits = a; wants = wants_of version e } ∷ ws else ws) (map_same (awaited (before ++ h ∷ [])) (awaited before) (two (sources e)) (awaited_without before h d)) (waiters_rest version (e ∷ before) es h d)
 
 -- ---- entries that are Done as before
 
@@ -180,16 +181,17 @@ pub record Steady (e e2 : Entry) : Type 0 where
   pub on : GoesOn e e2
   pub done : is_done e2.state ≡ is_done e.state
 
--- and waiting or not as it was
+-- and waiting or not as it was, for the same
 pub record Still (e e2 : Entry) : Type 0 where
   pub steady : Steady e e2
   pub waits : is_waiting e2.state ≡ is_waiting e.state
+  pub wants : (version : ℕ) → wants_of version e2 ≡ wants_of version e
 
 pub steady_same : (e : Entry) → Steady e e
 steady_same e = record { on = goes_same e; done = refl }
 
 pub still_same : (e : Entry) → Still e e
-still_same e = record { steady = steady_same e; waits = refl }
+still_same e = record { steady = steady_same e; waits = refl; wants = λ version. refl }
 
 pub still_goes : (es es2 : List Entry) → AllZip Still es es2 → AllZip GoesOn es es2
 still_goes [] [] v = v
@@ -209,18 +211,19 @@ awaited_steady (e ∷ b) (e2 ∷ b2) v (Some r) =
     by_writes true h = ap₂ (λ (d : Bool) (s : ℕ). if d then None else Some s) v.0.done v.0.on.serial
     by_writes false h = h
 
-waiter_steady : (b b2 : List Entry) (e e2 : Entry) → AllZip Steady b b2 → GoesOn e e2 → waiter_of b2 e2 ≡ waiter_of b e
-waiter_steady b b2 e e2 v g =
-    ap₂ (λ (s : ℕ) (i : Item). record { serial = s; awaits = map (awaited b2) (two (reads_of i.instr)) }) g.serial g.item
-    ∙ ap (λ os. record { serial = e.serial; awaits = os }) (map_same (awaited b2) (awaited b) (two (sources e)) (awaited_steady b b2 v))
+waiter_steady : (version : ℕ) (b b2 : List Entry) (e e2 : Entry) → AllZip Steady b b2 → GoesOn e e2 →
+    waiter_of version b2 e2 ≡ record (waiter_of version b e) { wants = wants_of version e2 }
+waiter_steady version b b2 e e2 v g =
+    ap₂ (λ (s : ℕ) (i : Item). record { serial = s; awaits = map (awaited b2) (two (reads_of i.instr)); wants = wants_of version e2 }) g.serial g.item
+    ∙ ap (λ os. record { serial = e.serial; awaits = os; wants = wants_of version e2 }) (map_same (awaited b2) (awaited b) (two (sources e)) (awaited_steady b b2 v))
 
-pub waiters_still : (b b2 es es2 : List Entry) → AllZip Steady b b2 → AllZip Still es es2 → waiters_from b2 es2 ≡ waiters_from b es
-waiters_still b b2 [] [] u v = refl
-waiters_still b b2 [] (e2 ∷ es2) u v = absurd v
-waiters_still b b2 (e ∷ es) [] u v = absurd v
-waiters_still b b2 (e ∷ es) (e2 ∷ es2) u v =
-    ap (λ t. if t then waiter_of b2 e2 ∷ waiters_from (e2 ∷ b2) es2 else waiters_from (e2 ∷ b2) es2) v.0.waits
-    ∙ ap₂ (λ w ws. if is_waiting e.state then w ∷ ws else ws) (waiter_steady b b2 e e2 u v.0.steady.on) (waiters_still (e ∷ b) (e2 ∷ b2) es es2 (v.0.steady, u) v.1)
+pub waiters_still : (version : ℕ) (b b2 es es2 : List Entry) → AllZip Steady b b2 → AllZip Still es es2 → waiters_from version b2 es2 ≡ waiters_from version b es
+waiters_still version b b2 [] [] u v = refl
+waiters_still version b b2 [] (e2 ∷ es2) u v = absurd v
+waiters_still version b b2 (e ∷ es) [] u v = absurd v
+waiters_still version b b2 (e ∷ es) (e2 ∷ es2) u v =
+    ap (λ t. if t then waiter_of version b2 e2 ∷ waiters_from version (e2 ∷ b2) es2 else waiters_from version (e2 ∷ b2) es2) v.0.waits
+    ∙ ap₂ (λ w ws. if is_waiting e.state then w ∷ ws else ws) (waiter_steady version b b2 e e2 u v.0.steady.on ∙ ap (λ w. record (waiter_of version b e) { wants = w }) (v.0.wants version)) (waiters_still version (e ∷ b) (e2 ∷ b2) es es2 (v.0.steady, u) v.1)
 
 -- ---- the station of a position
 
@@ -236,40 +239,75 @@ map_remove f [] (suc i) = refl
 map_remove f (x ∷ xs) zero = refl
 map_remove f (x ∷ xs) (suc i) = ap (λ ys. f x ∷ ys) (map_remove f xs i)
 
-pub station_is : (before es : List Entry) (i : ℕ) (e : Entry) → slice_get es i ≡ Some e → is_waiting e.state ≡ true →
-    slice_get (waiters_from before es) (count (λ e. is_waiting e.state) (take i es)) ≡ Some (waiter_of (reverse_aux (take i es) before) e)
-station_is before [] i e h w = absurd (cc)
-station_is before (x ∷ es) zero e h w =
+pub station_is : (version : ℕ) (before es : List Entry) (i : ℕ) (e : Entry) → slice_get es i ≡ Some e → is_waiting e.state ≡ true →
+    slice_get (waiters_from version before es) (count (λ e. is_waiting e.state) (take i es)) ≡ Some (waiter_of version (reverse_aux (take i es) before) e)
+station_is version before [] i e h w = absurd (cc)
+station_is version before (x ∷ es) zero e h w =
     let a : x ≡ e = cc in
-    subst (λ e. is_waiting e.state ≡ true → slice_get (waiters_from before (x ∷ es)) 0 ≡ Some (waiter_of before e)) a
-    (λ w. ap (λ t. slice_get (if t then waiter_of before x ∷ waiters_from (x ∷ before) es else waiters_from (x ∷ before) es) 0) w) w
-station_is before (x ∷ es) (suc i) e h w = by_wait (is_waiting x.state) (station_is (x ∷ before) es i e h w)
+    subst (λ e. is_waiting e.state ≡ true → slice_get (waiters_from version before (x ∷ es)) 0 ≡ Some (waiter_of version before e)) a
+    (λ w. ap (λ t. slice_get (if t then waiter_of version before x ∷ waiters_from version (x ∷ before) es else waiters_from version (x ∷ before) es) 0) w) w
+station_is version before (x ∷ es) (suc i) e h w = by_wait (is_waiting x.state) (station_is version (x ∷ before) es i e h w)
   where
     n : ℕ
     n = count (λ e. is_waiting e.state) (take i es)
 
-    by_wait : (t : Bool) → slice_get (waiters_from (x ∷ before) es) (count (λ e. is_waiting e.state) (take i es)) ≡ Some (waiter_of (reverse_aux (take i es) (x ∷ before)) e) →
-        slice_get (if t then waiter_of before x ∷ waiters_from (x ∷ before) es else waiters_from (x ∷ before) es) (cond t 1 0 + count (λ e. is_waiting e.state) (take i es)) ≡ Some (waiter_of (reverse_aux (take i es) (x ∷ before)) e)
-    by_wait true k = take_on (waiter_of before x) (waiters_from (x ∷ before) es) (count (λ e. is_waiting e.state) (take i es)) ∙ k
-    by_wait false k = let z : 0 + count (λ e. is_waiting e.state) (take i es) ≡ count (λ e. is_waiting e.state) (take i es) = omega arith in ap (slice_get (waiters_from (x ∷ before) es)) z ∙ k
+    by_wait : (t : Bool) → slice_get (waiters_from version (x ∷ before) es) (count (λ e. is_waiting e.state) (take i es)) ≡ Some (waiter_of version (reverse_aux (take i es) (x ∷ before)) e) →
+        slice_get (if t then waiter_of version before x ∷ waiters_from version (x ∷ before) es else waiters_from version (x ∷ before) es) (cond t 1 0 + count (λ e. is_waiting e.state) (take i es)) ≡ Some (waiter_of version (reverse_aux (take i es) (x ∷ before)) e)
+    by_wait true k = take_on (waiter_of version before x) (waiters_from version (x ∷ before) es) (count (λ e. is_waiting e.state) (take i es)) ∙ k
+    by_wait false k = let z : 0 + count (λ e. is_waiting e.state) (take i es) ≡ count (λ e. is_waiting e.state) (take i es) = omega arith in ap (slice_get (waiters_from version (x ∷ before) es)) z ∙ k
 
 -- an entry that waited waits no longer
-pub waiters_issue : (before es : List Entry) (i : ℕ) (e e2 : Entry) → slice_get es i ≡ Some e → is_waiting e.state ≡ true → is_waiting e2.state ≡ false → Steady e e2 →
-    waiters_from before (slice_set es i e2) ≡ remove (waiters_from before es) (count (λ e. is_waiting e.state) (take i es))
-waiters_issue before [] i e e2 h w n g = absurd (cc)
-waiters_issue before (x ∷ es) zero e e2 h w n g =
+pub waiters_issue : (version : ℕ) (before es : List Entry) (i : ℕ) (e e2 : Entry) → slice_get es i ≡ Some e → is_waiting e.state ≡ true → is_waiting e2.state ≡ false → Steady e e2 →
+    waiters_from version before (slice_set es i e2) ≡ remove (waiters_from version before es) (count (λ e. is_waiting e.state) (take i es))
+waiters_issue version before [] i e e2 h w n g = absurd (cc)
+waiters_issue version before (x ∷ es) zero e e2 h w n g =
     let a : x ≡ e = cc in
-    ap (λ t. if t then waiter_of before e2 ∷ waiters_from (e2 ∷ before) es else waiters_from (e2 ∷ before) es) n
-    ∙ waiters_still (e ∷ before) (e2 ∷ before) es es (g, zip_same Steady steady_same before) (zip_same Still still_same es)
-    ∙ ap (λ (e : Entry). waiters_from (e ∷ before) es) (sym a)
-    ∙ ap (λ t. remove (if t then waiter_of before x ∷ waiters_from (x ∷ before) es else waiters_from (x ∷ before) es) 0) (sym (ap (λ (e : Entry). is_waiting e.state) a ∙ w))
-waiters_issue before (x ∷ es) (suc i) e e2 h w n g = by_wait (is_waiting x.state) (waiters_issue (x ∷ before) es i e e2 h w n g)
+    ap (λ t. if t then waiter_of version before e2 ∷ waiters_from version (e2 ∷ before) es else waiters_from version (e2 ∷ before) es) n
+    ∙ waiters_still version (e ∷ before) (e2 ∷ before) es es (g, zip_same Steady steady_same before) (zip_same Still still_same es)
+    ∙ ap (λ (e : Entry). waiters_from version (e ∷ before) es) (sym a)
+    ∙ ap (λ t. remove (if t then waiter_of version before x ∷ waiters_from version (x ∷ before) es else waiters_from version (x ∷ before) es) 0) (sym (ap (λ (e : Entry). is_waiting e.state) a ∙ w))
+waiters_issue version before (x ∷ es) (suc i) e e2 h w n g = by_wait (is_waiting x.state) (waiters_issue version (x ∷ before) es i e e2 h w n g)
   where
-    by_wait : (t : Bool) → waiters_from (x ∷ before) (slice_set es i e2) ≡ remove (waiters_from (x ∷ before) es) (count (λ e. is_waiting e.state) (take i es)) →
-        (if t then waiter_of before x ∷ waiters_from (x ∷ before) (slice_set es i e2) else waiters_from (x ∷ before) (slice_set es i e2))
-        ≡ remove (if t then waiter_of before x ∷ waiters_from (x ∷ before) es else waiters_from (x ∷ before) es) (cond t 1 0 + count (λ e. is_waiting e.state) (take i es))
-    by_wait true k = ap (λ ws. waiter_of before x ∷ ws) k ∙ sym (remove_on (waiter_of before x) (waiters_from (x ∷ before) es) (count (λ e. is_waiting e.state) (take i es)))
-    by_wait false k = let z : 0 + count (λ e. is_waiting e.state) (take i es) ≡ count (λ e. is_waiting e.state) (take i es) = omega arith in k ∙ sym (ap (remove (waiters_from (x ∷ before) es)) z)
+    by_wait : (t : Bool) → waiters_from version (x ∷ before) (slice_set es i e2) ≡ remove (waiters_from version (x ∷ before) es) (count (λ e. is_waiting e.state) (take i es)) →
+        (if t then waiter_of version before x ∷ waiters_from version (x ∷ before) (slice_set es i e2) else waiters_from version (x ∷ before) (slice_set es i e2))
+        ≡ remove (if t then waiter_of version before x ∷ waiters_from version (x ∷ before) es else waiters_from version (x ∷ before) es) (cond t 1 0 + count (λ e. is_waiting e.state) (take i es))
+    by_wait true k = ap (λ ws. waiter_of version before x ∷ ws) k ∙ sym (remove_on (waiter_of version before x) (waiters_from version (x ∷ before) es) (count (λ e. is_waiting e.state) (take i es)))
+    by_wait false k = let z : 0 + count (λ e. is_waiting e.state) (take i es) ≡ count (λ e. is_waiting e.state) (take i es) = omega arith in k ∙ sym (ap (remove (waiters_from version (x ∷ before) es)) z)
+
+-- the one at a position wants this
+abbrev pub waiters_left : ℕ → Wants → List Waiter → List Waiter
+waiters_left k wants [] = []
+waiters_left zero wants (w ∷ ws) = record w { wants = wants } ∷ ws
+waiters_left (suc k) wants (w ∷ ws) = w ∷ waiters_left k wants ws
+
+left_on : (k : ℕ) (wants : Wants) (w : Waiter) (ws : List Waiter) → waiters_left (1 + k) wants (w ∷ ws) ≡ w ∷ waiters_left k wants ws
+left_on k wants w ws = let e : 1 + k ≡ suc k = omega arith in ap (λ k. waiters_left k wants (w ∷ ws)) e
+
+-- an entry that waited waits still, for what it then wants
+pub waiters_leave : (version : ℕ) (before es : List Entry) (i : ℕ) (e e2 : Entry) → slice_get es i ≡ Some e → is_waiting e.state ≡ true → is_waiting e2.state ≡ true → Steady e e2 →
+    waiters_from version before (slice_set es i e2) ≡ waiters_left (count (λ e. is_waiting e.state) (take i es)) (wants_of version e2) (waiters_from version before es)
+waiters_leave version before [] i e e2 h w n g = absurd (cc)
+waiters_leave version before (x ∷ es) zero e e2 h w n g =
+    let a : x ≡ e = cc in
+    let rest = waiters_still version (e ∷ before) (e2 ∷ before) es es (g, zip_same Steady steady_same before) (zip_same Still still_same es) in
+    let P : Entry → Type 0 = λ x. waiters_from version before (e2 ∷ es) ≡ waiters_left 0 (wants_of version e2) (waiters_from version before (x ∷ es)) in
+    subst P (sym a)
+    (ap (λ t. if t then waiter_of version before e2 ∷ waiters_from version (e2 ∷ before) es else waiters_from version (e2 ∷ before) es) n
+    ∙ ap₂ (λ w ws. w ∷ ws) (waiter_steady version before before e e2 (zip_same Steady steady_same before) g.on) rest
+    ∙ sym (ap (λ t. waiters_left 0 (wants_of version e2) (if t then waiter_of version before e ∷ waiters_from version (e ∷ before) es else waiters_from version (e ∷ before) es)) w))
+waiters_leave version before (x ∷ es) (suc i) e e2 h w n g = by_wait (is_waiting x.state) (waiters_leave version (x ∷ before) es i e e2 h w n g)
+  where
+    at : ℕ
+    at = count (λ e. is_waiting e.state) (take i es)
+
+    wants : Wants
+    wants = wants_of version e2
+
+    by_wait : (t : Bool) → waiters_from version (x ∷ before) (slice_set es i e2) ≡ waiters_left (count (λ e. is_waiting e.state) (take i es)) (wants_of version e2) (waiters_from version (x ∷ before) es) →
+        (if t then waiter_of version before x ∷ waiters_from version (x ∷ before) (slice_set es i e2) else waiters_from version (x ∷ before) (slice_set es i e2))
+        ≡ waiters_left (cond t 1 0 + count (λ e. is_waiting e.state) (take i es)) (wants_of version e2) (if t then waiter_of version before x ∷ waiters_from version (x ∷ before) es else waiters_from version (x ∷ before) es)
+    by_wait true k = ap (λ ws. waiter_of version before x ∷ ws) k ∙ sym (left_on at wants (waiter_of version before x) (waiters_from version (x ∷ before) es))
+    by_wait false k = let z : 0 + count (λ e. is_waiting e.state) (take i es) ≡ count (λ e. is_waiting e.state) (take i es) = omega arith in k ∙ sym (ap (λ k. waiters_left k (wants_of version e2) (waiters_from version (x ∷ before) es)) z)
 
 -- ---- an entry becomes Done
 
@@ -340,33 +378,33 @@ awaited_done serial (e ∷ before) (Some r) = by_serial (e.serial == serial) ref
     by_serial true q h = at_true q h (writes r e)
     by_serial false q h = at_false q h (writes r e)
 
-waiter_done : (serial : ℕ) (before : List Entry) (e : Entry) → waiter_of (map (done_at serial) before) e ≡ struck_waiter serial (waiter_of before e)
-waiter_done serial before e =
-    ap (λ os. record { serial = e.serial; awaits = os })
+waiter_done : (version : ℕ) (serial : ℕ) (before : List Entry) (e : Entry) → waiter_of version (map (done_at serial) before) e ≡ struck_waiter serial (waiter_of version before e)
+waiter_done version serial before e =
+    ap (λ os. record { serial = e.serial; awaits = os; wants = wants_of version e })
     (map_same (awaited (map (done_at serial) before)) (λ o. strike serial (awaited before o)) (two (sources e)) (awaited_done serial before) ∙ sym (map_twice (strike serial) (awaited before) (two (sources e))))
 
-pub waiters_done : (serial : ℕ) (before es : List Entry) → All (λ d. d.serial ≡ serial → is_waiting d.state ≡ false) es →
-    waiters_from (map (done_at serial) before) (map (done_at serial) es) ≡ map (struck_waiter serial) (waiters_from before es)
-waiters_done serial before [] a = refl
-waiters_done serial before (e ∷ es) a =
-    by_serial (e.serial == serial) refl (waiters_done serial (e ∷ before) es (All-tail (λ d. d.serial ≡ serial → is_waiting d.state ≡ false) e es a))
+pub waiters_done : (version : ℕ) (serial : ℕ) (before es : List Entry) → All (λ d. d.serial ≡ serial → is_waiting d.state ≡ false) es →
+    waiters_from version (map (done_at serial) before) (map (done_at serial) es) ≡ map (struck_waiter serial) (waiters_from version before es)
+waiters_done version serial before [] a = refl
+waiters_done version serial before (e ∷ es) a =
+    by_serial (e.serial == serial) refl (waiters_done version serial (e ∷ before) es (All-tail (λ d. d.serial ≡ serial → is_waiting d.state ≡ false) e es a))
   where
     rest : List Waiter
-    rest = waiters_from (map (done_at serial) (e ∷ before)) (map (done_at serial) es)
+    rest = waiters_from version (map (done_at serial) (e ∷ before)) (map (done_at serial) es)
 
-    at_false : (w : Bool) → waiters_from (map (done_at serial) (e ∷ before)) (map (done_at serial) es) ≡ map (struck_waiter serial) (waiters_from (e ∷ before) es) →
-        (if w then waiter_of (map (done_at serial) before) e ∷ waiters_from (map (done_at serial) (e ∷ before)) (map (done_at serial) es) else waiters_from (map (done_at serial) (e ∷ before)) (map (done_at serial) es))
-        ≡ map (struck_waiter serial) (if w then waiter_of before e ∷ waiters_from (e ∷ before) es else waiters_from (e ∷ before) es)
-    at_false true h = ap₂ (λ w ws. w ∷ ws) (waiter_done serial before e) h
+    at_false : (w : Bool) → waiters_from version (map (done_at serial) (e ∷ before)) (map (done_at serial) es) ≡ map (struck_waiter serial) (waiters_from version (e ∷ before) es) →
+        (if w then waiter_of version (map (done_at serial) before) e ∷ waiters_from version (map (done_at serial) (e ∷ before)) (map (done_at serial) es) else waiters_from version (map (done_at serial) (e ∷ before)) (map (done_at serial) es))
+        ≡ map (struck_waiter serial) (if w then waiter_of version before e ∷ waiters_from version (e ∷ before) es else waiters_from version (e ∷ before) es)
+    at_false true h = ap₂ (λ w ws. w ∷ ws) (waiter_done version serial before e) h
     at_false false h = h
 
-    by_serial : (b : Bool) → (e.serial == serial) ≡ b → waiters_from (map (done_at serial) (e ∷ before)) (map (done_at serial) es) ≡ map (struck_waiter serial) (waiters_from (e ∷ before) es) →
-        waiters_from (map (done_at serial) before) ((if b then record e { state = Done } else e) ∷ map (done_at serial) es) ≡ map (struck_waiter serial) (waiters_from before (e ∷ es))
+    by_serial : (b : Bool) → (e.serial == serial) ≡ b → waiters_from version (map (done_at serial) (e ∷ before)) (map (done_at serial) es) ≡ map (struck_waiter serial) (waiters_from version (e ∷ before) es) →
+        waiters_from version (map (done_at serial) before) ((if b then record e { state = Done } else e) ∷ map (done_at serial) es) ≡ map (struck_waiter serial) (waiters_from version before (e ∷ es))
     by_serial true q h =
         let same : e.serial ≡ serial = grind (arith, nat_tests) in
         let w = All-head (λ d. d.serial ≡ serial → is_waiting d.state ≡ false) e es a same in
-        ap (λ b. waiters_from ((if b then record e { state = Done } else e) ∷ map (done_at serial) before) (map (done_at serial) es)) (sym q)
-        ∙ h ∙ ap (λ b. map (struck_waiter serial) (if b then waiter_of before e ∷ waiters_from (e ∷ before) es else waiters_from (e ∷ before) es)) (sym w)
+        ap (λ b. waiters_from version ((if b then record e { state = Done } else e) ∷ map (done_at serial) before) (map (done_at serial) es)) (sym q)
+        ∙ h ∙ ap (λ b. map (struck_waiter serial) (if b then waiter_of version before e ∷ waiters_from version (e ∷ before) es else waiters_from version (e ∷ before) es)) (sym w)
     by_serial false q h =
-        ap (λ b. if is_waiting e.state then waiter_of (map (done_at serial) before) e ∷ waiters_from ((if b then record e { state = Done } else e) ∷ map (done_at serial) before) (map (done_at serial) es) else waiters_from ((if b then record e { state = Done } else e) ∷ map (done_at serial) before) (map (done_at serial) es)) (sym q)
+        ap (λ b. if is_waiting e.state then waiter_of version (map (done_at serial) before) e ∷ waiters_from version ((if b then record e { state = Done } else e) ∷ map (done_at serial) before) (map (done_at serial) es) else waiters_from version ((if b then record e { state = Done } else e) ∷ map (done_at serial) before) (map (done_at serial) es)) (sym q)
         ∙ at_false (is_waiting e.state) h

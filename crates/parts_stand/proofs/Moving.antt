@@ -1,24 +1,24 @@
 -- The point can move on, whatever changes in the window.
-use Rattle.std.proofs.Common.{◌≡◌, ℕ, zero, suc, ◌+◌, ◌<◌, ◌≤◌, Bool, true, false, not, cond, List, [], ◌∷◌, ◌++◌, Option, Some, refl, ap, sym, ◌∙◌, arith, subst, slice_get}
+use Rattle.std.proofs.Common.{◌≡◌, ℕ, zero, suc, ◌+◌, ◌<◌, ◌≤◌, Bool, true, false, not, ◌&&◌, cond, List, [], ◌∷◌, ◌++◌, Some, refl, ap, ap₂, sym, ◌∙◌, arith, subst, slice_get}
 use Rattle.std.specs.Prelude.{nat_le, nat_lt, slice_set}
 use Rattle.std.specs.List.{All}
 use Rattle.std.proofs.lemmas.Bool.Decides.{nat_tests}
 use Rattle.std.proofs.lemmas.List.Elements.{All-nil, All-head, All-tail, All-weaker, All-push, All-set}
 use Rattle.machine_desc.specs.declared.SttModel.{SttModel}
 use Rattle.window_model.specs.declared.Entry.{Entry}
-use Rattle.window_model.specs.declared.Outcome.{Outcome}
+use Rattle.window_model.specs.declared.Item.{Item}
 use Rattle.window_model.specs.declared.Progress.TheVariants.{Done}
-use Rattle.window_model.specs.Order.{is_control, is_waiting}
-use Rattle.window_model.specs.Issue.{begun}
-use Rattle.window_model.specs.Taint.{safe_as}
+use Rattle.window_model.specs.Order.{is_control, is_done, is_faulty, is_waiting}
+use Rattle.window_model.specs.Taint.{safe_as, settled_as}
 use Rattle.rv_types.specs.declared.Kind.{Kind}
-use Rattle.rv_types.specs.declared.Kind.TheVariants.{Branch, Jalr, Load, Store}
+use Rattle.rv_types.specs.declared.Kind.TheVariants.{Branch, Call, Jalr, Load, Stop, Store}
 use Rattle.machine_desc.specs.declared.SttModel.TheVariants.{Spectre, Futuristic}
-use Rattle.parts_stand.specs.Steps.{begun_with}
+use Rattle.parts_stand.specs.Steps.{Issues}
 use Rattle.rob_ring.specs.Ring.{below}
 use Rattle.visibility.specs.Point.{Point, HasMoved, moved_over, next_after, passes}
 use Rattle.visibility.proofs.Moving.{has_advanced}
-use Rattle.window_model.proofs.Passing.{passes_begun, passes_done, passes_resolved, unresolved_fails}
+use Rattle.window_model.proofs.Booleans.{waiting_done}
+use Rattle.window_model.proofs.Passing.{passes_done, passes_resolved, unresolved_fails}
 use Rattle.parts_stand.specs.Points.{Below, PointStands}
 use Rattle.window_model.specs.Serials.{Rise}
 use Rattle.window_model.proofs.Serials.{all_at, all_left, none_below, rise_head, rise_tail, splits}
@@ -130,24 +130,29 @@ sets point next window i e e2 s h q p u =
       unresolved = All-set Unresolved window i e2 u s.unresolved;
     }
 
--- whether it passes is nothing to a store's parts
-safe_parts : (k : Kind) (e : Entry) (a c : Option ℕ) → safe_as k (record e { addr_due = a; data_due = c }) ≡ safe_as k e
-safe_parts Branch e a c = refl
-safe_parts Jalr e a c = refl
-safe_parts Load e a c = refl
-safe_parts Store e a c = refl
-safe_parts _ e a c = refl
+-- what isn't Done passes by its kind and whether it is resolved alone
+undone_as : (k : Kind) (e e2 : Entry) → is_done e.state ≡ false → is_done e2.state ≡ false → e.resolved ≡ false → e2.resolved ≡ false → safe_as k e2 ≡ safe_as k e
+undone_as Load e e2 u u2 r r2 = ap (λ d. d && not (is_faulty e2)) u2 ∙ sym (ap (λ d. d && not (is_faulty e)) u)
+undone_as Store e e2 u u2 r r2 = ap (λ d. d && not (is_faulty e2)) u2 ∙ sym (ap (λ d. d && not (is_faulty e)) u)
+undone_as Branch e e2 u u2 r r2 = ap (λ b. b && not (is_faulty e2)) r2 ∙ sym (ap (λ b. b && not (is_faulty e)) r)
+undone_as Jalr e e2 u u2 r r2 = ap (λ b. b && not (is_faulty e2)) r2 ∙ sym (ap (λ b. b && not (is_faulty e)) r)
+undone_as Call e e2 u u2 r r2 = refl
+undone_as (Stop cause) e e2 u u2 r r2 = refl
+undone_as _ e e2 u u2 r r2 = refl
 
-passes_parts : (m : SttModel) (e : Entry) (a c : Option ℕ) → passes m (record e { addr_due = a; data_due = c }) ≡ passes m e
-passes_parts Spectre e a c = refl
-passes_parts Futuristic e a c = safe_parts e.item.kind e a c
+-- an entry that waits passes, once it or a part of it has issued, as it did before
+pub passes_issued : (m : SttModel) (e e2 : Entry) → is_waiting e.state ≡ true → e.resolved ≡ false → Issues e e2 → passes m e2 ≡ passes m e
+passes_issued Spectre e e2 w u issued = ap₂ (λ (i : Item) r. settled_as i.kind r) issued.on.item issued.resolved
+passes_issued Futuristic e e2 w u issued =
+    ap (λ (i : Item). safe_as i.kind e2) issued.on.item
+    ∙ undone_as e.item.kind e e2 (waiting_done e.state w) issued.undone u (issued.resolved ∙ u)
 
--- an entry issues
-pub point_issues : (point : Point) (next : ℕ) (window : List Entry) (i due : ℕ) (e : Entry) (o : Outcome) (a c : Option ℕ) → PointStands point next window →
-    slice_get window i ≡ Some e → is_waiting e.state ≡ true → PointStands point next (slice_set window i (begun_with e due o a c))
-point_issues point next window i due e o a c s h w =
+-- an entry issues, or a part of it
+pub point_issues : (point : Point) (next : ℕ) (window : List Entry) (i : ℕ) (e e2 : Entry) → PointStands point next window →
+    slice_get window i ≡ Some e → is_waiting e.state ≡ true → Issues e e2 → PointStands point next (slice_set window i e2)
+point_issues point next window i e e2 s h w issued =
     let u = all_at Unresolved window i e s.unresolved h w in
-    sets point next window i e (begun_with e due o a c) s h refl (λ p. passes_parts point.model (begun e due o) a c ∙ passes_begun point.model e due o w u ∙ p) (λ w. absurd (cc))
+    sets point next window i e e2 s h issued.on.serial (λ p. passes_issued point.model e e2 w u issued ∙ p) (λ w. issued.resolved ∙ u)
 
 -- it becomes Done
 pub point_completes : (point : Point) (next : ℕ) (window : List Entry) (i : ℕ) (e : Entry) → PointStands point next window →

@@ -10,11 +10,12 @@ use Rattle.window_model.specs.declared.Entry.{Entry}
 use Rattle.window_model.specs.declared.Progress.TheVariants.{Done}
 use Rattle.window_model.specs.Order.{is_waiting, is_done, sources}
 use Rattle.window_model.proofs.Booleans.{done_waits, is_below, waiting_done}
-use Rattle.window_model.proofs.Counts.{count_is}
+use Rattle.window_model.proofs.Counts.{count, count_is}
 use Rattle.rob_ring.specs.Ring.{below}
 use Rattle.rename_taint.specs.declared.Write.{Write}
 use Rattle.rename_taint.specs.Writes.{root_at, root_of, without_retired, before_serial}
-use Rattle.stations.specs.Stations.{Station, struck}
+use Rattle.stations.specs.Stations.{Station, left_wanting, struck}
+use Rattle.stations.specs.declared.wants.Wants.{Wants}
 use Rattle.parts_stand.specs.Roots.{youngest_root, root_of_source, source_roots, unretired}
 use Rattle.parts_stand.specs.Parts.{Stand, RootsStand, Waiter, oldest_of, waiter_in, waiter_of, waiters_from, writes_in}
 use Rattle.parts_stand.specs.Steps.{GoesOn, seated, station_of}
@@ -23,25 +24,24 @@ use Rattle.window_model.proofs.Serials.{rise_nil, rise_head, rise_tail, rise_pus
 use Rattle.parts_stand.proofs.Serials.{oldest_least}
 use Rattle.parts_stand.proofs.Youngest.{map_same, map_twice}
 use Rattle.parts_stand.proofs.Tables.{root_is, as_many, writes_join, writes_one, writes_have, keeps_all, keeps_none, without_head}
-use Rattle.parts_stand.proofs.Keeping.{roots_push, roots_left, roots_rest, roots_on, writes_on, all_on, rise_on, oldest_on, goes_same, zip_set, waiters_join, waiters_have, waiters_rest, Steady, Still, still_same, still_goes, waiters_still, map_remove, waiters_issue, struck_waiter, set_done, alone, waiters_done}
-use Rattle.parts_stand.specs.Steps.{begun_with, empty, with_entry}
-use Rattle.parts_stand.specs.Parts.{Parts, awaits_of}
+use Rattle.parts_stand.proofs.Keeping.{roots_push, roots_left, roots_rest, roots_on, writes_on, all_on, rise_on, oldest_on, goes_same, zip_set, waiters_join, waiters_have, waiters_rest, Steady, Still, still_same, still_goes, waiters_still, map_remove, waiters_issue, waiters_leave, waiters_left, struck_waiter, set_done, alone, waiters_done}
+use Rattle.parts_stand.specs.Steps.{Issues, empty, left_held, with_entry}
+use Rattle.parts_stand.specs.Parts.{Parts, awaits_of, wants_of}
 use Rattle.std.specs.List.{AllZip}
-use Rattle.window_model.specs.declared.Outcome.{Outcome}
 
 -- empty parts stand for the empty window
-pub opens_empty : (next : ℕ) → Stand (empty next)
-opens_empty next = record { rise = rise_nil; next = All-nil (λ e. e.serial < next); roots = tt; writes = refl; held = refl }
+pub opens_empty : (version next : ℕ) → Stand (empty version next)
+opens_empty version next = record { rise = rise_nil; next = All-nil (λ e. e.serial < next); roots = tt; writes = refl; held = refl }
 
 -- ---- an entry is renamed
 
-seat_is : (place : ℕ) (awaits : List (Option ℕ)) (e : Entry) (held : List Station) →
-    map waiter_in (seated place awaits e held) ≡ map waiter_in held ++ (if is_waiting e.state then record { serial = e.serial; awaits = awaits } ∷ [] else [])
-seat_is place awaits e held = by_wait (is_waiting e.state)
+seat_is : (version place : ℕ) (awaits : List (Option ℕ)) (e : Entry) (held : List Station) →
+    map waiter_in (seated version place awaits e held) ≡ map waiter_in held ++ (if is_waiting e.state then record { serial = e.serial; awaits = awaits; wants = wants_of version e } ∷ [] else [])
+seat_is version place awaits e held = by_wait (is_waiting e.state)
   where
-    by_wait : (w : Bool) → map waiter_in (if w then held ++ record { serial = e.serial; awaits = awaits; place = place } ∷ [] else held)
-        ≡ map waiter_in held ++ (if w then record { serial = e.serial; awaits = awaits } ∷ [] else [])
-    by_wait true = map-append waiter_in held (record { serial = e.serial; awaits = awaits; place = place } ∷ [])
+    by_wait : (w : Bool) → map waiter_in (if w then held ++ record { serial = e.serial; awaits = awaits; place = place; wants = wants_of version e } ∷ [] else held)
+        ≡ map waiter_in held ++ (if w then record { serial = e.serial; awaits = awaits; wants = wants_of version e } ∷ [] else [])
+    by_wait true = map-append waiter_in held (record { serial = e.serial; awaits = awaits; place = place; wants = wants_of version e } ∷ [])
     by_wait false = sym (append-nil (map waiter_in held))
 
 -- the oldest serial, once an entry with the next one is there
@@ -73,9 +73,9 @@ renames_in p e roots awaits place s is rs aw =
           (roots_push (oldest_of p.next p.window) [] p.window p.roots e roots s.roots own);
       writes = ap₂ (λ ws vs. ws ++ vs) s.writes (sym (writes_one e roots)) ∙ sym (writes_join p.window (e ∷ []) p.roots (roots ∷ []) (as_many (oldest_of p.next p.window) [] p.window p.roots s.roots));
       held =
-          seat_is place awaits e p.held
-          ∙ ap₂ (λ hs os. hs ++ (if is_waiting e.state then record { serial = e.serial; awaits = os } ∷ [] else [])) s.held aw
-          ∙ sym (waiters_join [] p.window (e ∷ []));
+          seat_is p.version place awaits e p.held
+          ∙ ap₂ (λ hs os. hs ++ (if is_waiting e.state then record { serial = e.serial; awaits = os; wants = wants_of p.version e } ∷ [] else [])) s.held aw
+          ∙ sym (waiters_join p.version [] p.window (e ∷ []));
     }
 
 -- ---- the oldest retires
@@ -84,12 +84,12 @@ pub oldest_above : (next : ℕ) (x : Entry) (es : List Entry) → Rise (x ∷ es
 oldest_above next x [] r lt = lt
 oldest_above next x (e ∷ es) r lt = All-head (λ d. x.serial < d.serial) e es (rise_head x (e ∷ es) r)
 
-retires : (next : ℕ) (es : List Entry) (roots : List (List (Option ℕ))) (ws : List Write) (held : List Station) (h : Entry) →
-    Stand (record { next = next; window = es; roots = roots; writes = ws; held = held }) → slice_get es 0 ≡ Some h → is_done h.state ≡ true →
-    Stand (record { next = next; window = drop 1 es; roots = drop 1 roots; writes = without_retired h.serial ws; held = held })
-retires next [] roots ws held h s q d = absurd (cc)
-retires next (x ∷ es) [] ws held h s q d = absurd (s.roots)
-retires next (x ∷ es) (rs ∷ roots) ws held h s q d =
+retires : (version next : ℕ) (es : List Entry) (roots : List (List (Option ℕ))) (ws : List Write) (held : List Station) (h : Entry) →
+    Stand (record { version = version; next = next; window = es; roots = roots; writes = ws; held = held }) → slice_get es 0 ≡ Some h → is_done h.state ≡ true →
+    Stand (record { version = version; next = next; window = drop 1 es; roots = drop 1 roots; writes = without_retired h.serial ws; held = held })
+retires version next [] roots ws held h s q d = absurd (cc)
+retires version next (x ∷ es) [] ws held h s q d = absurd (s.roots)
+retires version next (x ∷ es) (rs ∷ roots) ws held h s q d =
     let a : x ≡ h = cc in
     let rise = rise_tail x es s.rise in
     let below = All-tail (λ e. e.serial < next) x es s.next in
@@ -103,13 +103,13 @@ retires next (x ∷ es) (rs ∷ roots) ws held h s q d =
           ap (λ (e : Entry). without_retired e.serial ws) (sym a) ∙ ap (without_retired x.serial) s.writes
           ∙ without_head x rs (writes_in es roots) (writes_have (λ n. x.serial < n) es roots (rise_head x es s.rise));
       held =
-          s.held ∙ ap (λ b. if b then waiter_of [] x ∷ waiters_from (x ∷ []) es else waiters_from (x ∷ []) es) (done_waits x.state done) ∙ waiters_rest [] es x done;
+          s.held ∙ ap (λ b. if b then waiter_of version [] x ∷ waiters_from version (x ∷ []) es else waiters_from version (x ∷ []) es) (done_waits x.state done) ∙ waiters_rest version [] es x done;
     }
 
 -- the oldest entry, which is Done, retires
 pub retires_head : (p : Parts) (head : Entry) → Stand p → slice_get p.window 0 ≡ Some head → is_done head.state ≡ true →
     Stand (record p { window = drop 1 p.window; roots = drop 1 p.roots; writes = without_retired head.serial p.writes })
-retires_head p h s q d = retires p.next p.window p.roots p.writes p.held h s q d
+retires_head p h s q d = retires p.version p.next p.window p.roots p.writes p.held h s q d
 
 -- ---- entries are dropped
 
@@ -151,11 +151,11 @@ filter_held first (s ∷ held) = by_test (nat_lt s.serial first) (filter_held fi
     by_test false h = h
 
 -- the window's two parts, and those of the roots
-squashes : (next first : ℕ) (older gone : List Entry) (ro rg : List (List (Option ℕ))) (ws : List Write) (held : List Station) →
-    Stand (record { next = next; window = older ++ gone; roots = ro ++ rg; writes = ws; held = held }) → length ro ≡ length older →
+squashes : (version next first : ℕ) (older gone : List Entry) (ro rg : List (List (Option ℕ))) (ws : List Write) (held : List Station) →
+    Stand (record { version = version; next = next; window = older ++ gone; roots = ro ++ rg; writes = ws; held = held }) → length ro ≡ length older →
     All (λ e. e.serial < first) older → All (λ e. first ≤ e.serial) gone →
-    Stand (record { next = next; window = older; roots = ro; writes = before_serial first ws; held = filter (λ s. nat_lt s.serial first) held })
-squashes next first older gone ro rg ws held s n a b = record {
+    Stand (record { version = version; next = next; window = older; roots = ro; writes = before_serial first ws; held = filter (λ s. nat_lt s.serial first) held })
+squashes version next first older gone ro rg ws held s n a b = record {
   rise = rise_left older gone s.rise;
   next = all_left (λ e. e.serial < next) older gone s.next;
   roots = by_older older (roots_left (oldest_of next (older ++ gone)) [] older gone ro rg n s.roots);
@@ -163,8 +163,9 @@ squashes next first older gone ro rg ws held s n a b = record {
       ap (before_serial first) (s.writes ∙ writes_join older gone ro rg n)
       ∙ keeps_older (λ (w : Write). w.serial) first (writes_in older ro) (writes_in gone rg) (writes_have (λ n. n < first) older ro a) (writes_have (λ n. first ≤ n) gone rg b);
   held =
-      filter_held first held ∙ ap (filter (λ (w : Waiter). nat_lt w.serial first)) (s.held ∙ waiters_join [] older gone)
-      ∙ keeps_older (λ (w : Waiter). w.serial) first (waiters_from [] older) (waiters_from (reverse older) gone) (waiters_have (λ n. n < first) [] older a) (waiters_have (λ n. first ≤ n) (reverse older) gone b);
+      filter_held first held ∙ ap (filter (λ (w : Waiter). nat_lt w.serial first)) (s.held ∙ waiters_join version [] older gone)
+      ∙ keeps_older (λ (w : Waiter). w.serial) first (waiters_from version [] older) (waiters_from version (reverse older) gone)
+      (waiters_have version (λ n. n < first) [] older a) (waiters_have version (λ n. first ≤ n) (reverse older) gone b);
 }
   where
     by_older : (older : List Entry) → RootsStand (oldest_of next (older ++ gone)) [] older ro → RootsStand (oldest_of next older) [] older ro
@@ -189,16 +190,16 @@ squashes_from p first s =
     let many = as_many (oldest_of p.next p.window) [] p.window p.roots s.roots in
     let whole = ap length t.whole ∙ length-append (below first p.window) t.gone in
     let few : length (below first p.window) ≤ length p.roots = omega (arith, many, whole) in
-    squashes p.next first (below first p.window) t.gone (take (length (below first p.window)) p.roots) (drop (length (below first p.window)) p.roots) p.writes p.held
-    (subst (λ rs. Stand (record { next = p.next; window = below first p.window ++ t.gone; roots = rs; writes = p.writes; held = p.held })) (sym (halves (length (below first p.window)) p.roots))
-    (subst (λ es. Stand (record { next = p.next; window = es; roots = p.roots; writes = p.writes; held = p.held })) t.whole s))
+    squashes p.version p.next first (below first p.window) t.gone (take (length (below first p.window)) p.roots) (drop (length (below first p.window)) p.roots) p.writes p.held
+    (subst (λ rs. Stand (record { version = p.version; next = p.next; window = below first p.window ++ t.gone; roots = rs; writes = p.writes; held = p.held })) (sym (halves (length (below first p.window)) p.roots))
+    (subst (λ es. Stand (record { version = p.version; next = p.next; window = es; roots = p.roots; writes = p.writes; held = p.held })) t.whole s))
     (take_length (length (below first p.window)) p.roots few) t.older t.younger
 
 -- ---- entries go on
 
 -- entries go on, and the stations are those of the entries that then wait
 pub go_on : (p : Parts) (window : List Entry) (held : List Station) → Stand p → AllZip GoesOn p.window window →
-    map waiter_in held ≡ waiters_from [] window → Stand (record p { window = window; held = held })
+    map waiter_in held ≡ waiters_from p.version [] window → Stand (record p { window = window; held = held })
 go_on p window held s v h = record {
   rise = rise_on p.window window v s.rise;
   next = all_on (λ n. n < p.next) p.window window v s.next;
@@ -209,11 +210,12 @@ go_on p window held s v h = record {
 
 -- an entry's outcome or mark changes, as where a branch is resolved
 pub changes_unseen : (p : Parts) (i : ℕ) (e e2 : Entry) → Stand p → slice_get p.window i ≡ Some e → GoesOn e e2 → e2.state ≡ e.state →
+    ((version : ℕ) → wants_of version e2 ≡ wants_of version e) →
     Stand (record p { window = slice_set p.window i e2 })
-changes_unseen p i e e2 s h g q =
-    let still : Still e e2 = record { steady = record { on = g; done = ap is_done q }; waits = ap is_waiting q } in
+changes_unseen p i e e2 s h g q w =
+    let still : Still e e2 = record { steady = record { on = g; done = ap is_done q }; waits = ap is_waiting q; wants = w } in
     let v = zip_set Still still_same p.window i e e2 h still in
-    go_on p (slice_set p.window i e2) p.held s (still_goes p.window (slice_set p.window i e2) v) (s.held ∙ sym (waiters_still [] [] p.window (slice_set p.window i e2) tt v))
+    go_on p (slice_set p.window i e2) p.held s (still_goes p.window (slice_set p.window i e2) v) (s.held ∙ sym (waiters_still p.version [] [] p.window (slice_set p.window i e2) tt v))
 
 struck_held : (serial : ℕ) (held : List Station) → map waiter_in (map (struck serial) held) ≡ map (struck_waiter serial) (map waiter_in held)
 struck_held serial held = map_twice waiter_in (struck serial) held ∙ sym (map_twice (struck_waiter serial) waiter_in held)
@@ -225,15 +227,33 @@ completes_at p i e s h w =
     let v = zip_set GoesOn goes_same p.window i e (record e { state = Done }) h (record { serial = refl; item = refl }) in
     go_on p (slice_set p.window i (record e { state = Done })) (map (struck e.serial) p.held) s v
     (struck_held e.serial p.held ∙ ap (map (struck_waiter e.serial)) s.held
-    ∙ sym (waiters_done e.serial [] p.window (alone p.window i e s.rise h w)) ∙ ap (waiters_from []) (sym (set_done p.window i e s.rise h)))
+    ∙ sym (waiters_done p.version e.serial [] p.window (alone p.window i e s.rise h w)) ∙ ap (waiters_from p.version []) (sym (set_done p.window i e s.rise h)))
 
--- an entry that waits issues, and its station is freed
-pub issues_at : (p : Parts) (i due : ℕ) (e : Entry) (o : Outcome) (a c : Option ℕ) → Stand p → slice_get p.window i ≡ Some e → is_waiting e.state ≡ true →
-    Stand (record p { window = slice_set p.window i (begun_with e due o a c); held = remove p.held (station_of i p.window) })
-issues_at p i due e o a c s h w =
-    let v = zip_set GoesOn goes_same p.window i e (begun_with e due o a c) h (record { serial = refl; item = refl }) in
-    let steady : Steady e (begun_with e due o a c) = record { on = record { serial = refl; item = refl }; done = sym (waiting_done e.state w) } in
-    go_on p (slice_set p.window i (begun_with e due o a c)) (remove p.held (station_of i p.window)) s v
-    (map_remove waiter_in p.held (station_of i p.window) ∙ ap (λ ws. remove ws (station_of i p.window)) s.held
-    ∙ ap (remove (waiters_from [] p.window)) (sym (count_is (λ e. is_waiting e.state) (take i p.window)))
-    ∙ sym (waiters_issue [] p.window i e (begun_with e due o a c) h w refl steady))
+-- the stations of the entries, where the one at a position waits for something else
+waiters_wanting : (k : ℕ) (wants : Wants) (held : List Station) → map waiter_in (left_wanting k wants held) ≡ waiters_left k wants (map waiter_in held)
+waiters_wanting k wants [] = refl
+waiters_wanting zero wants (s ∷ held) = refl
+waiters_wanting (suc k) wants (s ∷ held) = ap (λ ws. waiter_in s ∷ ws) (waiters_wanting k wants held)
+
+-- an entry that waits issues, or a part of it: its station is freed, or waits for what is left
+pub issues_at : (p : Parts) (i : ℕ) (e e2 : Entry) → Stand p → slice_get p.window i ≡ Some e → is_waiting e.state ≡ true → Issues e e2 →
+    Stand (record p { window = slice_set p.window i e2; held = left_held p.version (station_of i p.window) e2 p.held })
+issues_at p i e e2 s h w issued =
+    go_on p (slice_set p.window i e2) (left_held p.version (station_of i p.window) e2 p.held) s
+    (zip_set GoesOn goes_same p.window i e e2 h issued.on) (by_wait (is_waiting e2.state) refl)
+  where
+    steady : Steady e e2
+    steady = record { on = issued.on; done = issued.undone ∙ sym (waiting_done e.state w) }
+
+    station : station_of i p.window ≡ count (λ e. is_waiting e.state) (take i p.window)
+    station = sym (count_is (λ e. is_waiting e.state) (take i p.window))
+
+    by_wait : (b : Bool) → is_waiting e2.state ≡ b →
+        map waiter_in (if b then left_wanting (station_of i p.window) (wants_of p.version e2) p.held else remove p.held (station_of i p.window)) ≡ waiters_from p.version [] (slice_set p.window i e2)
+    by_wait true q =
+        waiters_wanting (station_of i p.window) (wants_of p.version e2) p.held
+        ∙ ap₂ (λ k ws. waiters_left k (wants_of p.version e2) ws) station s.held
+        ∙ sym (waiters_leave p.version [] p.window i e e2 h w q steady)
+    by_wait false q =
+        map_remove waiter_in p.held (station_of i p.window) ∙ ap₂ (λ ws k. remove ws k) s.held station
+        ∙ sym (waiters_issue p.version [] p.window i e e2 h w q steady)

@@ -1,12 +1,12 @@
 -- The roots that stores in the queue have: the youngest roots of their addresses (docs/machine.md, "The parts stand for the
 -- machine"). That the queue's stores are the window's is `queue_laws`'s to say.
-use Rattle.std.specs.Prelude.{◌≡◌, ℕ, List, [], ◌∷◌, map, slice_get, Option, Some, None, if◌then◌else◌}
+use Rattle.std.specs.Prelude.{◌≡◌, ℕ, nat_le, List, [], ◌∷◌, map, slice_get, Option, Some, None, if◌then◌else◌}
 use Rattle.window_model.specs.declared.Entry.{Entry}
-use Rattle.window_model.specs.Access.{any_store_hidden}
 use Rattle.window_model.specs.Order.{before_at, is_store}
 use Rattle.lsq.specs.declared.store.Store.{Store}
-use Rattle.lsq.specs.Queues.{older, youngest_root}
-use Rattle.visibility.specs.Point.{Point, HasAdvanced, is_hidden}
+use Rattle.lsq.specs.Queues.{older}
+use Rattle.queue_laws.specs.Window.{hides, tainted_stores}
+use Rattle.visibility.specs.Point.{Point, HasAdvanced}
 use Rattle.parts_stand.specs.Parts.{Parts, Stand}
 
 -- a store and the root of its address
@@ -35,10 +35,8 @@ AddressesStand window roots stores = map address_in stores ≡ addresses_of wind
 
 -- ---- what they tell
 
--- a point that has advanced tells by the youngest root of the older stores whether one of them has a tainted address
-abbrev pub TellsStores : Type 0
-TellsStores = (p : Parts) (point : Point) (stores : List Store) (i : ℕ) (e : Entry) → Stand p → HasAdvanced point p.window →
+-- a point that has advanced tells by the root of each older store whether its address is tainted
+abbrev pub TellsEachStore : Type 0
+TellsEachStore = (p : Parts) (point : Point) (stores : List Store) (i : ℕ) (e : Entry) → Stand p → HasAdvanced point p.window →
     AddressesStand p.window p.roots stores → slice_get p.window i ≡ Some e →
-    is_hidden point.serial (youngest_root (older e.serial stores)) ≡ any_store_hidden point.model (before_at p.window i)
-
--- ---- which steps keep them
+    map (λ s. hides (λ root. nat_le root point.serial) s.root) (older e.serial stores) ≡ tainted_stores point.model (before_at p.window i)

@@ -1,19 +1,23 @@
 -- What the parts of a core hold, and when they stand for the machine's window (docs/machine.md, "The parts stand for the
 -- machine"). All lists are oldest first, as the parts have them; `before` is youngest first, as in the machine's definitions.
-use Rattle.std.specs.Prelude.{◌≡◌, ℕ, ◌<◌, List, [], ◌∷◌, map, Option, Some, None, if◌then◌else◌}
+use Rattle.std.specs.Prelude.{◌≡◌, ℕ, ◌<◌, Bool, true, false, not, ◌&&◌, ◌==◌, List, [], ◌∷◌, map, Option, Some, None, if◌then◌else◌}
 use Rattle.std.specs.List.{All, cons_option}
 use Rattle.std.specs.Option.{option_map}
 use Rattle.rv_types.specs.Regs.{two, writes_of}
 use Rattle.window_model.specs.declared.Entry.{Entry}
-use Rattle.window_model.specs.Order.{is_waiting, is_done, writer, sources}
+use Rattle.window_model.specs.Order.{has_address, has_data, is_done, is_store, is_waiting, sources, writer}
 use Rattle.window_model.specs.Serials.{Rise}
 use Rattle.rename_taint.specs.declared.Write.{Write}
 use Rattle.rename_taint.specs.Writes.{root_written}
 use Rattle.stations.specs.Stations.{Station}
+use Rattle.stations.specs.declared.wants.Wants.{Wants}
+use Rattle.stations.specs.declared.wants.Wants.TheVariants.{Whole, Either, Base, Other}
 use Rattle.parts_stand.specs.Roots.{source_roots, unretired}
 
 -- what the parts hold
 pub record Parts : Type 0 where
+  -- the version of the machine
+  pub version : ℕ
   -- the serial that the next entry gets
   pub next : ℕ
   -- the entries in the reorder buffer
@@ -66,23 +70,35 @@ awaited before (Some r) = awaited_of (writer before r)
 abbrev pub awaits_of : List Entry → Entry → List (Option ℕ)
 awaits_of before e = map (awaited before) (two (sources e))
 
+-- what a store wants whose address and data part have issued or not
+abbrev pub wants_by : Bool → Bool → Wants
+wants_by false false = Either
+wants_by false true = Base
+wants_by true issued = Other
+
+-- what an entry that waits wants: a store, but in version 1, the source of a part that hasn't issued; any other all its sources
+abbrev pub wants_of : ℕ → Entry → Wants
+wants_of version e = if is_store e.item.kind && not (version == 1) then wants_by (has_address e) (has_data e) else Whole
+
 -- a station, whichever its place is
 pub record Waiter : Type 0 where
   pub serial : ℕ
   pub awaits : List (Option ℕ)
+  pub wants : Wants
 
 -- the station of a place
 abbrev pub waiter_in : Station → Waiter
-waiter_in s = record { serial = s.serial; awaits = s.awaits }
+waiter_in s = record { serial = s.serial; awaits = s.awaits; wants = s.wants }
 
 -- the station that an entry is to have
-abbrev pub waiter_of : List Entry → Entry → Waiter
-waiter_of before e = record { serial = e.serial; awaits = awaits_of before e }
+abbrev pub waiter_of : ℕ → List Entry → Entry → Waiter
+waiter_of version before e = record { serial = e.serial; awaits = awaits_of before e; wants = wants_of version e }
 
 -- those of the entries that wait, where the older ones are `before`
-abbrev pub waiters_from : List Entry → List Entry → List Waiter
-waiters_from before [] = []
-waiters_from before (e ∷ es) = if is_waiting e.state then waiter_of before e ∷ waiters_from (e ∷ before) es else waiters_from (e ∷ before) es
+abbrev pub waiters_from : ℕ → List Entry → List Entry → List Waiter
+waiters_from version before [] = []
+waiters_from version before (e ∷ es) =
+    if is_waiting e.state then waiter_of version before e ∷ waiters_from version (e ∷ before) es else waiters_from version (e ∷ before) es
 
 -- ---- all of them
 
@@ -92,4 +108,4 @@ pub record Stand (p : Parts) : Type 0 where
   pub next : All (λ e. e.serial < p.next) p.window
   pub roots : RootsStand (oldest_of p.next p.window) [] p.window p.roots
   pub writes : p.writes ≡ writes_in p.window p.roots
-  pub held : map waiter_in p.held ≡ waiters_from [] p.window
+  pub held : map waiter_in p.held ≡ waiters_from p.version [] p.window

@@ -3,7 +3,6 @@ use Rattle.std.specs.Prelude.{◌≡◌, ℕ, ◌<◌, ◌≤◌, true, false, L
 use Rattle.std.specs.List.{All}
 use Rattle.window_model.specs.declared.Entry.{Entry}
 use Rattle.window_model.specs.Order.{is_waiting}
-use Rattle.rob_ring.specs.Ring.{below}
 use Rattle.visibility.specs.Point.{Point, CanAdvance}
 
 -- the point can move on, it is not past the next serial, and no entry that waits is marked as resolved

@@ -1,30 +1,30 @@
 -- Which steps keep the parts standing for the window (docs/architecture.md, "How they stand for it").
-use Rattle.std.specs.Prelude.{◌≡◌, ℕ, ◌+◌, List, [], ◌∷◌, ◌++◌, take, Option, if◌then◌else◌}
-use Rattle.std.specs.List.{count_by}
+use Rattle.std.specs.Prelude.{◌≡◌, ℕ, ◌+◌, false, List, [], ◌∷◌, ◌++◌, take, Option, if◌then◌else◌}
+use Rattle.std.specs.List.{count_by, remove}
 use Rattle.std.specs.Option.{option_to_list}
 use Rattle.window_model.specs.declared.Entry.{Entry}
-use Rattle.window_model.specs.declared.Outcome.{Outcome}
-use Rattle.window_model.specs.Issue.{begun}
-use Rattle.window_model.specs.Order.{is_waiting}
-use Rattle.stations.specs.Stations.{Station}
-use Rattle.parts_stand.specs.Parts.{Parts, write_of}
+use Rattle.window_model.specs.Order.{is_done, is_waiting}
+use Rattle.stations.specs.Stations.{Station, left_wanting}
+use Rattle.parts_stand.specs.Parts.{Parts, wants_of, write_of}
 
 -- nothing in flight, and nothing held
-abbrev pub empty : ℕ → Parts
-empty next = record { next = next; window = []; roots = []; writes = []; held = [] }
+abbrev pub empty : ℕ → ℕ → Parts
+empty version next = record { version = version; next = next; window = []; roots = []; writes = []; held = [] }
 
 -- a station more, in some place, where the entry waits
-abbrev pub seated : ℕ → List (Option ℕ) → Entry → List Station → List Station
-seated place awaits e held = if is_waiting e.state then held ++ record { serial = e.serial; awaits = awaits; place = place } ∷ [] else held
+abbrev pub seated : ℕ → ℕ → List (Option ℕ) → Entry → List Station → List Station
+seated version place awaits e held =
+    if is_waiting e.state then held ++ record { serial = e.serial; awaits = awaits; place = place; wants = wants_of version e } ∷ [] else held
 
 -- the parts with an entry more, with these roots, and these serials that it awaits
 abbrev pub with_entry : ℕ → List (Option ℕ) → List (Option ℕ) → Entry → Parts → Parts
 with_entry place roots awaits e p = record {
+  version = p.version;
   next = p.next + 1;
   window = p.window ++ e ∷ [];
   roots = p.roots ++ roots ∷ [];
   writes = p.writes ++ option_to_list (write_of e roots);
-  held = seated place awaits e p.held;
+  held = seated p.version place awaits e p.held;
 }
 
 -- an entry that goes on in its place: the same instruction, with the same serial
@@ -32,10 +32,16 @@ pub record GoesOn (e e2 : Entry) : Type 0 where
   pub serial : e2.serial ≡ e.serial
   pub item : e2.item ≡ e.item
 
--- an entry begins to execute, until a cycle and with an outcome; and of a store it is known from when on its parts are there
-abbrev pub begun_with : Entry → ℕ → Outcome → Option ℕ → Option ℕ → Entry
-begun_with e due o address stored = record (begun e due o) { addr_due = address; data_due = stored }
+-- an entry that waits issues, or a part of it: then it executes, or waits still; it is marked as resolved or not as it was
+pub record Issues (e e2 : Entry) : Type 0 where
+  pub on : GoesOn e e2
+  pub undone : is_done e2.state ≡ false
+  pub resolved : e2.resolved ≡ e.resolved
 
 -- the position among the stations of the entry at a position of the window: how many older ones wait
 abbrev pub station_of : ℕ → List Entry → ℕ
 station_of i window = count_by (λ e. is_waiting e.state) (take i window)
+
+-- the station at a position is freed where its entry no longer waits, else it waits for what the entry then wants
+abbrev pub left_held : ℕ → ℕ → Entry → List Station → List Station
+left_held version k e held = if is_waiting e.state then left_wanting k (wants_of version e) held else remove held k

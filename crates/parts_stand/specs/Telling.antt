@@ -1,5 +1,5 @@
 -- What parts that stand for the window tell of it (docs/architecture.md, "How they stand for it").
-use Rattle.std.specs.Prelude.{◌≡◌, ℕ, ◌+◌, ◌<◌, ◌≤◌, Bool, true, ◌&&◌, nat_le, false, List, length, reverse, take, slice_get, slice_set, Option, Some, None, if◌then◌else◌}
+use Rattle.std.specs.Prelude.{◌≡◌, ℕ, ◌+◌, ◌<◌, ◌≤◌, Bool, true, ◌&&◌, ◌||◌, nat_le, false, List, length, reverse, take, slice_get, slice_set, Option, Some, None, if◌then◌else◌}
 use Rattle.std.specs.List.{All, count_by, list_any}
 use Rattle.std.specs.Option.{option_map}
 use Rattle.rv_types.specs.declared.Kind.{Kind}
@@ -7,20 +7,24 @@ use Rattle.rv_types.specs.declared.Kind.TheVariants.{Load, Div}
 use Rattle.machine_desc.specs.declared.Desc.{Desc}
 use Rattle.window_model.specs.declared.Entry.{Entry}
 use Rattle.window_model.specs.Around.{Around, is_free}
-use Rattle.window_model.specs.Order.{before_at, first, is_waiting, ready, writer}
+use Rattle.window_model.specs.Order.{all_known, base_of, before_at, first, is_waiting, others_of, ready, sources, writer}
 use Rattle.window_model.specs.Resolve.{may_resolve}
-use Rattle.window_model.specs.Issue.{may_issue_as, stores_done}
+use Rattle.window_model.specs.Issue.{goes_behind, may_issue_as}
 use Rattle.window_model.specs.Taint.{visible, tainted, any_tainted, address_tainted}
 use Rattle.rob_ring.specs.Ring.{below}
 use Rattle.rename_taint.specs.declared.Source.{Source}
 use Rattle.rename_taint.specs.declared.Source.TheVariants as source
 use Rattle.rename_taint.specs.Writes.{source_of, root_of}
-use Rattle.stations.specs.Stations.{awaits_none}
+use Rattle.stations.specs.Stations.{awaits_none, is_able, ready_part}
+use Rattle.stations.specs.declared.wants.Part.{Part}
+use Rattle.stations.specs.declared.wants.Part.TheVariants as part
+use Rattle.stations.specs.declared.wants.Wants.{Wants}
+use Rattle.stations.specs.declared.wants.Wants.TheVariants as wants
 use Rattle.visibility.specs.Point.{Point, HasAdvanced, is_hidden}
 use Rattle.branch_resolve.specs.Pick.{pick_from}
 use Rattle.transmit_gate.specs.Gate.{may_transmit}
 use Rattle.parts_stand.specs.Roots.{youngest_root, unretired}
-use Rattle.parts_stand.specs.Parts.{Parts, Stand, awaited, awaited_of, oldest_of, waiter_in, waiter_of}
+use Rattle.parts_stand.specs.Parts.{Parts, Stand, awaited, awaited_of, oldest_of, waiter_in, waiter_of, wants_of}
 use Rattle.parts_stand.specs.Steps.{station_of}
 
 -- ---- room
@@ -77,7 +81,7 @@ FindsAwaited = (p : Parts) (r : ℕ) → Stand p → awaited_of (entry_of p.wind
 -- an entry's station is where the older ones that wait are counted, with what its sources await
 pub record StationFor (p : Parts) (i : ℕ) (e : Entry) : Type 0 where
   pub within : station_of i p.window < length p.held
-  pub is : option_map waiter_in (slice_get p.held (station_of i p.window)) ≡ Some (waiter_of (before_at p.window i) e)
+  pub is : option_map waiter_in (slice_get p.held (station_of i p.window)) ≡ Some (waiter_of p.version (before_at p.window i) e)
 
 -- an entry that waits has its station
 abbrev pub HasStation : Type 0
@@ -101,6 +105,28 @@ StationsYounger = (window : List Entry) (i m : ℕ) (e e2 : Entry) → m < i →
 abbrev pub TellsReady : Type 0
 TellsReady = (p : Parts) (i : ℕ) (e : Entry) → Stand p → slice_get p.window i ≡ Some e → is_waiting e.state ≡ true →
     option_map awaits_none (slice_get p.held (station_of i p.window)) ≡ Some (ready (before_at p.window i) e)
+
+-- the source of a part of a store, by its sources
+abbrev pub own_of : Part → List ℕ → List ℕ
+own_of part.Base rs = base_of rs
+own_of part.Other rs = others_of rs
+
+-- what an entry that waits wants is there
+abbrev pub has_sources : Wants → List Entry → Entry → Bool
+has_sources wants.Whole before e = ready before e
+has_sources wants.Either before e = all_known before (base_of (sources e)) || all_known before (others_of (sources e))
+has_sources wants.Base before e = all_known before (base_of (sources e))
+has_sources wants.Other before e = all_known before (others_of (sources e))
+
+-- a station is able exactly where what its entry wants is there
+abbrev pub TellsAble : Type 0
+TellsAble = (p : Parts) (i : ℕ) (e : Entry) → Stand p → slice_get p.window i ≡ Some e → is_waiting e.state ≡ true →
+    option_map is_able (slice_get p.held (station_of i p.window)) ≡ Some (has_sources (wants_of p.version e) (before_at p.window i) e)
+
+-- and a part of it is ready exactly where the part's own source is
+abbrev pub TellsPart : Type 0
+TellsPart = (part : Part) (p : Parts) (i : ℕ) (e : Entry) → Stand p → slice_get p.window i ≡ Some e → is_waiting e.state ≡ true →
+    option_map (ready_part part) (slice_get p.held (station_of i p.window)) ≡ Some (all_known (before_at p.window i) (own_of part (sources e)))
 
 -- ---- roots
 
@@ -128,17 +154,17 @@ abbrev pub TellsOperands : Type 0
 TellsOperands = (p : Parts) (point : Point) (i : ℕ) (e : Entry) (roots : List (Option ℕ)) → Stand p → HasAdvanced point p.window →
     slice_get p.window i ≡ Some e → slice_get p.roots i ≡ Some roots → OperandsTold point (before_at p.window i) e roots
 
--- what loads and divisions ask for beside untainted operands
-abbrev pub asks_besides : Kind → Bool → List Entry → Bool
-asks_besides Load free before = stores_done before
-asks_besides Div free before = free
-asks_besides _ free before = true
+-- what loads and divisions ask for beside untainted operands: older stores that let it go, a divider that is free
+abbrev pub asks_besides : Kind → Desc → Around → List Entry → Entry → Bool
+asks_besides Load d now before e = goes_behind d now before e
+asks_besides Div d now before e = is_free now
+asks_besides _ d now before e = true
 
 -- with what `may_transmit` answers it is what Issue asks for
 abbrev pub TellsIssue : Type 0
 TellsIssue = (d : Desc) (p : Parts) (point : Point) (i : ℕ) (e : Entry) (roots : List (Option ℕ)) (now : Around) → Stand p → HasAdvanced point p.window →
     point.model ≡ d.stt_model → slice_get p.window i ≡ Some e → slice_get p.roots i ≡ Some roots →
-    may_issue_as e.item.kind d now (before_at p.window i) e ≡ (may_transmit e.item.kind point.serial roots && asks_besides e.item.kind (is_free now) (before_at p.window i))
+    may_issue_as e.item.kind d now (before_at p.window i) e ≡ (may_transmit e.item.kind point.serial roots && asks_besides e.item.kind d now (before_at p.window i) e)
 
 -- what `pick` answers is the position of the entry that resolves
 abbrev pub PicksFirst : Type 0

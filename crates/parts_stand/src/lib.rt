@@ -20,19 +20,21 @@ ghost use Rattle.parts_stand.specs.Telling.{
   PicksFirst,
   StationsOlder,
   StationsYounger,
+  TellsAble,
   TellsIssue,
   TellsOperands,
+  TellsPart,
   TellsReady,
   TellsTaint,
   TellsVisible,
 };
-ghost use Rattle.parts_stand.specs.Addresses.{TellsStores};
+ghost use Rattle.parts_stand.specs.Addresses.{TellsEachStore};
 ghost use Rattle.parts_stand.specs.Writers.{CountsWriters, TellsWriters};
 
-/// What parts that stand for the window tell of it: for what there is room, who writes a register, what an entry awaits and
-/// whether it is ready, and, where the point has just moved, what is tainted, what may issue and what is resolved. By the serials of the sources' writers
-/// each source's writer is found (`docs/machine.md`, "Writers and roots"); by the roots of the stores' addresses a load is told
-/// whether an older store has a tainted one ("Loads").
+/// What parts that stand for the window tell of it: for what there is room, who writes a register, what an entry awaits, whether it
+/// is ready, and whether a part of a store is; and, where the point has just moved, what is tainted, what may issue and what is
+/// resolved. By the serials of the sources' writers each source's writer is found (`docs/machine.md`, "Writers and roots"); by the
+/// roots of the stores' addresses a load is told which older stores have tainted ones ("Loads").
 pub fn parts_tell_of_window()
     ensures room { CountsRoom }
     ensures older { HoldsOlderOnes }
@@ -45,6 +47,8 @@ pub fn parts_tell_of_window()
     ensures older_stations { StationsOlder }
     ensures younger_stations { StationsYounger }
     ensures ready { TellsReady }
+    ensures able { TellsAble }
+    ensures part { TellsPart }
     ensures root { NamesRoot }
     ensures visible { TellsVisible }
     ensures taint { TellsTaint }
@@ -53,5 +57,5 @@ pub fn parts_tell_of_window()
     ensures picks { PicksFirst }
     ensures writers { TellsWriters }
     ensures count_writers { CountsWriters }
-    ensures stores { TellsStores }
+    ensures stores { TellsEachStore }
 {}

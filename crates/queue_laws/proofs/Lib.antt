@@ -1,5 +1,8 @@
+pub mod Shown
 pub mod Telling
+pub mod Letting
 pub mod Keeping
 pub mod Roots
 pub mod Renaming
-pub mod Completing
+pub mod Around
+pub mod Issuing

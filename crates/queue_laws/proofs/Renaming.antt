@@ -1,6 +1,6 @@
 -- Entries that are renamed, that change unseen, and how many there are.
-use Rattle.std.proofs.Common.{◌≡◌, ℕ, Bool, true, false, cond, List, [], ◌∷◌, ◌++◌, length, Option, Some, None, refl, ap, ap₂, sym, ◌∙◌, append-nil}
-use Rattle.std.specs.Prelude.{◌&&◌, ◌||◌, is_some, map, if◌then◌else◌}
+use Rattle.std.proofs.Common.{◌≡◌, ℕ, zero, suc, Bool, true, false, cond, List, [], ◌∷◌, ◌++◌, length, Option, Some, None, refl, ap, ap₂, sym, ◌∙◌, append-nil, slice_get}
+use Rattle.std.specs.Prelude.{not, ◌||◌, is_some, map, slice_set, if◌then◌else◌}
 use Rattle.std.specs.List.{filter}
 use Rattle.std.proofs.lemmas.List.{map-append, length-map}
 use Rattle.std.proofs.lemmas.List.Elements.{filter-append}
@@ -8,14 +8,13 @@ use Rattle.std.proofs.lemmas.List.Sums.{length-filter}
 use Rattle.rv_types.specs.declared.Kind.{Kind}
 use Rattle.rv_types.specs.declared.Kind.TheVariants.{Load, Store as StoreKind}
 use Rattle.window_model.specs.declared.Entry.{Entry}
-use Rattle.window_model.specs.Order.{has_address, is_load, is_store}
-use Rattle.window_model.proofs.Booleans.{waiting_done}
-use Rattle.queue_laws.specs.Window.{Seen, Shown, loads_in, seen, shown_entry, shown_store, stores_in, write_in}
+use Rattle.window_model.specs.Order.{has_address, has_data, is_load, is_store}
+use Rattle.window_model.specs.Retire.{stored_of}
+use Rattle.queue_laws.specs.Window.{Seen, Shown, loads_in, seen, shown_entry, shown_store, stores_in, area_in}
 use Rattle.queue_laws.specs.Laws.{RoomAsCounted}
 use Rattle.lsq.specs.Queues.{Queues, empty}
 use Rattle.queue_laws.specs.Window.{StandFor}
 use Rattle.machine_desc.specs.declared.Desc.{Desc}
-use Rattle.window_model.specs.Order.{is_waiting}
 
 -- ---- an entry behind the youngest
 
@@ -63,13 +62,18 @@ adds_load q window e s h = record {
   stores = s.stores ∙ sym (no_store window e (load_no_store e.item.kind h));
 }
 
--- a store is renamed, which waits, whatever its root
-pub adds_store : (q : Queues) (window : List Entry) (e : Entry) (root : Option ℕ) → StandFor q window → is_store e.item.kind ≡ true → is_waiting e.state ≡ true →
-    StandFor (record q { stores = q.stores ++ record { serial = e.serial; root = root; known = None } ∷ [] }) (window ++ e ∷ [])
-adds_store q window e root s h w = let d = waiting_done e.state w in record {
+-- a store is renamed of which no part has issued, whatever its root
+pub adds_store : (q : Queues) (window : List Entry) (e : Entry) (root : Option ℕ) → StandFor q window → is_store e.item.kind ≡ true → has_address e ≡ false → has_data e ≡ false →
+    StandFor (record q { stores = q.stores ++ record { serial = e.serial; root = root; span = None; stored = None } ∷ [] }) (window ++ e ∷ [])
+adds_store q window e root s h a d = record {
   loads = s.loads ∙ sym (no_load window e (store_no_load e.item.kind h));
-  stores = map-append shown_store q.stores _ ∙ ap (λ ws. ws ++ record { serial = e.serial; write = None; computed = true } ∷ []) s.stores
-      ∙ ap₂ (λ d w. stores_in window ++ record { serial = e.serial; write = if d then Some (write_in e) else None; computed = w || is_some e.outcome && has_address e } ∷ []) (sym d) (sym w)
+  stores = map-append shown_store q.stores _ ∙ ap (λ ws. ws ++ record { serial = e.serial; span = None; stored = None; computed = true } ∷ []) s.stores
+      ∙ ap₂ (λ a d. stores_in window ++ record {
+        serial = e.serial;
+        span = if a then Some (area_in e) else None;
+        stored = if d then Some (stored_of e.outcome) else None;
+        computed = not (a || d) || is_some e.outcome;
+      } ∷ []) (sym a) (sym d)
       ∙ sym (stores_push window e true h);
 }
 
@@ -109,12 +113,25 @@ loads_seen [] = refl
 loads_seen (e ∷ ws) =
     load_seen (is_load e.item.kind) e (filter (λ e. is_load e.item.kind) ws) _ (loads_seen ws) ∙ some_more (seen e).load (map (λ (s : Seen). s.load) (map seen ws))
 
--- entries change in what the queues don't see, as one that issues or is resolved
+-- entries change in what the queues don't see, as one that completes or is resolved
 pub unseen_stands : (q : Queues) (window new : List Entry) → StandFor q window → map seen new ≡ map seen window → StandFor q new
 unseen_stands q window new s h = record {
   loads = s.loads ∙ loads_seen window ∙ ap (λ ss. somes (map (λ (s : Seen). s.load) ss)) (sym h) ∙ sym (loads_seen new);
   stores = s.stores ∙ stores_seen window ∙ ap (λ ss. somes (map (λ (s : Seen). s.store) ss)) (sym h) ∙ sym (stores_seen new);
 }
+
+seen_set : (w : List Entry) (i : ℕ) (e e2 : Entry) → slice_get w i ≡ Some e → seen e2 ≡ seen e → map seen (slice_set w i e2) ≡ map seen w
+seen_set [] i e e2 h q = absurd (cc)
+seen_set (x ∷ w) zero e e2 h q = let same : x ≡ e = cc in ap (λ s. s ∷ map seen w) (q ∙ ap seen (sym same))
+seen_set (x ∷ w) (suc i) e e2 h q = ap (λ ss. seen x ∷ ss) (seen_set w i e e2 h q)
+
+-- one entry does
+pub unseen_at : (q : Queues) (window : List Entry) (i : ℕ) (e e2 : Entry) → StandFor q window → slice_get window i ≡ Some e → seen e2 ≡ seen e → StandFor q (slice_set window i e2)
+unseen_at q window i e e2 s h k = unseen_stands q window (slice_set window i e2) s (seen_set window i e e2 h k)
+
+-- one with the same serial, item, parts and outcome is seen as before
+pub seen_as : (e e2 : Entry) → e2.serial ≡ e.serial → e2.item ≡ e.item → e2.addr_due ≡ e.addr_due → e2.data_due ≡ e.data_due → e2.outcome ≡ e.outcome → seen e2 ≡ seen e
+seen_as e e2 s i a d o = cc
 
 -- ---- how many
 

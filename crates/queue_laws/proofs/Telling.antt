@@ -1,131 +1,119 @@
 -- Where the stores of a queue stand for those of entries, they give to a load what the entries do.
 use Rattle.std.proofs.Common.{◌≡◌, ℕ, zero, suc, ◌+◌, ◌-◌, Bool, true, false, cond, not, ◌&&◌, ◌||◌, List, [], ◌∷◌, Option, Some, None, refl, ap, ap₂, sym, ◌∙◌}
-use Rattle.std.specs.Prelude.{map, is_some, nat_le, nat_lt, slice_index, if◌then◌else◌}
-use Rattle.std.specs.List.{filter, find, list_all}
+use Rattle.std.specs.Prelude.{map, is_some, slice_index, if◌then◌else◌}
+use Rattle.std.specs.List.{filter, find, list_all, list_any}
 use Rattle.std.specs.Option.{option_map, option_or}
 use Rattle.rv_types.specs.Word.{to_le}
-use Rattle.rv_types.specs.Memory.{Ram}
+use Rattle.rv_types.specs.Memory.{Ram, range}
+use Rattle.machine_desc.specs.declared.SttModel.{SttModel}
 use Rattle.window_model.specs.declared.Entry.{Entry}
-use Rattle.window_model.specs.declared.Outcome.{Outcome}
-use Rattle.window_model.specs.declared.Progress.{Progress}
-use Rattle.window_model.specs.declared.Progress.TheVariants.{Waiting, Busy, Done}
-use Rattle.window_model.specs.Order.{fault_of, has_address, is_done, is_store, is_waiting}
+use Rattle.window_model.specs.Order.{has_address, has_data, is_store}
+use Rattle.window_model.specs.Taint.{address_tainted}
 use Rattle.window_model.specs.Access.{byte_from, byte_of, covers, reaches}
-use Rattle.window_model.specs.Issue.{stores_done}
-use Rattle.window_model.specs.Retire.{addr_of, width_of}
+use Rattle.window_model.specs.Issue.{stores_let}
+use Rattle.window_model.specs.Retire.{stored_of, width_of}
 use Rattle.window_model.proofs.Booleans.{both}
-use Rattle.lsq.specs.declared.store.Known.{Known}
+use Rattle.lsq.specs.declared.store.Span.{Span}
 use Rattle.lsq.specs.declared.store.Store.{Store}
-use Rattle.lsq.specs.Queues.{is_known}
-use Rattle.lsq.specs.Merging.{byte_by, byte_or_memory, forwarded}
-use Rattle.queue_laws.specs.Window.{Shown, StoresStandFor, Write, shown_entry, shown_store, stores_in, write_in, write_of}
-use Rattle.queue_laws.specs.Laws.{BytesAsLoaded, CoveredAsAsked, KnownAsDone}
+use Rattle.lsq.specs.Merging.{byte_in_span, byte_or_memory, forwarded}
+use Rattle.queue_laws.specs.Window.{Area, Shown, StoresStandFor, area_in, area_of, shown_entry, shown_store, stores_in}
+use Rattle.queue_laws.specs.Laws.{BytesAsLoaded, CoveredAsAsked}
+use Rattle.queue_laws.proofs.Shown.{all_computed, all_have, computed_one, covers_shown, reaches_shown}
 
 -- ---- by what both show
 
-abbrev byte_shown : ℕ → Option Write → Option ℕ
-byte_shown a None = None
-byte_shown a (Some w) = if not (is_some w.fault) && nat_le w.addr a && nat_lt a (w.addr + w.bytes) then Some (slice_index (to_le w.bytes w.stored) (a - w.addr)) else None
+abbrev byte_there : ℕ → Bool → Option Area → Option ℕ → Option ℕ
+byte_there a reached None stored = None
+byte_there a reached (Some k) None = None
+byte_there a reached (Some k) (Some stored) = if reached then Some (slice_index (to_le k.bytes stored) (a - k.addr)) else None
+
+abbrev byte_shown : ℕ → Shown → Option ℕ
+byte_shown a s = byte_there a (reaches_shown a s.span) s.span s.stored
 
 abbrev forwarded_shown : List Shown → ℕ → Option ℕ
 forwarded_shown [] a = None
-forwarded_shown (s ∷ ss) a = option_or (byte_shown a s.write) (forwarded_shown ss a)
-
-abbrev all_known : List Shown → Bool
-all_known ss = list_all (λ s. is_some s.write) ss
+forwarded_shown (s ∷ ss) a = option_or (byte_shown a s) (forwarded_shown ss a)
 
 -- ---- of the queue
 
-byte_known : (a : ℕ) (k : Option Known) → byte_by a k ≡ byte_shown a (option_map write_of k)
-byte_known a None = refl
-byte_known a (Some k) = refl
+byte_known : (a : ℕ) (k : Option Span) (stored : Option ℕ) → byte_in_span a k stored ≡ byte_there a (reaches_shown a (option_map area_of k)) (option_map area_of k) stored
+byte_known a None stored = refl
+byte_known a (Some k) None = refl
+byte_known a (Some k) (Some stored) = refl
 
 forwarded_known : (a : ℕ) (ss : List Store) → forwarded ss a ≡ forwarded_shown (map shown_store ss) a
 forwarded_known a [] = refl
-forwarded_known a (s ∷ ss) = ap₂ option_or (byte_known a s.known) (forwarded_known a ss)
-
-some_known : (k : Option Known) → is_some k ≡ is_some (option_map write_of k)
-some_known None = refl
-some_known (Some k) = refl
-
-known_shown : (ss : List Store) → list_all is_known ss ≡ all_known (map shown_store ss)
-known_shown [] = refl
-known_shown (s ∷ ss) = ap₂ (λ a b. a && b) (some_known s.known) (known_shown ss)
+forwarded_known a (s ∷ ss) = ap₂ option_or (byte_known a s.span s.stored) (forwarded_known a ss)
 
 -- ---- of the entries
 
-some_if : (d : Bool) (w : Write) → is_some (if d then Some w else None) ≡ d
-some_if true w = refl
-some_if false w = refl
+-- a store that covers the byte has its data
+abbrev gives : ℕ → Entry → Bool
+gives a e = not (covers a e) || has_data e
 
-done_one : (b : Bool) (e : Entry) (f : List Entry) (r : Bool) → all_known (map shown_entry f) ≡ r → all_known (map shown_entry (cond b (e ∷ f) f)) ≡ ((not b || is_done e.state) && r)
-done_one true e f r h = ap₂ (λ a b. a && b) (some_if (is_done e.state) (write_in e)) h
-done_one false e f r h = h
+-- what lets a load of a byte and of others go gives the byte, and lets a load of the others go
+split_one : (s p d t q r : Bool) → (not s || p && (d || not t && not (s && p && q || r))) ≡ true →
+    ((not (s && p && q) || d) ≡ true) × ((not s || p && (d || not t && not r)) ≡ true)
+split_one false p d t q r h = (refl, refl)
+split_one true false d t q r h = absurd (cc)
+split_one true true true t true r h = (refl, refl)
+split_one true true true t false r h = (refl, refl)
+split_one true true false true q r h = absurd (cc)
+split_one true true false false true r h = absurd (cc)
+split_one true true false false false true h = absurd (cc)
+split_one true true false false false false h = (refl, refl)
 
-known_entries : (before : List Entry) → all_known (stores_in before) ≡ stores_done before
-known_entries [] = refl
-known_entries (e ∷ before) = done_one (is_store e.item.kind) e (filter (λ e. is_store e.item.kind) before) (stores_done before) (known_entries before)
+joined : (a b c d : Bool) → a ≡ true → b ≡ true → (c ≡ true) × (d ≡ true) → ((a && c) ≡ true) × ((b && d) ≡ true)
+joined true true c d p q h = h
+joined false b c d p q h = absurd (cc)
+joined true false c d p q h = absurd (cc)
 
--- each of these stores waits, or has its outcome and its address
-abbrev all_computed : List Shown → Bool
-all_computed ss = list_all (λ s. s.computed) ss
+byte_let : (model : SttModel) (a : ℕ) (bytes : List ℕ) (before : List Entry) → stores_let model (a ∷ bytes) before ≡ true → (list_all (gives a) before ≡ true) × (stores_let model bytes before ≡ true)
+byte_let model a bytes [] h = (refl, refl)
+byte_let model a bytes (e ∷ before) h =
+    let p = both _ (stores_let model (a ∷ bytes) before) h in
+    let one = split_one (is_store e.item.kind) (has_address e) (has_data e) (address_tainted model before e) (reaches a (width_of e) e.outcome) (list_any (λ a. covers a e) bytes) p.0 in
+    joined (gives a e) _ (list_all (gives a) before) (stores_let model bytes before) one.0 one.1 (byte_let model a bytes before p.1)
 
-queue_computed : (ss : List Store) → all_computed (map shown_store ss) ≡ true
-queue_computed [] = refl
-queue_computed (s ∷ ss) = queue_computed ss
+-- the byte of the youngest that covers it
+found_as : (a : ℕ) (c p d : Bool) (e : Entry) (r : Option ℕ) (o : Option Entry) → (c ≡ true → p ≡ true) → (not c || d) ≡ true → r ≡ option_map (byte_from a) o →
+    option_or (byte_there a c (if p then Some (area_in e) else None) (if d then Some (stored_of e.outcome) else None)) r ≡ option_map (byte_from a) (cond c (Some e) o)
+found_as a true true true e r o k g h = refl
+found_as a true true false e r o k g h = absurd (cc)
+found_as a true false d e r o k g h = let no = k refl in absurd (cc)
+found_as a false true true e r o k g h = h
+found_as a false true false e r o k g h = h
+found_as a false false d e r o k g h = h
 
--- a Done one has its outcome and its address
-has_both : (s : Progress) (o a : Bool) → is_done s ≡ true → (is_waiting s || o && a) ≡ true → (o ≡ true) × (a ≡ true)
-has_both Done o a d h = both o a h
-has_both Waiting o a d h = absurd (cc)
-has_both (Busy due) o a d h = absurd (cc)
+has_there : (s p q : Bool) → (s && p && q) ≡ true → p ≡ true
+has_there true true q h = refl
+has_there true false q h = absurd (cc)
+has_there false p q h = absurd (cc)
 
--- and what it writes shows which bytes it reaches
-reach_shown : (a n : ℕ) (o : Option Outcome) → is_some o ≡ true → (not (is_some (fault_of o)) && nat_le (addr_of o) a && nat_lt a (addr_of o + n)) ≡ reaches a n o
-reach_shown a n (Some o) h = refl
-reach_shown a n None h = absurd (cc)
+not_covered : (a : ℕ) (e : Entry) → is_store e.item.kind ≡ false → covers a e ≡ false
+not_covered a e h = ap (λ b. b && has_address e && reaches a (width_of e) e.outcome) h
 
-covers_by : (a : ℕ) (e : Entry) → is_store e.item.kind ≡ true → has_address e ≡ true → covers a e ≡ reaches a (width_of e) e.outcome
-covers_by a e h k = ap₂ (λ b c. b && c && reaches a (width_of e) e.outcome) h k
+found_one : (a : ℕ) (b : Bool) (e : Entry) (f : List Entry) (o : Option Entry) → is_store e.item.kind ≡ b → gives a e ≡ true → (b ≡ true → (shown_entry e).computed ≡ true) →
+    forwarded_shown (map shown_entry f) a ≡ option_map (byte_from a) o →
+    forwarded_shown (map shown_entry (cond b (e ∷ f) f)) a ≡ option_map (byte_from a) (cond (covers a e) (Some e) o)
+found_one a true e f o s g u h =
+    ap (λ c. option_or (byte_there a c (shown_entry e).span (shown_entry e).stored) (forwarded_shown (map shown_entry f) a)) (covers_shown a e s (u refl))
+    ∙ found_as a (covers a e) (has_address e) (has_data e) e (forwarded_shown (map shown_entry f) a) o
+    (has_there (is_store e.item.kind) (has_address e) (reaches a (width_of e) e.outcome)) g h
+found_one a false e f o s g u h = h ∙ ap (λ c. option_map (byte_from a) (cond c (Some e) o)) (sym (not_covered a e s))
 
-covers_none : (a : ℕ) (e : Entry) → is_store e.item.kind ≡ false → covers a e ≡ false
-covers_none a e h = ap (λ b. b && has_address e && reaches a (width_of e) e.outcome) h
-
-by_reach : (c : Bool) (a : ℕ) (e : Entry) (r : Option ℕ) (p : Option Entry) → r ≡ option_map (byte_from a) p →
-    option_or (if c then Some (byte_from a e) else None) r ≡ option_map (byte_from a) (cond c (Some e) p)
-by_reach true a e r p h = refl
-by_reach false a e r p h = h
-
--- the entry's own store is computed, and those behind it
-computed_one : (b : Bool) (e : Entry) (f : List Entry) → all_computed (map shown_entry (cond b (e ∷ f) f)) ≡ true → (b ≡ true → (shown_entry e).computed ≡ true) × (all_computed (map shown_entry f) ≡ true)
-computed_one true e f h = let p = both (shown_entry e).computed (all_computed (map shown_entry f)) h in (λ b. p.0, p.1)
-computed_one false e f h = (λ b. absurd (cc), h)
-
-found_one : (a : ℕ) (b d : Bool) (e : Entry) (f : List Entry) (p : Option Entry) → is_store e.item.kind ≡ b → is_done e.state ≡ d → (not b || d) ≡ true → (b ≡ true → (shown_entry e).computed ≡ true) →
-    forwarded_shown (map shown_entry f) a ≡ option_map (byte_from a) p →
-    forwarded_shown (map shown_entry (cond b (e ∷ f) f)) a ≡ option_map (byte_from a) (cond (covers a e) (Some e) p)
-found_one a true true e f p s d t u h =
-    let k = has_both e.state (is_some e.outcome) (has_address e) d (u refl) in
-    ap (λ d. option_or (byte_shown a (if d then Some (write_in e) else None)) (forwarded_shown (map shown_entry f) a)) d
-    ∙ ap (λ c. option_or (if c then Some (byte_from a e) else None) (forwarded_shown (map shown_entry f) a)) (reach_shown a (width_of e) e.outcome k.0)
-    ∙ by_reach (reaches a (width_of e) e.outcome) a e (forwarded_shown (map shown_entry f) a) p h
-    ∙ ap (λ c. option_map (byte_from a) (cond c (Some e) p)) (sym (covers_by a e s k.1))
-found_one a true false e f p s d t u h = absurd (cc)
-found_one a false d e f p s k t u h = h ∙ ap (λ c. option_map (byte_from a) (cond c (Some e) p)) (sym (covers_none a e s))
-
-found_entries : (a : ℕ) (before : List Entry) → stores_done before ≡ true → all_computed (stores_in before) ≡ true → forwarded_shown (stores_in before) a ≡ option_map (byte_from a) (find (covers a) before)
+found_entries : (a : ℕ) (before : List Entry) → list_all (gives a) before ≡ true → all_computed (stores_in before) ≡ true → forwarded_shown (stores_in before) a ≡ option_map (byte_from a) (find (covers a) before)
 found_entries a [] t u = refl
 found_entries a (e ∷ before) t u =
-    let ts = both (not (is_store e.item.kind) || is_done e.state) (stores_done before) t in
+    let ts = both (gives a e) (list_all (gives a) before) t in
     let us = computed_one (is_store e.item.kind) e (filter (λ e. is_store e.item.kind) before) u in
-    found_one a (is_store e.item.kind) (is_done e.state) e (filter (λ e. is_store e.item.kind) before) (find (covers a) before) refl refl
-    ts.0 us.0 (found_entries a before ts.1 us.1)
+    found_one a (is_store e.item.kind) e (filter (λ e. is_store e.item.kind) before) (find (covers a) before) refl ts.0 us.0 (found_entries a before ts.1 us.1)
 
 -- ---- a byte
 
-forwarded_is : (a : ℕ) (ss : List Store) (before : List Entry) → StoresStandFor ss before → stores_done before ≡ true → forwarded ss a ≡ option_map (byte_from a) (find (covers a) before)
+forwarded_is : (a : ℕ) (ss : List Store) (before : List Entry) → StoresStandFor ss before → list_all (gives a) before ≡ true → forwarded ss a ≡ option_map (byte_from a) (find (covers a) before)
 forwarded_is a ss before h t =
-    forwarded_known a ss ∙ ap (λ ws. forwarded_shown ws a) h ∙ found_entries a before t (ap all_computed (sym h) ∙ queue_computed ss)
+    forwarded_known a ss ∙ ap (λ ws. forwarded_shown ws a) h ∙ found_entries a before t (all_have ss before h)
 
 byte_of_found : (ram : Ram) (a : ℕ) (o : Option Entry) → byte_or_memory ram a (option_map (byte_from a) o) ≡ byte_of ram a o
 byte_of_found ram a None = refl
@@ -137,15 +125,14 @@ some_found a (Some e) = refl
 
 -- ---- the laws
 
-pub known_is : KnownAsDone
-known_is ss before h = known_shown ss ∙ ap all_known h ∙ known_entries before
-
 pub bytes_are : BytesAsLoaded
-bytes_are ram ss before a zero h t = refl
-bytes_are ram ss before a (suc n) h t =
-    ap₂ (λ b bs. b ∷ bs) (ap (byte_or_memory ram a) (forwarded_is a ss before h t) ∙ byte_of_found ram a (find (covers a) before)) (bytes_are ram ss before (a + 1) n h t)
+bytes_are model ram ss before a zero h t = refl
+bytes_are model ram ss before a (suc n) h t =
+    let p = byte_let model a (range (a + 1) n) before t in
+    ap₂ (λ b bs. b ∷ bs) (ap (byte_or_memory ram a) (forwarded_is a ss before h p.0) ∙ byte_of_found ram a (find (covers a) before)) (bytes_are model ram ss before (a + 1) n h p.1)
 
 pub covered_is : CoveredAsAsked
-covered_is ss before a zero h t = refl
-covered_is ss before a (suc n) h t =
-    ap₂ (λ a b. a && b) (ap is_some (forwarded_is a ss before h t) ∙ some_found a (find (covers a) before)) (covered_is ss before (a + 1) n h t)
+covered_is model ss before a zero h t = refl
+covered_is model ss before a (suc n) h t =
+    let p = byte_let model a (range (a + 1) n) before t in
+    ap₂ (λ a b. a && b) (ap is_some (forwarded_is a ss before h p.0) ∙ some_found a (find (covers a) before)) (covered_is model ss before (a + 1) n h p.1)

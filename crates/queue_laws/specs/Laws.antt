@@ -1,17 +1,18 @@
 -- What queues that stand for a window tell of it.
-use Rattle.std.specs.Prelude.{◌≡◌, ℕ, ◌≤◌, Bool, true, List, ◌++◌, length, map, reverse}
-use Rattle.std.specs.List.{count_by, list_all}
-use Rattle.rv_types.specs.Memory.{Ram}
+use Rattle.std.specs.Prelude.{◌≡◌, ℕ, ◌≤◌, Bool, true, not, ◌&&◌, List, ◌++◌, length, map, reverse, Option, is_some}
+use Rattle.std.specs.List.{count_by, filter, list_any, list_all}
+use Rattle.rv_types.specs.Memory.{Ram, range}
+use Rattle.rv_types.specs.declared.Cause.{Cause}
 use Rattle.machine_desc.specs.declared.SttModel.{SttModel}
 use Rattle.window_model.specs.declared.Entry.{Entry}
-use Rattle.window_model.specs.declared.Progress.TheVariants.{Done}
 use Rattle.window_model.specs.Order.{is_load, is_store}
 use Rattle.window_model.specs.Access.{all_covered, any_store_hidden, load_bytes}
-use Rattle.window_model.specs.Issue.{stores_done}
+use Rattle.window_model.specs.Issue.{stores_let}
 use Rattle.lsq.specs.declared.store.Store.{Store}
 use Rattle.lsq.specs.Queues.{Queues, is_known, older, youngest_root}
 use Rattle.lsq.specs.Merging.{all_forwarded, merged_bytes}
-use Rattle.queue_laws.specs.Window.{NotOlder, Older, StandFor, StoresStandFor, hides, tainted_stores}
+use Rattle.lsq.specs.Pending.{bytes_asked, lacks_address, lacks_data_for}
+use Rattle.queue_laws.specs.Window.{NotOlder, Older, StandFor, StoresStandFor, all_complete, hides, tainted_stores}
 
 -- as many loads and stores are held as the window has
 abbrev pub RoomAsCounted : Type 0
@@ -23,18 +24,31 @@ abbrev pub HoldsOlder : Type 0
 HoldsOlder = (q : Queues) (old rest : List Entry) (serial : ℕ) → StandFor q (old ++ rest) → Older serial old → NotOlder serial rest →
     StoresStandFor (older serial q.stores) (reverse old)
 
--- they are known where every older store is Done
-abbrev pub KnownAsDone : Type 0
-KnownAsDone = (stores : List Store) (before : List Entry) → StoresStandFor stores before → list_all is_known stores ≡ stores_done before
+-- they are all known where both parts of each have issued
+abbrev pub KnownAsComplete : Type 0
+KnownAsComplete = (stores : List Store) (before : List Entry) → StoresStandFor stores before → list_all is_known stores ≡ all_complete before
+
+-- they let a load go where the queue says so: the address of each is known; none that the load meets lacks its data; and the
+-- youngest root of the addresses of those that lack it is visible, if each store's root isn't where its own address is
+-- tainted, and what is older than a visible load is visible
+abbrev pub LetsAsAsked : Type 0
+LetsAsAsked = (model : SttModel) (visible : ℕ → Bool) → ((a b : ℕ) → a ≤ b → visible b ≡ true → visible a ≡ true) →
+    (stores : List Store) (before : List Entry) (fault : Option Cause) (a n : ℕ) → StoresStandFor stores before →
+    map (λ s. hides visible s.root) stores ≡ tainted_stores model before →
+    stores_let model (bytes_asked fault a n) before ≡ (not (list_any lacks_address stores)
+    && not (list_any (lacks_data_for (bytes_asked fault a n)) stores)
+    && not (hides visible (youngest_root (filter (λ s. not (is_some s.stored)) stores))))
 
 -- then a load finds its bytes
 abbrev pub BytesAsLoaded : Type 0
-BytesAsLoaded = (ram : Ram) (stores : List Store) (before : List Entry) (a n : ℕ) → StoresStandFor stores before → stores_done before ≡ true →
+BytesAsLoaded = (model : SttModel) (ram : Ram) (stores : List Store) (before : List Entry) (a n : ℕ) →
+    StoresStandFor stores before → stores_let model (range a n) before ≡ true →
     merged_bytes ram stores a n ≡ load_bytes ram before a n
 
 -- and whether older stores cover them all
 abbrev pub CoveredAsAsked : Type 0
-CoveredAsAsked = (stores : List Store) (before : List Entry) (a n : ℕ) → StoresStandFor stores before → stores_done before ≡ true →
+CoveredAsAsked = (model : SttModel) (stores : List Store) (before : List Entry) (a n : ℕ) →
+    StoresStandFor stores before → stores_let model (range a n) before ≡ true →
     all_forwarded stores a n ≡ all_covered before a n
 
 -- the youngest root isn't visible where some older store has a tainted address, if each store's root isn't where its own

@@ -9,17 +9,19 @@ ghost use Rattle.queue_laws.specs.Laws.{
   CoveredAsAsked,
   HiddenAsTainted,
   HoldsOlder,
-  KnownAsDone,
+  KnownAsComplete,
+  LetsAsAsked,
   RoomAsCounted,
 };
 
 /// What queues that stand for a window tell of it: how many loads and stores it has (`docs/machine.md`, "Rename"); and of the
-/// stores older than an entry, whether they are Done ("Issue"), the bytes that a load behind them finds, whether they cover
+/// stores older than an entry, whether they let a load behind them go ("Issue"), the bytes that it finds, whether they cover
 /// them all, and whether one has a tainted address ("Loads").
 pub fn queues_tell_of_window()
     ensures room { RoomAsCounted }
     ensures older { HoldsOlder }
-    ensures known { KnownAsDone }
+    ensures known { KnownAsComplete }
+    ensures lets { LetsAsAsked }
     ensures bytes { BytesAsLoaded }
     ensures covered { CoveredAsAsked }
     ensures hidden { HiddenAsTainted }

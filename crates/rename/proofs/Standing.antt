@@ -1,6 +1,6 @@
 -- The parts once an entry has come in.
 use Rattle.std.proofs.Common.{◌≡◌, ℕ, ◌+◌, true, List, [], ◌∷◌, ◌++◌, Option, Some, refl, ap, sym, ◌∙◌, subst, arith}
-use Rattle.std.specs.Prelude.{◌<◌, if◌then◌else◌, drop, length, map, reverse, slice_get}
+use Rattle.std.specs.Prelude.{◌<◌, drop, length, map, reverse, slice_get}
 use Rattle.std.specs.Option.{option_to_list}
 use Rattle.circular_buffer.specs.Buffer.{Buffer, buffer}
 use Rattle.rv_types.specs.Regs.{two}
@@ -8,7 +8,6 @@ use Rattle.rv_types.specs.declared.Kind.{Kind}
 use Rattle.rv_types.specs.declared.Kind.TheVariants.{Load, Store}
 use Rattle.window_model.specs.declared.Entry.{Entry}
 use Rattle.window_model.specs.declared.Item.{Item}
-use Rattle.window_model.specs.declared.Progress.TheVariants.{Waiting, Done}
 use Rattle.window_model.specs.Order.{is_load, is_store, is_waiting, sources}
 use Rattle.window_model.specs.Rename.{at_once, renamed}
 use Rattle.machine_facts.proofs.SizedPhases.{rename_item}
@@ -90,7 +89,7 @@ pub record Entered (e : Entry) (h : Held) (rob : Ring) (beside : Buffer Sources)
   pub sources : beside ≡ buffer (h.sources.items ++ sources_at h.writes e ∷ []) h.sources.capacity
   pub table : writes ≡ h.writes ++ option_to_list (write_of e (roots_at h.writes e))
   pub same_room : room ≡ h.table_room
-  pub places : (place : ℕ) × (stations ≡ record (h.stations) { held = seated place (awaits_of (reverse h.rob.entries) e) e h.stations.held })
+  pub places : (place : ℕ) × (stations ≡ record (h.stations) { held = seated h.desc.version place (awaits_of (reverse h.rob.entries) e) e h.stations.held })
   pub loads_and_stores : q ≡ queued e.item.kind e.serial (base_root (roots_at h.writes e)) h.queues
   pub fetched : fetch_unit ≡ record (h.fetch_unit) { queue = drop 1 h.fetch_unit.queue }
 
@@ -100,7 +99,7 @@ entered place e h = record h {
   rob = record (h.rob) { entries = h.rob.entries ++ e ∷ [] };
   sources = buffer (h.sources.items ++ sources_at h.writes e ∷ []) h.sources.capacity;
   writes = h.writes ++ option_to_list (write_of e (roots_at h.writes e));
-  stations = record (h.stations) { held = seated place (awaits_of (reverse h.rob.entries) e) e h.stations.held };
+  stations = record (h.stations) { held = seated h.desc.version place (awaits_of (reverse h.rob.entries) e) e h.stations.held };
   queues = queued e.item.kind e.serial (base_root (roots_at h.writes e)) h.queues;
   fetch_unit = record (h.fetch_unit) { queue = drop 1 h.fetch_unit.queue };
   next_serial = h.next_serial + 1;
@@ -123,11 +122,6 @@ entered_sizes h place e =
     let b = keeps_stores e.item.kind e.serial (base_root (roots_at h.writes e)) h.queues in
     cc
 
--- a store waits for its operands
-waits : (k : Kind) → k ≡ Store → is_waiting (if at_once k then Done else Waiting) ≡ true
-waits Store s = refl
-waits _ s = absurd (cc)
-
 pub first_rest : (q : List Item) (item : Item) → slice_get q 0 ≡ Some item → q ≡ item ∷ drop 1 q
 first_rest [] item h = absurd (cc)
 first_rest (x ∷ q) item h = cc
@@ -138,7 +132,7 @@ entered_whole h item place w q =
     let found = fitting_is h.desc h.rob.entries (slice_get h.fetch_unit.queue 0) item q in
     record {
       sized = rename_item h.desc (machine_of h) item (drop 1 h.fetch_unit.queue) (first_rest h.fetch_unit.queue item found.0) found.1 w.sized;
-      stands = stands_renamed (in_flight h) e (sources_at h.writes e) (awaits_of (reverse h.rob.entries) e) place w.stands (record { serial = refl; unresolved = refl; waits = waits item.kind }) refl refl refl;
+      stands = stands_renamed (in_flight h) e (sources_at h.writes e) (awaits_of (reverse h.rob.entries) e) place w.stands (record { serial = refl; unresolved = refl; address = refl; stored = refl }) refl refl refl;
       made = entered_sizes h place e ∙ w.made;
     }
 

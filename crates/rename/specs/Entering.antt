@@ -22,6 +22,6 @@ awaited_of_writer window (Some serial) = awaited_of (slice_get window (length (b
 abbrev pub with_write : Option Write → List Write → List Write
 with_write write writes = writes ++ option_to_list write
 
--- the stations, with one more in some place where the entry waits
-abbrev pub with_station : ℕ → List (Option ℕ) → Entry → Stations → Stations
-with_station place awaits e s = record s { held = seated place awaits e s.held }
+-- the stations, with one more in some place where the entry waits, for what it wants in this version of the machine
+abbrev pub with_station : ℕ → ℕ → List (Option ℕ) → Entry → Stations → Stations
+with_station version place awaits e s = record s { held = seated version place awaits e s.held }

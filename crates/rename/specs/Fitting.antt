@@ -1,5 +1,5 @@
 -- Which item fits, and how the parts tell it (docs/machine.md, "Rename").
-use Rattle.std.specs.Prelude.{◌≡◌, Bool, if◌then◌else◌, List, drop, length, Option, Some, None, count_by}
+use Rattle.std.specs.Prelude.{◌≡◌, if◌then◌else◌, List, drop, length, Option, Some, None, count_by}
 use Rattle.machine_desc.specs.declared.Desc.{Desc}
 use Rattle.window_model.specs.declared.Entry.{Entry}
 use Rattle.window_model.specs.declared.Item.{Item}

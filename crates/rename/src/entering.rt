@@ -1,9 +1,10 @@
 //! An entry comes into the parts (`docs/machine.md`, "Rename").
-ghost use Rattle.std.specs.Prelude.{◌≡◌, ◌<◌, ◌++◌, ◌∷◌, [], ℕ, true, length};
+ghost use Rattle.std.specs.Prelude.{◌≡◌, ◌<◌, ◌++◌, ◌∷◌, [], ◌&&◌, ◌==◌, if◌then◌else◌, ℕ, true, not, length};
 ghost use Rattle.std.specs.List.{All};
 ghost use Rattle.circular_buffer.specs.Buffer.{buffer};
 ghost use Rattle.window_model.specs.Rename.{renamed};
 ghost use Rattle.window_model.specs.Order.{is_load, is_store, is_waiting};
+ghost use Rattle.stations.specs.declared.wants.Wants.TheVariants as wants;
 ghost use Rattle.parts_stand.specs.Addresses.{base_root};
 ghost use Rattle.parts_stand.specs.Parts.{write_of};
 ghost use Rattle.core_parts.specs.Steps.{queued};
@@ -15,7 +16,7 @@ use lsq::Lsq;
 use rename_taint::{RenameTaint, root_written};
 use rob_ring::Sources;
 use rv_types::{Kind, writes_of};
-use stations::Stations;
+use stations::{Stations, Wants};
 use window_model::{Entry, Item, Progress};
 
 /// The item as an entry.
@@ -56,19 +57,31 @@ pub(crate) fn add_write<R: RenameTaint>(
     }
 }
 
+// What an item that comes in waits for: all its sources, but a store in version 2 for either, since its parts issue apart.
+fn wants_of(version: u32, kind: Kind) -> Wants
+    ensures { result ≡ (if is_store kind && not (version == 1) then wants.Either else wants.Whole) }
+{
+    match kind {
+        Kind::Store if version != 1 => Wants::Either,
+        _ => Wants::Whole,
+    }
+}
+
 /// The entry gets a station, if it waits: unless it is done at once.
 pub(crate) fn add_station(
     serial: u64,
     item: &Item,
+    version: u32,
     awaits: [Option<u64>; 2],
     stations: &mut Stations,
 )
     requires room { is_waiting (renamed serial item.now).state ≡ true → length stations.old.held < stations.old.room }
     requires youngest { All (λ s. s.serial < serial) stations.old.held }
-    ensures { (place : ℕ) × (stations.new ≡ with_station place awaits (renamed serial item.now) stations.old) }
+    ensures { (place : ℕ) × (stations.new
+        ≡ with_station version place awaits (renamed serial item.now) stations.old) }
 {
     if !is_at_once(item.kind) {
-        stations.insert(serial, awaits);
+        stations.insert(serial, wants_of(version, item.kind), awaits);
     }
 }
 

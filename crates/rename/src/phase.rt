@@ -60,7 +60,13 @@ fn enter_next<R: RenameTaint>(parts: &mut Parts<R>) -> Option<Item>
     let awaits = awaits_of(writers, &parts.rob);
     let roots = roots_of(&parts.table, &item.instr);
     add_write(serial, &item, roots, &mut parts.table);
-    add_station(serial, &item, awaits, &mut parts.stations);
+    add_station(
+        serial,
+        &item,
+        parts.desc.version,
+        awaits,
+        &mut parts.stations,
+    );
     add_access(serial, item.kind, roots, &mut parts.lsq);
     push_within(&mut parts.sources, Sources { roots, writers });
     parts.rob.push(renamed(serial, item));

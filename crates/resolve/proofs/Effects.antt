@@ -14,7 +14,7 @@ use Rattle.window_model.proofs.Serials.{below_next as up_to, rise_with}
 use Rattle.branch_resolve.specs.Effect.{resolution_of}
 use Rattle.branch_resolve.specs.declared.effect.Resolution.TheVariants.{Right, Wrong, Fault}
 use Rattle.core_parts.specs.Dropped.{cut_after, younger_count}
-use Rattle.resolve.specs.Taken.{marked_at, resolving, true_next}
+use Rattle.resolve.specs.Taken.{resolving, true_next}
 use Rattle.resolve.proofs.Picked.{Taken, taken, replaced}
 
 -- marked as resolved

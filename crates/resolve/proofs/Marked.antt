@@ -1,12 +1,11 @@
 -- The parts once an entry is marked as resolved and has taught the predictor.
-use Rattle.std.proofs.Common.{◌≡◌, ℕ, zero, suc, ◌+◌, ◌-◌, ◌<◌, ◌≤◌, true, List, [], ◌∷◌, ◌++◌, length, Option, Some, None, refl, ap, ap₂, sym, ◌∙◌, subst, arith, slice_get}
+use Rattle.std.proofs.Common.{◌≡◌, ℕ, zero, suc, ◌<◌, ◌≤◌, List, [], ◌∷◌, ◌++◌, length, Option, Some, None, refl, ap, ap₂, sym, ◌∙◌, subst, slice_get}
 use Rattle.std.specs.Prelude.{slice_set}
 use Rattle.std.proofs.lemmas.List.{append-nil, append_assoc}
 use Rattle.std.specs.Option.{option_map}
-use Rattle.std.specs.List.{AllByRecursion as Each}
 use Rattle.machine_desc.specs.declared.Desc.{Desc}
 use Rattle.window_model.specs.declared.Entry.{Entry}
-use Rattle.window_model.specs.Order.{Place, first, is_waiting}
+use Rattle.window_model.specs.Order.{Place, first}
 use Rattle.window_model.specs.Resolve.{learn, may_resolve, resolve, resolve_at}
 use Rattle.window_model.specs.Row.{Row}
 use Rattle.window_model.specs.declared.Event.TheVariants as event
@@ -19,7 +18,7 @@ use Rattle.machine_facts.specs.Sized.{Sized}
 use Rattle.machine_facts.proofs.Parts.{IsEntry, parts, whole}
 use Rattle.machine_facts.proofs.SizedPhases.{learns_in}
 use Rattle.machine_facts.proofs.SizedWindow.{thinner}
-use Rattle.rob_ring.specs.Ring.{Ring, below}
+use Rattle.rob_ring.specs.Ring.{Ring}
 use Rattle.predictor.specs.Tables.{Tables}
 use Rattle.visibility.specs.Point.{HasAdvanced}
 use Rattle.branch_resolve.specs.Effect.{resolution_of, taught, told}
@@ -28,7 +27,7 @@ use Rattle.branch_resolve.specs.Pick.{pick_from}
 use Rattle.parts_stand.proofs.Answering.{picks_first}
 use Rattle.rob_ring.specs.Beside.{each_roots}
 use Rattle.core_parts.specs.Described.{Described}
-use Rattle.core_parts.specs.Held.{Held, Sizes, Whole, described, in_flight, machine_of, sizes}
+use Rattle.core_parts.specs.Held.{Held, Sizes, Whole, described, in_flight, machine_of}
 use Rattle.core_parts.specs.Dropped.{StopsAt, cut_after, younger_count}
 use Rattle.core_parts.proofs.Sizes.{each_set, evolves_set}
 use Rattle.core_parts.proofs.Steps.{stands_resolved, stops_at}

@@ -12,7 +12,7 @@ use Rattle.window_model.specs.declared.Entry.{Entry}
 use Rattle.window_model.specs.declared.Outcome.{Outcome}
 use Rattle.window_model.specs.declared.Progress.TheVariants.{Done}
 use Rattle.window_model.specs.Issue.{begun}
-use Rattle.rob_ring.specs.Ring.{Ring, Next, is_busy, is_open}
+use Rattle.rob_ring.specs.Ring.{Ring, Next, is_busy, is_open, is_unsafe}
 use Rattle.word_bits.specs.Bits.{NextBit, one_if}
 use Rattle.rob_ring.specs.Marks.{Marked, MarksOf, mark_at}
 
@@ -94,7 +94,7 @@ module _ (p : Entry → Bool) (es : List Entry) (words : List ℕ) (is : MarksOf
       record { low = h.low; within = within es i here; before = λ k low high. told es k ∙ unmarked _ (sym (is k) ∙ h.before k low high); here = here }
 
 -- a ring of entries with its marks
-module _ (es : List Entry) (room : ℕ) (busy open_ones : List ℕ) (m : Marked es room busy open_ones) (r : Ring) (seen : record { entries = es; room = room } ≡ r) where
+module _ (es : List Entry) (room : ℕ) (busy open_ones unsafes : List ℕ) (m : Marked es room busy open_ones unsafes) (r : Ring) (seen : record { entries = es; room = room } ≡ r) where
   pub few_marked : length es ≤ 192
   few_marked = let a = m.few in let b = m.within in omega (arith, a, b)
 
@@ -120,49 +120,54 @@ module _ (es : List Entry) (room : ℕ) (busy open_ones : List ℕ) (m : Marked 
   pub next_seen : (p : Entry → Bool) (from : ℕ) (o : Option ℕ) → Next p es from o → Next p r.entries from o
   next_seen p from o h = subst (λ (r : Ring). Next p r.entries from o) seen h
 
-  pub set_marked : (i : ℕ) (e : Entry) (b c : Bool) (busy2 open2 : List ℕ) → i < length r.entries → b ≡ is_busy e → c ≡ is_open e →
+  pub set_marked : (i : ℕ) (e : Entry) (b c d : Bool) (busy2 open2 unsafe2 : List ℕ) → i < length r.entries → b ≡ is_busy e → c ≡ is_open e → d ≡ is_unsafe e →
       mark_at busy2 i ≡ one_if b → ((k : ℕ) → k ≢ i → mark_at busy2 k ≡ mark_at busy k) → mark_at open2 i ≡ one_if c → ((k : ℕ) → k ≢ i → mark_at open2 k ≡ mark_at open_ones k) →
-      Marked (slice_set es i e) room busy2 open2
-  set_marked i e b c busy2 open2 lt is_b is_c h g j f = record {
+      mark_at unsafe2 i ≡ one_if d → ((k : ℕ) → k ≢ i → mark_at unsafe2 k ≡ mark_at unsafes k) → Marked (slice_set es i e) room busy2 open2 unsafe2
+  set_marked i e b c d busy2 open2 unsafe2 lt is_b is_c is_d h g j f u v = record {
     few = m.few;
     within = let long = length-set es i e in let w = m.within in omega (arith, long, w);
     busy_is = put_is is_busy es busy m.busy_is i e b busy2 (within_ring i lt) is_b h g;
     open_is = put_is is_open es open_ones m.open_is i e c open2 (within_ring i lt) is_c j f;
+    unsafe_is = put_is is_unsafe es unsafes m.unsafe_is i e d unsafe2 (within_ring i lt) is_d u v;
   }
 
-  -- an entry that begins or is done isn't opened or resolved by that
-  change_marked : (f : Entry → Entry) (b : Bool) → ((d : Entry) → b ≡ is_busy (f d)) → ((d : Entry) → is_open (f d) ≡ is_open d) → (i : ℕ) (busy2 : List ℕ) (es2 : List Entry) (room2 : ℕ) → i < length r.entries →
-      mark_at busy2 i ≡ one_if b → ((k : ℕ) → k ≢ i → mark_at busy2 k ≡ mark_at busy k) →
-      ((e : Entry) → slice_get es i ≡ Some e → buffer es2 room2 ≡ buffer (slice_set es i (f e)) room) → Marked es2 room2 busy2 open_ones
-  change_marked f b is_b same i busy2 es2 room2 lt h g wrote = elim (slice_get_cases es i).1 [
+  -- an entry that begins or is done isn't opened or resolved by that; whether it is safe is told
+  change_marked : (f : Entry → Entry) (b : Bool) → ((d : Entry) → b ≡ is_busy (f d)) → ((d : Entry) → is_open (f d) ≡ is_open d) → (i : ℕ) (busy2 unsafe2 : List ℕ) (c : Bool) (es2 : List Entry) (room2 : ℕ) → i < length r.entries →
+      mark_at busy2 i ≡ one_if b → ((k : ℕ) → k ≢ i → mark_at busy2 k ≡ mark_at busy k) → mark_at unsafe2 i ≡ one_if c → ((k : ℕ) → k ≢ i → mark_at unsafe2 k ≡ mark_at unsafes k) →
+      ((e : Entry) → slice_get es i ≡ Some e → c ≡ is_unsafe (f e)) →
+      ((e : Entry) → slice_get es i ≡ Some e → buffer es2 room2 ≡ buffer (slice_set es i (f e)) room) → Marked es2 room2 busy2 open_ones unsafe2
+  change_marked f b is_b same i busy2 unsafe2 c es2 room2 lt h g u v tells wrote = elim (slice_get_cases es i).1 [
     | inl found ↦ there found.0 found.2
     | inr past ↦ absurd (let le = past.0 in let ours = within_ring i lt in omega (arith, le, ours))
   ]
     where
-      there : (d : Entry) → slice_get es i ≡ Some d → Marked es2 room2 busy2 open_ones
+      there : (d : Entry) → slice_get es i ≡ Some d → Marked es2 room2 busy2 open_ones unsafe2
       there d at =
           let e = f d in
-          subst (λ (b : Buffer Entry). Marked b.items b.capacity busy2 open_ones) (sym (wrote d at)) (record {
+          subst (λ (b : Buffer Entry). Marked b.items b.capacity busy2 open_ones unsafe2) (sym (wrote d at)) (record {
             few = m.few;
             within = let long = length-set es i e in let w = m.within in omega (arith, long, w);
             busy_is = put_is is_busy es busy m.busy_is i e b busy2 (within_ring i lt) (is_b d) h g;
             open_is = stays is_open es open_ones m.open_is i d e at (same d);
+            unsafe_is = put_is is_unsafe es unsafes m.unsafe_is i e c unsafe2 (within_ring i lt) (tells d at) u v;
           })
 
-  pub begin_marked : (due : ℕ) (o : Outcome) (i : ℕ) (busy2 : List ℕ) (es2 : List Entry) (room2 : ℕ) → i < length r.entries →
-      mark_at busy2 i ≡ one_if true → ((k : ℕ) → k ≢ i → mark_at busy2 k ≡ mark_at busy k) →
-      ((e : Entry) → slice_get es i ≡ Some e → buffer es2 room2 ≡ buffer (slice_set es i (begun e due o)) room) → Marked es2 room2 busy2 open_ones
+  pub begin_marked : (due : ℕ) (o : Outcome) (i : ℕ) (busy2 unsafe2 : List ℕ) (c : Bool) (es2 : List Entry) (room2 : ℕ) → i < length r.entries →
+      mark_at busy2 i ≡ one_if true → ((k : ℕ) → k ≢ i → mark_at busy2 k ≡ mark_at busy k) → mark_at unsafe2 i ≡ one_if c → ((k : ℕ) → k ≢ i → mark_at unsafe2 k ≡ mark_at unsafes k) →
+      ((e : Entry) → slice_get es i ≡ Some e → c ≡ is_unsafe (begun e due o)) →
+      ((e : Entry) → slice_get es i ≡ Some e → buffer es2 room2 ≡ buffer (slice_set es i (begun e due o)) room) → Marked es2 room2 busy2 open_ones unsafe2
   begin_marked due o = change_marked (λ d. begun d due o) true (λ d. refl) (λ d. refl)
 
-  pub finish_marked : (i : ℕ) (busy2 : List ℕ) (es2 : List Entry) (room2 : ℕ) → i < length r.entries →
-      mark_at busy2 i ≡ one_if false → ((k : ℕ) → k ≢ i → mark_at busy2 k ≡ mark_at busy k) →
-      ((e : Entry) → slice_get es i ≡ Some e → buffer es2 room2 ≡ buffer (slice_set es i (record e { state = Done })) room) → Marked es2 room2 busy2 open_ones
+  pub finish_marked : (i : ℕ) (busy2 unsafe2 : List ℕ) (c : Bool) (es2 : List Entry) (room2 : ℕ) → i < length r.entries →
+      mark_at busy2 i ≡ one_if false → ((k : ℕ) → k ≢ i → mark_at busy2 k ≡ mark_at busy k) → mark_at unsafe2 i ≡ one_if c → ((k : ℕ) → k ≢ i → mark_at unsafe2 k ≡ mark_at unsafes k) →
+      ((e : Entry) → slice_get es i ≡ Some e → c ≡ is_unsafe (record e { state = Done })) →
+      ((e : Entry) → slice_get es i ≡ Some e → buffer es2 room2 ≡ buffer (slice_set es i (record e { state = Done })) room) → Marked es2 room2 busy2 open_ones unsafe2
   finish_marked = change_marked (λ d. record d { state = Done }) false (λ d. refl) (λ d. refl)
 
-  pub push_marked : (e : Entry) (b c : Bool) (busy2 open2 : List ℕ) (n : ℕ) → n ≡ length r.entries → n < r.room → b ≡ is_busy e → c ≡ is_open e →
+  pub push_marked : (e : Entry) (b c d : Bool) (busy2 open2 unsafe2 : List ℕ) (n : ℕ) → n ≡ length r.entries → n < r.room → b ≡ is_busy e → c ≡ is_open e → d ≡ is_unsafe e →
       mark_at busy2 n ≡ one_if b → ((k : ℕ) → k ≢ n → mark_at busy2 k ≡ mark_at busy k) → mark_at open2 n ≡ one_if c → ((k : ℕ) → k ≢ n → mark_at open2 k ≡ mark_at open_ones k) →
-      Marked (es ++ e ∷ []) room busy2 open2
-  push_marked e b c busy2 open2 n is lt is_b is_c h g j f =
+      mark_at unsafe2 n ≡ one_if d → ((k : ℕ) → k ≢ n → mark_at unsafe2 k ≡ mark_at unsafes k) → Marked (es ++ e ∷ []) room busy2 open2 unsafe2
+  push_marked e b c d busy2 open2 unsafe2 n is lt is_b is_c is_d h g j f u v =
       let as_many = ap (λ (r : Ring). length r.entries) seen in
       let rooms = ap (λ (r : Ring). r.room) seen in
       let at : n ≡ length es = omega (arith, is, as_many) in
@@ -171,21 +176,25 @@ module _ (es : List Entry) (room : ℕ) (busy open_ones : List ℕ) (m : Marked 
         within = let long = length-append es (e ∷ []) in omega (arith, long, lt, rooms, at);
         busy_is = push_is is_busy es busy m.busy_is e b busy2 is_b (subst (λ n. mark_at busy2 n ≡ one_if b) at h) (λ k ne. g k (λ q. ne (q ∙ at)));
         open_is = push_is is_open es open_ones m.open_is e c open2 is_c (subst (λ n. mark_at open2 n ≡ one_if c) at j) (λ k ne. f k (λ q. ne (q ∙ at)));
+        unsafe_is = push_is is_unsafe es unsafes m.unsafe_is e d unsafe2 is_d (subst (λ n. mark_at unsafe2 n ≡ one_if d) at u) (λ k ne. v k (λ q. ne (q ∙ at)));
       }
 
-  pub cut_marked : (n : ℕ) (busy2 open2 : List ℕ) → ((k : ℕ) → mark_at busy2 k ≡ (if nat_lt k n then mark_at busy k else 0)) → ((k : ℕ) → mark_at open2 k ≡ (if nat_lt k n then mark_at open_ones k else 0)) →
-      Marked (take n es) room busy2 open2
-  cut_marked n busy2 open2 h j = record {
+  pub cut_marked : (n : ℕ) (busy2 open2 unsafe2 : List ℕ) → ((k : ℕ) → mark_at busy2 k ≡ (if nat_lt k n then mark_at busy k else 0)) → ((k : ℕ) → mark_at open2 k ≡ (if nat_lt k n then mark_at open_ones k else 0)) →
+      ((k : ℕ) → mark_at unsafe2 k ≡ (if nat_lt k n then mark_at unsafes k else 0)) → Marked (take n es) room busy2 open2 unsafe2
+  cut_marked n busy2 open2 unsafe2 h j u = record {
     few = m.few;
     within = let long = length-take n es in let w = m.within in omega (arith, long, w);
     busy_is = kept_is is_busy es busy m.busy_is n busy2 h;
     open_is = kept_is is_open es open_ones m.open_is n open2 j;
+    unsafe_is = kept_is is_unsafe es unsafes m.unsafe_is n unsafe2 u;
   }
 
-  pub pop_marked : (busy2 open2 : List ℕ) → ((k : ℕ) → mark_at busy2 k ≡ mark_at busy (k + 1)) → ((k : ℕ) → mark_at open2 k ≡ mark_at open_ones (k + 1)) → Marked (drop 1 es) room busy2 open2
-  pop_marked busy2 open2 h j = record {
+  pub pop_marked : (busy2 open2 unsafe2 : List ℕ) → ((k : ℕ) → mark_at busy2 k ≡ mark_at busy (k + 1)) → ((k : ℕ) → mark_at open2 k ≡ mark_at open_ones (k + 1)) →
+      ((k : ℕ) → mark_at unsafe2 k ≡ mark_at unsafes (k + 1)) → Marked (drop 1 es) room busy2 open2 unsafe2
+  pop_marked busy2 open2 unsafe2 h j u = record {
     few = m.few;
     within = let long = length-drop 1 es in let w = m.within in omega (arith, long, w);
     busy_is = dropped_is is_busy es busy m.busy_is busy2 h;
     open_is = dropped_is is_open es open_ones m.open_is open2 j;
+    unsafe_is = dropped_is is_unsafe es unsafes m.unsafe_is unsafe2 u;
   }

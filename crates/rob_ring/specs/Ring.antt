@@ -5,6 +5,7 @@ use Rattle.window_model.specs.declared.Entry.{Entry}
 use Rattle.window_model.specs.declared.Progress.{Progress}
 use Rattle.window_model.specs.declared.Progress.TheVariants.{Busy}
 use Rattle.window_model.specs.Order.{is_control}
+use Rattle.window_model.specs.Taint.{safe}
 pub use Rattle.window_model.specs.Serials.{below}
 
 -- the entries in flight, oldest first, and for how many there is room
@@ -24,6 +25,10 @@ is_busy e = in_execution e.state
 -- the entry is a branch or JALR that isn't resolved
 abbrev pub is_open : Entry → Bool
 is_open e = is_control e.item.kind && not e.resolved
+
+-- something may yet squash what comes after the entry
+abbrev pub is_unsafe : Entry → Bool
+is_unsafe e = not (safe e)
 
 -- i is the first position from this one on whose entry passes
 pub record IsNext (p : Entry → Bool) (entries : List Entry) (from i : ℕ) : Type 0 where

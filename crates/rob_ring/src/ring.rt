@@ -6,7 +6,7 @@ ghost use Rattle.window_model.specs.declared.Entry.{Entry};
 ghost use Rattle.window_model.specs.declared.Progress.TheVariants.{Done};
 ghost use Rattle.window_model.specs.Issue.{begun};
 ghost use Rattle.window_model.specs.Serials.{Rise, below};
-ghost use Rattle.rob_ring.specs.Ring.{Next, Ring, in_execution, is_busy, is_open};
+ghost use Rattle.rob_ring.specs.Ring.{Next, Ring, in_execution, is_busy, is_open, is_unsafe};
 
 use crate::marks::{drop_mark, keep_marks, next_mark, put_mark};
 use circular_buffer::HeapCircularBuffer;
@@ -24,6 +24,8 @@ pub struct RobRing {
     busy: [u64; 3],
     // And whether it is a branch or JALR that isn't resolved.
     unresolved: [u64; 3],
+    // And whether it may yet squash what comes after it.
+    unsafes: [u64; 3],
 }
 
 impl Model for RobRing {
@@ -34,7 +36,7 @@ impl Model for RobRing {
 
     ghost view = { λ r. record { entries = r.items.items; room = r.items.capacity } };
 
-    ghost invariant = { λ r. Marked r.items.items r.items.capacity r.busy r.unresolved };
+    ghost invariant = { λ r. Marked r.items.items r.items.capacity r.busy r.unresolved r.unsafes };
 }
 
 impl RobRing {
@@ -47,6 +49,7 @@ impl RobRing {
             items,
             busy: [0; 3],
             unresolved: [0; 3],
+            unsafes: [0; 3],
         })
     }
 
@@ -66,6 +69,7 @@ impl RobRing {
         let len = self.len();
         put_mark(&mut self.busy, len, in_execution(entry.state));
         put_mark(&mut self.unresolved, len, is_open(&entry));
+        put_mark(&mut self.unsafes, len, !entry.is_safe());
         let _ = self.items.try_push_back(entry);
     }
 
@@ -99,6 +103,7 @@ impl RobRing {
     {
         put_mark(&mut self.busy, i, in_execution(entry.state));
         put_mark(&mut self.unresolved, i, is_open(&entry));
+        put_mark(&mut self.unsafes, i, !entry.is_safe());
         put_entry(&mut self.items, i, entry);
     }
 
@@ -109,7 +114,8 @@ impl RobRing {
             → self.new ≡ record self.old { entries = slice_set self.old.entries i (begun e due outcome) } }
     {
         put_mark(&mut self.busy, i, true);
-        begin_entry(&mut self.items, i, due, outcome);
+        let is_unsafe = begin_entry(&mut self.items, i, due, outcome);
+        put_mark(&mut self.unsafes, i, is_unsafe);
     }
 
     /// The entry at a position becomes Done.
@@ -119,7 +125,8 @@ impl RobRing {
             → self.new ≡ record self.old { entries = slice_set self.old.entries i (record e { state = Done }) } }
     {
         put_mark(&mut self.busy, i, false);
-        finish_entry(&mut self.items, i);
+        let is_unsafe = finish_entry(&mut self.items, i);
+        put_mark(&mut self.unsafes, i, is_unsafe);
     }
 
     /// Keeps the oldest `len` entries and drops the younger ones.
@@ -128,6 +135,7 @@ impl RobRing {
     {
         self.busy = keep_marks(self.busy, len);
         self.unresolved = keep_marks(self.unresolved, len);
+        self.unsafes = keep_marks(self.unsafes, len);
         self.items.truncate_back(len as usize);
     }
 
@@ -138,6 +146,7 @@ impl RobRing {
     {
         self.busy = drop_mark(self.busy);
         self.unresolved = drop_mark(self.unresolved);
+        self.unsafes = drop_mark(self.unsafes);
         let _ = self.items.pop_front();
     }
 
@@ -157,6 +166,15 @@ impl RobRing {
         ensures few { self.now.room < 2 ^ 32 }
     {
         next_mark(self.unresolved, from)
+    }
+
+    /// The first position from one on whose entry may yet squash what comes after it.
+    pub fn next_unsafe(&self, from: u32) -> Option<u32>
+        ensures next { Next is_unsafe self.now.entries from result }
+        ensures within { IfSome result (λ i. i < self.now.room) }
+        ensures few { self.now.room < 2 ^ 32 }
+    {
+        next_mark(self.unsafes, from)
     }
 
     /// The position of the entry with this serial, or the one at which it would stand: how many entries have a serial below
@@ -205,27 +223,34 @@ fn put_entry(items: &mut HeapCircularBuffer<Entry>, i: u32, entry: Entry)
     }
 }
 
-// The entry at a position begins to execute.
-fn begin_entry(items: &mut HeapCircularBuffer<Entry>, i: u32, due: u64, outcome: Outcome)
+// The entry at a position begins to execute. Whether it may yet squash what comes after it.
+fn begin_entry(items: &mut HeapCircularBuffer<Entry>, i: u32, due: u64, outcome: Outcome) -> bool
     requires { i < length items.old.items }
-    ensures { (e : Entry) → slice_get items.old.items i ≡ Some e
+    ensures tells { (e : Entry) → slice_get items.old.items i ≡ Some e → result ≡ is_unsafe (begun e due outcome) }
+    ensures wrote { (e : Entry) → slice_get items.old.items i ≡ Some e
         → items.new ≡ record items.old { items = slice_set items.old.items i (begun e due outcome) } }
 {
     if let Some(entry) = items.get_mut(i as usize) {
         entry.state = Progress::Busy(due);
         entry.outcome = Some(outcome);
+        return !entry.is_safe();
     }
+    false
 }
 
-// The entry at a position becomes Done.
-fn finish_entry(items: &mut HeapCircularBuffer<Entry>, i: u32)
+// The entry at a position becomes Done. Whether it may yet squash what comes after it.
+fn finish_entry(items: &mut HeapCircularBuffer<Entry>, i: u32) -> bool
     requires { i < length items.old.items }
-    ensures { (e : Entry) → slice_get items.old.items i ≡ Some e
+    ensures tells { (e : Entry) → slice_get items.old.items i ≡ Some e
+        → result ≡ is_unsafe (record e { state = Done }) }
+    ensures wrote { (e : Entry) → slice_get items.old.items i ≡ Some e
         → items.new ≡ record items.old { items = slice_set items.old.items i (record e { state = Done }) } }
 {
     if let Some(entry) = items.get_mut(i as usize) {
         entry.state = Progress::Done;
+        return !entry.is_safe();
     }
+    false
 }
 
 // Whether an entry in this state executes.

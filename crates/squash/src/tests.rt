@@ -7,7 +7,7 @@ use machine_desc::{Desc, EXAMPLE, read_desc};
 use rename_taint::{ByScan, ByTable, RenameTaint, Source};
 use rob_ring::RobRing;
 use rv_types::Reg;
-use stations::Stations;
+use stations::{Stations, Wants};
 use std::alloc::Global;
 use std::process::Abort;
 use std::test::Fail;
@@ -55,10 +55,10 @@ fn squash_keeps_the_load<R: RenameTaint + Drop>(
     fill_loads(&mut lsq);
     rob.push(entry(5));
     rename.write(register, 5, Some(3));
-    stations.insert(5, [Some(3), None]);
+    stations.insert(5, Wants::Whole, [Some(3), None]);
     ports.divide(30, 5);
     rob.push(entry(6));
-    stations.insert(6, [Some(5), None]);
+    stations.insert(6, Wants::Either, [Some(5), None]);
     if !lsq.has_store_room() {
         panic!(rt; "no room");
     }

@@ -1,15 +1,14 @@
 -- What is marked of who awaits a serial, as entries come and wake.
 use Rattle.std.proofs.Common.{◌≡◌, ◌≢◌, ℕ, ◌%◌, ◌+◌, ◌<◌, ◌≤◌, Bool, true, false, List, length, get_or, set, Option, Some, None, slice_get, refl, ap, ap₂, sym, ◌∙◌, arith, inl, inr, ⊎_elim}
-use Rattle.std.specs.Prelude.{not, is_none, ◌==◌, ◌||◌, if◌then◌else◌}
+use Rattle.std.specs.Prelude.{not, ◌==◌, ◌||◌, if◌then◌else◌}
 use Rattle.std.specs.Int.{bit_at}
-use Rattle.std.specs.List.{list_all}
 use Rattle.std.specs.Option.{option_map}
 use Rattle.std.proofs.lemmas.Bool.{cases_Bool, cases_eq, cases_lt, eq-eqb}
 use Rattle.std.proofs.lemmas.Bool.Decides.{eqb_tells}
 use Rattle.std.proofs.lemmas.List.{get_or_default, get_or_past, get_or-set_same, get_or-set_other}
 use Rattle.word_bits.specs.Bits.{IsFirstBit, one_if}
 use Rattle.stations.specs.declared.occupant.Occupant.{Occupant}
-use Rattle.stations.specs.Stations.{awaits_none, strike}
+use Rattle.stations.specs.Stations.{able_as, is_able, strike}
 use Rattle.stations.specs.Places.{MarkWaiters, MarkWaiting, awaited, awaits_in, held_of, is_in, nobody, waits, woken}
 use Rattle.stations.proofs.Reading.{entry_at}
 
@@ -39,9 +38,9 @@ in_place group p places h = elim (cases_lt p (length places)) [
 ]
 
 -- an entry that comes into a place is marked there
-pub marked_push : (places : List Occupant) (waiters waiters2 : List ℕ) (place : ℕ) (o : Occupant) → place < length places → length places ≤ 64 → MarkWaiters places waiters →
+pub marked_push : (places : List Occupant) (waiters waiters2 : List ℕ) (place : ℕ) (o : Occupant) → place < length places → length places ≤ 128 → MarkWaiters places waiters →
     ((group : ℕ) → awaits_in group o ≡ true → bit_at (get_or waiters2 group 0) place ≡ 1) →
-    ((group p : ℕ) → p < 64 → bit_at (get_or waiters group 0) p ≡ 1 → bit_at (get_or waiters2 group 0) p ≡ 1) → MarkWaiters (set places place o) waiters2
+    ((group p : ℕ) → p < 128 → bit_at (get_or waiters group 0) p ≡ 1 → bit_at (get_or waiters2 group 0) p ≡ 1) → MarkWaiters (set places place o) waiters2
 marked_push places waiters waiters2 place o lt few m here others group p h = elim (cases_eq p place) [
   | inl q ↦ ap (bit_at (get_or waiters2 group 0)) q
       ∙ here group (sym (ap (awaits_in group) (ap (λ k. get_or (set places place o) k nobody) q ∙ get_or-set_same places place o nobody lt)) ∙ h)
@@ -52,7 +51,7 @@ marked_push places waiters waiters2 place o lt few m here others group p h = eli
 ]
 
 pub waiting_push : (places : List Occupant) (waiting waiting2 : ℕ) (place : ℕ) (o : Occupant) → place < length places → MarkWaiting places waiting →
-    bit_at waiting2 place ≡ one_if (waits o) → ((p : ℕ) → p < 64 → p ≢ place → bit_at waiting2 p ≡ bit_at waiting p) → MarkWaiting (set places place o) waiting2
+    bit_at waiting2 place ≡ one_if (waits o) → ((p : ℕ) → p < 128 → p ≢ place → bit_at waiting2 p ≡ bit_at waiting p) → MarkWaiting (set places place o) waiting2
 waiting_push places waiting waiting2 place o lt m here others p few = elim (cases_eq p place) [
   | inl q ↦ ap (bit_at waiting2) q ∙ here ∙ ap (λ o. one_if (waits o)) (sym (ap (λ k. get_or (set places place o) k nobody) q ∙ get_or-set_same places place o nobody lt))
   | inr ne ↦ others p few ne ∙ m p few ∙ ap (λ o. one_if (waits o)) (sym (get_or-set_other places place p o nobody ne))
@@ -90,7 +89,7 @@ module _ (serial : ℕ) (old places : List Occupant) (waiters : List ℕ) (from 
     | inr low ↦ as_it_was p low (none p low)
   ]
 
--- ---- who is ready
+-- ---- who may issue
 
 bit_tells : (a b : Bool) → one_if a ≡ one_if b → not a ≡ not b
 bit_tells true true h = refl
@@ -102,10 +101,10 @@ not_not : (b : Bool) → not (not b) ≡ b
 not_not true = refl
 not_not false = refl
 
--- an entry whose place isn't marked awaits nothing
-pub ready_at : (places : List Occupant) (ages : List ℕ) (waiting i p : ℕ) (b : Bool) → i < length ages → p ≡ get_or ages i p → p < length places → length places ≤ 64 → MarkWaiting places waiting →
-    bit_at waiting p ≡ one_if b → option_map awaits_none (slice_get (held_of places ages) i) ≡ Some (not b)
-ready_at places ages waiting i p b lt at below few m is =
+-- an entry whose place isn't marked may issue, or a part of it
+pub able_at : (places : List Occupant) (ages : List ℕ) (waiting i p : ℕ) (b : Bool) → i < length ages → p ≡ get_or ages i p → p < length places → length places ≤ 128 → MarkWaiting places waiting →
+    bit_at waiting p ≡ one_if b → option_map is_able (slice_get (held_of places ages) i) ≡ Some (not b)
+able_at places ages waiting i p b lt at below few m is =
     let o = get_or places p nobody in
-    ap (option_map awaits_none) (entry_at places ages i p o lt at below (get_or_default places p nobody o below))
-    ∙ ap Some (sym (not_not (list_all is_none (awaited o))) ∙ bit_tells (waits o) b (sym (m p (omega (arith, below, few))) ∙ is))
+    ap (option_map is_able) (entry_at places ages i p o lt at below (get_or_default places p nobody o below))
+    ∙ ap Some (sym (not_not (able_as o.wants (awaited o))) ∙ bit_tells (waits o) b (sym (m p (omega (arith, below, few))) ∙ is))

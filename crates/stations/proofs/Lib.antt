@@ -2,5 +2,7 @@ pub mod Numbers
 pub mod Placing
 pub mod Reading
 pub mod Dropping
+pub mod Leaving
+pub mod Wanting
 mod Awaited
 mod Taken

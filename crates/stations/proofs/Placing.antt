@@ -1,5 +1,5 @@
 -- Places are taken once or free as entries come, wake and go.
-use Rattle.std.proofs.Common.{◌≡◌, ◌≢◌, ℕ, ◌+◌, ◌<◌, List, [], ◌∷◌, ◌++◌, length, get_or, set, take, drop, suc, refl, ap, ap₂, sym, ◌∙◌, arith, subst}
+use Rattle.std.proofs.Common.{◌≡◌, ◌≢◌, ℕ, ◌+◌, ◌<◌, List, [], ◌∷◌, ◌++◌, length, get_or, set, take, drop, suc, Option, refl, ap, ap₂, sym, ◌∙◌, arith, subst}
 use Rattle.std.specs.Prelude.{map, IsPermutation}
 use Rattle.std.specs.List.{All, remove, range_with_len}
 use Rattle.std.proofs.lemmas.List.{append_assoc, map-append, map-id, length-map, length-set, take-map, drop-map, get_or-map, get_or-set_same, get_or-set_other}
@@ -8,8 +8,9 @@ use Rattle.std.proofs.lemmas.List.FromFn.{map-range_with_len_more}
 use Rattle.std.proofs.lemmas.List.Quantifiers.{all_pairs_push, all_pairs_remove}
 use Rattle.std.proofs.lemmas.List.Sorted.{IsPermutation-sym, IsPermutation-trans, IsPermutation-append_left, IsPermutation-pop_more, IsPermutation-remove, IsPermutation-to_front}
 use Rattle.stations.specs.declared.occupant.Occupant.{Occupant}
+use Rattle.stations.specs.declared.wants.Wants.{Wants}
 use Rattle.stations.specs.Stations.{Rise, Station, struck}
-use Rattle.stations.specs.Places.{station, station_in, nobody, held_of, woken, Placed}
+use Rattle.stations.specs.Places.{awaited, station, station_in, nobody, held_of, woken, Placed}
 use Rattle.stations.proofs.Numbers.{below, apart}
 
 abbrev Once : List Occupant → List ℕ → Type 0
@@ -18,9 +19,11 @@ Once places numbers = IsPermutation (range_with_len 0 (length places)) numbers
 pub range_more : (n : ℕ) → range_with_len 0 (n + 1) ≡ range_with_len 0 n ++ n ∷ []
 range_more n = sym (map-id (range_with_len 0 (n + 1))) ∙ map-range_with_len_more (λ k. k) 0 n n (omega arith) ∙ ap (λ ns. ns ++ n ∷ []) (map-id (range_with_len 0 n))
 
--- ---- none waits
-
 -- ---- one more waits
+
+-- the entry is seen as it was made
+pub new_station : (p : ℕ) (o : Occupant) (serial : ℕ) (wants : Wants) (awaits : List (Option ℕ)) → o.serial ≡ serial → o.wants ≡ wants → awaited o ≡ awaits → station p o ≡ record { serial = serial; wants = wants; awaits = awaits; place = p }
+new_station p o serial wants awaits s w a = ap₂ (λ serial rest. record { serial = serial; wants = o.wants; awaits = rest; place = p }) s a ∙ ap (λ w. record { serial = serial; wants = w; awaits = awaits; place = p }) w
 
 -- what happens in one place leaves the entries in others
 held_set : (places : List Occupant) (p : ℕ) (o : Occupant) (ages : List ℕ) → All (λ q. q ≢ p) ages → held_of (set places p o) ages ≡ held_of places ages

@@ -1,8 +1,8 @@
--- The places that are taken, as bits, and whether something is awaited in each of them.
+-- The places that are taken, as bits, and whether the entry in each of them may issue.
 use Rattle.std.proofs.Common.{◌≡◌, ◌≢◌, ℕ, suc, ◌%◌, ◌+◌, ◌<◌, ◌≤◌, Bool, true, false, List, [], ◌∷◌, ◌++◌, length, get_or, Option, Some, None, refl, ap, ap₂, sym, subst, ◌∙◌, arith, bit_and, bit_xor, inl, inr}
-use Rattle.std.specs.Prelude.{not, is_none, is_some, min, ◌||◌, IsPermutation}
+use Rattle.std.specs.Prelude.{not, is_some, min, ◌||◌, IsPermutation}
 use Rattle.std.specs.Int.{bit_at}
-use Rattle.std.specs.List.{All, list_all, list_any, range_with_len, remove}
+use Rattle.std.specs.List.{All, list_any, range_with_len, remove}
 use Rattle.std.proofs.lemmas.Bool.{cases_Bool, cases_eq}
 use Rattle.std.proofs.lemmas.List.{get_or-append-add, get_or_append_left, get_or_push, length-append}
 use Rattle.std.proofs.lemmas.List.Elements.{All-append, All-cons, All-head, All-nil, All-push, All-tail, All-weaker}
@@ -11,7 +11,7 @@ use Rattle.std.proofs.lemmas.List.Sorted.{All-permutation, IsPermutation-append_
 use Rattle.std.proofs.lemmas.Nat.Bits.{bit_at_and, bit_at_xor}
 use Rattle.word_bits.specs.Bits.{NextBit, one_if}
 use Rattle.stations.specs.declared.occupant.Occupant.{Occupant}
-use Rattle.stations.specs.Stations.{awaits_none}
+use Rattle.stations.specs.Stations.{able_as, is_able}
 use Rattle.stations.specs.Places.{MarkTaken, MarkWaiting, awaited, held_of, nobody}
 use Rattle.stations.proofs.Numbers.{all_below, all_differ, taken_below}
 use Rattle.stations.proofs.Awaited.{neither}
@@ -27,8 +27,8 @@ apart_bits a b room (Some i) h = record { low = h.low; high = h.high; before = �
 
 -- ---- one comes, one goes
 
-module _ (room : ℕ) (ages rest : List ℕ) (p taken taken2 : ℕ) (once : IsPermutation (range_with_len 0 room) (ages ++ (rest ++ p ∷ []))) (few : room ≤ 64) (m : MarkTaken ages (rest ++ p ∷ []) taken)
-    (here : bit_at taken2 p ≡ 1) (others : (b : ℕ) → b < 64 → b ≢ p → bit_at taken2 b ≡ bit_at taken b) where
+module _ (room : ℕ) (ages rest : List ℕ) (p taken taken2 : ℕ) (once : IsPermutation (range_with_len 0 room) (ages ++ (rest ++ p ∷ []))) (few : room ≤ 128) (m : MarkTaken ages (rest ++ p ∷ []) taken)
+    (here : bit_at taken2 p ≡ 1) (others : (b : ℕ) → b < 128 → b ≢ p → bit_at taken2 b ≡ bit_at taken b) where
   pub taken_push : MarkTaken (ages ++ p ∷ []) rest taken2
   taken_push = record {
     set = All-push (λ q. bit_at taken2 q ≡ 1) ages p set_on here;
@@ -54,8 +54,8 @@ module _ (room : ℕ) (ages rest : List ℕ) (p taken taken2 : ℕ) (once : IsPe
           let ne : get_or rest k d ≢ p = λ same. differ (at ∙ same ∙ sym last) in
           others (get_or rest k d) (omega (arith, low, at, few)) ne ∙ sym (ap (bit_at taken) (get_or_append_left rest (p ∷ []) d k lt)) ∙ m.clear k d (omega (arith, more, lt))
 
-module _ (room : ℕ) (ages free : List ℕ) (i p taken taken2 : ℕ) (once : IsPermutation (range_with_len 0 room) (ages ++ free)) (few : room ≤ 64) (m : MarkTaken ages free taken) (lt : i < length ages) (is : p ≡ get_or ages i p)
-    (here : bit_at taken2 p ≡ 0) (others : (b : ℕ) → b < 64 → b ≢ p → bit_at taken2 b ≡ bit_at taken b) where
+module _ (room : ℕ) (ages free : List ℕ) (i p taken taken2 : ℕ) (once : IsPermutation (range_with_len 0 room) (ages ++ free)) (few : room ≤ 128) (m : MarkTaken ages free taken) (lt : i < length ages) (is : p ≡ get_or ages i p)
+    (here : bit_at taken2 p ≡ 0) (others : (b : ℕ) → b < 128 → b ≢ p → bit_at taken2 b ≡ bit_at taken b) where
   first : IsPermutation (range_with_len 0 room) (p ∷ (remove ages i ++ free))
   first = IsPermutation-trans _ _ _ once (IsPermutation-append_left free _ _ (IsPermutation-remove ages i p lt is))
 
@@ -87,9 +87,9 @@ module _ (room : ℕ) (ages free : List ℕ) (i p taken taken2 : ℕ) (once : Is
             others (get_or free k d) (omega (arith, low, at, few)) ne ∙ m.clear k d l
       ]
 
--- ---- whether any entry awaits nothing
+-- ---- whether any entry may issue, or a part of one
 
--- b tells that nothing is awaited in a place that is taken
+-- b tells that the entry in a place that is taken, or a part of it, may issue
 idle_tells : (t w : ℕ) (b : Bool) → t ≡ 1 → w ≡ one_if (not b) → (t + min t w) % 2 ≡ 0 → b ≡ false
 idle_tells t w true et ew h = absurd (omega (arith, et, ew, h))
 idle_tells t w false et ew h = refl
@@ -101,30 +101,33 @@ not_idle t w false et ew h = omega (arith, et, ew)
 free_not_idle : (t w : ℕ) → t ≡ 0 → (t + min t w) % 2 ≡ 0
 free_not_idle t w e = omega (arith, e)
 
-module _ (places : List Occupant) (waiting taken : ℕ) (few : length places ≤ 64) (w : MarkWaiting places waiting) where
+abbrev able_in : Occupant → Bool
+able_in o = able_as o.wants (awaited o)
+
+module _ (places : List Occupant) (waiting taken : ℕ) (few : length places ≤ 128) (w : MarkWaiting places waiting) where
   abbrev Idle : ℕ → ℕ
   Idle p = (bit_at taken p + min (bit_at taken p) (bit_at waiting p)) % 2
 
-  none_ready : (ages : List ℕ) → All (λ p. p < length places) ages → All (λ p. bit_at taken p ≡ 1) ages → ((p : ℕ) → 0 ≤ p → p < length places → Idle p ≡ 0) → list_any awaits_none (held_of places ages) ≡ false
-  none_ready [] below set none = refl
-  none_ready (q ∷ ages) below set none =
+  none_able : (ages : List ℕ) → All (λ p. p < length places) ages → All (λ p. bit_at taken p ≡ 1) ages → ((p : ℕ) → 0 ≤ p → p < length places → Idle p ≡ 0) → list_any is_able (held_of places ages) ≡ false
+  none_able [] below set none = refl
+  none_able (q ∷ ages) below set none =
       let lt : q < length places = All-head (λ p. p < length places) q ages below in
       let one : bit_at taken q ≡ 1 = All-head (λ p. bit_at taken p ≡ 1) q ages set in
-      ap₂ (λ a b. a || b) (idle_tells (bit_at taken q) (bit_at waiting q) (list_all is_none (awaited (get_or places q nobody))) one (w q (omega (arith, lt, few))) (none q (omega arith) lt))
-      (none_ready ages (All-tail (λ p. p < length places) q ages below) (All-tail (λ p. bit_at taken p ≡ 1) q ages set) none)
+      ap₂ (λ a b. a || b) (idle_tells (bit_at taken q) (bit_at waiting q) (able_in (get_or places q nobody)) one (w q (omega (arith, lt, few))) (none q (omega arith) lt))
+      (none_able ages (All-tail (λ p. p < length places) q ages below) (All-tail (λ p. bit_at taken p ≡ 1) q ages set) none)
 
-  none_idle : (ages : List ℕ) → All (λ p. p < length places) ages → All (λ p. bit_at taken p ≡ 1) ages → list_any awaits_none (held_of places ages) ≡ false → All (λ p. Idle p ≡ 0) ages
+  none_idle : (ages : List ℕ) → All (λ p. p < length places) ages → All (λ p. bit_at taken p ≡ 1) ages → list_any is_able (held_of places ages) ≡ false → All (λ p. Idle p ≡ 0) ages
   none_idle [] below set none = All-nil (λ p. Idle p ≡ 0)
   none_idle (q ∷ ages) below set none =
       let lt : q < length places = All-head (λ p. p < length places) q ages below in
       let one : bit_at taken q ≡ 1 = All-head (λ p. bit_at taken p ≡ 1) q ages set in
-      let both = neither (list_all is_none (awaited (get_or places q nobody))) (list_any awaits_none (held_of places ages)) none in
-      All-cons (λ p. Idle p ≡ 0) q ages (not_idle (bit_at taken q) (bit_at waiting q) (list_all is_none (awaited (get_or places q nobody))) one (w q (omega (arith, lt, few))) both.0)
+      let both = neither (able_in (get_or places q nobody)) (list_any is_able (held_of places ages)) none in
+      All-cons (λ p. Idle p ≡ 0) q ages (not_idle (bit_at taken q) (bit_at waiting q) (able_in (get_or places q nobody)) one (w q (omega (arith, lt, few))) both.0)
       (none_idle ages (All-tail (λ p. p < length places) q ages below) (All-tail (λ p. bit_at taken p ≡ 1) q ages set) both.1)
 
-  pub any_is : (ages free : List ℕ) (room : ℕ) → room ≡ length places → IsPermutation (range_with_len 0 (length places)) (ages ++ free) → MarkTaken ages free taken → (o : Option ℕ) → NextBit Idle 0 room o → is_some o ≡ list_any awaits_none (held_of places ages)
-  any_is ages free room as_many once m None h = sym (none_ready ages (taken_below (length places) ages free once) m.set (λ k low lt. h k low (omega (arith, lt, as_many))))
-  any_is ages free room as_many once m (Some p) h = elim (cases_Bool (list_any awaits_none (held_of places ages))) [
+  pub any_is : (ages free : List ℕ) (room : ℕ) → room ≡ length places → IsPermutation (range_with_len 0 (length places)) (ages ++ free) → MarkTaken ages free taken → (o : Option ℕ) → NextBit Idle 0 room o → is_some o ≡ list_any is_able (held_of places ages)
+  any_is ages free room as_many once m None h = sym (none_able ages (taken_below (length places) ages free once) m.set (λ k low lt. h k low (omega (arith, lt, as_many))))
+  any_is ages free room as_many once m (Some p) h = elim (cases_Bool (list_any is_able (held_of places ages))) [
     | inl t ↦ sym t
     | inr f ↦ absurd (
         let taken_ones = none_idle ages (taken_below (length places) ages free once) m.set f in

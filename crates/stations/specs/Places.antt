@@ -1,10 +1,12 @@
 -- The entries that wait, the places that they have and the places that are free.
-use Rattle.std.specs.Prelude.{ℕ, ◌≡◌, ◌-◌, ◌<◌, ◌%◌, Bool, true, not, is_none, false, ◌||◌, ◌==◌, List, [], ◌∷◌, ◌++◌, map, length, Option, Some, None, slice_get, slice_index, slice_index_or, IsPermutation}
+use Rattle.std.specs.Prelude.{ℕ, ◌≡◌, ◌-◌, ◌<◌, ◌%◌, Bool, true, not, false, ◌||◌, ◌==◌, List, [], ◌∷◌, ◌++◌, map, length, Option, Some, None, slice_get, slice_index, slice_index_or, IsPermutation}
 use Rattle.std.specs.Int.{bit_at}
-use Rattle.std.specs.List.{All, list_all, range_with_len}
+use Rattle.std.specs.List.{All, range_with_len}
 use Rattle.word_bits.specs.Bits.{one_if}
 use Rattle.stations.specs.declared.occupant.Occupant.{Occupant}
-use Rattle.stations.specs.Stations.{Rise, Station, strike}
+use Rattle.stations.specs.declared.wants.Wants.{Wants}
+use Rattle.stations.specs.declared.wants.Wants.TheVariants.{Whole}
+use Rattle.stations.specs.Stations.{Rise, Station, able_as, strike}
 
 -- what an entry awaits
 abbrev pub awaited : Occupant → List (Option ℕ)
@@ -12,11 +14,11 @@ awaited o = o.first ∷ o.second ∷ []
 
 -- an entry in a place, as it is seen
 abbrev pub station : ℕ → Occupant → Station
-station place o = record { serial = o.serial; awaits = awaited o; place = place }
+station place o = record { serial = o.serial; wants = o.wants; awaits = awaited o; place = place }
 
 -- what stands in a place that no entry has had
 abbrev pub nobody : Occupant
-nobody = record { serial = 0; first = None; second = None }
+nobody = record { serial = 0; wants = Whole; first = None; second = None }
 
 -- the entry in the place of this number
 abbrev pub station_in : List Occupant → ℕ → Station
@@ -57,13 +59,17 @@ awaits_in group o = is_in group o.first || is_in group o.second
 abbrev pub MarkWaiters : List Occupant → List ℕ → Type 0
 MarkWaiters places waiters = (group place : ℕ) → awaits_in group (slice_index_or places place nobody) ≡ true → bit_at (slice_index waiters group) place ≡ 1
 
--- the entry awaits something
-abbrev pub waits : Occupant → Bool
-waits o = not (list_all is_none (awaited o))
+-- an entry that needs something else from now on
+abbrev pub wanting : Wants → Occupant → Occupant
+wanting next o = record o { wants = next }
 
--- a word's bits are set for the places where something is awaited
+-- neither the entry nor a part of it may issue
+abbrev pub waits : Occupant → Bool
+waits o = not (able_as o.wants (awaited o))
+
+-- a word's bits are set for the places whose entries can't issue yet, nor a part of them
 abbrev pub MarkWaiting : List Occupant → ℕ → Type 0
-MarkWaiting places waiting = (place : ℕ) → place < 64 → bit_at waiting place ≡ one_if (waits (slice_index_or places place nobody))
+MarkWaiting places waiting = (place : ℕ) → place < 128 → bit_at waiting place ≡ one_if (waits (slice_index_or places place nobody))
 
 -- a word's bits are set for the places that are taken, and for no free one
 pub record MarkTaken (ages free : List ℕ) (taken : ℕ) : Type 0 where

@@ -2,17 +2,18 @@
 ghost use Rattle.std.specs.Prelude.{◌≡◌, ◌≢◌, ◌-◌, ◌<◌, ◌≤◌, ℕ, [], ◌∷◌, ◌++◌, length, map, IfOk, Some, slice_get, nat_lt, nat_le};
 ghost use Rattle.std.specs.List.{filter, list_any, remove, All, AllPairs};
 ghost use Rattle.std.specs.Option.{option_map};
-ghost use Rattle.stations.specs.Stations.{Rise, Station, Stations, struck, awaits_none};
+ghost use Rattle.stations.specs.Stations.{Rise, Station, Stations, awaits_none, is_able, left_wanting, ready_part, struck};
 ghost use Rattle.stations.specs.Places.{station, is_youngest};
 
 use crate::occupant::Occupant;
 use crate::places::{all_places, empty_places, push_within, take_free};
-use crate::waking::{GROUPS, first_apart, mark_waiter, wake_all};
+use crate::waking::{GROUPS, first_apart, leave_at, mark_waiter, wake_all};
+use crate::wants::{Part, Wants};
 use machine_desc::Desc;
 use rv_types::NoMemory;
 use std::alloc::Global;
 use std::marker::Model;
-use word_bits::{has_bit, with_bit};
+use word_bits::{has_wide_bit, with_wide_bit};
 
 /// The entries that wait, in `core.stations` places, in which they don't move. Beside the places stand the numbers of those that are
 /// taken, by age, and of those that are free. Positions count the entries by age, from the oldest, which has 0.
@@ -22,11 +23,11 @@ pub struct Stations {
     ages: Vec<u32>,
     free: Vec<u32>,
     // For each group of serials, the places where such a serial may be awaited, as the bits of a word.
-    waiters: [u64; GROUPS],
-    // The places where something is awaited, as the bits of a word.
-    waiting: u64,
+    waiters: [u128; GROUPS],
+    // The places whose entries can't issue yet, nor a part of them, as the bits of a word.
+    waiting: u128,
     // The places that are taken, as the bits of a word.
-    taken: u64,
+    taken: u128,
 }
 
 impl Model for Stations {
@@ -41,7 +42,7 @@ impl Model for Stations {
     ghost invariant = { λ s. Placed s.places.items s.ages.items s.free.items
         × (vec_len s.ages + vec_len s.free ≡ vec_len s.places)
         × (vec_len s.places ≤ vec_capacity s.ages) × (vec_len s.places ≤ vec_capacity s.free)
-        × (vec_len s.places ≤ 64) × MarkWaiters s.places.items s.waiters
+        × (vec_len s.places ≤ 96) × MarkWaiters s.places.items s.waiters
         × MarkWaiting s.places.items s.waiting × MarkTaken s.ages.items s.free.items s.taken };
 }
 
@@ -79,19 +80,19 @@ impl Stations {
         self.free.len() as u32
     }
 
-    /// Gives a free place to an entry, which is the youngest then, with the serials that it awaits.
-    pub fn insert(&mut self, serial: u64, awaits: [Option<u64>; 2])
+    /// Gives a free place to an entry, which is the youngest then, with what it needs and the serials that it awaits.
+    pub fn insert(&mut self, serial: u64, wants: Wants, awaits: [Option<u64>; 2])
         requires room { length self.old.held < self.old.room }
         requires youngest { All (λ s. s.serial < serial) self.old.held }
         ensures { (place : ℕ) × (self.new ≡ record self.old {
-          held = self.old.held ++ record { serial = serial; awaits = awaits; place = place } ∷ [];
+          held = self.old.held ++ record { serial = serial; wants = wants; awaits = awaits; place = place } ∷ [];
         }) }
     {
         let place = take_free(&mut self.free);
-        let occupant = Occupant::new(serial, awaits);
+        let occupant = Occupant::new(serial, wants, awaits);
         mark_waiter(&mut self.waiters, &mut self.waiting, place, &occupant);
         self.places[place as usize] = occupant;
-        self.taken = with_bit(self.taken, place, true);
+        self.taken = with_wide_bit(self.taken, place, true);
         push_within(&mut self.ages, place);
     }
 
@@ -112,14 +113,43 @@ impl Stations {
         requires { i < length self.now.held }
         ensures { option_map awaits_none (slice_get self.now.held i) ≡ Some result }
     {
-        !has_bit(self.waiting, self.ages[i as usize])
+        self.occupant(i).is_ready()
     }
 
-    /// Whether there is an entry that awaits nothing.
-    pub fn any_ready(&self) -> bool
-        ensures { result ≡ list_any awaits_none self.now.held }
+    /// Whether the source that a part of the entry at a position needs is awaited no more, or there is none.
+    pub fn ready_part(&self, i: u32, part: Part) -> bool
+        requires { i < length self.now.held }
+        ensures { option_map (ready_part part) (slice_get self.now.held i) ≡ Some result }
+    {
+        self.occupant(i).is_ready_part(part)
+    }
+
+    /// Whether the entry at a position, or a part of it, may issue.
+    pub fn able(&self, i: u32) -> bool
+        requires { i < length self.now.held }
+        ensures { option_map is_able (slice_get self.now.held i) ≡ Some result }
+    {
+        !has_wide_bit(self.waiting, self.ages[i as usize])
+    }
+
+    /// Whether there is an entry that may issue, or a part of it.
+    pub fn any_able(&self) -> bool
+        ensures { result ≡ list_any is_able self.now.held }
     {
         first_apart(self.taken, self.waiting, self.places.len() as u32).is_some()
+    }
+
+    /// The entry at a position needs something else from now on: a part of it has issued.
+    pub fn leave(&mut self, i: u32, wants: Wants)
+        requires { i < length self.old.held }
+        ensures { self.new ≡ record self.old { held = left_wanting i wants self.old.held } }
+    {
+        leave_at(
+            &mut self.places,
+            &mut self.waiting,
+            self.ages[i as usize],
+            wants,
+        );
     }
 
     /// The serial of the entry at a position.
@@ -146,7 +176,7 @@ impl Stations {
         ensures { self.new ≡ record self.old { held = remove self.old.held i } }
     {
         let place = self.ages.remove(i as usize);
-        self.taken = with_bit(self.taken, place, false);
+        self.taken = with_wide_bit(self.taken, place, false);
         push_within(&mut self.free, place);
     }
 

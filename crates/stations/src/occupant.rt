@@ -3,11 +3,15 @@ ghost use Rattle.std.specs.Prelude.{◌≡◌};
 ghost use Rattle.stations.specs.Places.{is_in};
 ghost use Rattle.stations.specs.Stations.{strike};
 
+use crate::wants::{Part, Wants};
+
 /// An entry that waits, and the serials that it awaits.
 #[derive(Clone, Copy, Debug, PartialEq, Eq)]
 pub struct Occupant {
     /// Its serial.
     pub serial: u64,
+    /// What it, or a part of it, needs before it may issue.
+    pub wants: Wants,
     /// The writer of its first source, if it is awaited.
     pub first: Option<u64>,
     /// The writer of its second source, if it is awaited.
@@ -37,15 +41,18 @@ impl Occupant {
     ghost use Rattle.std.specs.Prelude.{◌≡◌, is_none};
     ghost use Rattle.std.specs.List.{list_all};
     ghost use Rattle.stations.specs.Places.{nobody, awaited, awaits_in, woken};
+    ghost use Rattle.stations.specs.Stations.{able_as, nothing_at, source_of};
 
     /// An entry with the serials that it awaits.
-    pub fn new(serial: u64, awaits: [Option<u64>; 2]) -> Occupant
+    pub fn new(serial: u64, wants: Wants, awaits: [Option<u64>; 2]) -> Occupant
         ensures serial { result.serial ≡ serial }
+        ensures wants { result.wants ≡ wants }
         ensures awaits { awaited result ≡ awaits }
     {
         let [first, second] = awaits;
         Occupant {
             serial,
+            wants,
             first,
             second,
         }
@@ -57,6 +64,7 @@ impl Occupant {
     {
         Occupant {
             serial: 0,
+            wants: Wants::Whole,
             first: None,
             second: None,
         }
@@ -75,6 +83,28 @@ impl Occupant {
         ensures { result ≡ list_all is_none (awaited self.now) }
     {
         self.first.is_none() && self.second.is_none()
+    }
+
+    /// Whether the source that a part needs is awaited no more, or there is none.
+    pub fn is_ready_part(&self, part: Part) -> bool
+        ensures { result ≡ nothing_at (source_of part) (awaited self.now) }
+    {
+        match part {
+            Part::Base => self.first.is_none(),
+            Part::Other => self.second.is_none(),
+        }
+    }
+
+    /// Whether the entry, or a part of it, may issue.
+    pub fn is_able(&self) -> bool
+        ensures { result ≡ able_as self.now.wants (awaited self.now) }
+    {
+        match self.wants {
+            Wants::Whole => self.is_ready(),
+            Wants::Either => self.first.is_none() || self.second.is_none(),
+            Wants::Base => self.first.is_none(),
+            Wants::Other => self.second.is_none(),
+        }
     }
 
     /// Whether it awaits a serial of this group.

@@ -2,75 +2,82 @@
 ghost use Rattle.std.specs.Prelude.{◌≡◌, ◌≢◌, ◌+◌, ◌%◌, ◌<◌, ◌≤◌, ℕ, true, min, slice_index, slice_index_or, vec_len};
 ghost use Rattle.std.specs.Int.{bit_at};
 ghost use Rattle.word_bits.specs.Bits.{NextBit, one_if};
-ghost use Rattle.stations.specs.Places.{MarkWaiters, MarkWaiting, awaits_in, is_in, nobody, waits, woken};
+ghost use Rattle.stations.specs.Places.{MarkWaiters, MarkWaiting, awaits_in, is_in, nobody, waits, wanting, woken};
 
 use crate::occupant::Occupant;
-use word_bits::{next_bit, with_bit};
+use crate::wants::Wants;
+use word_bits::{next_wide_bit, with_wide_bit};
 
 /// Serials are grouped by their remainder by this number.
 pub const GROUPS: usize = 64;
 
 // A place is marked for what one source of its entry awaits.
-fn mark_awaited(waiters: &mut [u64; GROUPS], place: u32, awaited: Option<u64>)
-    requires { place < 64 }
+fn mark_awaited(waiters: &mut [u128; GROUPS], place: u32, awaited: Option<u64>)
+    requires { place < 128 }
     ensures here { (group : ℕ) → is_in group awaited ≡ true → bit_at (slice_index waiters.new group) place ≡ 1 }
-    ensures others { (group p : ℕ) → p < 64 → bit_at (slice_index waiters.old group) p ≡ 1
+    ensures others { (group p : ℕ) → p < 128 → bit_at (slice_index waiters.old group) p ≡ 1
         → bit_at (slice_index waiters.new group) p ≡ 1 }
 {
     if let Some(serial) = awaited {
         let group = (serial % 64) as usize;
         let word = waiters[group];
-        waiters[group] = with_bit(word, place, true);
+        waiters[group] = with_wide_bit(word, place, true);
     }
 }
 
-/// A place is marked for what its entry awaits, and as one where something is awaited, if the entry does.
-pub fn mark_waiter(waiters: &mut [u64; GROUPS], waiting: &mut u64, place: u32, occupant: &Occupant)
-    requires { place < 64 }
+/// A place is marked for what its entry awaits, and as one whose entry can't issue, if neither it nor a part of it can.
+pub fn mark_waiter(
+    waiters: &mut [u128; GROUPS],
+    waiting: &mut u128,
+    place: u32,
+    occupant: &Occupant,
+)
+    requires { place < 128 }
     ensures here { (group : ℕ) → awaits_in group occupant.now ≡ true
         → bit_at (slice_index waiters.new group) place ≡ 1 }
-    ensures others { (group p : ℕ) → p < 64 → bit_at (slice_index waiters.old group) p ≡ 1
+    ensures others { (group p : ℕ) → p < 128 → bit_at (slice_index waiters.old group) p ≡ 1
         → bit_at (slice_index waiters.new group) p ≡ 1 }
     ensures waits_here { bit_at waiting.new place ≡ one_if (waits occupant.now) }
-    ensures wait_others { (p : ℕ) → p < 64 → p ≢ place → bit_at waiting.new p ≡ bit_at waiting.old p }
+    ensures wait_others { (p : ℕ) → p < 128 → p ≢ place → bit_at waiting.new p ≡ bit_at waiting.old p }
 {
     mark_awaited(waiters, place, occupant.first);
     mark_awaited(waiters, place, occupant.second);
-    *waiting = with_bit(*waiting, place, !occupant.is_ready());
+    *waiting = with_wide_bit(*waiting, place, !occupant.is_able());
 }
 
 // The first place from this one on, among so many, that a word marks.
-fn next_place(word: u64, from: u32, room: u32) -> Option<u32>
-    requires { room ≤ 64 }
+fn next_place(word: u128, from: u32, room: u32) -> Option<u32>
+    requires { room ≤ 128 }
     ensures { NextBit (bit_at word) from room result }
 {
     if from >= room {
         return None;
     }
-    match next_bit(word, from) {
+    match next_wide_bit(word, from) {
         Some(place) => { if place < room { Some(place) } else { None } }
         None => None,
     }
 }
 
 /// The first place, among so many, that the first word marks and the second doesn't.
-pub fn first_apart(taken: u64, waiting: u64, room: u32) -> Option<u32>
-    requires { room ≤ 64 }
+pub fn first_apart(taken: u128, waiting: u128, room: u32) -> Option<u32>
+    requires { room ≤ 128 }
     ensures { NextBit (λ p. (bit_at taken p + min (bit_at taken p) (bit_at waiting p)) % 2) 0 room result }
 {
     next_place(taken ^ (taken & waiting), 0, room)
 }
 
-// The entry in a place awaits a serial no longer, and maybe nothing. Its mark goes, if it awaits none of the serial's group then.
+// The entry in a place awaits a serial no longer, and maybe it or a part of it can issue then. Its mark goes, if it
+// awaits none of the serial's group any more.
 fn wake_at(
     places: &mut Vec<Occupant>,
-    waiters: &mut [u64; GROUPS],
-    waiting: &mut u64,
+    waiters: &mut [u128; GROUPS],
+    waiting: &mut u128,
     place: u32,
     serial: u64,
 )
     requires within { place < vec_len places.old }
-    requires few { vec_len places.old ≤ 64 }
+    requires few { vec_len places.old ≤ 128 }
     requires marked { MarkWaiters places.old.items waiters.old }
     requires waiting { MarkWaiting places.old.items waiting.old }
     ensures here { slice_index_or places.new.items place nobody
@@ -82,22 +89,38 @@ fn wake_at(
     ensures waiting { MarkWaiting places.new.items waiting.new }
 {
     places[place as usize].wake(serial);
-    *waiting = with_bit(*waiting, place, !places[place as usize].is_ready());
+    *waiting = with_wide_bit(*waiting, place, !places[place as usize].is_able());
     let group = serial % 64;
     if !places[place as usize].awaits_in(group) {
         let word = waiters[group as usize];
-        waiters[group as usize] = with_bit(word, place, false);
+        waiters[group as usize] = with_wide_bit(word, place, false);
     }
+}
+
+/// The entry in a place needs something else from now on.
+pub fn leave_at(places: &mut Vec<Occupant>, waiting: &mut u128, place: u32, wants: Wants)
+    requires within { place < vec_len places.old }
+    requires few { vec_len places.old ≤ 128 }
+    requires waiting { MarkWaiting places.old.items waiting.old }
+    ensures here { slice_index_or places.new.items place nobody
+        ≡ wanting wants (slice_index_or places.old.items place nobody) }
+    ensures others { (p : ℕ) → p ≢ place
+        → slice_index_or places.new.items p nobody ≡ slice_index_or places.old.items p nobody }
+    ensures len { vec_len places.new ≡ vec_len places.old }
+    ensures waiting { MarkWaiting places.new.items waiting.new }
+{
+    places[place as usize].wants = wants;
+    *waiting = with_wide_bit(*waiting, place, !places[place as usize].is_able());
 }
 
 /// No entry awaits a serial any longer. Only those are looked at that are marked.
 pub fn wake_all(
     places: &mut Vec<Occupant>,
-    waiters: &mut [u64; GROUPS],
-    waiting: &mut u64,
+    waiters: &mut [u128; GROUPS],
+    waiting: &mut u128,
     serial: u64,
 )
-    requires few { vec_len places.old ≤ 64 }
+    requires few { vec_len places.old ≤ 128 }
     requires marked { MarkWaiters places.old.items waiters.old }
     requires waiting { MarkWaiting places.old.items waiting.old }
     ensures woken { (p : ℕ) → slice_index_or places.new.items p nobody

@@ -13,6 +13,7 @@ mod hostile;
 mod images;
 mod machine;
 mod pairs;
+mod stores;
 mod texts;
 mod traces;
 

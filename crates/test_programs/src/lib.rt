@@ -166,3 +166,74 @@ pub const TARGET_INJECTION: [u32; 8] = [
     0x05d0_0893,
     0x0000_0073,
 ];
+
+/// A store whose data comes late, a load of other bytes and a load of the same.
+pub const LATE_DATA: [u32; 6] = [
+    0x0221_42b3,
+    0x0051_2023,
+    0x0081_2303,
+    0x0001_2383,
+    0x05d0_0893,
+    0x0000_0073,
+];
+
+/// A store whose data comes late, and one whose address comes late and is outside memory.
+pub const PARTS_ALONE: [u32; 6] = [
+    0x0221_02b3,
+    0x0051_2023,
+    0x0200_0333,
+    0x0023_2423,
+    0x05d0_0893,
+    0x0000_0073,
+];
+
+/// Two stores that could issue at once, and a load behind them.
+pub const TWO_STORES: [u32; 5] = [
+    0x0021_2023,
+    0x0021_2223,
+    0x0001_2283,
+    0x05d0_0893,
+    0x0000_0073,
+];
+
+/// Two stores whose data comes late, and what waits for their stations.
+pub const HALF_ISSUED: [u32; 7] = [
+    0x0221_42b3,
+    0x0051_2023,
+    0x0051_2223,
+    0x0010_0313,
+    0x0010_0393,
+    0x05d0_0893,
+    0x0000_0073,
+];
+
+/// A store of late data to an address made from a secret that the program itself reads, and a load of other bytes.
+pub const TAINTED_ADDRESS: [u32; 9] = [
+    0x0001_2283,
+    0x0252_82b3,
+    0x0050_7a63,
+    0x0081_4303,
+    0x0023_0333,
+    0x0053_2223,
+    0xff01_2383,
+    0x05d0_0893,
+    0x0000_0073,
+];
+
+/// Twenty rounds of a store whose data comes late and a load of other bytes, behind three slow remainders.
+pub const MANY_STORES: [u32; 14] = [
+    0x0201_62b3,
+    0x0202_e2b3,
+    0x0202_e2b3,
+    0x0140_0413,
+    0x0001_0333,
+    0xf003_0313,
+    0x0053_2023,
+    0x0803_2383,
+    0x0054_84b3,
+    0xfff4_0413,
+    0x0043_0313,
+    0xfe04_16e3,
+    0x05d0_0893,
+    0x0000_0073,
+];

@@ -10,50 +10,36 @@ use Rattle.window_model.specs.declared.Entry.{Entry}
 use Rattle.window_model.specs.Order.{is_store}
 use Rattle.window_model.specs.Issue.{Port, AluPort, MulPort, DivPort, AddressPort, DataPort, LoadPort, asking, may_at, may_issue, part_may, port_of, ports, same_port}
 use Rattle.unit_ports.specs.Ports.{Ports, begun_at, left_at, port_for, taken_at}
-use Rattle.unit_ports.specs.Laws.{IsAskedFor, OpensWithAll, LeavesAsCounted, GrantsAsCounted}
+use Rattle.unit_ports.specs.Laws.{OpensWithAll, LeavesAsCounted, StoresAskAtBoth, GrantsAsCounted, if_asked}
 
--- an entry's port is asked for
-pub port_asked : (k : Kind) → IsAskedFor (port_for k)
-port_asked Mul = refl
-port_asked Div = refl
-port_asked Load = refl
-port_asked Store = refl
-port_asked _ = refl
+-- a port that is taken, seen at a port
+taken : (p q : Port) (l : Ports) → left_at q (taken_at p l) ≡ (if same_port p q then left_at q l - 1 else left_at q l)
+taken AluPort AluPort l = refl
+taken AluPort _ l = refl
+taken MulPort MulPort l = refl
+taken MulPort _ l = refl
+taken DivPort DivPort l = refl
+taken DivPort _ l = refl
+taken AddressPort AddressPort l = refl
+taken AddressPort _ l = refl
+taken DataPort DataPort l = refl
+taken DataPort _ l = refl
+taken LoadPort LoadPort l = refl
+taken LoadPort _ l = refl
 
--- an asked port that is taken, seen at an asked port
-taken : (p q : Port) (l : Ports) → IsAskedFor p → IsAskedFor q → left_at q (taken_at p l) ≡ (if same_port p q then left_at q l - 1 else left_at q l)
-taken AluPort AluPort l h k = refl
-taken AluPort _ l h k = refl
-taken MulPort MulPort l h k = refl
-taken MulPort _ l h k = refl
-taken DivPort DivPort l h k = refl
-taken DivPort _ l h k = refl
-taken AddressPort AddressPort l h k = refl
-taken AddressPort DataPort l h k = absurd (cc)
-taken AddressPort _ l h k = refl
-taken LoadPort LoadPort l h k = refl
-taken LoadPort _ l h k = refl
-taken DataPort q l h k = absurd (cc)
-
-if_taken : (m : Bool) (p q : Port) (l : Ports) → IsAskedFor p → IsAskedFor q → left_at q (if m then taken_at p l else l) ≡ (if m then (if same_port p q then left_at q l - 1 else left_at q l) else left_at q l)
-if_taken true p q l h k = taken p q l h k
-if_taken false p q l h k = refl
+if_taken : (m : Bool) (p q : Port) (l : Ports) → left_at q (if_asked m p l) ≡ (if m then (if same_port p q then left_at q l - 1 else left_at q l) else left_at q l)
+if_taken true p q l = taken p q l
+if_taken false p q l = refl
 
 and_true : (m : Bool) → m ≡ (m && true)
 and_true true = refl
 and_true false = refl
 
-and_false : (m : Bool) → false ≡ (m && false)
-and_false true = refl
-and_false false = refl
-
--- an entry may issue at no asked port but its own
-own : (k : Kind) (q : Port) (d : Desc) (b : List Entry) (e : Entry) (m : Bool) → IsAskedFor q
+-- an entry that is no store may issue at no port but its own
+own : (k : Kind) (q : Port) (d : Desc) (b : List Entry) (e : Entry) (m : Bool) → is_store k ≡ false
     → (if is_store k then part_may q d b e else m && same_port (port_of k) q)
     ≡ ((if is_store k then part_may (port_for k) d b e else m && same_port (port_of k) (port_for k)) && same_port (port_for k) q)
-own Store AddressPort d b e m h = and_true (part_may AddressPort d b e)
-own Store DataPort d b e m h = absurd (cc)
-own Store _ d b e m h = and_false (part_may AddressPort d b e)
+own Store q d b e m h = absurd (cc)
 own Mul q d b e m h = ap (λ n. n && same_port MulPort q) (and_true m)
 own Div q d b e m h = ap (λ n. n && same_port DivPort q) (and_true m)
 own Load q d b e m h = ap (λ n. n && same_port LoadPort q) (and_true m)
@@ -65,31 +51,88 @@ fewer true true t l n a p h = subst (λ t. l - 1 ≡ n - (one_if t + a)) (sym p)
 fewer true false t l n a p h = subst (λ t. l ≡ n - (one_if t + a)) (sym p) (omega arith)
 fewer false s t l n a p h = subst (λ t. l ≡ n - (one_if t + a)) (sym p) (omega arith)
 
+-- one more that asks at this port alone
+fewer_one : (t : Bool) (l n a : ℕ) → l ≡ n - a → (if t then l - 1 else l) ≡ n - (one_if t + a)
+fewer_one true l n a h = omega (arith, h)
+fewer_one false l n a h = omega (arith, h)
+
+-- a store's two parts, where each may issue or not
+abbrev part : Bool → Bool → Port → Bool
+part a b AddressPort = a
+part a b DataPort = b
+part a b _ = false
+
+parted : (k : Kind) (q : Port) (d : Desc) (b : List Entry) (e : Entry) (m : Bool) → is_store k ≡ true
+    → (if is_store k then part_may q d b e else m && same_port (port_of k) q)
+    ≡ part (if is_store k then part_may AddressPort d b e else m && same_port (port_of k) AddressPort) (if is_store k then part_may DataPort d b e else m && same_port (port_of k) DataPort) q
+parted Store AddressPort d b e m h = refl
+parted Store DataPort d b e m h = refl
+parted Store _ d b e m h = refl
+parted _ q d b e m h = absurd (cc)
+
+-- what they leave of each port
+both_left : (a b : Bool) (q : Port) (l : Ports) → left_at q (if_asked b DataPort (if_asked a AddressPort l)) ≡ (if part a b q then left_at q l - 1 else left_at q l)
+both_left true true q l = both q
+  where
+    both : (q : Port) → left_at q (taken_at DataPort (taken_at AddressPort l)) ≡ (if part true true q then left_at q l - 1 else left_at q l)
+    both AddressPort = refl
+    both DataPort = refl
+    both _ = refl
+both_left false true q l = taken DataPort q l ∙ same q
+  where
+    same : (q : Port) → (if same_port DataPort q then left_at q l - 1 else left_at q l) ≡ (if part false true q then left_at q l - 1 else left_at q l)
+    same AddressPort = refl
+    same DataPort = refl
+    same _ = refl
+both_left true false q l = taken AddressPort q l ∙ same q
+  where
+    same : (q : Port) → (if same_port AddressPort q then left_at q l - 1 else left_at q l) ≡ (if part true false q then left_at q l - 1 else left_at q l)
+    same AddressPort = refl
+    same DataPort = refl
+    same _ = refl
+both_left false false q l = same q
+  where
+    same : (q : Port) → left_at q l ≡ (if part false false q then left_at q l - 1 else left_at q l)
+    same AddressPort = refl
+    same DataPort = refl
+    same _ = refl
+
 some_left : (l n a : ℕ) → l ≡ n - a → nat_lt 0 l ≡ nat_lt a n
 some_left l n a h = grind (arith, nat_tests)
 
 pub left_first : OpensWithAll
 left_first d now cycle l h = record { each_port = each }
   where
-    each : (q : Port) → IsAskedFor q → left_at q (begun_at cycle l) ≡ ports d q - 0
-    each AluPort k = omega (arith, h)
-    each MulPort k = refl
-    each DivPort k = refl
-    each AddressPort k = refl
-    each DataPort k = refl
-    each LoadPort k = refl
+    each : (q : Port) → left_at q (begun_at cycle l) ≡ ports d q - 0
+    each AluPort = omega (arith, h)
+    each MulPort = refl
+    each DivPort = refl
+    each AddressPort = refl
+    each DataPort = refl
+    each LoadPort = refl
 
 pub left_more : LeavesAsCounted
-left_more d now before e l s =
+left_more d now before e l h s =
     let p = port_for e.item.kind in
     let m = may_at d now p before e in
     record {
-      each_port = λ q k. if_taken m p q l (port_asked e.item.kind) k
+      each_port = λ q. if_taken m p q l
           ∙ fewer m (same_port p q) (may_at d now q before e) (left_at q l) (ports d q) (asking d now q before)
-          (own e.item.kind q d before e (may_issue d now before e) k) (s.each_port q k);
+          (own e.item.kind q d before e (may_issue d now before e) h) (s.each_port q);
+    }
+
+pub left_by_store : StoresAskAtBoth
+left_by_store d now before e l h s =
+    let a = may_at d now AddressPort before e in
+    let b = may_at d now DataPort before e in
+    record {
+      each_port = λ q.
+          let t : may_at d now q before e ≡ part a b q = parted e.item.kind q d before e (may_issue d now before e) h in
+          both_left a b q l ∙ subst (λ t. (if t then left_at q l - 1 else left_at q l) ≡ ports d q - (one_if (may_at d now q before e) + asking d now q before)) t
+          (fewer_one (may_at d now q before e) (left_at q l) (ports d q) (asking d now q before) (s.each_port q));
     }
 
 pub granted_is : GrantsAsCounted
-granted_is d now port before e l k s =
-    let t = some_left (left_at port l) (ports d port) (asking d now port before) (s.each_port port k) in
+granted_is d now port before e l s =
+    let t = some_left (left_at port l) (ports d port) (asking d now port before) (s.each_port port) in
     ap (λ b. may_at d now port before e && b) t

@@ -1,6 +1,7 @@
 //! The ports themselves.
 ghost use Rattle.std.specs.Prelude.{◌≡◌, ◌-◌, nat_lt, nat_le, Some};
 ghost use Rattle.window_model.specs.Resolve.{freed_from};
+ghost use Rattle.window_model.specs.Issue.{DataPort};
 ghost use Rattle.unit_ports.specs.Ports.{begun_at, free_divider, left_at, opening, port_for, taken_at};
 
 use machine_desc::Desc;
@@ -18,7 +19,10 @@ pub struct Ports {
     alu: u32,
     mul: u32,
     div: u32,
-    store: u32,
+    /// For the address part of a store.
+    address_part: u32,
+    /// For its data part.
+    data_part: u32,
     load: u32,
     divider: Divider,
 }
@@ -34,7 +38,8 @@ impl Model for Ports {
       alu = p.alu;
       mul = p.mul;
       div = p.div;
-      store = p.store;
+      address_part = p.address_part;
+      data_part = p.data_part;
       load = p.load;
       divider = p.divider;
     } };
@@ -51,7 +56,8 @@ impl Ports {
             alu: desc.units_alus,
             mul: 1,
             div: 1,
-            store: 1,
+            address_part: 1,
+            data_part: 1,
             load: 1,
             divider: free_divider(),
         }
@@ -65,24 +71,25 @@ impl Ports {
         self.alu = self.alus;
         self.mul = 1;
         self.div = 1;
-        self.store = 1;
+        self.address_part = 1;
+        self.data_part = 1;
         self.load = 1;
     }
 
-    /// Whether a port is left for an entry of this kind.
+    /// Whether a port is left for an entry of this kind; for a store, whether that of its address part is.
     pub fn has(&self, kind: Kind) -> bool
         ensures { result ≡ nat_lt 0 (left_at (port_for kind) self.now) }
     {
         match kind {
             Kind::Mul => self.mul > 0,
             Kind::Div => self.div > 0,
-            Kind::Store => self.store > 0,
+            Kind::Store => self.address_part > 0,
             Kind::Load => self.load > 0,
             _ => self.alu > 0,
         }
     }
 
-    /// Takes a port for an entry of this kind. False exactly where none of that port is left, and nothing changes then.
+    /// Takes a port for an entry of this kind; for a store, that of its address part. False exactly where none of that port is left, and nothing changes then.
     pub fn grant(&mut self, kind: Kind) -> bool
         ensures granted { result ≡ nat_lt 0 (left_at (port_for kind) self.old) }
         ensures left { self.new ≡ taken_at (port_for kind) self.old }
@@ -90,10 +97,25 @@ impl Ports {
         match kind {
             Kind::Mul => take_one(&mut self.mul),
             Kind::Div => take_one(&mut self.div),
-            Kind::Store => take_one(&mut self.store),
+            Kind::Store => take_one(&mut self.address_part),
             Kind::Load => take_one(&mut self.load),
             _ => take_one(&mut self.alu),
         }
+    }
+
+    /// Whether the port of a store's data part is left.
+    pub fn has_data(&self) -> bool
+        ensures { result ≡ nat_lt 0 (left_at DataPort self.now) }
+    {
+        self.data_part > 0
+    }
+
+    /// Takes the port of a store's data part. False exactly where it is used, and nothing changes then.
+    pub fn grant_data(&mut self) -> bool
+        ensures granted { result ≡ nat_lt 0 (left_at DataPort self.old) }
+        ensures left { self.new ≡ taken_at DataPort self.old }
+    {
+        take_one(&mut self.data_part)
     }
 
     /// The entry with this serial uses the divider, which is free again from a cycle on.

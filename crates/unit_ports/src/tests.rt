@@ -32,6 +32,22 @@ fn two_units_and_one_of_each_other_port(rt: HostRuntime) -> Result<(), Fail> {
 }
 
 #[test]
+fn a_store_asks_at_two_ports(rt: HostRuntime) -> Result<(), Fail> {
+    let mut ports = Ports::new(&read_desc(rt.alloc(), EXAMPLE.as_bytes())?);
+    for cycle in 1..3 {
+        ports.begin(cycle);
+        // The data part may go first; the address part's port is left, and the second data part finds none.
+        assert_eq!(rt; ports.has_data(), true, "cycle {cycle}");
+        assert_eq!(rt; ports.grant_data(), true, "cycle {cycle}");
+        assert_eq!(rt; ports.has_data(), false, "cycle {cycle}");
+        assert_eq!(rt; ports.grant_data(), false, "cycle {cycle}");
+        assert_eq!(rt; ports.grant(Kind::Store), true, "cycle {cycle}");
+        assert_eq!(rt; ports.grant(Kind::Store), false, "cycle {cycle}");
+    }
+    Ok(())
+}
+
+#[test]
 fn divider(rt: HostRuntime) -> Result<(), Fail> {
     let mut ports = Ports::new(&read_desc(rt.alloc(), EXAMPLE.as_bytes())?);
     assert_eq!(rt; ports.free_div(), true);

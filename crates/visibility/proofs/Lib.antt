@@ -1,2 +1,2 @@
-pub mod Walking
+mod Stopping
 pub mod Moving

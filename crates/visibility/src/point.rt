@@ -1,13 +1,14 @@
 //! The point itself.
-ghost use Rattle.std.specs.Prelude.{◌≡◌, ◌+◌, ◌-◌, ◌<◌, ◌≤◌, ◌^◌, true, not, [], length, nat_le, slice_get, take, drop};
+ghost use Rattle.std.specs.Prelude.{◌≡◌, ◌-◌, ◌<◌, ◌≤◌, ◌^◌, not, nat_le};
 ghost use Rattle.std.specs.List.{find, All};
 ghost use Rattle.std.specs.Option.{option_map};
 ghost use Rattle.window_model.specs.Serials.{Rise};
+ghost use Rattle.rob_ring.specs.Ring.{Next};
 ghost use Rattle.visibility.specs.Point.{passes, is_hidden, next_after, moved_over, CanAdvance, HasAdvanced};
 
 use machine_desc::{Desc, SttModel};
+use rob_ring::RobRing;
 use std::marker::Model;
-use window_model::{Entry, Window, position_of};
 
 /// The visibility point of a model: entries up to its serial are visible, and younger ones are not.
 #[derive(Drop)]
@@ -53,66 +54,50 @@ impl VisPoint {
         }
     }
 
-    /// The point's position in a window: the entries before it have serials below the point's, and the others don't.
-    pub fn position<W: Window>(&self, window: &W) -> u32
-        requires { Rise (W.entries window.now) }
-        ensures below { All (λ e. e.serial < self.now.serial) (take result (W.entries window.now)) }
-        ensures above { All (λ e. self.now.serial ≤ e.serial) (drop result (W.entries window.now)) }
-        ensures within { result ≤ length (W.entries window.now) }
-    {
-        position_of(window, self.serial)
-    }
-
     /// Moves the point on: to the oldest entry that keeps younger ones from being visible, or to the serial after the
-    /// youngest where none does. It begins at the point, so it looks at no entry that is behind it but for gaps of serials.
-    pub fn advance<W: Window>(&mut self, window: &W)
-        requires rise { Rise (W.entries window.now) }
-        requires few { All (λ e. e.serial < 2 ^ 64 - 1) (W.entries window.now) }
-        requires can { CanAdvance self.old (W.entries window.now) }
-        ensures moved { self.new ≡ moved_over (W.entries window.now) self.old }
-        ensures advanced { HasAdvanced self.new (W.entries window.now) }
+    /// youngest where none does. The reorder buffer tells that entry, so no walk over the entries is needed.
+    pub fn advance(&mut self, rob: &RobRing)
+        requires rise { Rise rob.now.entries }
+        requires few { All (λ e. e.serial < 2 ^ 64 - 1) rob.now.entries }
+        requires can { CanAdvance self.old rob.now.entries }
+        ensures moved { self.new ≡ moved_over rob.now.entries self.old }
+        ensures advanced { HasAdvanced self.new rob.now.entries }
         ensures on { self.old.serial ≤ self.new.serial }
     {
-        let start = self.position(window);
-        let stop = find_stop(self.model, window, start);
-        self.serial = stop.unwrap_or(after_youngest(self.serial, window));
+        let stop = find_stop(self.model, rob);
+        self.serial = stop.unwrap_or(after_youngest(self.serial, rob));
     }
 }
 
-// The serial of the oldest entry that keeps younger ones from being visible, looked for from a position on.
-fn find_stop<W: Window>(model: SttModel, window: &W, start: u32) -> Option<u64>
-    requires passed { All (λ e. passes model e ≡ true) (take start (W.entries window.now)) }
-    requires within { start ≤ length (W.entries window.now) }
-    ensures { result ≡ option_map (λ e. e.serial) (find (λ e. not (passes model e)) (W.entries window.now)) }
+// The serial of the oldest entry that keeps younger ones from being visible.
+fn find_stop(model: SttModel, rob: &RobRing) -> Option<u64>
+    ensures { result ≡ option_map (λ e. e.serial) (find (λ e. not (passes model e)) rob.now.entries) }
 {
-    for i in start..window.len() {
-        let entry = window.lend(i);
-        if !does_pass(model, entry) {
-            return Some(entry.serial);
-        }
+    match next_stop(model, rob) {
+        Some(i) => Some(rob.lend(i).serial),
+        None => None,
     }
-    None
 }
 
-// Whether the entry doesn't keep younger ones from being visible.
-fn does_pass(model: SttModel, entry: &Entry) -> bool
-    ensures { result ≡ passes model entry.now }
+// Its position: the first branch or JALR that isn't resolved, or the first entry that may yet squash what comes after it.
+fn next_stop(model: SttModel, rob: &RobRing) -> Option<u32>
+    ensures { Next (λ e. not (passes model e)) rob.now.entries 0 result }
 {
     match model {
-        SttModel::Spectre => entry.is_settled(),
-        SttModel::Futuristic => entry.is_safe(),
+        SttModel::Spectre => rob.next_open(0),
+        SttModel::Futuristic => rob.next_unsafe(0),
     }
 }
 
 // The serial after the youngest entry's, this one where there is none.
 #[tactic(auto, using(crate::proofs::Moving::next_is))]
-fn after_youngest<W: Window>(serial: u64, window: &W) -> u64
-    requires { All (λ e. e.serial < 2 ^ 64 - 1) (W.entries window.now) }
-    ensures { result ≡ next_after serial (W.entries window.now) }
+fn after_youngest(serial: u64, rob: &RobRing) -> u64
+    requires { All (λ e. e.serial < 2 ^ 64 - 1) rob.now.entries }
+    ensures { result ≡ next_after serial rob.now.entries }
 {
-    let len = window.len();
+    let len = rob.len();
     if len == 0 {
         return serial;
     }
-    window.lend(len - 1).serial + 1
+    rob.lend(len - 1).serial + 1
 }

@@ -3,30 +3,11 @@ ghost use Rattle.std.specs.Prelude.{◌≡◌};
 
 use crate::VisPoint;
 use machine_desc::{Desc, EXAMPLE, SttModel, read_desc};
-use rv_types::{Cause, Instr, Op, Reg, kind_of};
+use rob_ring::RobRing;
+use rv_types::{Cause, Instr, NoMemory, Op, Reg, kind_of};
+use std::alloc::Global;
 use std::test::Fail;
-use window_model::{Entry, Item, Outcome, Progress, Window};
-
-// A window of two entries.
-#[derive(Drop)]
-struct Two {
-    older: Entry,
-    younger: Entry,
-}
-
-impl Window for Two {
-    ghost use Rattle.std.specs.Prelude.{[], ◌∷◌};
-
-    ghost entries = { λ w. w.older ∷ w.younger ∷ [] };
-
-    fn len(&self) -> u32 {
-        2
-    }
-
-    fn lend(&self, i: u32) -> &Entry {
-        if i == 0 { &self.older } else { &self.younger }
-    }
-}
+use window_model::{Entry, Item, Outcome, Progress};
 
 fn entry(serial: u64, instr: Instr, state: Progress, fault: Option<Cause>, resolved: bool) -> Entry
     ensures { result.serial ≡ serial }
@@ -54,10 +35,9 @@ fn entry(serial: u64, instr: Instr, state: Progress, fault: Option<Cause>, resol
     }
 }
 
-// A branch with serial 2 and a load with serial 5.
-fn window(resolved: bool, state: Progress, fault: Option<Cause>) -> Two
-    ensures older { result.older.serial ≡ 2 }
-    ensures younger { result.younger.serial ≡ 5 }
+// A branch with serial 2.
+fn branch(resolved: bool) -> Entry
+    ensures { result.serial ≡ 2 }
 {
     let x1 = Reg { number: 1 };
     let branch = Instr::Branch {
@@ -66,26 +46,34 @@ fn window(resolved: bool, state: Progress, fault: Option<Cause>) -> Two
         rs2: x1,
         imm: 8,
     };
+    entry(2, branch, Progress::Done, None, resolved)
+}
+
+// A load with serial 5.
+fn load(state: Progress, fault: Option<Cause>) -> Entry
+    ensures { result.serial ≡ 5 }
+{
+    let x1 = Reg { number: 1 };
     let load = Instr::Load {
         op: Op::Lw,
         rd: x1,
         rs1: x1,
         imm: 0,
     };
-    Two {
-        older: entry(2, branch, Progress::Done, None, resolved),
-        younger: entry(5, load, state, fault, false),
-    }
+    entry(5, load, state, fault, false)
 }
 
-// Whether the branch, the load and what comes next are visible.
-fn seen(desc: &Desc, window: &Two) -> [bool; 3]
-    requires older { window.now.older.serial ≡ 2 }
-    requires younger { window.now.younger.serial ≡ 5 }
+// Whether the branch, the load behind it and what comes next are visible.
+fn seen(alloc: Global, desc: &Desc, branch: Entry, load: Entry) -> Result<[bool; 3], NoMemory>
+    requires older { branch.serial ≡ 2 }
+    requires younger { load.serial ≡ 5 }
 {
+    let mut rob = RobRing::new(alloc, desc)?;
+    rob.push(branch);
+    rob.push(load);
     let mut point = VisPoint::new(desc);
-    point.advance(window);
-    [point.visible(2), point.visible(5), point.visible(6)]
+    point.advance(&rob);
+    Ok([point.visible(2), point.visible(5), point.visible(6)])
 }
 
 #[test]
@@ -107,39 +95,9 @@ fn the_point_stands_at_what_keeps_younger_ones_hidden(rt: HostRuntime) -> Result
     for (model, resolved, state, fault, want) in rows {
         desc.stt_model = model;
         assert_eq!(rt;
-            seen(&desc, &window(resolved, state, fault)),
+            seen(alloc, &desc, branch(resolved), load(state, fault))?,
             want,
             "{model:?} {state:?}"
-        );
-    }
-    Ok(())
-}
-
-// The position in the window of the point that has moved over it.
-fn reached(desc: &Desc, window: &Two) -> u32
-    requires older { window.now.older.serial ≡ 2 }
-    requires younger { window.now.younger.serial ≡ 5 }
-{
-    let mut point = VisPoint::new(desc);
-    point.advance(window);
-    point.position(window)
-}
-
-#[test]
-fn the_entries_before_its_position_are_below_it(rt: HostRuntime) -> Result<(), Fail> {
-    let alloc = rt.alloc();
-    let rows = [
-        (SttModel::Spectre, false, Progress::Done, 0),
-        (SttModel::Futuristic, true, Progress::Waiting, 1),
-        (SttModel::Spectre, true, Progress::Waiting, 2),
-    ];
-    let mut desc = read_desc(alloc, EXAMPLE.as_bytes())?;
-    for (model, resolved, state, want) in rows {
-        desc.stt_model = model;
-        assert_eq!(rt;
-            reached(&desc, &window(resolved, state, None)),
-            want,
-            "{model:?}"
         );
     }
     Ok(())

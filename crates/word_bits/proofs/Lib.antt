@@ -1,1 +1,2 @@
 mod FirstBit
+mod Halves

@@ -25,6 +25,27 @@ use Rattle.window_model.specs.Fetch.{fetch}
 use Rattle.window_model.specs.Rename.{rename}
 use Rattle.window_model.specs.Retire.{retire}
 use Rattle.trace_text.specs.TraceText.{event_text, events_text, row_text, rows_text, trace_text}
+use Rattle.worked_runs.specs.FaultingLoad.{faulting_load}
+use Rattle.worked_runs.specs.FaultingStore.{faulting_store}
+use Rattle.worked_runs.specs.HalfIssued.{half_issued}
+use Rattle.worked_runs.specs.HalfIssuedData.{half_issued_data}
+use Rattle.worked_runs.specs.HiddenBase.{hidden_base}
+use Rattle.worked_runs.specs.LargeWindow.{large_window}
+use Rattle.worked_runs.specs.LateAddress.{late_address}
+use Rattle.worked_runs.specs.LateData.{late_data}
+use Rattle.worked_runs.specs.LateDataVersion1.{late_data_version_1}
+use Rattle.worked_runs.specs.Mixed1.{mixed_1}
+use Rattle.worked_runs.specs.Mixed2.{mixed_2}
+use Rattle.worked_runs.specs.Mixed3.{mixed_3}
+use Rattle.worked_runs.specs.Mixed4.{mixed_4}
+use Rattle.worked_runs.specs.Mixed5.{mixed_5}
+use Rattle.worked_runs.specs.Mixed6.{mixed_6}
+use Rattle.worked_runs.specs.Mixed7.{mixed_7}
+use Rattle.worked_runs.specs.Mixed8.{mixed_8}
+use Rattle.worked_runs.specs.OneByte.{one_byte}
+use Rattle.worked_runs.specs.OnePortEach.{one_port_each}
+use Rattle.worked_runs.specs.PartlyCovered.{partly_covered}
+use Rattle.worked_runs.specs.PartsAlone.{parts_alone}
 use Rattle.worked_runs.specs.Run01.{run_01}
 use Rattle.worked_runs.specs.Run02.{run_02}
 use Rattle.worked_runs.specs.Run03.{run_03}
@@ -63,12 +84,210 @@ use Rattle.worked_runs.specs.Run35.{run_35}
 use Rattle.worked_runs.specs.Run36.{run_36}
 use Rattle.worked_runs.specs.Run37.{run_37}
 use Rattle.worked_runs.specs.Run38.{run_38}
+use Rattle.worked_runs.specs.StoreBehindLoad.{store_behind_load}
+use Rattle.worked_runs.specs.StoreWithoutDataShadows.{store_without_data_shadows}
+use Rattle.worked_runs.specs.TaintedAddress.{tainted_address}
+use Rattle.worked_runs.specs.TaintedAddressFaultingLoad.{tainted_address_faulting_load}
+use Rattle.worked_runs.specs.TaintedAddressFaultingStore.{tainted_address_faulting_store}
+use Rattle.worked_runs.specs.TaintedAddressHidden.{tainted_address_hidden}
+use Rattle.worked_runs.specs.TaintedData.{tainted_data}
+use Rattle.worked_runs.specs.YoungerAddress.{younger_address}
+use Rattle.worked_runs.specs.YoungerStore.{younger_store}
 use Rattle.worked_runs.specs.Agreement.{Agrees}
 use Rattle.worked_runs.specs.Runs.{runs}
 use Rattle.worked_runs.proofs.Agreed.{agrees}
 
 -- The numbers are those of the description. Five things compute: they fit, the description is read as these numbers, the image's
 -- headers and its segments have no fault, and the trace of the written machine is the text.
+faulting_load_agrees : Agrees faulting_load
+unfolding ones encode scan_numeral digits count_leading_zeros chars is_utf8 skip_from skip_ws decimal_number number
+    plain_number underscore_fits unquoted word_len word_value body key_after one_line quoted simple_key special atom
+    expression header_key key_equals line lines parse_document skip_bom val along_dots along_header at_key define
+    decode zeros description_of document_fault end_fault key_fault keys_fault latency_fault sections_fault top_fault
+    half has_magic word header_fault code_of ram_after ram_fault segment_at end_line cycle fetch rename retire
+    event_text events_text row_text rows_text trace_text
+faulting_load_agrees = agrees faulting_load (record { version = 2; numbers = 2 ∷ 2 ∷ 16 ∷ 8 ∷ 4 ∷ 4 ∷ 8 ∷ 2 ∷ 3 ∷ 16 ∷ 4 ∷ 2 ∷ 2 ∷ 16 ∷ 2 ∷ 10 ∷ 2 ∷ 65536 ∷ 65536 ∷ []; model = Spectre }) refl refl refl refl refl
+
+faulting_store_agrees : Agrees faulting_store
+unfolding ones encode scan_numeral digits count_leading_zeros chars is_utf8 skip_from skip_ws decimal_number number
+    plain_number underscore_fits unquoted word_len word_value body key_after one_line quoted simple_key special atom
+    expression header_key key_equals line lines parse_document skip_bom val along_dots along_header at_key define
+    decode zeros description_of document_fault end_fault key_fault keys_fault latency_fault sections_fault top_fault
+    half has_magic word header_fault code_of ram_after ram_fault segment_at end_line cycle fetch rename retire
+    event_text events_text row_text rows_text trace_text
+faulting_store_agrees = agrees faulting_store (record { version = 2; numbers = 2 ∷ 2 ∷ 16 ∷ 8 ∷ 4 ∷ 4 ∷ 8 ∷ 2 ∷ 3 ∷ 16 ∷ 4 ∷ 2 ∷ 2 ∷ 16 ∷ 2 ∷ 10 ∷ 2 ∷ 65536 ∷ 65536 ∷ []; model = Spectre }) refl refl refl refl refl
+
+half_issued_agrees : Agrees half_issued
+unfolding ones encode scan_numeral digits count_leading_zeros chars is_utf8 skip_from skip_ws decimal_number number
+    plain_number underscore_fits unquoted word_len word_value body key_after one_line quoted simple_key special atom
+    expression header_key key_equals line lines parse_document skip_bom val along_dots along_header at_key define
+    decode zeros description_of document_fault end_fault key_fault keys_fault latency_fault sections_fault top_fault
+    half has_magic word header_fault code_of ram_after ram_fault segment_at end_line cycle fetch rename retire
+    event_text events_text row_text rows_text trace_text
+half_issued_agrees = agrees half_issued (record { version = 2; numbers = 2 ∷ 2 ∷ 16 ∷ 2 ∷ 4 ∷ 4 ∷ 8 ∷ 2 ∷ 3 ∷ 16 ∷ 4 ∷ 2 ∷ 2 ∷ 16 ∷ 2 ∷ 10 ∷ 2 ∷ 65536 ∷ 65536 ∷ []; model = Spectre }) refl refl refl refl refl
+
+half_issued_data_agrees : Agrees half_issued_data
+unfolding ones encode scan_numeral digits count_leading_zeros chars is_utf8 skip_from skip_ws decimal_number number
+    plain_number underscore_fits unquoted word_len word_value body key_after one_line quoted simple_key special atom
+    expression header_key key_equals line lines parse_document skip_bom val along_dots along_header at_key define
+    decode zeros description_of document_fault end_fault key_fault keys_fault latency_fault sections_fault top_fault
+    half has_magic word header_fault code_of ram_after ram_fault segment_at end_line cycle fetch rename retire
+    event_text events_text row_text rows_text trace_text
+half_issued_data_agrees = agrees half_issued_data (record { version = 2; numbers = 2 ∷ 2 ∷ 16 ∷ 3 ∷ 4 ∷ 4 ∷ 8 ∷ 2 ∷ 3 ∷ 16 ∷ 4 ∷ 2 ∷ 2 ∷ 16 ∷ 2 ∷ 10 ∷ 2 ∷ 65536 ∷ 65536 ∷ []; model = Spectre }) refl refl refl refl refl
+
+hidden_base_agrees : Agrees hidden_base
+unfolding ones encode scan_numeral digits count_leading_zeros chars is_utf8 skip_from skip_ws decimal_number number
+    plain_number underscore_fits unquoted word_len word_value body key_after one_line quoted simple_key special atom
+    expression header_key key_equals line lines parse_document skip_bom val along_dots along_header at_key define
+    decode zeros description_of document_fault end_fault key_fault keys_fault latency_fault sections_fault top_fault
+    half has_magic word header_fault code_of ram_after ram_fault segment_at end_line cycle fetch rename retire
+    event_text events_text row_text rows_text trace_text
+hidden_base_agrees = agrees hidden_base (record { version = 2; numbers = 2 ∷ 2 ∷ 16 ∷ 8 ∷ 4 ∷ 4 ∷ 8 ∷ 2 ∷ 3 ∷ 16 ∷ 4 ∷ 2 ∷ 2 ∷ 16 ∷ 2 ∷ 10 ∷ 2 ∷ 65536 ∷ 65536 ∷ []; model = Spectre }) refl refl refl refl refl
+
+large_window_agrees : Agrees large_window
+unfolding ones encode scan_numeral digits count_leading_zeros chars is_utf8 skip_from skip_ws decimal_number number
+    plain_number underscore_fits unquoted word_len word_value body key_after one_line quoted simple_key special atom
+    expression header_key key_equals line lines parse_document skip_bom val along_dots along_header at_key define
+    decode zeros description_of document_fault end_fault key_fault keys_fault latency_fault sections_fault top_fault
+    half has_magic word header_fault code_of ram_after ram_fault segment_at end_line cycle fetch rename retire
+    event_text events_text row_text rows_text trace_text
+large_window_agrees = agrees large_window (record { version = 2; numbers = 4 ∷ 4 ∷ 192 ∷ 96 ∷ 64 ∷ 48 ∷ 32 ∷ 4 ∷ 3 ∷ 16 ∷ 4 ∷ 2 ∷ 2 ∷ 16 ∷ 2 ∷ 4 ∷ 2 ∷ 65536 ∷ 65536 ∷ []; model = Spectre }) refl refl refl refl refl
+
+late_address_agrees : Agrees late_address
+unfolding ones encode scan_numeral digits count_leading_zeros chars is_utf8 skip_from skip_ws decimal_number number
+    plain_number underscore_fits unquoted word_len word_value body key_after one_line quoted simple_key special atom
+    expression header_key key_equals line lines parse_document skip_bom val along_dots along_header at_key define
+    decode zeros description_of document_fault end_fault key_fault keys_fault latency_fault sections_fault top_fault
+    half has_magic word header_fault code_of ram_after ram_fault segment_at end_line cycle fetch rename retire
+    event_text events_text row_text rows_text trace_text
+late_address_agrees = agrees late_address (record { version = 2; numbers = 2 ∷ 2 ∷ 16 ∷ 8 ∷ 4 ∷ 4 ∷ 8 ∷ 2 ∷ 3 ∷ 16 ∷ 4 ∷ 2 ∷ 2 ∷ 16 ∷ 2 ∷ 10 ∷ 2 ∷ 65536 ∷ 65536 ∷ []; model = Spectre }) refl refl refl refl refl
+
+late_data_agrees : Agrees late_data
+unfolding ones encode scan_numeral digits count_leading_zeros chars is_utf8 skip_from skip_ws decimal_number number
+    plain_number underscore_fits unquoted word_len word_value body key_after one_line quoted simple_key special atom
+    expression header_key key_equals line lines parse_document skip_bom val along_dots along_header at_key define
+    decode zeros description_of document_fault end_fault key_fault keys_fault latency_fault sections_fault top_fault
+    half has_magic word header_fault code_of ram_after ram_fault segment_at end_line cycle fetch rename retire
+    event_text events_text row_text rows_text trace_text
+late_data_agrees = agrees late_data (record { version = 2; numbers = 2 ∷ 2 ∷ 16 ∷ 8 ∷ 4 ∷ 4 ∷ 8 ∷ 2 ∷ 3 ∷ 16 ∷ 4 ∷ 2 ∷ 2 ∷ 16 ∷ 2 ∷ 10 ∷ 2 ∷ 65536 ∷ 65536 ∷ []; model = Spectre }) refl refl refl refl refl
+
+late_data_version_1_agrees : Agrees late_data_version_1
+unfolding ones encode scan_numeral digits count_leading_zeros chars is_utf8 skip_from skip_ws decimal_number number
+    plain_number underscore_fits unquoted word_len word_value body key_after one_line quoted simple_key special atom
+    expression header_key key_equals line lines parse_document skip_bom val along_dots along_header at_key define
+    decode zeros description_of document_fault end_fault key_fault keys_fault latency_fault sections_fault top_fault
+    half has_magic word header_fault code_of ram_after ram_fault segment_at end_line cycle fetch rename retire
+    event_text events_text row_text rows_text trace_text
+late_data_version_1_agrees = agrees late_data_version_1 (record { version = 1; numbers = 2 ∷ 2 ∷ 16 ∷ 8 ∷ 4 ∷ 4 ∷ 8 ∷ 2 ∷ 3 ∷ 16 ∷ 4 ∷ 2 ∷ 2 ∷ 16 ∷ 2 ∷ 10 ∷ 2 ∷ 65536 ∷ 65536 ∷ []; model = Spectre }) refl refl refl refl refl
+
+mixed_1_agrees : Agrees mixed_1
+unfolding ones encode scan_numeral digits count_leading_zeros chars is_utf8 skip_from skip_ws decimal_number number
+    plain_number underscore_fits unquoted word_len word_value body key_after one_line quoted simple_key special atom
+    expression header_key key_equals line lines parse_document skip_bom val along_dots along_header at_key define
+    decode zeros description_of document_fault end_fault key_fault keys_fault latency_fault sections_fault top_fault
+    half has_magic word header_fault code_of ram_after ram_fault segment_at end_line cycle fetch rename retire
+    event_text events_text row_text rows_text trace_text
+mixed_1_agrees = agrees mixed_1 (record { version = 2; numbers = 2 ∷ 1 ∷ 192 ∷ 96 ∷ 17 ∷ 17 ∷ 32 ∷ 2 ∷ 1 ∷ 2 ∷ 4 ∷ 1 ∷ 2 ∷ 8 ∷ 3 ∷ 11 ∷ 1 ∷ 65536 ∷ 65536 ∷ []; model = Spectre }) refl refl refl refl refl
+
+mixed_2_agrees : Agrees mixed_2
+unfolding ones encode scan_numeral digits count_leading_zeros chars is_utf8 skip_from skip_ws decimal_number number
+    plain_number underscore_fits unquoted word_len word_value body key_after one_line quoted simple_key special atom
+    expression header_key key_equals line lines parse_document skip_bom val along_dots along_header at_key define
+    decode zeros description_of document_fault end_fault key_fault keys_fault latency_fault sections_fault top_fault
+    half has_magic word header_fault code_of ram_after ram_fault segment_at end_line cycle fetch rename retire
+    event_text events_text row_text rows_text trace_text
+mixed_2_agrees = agrees mixed_2 (record { version = 2; numbers = 4 ∷ 4 ∷ 192 ∷ 64 ∷ 17 ∷ 48 ∷ 17 ∷ 1 ∷ 3 ∷ 16 ∷ 1 ∷ 4 ∷ 1 ∷ 32 ∷ 2 ∷ 5 ∷ 8 ∷ 65536 ∷ 65536 ∷ []; model = Spectre }) refl refl refl refl refl
+
+mixed_3_agrees : Agrees mixed_3
+unfolding ones encode scan_numeral digits count_leading_zeros chars is_utf8 skip_from skip_ws decimal_number number
+    plain_number underscore_fits unquoted word_len word_value body key_after one_line quoted simple_key special atom
+    expression header_key key_equals line lines parse_document skip_bom val along_dots along_header at_key define
+    decode zeros description_of document_fault end_fault key_fault keys_fault latency_fault sections_fault top_fault
+    half has_magic word header_fault code_of ram_after ram_fault segment_at end_line cycle fetch rename retire
+    event_text events_text row_text rows_text trace_text
+mixed_3_agrees = agrees mixed_3 (record { version = 2; numbers = 1 ∷ 4 ∷ 192 ∷ 34 ∷ 64 ∷ 17 ∷ 17 ∷ 4 ∷ 8 ∷ 2 ∷ 1 ∷ 1 ∷ 2 ∷ 32 ∷ 3 ∷ 4 ∷ 2 ∷ 65536 ∷ 65536 ∷ []; model = Futuristic }) refl refl refl refl refl
+
+mixed_4_agrees : Agrees mixed_4
+unfolding ones encode scan_numeral digits count_leading_zeros chars is_utf8 skip_from skip_ws decimal_number number
+    plain_number underscore_fits unquoted word_len word_value body key_after one_line quoted simple_key special atom
+    expression header_key key_equals line lines parse_document skip_bom val along_dots along_header at_key define
+    decode zeros description_of document_fault end_fault key_fault keys_fault latency_fault sections_fault top_fault
+    half has_magic word header_fault code_of ram_after ram_fault segment_at end_line cycle fetch rename retire
+    event_text events_text row_text rows_text trace_text
+mixed_4_agrees = agrees mixed_4 (record { version = 2; numbers = 4 ∷ 2 ∷ 128 ∷ 64 ∷ 64 ∷ 17 ∷ 32 ∷ 1 ∷ 3 ∷ 2 ∷ 4 ∷ 2 ∷ 2 ∷ 4 ∷ 3 ∷ 6 ∷ 3 ∷ 65536 ∷ 65536 ∷ []; model = Futuristic }) refl refl refl refl refl
+
+mixed_5_agrees : Agrees mixed_5
+unfolding ones encode scan_numeral digits count_leading_zeros chars is_utf8 skip_from skip_ws decimal_number number
+    plain_number underscore_fits unquoted word_len word_value body key_after one_line quoted simple_key special atom
+    expression header_key key_equals line lines parse_document skip_bom val along_dots along_header at_key define
+    decode zeros description_of document_fault end_fault key_fault keys_fault latency_fault sections_fault top_fault
+    half has_magic word header_fault code_of ram_after ram_fault segment_at end_line cycle fetch rename retire
+    event_text events_text row_text rows_text trace_text
+mixed_5_agrees = agrees mixed_5 (record { version = 2; numbers = 1 ∷ 1 ∷ 4 ∷ 2 ∷ 1 ∷ 2 ∷ 2 ∷ 2 ∷ 1 ∷ 2 ∷ 4 ∷ 2 ∷ 3 ∷ 16 ∷ 1 ∷ 9 ∷ 1 ∷ 65536 ∷ 65536 ∷ []; model = Futuristic }) refl refl refl refl refl
+
+mixed_6_agrees : Agrees mixed_6
+unfolding ones encode scan_numeral digits count_leading_zeros chars is_utf8 skip_from skip_ws decimal_number number
+    plain_number underscore_fits unquoted word_len word_value body key_after one_line quoted simple_key special atom
+    expression header_key key_equals line lines parse_document skip_bom val along_dots along_header at_key define
+    decode zeros description_of document_fault end_fault key_fault keys_fault latency_fault sections_fault top_fault
+    half has_magic word header_fault code_of ram_after ram_fault segment_at end_line cycle fetch rename retire
+    event_text events_text row_text rows_text trace_text
+mixed_6_agrees = agrees mixed_6 (record { version = 2; numbers = 1 ∷ 2 ∷ 16 ∷ 3 ∷ 2 ∷ 4 ∷ 8 ∷ 1 ∷ 8 ∷ 16 ∷ 4 ∷ 1 ∷ 1 ∷ 32 ∷ 2 ∷ 17 ∷ 3 ∷ 65536 ∷ 65536 ∷ []; model = Spectre }) refl refl refl refl refl
+
+mixed_7_agrees : Agrees mixed_7
+unfolding ones encode scan_numeral digits count_leading_zeros chars is_utf8 skip_from skip_ws decimal_number number
+    plain_number underscore_fits unquoted word_len word_value body key_after one_line quoted simple_key special atom
+    expression header_key key_equals line lines parse_document skip_bom val along_dots along_header at_key define
+    decode zeros description_of document_fault end_fault key_fault keys_fault latency_fault sections_fault top_fault
+    half has_magic word header_fault code_of ram_after ram_fault segment_at end_line cycle fetch rename retire
+    event_text events_text row_text rows_text trace_text
+mixed_7_agrees = agrees mixed_7 (record { version = 2; numbers = 1 ∷ 4 ∷ 70 ∷ 96 ∷ 64 ∷ 17 ∷ 32 ∷ 4 ∷ 1 ∷ 16 ∷ 4 ∷ 4 ∷ 2 ∷ 32 ∷ 1 ∷ 9 ∷ 3 ∷ 65536 ∷ 65536 ∷ []; model = Spectre }) refl refl refl refl refl
+
+mixed_8_agrees : Agrees mixed_8
+unfolding ones encode scan_numeral digits count_leading_zeros chars is_utf8 skip_from skip_ws decimal_number number
+    plain_number underscore_fits unquoted word_len word_value body key_after one_line quoted simple_key special atom
+    expression header_key key_equals line lines parse_document skip_bom val along_dots along_header at_key define
+    decode zeros description_of document_fault end_fault key_fault keys_fault latency_fault sections_fault top_fault
+    half has_magic word header_fault code_of ram_after ram_fault segment_at end_line cycle fetch rename retire
+    event_text events_text row_text rows_text trace_text
+mixed_8_agrees = agrees mixed_8 (record { version = 2; numbers = 1 ∷ 1 ∷ 16 ∷ 8 ∷ 4 ∷ 2 ∷ 1 ∷ 4 ∷ 3 ∷ 16 ∷ 1 ∷ 2 ∷ 2 ∷ 4 ∷ 3 ∷ 6 ∷ 2 ∷ 65536 ∷ 65536 ∷ []; model = Futuristic }) refl refl refl refl refl
+
+one_byte_agrees : Agrees one_byte
+unfolding ones encode scan_numeral digits count_leading_zeros chars is_utf8 skip_from skip_ws decimal_number number
+    plain_number underscore_fits unquoted word_len word_value body key_after one_line quoted simple_key special atom
+    expression header_key key_equals line lines parse_document skip_bom val along_dots along_header at_key define
+    decode zeros description_of document_fault end_fault key_fault keys_fault latency_fault sections_fault top_fault
+    half has_magic word header_fault code_of ram_after ram_fault segment_at end_line cycle fetch rename retire
+    event_text events_text row_text rows_text trace_text
+one_byte_agrees = agrees one_byte (record { version = 2; numbers = 2 ∷ 2 ∷ 16 ∷ 8 ∷ 4 ∷ 4 ∷ 8 ∷ 2 ∷ 3 ∷ 16 ∷ 4 ∷ 2 ∷ 2 ∷ 16 ∷ 2 ∷ 10 ∷ 2 ∷ 65536 ∷ 65536 ∷ []; model = Spectre }) refl refl refl refl refl
+
+one_port_each_agrees : Agrees one_port_each
+unfolding ones encode scan_numeral digits count_leading_zeros chars is_utf8 skip_from skip_ws decimal_number number
+    plain_number underscore_fits unquoted word_len word_value body key_after one_line quoted simple_key special atom
+    expression header_key key_equals line lines parse_document skip_bom val along_dots along_header at_key define
+    decode zeros description_of document_fault end_fault key_fault keys_fault latency_fault sections_fault top_fault
+    half has_magic word header_fault code_of ram_after ram_fault segment_at end_line cycle fetch rename retire
+    event_text events_text row_text rows_text trace_text
+one_port_each_agrees = agrees one_port_each (record { version = 2; numbers = 2 ∷ 2 ∷ 16 ∷ 8 ∷ 4 ∷ 4 ∷ 8 ∷ 2 ∷ 3 ∷ 16 ∷ 4 ∷ 2 ∷ 2 ∷ 16 ∷ 2 ∷ 10 ∷ 2 ∷ 65536 ∷ 65536 ∷ []; model = Spectre }) refl refl refl refl refl
+
+partly_covered_agrees : Agrees partly_covered
+unfolding ones encode scan_numeral digits count_leading_zeros chars is_utf8 skip_from skip_ws decimal_number number
+    plain_number underscore_fits unquoted word_len word_value body key_after one_line quoted simple_key special atom
+    expression header_key key_equals line lines parse_document skip_bom val along_dots along_header at_key define
+    decode zeros description_of document_fault end_fault key_fault keys_fault latency_fault sections_fault top_fault
+    half has_magic word header_fault code_of ram_after ram_fault segment_at end_line cycle fetch rename retire
+    event_text events_text row_text rows_text trace_text
+partly_covered_agrees = agrees partly_covered (record { version = 2; numbers = 2 ∷ 2 ∷ 16 ∷ 8 ∷ 4 ∷ 4 ∷ 8 ∷ 2 ∷ 3 ∷ 16 ∷ 4 ∷ 2 ∷ 2 ∷ 16 ∷ 2 ∷ 10 ∷ 2 ∷ 65536 ∷ 65536 ∷ []; model = Spectre }) refl refl refl refl refl
+
+parts_alone_agrees : Agrees parts_alone
+unfolding ones encode scan_numeral digits count_leading_zeros chars is_utf8 skip_from skip_ws decimal_number number
+    plain_number underscore_fits unquoted word_len word_value body key_after one_line quoted simple_key special atom
+    expression header_key key_equals line lines parse_document skip_bom val along_dots along_header at_key define
+    decode zeros description_of document_fault end_fault key_fault keys_fault latency_fault sections_fault top_fault
+    half has_magic word header_fault code_of ram_after ram_fault segment_at end_line cycle fetch rename retire
+    event_text events_text row_text rows_text trace_text
+parts_alone_agrees = agrees parts_alone (record { version = 2; numbers = 2 ∷ 2 ∷ 16 ∷ 8 ∷ 4 ∷ 4 ∷ 8 ∷ 2 ∷ 3 ∷ 16 ∷ 4 ∷ 2 ∷ 2 ∷ 16 ∷ 2 ∷ 10 ∷ 2 ∷ 65536 ∷ 65536 ∷ []; model = Spectre }) refl refl refl refl refl
+
 run_01_agrees : Agrees run_01
 unfolding ones encode scan_numeral digits count_leading_zeros chars is_utf8 skip_from skip_ws decimal_number number
     plain_number underscore_fits unquoted word_len word_value body key_after one_line quoted simple_key special atom
@@ -411,5 +630,86 @@ unfolding ones encode scan_numeral digits count_leading_zeros chars is_utf8 skip
     event_text events_text row_text rows_text trace_text
 run_38_agrees = agrees run_38 (record { version = 1; numbers = 2 ∷ 1 ∷ 15 ∷ 8 ∷ 16 ∷ 2 ∷ 2 ∷ 1 ∷ 1 ∷ 4 ∷ 8 ∷ 2 ∷ 1 ∷ 8 ∷ 1 ∷ 35 ∷ 3 ∷ 0 ∷ 4096 ∷ []; model = Futuristic }) refl refl refl refl refl
 
+store_behind_load_agrees : Agrees store_behind_load
+unfolding ones encode scan_numeral digits count_leading_zeros chars is_utf8 skip_from skip_ws decimal_number number
+    plain_number underscore_fits unquoted word_len word_value body key_after one_line quoted simple_key special atom
+    expression header_key key_equals line lines parse_document skip_bom val along_dots along_header at_key define
+    decode zeros description_of document_fault end_fault key_fault keys_fault latency_fault sections_fault top_fault
+    half has_magic word header_fault code_of ram_after ram_fault segment_at end_line cycle fetch rename retire
+    event_text events_text row_text rows_text trace_text
+store_behind_load_agrees = agrees store_behind_load (record { version = 2; numbers = 2 ∷ 2 ∷ 16 ∷ 8 ∷ 4 ∷ 4 ∷ 8 ∷ 2 ∷ 3 ∷ 16 ∷ 4 ∷ 2 ∷ 2 ∷ 16 ∷ 2 ∷ 10 ∷ 2 ∷ 65536 ∷ 65536 ∷ []; model = Spectre }) refl refl refl refl refl
+
+store_without_data_shadows_agrees : Agrees store_without_data_shadows
+unfolding ones encode scan_numeral digits count_leading_zeros chars is_utf8 skip_from skip_ws decimal_number number
+    plain_number underscore_fits unquoted word_len word_value body key_after one_line quoted simple_key special atom
+    expression header_key key_equals line lines parse_document skip_bom val along_dots along_header at_key define
+    decode zeros description_of document_fault end_fault key_fault keys_fault latency_fault sections_fault top_fault
+    half has_magic word header_fault code_of ram_after ram_fault segment_at end_line cycle fetch rename retire
+    event_text events_text row_text rows_text trace_text
+store_without_data_shadows_agrees = agrees store_without_data_shadows (record { version = 2; numbers = 2 ∷ 2 ∷ 16 ∷ 8 ∷ 4 ∷ 4 ∷ 8 ∷ 2 ∷ 3 ∷ 16 ∷ 4 ∷ 2 ∷ 2 ∷ 16 ∷ 2 ∷ 10 ∷ 2 ∷ 65536 ∷ 65536 ∷ []; model = Futuristic }) refl refl refl refl refl
+
+tainted_address_agrees : Agrees tainted_address
+unfolding ones encode scan_numeral digits count_leading_zeros chars is_utf8 skip_from skip_ws decimal_number number
+    plain_number underscore_fits unquoted word_len word_value body key_after one_line quoted simple_key special atom
+    expression header_key key_equals line lines parse_document skip_bom val along_dots along_header at_key define
+    decode zeros description_of document_fault end_fault key_fault keys_fault latency_fault sections_fault top_fault
+    half has_magic word header_fault code_of ram_after ram_fault segment_at end_line cycle fetch rename retire
+    event_text events_text row_text rows_text trace_text
+tainted_address_agrees = agrees tainted_address (record { version = 2; numbers = 2 ∷ 2 ∷ 16 ∷ 8 ∷ 4 ∷ 4 ∷ 8 ∷ 2 ∷ 3 ∷ 16 ∷ 4 ∷ 2 ∷ 2 ∷ 16 ∷ 2 ∷ 10 ∷ 2 ∷ 65536 ∷ 65536 ∷ []; model = Spectre }) refl refl refl refl refl
+
+tainted_address_faulting_load_agrees : Agrees tainted_address_faulting_load
+unfolding ones encode scan_numeral digits count_leading_zeros chars is_utf8 skip_from skip_ws decimal_number number
+    plain_number underscore_fits unquoted word_len word_value body key_after one_line quoted simple_key special atom
+    expression header_key key_equals line lines parse_document skip_bom val along_dots along_header at_key define
+    decode zeros description_of document_fault end_fault key_fault keys_fault latency_fault sections_fault top_fault
+    half has_magic word header_fault code_of ram_after ram_fault segment_at end_line cycle fetch rename retire
+    event_text events_text row_text rows_text trace_text
+tainted_address_faulting_load_agrees = agrees tainted_address_faulting_load (record { version = 2; numbers = 2 ∷ 2 ∷ 16 ∷ 8 ∷ 4 ∷ 4 ∷ 8 ∷ 2 ∷ 3 ∷ 16 ∷ 4 ∷ 2 ∷ 2 ∷ 16 ∷ 2 ∷ 10 ∷ 2 ∷ 65536 ∷ 65536 ∷ []; model = Spectre }) refl refl refl refl refl
+
+tainted_address_faulting_store_agrees : Agrees tainted_address_faulting_store
+unfolding ones encode scan_numeral digits count_leading_zeros chars is_utf8 skip_from skip_ws decimal_number number
+    plain_number underscore_fits unquoted word_len word_value body key_after one_line quoted simple_key special atom
+    expression header_key key_equals line lines parse_document skip_bom val along_dots along_header at_key define
+    decode zeros description_of document_fault end_fault key_fault keys_fault latency_fault sections_fault top_fault
+    half has_magic word header_fault code_of ram_after ram_fault segment_at end_line cycle fetch rename retire
+    event_text events_text row_text rows_text trace_text
+tainted_address_faulting_store_agrees = agrees tainted_address_faulting_store (record { version = 2; numbers = 2 ∷ 2 ∷ 16 ∷ 8 ∷ 4 ∷ 4 ∷ 8 ∷ 2 ∷ 3 ∷ 16 ∷ 4 ∷ 2 ∷ 2 ∷ 16 ∷ 2 ∷ 10 ∷ 2 ∷ 65536 ∷ 65536 ∷ []; model = Spectre }) refl refl refl refl refl
+
+tainted_address_hidden_agrees : Agrees tainted_address_hidden
+unfolding ones encode scan_numeral digits count_leading_zeros chars is_utf8 skip_from skip_ws decimal_number number
+    plain_number underscore_fits unquoted word_len word_value body key_after one_line quoted simple_key special atom
+    expression header_key key_equals line lines parse_document skip_bom val along_dots along_header at_key define
+    decode zeros description_of document_fault end_fault key_fault keys_fault latency_fault sections_fault top_fault
+    half has_magic word header_fault code_of ram_after ram_fault segment_at end_line cycle fetch rename retire
+    event_text events_text row_text rows_text trace_text
+tainted_address_hidden_agrees = agrees tainted_address_hidden (record { version = 2; numbers = 2 ∷ 2 ∷ 16 ∷ 8 ∷ 4 ∷ 4 ∷ 8 ∷ 2 ∷ 3 ∷ 16 ∷ 4 ∷ 2 ∷ 2 ∷ 16 ∷ 2 ∷ 10 ∷ 2 ∷ 65536 ∷ 65536 ∷ []; model = Spectre }) refl refl refl refl refl
+
+tainted_data_agrees : Agrees tainted_data
+unfolding ones encode scan_numeral digits count_leading_zeros chars is_utf8 skip_from skip_ws decimal_number number
+    plain_number underscore_fits unquoted word_len word_value body key_after one_line quoted simple_key special atom
+    expression header_key key_equals line lines parse_document skip_bom val along_dots along_header at_key define
+    decode zeros description_of document_fault end_fault key_fault keys_fault latency_fault sections_fault top_fault
+    half has_magic word header_fault code_of ram_after ram_fault segment_at end_line cycle fetch rename retire
+    event_text events_text row_text rows_text trace_text
+tainted_data_agrees = agrees tainted_data (record { version = 2; numbers = 2 ∷ 2 ∷ 16 ∷ 8 ∷ 4 ∷ 4 ∷ 8 ∷ 2 ∷ 3 ∷ 16 ∷ 4 ∷ 2 ∷ 2 ∷ 16 ∷ 2 ∷ 10 ∷ 2 ∷ 65536 ∷ 65536 ∷ []; model = Spectre }) refl refl refl refl refl
+
+younger_address_agrees : Agrees younger_address
+unfolding ones encode scan_numeral digits count_leading_zeros chars is_utf8 skip_from skip_ws decimal_number number
+    plain_number underscore_fits unquoted word_len word_value body key_after one_line quoted simple_key special atom
+    expression header_key key_equals line lines parse_document skip_bom val along_dots along_header at_key define
+    decode zeros description_of document_fault end_fault key_fault keys_fault latency_fault sections_fault top_fault
+    half has_magic word header_fault code_of ram_after ram_fault segment_at end_line cycle fetch rename retire
+    event_text events_text row_text rows_text trace_text
+younger_address_agrees = agrees younger_address (record { version = 2; numbers = 2 ∷ 2 ∷ 16 ∷ 8 ∷ 4 ∷ 4 ∷ 8 ∷ 2 ∷ 3 ∷ 16 ∷ 4 ∷ 2 ∷ 2 ∷ 16 ∷ 2 ∷ 10 ∷ 2 ∷ 65536 ∷ 65536 ∷ []; model = Spectre }) refl refl refl refl refl
+
+younger_store_agrees : Agrees younger_store
+unfolding ones encode scan_numeral digits count_leading_zeros chars is_utf8 skip_from skip_ws decimal_number number
+    plain_number underscore_fits unquoted word_len word_value body key_after one_line quoted simple_key special atom
+    expression header_key key_equals line lines parse_document skip_bom val along_dots along_header at_key define
+    decode zeros description_of document_fault end_fault key_fault keys_fault latency_fault sections_fault top_fault
+    half has_magic word header_fault code_of ram_after ram_fault segment_at end_line cycle fetch rename retire
+    event_text events_text row_text rows_text trace_text
+younger_store_agrees = agrees younger_store (record { version = 2; numbers = 2 ∷ 2 ∷ 16 ∷ 8 ∷ 2 ∷ 4 ∷ 8 ∷ 2 ∷ 3 ∷ 16 ∷ 4 ∷ 2 ∷ 2 ∷ 16 ∷ 2 ∷ 10 ∷ 2 ∷ 65536 ∷ 65536 ∷ []; model = Spectre }) refl refl refl refl refl
+
 pub each_agrees : Each Agrees runs
-each_agrees = (run_01_agrees, (run_02_agrees, (run_03_agrees, (run_04_agrees, (run_05_agrees, (run_06_agrees, (run_07_agrees, (run_08_agrees, (run_09_agrees, (run_10_agrees, (run_11_agrees, (run_12_agrees, (run_13_agrees, (run_14_agrees, (run_15_agrees, (run_16_agrees, (run_17_agrees, (run_18_agrees, (run_19_agrees, (run_20_agrees, (run_21_agrees, (run_22_agrees, (run_23_agrees, (run_24_agrees, (run_25_agrees, (run_26_agrees, (run_27_agrees, (run_28_agrees, (run_29_agrees, (run_30_agrees, (run_31_agrees, (run_32_agrees, (run_33_agrees, (run_34_agrees, (run_35_agrees, (run_36_agrees, (run_37_agrees, (run_38_agrees, tt))))))))))))))))))))))))))))))))))))))
+each_agrees = (faulting_load_agrees, (faulting_store_agrees, (half_issued_agrees, (half_issued_data_agrees, (hidden_base_agrees, (large_window_agrees, (late_address_agrees, (late_data_agrees, (late_data_version_1_agrees, (mixed_1_agrees, (mixed_2_agrees, (mixed_3_agrees, (mixed_4_agrees, (mixed_5_agrees, (mixed_6_agrees, (mixed_7_agrees, (mixed_8_agrees, (one_byte_agrees, (one_port_each_agrees, (partly_covered_agrees, (parts_alone_agrees, (run_01_agrees, (run_02_agrees, (run_03_agrees, (run_04_agrees, (run_05_agrees, (run_06_agrees, (run_07_agrees, (run_08_agrees, (run_09_agrees, (run_10_agrees, (run_11_agrees, (run_12_agrees, (run_13_agrees, (run_14_agrees, (run_15_agrees, (run_16_agrees, (run_17_agrees, (run_18_agrees, (run_19_agrees, (run_20_agrees, (run_21_agrees, (run_22_agrees, (run_23_agrees, (run_24_agrees, (run_25_agrees, (run_26_agrees, (run_27_agrees, (run_28_agrees, (run_29_agrees, (run_30_agrees, (run_31_agrees, (run_32_agrees, (run_33_agrees, (run_34_agrees, (run_35_agrees, (run_36_agrees, (run_37_agrees, (run_38_agrees, (store_behind_load_agrees, (store_without_data_shadows_agrees, (tainted_address_agrees, (tainted_address_faulting_load_agrees, (tainted_address_faulting_store_agrees, (tainted_address_hidden_agrees, (tainted_data_agrees, (younger_address_agrees, (younger_store_agrees, tt))))))))))))))))))))))))))))))))))))))))))))))))))))))))))))))))))))

@@ -5,6 +5,7 @@ use Rattle.std.specs.Int.{is_power_of_two}
 use borrow.Author.Tests.{leb-true}
 use Rattle.machine_desc.specs.declared.Desc.{Desc}
 use Rattle.machine_desc.specs.Description.{Contents}
+use Rattle.machine_desc.specs.Version.{most, newest}
 use Rattle.machine_desc.proofs.Powers.{power_from_test}
 
 -- all of these hold
@@ -26,16 +27,16 @@ holds [] k h = refl
 holds (b ∷ more) zero h = by_head b more h
 holds (b ∷ more) (suc k) h = holds more k (by_tail b more h)
 
--- what each key asks of its number, in the order of the keys, and that the version is 1
+-- what each key asks of its number in a version, in the order of the keys, and that the version is known
 abbrev pub tests : ℕ → (ℕ → ℕ) → List Bool
 tests version n =
     (nat_le 1 (n 0)) ∷ (nat_le (n 0) 4) ∷
     (nat_le 1 (n 1)) ∷ (nat_le (n 1) 4) ∷
-    (nat_le 4 (n 2)) ∷ (nat_le (n 2) 64) ∷
-    (nat_le 2 (n 3)) ∷ (nat_le (n 3) 32) ∷
-    (nat_le 1 (n 4)) ∷ (nat_le (n 4) 16) ∷
-    (nat_le 1 (n 5)) ∷ (nat_le (n 5) 16) ∷
-    (nat_le 1 (n 6)) ∷ (nat_le (n 6) 16) ∷
+    (nat_le 4 (n 2)) ∷ (nat_le (n 2) (most 64 192 version)) ∷
+    (nat_le 2 (n 3)) ∷ (nat_le (n 3) (most 32 96 version)) ∷
+    (nat_le 1 (n 4)) ∷ (nat_le (n 4) (most 16 64 version)) ∷
+    (nat_le 1 (n 5)) ∷ (nat_le (n 5) (most 16 48 version)) ∷
+    (nat_le 1 (n 6)) ∷ (nat_le (n 6) (most 16 32 version)) ∷
     (nat_le 1 (n 7)) ∷ (nat_le (n 7) 4) ∷
     (nat_le 1 (n 8)) ∷ (nat_le (n 8) 8) ∷
     (nat_le 2 (n 9)) ∷ (nat_le (n 9) 4096) ∷ (is_power_of_two (n 9)) ∷
@@ -49,7 +50,7 @@ tests version n =
     (nat_le (n 17) 4294963200) ∷ (n 17 % 16 == 0) ∷
     (nat_le 4096 (n 18)) ∷ (nat_le (n 18) 16777216) ∷ (n 18 % 16 == 0) ∷
     (nat_le (n 17 + n 18) (2 ^ 32)) ∷
-    (version == 1) ∷
+    (nat_le 1 version) ∷ (nat_le version newest) ∷
     []
 
 -- the number of a key, by its place
@@ -83,7 +84,8 @@ described c h =
       ram_base = n 17;
       ram_size = n 18;
       stt_model = c.model;
-      first_version = eqb-true _ _ (t 44);
+      some_version = leb-true _ _ (t 44);
+      known_version = leb-true _ _ (t 45);
       some_fetches = leb-true _ _ (t 0);
       few_fetches = leb-true _ _ (t 1);
       some_retires = leb-true _ _ (t 2);

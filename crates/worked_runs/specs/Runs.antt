@@ -1,6 +1,27 @@
 -- Made by tools/evaluate/write: change what it reads, in tools/evaluate/runs, and run it again.
 use Rattle.std.specs.Prelude.{List, [], ◌∷◌}
 use Rattle.worked_runs.specs.Agreement.{Run}
+use Rattle.worked_runs.specs.FaultingLoad.{faulting_load}
+use Rattle.worked_runs.specs.FaultingStore.{faulting_store}
+use Rattle.worked_runs.specs.HalfIssued.{half_issued}
+use Rattle.worked_runs.specs.HalfIssuedData.{half_issued_data}
+use Rattle.worked_runs.specs.HiddenBase.{hidden_base}
+use Rattle.worked_runs.specs.LargeWindow.{large_window}
+use Rattle.worked_runs.specs.LateAddress.{late_address}
+use Rattle.worked_runs.specs.LateData.{late_data}
+use Rattle.worked_runs.specs.LateDataVersion1.{late_data_version_1}
+use Rattle.worked_runs.specs.Mixed1.{mixed_1}
+use Rattle.worked_runs.specs.Mixed2.{mixed_2}
+use Rattle.worked_runs.specs.Mixed3.{mixed_3}
+use Rattle.worked_runs.specs.Mixed4.{mixed_4}
+use Rattle.worked_runs.specs.Mixed5.{mixed_5}
+use Rattle.worked_runs.specs.Mixed6.{mixed_6}
+use Rattle.worked_runs.specs.Mixed7.{mixed_7}
+use Rattle.worked_runs.specs.Mixed8.{mixed_8}
+use Rattle.worked_runs.specs.OneByte.{one_byte}
+use Rattle.worked_runs.specs.OnePortEach.{one_port_each}
+use Rattle.worked_runs.specs.PartlyCovered.{partly_covered}
+use Rattle.worked_runs.specs.PartsAlone.{parts_alone}
 use Rattle.worked_runs.specs.Run01.{run_01}
 use Rattle.worked_runs.specs.Run02.{run_02}
 use Rattle.worked_runs.specs.Run03.{run_03}
@@ -39,10 +60,40 @@ use Rattle.worked_runs.specs.Run35.{run_35}
 use Rattle.worked_runs.specs.Run36.{run_36}
 use Rattle.worked_runs.specs.Run37.{run_37}
 use Rattle.worked_runs.specs.Run38.{run_38}
+use Rattle.worked_runs.specs.StoreBehindLoad.{store_behind_load}
+use Rattle.worked_runs.specs.StoreWithoutDataShadows.{store_without_data_shadows}
+use Rattle.worked_runs.specs.TaintedAddress.{tainted_address}
+use Rattle.worked_runs.specs.TaintedAddressFaultingLoad.{tainted_address_faulting_load}
+use Rattle.worked_runs.specs.TaintedAddressFaultingStore.{tainted_address_faulting_store}
+use Rattle.worked_runs.specs.TaintedAddressHidden.{tainted_address_hidden}
+use Rattle.worked_runs.specs.TaintedData.{tainted_data}
+use Rattle.worked_runs.specs.YoungerAddress.{younger_address}
+use Rattle.worked_runs.specs.YoungerStore.{younger_store}
 
--- the runs of the independent model
+-- the runs of the independent models
 abbrev pub runs : List Run
 runs =
+    faulting_load ∷
+    faulting_store ∷
+    half_issued ∷
+    half_issued_data ∷
+    hidden_base ∷
+    large_window ∷
+    late_address ∷
+    late_data ∷
+    late_data_version_1 ∷
+    mixed_1 ∷
+    mixed_2 ∷
+    mixed_3 ∷
+    mixed_4 ∷
+    mixed_5 ∷
+    mixed_6 ∷
+    mixed_7 ∷
+    mixed_8 ∷
+    one_byte ∷
+    one_port_each ∷
+    partly_covered ∷
+    parts_alone ∷
     run_01 ∷
     run_02 ∷
     run_03 ∷
@@ -81,4 +132,13 @@ runs =
     run_36 ∷
     run_37 ∷
     run_38 ∷
+    store_behind_load ∷
+    store_without_data_shadows ∷
+    tainted_address ∷
+    tainted_address_faulting_load ∷
+    tainted_address_faulting_store ∷
+    tainted_address_hidden ∷
+    tainted_data ∷
+    younger_address ∷
+    younger_store ∷
     []

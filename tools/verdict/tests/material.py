@@ -21,7 +21,7 @@ CODE, DATA = 0x00010000, 0x0001fff0
 SECRET = DATA + 8
 ISA_BASE, ISA_SIZE = 0x00010000, 1 << 20
 CORE, CORE_FUTURISTIC = support.example("core.toml"), support.example("core_futuristic.toml")
-RUNS = sorted(glob.glob(os.path.join(support.ROOT, "tools", "evaluate", "runs", "run_*")))
+RUNS = sorted(map(os.path.dirname, glob.glob(os.path.join(support.ROOT, "tools", "evaluate", "runs", "*", "trace"))))
 needs_program = unittest.skipIf(support.NO_PROGRAM, support.NO_PROGRAM)
 
 BOUND_0, BOUND_1 = bytes(8), bytes([1]) + bytes(7)

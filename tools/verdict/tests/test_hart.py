@@ -88,7 +88,7 @@ class AgainstIsa(unittest.TestCase):
                 self.agrees(path, steps, CORE)
 
     def test_random_programs(self):
-        """Those of the independent model's runs, each under its description."""
+        """Those of the stored runs, each under its description."""
         self.assertGreater(len(material.RUNS), 30)
         for run in material.RUNS:
             for steps in (5, 1000):

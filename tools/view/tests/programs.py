@@ -1,5 +1,5 @@
 """Small programs that bring the machine to each of its rules, as words."""
-from generate.generated import addi, blt, branch, div, immediate_form, jal, lw, mul, store, sw, xor
+from generate.generated import add, addi, blt, branch, div, immediate_form, jal, lw, mul, store, sw, xor
 
 ECALL, EBREAK, ILLEGAL, FENCE = 0x00000073, 0x00100073, 0, 0x0FF0000F
 EXIT = [addi(17, 0, 93), ECALL]
@@ -45,6 +45,10 @@ PROGRAMS = {
     "store that faults": [SLOW, sw(5, 0, 0), lbu(6, 8, 2), xor(6, 6, 2), lw(7, 0, 6), div(7, 6, 6), beq(6, 0, 8), *EXIT],
     "store that faults on a wrong path": [lw(5, 0, 2), mul(5, 5, 5), bgeu(0, 5, 28), sw(5, 0, 0), lbu(6, 8, 2), xor(6, 6, 2),
                                           lw(7, 0, 6), div(7, 6, 6), addi(7, 0, 1), *EXIT],
+    "store whose data comes late": [div(5, 2, 2), sw(5, 0, 2), lw(6, 8, 2), lw(7, 0, 2), *EXIT],
+    "store to a loaded address without data": [lw(5, 0, 2), mul(5, 5, 5), bgeu(0, 5, 20), lbu(6, 8, 2), add(6, 6, 2), sw(5, 4, 6),
+                                               lw(7, -16, 2), *EXIT],
+    "stores whose addresses come late": [mul(6, 0, 0), xor(6, 6, 2), sw(2, 0, 6), sw(2, 4, 6), sw(9, 8, 2), lw(7, 4, 2), *EXIT],
     "loop": [addi(5, 0, 20), lw(6, 0, 2), mul(6, 6, 6), sw(6, 4, 2), addi(5, 5, -1), blt(0, 5, -16), *EXIT],
     "jumps through a register": [addi(6, 0, 6), jal(1, 16), addi(6, 6, -1), blt(0, 6, -8), jal(0, 12), addi(7, 7, 1),
                                  jalr(0, 1, 0), *EXIT],

@@ -9,7 +9,9 @@ import tempfile
 ROOT = os.path.dirname(os.path.dirname(os.path.dirname(os.path.dirname(os.path.abspath(__file__)))))
 sys.path.insert(0, os.path.join(ROOT, "tools"))
 
+from evaluate import model
 from generate.generated import image
+from verdict.loaded import Loaded
 from view.description import read_description
 from view.disassembly import KINDS, Disassembler
 from view.image import Image
@@ -23,6 +25,8 @@ FOLDER = tempfile.TemporaryDirectory()
 
 LARGEST = {"fetch_width": 4, "retire_width": 4, "rob": 64, "stations": 32, "loads": 16, "stores": 16, "queue": 16, "alus": 4,
            "mul_latency": 8, "sets": 16, "ways": 4, "line": 64, "hit_latency": 3, "miss_latency": 40, "mshrs": 8}
+# what may be larger in version 2
+LARGER = {"rob": 192, "stations": 96, "loads": 64, "stores": 48, "queue": 32}
 SMALLEST = {"fetch_width": 1, "retire_width": 1, "rob": 4, "stations": 2, "loads": 1, "stores": 1, "queue": 1, "alus": 1,
             "mul_latency": 1, "counters": 2, "btb": 1, "sets": 1, "ways": 1, "line": 4, "hit_latency": 1, "miss_latency": 2,
             "mshrs": 1}
@@ -57,19 +61,19 @@ def elf(segments, entry=0x00010000):
     return header + headers + contents
 
 
-def description(name, model, **changes):
-    """The file of the example description with other values."""
-    with open(example("core.toml"), encoding="utf-8") as file:
+def description(name, model, version=1, **changes):
+    """The file of the example description of a version with other values."""
+    with open(example("core.toml" if version == 1 else "core_version_2.toml"), encoding="utf-8") as file:
         text = file.read()
     for key, value in changes.items():
         text = re.sub(rf"^{key} = \d+", f"{key} = {value}", text, flags=re.M)
-    return file_of(f"{name}_{model}.toml", text.replace('"spectre"', f'"{model}"').encode())
+    return file_of(f"{name}_{model}_{version}.toml", text.replace('"spectre"', f'"{model}"').encode())
 
 
-def descriptions():
-    """The example description, a small and a large one, each under both models."""
-    changes = {"example": {}, "smallest": SMALLEST, "largest": LARGEST}
-    return [description(name, model, **changes[name]) for name in changes for model in ("spectre", "futuristic")]
+def descriptions(version=1):
+    """The example description of a version, a small and a large one, each under both models."""
+    changes = {"example": {}, "smallest": SMALLEST, "largest": LARGEST if version == 1 else LARGEST | LARGER}
+    return [description(name, model, version, **changes[name]) for name in changes for model in ("spectre", "futuristic")]
 
 
 def worked_trace(heading):
@@ -121,6 +125,14 @@ def fresh(lines, image_file, description_file):
 
 def fresh_bounds_check():
     return fresh(worked_trace("Bounds check bypass"), example("bounds_check.elf"), example("core.toml"))
+
+
+def modelled(description_file, image_file, cycles):
+    """The trace that the model of tools/evaluate writes, as lines."""
+    with open(description_file, encoding="utf-8") as file:
+        numbers = model.read_numbers(file.read())
+    lines, _ = model.trace(numbers, Loaded(image_file, numbers.base, numbers.size), cycles)
+    return [line + "\n" for line in lines]
 
 
 def run_program(*words):

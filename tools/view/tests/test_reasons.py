@@ -1,4 +1,5 @@
 """Why instructions wait, on the worked traces of docs/machine.md: what is expected is what the text beside them says."""
+import os
 import unittest
 
 import support
@@ -86,6 +87,72 @@ class WorkedTraces(unittest.TestCase):
         run, _, _ = support.replay(support.worked_trace("Misses of a wrong path"), image, support.example("core.toml"))
         stalls = [(cycles(stall), stall.reason, hex(stall.pc)) for stall in run.front.stalls]
         self.assertEqual(stalls[:2], [("5..12", "loads", "0x10018"), ("14..16", "call waits to be alone", "0x10020")])
+
+
+class StoresInParts(unittest.TestCase):
+    """In version 2: the worked trace of a store whose data comes late, and stored runs of tools/evaluate."""
+
+    def stored(self, name):
+        folder = os.path.join(support.ROOT, "tools", "evaluate", "runs", name)
+        with open(os.path.join(folder, "trace"), encoding="ascii") as lines:
+            return support.replay(lines, os.path.join(folder, "image.elf"), os.path.join(folder, "core.toml"))
+
+    def late(self, lines):
+        image = support.image_of_words("late_data", PROGRAMS["store whose data comes late"])
+        return support.replay(lines, image, support.example("core_version_2.toml"))
+
+    def told(self, *changes):
+        """What is unexplained where these texts stand for others in these lines."""
+        lines = support.worked_trace("Store whose data comes late")
+        for number, old, new in changes:
+            self.assertIn(old, lines[number - 1])
+            lines[number - 1] = lines[number - 1].replace(old, new)
+        return self.late(lines)[0].reasons.unexplained
+
+    def test_data_that_comes_late(self):
+        """The load of other bytes goes in 4; that of the store's bytes waits until the data has issued, in 23."""
+        run, entries, _ = self.late(support.worked_trace("Store whose data comes late"))
+        self.assertEqual((entries[1].parts, entries[1].issued, entries[1].done), ({"agu": 3, "std": 23}, 23, 24))
+        self.assertEqual([waits(entries[serial]) for serial in (1, 2, 3)], [
+            [("3..22", "data", 0)], [], [("4", "port", None), ("5..23", "older store's data", 1)]])
+        self.assertEqual(run.reasons.unexplained, [])
+
+    def test_a_tainted_address_without_data(self):
+        """The store's address issues in 14 and is tainted until the branch is resolved, in 17; its data issues in 16."""
+        run, entries, _ = self.stored("tainted_address")
+        self.assertEqual(waits(entries[5]), [("5..13", "base", 4), ("14..15", "data", 1)])
+        self.assertEqual(waits(entries[6]), [("6..14", "older store's address", 5), ("15..16", "older store's tainted address", 5)])
+        self.assertEqual(run.reasons.unexplained, [])
+
+    def test_ports_of_stores(self):
+        """Two stores whose sources are all there: the second one's parts issue a cycle later."""
+        run, entries, _ = self.stored("one_port_each")
+        self.assertEqual(waits(entries[1]), [("3", "address port", None)])
+        run, entries, _ = self.stored("half_issued")
+        self.assertEqual(waits(entries[2]), [("4..22", "data", 0), ("23", "data port", None)])
+        self.assertEqual(run.reasons.unexplained, [])
+
+    def test_a_part_that_issues_before_its_source(self):
+        told = self.told((5, "alu:4", "std:1 alu:4"), (23, " std:1", ""))
+        self.assertIn("cycle 5: store 1 issues `std`, but has to wait: data", told)
+
+    def test_a_part_that_waits_for_nothing(self):
+        told = self.told((3, " agu:1", ""), (4, "ld:2", "agu:1 ld:2"))
+        self.assertIn("cycle 3: store 1 lacks its `agu`, and nothing tells why", told)
+
+    def test_a_load_that_goes_before_the_address(self):
+        told = self.told((3, " agu:1", ""), (5, "alu:4", "agu:1 alu:4"))
+        self.assertIn("cycle 4: entry 2 issues, but has to wait: older store's address", told)
+
+    def test_a_load_that_goes_before_the_data(self):
+        """That the two have a byte in common is told by its wait alone; so it mustn't go before something has changed."""
+        told = self.told((22, "22", "22 ld:3:0001fff0:h"), (24, " ld:3:0001fff0:h", ""),
+                         (24, "done:1", "done:1 done:3"), (26, "done:3 ", ""))
+        self.assertIn("cycle 22: load 3 issues, and no store has got the data that it waited for", told)
+
+    def test_the_order_of_the_events(self):
+        told = self.told((3, "div:0:20 agu:1", "agu:1 div:0:20"))
+        self.assertEqual(told, ["cycle 3: the events of Issue don't go from the oldest entry on: agu:1 div:0:20"])
 
 
 class Unexplained(unittest.TestCase):

@@ -1,4 +1,4 @@
-"""Nothing is unexplained over what the program and an independent model write, and every event that is changed is noticed.
+"""Nothing is unexplained over what the program and other models write, and every event that is changed is noticed.
 
 The reasons are found from the trace's text, the image and the description alone, so this is a second opinion on the program.
 """
@@ -14,7 +14,8 @@ from view.pipeline import Item
 
 GENERATED, BLOCKS, CYCLES = 20, 24, 3000
 RUNS = os.path.join(support.ROOT, "tools", "evaluate", "runs")
-WORKED = [("Bounds check bypass", "bounds_check"), ("Fault shadow", "fault_shadow")]
+WORKED = [("Bounds check bypass", "bounds_check.elf", "core.toml"), ("Fault shadow", "fault_shadow.elf", "core.toml"),
+          ("Store whose data comes late", None, "core_version_2.toml")]
 
 
 def unexplained(lines, image, description):
@@ -73,8 +74,8 @@ class OverThePrograms(unittest.TestCase):
         self.assertLess(most, 200)
 
 
-class OverAnIndependentModel(unittest.TestCase):
-    def test_small_random_runs(self):
+class OverModels(unittest.TestCase):
+    def test_stored_runs(self):
         folders = sorted(name for name in os.listdir(RUNS) if os.path.isdir(os.path.join(RUNS, name)))
         self.assertGreater(len(folders), 30)
         for name in folders:
@@ -83,28 +84,47 @@ class OverAnIndependentModel(unittest.TestCase):
                 self.assertEqual(unexplained(lines, image, description), [])
 
 
+    def test_small_programs_in_version_2(self):
+        """Nothing is unexplained in version 2 over what the model of tools/evaluate writes, and each reason comes up."""
+        waits = set()
+        images = [support.image_of_words(name, words) for name, words in PROGRAMS.items()]
+        images += [support.file_of(f"generated_{seed}.elf", generated_image(seed, BLOCKS // 4)) for seed in range(GENERATED)]
+        for image in images:
+            for description in support.descriptions(version=2):
+                lines = support.modelled(description, image, CYCLES)
+                run, _, items = support.replay(lines, image, description)
+                with self.subTest(image=os.path.basename(image), description=os.path.basename(description)):
+                    self.assertEqual(run.reasons.unexplained, [])
+                waits |= {wait.reason for item in items for wait in item.waits}
+        self.assertEqual(waits, {"operand", "taint", "port", "miss register", "divider", "taint, to be resolved", "one resolved a cycle",
+                                 "base", "data", "address port", "data port", "older store's address", "older store's data",
+                                 "older store's tainted address"})
+
+
 class EveryEventMatters(unittest.TestCase):
-    def noticed(self, lines, name):
+    def noticed(self, lines, image, description):
+        program = "store whose data comes late"
+        path = support.example(image) if image else support.image_of_words("late_data", PROGRAMS[program])
         try:
-            return unexplained(lines, support.example(name + ".elf"), support.example("core.toml"))
+            return unexplained(lines, path, support.example(description))
         except Fault:
             return True
 
     def test_an_event_that_is_missing_is_noticed(self):
-        for heading, name in WORKED:
+        for heading, *files in WORKED:
             for number, event, lines in without_one_event(support.worked_trace(heading)):
                 with self.subTest(trace=heading, cycle=number, event=event):
-                    self.assertTrue(self.noticed(lines, name))
+                    self.assertTrue(self.noticed(lines, *files))
 
     def test_an_event_that_is_late_is_noticed(self):
-        for heading, name in WORKED:
+        for heading, *files in WORKED:
             for number, event, lines in without_one_event(support.worked_trace(heading)):
                 if lines[number].startswith("end"):
                     continue
                 first, *events = lines[number].split()
                 lines[number] = " ".join([first, event, *events]) + "\n"
                 with self.subTest(trace=heading, cycle=number, event=event):
-                    self.assertTrue(self.noticed(lines, name))
+                    self.assertTrue(self.noticed(lines, *files))
 
 
 def live_items():

@@ -1,5 +1,5 @@
-use Rattle.parts_stand.proofs.Answering.{counts_room, counts_stations, finds_awaited, finds_writer, has_station, holds_older, names_entry, names_root, names_writer, picks_first, stations_older, stations_younger, tells_issue, tells_operands, tells_ready, tells_taint, tells_visible}
-use Rattle.parts_stand.proofs.Addressing.{tells_stores}
+use Rattle.parts_stand.proofs.Answering.{counts_room, counts_stations, finds_awaited, finds_writer, has_station, holds_older, names_entry, names_root, names_writer, picks_first, stations_older, stations_younger, tells_issue, tells_operands, tells_able, tells_part, tells_ready, tells_taint, tells_visible}
+use Rattle.parts_stand.proofs.Addressing.{tells_each_store}
 use Rattle.parts_stand.proofs.Writing.{counts_writers, tells_writers}
 use Rattle.parts_stand.proofs.parts_tell_of_window.Goals as goal
 
@@ -16,6 +16,8 @@ returns c = record {
   older_stations = stations_older;
   younger_stations = stations_younger;
   ready = tells_ready;
+  able = tells_able;
+  part = tells_part;
   root = names_root;
   visible = tells_visible;
   taint = tells_taint;
@@ -24,5 +26,5 @@ returns c = record {
   picks = picks_first;
   writers = tells_writers;
   count_writers = counts_writers;
-  stores = tells_stores;
+  stores = tells_each_store;
 }

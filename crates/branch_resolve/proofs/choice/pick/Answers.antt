@@ -1,4 +1,4 @@
-use Rattle.std.proofs.Common.{arith, length, ◌≡◌, ◌<◌, ◌∙◌}
+use Rattle.std.proofs.Common.{arith, ◌∙◌}
 use Rattle.rob_ring.specs.Beside.{each_roots}
 use Rattle.rob_ring.proofs.AtPositions.{as_many_roots, roots_here}
 use Rattle.branch_resolve.proofs.Picking.{pick_here, pick_on, pick_over, pick_end}

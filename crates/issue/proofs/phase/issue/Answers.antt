@@ -1,17 +1,17 @@
--- Where no station is ready the phase leaves all as it is; else what is decided is what the definition decides, and what is written comes
+-- Where no station is able the phase leaves all as it is; else what is decided is what the definition decides, and what is written comes
 -- to what it leaves.
 use Rattle.std.proofs.Common.{ap, sym, ◌∙◌}
 use Rattle.unit_ports.specs.Ports.{Ports}
 use Rattle.core_parts.specs.Held.{Sizes}
 use Rattle.issue.proofs.Idle.{idle_row, idle_shown}
-use Rattle.issue.proofs.Issued.{advanced, all_left, decides, few_left, issued_advanced, issued_row, issued_shown, issued_whole, register_left, standing}
+use Rattle.issue.proofs.Issued.{advanced, all_left, decides, few_left, issued_advanced, issued_row, issued_shown, issued_whole, register_left, settled, standing}
 use Rattle.issue.proofs.phase.issue.Goals as goal
 
-pub returns-then-not-any_ready-clause-machine : goal.returns-then-not-any_ready-clause-machine
-returns-then-not-any_ready-clause-machine g c = sym c.parts.view_is ∙ idle_shown _ _ c.parts.invariant (sym c.any_ready.ensures ∙ c.if-not-any_ready.true) c.parts.view_is
+pub returns-then-not-any_able-clause-machine : goal.returns-then-not-any_able-clause-machine
+returns-then-not-any_able-clause-machine g c = sym c.parts.view_is ∙ idle_shown _ _ c.parts.invariant (sym c.any_able.ensures ∙ c.if-not-any_able.true) c.parts.view_is
 
-pub returns-then-not-any_ready-clause-row : goal.returns-then-not-any_ready-clause-row
-returns-then-not-any_ready-clause-row g c = idle_row _ _ _ c.parts.invariant (sym c.any_ready.ensures ∙ c.if-not-any_ready.true) c.parts.view_is
+pub returns-then-not-any_able-clause-row : goal.returns-then-not-any_able-clause-row
+returns-then-not-any_able-clause-row g c = idle_row _ _ _ c.parts.invariant (sym c.any_able.ensures ∙ c.if-not-any_able.true) c.parts.view_is
 
 pub decide-requires-clause-stands : goal.decide-requires-clause-stands
 decide-requires-clause-stands g c =
@@ -25,6 +25,7 @@ decide-requires-clause-stands g c =
       addresses = w.stands.addresses;
       store_parts = w.sized.parts;
       together = w.sized.together;
+      settled = settled _ _ w c.parts.view_is c.requires.settled;
       advanced = advanced _ _ w c.parts.view_is c.requires.advanced;
       model = ap (λ (s : Sizes). s.model) w.made;
       cache = ap (λ (s : Sizes). s.tags) w.made;
@@ -48,13 +49,13 @@ take_register-requires g c =
 pub invariant_of-parts : goal.invariant_of-parts
 invariant_of-parts g c =
     let k = decides _ _ _ _ _ c.decide.new.decided c.parts.invariant c.divider-divider.ensures c.begin.ensures c.decide.ensures.decides in
-    issued_whole _ c.decide.new.decided _ _ _ _ _ c.parts.invariant k c.place.ensures.window c.touch.ensures c.take_register.ensures
-    c.place.ensures.stands c.place.ensures.same_places (c.decide.ensures.only.alus ∙ ap (λ (p : Ports). p.alus) c.begin.ensures)
+    issued_whole _ c.decide.new.decided _ _ _ _ _ _ c.parts.invariant k c.place.ensures.window c.touch.ensures c.take_register.ensures
+    c.place.ensures.stands c.place.ensures.same_places c.place.ensures.same_loads c.place.ensures.same_stores (c.decide.ensures.only.alus ∙ ap (λ (p : Ports). p.alus) c.begin.ensures)
 
 pub returns-clause-machine : goal.returns-clause-machine
 returns-clause-machine g c =
     let k = decides _ _ _ _ _ c.decide.new.decided c.parts.invariant c.divider-divider.ensures c.begin.ensures c.decide.ensures.decides in
-    issued_shown _ c.decide.new.decided _ c.place.new.stations _ _ c.decide.new.ports c.parts.invariant k
+    issued_shown _ c.decide.new.decided _ c.place.new.stations c.place.new.lsq _ _ c.decide.new.ports c.parts.invariant k
     c.place.ensures.window c.touch.ensures c.take_register.ensures _ c.parts.view_is
 
 pub returns-clause-row : goal.returns-clause-row
@@ -63,5 +64,5 @@ returns-clause-row g c = issued_row _ _ _ _ _ c.parts.invariant c.divider-divide
 pub returns-clause-advanced : goal.returns-clause-advanced
 returns-clause-advanced g c =
     let k = decides _ _ _ _ _ c.decide.new.decided c.parts.invariant c.divider-divider.ensures c.begin.ensures c.decide.ensures.decides in
-    issued_advanced _ c.decide.new.decided _ c.place.new.stations _ _ c.decide.new.ports c.parts.invariant k
+    issued_advanced _ c.decide.new.decided _ c.place.new.stations c.place.new.lsq _ _ c.decide.new.ports c.parts.invariant k
     c.place.ensures.window c.touch.ensures c.take_register.ensures _ c.parts.view_is c.requires.advanced

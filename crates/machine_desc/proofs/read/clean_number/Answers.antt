@@ -1,6 +1,6 @@
-use Rattle.std.proofs.Common.{ℕ, rules, subst}
+use Rattle.std.proofs.Common.{rules}
 use Rattle.machine_desc.specs.Table.{row}
-use Rattle.machine_desc.specs.Clean.{Fits, PassesAs}
+use Rattle.machine_desc.specs.Clean.{PassesAs}
 use Rattle.machine_desc.specs.Description.{key_fault}
 use Rattle.machine_desc.proofs.Fitting.{fits_from_test}
 use Rattle.machine_desc.proofs.read.clean_number.Goals as goal
@@ -9,5 +9,4 @@ pub returns-clause-fits : goal.returns-clause-fits
 unfolding key_fault
 returns-clause-fits c =
     let passes : PassesAs (row c.args.version c.args.key).values c.number.result = search rules in
-    let P : ℕ → Type 0 = λ v. Fits (row v c.args.key).values c.number.result in
-    subst P c.requires.first (fits_from_test (row c.args.version c.args.key).values c.number.result passes)
+    fits_from_test (row c.args.version c.args.key).values c.number.result passes

@@ -10,8 +10,7 @@ use Rattle.parts_stand.proofs.Answering.{holds_older}
 use Rattle.core_parts.specs.Steps.{queued}
 use Rattle.rename.specs.Entering.{HasPlace, awaited_of_writer, with_station, with_write}
 use Rattle.rename.proofs.Awaiting.{awaits_are, writers_in_flight}
-use Rattle.rename.proofs.Standing.{Entered, HasRoomFor, counted, enter_shown, enter_whole, room_for}
-use Rattle.rename.proofs.phase.enter_next.Given as given
+use Rattle.rename.proofs.Standing.{counted, enter_whole, room_for}
 use Rattle.rename.proofs.phase.enter_next.Goals as goal
 
 pub take_fitting-requires-clause-counted : goal.take_fitting-requires-clause-counted
@@ -56,7 +55,7 @@ invariant_of-parts-2 g c =
       sources = c.push_within.ensures ∙ ap₂ (λ rs ws. buffer (c.parts.inside.sources.items ++ record { roots = rs; writers = ws } ∷ []) c.parts.inside.sources.capacity) roots c.writers_of-writers.ensures;
       table = c.add_write.ensures.table ∙ ap (λ p. with_write (write_of e p) (g.R.RenameTaint.writes c.parts.inside.table)) roots;
       same_room = c.add_write.ensures.same_room;
-      places = (c.add_station.ensures.0, c.add_station.ensures.1 ∙ ap (λ awaits. with_station c.add_station.ensures.0 awaits e c.parts.inside.stations) (c.awaits_of-awaits.ensures ∙ awaits));
+      places = (c.add_station.ensures.0, c.add_station.ensures.1 ∙ ap (λ awaits. with_station c.parts.inside.desc.version c.add_station.ensures.0 awaits e c.parts.inside.stations) (c.awaits_of-awaits.ensures ∙ awaits));
       loads_and_stores = c.add_access.ensures ∙ ap (λ p. queued e.item.kind e.serial (base_root p) c.parts.inside.lsq) roots;
       fetched = c.in-Some.ensures.taken;
     })

@@ -1,20 +1,10 @@
-use Rattle.std.proofs.Common.{not, ap}
-use Rattle.std.specs.Option.{option_map}
+use Rattle.std.proofs.Common.{not}
 use Rattle.visibility.specs.Point.{passes}
-use Rattle.visibility.proofs.Walking.{find_on, find_here, find_from}
+use Rattle.visibility.proofs.Stopping.{found_is, none_is}
 use Rattle.visibility.proofs.point.find_stop.Goals as goal
 
-pub loop-i-init : goal.loop-i-init
-loop-i-init g c = find_from (passes c.args.model) c.args.start (g.W.Window.entries c.args.window.now) c.requires.passed
+pub returns-in-Some : goal.returns-in-Some
+returns-in-Some c = found_is (λ e. not (passes c.args.model e)) c.args.rob.now.entries c.in-Some.i c.lend.result.now c.in-Some.ensures c.lend.ensures
 
-pub returns-then-not-does_pass : goal.returns-then-not-does_pass
-returns-then-not-does_pass g c =
-    let h = c.does_pass.ensures in
-    let f = c.if-not-does_pass.true in
-    ap (option_map (λ e. e.serial)) (find_here (λ e. not (passes c.args.model e)) (g.W.Window.entries c.args.window.now) c.loop-i.i c.lend-entry.result.now c.lend-entry.ensures (cc) c.loop-i.invariant)
-
-pub loop-i-preserved : goal.loop-i-preserved
-loop-i-preserved g c =
-    let h = c.does_pass.ensures in
-    let f = c.if-not-does_pass.false in
-    find_on (λ e. not (passes c.args.model e)) (g.W.Window.entries c.args.window.now) c.loop-i.i c.lend-entry.result.now c.lend-entry.ensures (cc) c.loop-i.invariant
+pub returns-in-None : goal.returns-in-None
+returns-in-None c = none_is (λ e. not (passes c.args.model e)) c.args.rob.now.entries c.in-None.ensures

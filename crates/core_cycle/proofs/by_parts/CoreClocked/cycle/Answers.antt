@@ -6,7 +6,7 @@ use Rattle.quiet_cycles.specs.Still.{empty_row}
 use Rattle.core_parts.specs.Described.{Described}
 use Rattle.core_cycle.specs.Programmed.{Programmed}
 use Rattle.core_cycle.proofs.Moving.{described_advanced}
-use Rattle.core_cycle.proofs.Cycling.{count_stays, cycle_is, cycle_kept, cycle_retires, end_stays, serial_stays, text_aligned}
+use Rattle.core_cycle.proofs.Cycling.{count_stays, cycle_is, cycle_kept, cycle_retires, end_stays, serial_stays, settled_left, text_aligned}
 use Rattle.core_cycle.proofs.Passing.{passed, passed_commits, passed_kept}
 use Rattle.core_cycle.proofs.by_parts.CoreClocked.cycle.Goals as goal
 
@@ -56,6 +56,10 @@ retire-requires-clause-counts g c =
 
 pub after_retire-requires-clause-advanced : goal.after_retire-requires-clause-advanced
 after_retire-requires-clause-advanced g c = c.retire.ensures.advanced c.before_retire.ensures.advanced
+
+pub after_retire-requires-clause-settled : goal.after_retire-requires-clause-settled
+after_retire-requires-clause-settled g c =
+    settled_left _ _ c.before_retire.new.parts (record { begins = c.begin.ensures; goes = c.before_retire.ensures.machine }) c.retire.new.parts c.retire.ensures.machine c.self.invariant.kept.timely
 
 pub after_retire-requires-clause-serials : goal.after_retire-requires-clause-serials
 after_retire-requires-clause-serials g c =

@@ -1,4 +1,4 @@
-use Rattle.core_parts.proofs.Younger.{drop_shown, drop_whole, few_dropped, serial_fits, stops_here}
+use Rattle.core_parts.proofs.Younger.{drop_whole, serial_fits, stops_here}
 use Rattle.std.proofs.Common.{rules, arith, ap, take, ◌<◌, ◌^◌, ◌∙◌}
 use Rattle.circular_buffer.specs.Buffer.{buffer}
 use Rattle.core_parts.proofs.parts.Parts.drop_younger.Goals as goal

@@ -3,11 +3,13 @@ use Rattle.std.specs.Option.{option_map}
 use Rattle.window_model.specs.Issue.{issue_entry}
 use Rattle.window_model.specs.Row.{Row}
 use Rattle.issue.specs.Accesses.{as_access}
-use Rattle.issue.specs.State.{here, parts_of, window_of}
+use Rattle.window_model.specs.Order.{before_at}
+use Rattle.issue.specs.State.{around_of, here, parts_of, window_of}
 use Rattle.issue.proofs.Noting.{as_many_events, as_many_puts, only_both, row_is}
-use Rattle.issue.proofs.Testing.{ready_is}
+use Rattle.issue.proofs.Asking.{not_able}
+use Rattle.issue.proofs.Testing.{able_is}
 use Rattle.issue.proofs.Waiting.{all_wait, at_end, at_next, goes_on, waits_at}
-use Rattle.issue.proofs.Walking.{decided_all, decided_more, keeps, left_on, not_ready, walked_none, walked_past}
+use Rattle.issue.proofs.Walking.{decided_all, decided_more, keeps, left_on, walked_none, walked_past}
 use Rattle.issue.proofs.seen.Seen.decide.Goals as goal
 
 pub loop-station-init : goal.loop-station-init
@@ -24,8 +26,8 @@ loop-station-init c =
       cycle = refl;
     }
 
-pub loop-station-preserved-then-not-ready : goal.loop-station-preserved-then-not-ready
-loop-station-preserved-then-not-ready c =
+pub loop-station-preserved-then-not-able : goal.loop-station-preserved-then-not-able
+loop-station-preserved-then-not-able c =
     let s = c.args.self.now in
     let t = c.loop-station.invariant in
     let stands = c.requires.stands in
@@ -33,8 +35,8 @@ loop-station-preserved-then-not-ready c =
     let in_range = c.loop-station-test.true in
     let w = waits_at (parts_of stands.next stands.writes s) stands.parts c.loop-station.station (omega (arith, len, in_range)) in
     let at = w.1 in
-    let is = ready_is s w.0 at.entry stands at.is c.loop-station.station c.ready.result at.waits (sym at.station) c.ready.ensures in
-    let none = not_ready s w.0 at.entry stands at.is at.waits (sym is ∙ c.if-not-ready.true) in
+    let is = able_is s w.0 at.entry stands at.is c.loop-station.station c.able.result at.waits (sym at.station) c.able.ensures in
+    let none = not_able s.desc.now (around_of s) (before_at (window_of s) w.0) at.entry at.waits (sym is ∙ c.if-not-able.true) in
     record {
       walked = goes_on _ _ (window_of s) c.loop-station.station w.0 at.entry (keeps s c.loop-station.ports _ _ _ _ _ c.requires.stands) t.walked at.is at.waits at.station
           (walked_past s c.loop-station.ports _ _ _ _ _ stands w.0 at.entry at.is none);
@@ -44,8 +46,8 @@ loop-station-preserved-then-not-ready c =
       cycle = t.cycle;
     }
 
-pub place_at-place-requires-clause-ready : goal.place_at-place-requires-clause-ready
-place_at-place-requires-clause-ready c = c.ready.ensures ∙ ap Some c.if-not-ready.false
+pub place_at-place-requires-clause-able : goal.place_at-place-requires-clause-able
+place_at-place-requires-clause-able c = c.able.ensures ∙ ap Some c.if-not-able.false
 
 pub decide_entry-requires-clause-left : goal.decide_entry-requires-clause-left
 decide_entry-requires-clause-left c =
@@ -65,7 +67,7 @@ loop-station-preserved c =
     let at = sym turn.station ∙ c.place_at-place.ensures.station in
     let t = c.loop-station.invariant in
     let b = here issue_entry s p in
-    let events : c.decide_entry.new.row.events ≡ c.loop-station.row.events ++ b.events = ap (λ (r : Row). r.events) c.decide_entry.ensures.row in
+    let events : c.decide_entry.new.row.events ≡ c.loop-station.row.events ++ b.events = ap (λ (r : Row). r.events) c.decide_entry.ensures.row_is in
     let puts = as_many_puts c.loop-station.decided.puts.items c.decide_entry.new.decided.puts.items i p.station b c.decide_entry.ensures.puts in
     let more = as_many_events c.loop-station.row.events c.decide_entry.new.row.events b events in
     let fewer = c.decide_entry.ensures.fewer in
@@ -80,7 +82,7 @@ loop-station-preserved c =
       only = only_both _ _ _ t.only c.decide_entry.ensures.only;
       few = omega (arith, puts, fewer, few);
       room = omega (arith, more, fewer, room);
-      cycle = ap (λ (r : Row). r.cycle) c.decide_entry.ensures.row ∙ t.cycle;
+      cycle = ap (λ (r : Row). r.cycle) c.decide_entry.ensures.row_is ∙ t.cycle;
     }
 
 pub returns : goal.returns

@@ -3,7 +3,7 @@ use Rattle.std.proofs.lemmas.Option.{slice_get_within}
 use Rattle.window_model.specs.Order.{is_waiting}
 use Rattle.window_model.proofs.Booleans.{some_of}
 use Rattle.issue.specs.State.{parts_of}
-use Rattle.issue.proofs.Testing.{ready_is}
+use Rattle.issue.proofs.Testing.{able_is}
 use Rattle.issue.proofs.Waiting.{stands_at}
 use Rattle.issue.proofs.seen.Seen.place_at.Goals as goal
 
@@ -25,6 +25,6 @@ returns-clause-turn c =
       stands = stands;
       at = c.lend.ensures;
       waits = waits;
-      ready = sym (ready_is c.args.self.now c.position_of-position.result e stands c.lend.ensures c.args.station true waits (sym t.station) c.requires.ready);
+      able = sym (able_is c.args.self.now c.position_of-position.result e stands c.lend.ensures c.args.station true waits (sym t.station) c.requires.able);
       station = sym t.station;
     }

@@ -7,7 +7,7 @@ use Rattle.std.proofs.lemmas.List.{length-set}
 use Rattle.stations.proofs.Awaited.{marked_push, waiting_push}
 use Rattle.stations.proofs.Taken.{taken_push}
 use Rattle.stations.proofs.Numbers.{below}
-use Rattle.stations.proofs.Placing.{held_push, placed_push}
+use Rattle.stations.proofs.Placing.{new_station, held_push, placed_push}
 use Rattle.stations.proofs.by_age.Stations.insert.Goals as goal
 
 pub mark_waiter-requires : goal.mark_waiter-requires
@@ -17,8 +17,8 @@ mark_waiter-requires c =
     let few = c.self.invariant.4 in
     omega (arith, lt, few)
 
-pub with_bit-self-inside-requires : goal.with_bit-self-inside-requires
-with_bit-self-inside-requires c =
+pub with_wide_bit-self-inside-requires : goal.with_wide_bit-self-inside-requires
+with_wide_bit-self-inside-requires c =
     let once = subst (λ free. IsPermutation (range_with_len 0 (length c.self.inside.places.items)) (c.self.inside.ages.items ++ free)) c.take_free-place.ensures.items c.self.invariant.0.once in
     let lt = below _ _ _ _ once in
     let few = c.self.invariant.4 in
@@ -44,7 +44,7 @@ invariant_of-self c =
       let long = length-set c.self.inside.places.items c.take_free-place.result c.new-occupant.result in omega (arith, inside.4, long),
       marked_push _ _ _ _ _ lt (omega (arith, inside.4)) inside.5 c.mark_waiter.ensures.here c.mark_waiter.ensures.others,
       waiting_push _ _ _ _ _ lt inside.6 c.mark_waiter.ensures.waits_here c.mark_waiter.ensures.wait_others,
-      rw c.push_within.ensures.items (taken_push _ _ _ _ _ _ once (omega (arith, inside.4)) (subst (λ free. MarkTaken c.self.inside.ages.items free c.self.inside.taken) c.take_free-place.ensures.items inside.7) c.with_bit-self-inside.ensures.here c.with_bit-self-inside.ensures.others),
+      rw c.push_within.ensures.items (taken_push _ _ _ _ _ _ once (omega (arith, inside.4)) (subst (λ free. MarkTaken c.self.inside.ages.items free c.self.inside.taken) c.take_free-place.ensures.items inside.7) c.with_wide_bit-self-inside.ensures.here c.with_wide_bit-self-inside.ensures.others),
     )
 
 pub returns : goal.returns
@@ -53,6 +53,6 @@ returns c = (
   ap₂ (λ h r. record { held = h; room = r })
       (ap (held_of _) c.push_within.ensures.items
       ∙ held_push c.self.inside.places.items c.self.inside.ages.items c.self.inside.free.items c.take_free-place.new.free.items c.take_free-place.result c.new-occupant.result c.self.invariant.0 c.take_free-place.ensures.items
-      ∙ ap₂ (λ (v : Stations) s. v.held ++ s ∷ []) c.self.view_is (ap₂ (λ serial awaits. record { serial = serial; awaits = awaits; place = c.take_free-place.result }) c.new-occupant.ensures.serial c.new-occupant.ensures.awaits))
+      ∙ ap₂ (λ (v : Stations) s. v.held ++ s ∷ []) c.self.view_is (new_station c.take_free-place.result c.new-occupant.result _ _ _ c.new-occupant.ensures.serial c.new-occupant.ensures.wants c.new-occupant.ensures.awaits))
       (ap (λ (v : Stations). v.room) c.self.view_is),
 )

@@ -8,8 +8,8 @@ use Rattle.stations.proofs.Taken.{taken_remove}
 use Rattle.stations.proofs.Placing.{placed_remove, held_remove}
 use Rattle.stations.proofs.by_age.Stations.remove.Goals as goal
 
-pub with_bit-self-inside-requires : goal.with_bit-self-inside-requires
-with_bit-self-inside-requires c =
+pub with_wide_bit-self-inside-requires : goal.with_wide_bit-self-inside-requires
+with_wide_bit-self-inside-requires c =
     let held = ap (λ (v : Stations). length v.held) c.self.view_is in
     let long = length-map c.self.inside.ages.items (station_in c.self.inside.places.items) in
     let lt : c.args.i < length c.self.inside.ages.items = omega (arith, c.requires, held, long) in
@@ -29,7 +29,7 @@ invariant_of-self c =
       inside.4,
       inside.5,
       inside.6,
-      rw (c.remove-place.ensures.items, c.push_within.ensures.items) (taken_remove _ _ _ _ _ _ _ inside.0.once (omega (arith, inside.4)) inside.7 (omega (arith, c.requires, held, long)) c.remove-place.ensures.value c.with_bit-self-inside.ensures.here c.with_bit-self-inside.ensures.others),
+      rw (c.remove-place.ensures.items, c.push_within.ensures.items) (taken_remove _ _ _ _ _ _ _ inside.0.once (omega (arith, inside.4)) inside.7 (omega (arith, c.requires, held, long)) c.remove-place.ensures.value c.with_wide_bit-self-inside.ensures.here c.with_wide_bit-self-inside.ensures.others),
     )
 
 pub returns : goal.returns

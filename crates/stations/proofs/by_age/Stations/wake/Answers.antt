@@ -5,7 +5,7 @@ use Rattle.stations.proofs.Placing.{held_woken, placed_woken}
 use Rattle.stations.proofs.by_age.Stations.wake.Goals as goal
 
 pub wake_all-requires-clause-few : goal.wake_all-requires-clause-few
-wake_all-requires-clause-few c = c.self.invariant.4
+wake_all-requires-clause-few c = let few = c.self.invariant.4 in omega (arith, few)
 
 pub wake_all-requires-clause-marked : goal.wake_all-requires-clause-marked
 wake_all-requires-clause-marked c = c.self.invariant.5

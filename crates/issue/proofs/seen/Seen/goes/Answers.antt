@@ -1,0 +1,29 @@
+use Rattle.std.proofs.Common.{◌∙◌, ap, sym}
+use Rattle.std.specs.Prelude.{◌==◌}
+use Rattle.rv_types.specs.Memory.{load_fault}
+use Rattle.window_model.specs.Issue.{address_of}
+use Rattle.window_model.specs.Retire.{width_of}
+use Rattle.issue.specs.Pending.{lets_by}
+use Rattle.issue.specs.State.{before_of}
+use Rattle.issue.proofs.Behind.{goes_is, goes_known, goes_not}
+use Rattle.issue.proofs.Bytes.{let_is}
+use Rattle.issue.proofs.seen.Seen.goes.Goals as goal
+
+pub returns-then-all_older_known : goal.returns-then-all_older_known
+returns-then-all_older_known c =
+    let t = c.requires.turn in
+    sym (goes_known c.args.self.now _ _ t.stands t.at (sym c.all_older_known.ensures ∙ c.if-all_older_known.true))
+
+pub returns-then-self-eq1 : goal.returns-then-self-eq1
+returns-then-self-eq1 c =
+    let t = c.requires.turn in
+    sym (goes_not c.args.self.now _ _ t.stands t.at (ap (λ v. v == 1) c.if-self-eq1.true) (sym c.all_older_known.ensures ∙ c.if-all_older_known.false))
+
+pub returns : goal.returns
+returns c =
+    let s = c.args.self.now in
+    let t = c.requires.turn in
+    let e = c.args.place.now.entry.now in
+    let a = address_of s.regs.now (before_of s c.args.place.now) e in
+    c.is_let.ensures ∙ ap (lets_by s.point.now.serial) c.pending.ensures
+    ∙ sym (goes_is s _ e t.stands t.at ∙ let_is s _ e t.stands t.at (load_fault s.ram.now a (width_of e)) a (width_of e))

@@ -1,0 +1,45 @@
+use Rattle.std.proofs.Common.{◌∙◌, sym, arith, true}
+use Rattle.window_model.specs.Order.{sources}
+use Rattle.parts_stand.specs.Telling.{own_of}
+use Rattle.parts_stand.proofs.Answering.{has_station}
+use Rattle.issue.specs.Ports.{part_port}
+use Rattle.issue.specs.State.{around_of, before_of, parts_of}
+use Rattle.issue.proofs.Asking.{first_ready, in_step, part_asks, part_gone, part_may_by, second_ready}
+use Rattle.issue.proofs.Testing.{part_is}
+use Rattle.issue.proofs.seen.Seen.may_part.Goals as goal
+
+pub returns-then-has_issued : goal.returns-then-has_issued
+returns-then-has_issued c =
+    let s = c.args.self.now in
+    let e = c.args.place.now.entry.now in
+    let before = before_of s c.args.place.now in
+    sym (part_asks s.desc.now (around_of s) before e (part_port c.args.part) c.requires.store ∙ part_gone c.args.part s.desc.now before e (sym c.has_issued.ensures ∙ c.if-has_issued.true))
+
+pub returns-then-self-eq1 : goal.returns-then-self-eq1
+returns-then-self-eq1 c =
+    let s = c.args.self.now in
+    let t = c.requires.turn in
+    let e = c.args.place.now.entry.now in
+    let before = before_of s c.args.place.now in
+    let all = first_ready s.desc.now before e (own_of c.args.part (sources e)) (in_step s c.args.place.now.position e t.stands t.at) c.if-self-eq1.true c.requires.store t.waits t.able in
+    sym (part_asks s.desc.now (around_of s) before e (part_port c.args.part) c.requires.store ∙ part_may_by c.args.part s.desc.now before e true (sym c.has_issued.ensures ∙ c.if-has_issued.false) all)
+
+pub ready_part-requires : goal.ready_part-requires
+ready_part-requires c =
+    let s = c.args.self.now in
+    let t = c.requires.turn in
+    let within = (has_station (parts_of t.stands.next t.stands.writes s) c.args.place.now.position c.args.place.now.entry.now t.stands.parts t.at t.waits).within in
+    let is = t.station in
+    omega (arith, within, is)
+
+pub returns : goal.returns
+returns c =
+    let s = c.args.self.now in
+    let t = c.requires.turn in
+    let e = c.args.place.now.entry.now in
+    let before = before_of s c.args.place.now in
+    let own = own_of c.args.part (sources e) in
+    let ready = part_is s c.args.place.now.position e t.stands t.at c.args.part c.args.place.now.station c.ready_part.result t.waits t.station c.ready_part.ensures in
+    sym (part_asks s.desc.now (around_of s) before e (part_port c.args.part) c.requires.store
+    ∙ part_may_by c.args.part s.desc.now before e c.ready_part.result (sym c.has_issued.ensures ∙ c.if-has_issued.false)
+    (second_ready s.desc.now before e own c.if-self-eq1.false ∙ sym ready))

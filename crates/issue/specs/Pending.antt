@@ -1,0 +1,18 @@
+-- What a load waits for in the older stores, and whether it is let go (docs/machine.md, "Issue").
+use Rattle.std.specs.Prelude.{ℕ, Bool, not, ◌&&◌}
+use Rattle.window_model.specs.Issue.{bytes_of}
+use Rattle.visibility.specs.Point.{is_hidden}
+use Rattle.lsq.specs.declared.pending.Pending.{Pending}
+use Rattle.lsq.specs.Pending.{awaited}
+use Rattle.lsq.specs.Queues.{older}
+use Rattle.issue.specs.declared.seen.Place.{Place}
+use Rattle.issue.specs.declared.seen.Seen.{Seen}
+use Rattle.issue.specs.State.{around_of, before_of}
+
+-- what the queue says of its bytes
+abbrev pub pending_here : Seen → Place → Pending
+pending_here s p = awaited (bytes_of (around_of s) (before_of s p) p.entry.now) (older p.entry.now.serial s.lsq.now.stores)
+
+-- each older store has its address; none without data covers a byte of the load, or has a tainted address
+abbrev pub lets_by : ℕ → Pending → Bool
+lets_by point p = not p.address && not p.overlap && not (is_hidden point p.root)

@@ -1,0 +1,200 @@
+//! The parts of a store (`docs/machine.md`, "Issue"): its address part and its data part, each at a port of its own.
+ghost use Rattle.std.specs.Prelude.{◌≡◌};
+ghost use Rattle.window_model.specs.Issue.{busy_until_both, if_both, so_far};
+ghost use Rattle.issue.specs.Ports.{has_issued};
+
+use crate::decide::Decided;
+use crate::seen::{Place, Seen};
+use rv_effect::{Effect, effect};
+use stations::Part;
+use unit_ports::Ports;
+use window_model::{Entry, Event, Outcome, Progress, Row};
+
+// A store's outcome so far, by its next address.
+fn so_far(outcome: Option<Outcome>, next: u32) -> Outcome
+    ensures { result ≡ so_far outcome next }
+{
+    match outcome {
+        Some(outcome) => outcome,
+        None => Outcome {
+            value: 0,
+            next,
+            addr: 0,
+            stored: 0,
+            fault: None,
+        },
+    }
+}
+
+// A store in this state executes once both parts have issued, until the later one is known.
+fn busy_until_both(address: Option<u64>, stored: Option<u64>, state: Progress) -> Progress
+    ensures { result ≡ busy_until_both address stored state }
+{
+    match (address, stored) {
+        (Some(address), Some(stored)) => Progress::Busy(address.max(stored)),
+        _ => state,
+    }
+}
+
+// The entry, which executes once it has both parts.
+fn if_both(entry: Entry) -> Entry
+    ensures { result ≡ if_both entry }
+{
+    Entry {
+        state: busy_until_both(entry.addr_due, entry.data_due, entry.state),
+        ..entry
+    }
+}
+
+// Whether a part of a store has issued.
+fn has_issued(entry: &Entry, part: Part) -> bool
+    ensures { result ≡ has_issued part entry.now }
+{
+    match part {
+        Part::Base => entry.addr_due.is_some(),
+        Part::Other => entry.data_due.is_some(),
+    }
+}
+
+impl<'a> Seen<'a> {
+    ghost use Rattle.std.specs.Prelude.{◌≡◌, ◌≤◌, ◌+◌, Bool, true, length};
+    ghost use Rattle.rv_types.specs.Value.{one_if};
+    ghost use Rattle.rv_effect.specs.Seen.{seen};
+    ghost use Rattle.window_model.specs.Issue.{AddressPort, DataPort};
+    ghost use Rattle.window_model.specs.Order.{is_store};
+    ghost use Rattle.window_model.specs.Row.{HasRoom};
+    ghost use Rattle.unit_ports.specs.Laws.{if_asked};
+    ghost use Rattle.unit_ports.specs.Ports.{Ports};
+    ghost use Rattle.issue.specs.Decisions.{HadTurn, most_begun};
+    ghost use Rattle.issue.specs.Ports.{LeftFor, granted_at, left_in_all, may_here, part_port};
+    ghost use Rattle.issue.specs.State.{HasTurn};
+    ghost use Rattle.issue.specs.Turns.{Goes, address_by, data_by, effect_here, parts_by};
+
+    // Whether a part of the store may issue: it hasn't issued, and its source is there; in version 1 both sources are, since the
+    // store has its turn.
+    fn may_part(&self, place: &Place, part: Part) -> bool
+        requires turn { HasTurn self.now place.now }
+        requires store { is_store place.now.entry.now.item.kind ≡ true }
+        ensures { result ≡ may_here (part_port part) self.now place.now }
+    {
+        if has_issued(place.entry, part) {
+            return false;
+        }
+        if self.desc.version == 1 {
+            return true;
+        }
+        self.stations.ready_part(place.station, part)
+    }
+
+    // Whether the address part is granted its port, which it takes where it may issue.
+    fn grant_address(&self, place: &Place, ports: &mut Ports) -> bool
+        requires turn { HasTurn self.now place.now }
+        requires store { is_store place.now.entry.now.item.kind ≡ true }
+        requires left { LeftFor self.now place.now ports.old }
+        ensures granted { result ≡ granted_at AddressPort self.now place.now }
+        ensures asked { ports.new ≡ if_asked (may_here AddressPort self.now place.now) AddressPort ports.old }
+    {
+        if !self.may_part(place, Part::Base) {
+            return false;
+        }
+        ports.grant(place.entry.item.kind)
+    }
+
+    // Whether the data part is, once the address part has asked for its own.
+    fn grant_data(&self, place: &Place, ports: &mut Ports) -> bool
+        requires turn { HasTurn self.now place.now }
+        requires store { is_store place.now.entry.now.item.kind ≡ true }
+        requires left { (may : Bool) × (first : Ports)
+            × LeftFor self.now place.now first × (ports.old ≡ if_asked may AddressPort first) }
+        ensures granted { result ≡ granted_at DataPort self.now place.now }
+        ensures asked { ports.new ≡ if_asked (may_here DataPort self.now place.now) DataPort ports.old }
+    {
+        if !self.may_part(place, Part::Other) {
+            return false;
+        }
+        ports.grant_data()
+    }
+
+    // The entry once its address part has issued, if it is granted its port, with its event in the row: with its address its fault
+    // is known.
+    fn after_address(&self, granted: bool, place: &Place, made: &Effect, row: &mut Row) -> Entry
+        requires room { HasRoom (one_if granted) row.old }
+        ensures { Goes (address_by granted self.now place.now (seen made.now)) result row.old row.new }
+    {
+        let entry = *place.entry;
+        if !granted {
+            return entry;
+        }
+        row.push(Event::Agu(entry.serial));
+        let known = so_far(entry.outcome, made.next);
+        let outcome = Outcome {
+            addr: made.addr,
+            fault: self.ram.store_fault(made.addr, entry.bytes()),
+            ..known
+        };
+        if_both(Entry {
+            outcome: Some(outcome),
+            addr_due: Some(self.cycle as u64 + 1),
+            ..entry
+        })
+    }
+
+    // The same of its data part, which has an event of its own in version 2 alone.
+    fn after_data(&self, granted: bool, entry: Entry, made: &Effect, row: &mut Row) -> Entry
+        requires room { HasRoom (one_if granted) row.old }
+        ensures { Goes (data_by granted self.now entry (seen made.now)) result row.old row.new }
+    {
+        if !granted {
+            return entry;
+        }
+        if self.desc.version != 1 {
+            row.push(Event::Std(entry.serial));
+        }
+        let known = so_far(entry.outcome, made.next);
+        let outcome = Outcome {
+            stored: made.stored,
+            ..known
+        };
+        if_both(Entry {
+            outcome: Some(outcome),
+            data_due: Some(self.cycle as u64 + 1),
+            ..entry
+        })
+    }
+
+    // The entry once those of its parts have issued that are granted their ports, the address first.
+    fn after_parts(&self, place: &Place, address: bool, stored: bool, row: &mut Row) -> Entry
+        requires turn { HasTurn self.now place.now }
+        requires room { HasRoom (one_if address + one_if stored) row.old }
+        ensures { Goes (parts_by address stored self.now place.now) result row.old row.new }
+    {
+        let operands = self.operands(place);
+        let item = &place.entry.item;
+        let made = effect(item.pc, &item.instr, operands.first, operands.second);
+        let entry = self.after_address(address, place, &made, row);
+        self.after_data(stored, entry, &made, row)
+    }
+
+    /// A store has its turn: each of its parts takes its port where it may issue, and issues where it is granted one.
+    pub(crate) fn decide_store(
+        &self,
+        place: &Place,
+        ports: &mut Ports,
+        decided: &mut Decided,
+        row: &mut Row,
+    )
+        requires turn { HasTurn self.now place.now }
+        requires store { is_store place.now.entry.now.item.kind ≡ true }
+        requires left { LeftFor self.now place.now ports.old }
+        requires few { length decided.old.puts.items + left_in_all ports.old ≤ most_begun }
+        requires room { HasRoom (left_in_all ports.old) row.old }
+        ensures { HadTurn self.now place.now ports.old decided.old row.old ports.new decided.new row.new }
+    {
+        let address = self.grant_address(place, ports);
+        let stored = self.grant_data(place, ports);
+        if address || stored {
+            let after = self.after_parts(place, address, stored, row);
+            decided.note(place, Some(after));
+        }
+    }
+}

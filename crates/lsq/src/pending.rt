@@ -1,0 +1,125 @@
+//! What a load still waits for in the stores before it (`docs/machine.md`, "Issue"): one walk over the stores.
+ghost use Rattle.std.specs.Prelude.{◌≡◌, ◌<◌, ◌^◌, [], None, nat_lt, if◌then◌else◌};
+ghost use Rattle.std.specs.List.{list_any};
+ghost use Rattle.rv_types.specs.Value.{bytes_in};
+ghost use Rattle.lsq.specs.Queues.{older};
+ghost use Rattle.lsq.specs.Merging.{reaches};
+ghost use Rattle.lsq.specs.Pending.{awaited, awaits_too, bytes_asked, reaches_one};
+
+use crate::merging::reaches;
+use crate::store::{Span, Store};
+use rename_taint::later;
+use rv_types::{Cause, Width};
+
+/// What a load still waits for in the stores before it.
+#[derive(Clone, Copy, Debug, PartialEq, Eq)]
+pub struct Pending {
+    /// Of some older store it isn't known where it writes.
+    pub address: bool,
+    /// Some older store writes bytes that the load asks for, and it isn't known what.
+    pub overlap: bool,
+    /// The serial of the youngest load from which the address flows of an older store of which it isn't known what it
+    /// writes, if there is one.
+    pub root: Option<u64>,
+}
+
+// Whether what a store writes reaches one of the bytes of a width from an address on.
+fn reaches_one(span: &Span, addr: u64, width: Width) -> bool
+    requires { addr < 2 ^ 32 }
+    ensures { result ≡ reaches_one width addr span.now }
+{
+    match width {
+        Width::B => reaches(span, addr),
+        Width::H => reaches(span, addr) || reaches(span, addr + 1),
+        Width::W => {
+            reaches(span, addr)
+                || reaches(span, addr + 1)
+                || reaches(span, addr + 1 + 1)
+                || reaches(span, addr + 1 + 1 + 1)
+        }
+    }
+}
+
+// Whether what a store writes reaches a byte that a load asks for.
+#[tactic(auto, using(crate::proofs::Awaiting::one_is))]
+fn shares(span: &Span, addr: u64, width: Width, fault: Option<Cause>) -> bool
+    requires { addr < 2 ^ 32 }
+    ensures { result ≡ list_any (λ a. reaches a span.now) (bytes_asked fault addr (bytes_in width)) }
+{
+    match fault {
+        Some(_) => false,
+        None => reaches_one(span, addr, width),
+    }
+}
+
+impl Pending {
+    // What a load waits for in no store.
+    fn nothing() -> Pending
+        ensures { result ≡ awaited [] [] }
+    {
+        Pending {
+            address: false,
+            overlap: false,
+            root: None,
+        }
+    }
+
+    // What it waits for, once this younger store is passed. One with both its parts is passed at once.
+    fn passed(self, store: &Store, addr: u64, width: Width, fault: Option<Cause>) -> Pending
+        requires { addr < 2 ^ 32 }
+        ensures { result ≡ awaits_too (bytes_asked fault addr (bytes_in width)) store.now self }
+    {
+        let address = store.span.is_none() || self.address;
+        if store.stored.is_some() {
+            return Pending { address, ..self };
+        }
+        let root = later(store.root, self.root);
+        let overlap = match &store.span {
+            Some(span) => shares(span, addr, width, fault) || self.overlap,
+            None => self.overlap,
+        };
+        Pending {
+            address,
+            overlap,
+            root,
+        }
+    }
+
+    // The same, where the store is older than the load.
+    fn passed_if_older(
+        self,
+        store: &Store,
+        serial: u64,
+        addr: u64,
+        width: Width,
+        fault: Option<Cause>,
+    ) -> Pending
+        requires { addr < 2 ^ 32 }
+        ensures { result ≡ (if nat_lt store.now.serial serial
+            then awaits_too (bytes_asked fault addr (bytes_in width)) store.now self else self) }
+    {
+        if store.serial < serial {
+            return self.passed(store, addr, width, fault);
+        }
+        self
+    }
+}
+
+// What a load with a serial, and with this fault, waits for in these stores.
+#[tactic(auto, using(crate::proofs::Awaiting::one_more))]
+pub(crate) fn pending_in(
+    stores: &[Store],
+    serial: u64,
+    addr: u64,
+    width: Width,
+    fault: Option<Cause>,
+) -> Pending
+    requires { addr < 2 ^ 32 }
+    ensures { result ≡ awaited (bytes_asked fault addr (bytes_in width)) (older serial stores.now) }
+{
+    let mut pending = Pending::nothing();
+    for store in stores {
+        pending = pending.passed_if_older(store, serial, addr, width, fault);
+    }
+    pending
+}
