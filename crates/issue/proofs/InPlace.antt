@@ -1,23 +1,26 @@
 -- Parts that stand for the window go on to do so as the entries that have issued, or of which a part has, come in their places, the
 -- youngest first.
-use Rattle.std.proofs.Common.{◌≡◌, ℕ, zero, suc, ◌+◌, ◌<◌, List, [], ◌∷◌, ◌++◌, length, Option, Some, refl, ap, sym, ◌∙◌, subst, arith, get_or, slice_get}
+use Rattle.std.proofs.Common.{◌≡◌, ℕ, zero, suc, ◌+◌, ◌-◌, ◌<◌, ◌≤◌, true, false, not, ◌&&◌, List, [], ◌∷◌, ◌++◌, length, Some, refl, ap, ap₂, sym, ◌∙◌, subst, arith, take, get_or, slice_get}
 use Rattle.std.specs.Prelude.{slice_set}
 use Rattle.std.specs.List.{All, AllPairs}
-use Rattle.std.specs.Option.{option_to_list}
 use Rattle.std.proofs.Math.Seq.{get_or-append_seam}
-use Rattle.std.proofs.lemmas.List.{get_or_append_left, length-append}
+use Rattle.std.proofs.lemmas.List.{get_or_append_left, length-append, take_all, take_more}
 use Rattle.std.proofs.lemmas.List.Elements.{All-head}
-use Rattle.std.proofs.lemmas.Option.{slice_get_within}
+use Rattle.std.proofs.lemmas.Option.{get_or_from_slice_get, slice_get_within}
 use Rattle.window_model.specs.declared.Entry.{Entry}
+use Rattle.window_model.specs.declared.Item.{Item}
+use Rattle.window_model.specs.Order.{is_control, is_waiting}
 use Rattle.window_model.specs.Retire.{width_of}
 use Rattle.lsq.specs.Queues.{Queues}
-use Rattle.rob_ring.specs.Ring.{Ring}
+use Rattle.machine_desc.specs.declared.SttModel.TheVariants.{Futuristic}
+use Rattle.rob_ring.specs.Ring.{Ring, is_open, is_unsafe}
 use Rattle.stations.specs.Stations.{Station, Stations}
 use Rattle.core_parts.specs.Stands.{InFlight, Stands, table_and_stations}
 use Rattle.core_parts.proofs.Steps.{stands_issued}
 use Rattle.parts_stand.specs.Steps.{left_held}
 use Rattle.parts_stand.proofs.Answering.{has_station, stations_older}
-use Rattle.window_model.proofs.Serials.{all_left, all_right}
+use Rattle.parts_stand.proofs.Moving.{passes_issued}
+use Rattle.window_model.proofs.Serials.{all_at, all_left, all_right}
 use Rattle.issue.specs.declared.decide.Put.{Put}
 use Rattle.issue.specs.Puts.{ArePuts, IsPut, known_in, placed, width_for}
 use Rattle.issue.proofs.Turning.{placed_push}
@@ -97,13 +100,24 @@ pub record PlacesOn (version : ℕ) (puts : List Put) (rob : Ring) (stations : S
   pub same_stores : q.max_stores ≡ queues.max_stores
   pub ties : Ties version rob.entries stations.held queues r.entries s.held q
 
-pub places_start : (version : ℕ) (puts : List Put) (rob : Ring) (stations : Stations) (queues : Queues) → ArePuts rob.entries puts → PlacesOn version puts rob stations queues puts rob stations queues
-places_start version puts rob stations queues a = record { whole = refl; rest = a; same_room = refl; same_places = refl; same_loads = refl; same_stores = refl; ties = λ p s. s }
+pub places_start : (version : ℕ) (puts : List Put) (rob : Ring) (stations : Stations) (queues : Queues) → ArePuts rob.entries puts →
+    PlacesOn version puts rob stations queues (take (length puts) puts) rob stations queues
+places_start version puts rob stations queues a =
+    subst (λ left. PlacesOn version puts rob stations queues left rob stations queues) (sym (take_all (length puts) puts (omega arith)))
+    (record { whole = refl; rest = a; same_room = refl; same_places = refl; same_loads = refl; same_stores = refl; ties = λ p s. s })
 
-module _ (version : ℕ) (puts : List Put) (rob : Ring) (stations : Stations) (queues : Queues) (left rest : List Put) (r : Ring) (s : Stations) (q : Queues) (put : Put) (o : Option Put)
-    (t : PlacesOn version puts rob stations queues left r s q) (is : o ≡ Some put) (popped : left ≡ rest ++ option_to_list o) where
-  split : left ≡ rest ++ put ∷ []
-  split = popped ∙ ap (λ o. rest ++ option_to_list o) is
+-- the youngest of the first n comes in its place
+module _ (version : ℕ) (puts : List Put) (rob : Ring) (stations : Stations) (queues : Queues) (n : ℕ) (r : Ring) (s : Stations) (q : Queues) (put : Put)
+    (t : PlacesOn version puts rob stations queues (take n puts) r s q) (some : 0 < n) (count : ℕ) (within : n ≤ count) (counted : count ≡ length puts)
+    (items : List Put) (is : put ≡ get_or items (n - 1) put) (all : items ≡ puts) where
+  abbrev rest : List Put
+  rest = take (n - 1) puts
+
+  split : take n puts ≡ rest ++ put ∷ []
+  split =
+      let e : n ≡ n - 1 + 1 = omega (arith, some) in
+      let here = is ∙ ap (λ ps. get_or ps (n - 1) put) all in
+      ap (λ n. take n puts) e ∙ take_more puts (n - 1) put (omega (arith, some, within, counted)) ∙ ap (λ p. rest ++ p ∷ []) (sym here)
 
   are : ArePuts r.entries (rest ++ put ∷ [])
   are = subst (ArePuts r.entries) split t.rest
@@ -115,10 +129,28 @@ module _ (version : ℕ) (puts : List Put) (rob : Ring) (stations : Stations) (q
   pub place_within : put.position < length r.entries
   place_within = slice_get_within r.entries put.position here.old here.here
 
+  -- these stand for the window as it is now
+  now_stands : (p : InFlight) × Stands (record p { version = version; window = rob.entries; held = stations.held; queues = queues }) →
+      (p : InFlight) × Stands (record p { version = version; window = r.entries; held = s.held; queues = q })
+  now_stands k = (k.0, t.ties k.0 k.1)
+
   pub station_within : (p : InFlight) × Stands (record p { version = version; window = rob.entries; held = stations.held; queues = queues }) → put.station < length s.held
   station_within k =
+      let now = now_stands k in
       subst (λ n. n < length s.held) (sym here.station)
-      ((has_station (table_and_stations (record k.0 { version = version; window = r.entries; held = s.held; queues = q })) put.position here.old (t.ties k.0 k.1).stand here.here here.waits).within)
+      ((has_station (table_and_stations (record now.0 { version = version; window = r.entries; held = s.held; queues = q })) put.position here.old now.1.stand here.here here.waits).within)
+
+  -- the entry there waits, and so is unresolved: once it or a part of it has issued it is open and safe as it was
+  pub as_safe : (p : InFlight) × Stands (record p { version = version; window = rob.entries; held = stations.held; queues = queues }) → (e : Entry) → slice_get r.entries put.position ≡ Some e →
+      (is_open put.entry ≡ is_open e) × (is_unsafe put.entry ≡ is_unsafe e)
+  as_safe k e at =
+      subst (λ e. (is_open put.entry ≡ is_open e) × (is_unsafe put.entry ≡ is_unsafe e)) (sym (get_or_from_slice_get r.entries put.position here.old e here.here) ∙ get_or_from_slice_get r.entries put.position e e at) (
+        ap₂ (λ (i : Item) r. is_control i.kind && not r) here.issues.on.item here.issues.resolved,
+        ap not (passes_issued Futuristic here.old put.entry here.waits (unresolved (now_stands k).1.point.unresolved) here.issues),
+      )
+    where
+      unresolved : All (λ e. is_waiting e.state ≡ true → e.resolved ≡ false) r.entries → here.old.resolved ≡ false
+      unresolved all = all_at (λ e. is_waiting e.state ≡ true → e.resolved ≡ false) r.entries put.position here.old all here.here here.waits
 
   pub places_more : (r2 : Ring) (s2 : Stations) (q2 : Queues) → r2 ≡ record r { entries = slice_set r.entries put.position put.entry } → s2 ≡ record s { held = left_held version put.station put.entry s.held } →
       q2 ≡ known_in q put.entry → PlacesOn version puts rob stations queues rest r2 s2 q2

@@ -3,8 +3,9 @@
 use crate::access::Access;
 use crate::seen::{Place, Seen};
 use arrayvec::ArrayVec;
+use rv_types::{Instr, Kind, Reg};
 use unit_ports::Ports;
-use window_model::{Entry, Row};
+use window_model::{Entry, Item, Progress, Row};
 
 /// At most so many entries issue in a cycle, or a part of them: four arithmetic units, and one port of each other kind.
 pub(crate) const PUTS_MAX: usize = 9;
@@ -21,12 +22,25 @@ pub(crate) struct Put {
 }
 
 impl Default for Put {
-    /// To fill free places with.
+    /// To fill free places with: one whose bytes are all 0, so that all places are cleared at once.
     fn default() -> Self {
+        let instr = Instr::Lui {
+            rd: Reg { number: 0 },
+            imm: 0,
+        };
+        let item = Item {
+            instr,
+            kind: Kind::Alu,
+            ..Item::default()
+        };
         Put {
             position: 0,
             station: 0,
-            entry: Entry::default(),
+            entry: Entry {
+                item,
+                state: Progress::Waiting,
+                ..Entry::default()
+            },
         }
     }
 }

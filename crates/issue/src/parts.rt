@@ -11,11 +11,11 @@ use unit_ports::Ports;
 use window_model::{Entry, Event, Outcome, Progress, Row};
 
 // A store's outcome so far, by its next address.
-fn so_far(outcome: Option<Outcome>, next: u32) -> Outcome
-    ensures { result ≡ so_far outcome next }
+fn so_far(outcome: &Option<Outcome>, next: u32) -> Outcome
+    ensures { result ≡ so_far outcome.now next }
 {
     match outcome {
-        Some(outcome) => outcome,
+        Some(outcome) => *outcome,
         None => Outcome {
             value: 0,
             next,
@@ -36,14 +36,11 @@ fn busy_until_both(address: Option<u64>, stored: Option<u64>, state: Progress) -
     }
 }
 
-// The entry, which executes once it has both parts.
-fn if_both(entry: Entry) -> Entry
-    ensures { result ≡ if_both entry }
+// The entry executes once it has both parts.
+fn if_both(entry: &mut Entry)
+    ensures { entry.new ≡ if_both entry.old }
 {
-    Entry {
-        state: busy_until_both(entry.addr_due, entry.data_due, entry.state),
-        ..entry
-    }
+    entry.state = busy_until_both(entry.addr_due, entry.data_due, entry.state);
 }
 
 // Whether a part of a store has issued.
@@ -57,18 +54,19 @@ fn has_issued(entry: &Entry, part: Part) -> bool
 }
 
 impl<'a> Seen<'a> {
-    ghost use Rattle.std.specs.Prelude.{◌≡◌, ◌≤◌, ◌+◌, Bool, true, length};
+    ghost use Rattle.std.specs.Prelude.{◌≡◌, ◌≤◌, ◌+◌, Bool, [], ◌∷◌, true, length};
     ghost use Rattle.rv_types.specs.Value.{one_if};
     ghost use Rattle.rv_effect.specs.Seen.{seen};
-    ghost use Rattle.window_model.specs.Issue.{AddressPort, DataPort};
+    ghost use Rattle.window_model.specs.declared.Event.TheVariants as event;
+    ghost use Rattle.window_model.specs.Issue.{AddressPort, DataPort, data_events, with_address, with_data};
     ghost use Rattle.window_model.specs.Order.{is_store};
-    ghost use Rattle.window_model.specs.Row.{HasRoom};
+    ghost use Rattle.window_model.specs.Row.{HasRoom, with_events};
     ghost use Rattle.unit_ports.specs.Laws.{if_asked};
     ghost use Rattle.unit_ports.specs.Ports.{Ports};
     ghost use Rattle.issue.specs.Decisions.{HadTurn, most_begun};
     ghost use Rattle.issue.specs.Ports.{LeftFor, granted_at, left_in_all, may_here, part_port};
-    ghost use Rattle.issue.specs.State.{HasTurn};
-    ghost use Rattle.issue.specs.Turns.{Goes, address_by, data_by, effect_here, parts_by};
+    ghost use Rattle.issue.specs.State.{HasTurn, around_of};
+    ghost use Rattle.issue.specs.Turns.{Goes, parts_by};
 
     // Whether a part of the store may issue: it hasn't issued, and its source is there; in version 1 both sources are, since the
     // store has its turn.
@@ -115,51 +113,35 @@ impl<'a> Seen<'a> {
         ports.grant_data()
     }
 
-    // The entry once its address part has issued, if it is granted its port, with its event in the row: with its address its fault
-    // is known.
-    fn after_address(&self, granted: bool, place: &Place, made: &Effect, row: &mut Row) -> Entry
-        requires room { HasRoom (one_if granted) row.old }
-        ensures { Goes (address_by granted self.now place.now (seen made.now)) result row.old row.new }
+    // The address part issues, with its event in the row: with its address the store's fault is known.
+    fn issue_address(&self, entry: &mut Entry, made: &Effect, row: &mut Row)
+        requires room { HasRoom 1 row.old }
+        ensures entry { entry.new ≡ with_address (around_of self.now) (seen made.now) entry.old }
+        ensures row { row.new ≡ with_events row.old (event.Agu entry.old.serial ∷ []) }
     {
-        let entry = *place.entry;
-        if !granted {
-            return entry;
-        }
         row.push(Event::Agu(entry.serial));
-        let known = so_far(entry.outcome, made.next);
-        let outcome = Outcome {
-            addr: made.addr,
-            fault: self.ram.store_fault(made.addr, entry.bytes()),
-            ..known
-        };
-        if_both(Entry {
-            outcome: Some(outcome),
-            addr_due: Some(self.cycle as u64 + 1),
-            ..entry
-        })
+        let mut outcome = so_far(&entry.outcome, made.next);
+        outcome.addr = made.addr;
+        outcome.fault = self.ram.store_fault(made.addr, entry.bytes());
+        entry.outcome = Some(outcome);
+        entry.addr_due = Some(self.cycle as u64 + 1);
+        if_both(entry);
     }
 
-    // The same of its data part, which has an event of its own in version 2 alone.
-    fn after_data(&self, granted: bool, entry: Entry, made: &Effect, row: &mut Row) -> Entry
-        requires room { HasRoom (one_if granted) row.old }
-        ensures { Goes (data_by granted self.now entry (seen made.now)) result row.old row.new }
+    // The data part issues, which has an event of its own in version 2 alone.
+    fn issue_data(&self, entry: &mut Entry, made: &Effect, row: &mut Row)
+        requires room { HasRoom 1 row.old }
+        ensures entry { entry.new ≡ with_data (around_of self.now) (seen made.now) entry.old }
+        ensures row { row.new ≡ with_events row.old (data_events self.now.desc.now entry.old) }
     {
-        if !granted {
-            return entry;
-        }
         if self.desc.version != 1 {
             row.push(Event::Std(entry.serial));
         }
-        let known = so_far(entry.outcome, made.next);
-        let outcome = Outcome {
-            stored: made.stored,
-            ..known
-        };
-        if_both(Entry {
-            outcome: Some(outcome),
-            data_due: Some(self.cycle as u64 + 1),
-            ..entry
-        })
+        let mut outcome = so_far(&entry.outcome, made.next);
+        outcome.stored = made.stored;
+        entry.outcome = Some(outcome);
+        entry.data_due = Some(self.cycle as u64 + 1);
+        if_both(entry);
     }
 
     // The entry once those of its parts have issued that are granted their ports, the address first.
@@ -171,8 +153,14 @@ impl<'a> Seen<'a> {
         let operands = self.operands(place);
         let item = &place.entry.item;
         let made = effect(item.pc, &item.instr, operands.first, operands.second);
-        let entry = self.after_address(address, place, &made, row);
-        self.after_data(stored, entry, &made, row)
+        let mut entry = *place.entry;
+        if address {
+            self.issue_address(&mut entry, &made, row);
+        }
+        if stored {
+            self.issue_data(&mut entry, &made, row);
+        }
+        entry
     }
 
     /// A store has its turn: each of its parts takes its port where it may issue, and issues where it is granted one.

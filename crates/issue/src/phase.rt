@@ -50,7 +50,7 @@ pub fn issue<R: RenameTaint>(parts: &mut Parts<R>, row: &mut Row)
     };
     seen.decide(&mut parts.ports, &mut decided, row);
     place(
-        &mut decided.puts,
+        &decided.puts,
         parts.desc.version,
         &mut parts.rob,
         &mut parts.stations,

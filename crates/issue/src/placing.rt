@@ -67,24 +67,25 @@ fn note(lsq: &mut Lsq, entry: &Entry)
 /// Each entry comes in its place, its station is freed or waits for what is left, and a store's parts that have issued are known to
 /// its queue. The youngest comes first, so that the others' stations stay where they are.
 pub(crate) fn place(
-    puts: &mut ArrayVec<Put, PUTS_MAX>,
+    puts: &ArrayVec<Put, PUTS_MAX>,
     version: u32,
     rob: &mut RobRing,
     stations: &mut Stations,
     lsq: &mut Lsq,
 )
-    requires puts { ArePuts rob.old.entries puts.old.items }
+    requires puts { ArePuts rob.old.entries puts.now.items }
     requires stands { (p : InFlight) × Stands (holding version rob.old stations.old lsq.old p) }
-    ensures window { rob.new ≡ record rob.old { entries = placed puts.old.items rob.old.entries } }
+    ensures window { rob.new ≡ record rob.old { entries = placed puts.now.items rob.old.entries } }
     ensures same_places { stations.new.room ≡ stations.old.room }
     ensures same_loads { lsq.new.max_loads ≡ lsq.old.max_loads }
     ensures same_stores { lsq.new.max_stores ≡ lsq.old.max_stores }
     ensures stands { (p : InFlight) → Stands (holding version rob.old stations.old lsq.old p)
         → Stands (holding version rob.new stations.new lsq.new p) }
 {
-    while let Some(put) = puts.pop() {
-        rob.set(put.position, put.entry);
-        settle(stations, version, &put);
+    for k in (0..puts.len()).rev() {
+        let put = &puts[k];
+        rob.replace(put.position, &put.entry);
+        settle(stations, version, put);
         note(lsq, &put.entry);
     }
 }

@@ -191,30 +191,22 @@ fn push_within<T: Drop>(items: &mut Vec<T>, item: T)
     }
 }
 
-// The store, with where it writes, where it has this serial.
-fn addressed_at(store: Store, serial: u64, span: Span) -> Store
-    ensures { result ≡ addressed_at serial span store }
+// Notes where the store writes, where it has this serial.
+fn address_one(store: &mut Store, serial: u64, span: Span)
+    ensures { store.new ≡ addressed_at serial span store.old }
 {
     if store.serial == serial {
-        return Store {
-            span: Some(span),
-            ..store
-        };
+        store.span = Some(span);
     }
-    store
 }
 
-// The store, with the number that it writes, where it has this serial.
-fn filled_at(store: Store, serial: u64, stored: u32) -> Store
-    ensures { result ≡ filled_at serial stored store }
+// Notes the number that the store writes, where it has this serial.
+fn fill_one(store: &mut Store, serial: u64, stored: u32)
+    ensures { store.new ≡ filled_at serial stored store.old }
 {
     if store.serial == serial {
-        return Store {
-            stored: Some(stored),
-            ..store
-        };
+        store.stored = Some(stored);
     }
-    store
 }
 
 // Notes in a list of stores where one writes.
@@ -222,7 +214,7 @@ fn address_in(stores: &mut [Store], serial: u64, span: Span)
     ensures { stores.new ≡ map (addressed_at serial span) stores.old }
 {
     for store in stores.iter_mut() {
-        *store = addressed_at(*store, serial, span);
+        address_one(store, serial, span);
     }
 }
 
@@ -238,7 +230,7 @@ fn fill_in(stores: &mut [Store], serial: u64, stored: u32)
     ensures { stores.new ≡ map (filled_at serial stored) stores.old }
 {
     for store in stores.iter_mut() {
-        *store = filled_at(*store, serial, stored);
+        fill_one(store, serial, stored);
     }
 }
 
@@ -263,7 +255,28 @@ fn cut_stores(stores: &mut Vec<Store>, first: u64)
     stores.retain(|store| store.serial < first);
 }
 
-// Whether there is a load with this serial. The oldest is found at once.
+// Takes out the oldest load where it has this serial, as who retires has.
+fn pop_oldest_load(loads: &mut Vec<u64>, serial: u64)
+    ensures left { filter (λ l. not (l == serial)) loads.new.items ≡ filter (λ l. not (l == serial)) loads.old.items }
+    ensures capacity { vec_capacity loads.new ≡ vec_capacity loads.old }
+{
+    if loads.len() > 0 && loads[0] == serial {
+        loads.remove(0);
+    }
+}
+
+// The same for a store.
+fn pop_oldest_store(stores: &mut Vec<Store>, serial: u64)
+    ensures left { filter (λ s. not (s.serial == serial)) stores.new.items
+        ≡ filter (λ s. not (s.serial == serial)) stores.old.items }
+    ensures capacity { vec_capacity stores.new ≡ vec_capacity stores.old }
+{
+    if stores.len() > 0 && stores[0].serial == serial {
+        stores.remove(0);
+    }
+}
+
+// Whether there is a load with this serial.
 fn holds_load(loads: &[u64], serial: u64) -> bool
     ensures { result ≡ list_any (λ l. l == serial) loads.now }
 {
@@ -281,6 +294,7 @@ fn pop_load(loads: &mut Vec<u64>, serial: u64)
     ensures kept { loads.new.items ≡ filter (λ l. not (l == serial)) loads.old.items }
     ensures capacity { vec_capacity loads.new ≡ vec_capacity loads.old }
 {
+    pop_oldest_load(loads, serial);
     if holds_load(loads.as_slice(), serial) {
         loads.retain(|load| *load != serial);
     }
@@ -290,6 +304,7 @@ fn pop_store(stores: &mut Vec<Store>, serial: u64)
     ensures kept { stores.new.items ≡ filter (λ s. not (s.serial == serial)) stores.old.items }
     ensures capacity { vec_capacity stores.new ≡ vec_capacity stores.old }
 {
+    pop_oldest_store(stores, serial);
     if holds_store(stores.as_slice(), serial) {
         stores.retain(|store| store.serial != serial);
     }

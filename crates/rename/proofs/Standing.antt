@@ -1,5 +1,5 @@
 -- The parts once an entry has come in.
-use Rattle.std.proofs.Common.{◌≡◌, ℕ, ◌+◌, true, List, [], ◌∷◌, ◌++◌, Option, Some, refl, ap, sym, ◌∙◌, subst, arith}
+use Rattle.std.proofs.Common.{◌≡◌, ℕ, ◌+◌, true, List, [], ◌∷◌, ◌++◌, Option, Some, refl, ap, ap₂, sym, ◌∙◌, subst, arith}
 use Rattle.std.specs.Prelude.{◌<◌, drop, length, map, reverse, slice_get}
 use Rattle.std.specs.Option.{option_to_list}
 use Rattle.circular_buffer.specs.Buffer.{Buffer, buffer}
@@ -28,7 +28,8 @@ use Rattle.core_parts.specs.Described.{Described}
 use Rattle.core_parts.specs.Held.{Held, Sizes, Whole, described, in_flight, machine_of, sizes}
 use Rattle.core_parts.specs.Steps.{queued}
 use Rattle.core_parts.proofs.Steps.{stands_renamed}
-use Rattle.rename.proofs.Awaiting.{writers_at}
+use Rattle.rename.specs.Entering.{awaited_of_writer, with_station, with_write}
+use Rattle.rename.proofs.Awaiting.{awaits_are, writers_at}
 use Rattle.rename.specs.Fitting.{Counted, fitting, with_oldest}
 use Rattle.rename.proofs.Fitting.{fits_all, fitting_is, load_room, station_room, store_room}
 
@@ -92,6 +93,26 @@ pub record Entered (e : Entry) (h : Held) (rob : Ring) (beside : Buffer Sources)
   pub places : (place : ℕ) × (stations ≡ record (h.stations) { held = seated h.desc.version place (awaits_of (reverse h.rob.entries) e) e h.stations.held })
   pub loads_and_stores : q ≡ queued e.item.kind e.serial (base_root (roots_at h.writes e)) h.queues
   pub fetched : fetch_unit ≡ record (h.fetch_unit) { queue = drop 1 h.fetch_unit.queue }
+
+-- what the phase makes of each part is that
+pub entered_by : (h : Held) (item : Item) (writers roots awaits : List (Option ℕ)) (rob : Ring) (beside : Buffer Sources) (writes : List Write) (room : ℕ) (stations : Stations) (q : Queues) (fetch_unit : FetchUnit) →
+    Whole h → fitting h.desc h.rob.entries (slice_get h.fetch_unit.queue 0) ≡ Some item → writers ≡ writers_at h.writes (renamed h.next_serial item) → roots ≡ roots_at h.writes (renamed h.next_serial item) →
+    awaits ≡ map (awaited_of_writer h.rob.entries) writers → ((i : Item) → slice_get h.fetch_unit.queue 0 ≡ Some i → rob ≡ record (h.rob) { entries = h.rob.entries ++ renamed h.next_serial i ∷ [] }) →
+    beside ≡ buffer (h.sources.items ++ record { roots = roots; writers = writers } ∷ []) h.sources.capacity → writes ≡ with_write (write_of (renamed h.next_serial item) roots) h.writes → room ≡ h.table_room →
+    (place : ℕ) × (stations ≡ with_station h.desc.version place awaits (renamed h.next_serial item) h.stations) → q ≡ queued item.kind h.next_serial (base_root roots) h.queues →
+    fetch_unit ≡ record (h.fetch_unit) { queue = drop 1 h.fetch_unit.queue } → Entered (renamed h.next_serial item) h rob beside writes room stations q fetch_unit
+entered_by h item writers roots awaits rob beside writes room stations q fetch_unit w fit are_writers are_roots are_awaits moved pushed written same placed added taken =
+    let e = renamed h.next_serial item in
+    let awaited = are_awaits ∙ ap (map (awaited_of_writer h.rob.entries)) are_writers ∙ awaits_are _ e w.stands.stand in
+    record {
+      window = moved item (fitting_is h.desc h.rob.entries (slice_get h.fetch_unit.queue 0) item fit).0;
+      sources = pushed ∙ ap₂ (λ rs ws. buffer (h.sources.items ++ record { roots = rs; writers = ws } ∷ []) h.sources.capacity) are_roots are_writers;
+      table = written ∙ ap (λ rs. with_write (write_of e rs) h.writes) are_roots;
+      same_room = same;
+      places = (placed.0, placed.1 ∙ ap (λ awaits. with_station h.desc.version placed.0 awaits e h.stations) awaited);
+      loads_and_stores = added ∙ ap (λ rs. queued item.kind h.next_serial (base_root rs) h.queues) are_roots;
+      fetched = taken;
+    }
 
 -- all parts, with it
 abbrev entered : ℕ → Entry → Held → Held

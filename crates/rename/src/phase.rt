@@ -1,6 +1,7 @@
 //! The phase: item by item.
-ghost use Rattle.std.specs.Prelude.{◌≡◌, ◌<◌, ◌+◌, ◌^◌, None, IfSome, is_some, drop, slice_get};
-ghost use Rattle.window_model.specs.Rename.{rename, CallAlone};
+ghost use Rattle.std.specs.Prelude.{◌≡◌, ◌<◌, ◌+◌, ◌^◌, ◌++◌, ◌∷◌, [], None, Some, IfSome, drop, length, slice_get};
+ghost use Rattle.window_model.specs.declared.Item.{Item};
+ghost use Rattle.window_model.specs.Rename.{rename, renamed, CallAlone};
 ghost use Rattle.window_model.specs.Row.{HasRoom, IsLonger, most_fetched, with_events};
 ghost use Rattle.rename.specs.Fitting.{Counted, fitting, with_oldest};
 
@@ -46,8 +47,8 @@ fn enter_next<R: RenameTaint>(parts: &mut Parts<R>) -> Option<Item>
         (λ item. parts.new ≡ record parts.old { machine = with_oldest parts.old.desc item parts.old.machine }) }
     ensures stays { result ≡ None → parts.new ≡ parts.old }
 {
-    let Some(item) = take_fitting(
-        &mut parts.fetch_unit,
+    let Some(item) = next_fitting(
+        &parts.fetch_unit,
         &parts.desc,
         &parts.rob,
         &parts.stations,
@@ -69,15 +70,14 @@ fn enter_next<R: RenameTaint>(parts: &mut Parts<R>) -> Option<Item>
     );
     add_access(serial, item.kind, roots, &mut parts.lsq);
     push_within(&mut parts.sources, Sources { roots, writers });
-    parts.rob.push(renamed(serial, item));
+    move_next(serial, &mut parts.fetch_unit, &mut parts.rob);
     parts.next_serial += 1;
     Some(item)
 }
 
-// Takes the oldest fetched item out of the queue and answers it. None where there is none or it can't go into the window; nothing
-// changes then.
-fn take_fitting(
-    fetch_unit: &mut Fetch,
+// The oldest fetched item, if there is one and it can go into the window. It stays in the queue.
+fn next_fitting(
+    fetch_unit: &Fetch,
     desc: &Desc,
     rob: &RobRing,
     stations: &Stations,
@@ -85,31 +85,24 @@ fn take_fitting(
 ) -> Option<Item>
     requires call_alone { CallAlone rob.now.entries }
     requires counted { Counted desc.now rob.now.entries stations.now lsq.now }
-    ensures item { result ≡ fitting desc.now rob.now.entries (slice_get fetch_unit.old.queue 0) }
-    ensures taken { IfSome result
-        (λ item. fetch_unit.new ≡ record fetch_unit.old { queue = drop 1 fetch_unit.old.queue }) }
-    ensures stays { result ≡ None → fetch_unit.new ≡ fetch_unit.old }
+    ensures { result ≡ fitting desc.now rob.now.entries (slice_get fetch_unit.now.queue 0) }
 {
-    if !is_next_fitting(fetch_unit, desc, rob, stations, lsq) {
-        return None;
+    let item = fetch_unit.front()?;
+    if fits(&item, desc, rob, stations, lsq) {
+        Some(item)
+    } else {
+        None
     }
-    fetch_unit.take()
 }
 
-// Whether there is a fetched item and the oldest can go into the window. It is looked at where it stands.
-fn is_next_fitting(
-    fetch_unit: &Fetch,
-    desc: &Desc,
-    rob: &RobRing,
-    stations: &Stations,
-    lsq: &Lsq,
-) -> bool
-    requires call_alone { CallAlone rob.now.entries }
-    requires counted { Counted desc.now rob.now.entries stations.now lsq.now }
-    ensures { result ≡ is_some (fitting desc.now rob.now.entries (slice_get fetch_unit.now.queue 0)) }
+// The oldest fetched item leaves the queue and comes into the window, copied from the one place into the other.
+fn move_next(serial: u64, fetch_unit: &mut Fetch, rob: &mut RobRing)
+    requires { length rob.old.entries < rob.old.room }
+    ensures taken { fetch_unit.new ≡ record fetch_unit.old { queue = drop 1 fetch_unit.old.queue } }
+    ensures entered { (item : Item) → slice_get fetch_unit.old.queue 0 ≡ Some item
+        → rob.new ≡ record rob.old { entries = rob.old.entries ++ renamed serial item ∷ [] } }
 {
-    match fetch_unit.front() {
-        Some(item) => fits(&item, desc, rob, stations, lsq),
-        None => false,
+    if let Some(item) = fetch_unit.take() {
+        rob.push(renamed(serial, item));
     }
 }

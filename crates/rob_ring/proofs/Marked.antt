@@ -9,9 +9,7 @@ use Rattle.std.proofs.lemmas.List.{map-set, take-map, get_or_past, get_or-take, 
 use Rattle.std.proofs.lemmas.Option.{get_or_from_slice_get, slice_get_cases}
 use Rattle.circular_buffer.specs.Buffer.{Buffer, buffer}
 use Rattle.window_model.specs.declared.Entry.{Entry}
-use Rattle.window_model.specs.declared.Outcome.{Outcome}
 use Rattle.window_model.specs.declared.Progress.TheVariants.{Done}
-use Rattle.window_model.specs.Issue.{begun}
 use Rattle.rob_ring.specs.Ring.{Ring, Next, is_busy, is_open, is_unsafe}
 use Rattle.word_bits.specs.Bits.{NextBit, one_if}
 use Rattle.rob_ring.specs.Marks.{Marked, MarksOf, mark_at}
@@ -152,11 +150,24 @@ module _ (es : List Entry) (room : ℕ) (busy open_ones unsafes : List ℕ) (m :
             unsafe_is = put_is is_unsafe es unsafes m.unsafe_is i e c unsafe2 (within_ring i lt) (tells d at) u v;
           })
 
-  pub begin_marked : (due : ℕ) (o : Outcome) (i : ℕ) (busy2 unsafe2 : List ℕ) (c : Bool) (es2 : List Entry) (room2 : ℕ) → i < length r.entries →
-      mark_at busy2 i ≡ one_if true → ((k : ℕ) → k ≢ i → mark_at busy2 k ≡ mark_at busy k) → mark_at unsafe2 i ≡ one_if c → ((k : ℕ) → k ≢ i → mark_at unsafe2 k ≡ mark_at unsafes k) →
-      ((e : Entry) → slice_get es i ≡ Some e → c ≡ is_unsafe (begun e due o)) →
-      ((e : Entry) → slice_get es i ≡ Some e → buffer es2 room2 ≡ buffer (slice_set es i (begun e due o)) room) → Marked es2 room2 busy2 open_ones unsafe2
-  begin_marked due o = change_marked (λ d. begun d due o) true (λ d. refl) (λ d. refl)
+  -- nor one that is replaced by one that is as safe
+  pub replace_marked : (i : ℕ) (e : Entry) (b : Bool) (busy2 : List ℕ) → i < length r.entries → b ≡ is_busy e → mark_at busy2 i ≡ one_if b → ((k : ℕ) → k ≢ i → mark_at busy2 k ≡ mark_at busy k) →
+      ((d : Entry) → slice_get r.entries i ≡ Some d → (is_open e ≡ is_open d) × (is_unsafe e ≡ is_unsafe d)) → Marked (slice_set es i e) room busy2 open_ones unsafes
+  replace_marked i e b busy2 lt is_b h g alike = elim (slice_get_cases es i).1 [
+    | inl found ↦ there found.0 found.2
+    | inr past ↦ absurd (let le = past.0 in let ours = within_ring i lt in omega (arith, le, ours))
+  ]
+    where
+      there : (d : Entry) → slice_get es i ≡ Some d → Marked (slice_set es i e) room busy2 open_ones unsafes
+      there d at =
+          let as_safe = alike d (ap (λ (r : Ring). slice_get r.entries i) (sym seen) ∙ at) in
+          record {
+            few = m.few;
+            within = let long = length-set es i e in let w = m.within in omega (arith, long, w);
+            busy_is = put_is is_busy es busy m.busy_is i e b busy2 (within_ring i lt) is_b h g;
+            open_is = stays is_open es open_ones m.open_is i d e at as_safe.0;
+            unsafe_is = stays is_unsafe es unsafes m.unsafe_is i d e at as_safe.1;
+          }
 
   pub finish_marked : (i : ℕ) (busy2 unsafe2 : List ℕ) (c : Bool) (es2 : List Entry) (room2 : ℕ) → i < length r.entries →
       mark_at busy2 i ≡ one_if false → ((k : ℕ) → k ≢ i → mark_at busy2 k ≡ mark_at busy k) → mark_at unsafe2 i ≡ one_if c → ((k : ℕ) → k ≢ i → mark_at unsafe2 k ≡ mark_at unsafes k) →

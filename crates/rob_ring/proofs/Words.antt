@@ -1,5 +1,5 @@
 -- The bits of a word, one by one, as a bit is set, cleared, cut off or moved; and the marks of three words.
-use Rattle.std.proofs.Common.{◌≡◌, ◌≢◌, ℕ, zero, suc, ◌+◌, ◌*◌, ◌/◌, ◌%◌, ◌^◌, ◌-◌, ◌<◌, ◌≤◌, Bool, true, false, nat_lt, nat_eq, List, [], ◌∷◌, length, get_or, add-one, refl, ap, ap₂, sym, ◌∙◌, arith, bit_and, ⊎_elim}
+use Rattle.std.proofs.Common.{◌≡◌, ◌≢◌, ℕ, zero, suc, ◌+◌, ◌*◌, ◌/◌, ◌%◌, ◌^◌, ◌-◌, ◌<◌, ◌≤◌, Bool, true, false, nat_lt, nat_eq, List, [], ◌∷◌, length, get_or, add-one, refl, ap, ap₂, sym, subst, ◌∙◌, arith, bit_and, ⊎_elim}
 use Rattle.std.specs.Prelude.{min, if◌then◌else◌}
 use Rattle.std.specs.Int.{bit_at}
 use Rattle.std.proofs.lemmas.Bool.{cases_lt}
@@ -113,3 +113,17 @@ dropped words x y z three hx hy hz k =
     (λ (g : 191 ≤ k). on_top (k - 128) _ 0 z hz (omega (arith, lt, g)) ∙ bit_at-zero 0 ∙ sym (at_past words (k + 1) three (omega (arith, g))))
     (cases_lt k 191))
     (λ le. at_past all k refl le ∙ sym (at_past words (k + 1) three (omega (arith, le))))
+
+-- where the upper words have no mark they have none afterwards
+pub dropped_low : (words : List ℕ) (x : ℕ) → length words ≡ 3 → get_or words 1 0 ≡ 0 → get_or words 2 0 ≡ 0 → Down (get_or words 0 0) 0 x →
+    (k : ℕ) → mark_at (x ∷ 0 ∷ 0 ∷ []) k ≡ mark_at words (k + 1)
+dropped_low words x three middle high h =
+    dropped words x 0 0 three (subst (λ n. Down (get_or words 0 0) n x) (sym middle) h)
+    (subst (λ n. Down n (get_or words 2 0) 0) (sym middle) (subst (λ n. Down 0 n 0) (sym high) none)) (subst (λ n. Down n 0 0) (sym high) none)
+  where
+    either : (t : Bool) (b : ℕ) → 0 ≡ (if t then bit_at 0 (b + 1) else bit_at 0 0)
+    either true b = sym (bit_at-zero (b + 1))
+    either false b = sym (bit_at-zero 0)
+
+    none : Down 0 0 0
+    none b lt = bit_at-zero b ∙ either (nat_lt b 63) b

@@ -4,7 +4,6 @@ ghost use Rattle.std.specs.Prelude.{slice_get, slice_set, Some, IfOk, IfSome};
 ghost use Rattle.std.specs.Option.{option_map};
 ghost use Rattle.window_model.specs.declared.Entry.{Entry};
 ghost use Rattle.window_model.specs.declared.Progress.TheVariants.{Done};
-ghost use Rattle.window_model.specs.Issue.{begun};
 ghost use Rattle.window_model.specs.Serials.{Rise, below};
 ghost use Rattle.rob_ring.specs.Ring.{Next, Ring, in_execution, is_busy, is_open, is_unsafe};
 
@@ -14,7 +13,7 @@ use machine_desc::Desc;
 use rv_types::NoMemory;
 use std::alloc::Global;
 use std::marker::Model;
-use window_model::{Entry, Outcome, Progress, Window, position_of};
+use window_model::{Entry, Progress, Window, position_of};
 
 /// The entries in flight, oldest first, and room for `core.rob` of them. Positions count from the oldest, which has 0.
 #[derive(Drop)]
@@ -26,6 +25,8 @@ pub struct RobRing {
     unresolved: [u64; 3],
     // And whether it may yet squash what comes after it.
     unsafes: [u64; 3],
+    // The oldest entry's serial where none is missing up to the youngest's: a guess, by which an entry is looked for first.
+    counted_from: u64,
 }
 
 impl Model for RobRing {
@@ -50,6 +51,7 @@ impl RobRing {
             busy: [0; 3],
             unresolved: [0; 3],
             unsafes: [0; 3],
+            counted_from: 0,
         })
     }
 
@@ -70,6 +72,7 @@ impl RobRing {
         put_mark(&mut self.busy, len, in_execution(entry.state));
         put_mark(&mut self.unresolved, len, is_open(&entry));
         put_mark(&mut self.unsafes, len, !entry.is_safe());
+        self.counted_from = entry.serial.wrapping_sub(len as u64);
         let _ = self.items.try_push_back(entry);
     }
 
@@ -104,18 +107,18 @@ impl RobRing {
         put_mark(&mut self.busy, i, in_execution(entry.state));
         put_mark(&mut self.unresolved, i, is_open(&entry));
         put_mark(&mut self.unsafes, i, !entry.is_safe());
-        put_entry(&mut self.items, i, entry);
+        put_entry(&mut self.items, i, &entry);
     }
 
-    /// The entry at a position begins to execute, until a cycle and with an outcome.
-    pub fn begin(&mut self, i: u32, due: u64, outcome: Outcome)
-        requires { i < length self.old.entries }
-        ensures { (e : Entry) → slice_get self.old.entries i ≡ Some e
-            → self.new ≡ record self.old { entries = slice_set self.old.entries i (begun e due outcome) } }
+    /// Puts an entry in the place of the one at a position that is open and safe as that is: whether it executes may change.
+    pub fn replace(&mut self, i: u32, entry: &Entry)
+        requires within { i < length self.old.entries }
+        requires alike { (e : Entry) → slice_get self.old.entries i ≡ Some e
+            → (is_open entry.now ≡ is_open e) × (is_unsafe entry.now ≡ is_unsafe e) }
+        ensures { self.new ≡ record self.old { entries = slice_set self.old.entries i entry.now } }
     {
-        put_mark(&mut self.busy, i, true);
-        let is_unsafe = begin_entry(&mut self.items, i, due, outcome);
-        put_mark(&mut self.unsafes, i, is_unsafe);
+        put_mark(&mut self.busy, i, in_execution(entry.state));
+        put_entry(&mut self.items, i, entry);
     }
 
     /// The entry at a position becomes Done.
@@ -147,6 +150,7 @@ impl RobRing {
         self.busy = drop_mark(self.busy);
         self.unresolved = drop_mark(self.unresolved);
         self.unsafes = drop_mark(self.unsafes);
+        self.counted_from = self.counted_from.wrapping_add(1);
         let _ = self.items.pop_front();
     }
 
@@ -186,56 +190,32 @@ impl RobRing {
         ensures older { take result self.now.entries ≡ below serial self.now.entries }
         ensures within { result ≤ length self.now.entries }
     {
-        if let Some(position) = self.counted_back(serial) {
+        if let Some(position) = self.guessed(serial) {
             return position;
         }
         position_of(self, serial)
     }
 
-    // The position of the entry with this serial, where no entry behind it was squashed.
-    fn counted_back(&self, serial: u64) -> Option<u32>
+    // The position of the entry with this serial, where the guess finds it.
+    fn guessed(&self, serial: u64) -> Option<u32>
         ensures { IfSome result (λ i. option_map (λ e. e.serial) (slice_get self.now.entries i) ≡ Some serial) }
     {
-        let len = self.len();
-        if len == 0 {
-            return None;
+        let position = serial.wrapping_sub(self.counted_from);
+        if position < self.len() as u64 && self.lend(position as u32).serial == serial {
+            return Some(position as u32);
         }
-        let youngest = self.lend(len - 1).serial;
-        if youngest < serial || youngest - serial >= len as u64 {
-            return None;
-        }
-        let position = len - 1 - (youngest - serial) as u32;
-        if self.lend(position).serial == serial {
-            Some(position)
-        } else {
-            None
-        }
+        None
     }
 }
 
 // Puts an entry in the place of the one at a position.
-fn put_entry(items: &mut HeapCircularBuffer<Entry>, i: u32, entry: Entry)
+fn put_entry(items: &mut HeapCircularBuffer<Entry>, i: u32, entry: &Entry)
     requires { i < length items.old.items }
-    ensures { items.new ≡ record items.old { items = slice_set items.old.items i entry } }
+    ensures { items.new ≡ record items.old { items = slice_set items.old.items i entry.now } }
 {
     if let Some(place) = items.get_mut(i as usize) {
-        *place = entry;
+        *place = *entry;
     }
-}
-
-// The entry at a position begins to execute. Whether it may yet squash what comes after it.
-fn begin_entry(items: &mut HeapCircularBuffer<Entry>, i: u32, due: u64, outcome: Outcome) -> bool
-    requires { i < length items.old.items }
-    ensures tells { (e : Entry) → slice_get items.old.items i ≡ Some e → result ≡ is_unsafe (begun e due outcome) }
-    ensures wrote { (e : Entry) → slice_get items.old.items i ≡ Some e
-        → items.new ≡ record items.old { items = slice_set items.old.items i (begun e due outcome) } }
-{
-    if let Some(entry) = items.get_mut(i as usize) {
-        entry.state = Progress::Busy(due);
-        entry.outcome = Some(outcome);
-        return !entry.is_safe();
-    }
-    false
 }
 
 // The entry at a position becomes Done. Whether it may yet squash what comes after it.

@@ -131,6 +131,9 @@ pub fn wake_all(
 {
     let room = places.len() as u32;
     let group = (serial % 64) as usize;
+    if waiters[group] == 0 {
+        return;
+    }
     let mut from = 0;
     while let Some(place) = next_place(waiters[group], from, room) {
         wake_at(places, waiters, waiting, place, serial);

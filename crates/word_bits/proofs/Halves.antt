@@ -1,7 +1,8 @@
 -- The halves of a word of 128 bits.
-use Rattle.std.proofs.Common.{◌≡◌, ℕ, ◌+◌, ◌*◌, ◌/◌, ◌%◌, ◌^◌, ◌-◌, ◌<◌, ◌≤◌, ap, sym, ◌∙◌, arith}
+use Rattle.std.proofs.Common.{◌≡◌, ◌≢◌, ℕ, ◌+◌, ◌*◌, ◌/◌, ◌%◌, ◌^◌, ◌-◌, ◌<◌, ◌≤◌, ap, sym, ◌∙◌, arith, inl, inr}
 use Rattle.std.specs.Prelude.{max}
 use Rattle.std.specs.Int.{bit_at}
+use Rattle.std.proofs.lemmas.Bool.{cases_lt}
 use Rattle.std.proofs.lemmas.Nat.{shr-shr}
 use Rattle.std.proofs.lemmas.Nat.Bits.{bit_at_cat_low}
 use Rattle.word_bits.specs.Bits.{IsFirstBit}
@@ -35,3 +36,24 @@ module _ (n w from start : ℕ) (same : (b : ℕ) → bit_at w b ≡ bit_at n (6
         before = λ k l h. clear k (omega (arith, l)) (first.before (k - 64) (omega (arith, l, is)) (omega (arith, l, h)));
         here = sym (same i) ∙ first.here;
       }
+
+-- ---- a word of which one bit of a half was changed
+
+-- w is the word, l and h its halves, x the half with the bit changed, and r the word with that half
+module _ (w l h x r bit : ℕ) (low : (b : ℕ) → b < 64 → bit_at l b ≡ bit_at w b) (high : (b : ℕ) → bit_at h b ≡ bit_at w (64 + b)) where
+  from_high : (b : ℕ) → 64 ≤ b → bit_at r (64 + (b - 64)) ≡ bit_at w (64 + (b - 64)) → bit_at r b ≡ bit_at w b
+  from_high b ge same =
+      let on : 64 + (b - 64) ≡ b = omega (arith, ge) in
+      ap (bit_at r) (sym on) ∙ same ∙ ap (bit_at w) on
+
+  pub low_changed : ((b : ℕ) → b < 64 → b ≢ bit → bit_at x b ≡ bit_at l b) → ((b : ℕ) → b < 64 → bit_at r b ≡ bit_at x b) → ((b : ℕ) → bit_at r (64 + b) ≡ bit_at h b) → (b : ℕ) → b < 128 → b ≢ bit → bit_at r b ≡ bit_at w b
+  low_changed others r_low r_high b lt ne = elim (cases_lt b 64) [
+    | inl less ↦ r_low b less ∙ others b less ne ∙ low b less
+    | inr ge ↦ from_high b ge (r_high (b - 64) ∙ high (b - 64))
+  ]
+
+  pub high_changed : 64 ≤ bit → ((b : ℕ) → b < 64 → b ≢ bit - 64 → bit_at x b ≡ bit_at h b) → ((b : ℕ) → b < 64 → bit_at r b ≡ bit_at l b) → ((b : ℕ) → bit_at r (64 + b) ≡ bit_at x b) → (b : ℕ) → b < 128 → b ≢ bit → bit_at r b ≡ bit_at w b
+  high_changed past others r_low r_high b lt ne = elim (cases_lt b 64) [
+    | inl less ↦ r_low b less ∙ low b less
+    | inr ge ↦ from_high b ge (r_high (b - 64) ∙ others (b - 64) (omega (arith, lt, ge)) (λ e. ne (omega (arith, e, ge, past))) ∙ high (b - 64))
+  ]

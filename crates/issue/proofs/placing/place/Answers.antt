@@ -1,14 +1,25 @@
-use Rattle.issue.proofs.InPlace.{place_within, places_more, places_start, station_within}
+use Rattle.issue.proofs.InPlace.{as_safe, place_within, places_more, places_start, station_within}
 use Rattle.issue.proofs.placing.place.Goals as goal
 
-pub loop-put-init : goal.loop-put-init
-loop-put-init c = places_start _ _ _ _ _ c.requires.puts
+pub loop-k-init : goal.loop-k-init
+loop-k-init c = rw c.len-k.ensures.value (places_start _ _ _ _ _ c.requires.puts)
 
-pub set-requires : goal.set-requires
-set-requires c = place_within _ _ _ _ _ _ _ _ _ _ _ _ c.loop-put.invariant c.in-Some.is c.pop.ensures.items
+pub replace-requires-clause-within : goal.replace-requires-clause-within
+replace-requires-clause-within c =
+    place_within _ _ _ _ _ _ _ _ _ _ c.loop-k.invariant c.loop-k-test.true _ c.loop-k.auto.k c.len-k.ensures.value _ c.index-deref-k.is c.deref.ensures.0
+
+pub replace-requires-clause-alike : goal.replace-requires-clause-alike
+replace-requires-clause-alike c =
+    as_safe _ _ _ _ _ _ _ _ _ _ c.loop-k.invariant c.loop-k-test.true _ c.loop-k.auto.k c.len-k.ensures.value _ c.index-deref-k.is c.deref.ensures.0 c.requires.stands
 
 pub settle-requires : goal.settle-requires
-settle-requires c = record { within = station_within _ _ _ _ _ _ _ _ _ _ _ _ c.loop-put.invariant c.in-Some.is c.pop.ensures.items c.requires.stands }
+settle-requires c = record {
+  within =
+      station_within _ _ _ _ _ _ _ _ _ _ c.loop-k.invariant c.loop-k-test.true _ c.loop-k.auto.k c.len-k.ensures.value _ c.index-deref-k.is c.deref.ensures.0
+      c.requires.stands;
+}
 
-pub loop-put-preserved : goal.loop-put-preserved
-loop-put-preserved c = places_more _ _ _ _ _ _ _ _ _ _ _ _ c.loop-put.invariant c.in-Some.is c.pop.ensures.items _ _ _ c.set.ensures c.settle.ensures c.note.ensures
+pub loop-k-preserved : goal.loop-k-preserved
+loop-k-preserved c =
+    places_more _ _ _ _ _ _ _ _ _ _ c.loop-k.invariant c.loop-k-test.true _ c.loop-k.auto.k c.len-k.ensures.value _ c.index-deref-k.is c.deref.ensures.0
+    _ _ _ c.replace.ensures c.settle.ensures c.note.ensures

@@ -1,6 +1,13 @@
-use Rattle.std.proofs.Common.{arith, ◌∙◌}
+use Rattle.std.proofs.Common.{arith, ap, refl, ◌∙◌}
+use Rattle.std.specs.Int.{bit_at}
+use Rattle.std.proofs.lemmas.Nat.Bits.{bit_at-zero}
 use Rattle.stations.proofs.Awaited.{woken_one, woken_rest}
 use Rattle.stations.proofs.waking.wake_all.Goals as goal
+
+pub returns-then-waiters-group-eq0-clause-woken : goal.returns-then-waiters-group-eq0-clause-woken
+returns-then-waiters-group-eq0-clause-woken c =
+    woken_rest c.args.serial c.args.places.now.items c.args.places.now.items c.args.waiters.now 0 c.len-room.result (omega (arith, c.len-room.ensures)) c.requires.marked (λ p lt. absurd (omega (arith, lt))) (λ p low. refl)
+    (λ p low high. ap (λ w. bit_at w p) c.if-waiters-group-eq0.true ∙ bit_at-zero p)
 
 pub loop-place-preserved : goal.loop-place-preserved
 loop-place-preserved c =

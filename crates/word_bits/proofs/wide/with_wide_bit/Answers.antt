@@ -1,17 +1,8 @@
-use Rattle.std.proofs.Common.{ap, sym, ◌∙◌}
-use Rattle.std.specs.Int.{w128}
-use Rattle.std.proofs.lemmas.Nat.Bits.{bit_at_set_same, bit_at_set_other, bit_at_clear_same, bit_at_clear_other}
-use Rattle.word_bits.specs.Bits.{one_if}
+use Rattle.word_bits.proofs.Halves.{low_changed, high_changed}
 use Rattle.word_bits.proofs.wide.with_wide_bit.Goals as goal
 
-pub returns-then-mark-clause-here : goal.returns-then-mark-clause-here
-returns-then-mark-clause-here c = bit_at_set_same w128 _ _ c.requires ∙ ap one_if (sym c.if-mark.true)
+pub returns-then-bit-lt64-clause-others : goal.returns-then-bit-lt64-clause-others
+returns-then-bit-lt64-clause-others c = low_changed _ _ _ _ _ _ c.low.ensures c.high.ensures c.with_bit.ensures.others c.joined.ensures.low c.joined.ensures.high
 
-pub returns-then-mark-clause-others : goal.returns-then-mark-clause-others
-returns-then-mark-clause-others c b lt ne = bit_at_set_other w128 _ _ c.requires b ne
-
-pub returns-else-mark-clause-here : goal.returns-else-mark-clause-here
-returns-else-mark-clause-here c = bit_at_clear_same w128 _ _ c.requires ∙ ap one_if (sym c.if-mark.false)
-
-pub returns-else-mark-clause-others : goal.returns-else-mark-clause-others
-returns-else-mark-clause-others c b lt ne = bit_at_clear_other w128 _ _ c.requires b lt ne
+pub returns-else-bit-lt64-clause-others : goal.returns-else-bit-lt64-clause-others
+returns-else-bit-lt64-clause-others c = high_changed _ _ _ _ _ _ c.low-else-bit-lt64.ensures c.high-else-bit-lt64.ensures c.if-bit-lt64.false c.with_bit-else-bit-lt64.ensures.others c.joined-else-bit-lt64.ensures.low c.joined-else-bit-lt64.ensures.high
