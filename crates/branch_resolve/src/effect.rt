@@ -4,6 +4,7 @@ ghost use Rattle.window_model.specs.declared.Way.TheVariants as way;
 ghost use Rattle.window_model.specs.Row.{HasRoom, IsLonger, with_events};
 ghost use Rattle.branch_resolve.specs.Effect.{taught, told, resolution_of};
 
+use history_pred::History;
 use predictor::Predictor;
 use rv_types::Kind;
 use window_model::{Entry, Event, Row, Way};
@@ -20,21 +21,29 @@ pub enum Resolution {
 }
 
 /// Resolves a branch or JALR: the predictor learns how it went, and the row tells it. A branch moves its counter, also where
-/// it faults; a JALR stores its target, but not where it faults.
-pub fn resolve(entry: &Entry, predictor: &mut Predictor, row: &mut Row) -> Resolution
+/// it faults: the one that its own history gives it, whatever the present one is. A JALR stores its target, but not where it
+/// faults.
+pub fn resolve(
+    entry: &Entry,
+    history: &History,
+    predictor: &mut Predictor,
+    row: &mut Row,
+) -> Resolution
     requires room { HasRoom 2 row.old }
+    requires one_description { predictor.old.desc ≡ history.now.desc }
     ensures learnt { predictor.new ≡ taught predictor.old entry.now }
     ensures row { row.new ≡ with_events row.old (told predictor.old entry.now) }
     ensures few { IsLonger 2 row.old row.new }
     ensures resolution { result ≡ resolution_of entry.now }
 {
-    teach(entry, predictor, row);
+    teach(entry, history, predictor, row);
     resolution_of(entry)
 }
 
 // What the predictor learns from the entry, and the events of that.
-fn teach(entry: &Entry, predictor: &mut Predictor, row: &mut Row)
+fn teach(entry: &Entry, history: &History, predictor: &mut Predictor, row: &mut Row)
     requires room { HasRoom 2 row.old }
+    requires one_description { predictor.old.desc ≡ history.now.desc }
     ensures learnt { predictor.new ≡ taught predictor.old entry.now }
     ensures row { row.new ≡ with_events row.old (told predictor.old entry.now) }
     ensures few { IsLonger 2 row.old row.new }
@@ -42,7 +51,8 @@ fn teach(entry: &Entry, predictor: &mut Predictor, row: &mut Row)
     if entry.item.kind == Kind::Branch {
         let taken = entry.value() == 1;
         row.push(Event::Res(entry.serial, way_of(taken)));
-        row.push(predictor.learn_branch(entry.item.pc, taken));
+        let place = history.index(&entry.item.mark, entry.item.pc);
+        row.push(predictor.learn_branch(place, taken));
         return;
     }
     row.push(Event::Res(entry.serial, Way::Jump));

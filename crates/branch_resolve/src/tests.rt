@@ -4,6 +4,7 @@ ghost use Rattle.std.specs.Prelude.{◌≡◌, length, IfOk};
 
 use crate::{Resolution, pick, resolve};
 use circular_buffer::HeapCircularBuffer;
+use history_pred::History;
 use machine_desc::{Desc, EXAMPLE, read_desc};
 use predictor::Predictor;
 use rob_ring::{RobRing, Sources};
@@ -12,7 +13,7 @@ use std::alloc::Global;
 use std::process::Abort;
 use std::test::Fail;
 use visibility::VisPoint;
-use window_model::{Entry, Event, Item, Outcome, Progress, Way, empty_row};
+use window_model::{Entry, Event, Item, Mark, Outcome, Progress, Way, empty_row};
 
 fn desc(alloc: Global) -> Result<Desc, Fail> {
     Ok(read_desc(alloc, EXAMPLE.as_bytes())?)
@@ -46,6 +47,7 @@ fn done(instr: Instr, value: u32, next: u32, fault: Option<Cause>) -> Entry
             instr,
             kind: kind_of(&instr),
             predicted: Some(0x10008),
+            mark: Mark::default(),
         },
         state: Progress::Done,
         outcome: Some(outcome),
@@ -167,6 +169,7 @@ fn what_is_resolved_is_passed_over(rt: HostRuntime) -> Result<(), Fail> {
 fn what_is_resolved_teaches_and_tells(rt: HostRuntime) -> Result<(), Fail> {
     let alloc = rt.alloc();
     let mut predictor = Predictor::new(alloc, &desc(alloc)?)?;
+    let history = History::new(&desc(alloc)?);
     let fault = Some(Cause::jump_misaligned());
     let (not_taken, taken) = (Way::NotTaken, Way::Taken);
     let rows = [
@@ -203,7 +206,10 @@ fn what_is_resolved_teaches_and_tells(rt: HostRuntime) -> Result<(), Fail> {
     ];
     for (entry, resolution, way, taught) in rows {
         let mut row = empty_row();
-        assert_eq!(rt; resolve(&entry, &mut predictor, &mut row), resolution);
+        assert_eq!(rt;
+            resolve(&entry, &history, &mut predictor, &mut row),
+            resolution
+        );
         assert_eq!(rt; row.events().first().copied(), Some(Event::Res(3, way)));
         assert_eq!(rt; row.events().get(1).copied(), taught);
         assert_eq!(rt; row.events().get(2).copied(), None);

@@ -8,12 +8,13 @@ use rv_types::{Cause, NoMemory, Width};
 use std::alloc::Global;
 use std::marker::Model;
 
-/// Memory, seen as the address of its first byte and its bytes. Base and size are multiples of 16, it has at least one
-/// byte, and none past the address 2^32 - 1.
+/// Memory, seen as the address of its first byte, its bytes, and whether an access may have any address. Base and size
+/// are multiples of 16, it has at least one byte, and none past the address 2^32 - 1.
 #[derive(Drop)]
 pub struct Ram {
     base: u32,
     bytes: Vec<u8>,
+    misaligned: bool,
 }
 
 impl Model for Ram {
@@ -22,24 +23,29 @@ impl Model for Ram {
 
     ghost Value = { Ram };
 
-    ghost view = { λ r. record { base = r.base; bytes = r.bytes.items } };
+    ghost view = { λ r. record { base = r.base; bytes = r.bytes.items; misaligned = r.misaligned } };
 
     ghost invariant = { λ r. (r.base + vec_len r.bytes ≤ 2 ^ 32) × (0 < vec_len r.bytes) × (vec_len r.bytes < 2 ^ 32)
         × (r.base % 16 ≡ 0) × (vec_len r.bytes % 16 ≡ 0) };
 }
 
 impl Ram {
-    /// Memory with all bytes 0. The one error is want of memory.
+    /// Memory with all bytes 0, in which an access may have any address, or only a multiple of its width. The one error is
+    /// want of memory.
     #[tactic(auto, unfolding(rv_types::specs::Memory::zeros))]
-    pub fn new(alloc: Global, base: u32, size: u32) -> Result<Ram, NoMemory>
+    pub fn new(alloc: Global, base: u32, size: u32, misaligned: bool) -> Result<Ram, NoMemory>
         requires base16 { base % 16 ≡ 0 }
         requires size16 { size % 16 ≡ 0 }
         requires some { 0 < size }
         requires end { base + size ≤ 2 ^ 32 }
-        ensures { IfOk result (λ r. r ≡ record { base = base; bytes = zeros size }) }
+        ensures { IfOk result (λ r. r ≡ record { base = base; bytes = zeros size; misaligned = misaligned }) }
     {
         let bytes = vec![in alloc; 0u8; size as usize]?;
-        Ok(Ram { base, bytes })
+        Ok(Ram {
+            base,
+            bytes,
+            misaligned,
+        })
     }
 
     /// The address of the first byte.
@@ -59,6 +65,13 @@ impl Ram {
         ensures end { self.now.base + result ≤ 2 ^ 32 }
     {
         self.bytes.len() as u32
+    }
+
+    /// Whether an access may have any address.
+    pub fn misaligned(&self) -> bool
+        ensures { result ≡ self.now.misaligned }
+    {
+        self.misaligned
     }
 
     /// All the bytes, from the base on.
@@ -85,8 +98,8 @@ impl Ram {
         addr >= self.base && addr as u64 + size as u64 <= self.base as u64 + self.bytes.len() as u64
     }
 
-    /// The number at an address, zero-extended, the lowest byte first. Errors: cause 4 exactly where the address is no
-    /// multiple of the width, else cause 5 exactly where a byte is outside.
+    /// The number at an address, zero-extended, the lowest byte first. Errors: cause 4 exactly where the address has to be
+    /// a multiple of the width and isn't, else cause 5 exactly where a byte is outside.
     pub fn get(&self, addr: u32, width: Width) -> Result<u32, Cause>
         ensures { result ≡ get_of self.now addr width }
     {
@@ -97,12 +110,12 @@ impl Ram {
         }
     }
 
-    // The fault of an access of so many bytes: misaligned, or else outside.
+    // The fault of an access of so many bytes: misaligned where memory refuses that, or else outside.
     fn fault(&self, addr: u32, size: u32, misaligned: Cause, outside: Cause) -> Option<Cause>
         requires { 0 < size }
         ensures { result ≡ access_fault misaligned outside self.now addr size }
     {
-        if addr % size != 0 {
+        if !self.misaligned && addr % size != 0 {
             return Some(misaligned);
         }
         if !self.holds(addr, size) {
@@ -111,8 +124,8 @@ impl Ram {
         None
     }
 
-    /// The fault of a load of so many bytes, None exactly where there is none: cause 4 where the address is no multiple
-    /// of the size, else cause 5 where a byte is outside.
+    /// The fault of a load of so many bytes, None exactly where there is none: cause 4 where the address has to be a
+    /// multiple of the size and isn't, else cause 5 where a byte is outside.
     pub fn load_fault(&self, addr: u32, size: u32) -> Option<Cause>
         requires { 0 < size }
         ensures { result ≡ load_fault self.now addr size }
@@ -120,8 +133,8 @@ impl Ram {
         self.fault(addr, size, Cause::load_misaligned(), Cause::load_outside())
     }
 
-    /// The fault of a store of so many bytes, None exactly where there is none: cause 6 where the address is no multiple
-    /// of the size, else cause 7 where a byte is outside.
+    /// The fault of a store of so many bytes, None exactly where there is none: cause 6 where the address has to be a
+    /// multiple of the size and isn't, else cause 7 where a byte is outside.
     pub fn store_fault(&self, addr: u32, size: u32) -> Option<Cause>
         requires { 0 < size }
         ensures { result ≡ store_fault self.now addr size }
@@ -162,8 +175,8 @@ impl Ram {
     }
 
     /// Writes the number's lowest bytes at an address, the lowest first, and changes no other. Errors: cause 6 exactly
-    /// where the address is no multiple of the width, else cause 7 exactly where a byte is outside; nothing is changed
-    /// then.
+    /// where the address has to be a multiple of the width and isn't, else cause 7 exactly where a byte is outside;
+    /// nothing is changed then.
     pub fn put(&mut self, addr: u32, width: Width, value: u32) -> Result<(), Cause>
         ensures { (self.new, result) ≡ put_of self.old addr width value }
     {
@@ -225,7 +238,7 @@ impl Ram {
         paste(self.bytes.as_mut_slice(), at, new);
     }
 
-    /// Memory with the same base and bytes. The one error is want of memory.
+    /// Memory with the same base, bytes and rule for addresses. The one error is want of memory.
     pub fn copy(&self, alloc: Global) -> Result<Ram, NoMemory>
         ensures { IfOk result (λ r. r ≡ self.now) }
     {
@@ -233,6 +246,7 @@ impl Ram {
         Ok(Ram {
             base: self.base,
             bytes,
+            misaligned: self.misaligned,
         })
     }
 }

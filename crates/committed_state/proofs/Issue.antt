@@ -1,5 +1,5 @@
 -- Issue: what begins to execute gets what it computes, and a store's parts make known what they compute.
-use Rattle.std.proofs.Common.{◌≡◌, ℕ, Bool, true, false, ◌||◌, List, [], Option, Some, None, refl, ap, sym, ◌∙◌, subst}
+use Rattle.std.proofs.Common.{◌≡◌, ℕ, ◌<◌, Bool, true, false, ◌||◌, List, [], Option, Some, None, refl, ap, sym, ◌∙◌, subst}
 use Rattle.std.specs.List.{list_all}
 use Rattle.rv_types.specs.Memory.{Code, load_fault}
 use Rattle.rv_types.specs.Isa.{Effect}
@@ -13,7 +13,7 @@ use Rattle.window_model.specs.declared.Progress.{Progress}
 use Rattle.window_model.specs.declared.Progress.TheVariants.{Waiting, Busy, Done}
 use Rattle.window_model.specs.State.{Machine}
 use Rattle.window_model.specs.Order.{is_waiting, is_done, is_load, is_store, has_address, has_data, ready, sources, first}
-use Rattle.window_model.specs.Retire.{width_of, hart_of}
+use Rattle.window_model.specs.Retire.{op_of, width_of, hart_of}
 use Rattle.window_model.specs.Access.{access_at}
 use Rattle.window_model.specs.Around.{Around, around}
 use Rattle.window_model.specs.Issue.{DivPort, LoadPort, issue, issue_entry, begin_as, begun, divider_after, effect_of, load_as, may_at, may_issue_as, outcome, Begun}
@@ -28,7 +28,7 @@ use Rattle.committed_state.proofs.Onward.{Moves, load_out, moves_same}
 use Rattle.committed_state.proofs.Kept.{Kept, each_holds}
 use Rattle.window_model.specs.declared.Divider.{Divider}
 use Rattle.window_model.proofs.EntryByEntry.{map_each}
-use Rattle.window_model.proofs.Issuing.{MayIssue, by_after_load, by_issue, by_served, load_behind}
+use Rattle.window_model.proofs.Issuing.{MayIssue, by_after_load, by_issue, by_served, load_behind, some_bytes}
 
 -- an entry stays as it is, or begins with this outcome
 data Comes (e : Entry) (o : Outcome) (r : Entry) : Type 0 where
@@ -41,13 +41,13 @@ module _ (d : Desc) (now : Around) (e : Entry) (f : Effect) (bytes : List ℕ) w
   abbrev Value : ℕ
   Value = loaded_or None e.item.instr bytes
 
-  load_comes : (b : List Entry) (a n : ℕ) (c : Option Cause) → Comes e (outcome f (loaded_or c e.item.instr bytes) c) (load_as (access_at d now b a n c) d now e f Value).entry
-  load_comes b a n (Some c) = Begins _ refl
-  load_comes b a n None =
-      by_served d now (λ a. Comes e (outcome f Value None) (load_as a d now e f Value).entry) (Begins _ refl) (λ line room. Begins _ refl) (λ full. Remains refl) b a n
+  load_comes : (b : List Entry) (a n : ℕ) (c : Option Cause) → 0 < n → Comes e (outcome f (loaded_or c e.item.instr bytes) c) (load_as (access_at d now b a n c) d now e f Value).entry
+  load_comes b a n (Some c) some = Begins _ refl
+  load_comes b a n None some =
+      by_served d now (λ a. Comes e (outcome f Value None) (load_as a d now e f Value).entry) (Begins _ refl) (λ a n some room. Begins _ refl) (λ a n some full. Remains refl) b a n some
 
 comes : (d : Desc) (x : Machine) (b : List Entry) (e : Entry) (k : Kind) → is_store k ≡ false → let f = effect_of x.regs b e in Comes e (outcome_as k x.ram e.item.instr f (bytes_over (bank_of x) b e f.addr)) (begin_as k d (around x) b e).entry
-comes d x b e Load n = let f = effect_of x.regs b e in load_comes d (around x) e f (bytes_over (bank_of x) b e f.addr) b f.addr (width_of e) (load_fault x.ram f.addr (width_of e))
+comes d x b e Load n = let f = effect_of x.regs b e in load_comes d (around x) e f (bytes_over (bank_of x) b e f.addr) b f.addr (width_of e) (load_fault x.ram f.addr (width_of e)) (some_bytes (op_of e.item.instr))
 comes d x b e Store n = absurd (cc)
 comes d x b e _ n = Begins _ refl
 
@@ -122,7 +122,7 @@ issue_one code d x b e h st = by_issue d (around x) b e (Kept code (bank_of x) b
 
 pub consistent_issue : (code : Code) (d : Desc) (x : Machine) → Consistent d code x → Consistent d code (issue d x).machine
 consistent_issue code d x h =
-    by_after_load d x (λ y. (w : List Entry) (v : Divider) → Holds code (hart_of x) w x.queue x.fetch_pc → Consistent d code (record y { window = w; divider = v })) (λ c m w v k. k)
+    by_after_load d x (λ y. (w : List Entry) (v : Divider) → Holds code (hart_of x) w x.queue x.fetch_pc → Consistent d code (record y { window = w; divider = v })) (λ c s m w v k. k)
     (first (may_at d (around x) LoadPort) x.window) _ (divider_after x (first (may_at d (around x) DivPort) x.window))
     (subst (λ w. Holds code (hart_of x) w x.queue x.fetch_pc) (sym (map_each (λ (t : Begun). t.entry) (issue_entry d (around x)) [] x.window))
     (each_holds code (hart_of x) (issued d x) (issue_one code d x) x.window x.queue x.fetch_pc h))

@@ -9,6 +9,7 @@ use Rattle.rv_types.specs.declared.Kind.TheVariants.{Store, Branch, Jalr, Jal, C
 use Rattle.machine_desc.specs.declared.Desc.{Desc}
 use Rattle.window_model.specs.declared.Entry.{Entry}
 use Rattle.window_model.specs.declared.Item.{Item}
+use Rattle.window_model.specs.declared.Mark.{Mark}
 use Rattle.window_model.specs.declared.Progress.TheVariants.{Waiting, Done}
 use Rattle.window_model.specs.State.{Machine}
 use Rattle.window_model.specs.declared.Target.{Target}
@@ -16,7 +17,7 @@ use Rattle.window_model.specs.Order.{is_control, sources}
 use Rattle.committed_state.proofs.Onward.{of_item}
 use Rattle.window_model.specs.Retire.{hart_of}
 use Rattle.window_model.specs.Rename.{rename, renamed, fits, fits_as, at_once, is_call}
-use Rattle.window_model.specs.Fetch.{fetch, fetch_one, item_at, kind_at, predicted}
+use Rattle.window_model.specs.Fetch.{fetch, fetch_one, guess, item_at, kind_at, predicted}
 use Rattle.window_model.proofs.Before.{all_reverse}
 use Rattle.window_model.proofs.Walks.{rename_keep, fetch_keep}
 use Rattle.committed_state.specs.Computed.{Bank}
@@ -118,12 +119,12 @@ module _ (code : Code) (d : Desc) where
 
 -- ---- fetch
 
-predicts : (k : Kind) (d : Desc) (c : List ℕ) (t : List (Option Target)) (i : Item) → i.predicted ≡ predicted k d c t i.pc i.instr → Predicts k i
-predicts (Stop a) d c t i h = h
-predicts Jal d c t i h = h
-predicts Branch d c t i h = ap is_some h
-predicts Jalr d c t i h = ap is_some h
-predicts _ d c t i h = h
+predicts : (k : Kind) (d : Desc) (t : List (Option Target)) (m : Mark) (way : Bool) (i : Item) → i.predicted ≡ predicted k d t m way i.pc i.instr → Predicts k i
+predicts (Stop a) d t m way i h = h
+predicts Jal d t m way i h = h
+predicts Branch d t m way i h = ap is_some h
+predicts Jalr d t m way i h = ap is_some h
+predicts _ d t m way i h = h
 
 chain_items : (from : Option ℕ) (q : List Item) (i : Item) → Chain from (map item_link q) (Some i.pc) → Chain from (map item_link (q ++ i ∷ [])) i.predicted
 chain_items from [] i k = (k, refl)
@@ -138,7 +139,7 @@ module _ (code : Code) (d : Desc) where
   fetch_item x pc q r h =
       let i = item_at d code x pc in
       let c = subst (Chain (Some x.pc) (links x.window x.queue)) q h.chain in
-      let now : IsItem code i = record { instr = refl; kind = refl; next = predicts (kind_at (code pc)) d x.counters x.targets i refl } in
+      let now : IsItem code i = record { instr = refl; kind = refl; next = predicts (kind_at (code pc)) d x.targets x.mark (guess (kind_at (code pc)) d x.counters x.mark pc) i refl } in
       record { entries = h.entries; items = each_push (IsItem code) x.queue i h.items now; chain = chain_push (Some x.pc) x.window x.queue i c; registers = h.registers }
 
   pub consistent_fetch : (x : Machine) → Consistent d code x → Consistent d code (fetch d code x).machine

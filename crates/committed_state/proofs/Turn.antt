@@ -52,12 +52,12 @@ hart_left s e c r h f = ap (hart_with s e) h ∙ ap (λ m. let t : Hart = record
 
 -- ---- the step at a head that is no stop
 
-made : ℕ → Instr → Kind → Option ℕ → Item
-made pc i k p = record { pc = pc; instr = i; kind = k; predicted = p }
+made : ℕ → Instr → Kind → Item → Item
+made pc i k t = record t { pc = pc; instr = i; kind = k }
 
-pub item_eq : (i : Item) (pc : ℕ) (j : Instr) → pc ≡ i.pc → i.instr ≡ j → i.kind ≡ kind_of j → i ≡ item_of pc j i.predicted
+pub item_eq : (i : Item) (pc : ℕ) (j : Instr) → pc ≡ i.pc → i.instr ≡ j → i.kind ≡ kind_of j → i ≡ item_of pc j i
 unfolding made
-item_eq i pc j p a k = ap (λ n. made n i.instr i.kind i.predicted) (sym p) ∙ ap (λ u. made pc u i.kind i.predicted) a ∙ ap (λ u. made pc j u i.predicted) k
+item_eq i pc j p a k = ap (λ n. made n i.instr i.kind i) (sym p) ∙ ap (λ u. made pc u i.kind i) a ∙ ap (λ u. made pc j u i) k
 
 abbrev hart_item : Hart → Item → Outcome → Hart
 hart_item s i o = hart_after s (of_item i) o
@@ -66,7 +66,7 @@ abbrev pub steps : Option Cause → Hart → Step
 steps None t = Goes t []
 steps (Some cause) t = Traps cause
 
-by_fault : (s : Hart) (p : Option ℕ) (i : _) (f : Option Cause) → at_once (item_of s.pc i p).kind ≡ false → (replayed (bank_in s) (of_item (item_of s.pc i p))).fault ≡ f →
+by_fault : (s : Hart) (p : Item) (i : _) (f : Option Cause) → at_once (item_of s.pc i p).kind ≡ false → (replayed (bank_in s) (of_item (item_of s.pc i p))).fault ≡ f →
     step_of s i ≡ steps f (hart_item s (item_of s.pc i p) (replayed (bank_in s) (of_item (item_of s.pc i p))))
 by_fault s p i None a h = head_goes s p i a h
 by_fault s p i (Some c) a h = head_traps s p i c a h
@@ -77,10 +77,10 @@ step_as None s e q a k n f h = absurd (cc)
 step_as (Some w) s e q a k n f h =
     let i = decode w in
     let it = item_eq e.item s.pc i q a k in
-    let r : replayed (bank_in s) e ≡ replayed (bank_in s) (of_item (item_of s.pc i e.item.predicted)) = ap (λ t. replayed (bank_in s) (of_item t)) it in
+    let r : replayed (bank_in s) e ≡ replayed (bank_in s) (of_item (item_of s.pc i e.item)) = ap (λ t. replayed (bank_in s) (of_item t)) it in
     let n2 = ap (λ (t : Item). at_once t.kind) (sym it) ∙ n in
-    by_fault s e.item.predicted i f n2 (sym (ap (λ (o : Outcome). o.fault) r) ∙ h)
-    ∙ ap (steps f) (ap (hart_item s (item_of s.pc i e.item.predicted)) (sym r) ∙ ap (λ t. hart_item s t (replayed (bank_in s) e)) (sym it))
+    by_fault s e.item i f n2 (sym (ap (λ (o : Outcome). o.fault) r) ∙ h)
+    ∙ ap (steps f) (ap (hart_item s (item_of s.pc i e.item)) (sym r) ∙ ap (λ t. hart_item s t (replayed (bank_in s) e)) (sym it))
 
 -- ---- where the head goes on
 
@@ -98,7 +98,7 @@ next_as (Some w) s e a k n j h =
     let h2 = subst (λ (t : Item). Predicts t.kind t) it h in
     let n2 = ap (λ (t : Item). at_once t.kind) (sym it) ∙ n in
     let j2 = ap (λ (t : Item). is_control t.kind) (sym it) ∙ j in
-    let g = goes_on i e.item.pc (first_of (sources e) s.regs) (second_of (sources e) s.regs) e.item.predicted h2 j2 n2 in
+    let g = goes_on i e.item.pc (first_of (sources e) s.regs) (second_of (sources e) s.regs) e.item h2 j2 n2 in
     g ∙ ap (λ j. Some (effect e.item.pc j (first_of (sources e) s.regs) (second_of (sources e) s.regs)).next) (sym a)
 
 link_next : (r : Bool) (e : Entry) (c : Option Outcome) (o : Outcome) → c ≡ Some o → o.fault ≡ None → (r ≡ false → e.item.predicted ≡ Some o.next) →

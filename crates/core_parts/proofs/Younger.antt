@@ -45,6 +45,7 @@ sized_dropped d x a b pc v e s =
       queue = record { queue = omega arith; item_kinds = tt };
       predictor = f.predictor;
       cache = f.cache;
+      second = f.second;
       misses = f.misses;
       registers = f.registers;
     })

@@ -1,6 +1,6 @@
 -- The machine as a core holds it, and its visibility point.
-use Rattle.std.specs.Prelude.{ℕ, List, Option, refl}
-use Rattle.std.specs.Coded.{Coded, code_by, coded×, coded_ℕ, coded_list, coded_option}
+use Rattle.std.specs.Prelude.{ℕ, Bool, List, Option, refl}
+use Rattle.std.specs.Coded.{Coded, code_by, coded×, coded_ℕ, coded_bool, coded_list, coded_option}
 use Rattle.rv_types.specs.Memory.{Ram}
 use Rattle.rv_types.specs.contracts.End as end
 use Rattle.rv_types.specs.declared.End.{End}
@@ -13,11 +13,13 @@ use Rattle.machine_desc.specs.declared.SttModel.{SttModel}
 use Rattle.window_model.specs.contracts.Divider as divider
 use Rattle.window_model.specs.contracts.Entry as entry
 use Rattle.window_model.specs.contracts.Item as item
+use Rattle.window_model.specs.contracts.Mark as mark
 use Rattle.window_model.specs.contracts.Miss as miss
 use Rattle.window_model.specs.contracts.Target as target
 use Rattle.window_model.specs.declared.Divider.{Divider}
 use Rattle.window_model.specs.declared.Entry.{Entry}
 use Rattle.window_model.specs.declared.Item.{Item}
+use Rattle.window_model.specs.declared.Mark.{Mark}
 use Rattle.window_model.specs.declared.Miss.{Miss}
 use Rattle.window_model.specs.declared.Target.{Target}
 use Rattle.window_model.specs.State.{After, Machine, opening}
@@ -45,9 +47,11 @@ fetch_of s = fetch s.desc (word_at s.code) s.machine
 
 -- ---- how it is stored
 
--- memory as its base and its bytes
+-- memory as its base, its bytes, and whether it takes any address
 abbrev pub ram_code : Coded Ram
-ram_code = code_by (ℕ × List ℕ) (coded× coded_ℕ (coded_list coded_ℕ)) (λ r. (r.base, r.bytes)) (λ p. record { base = p.0; bytes = p.1 }) (λ _. refl)
+ram_code =
+    code_by (ℕ × (List ℕ × Bool)) (coded× coded_ℕ (coded× (coded_list coded_ℕ) coded_bool)) (λ r. (r.base, (r.bytes, r.misaligned)))
+    (λ p. record { base = p.0; bytes = p.1.0; misaligned = p.1.1 }) (λ _. refl)
 
 -- what has retired: the cycle, registers, pc, memory, the count and the end
 abbrev pub Committed : Type 0
@@ -56,19 +60,26 @@ Committed = ℕ × (List ℕ × (ℕ × (Ram × (ℕ × Option End))))
 abbrev pub committed_code : Coded Committed
 committed_code = coded× coded_ℕ (coded× (coded_list coded_ℕ) (coded× coded_ℕ (coded× ram_code (coded× coded_ℕ (coded_option end.the_row.coded)))))
 
--- what is in flight: the window, the next serial, the queue, the fetch pc
+-- what is in flight: the window, the next serial, the queue, the fetch pc, and history and stack
 abbrev pub Unretired : Type 0
-Unretired = List Entry × (ℕ × (List Item × Option ℕ))
+Unretired = List Entry × (ℕ × (List Item × (Option ℕ × Mark)))
 
 abbrev pub unretired_code : Coded Unretired
-unretired_code = coded× (coded_list entry.the_row.coded) (coded× coded_ℕ (coded× (coded_list item.the_row.coded) (coded_option coded_ℕ)))
+unretired_code = coded× (coded_list entry.the_row.coded) (coded× coded_ℕ (coded× (coded_list item.the_row.coded) (coded× (coded_option coded_ℕ) mark.the_row.coded)))
+
+-- both levels of a cache
+abbrev pub Levels : Type 0
+Levels = List (List ℕ) × List (List ℕ)
+
+abbrev pub levels_code : Coded Levels
+levels_code = coded× (coded_list (coded_list coded_ℕ)) (coded_list (coded_list coded_ℕ))
 
 -- what has been learnt, what is cached, and the divider
 abbrev pub Learnt : Type 0
-Learnt = List ℕ × (List (Option Target) × (List (List ℕ) × (List Miss × Divider)))
+Learnt = List ℕ × (List (Option Target) × (Levels × (List Miss × Divider)))
 
 abbrev pub learnt_code : Coded Learnt
-learnt_code = coded× (coded_list coded_ℕ) (coded× (coded_list (coded_option target.the_row.coded)) (coded× (coded_list (coded_list coded_ℕ)) (coded× (coded_list miss.the_row.coded) divider.the_row.coded)))
+learnt_code = coded× (coded_list coded_ℕ) (coded× (coded_list (coded_option target.the_row.coded)) (coded× levels_code (coded× (coded_list miss.the_row.coded) divider.the_row.coded)))
 
 -- a machine is stored as these three parts
 abbrev pub machine_code : Coded Machine
@@ -76,7 +87,7 @@ machine_code =
     code_by (Committed × (Unretired × Learnt)) (coded× committed_code (coded× unretired_code learnt_code))
     (λ x. (
       (x.cycle, (x.regs, (x.pc, (x.ram, (x.retired, x.end))))),
-      ((x.window, (x.next_serial, (x.queue, x.fetch_pc))), (x.counters, (x.targets, (x.cache, (x.misses, x.divider))))),
+      ((x.window, (x.next_serial, (x.queue, (x.fetch_pc, x.mark)))), (x.counters, (x.targets, ((x.cache, x.second), (x.misses, x.divider))))),
     ))
     (λ p. record {
       cycle = p.0.0;
@@ -85,10 +96,12 @@ machine_code =
       ram = p.0.1.1.1.0;
       window = p.1.0.0;
       queue = p.1.0.1.1.0;
-      fetch_pc = p.1.0.1.1.1;
+      fetch_pc = p.1.0.1.1.1.0;
+      mark = p.1.0.1.1.1.1;
       counters = p.1.1.0;
       targets = p.1.1.1.0;
-      cache = p.1.1.1.1.0;
+      cache = p.1.1.1.1.0.0;
+      second = p.1.1.1.1.0.1;
       misses = p.1.1.1.1.1.0;
       divider = p.1.1.1.1.1.1;
       retired = p.0.1.1.1.1.0;

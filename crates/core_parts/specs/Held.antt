@@ -18,6 +18,7 @@ use Rattle.cache_tags.specs.Sets.{Cache}
 use Rattle.mshr_file.specs.Registers.{Registers}
 use Rattle.unit_ports.specs.Ports.{Ports}
 use Rattle.predictor.specs.Tables.{Tables}
+use Rattle.history_pred.specs.Past.{Past}
 use Rattle.fetch_unit.specs.Unit.{FetchUnit}
 use Rattle.visibility.specs.Point.{Point}
 use Rattle.core_parts.specs.Described.{Described}
@@ -40,9 +41,11 @@ pub record Held : Type 0 where
   pub stations : Stations
   pub queues : Queues
   pub tags : Cache
+  pub second : Cache
   pub mshrs : Registers
   pub ports : Ports
   pub tables : Tables
+  pub past : Past
   pub fetch_unit : FetchUnit
   pub point : Point
   pub retired : ℕ
@@ -61,7 +64,9 @@ machine_of h = record {
   fetch_pc = h.fetch_unit.fetch_pc;
   counters = h.tables.counters;
   targets = h.tables.targets;
+  mark = h.past.mark;
   cache = h.tags.sets;
+  second = h.second.sets;
   misses = h.mshrs.misses;
   divider = h.ports.divider;
   retired = h.retired;
@@ -96,7 +101,9 @@ pub record Sizes : Type 0 where
   pub stores : ℕ
   pub registers : ℕ
   pub tags : Desc
+  pub second : Desc
   pub tables : Desc
+  pub past : Desc
   pub fetch_unit : Desc
   pub alus : ℕ
   pub model : SttModel
@@ -111,7 +118,9 @@ sizes h = record {
   stores = h.queues.max_stores;
   registers = h.mshrs.room;
   tags = h.tags.desc;
+  second = h.second.desc;
   tables = h.tables.desc;
+  past = h.past.desc;
   fetch_unit = h.fetch_unit.desc;
   alus = h.ports.alus;
   model = h.point.model;
@@ -128,7 +137,9 @@ sizes_for d = record {
   stores = d.core_stores;
   registers = d.cache_mshrs;
   tags = d;
+  second = d;
   tables = d;
+  past = d;
   fetch_unit = d;
   alus = d.units_alus;
   model = d.stt_model;

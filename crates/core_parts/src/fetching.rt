@@ -1,4 +1,4 @@
-//! Phase Fetch: the fetch unit's, with the code and the predictor of the parts.
+//! Phase Fetch: the fetch unit's, with the code, the predictor, and history and stack of the parts.
 ghost use Rattle.std.specs.Prelude.{◌≡◌};
 ghost use Rattle.window_model.specs.Row.{HasRoom, IsLonger, most_fetched, with_events};
 ghost use Rattle.core_parts.specs.Described.{fetch_of};
@@ -15,6 +15,7 @@ impl<R: RenameTaint> Parts<R> {
         ensures row { row.new ≡ with_events row.old (fetch_of self.old).events }
         ensures few { IsLonger most_fetched row.old row.new }
     {
-        self.fetch_unit.fetch(&self.code, &self.predictor, row);
+        self.fetch_unit
+            .fetch(&self.code, &self.predictor, &mut self.history, row);
     }
 }

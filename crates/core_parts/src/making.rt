@@ -45,7 +45,8 @@ pub fn parts_of<R: RenameTaint>(
     ensures { IfOk result (λ o. IfSome o (λ p. p ≡ opened desc.now p.code p.machine.pc p.machine.ram)) }
 {
     let file = image_of(alloc, desc.ram_base, words)?;
-    let ram = Ram::new(alloc, desc.ram_base, desc.ram_size)?;
+    let misaligned = desc.ram_misaligned == 1;
+    let ram = Ram::new(alloc, desc.ram_base, desc.ram_size, misaligned)?;
     match segments(file.as_slice()) {
         Ok(segments) => match load(alloc, &segments, ram) {
             Ok(image) => {

@@ -87,7 +87,7 @@ fn file_of(alloc: Global, entry: u32, code: &[u32], other: Part<'_>) -> Result<V
 /// The image of this code and this other part in 64 KiB of memory, where fetch begins at the entry.
 pub fn image_of(alloc: Global, entry: u32, code: &[u32], other: Part<'_>) -> Result<Image, Fail> {
     let file = file_of(alloc, entry, code, other)?;
-    let ram = Ram::new(alloc, CODE, SIZE)?;
+    let ram = Ram::new(alloc, CODE, SIZE, false)?;
     Ok(load(alloc, &segments(file.as_slice())?, ram)?)
 }
 

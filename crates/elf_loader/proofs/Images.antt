@@ -1,5 +1,5 @@
 -- What callers need of images: which one a file is, and where its code may stand.
-use Rattle.std.proofs.Common.{◌≡◌, ℕ, ◌+◌, ◌-◌, ◌*◌, ◌/◌, ◌%◌, ◌^◌, ◌<◌, ◌≤◌, Bool, true, false, ◌&&◌, cond, nat_le, List, [], ◌∷◌, length, get_or, Option, None, Some, IsSome, Ok, Err, refl, ap, ◌∙◌, ◌⊎◌, inl, inr, arith}
+use Rattle.std.proofs.Common.{◌≡◌, ℕ, ◌+◌, ◌-◌, ◌/◌, ◌%◌, ◌<◌, ◌≤◌, Bool, true, false, ◌&&◌, cond, nat_le, List, [], ◌∷◌, length, get_or, Option, None, Some, IsSome, Ok, Err, refl, ap, ◌∙◌, ◌⊎◌, inl, inr, arith}
 use Rattle.std.specs.Prelude.{◌==◌}
 use Rattle.std.specs.List.{list_any}
 use Rattle.std.proofs.lemmas.Bool.{cases_lt, false≢true}
@@ -13,27 +13,27 @@ use Rattle.elf_loader.specs.Code.{CodeText, word_at}
 use Rattle.elf_loader.proofs.Marked.{no_code_outside}
 
 -- a file without fault is its image in this memory
-pub image_without : (file : List ℕ) (base size : ℕ) → header_fault file ≡ None → ram_fault file (record { base = base; bytes = zeros size }) ≡ None
-    → image_of file base size ≡ Ok (image_in file (record { base = base; bytes = zeros size }))
+pub image_without : (file : List ℕ) (base size : ℕ) (misaligned : Bool) → header_fault file ≡ None → ram_fault file (record { base = base; bytes = zeros size; misaligned = misaligned }) ≡ None
+    → image_of file base size misaligned ≡ Ok (image_in file (record { base = base; bytes = zeros size; misaligned = misaligned }))
 unfolding image_of
-image_without file base size h r =
-    let ram : Ram = record { base = base; bytes = zeros size } in
+image_without file base size misaligned h r =
+    let ram : Ram = record { base = base; bytes = zeros size; misaligned = misaligned } in
     let e : first_some (header_fault file ∷ ram_fault file ram ∷ []) ≡ None =
     ap (λ (o : Option ElfFault). first_some (o ∷ ram_fault file ram ∷ [])) h ∙ ap (λ (o : Option ElfFault). first_some (o ∷ [])) r in
     ap (λ (o : Option ElfFault). unless o (image_in file ram)) e
 
 -- else its first fault, one of the headers
-pub image_headers : (file : List ℕ) (base size : ℕ) (e : ElfFault) → header_fault file ≡ Some e → image_of file base size ≡ Err e
+pub image_headers : (file : List ℕ) (base size : ℕ) (misaligned : Bool) (e : ElfFault) → header_fault file ≡ Some e → image_of file base size misaligned ≡ Err e
 unfolding image_of
-image_headers file base size e h =
-    let ram : Ram = record { base = base; bytes = zeros size } in
+image_headers file base size misaligned e h =
+    let ram : Ram = record { base = base; bytes = zeros size; misaligned = misaligned } in
     ap (λ (o : Option ElfFault). unless (first_some (o ∷ ram_fault file ram ∷ [])) (image_in file ram)) h
 
 -- or a segment outside memory
-pub image_outside : (file : List ℕ) (base size : ℕ) (e : ElfFault) → header_fault file ≡ None → ram_fault file (record { base = base; bytes = zeros size }) ≡ Some e → image_of file base size ≡ Err e
+pub image_outside : (file : List ℕ) (base size : ℕ) (misaligned : Bool) (e : ElfFault) → header_fault file ≡ None → ram_fault file (record { base = base; bytes = zeros size; misaligned = misaligned }) ≡ Some e → image_of file base size misaligned ≡ Err e
 unfolding image_of
-image_outside file base size e h r =
-    let ram : Ram = record { base = base; bytes = zeros size } in
+image_outside file base size misaligned e h r =
+    let ram : Ram = record { base = base; bytes = zeros size; misaligned = misaligned } in
     ap (λ (o : Option ElfFault). unless (first_some (o ∷ ram_fault file ram ∷ [])) (image_in file ram)) h
     ∙ ap (λ (o : Option ElfFault). unless (first_some (o ∷ [])) (image_in file ram)) r
 
@@ -60,10 +60,10 @@ some_is None t e = absurd (cc)
 some_is (Some u) t e = refl
 
 -- an image's instructions stand at multiples of 4
-pub at_words : (file : List ℕ) (base size : ℕ) (image : ImageText) → image_of file base size ≡ Ok image → (pc word : ℕ) → image.code pc ≡ Some word → pc % 4 ≡ 0
+pub at_words : (file : List ℕ) (base size : ℕ) (misaligned : Bool) (image : ImageText) → image_of file base size misaligned ≡ Ok image → (pc word : ℕ) → image.code pc ≡ Some word → pc % 4 ≡ 0
 unfolding image_of
-at_words file base size image e pc word h =
-    let ram : Ram = record { base = base; bytes = zeros size } in
+at_words file base size misaligned image e pc word h =
+    let ram : Ram = record { base = base; bytes = zeros size; misaligned = misaligned } in
     let same : image_in file ram ≡ image = by_fault (first_some (header_fault file ∷ ram_fault file ram ∷ [])) (image_in file ram) image e in
     let code : code_of file (ram_after file ram) pc ≡ image.code pc = ap (λ (x : ImageText). x.code pc) same in
     code_of_aligned file (ram_after file ram) pc (some_is _ word (code ∙ h))

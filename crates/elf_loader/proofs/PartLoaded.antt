@@ -139,22 +139,22 @@ module _ (xs : List ℕ) (from to : ℕ) (new : List ℕ) (a : from ≤ to) (b :
       ∙ sym (ap (λ (n : ℕ). take n (drop j new)) few)
 
 -- there is room for as many bytes as a memory has
-pub room : (p : Ram) (base from to : ℕ) (xs : List ℕ) → p ≡ record { base = base; bytes = zeros (to - from) } → to ≤ length xs → in_ram p base (length (slice_range xs from to)) ≡ true
-room p base from to xs e b =
+pub room : (p : Ram) (misaligned : Bool) (base from to : ℕ) (xs : List ℕ) → p ≡ record { base = base; bytes = zeros (to - from); misaligned = misaligned } → to ≤ length xs → in_ram p base (length (slice_range xs from to)) ≡ true
+room p misaligned base from to xs e b =
     let low : p.base ≡ base = ap (λ (r : Ram). r.base) e in
     let size : length p.bytes ≡ to - from = ap (λ (r : Ram). length r.bytes) e ∙ length_zeros (to - from) in
     let many : length (slice_range xs from to) ≤ to - from = omega (arith, length-take (to - from) (drop from xs)) in
     grind (arith, nat_tests)
 
 -- a whole memory of zeros is written over
-pub part_whole : (base n : ℕ) (new : List ℕ) → length new ≡ n → with_bytes (record { base = base; bytes = zeros n }) base new ≡ record { base = base; bytes = new }
-part_whole base n new e =
+pub part_whole : (misaligned : Bool) (base n : ℕ) (new : List ℕ) → length new ≡ n → with_bytes (record { base = base; bytes = zeros n; misaligned = misaligned }) base new ≡ record { base = base; bytes = new; misaligned = misaligned }
+part_whole misaligned base n new e =
     let first : base - base ≡ 0 = omega arith in
     let last : base - base + length new ≡ n = omega (arith, e) in
     let none : drop n (zeros n) ≡ [] = drop_all n (zeros n) (omega (arith, length_zeros n)) in
-    ap₂ (λ (i j : ℕ). record { base = base; bytes = take i (zeros n) ++ new ++ drop j (zeros n) }) first last
-    ∙ ap (λ (v : List ℕ). record { base = base; bytes = new ++ v }) none
-    ∙ ap (λ (v : List ℕ). record { base = base; bytes = v }) (append-nil new)
+    ap₂ (λ (i j : ℕ). record { base = base; bytes = take i (zeros n) ++ new ++ drop j (zeros n); misaligned = misaligned }) first last
+    ∙ ap (λ (v : List ℕ). record { base = base; bytes = new ++ v; misaligned = misaligned }) none
+    ∙ ap (λ (v : List ℕ). record { base = base; bytes = v; misaligned = misaligned }) (append-nil new)
 
 -- ---- Memory with the loaded part in its place
 
@@ -169,6 +169,10 @@ get_loaded file ram k l = get_or-map-range_with_len (λ k. byte_after (loads_of 
 pub base_loaded : (file : List ℕ) (ram : Ram) → (ram_after file ram).base ≡ ram.base
 unfolding ram_after
 base_loaded file ram = refl
+
+rule_loaded : (file : List ℕ) (ram : Ram) → (ram_after file ram).misaligned ≡ ram.misaligned
+unfolding ram_after
+rule_loaded file ram = refl
 
 module _ (file : List ℕ) (ram : Ram) (from to : ℕ) (a : from ≤ to) (b : to ≤ length ram.bytes) (h : AllInside file (ram.base + from) (to - from)) where
   new : List ℕ
@@ -204,7 +208,7 @@ module _ (file : List ℕ) (ram : Ram) (from to : ℕ) (a : from ≤ to) (b : to
       (λ k l.
       let l2 : k < length ram.bytes = omega (arith, length_joined ram.bytes from to new a b size) in
       cell k (cases_lt k from) (cases_lt k to) ∙ sym (get_loaded file ram k l2)) in
-      placed_part ram from to new a size ∙ same_ram (record ram { bytes = joined ram.bytes from to new }) (ram_after file ram) (sym (base_loaded file ram)) bytes
+      placed_part ram from to new a size ∙ same_ram (record ram { bytes = joined ram.bytes from to new }) (ram_after file ram) (sym (rule_loaded file ram)) (sym (base_loaded file ram)) bytes
 
 -- ---- The words of the part
 
@@ -214,26 +218,26 @@ by_any true false x y h = refl
 by_any false any x y h = refl
 
 module _ (file : List ℕ) (ram : Ram) (from to : ℕ) (new : List ℕ) (a : from ≤ to) (b : to ≤ length ram.bytes) (e : length new ≡ to - from) (f : header_fault file ≡ None)
-    (r : ram_fault file (record { base = ram.base + from; bytes = new }) ≡ None) where
-  same_word : (pc : ℕ) → code_of file (record { base = ram.base + from; bytes = new }) pc ≡ code_of file (record ram { bytes = joined ram.bytes from to new }) pc
+    (r : ram_fault file (record ram { base = ram.base + from; bytes = new }) ≡ None) where
+  same_word : (pc : ℕ) → code_of file (record ram { base = ram.base + from; bytes = new }) pc ≡ code_of file (record ram { bytes = joined ram.bytes from to new }) pc
   unfolding code_of
   same_word pc =
-      let p : Ram = record { base = ram.base + from; bytes = new } in
+      let p : Ram = record ram { base = ram.base + from; bytes = new } in
       let any = list_any (has_code pc) (loads_of file) in
       by_any (pc % 4 == 0) any (Some (from_le (bytes_at p pc 4))) (Some (from_le (bytes_at (record ram { bytes = joined ram.bytes from to new }) pc 4)))
       (λ t.
       let in_part = inside_by p.base (p.base + length new) pc any t (no_code_outside file p pc f r) (cases_lt pc p.base) (cases_lt (p.base + length new) (pc + 4)) in
       ap (λ (v : List ℕ). Some (from_le v)) (sym (four ram.bytes from to new a b e (pc - p.base) (pc - ram.base) (omega (arith, in_part.0, in_part.1)) (omega (arith, in_part.0)))))
 
-  pub same_code : code_of file (record { base = ram.base + from; bytes = new }) ≡ code_of file (with_bytes ram (ram.base + from) new)
+  pub same_code : code_of file (record ram { base = ram.base + from; bytes = new }) ≡ code_of file (with_bytes ram (ram.base + from) new)
   same_code = (λ i. λ pc. same_word pc i) ∙ sym (ap (code_of file) (placed_part ram from to new a e))
 
 pub loaded_code : (file : List ℕ) (ram : Ram) (from to : ℕ) → from ≤ to → to ≤ length ram.bytes → AllInside file (ram.base + from) (to - from) → header_fault file ≡ None
     → code_of file (ram_after file (part ram from to)) ≡ code_of file (ram_after file ram)
 loaded_code file ram from to a b h f =
     let p = part ram from to in
-    let q : Ram = record { base = ram.base + from; bytes = (ram_after file p).bytes } in
-    let same : ram_after file p ≡ q = same_ram (ram_after file p) q (base_loaded file p) refl in
+    let q : Ram = record ram { base = ram.base + from; bytes = (ram_after file p).bytes } in
+    let same : ram_after file p ≡ q = same_ram (ram_after file p) q (rule_loaded file p) (base_loaded file p) refl in
     let r : ram_fault file q ≡ None = ap (ram_fault file) (sym same) ∙ ram_fault_after file p ∙ part_no_fault file ram from to a b h in
     let size : length q.bytes ≡ to - from = length_loaded file p ∙ length_part ram from to a b in
     ap (code_of file) same

@@ -4,7 +4,7 @@ use Rattle.std.specs.Option.{is_none, option_or, option_and_then}
 use Rattle.elf_loader.specs.Faults.{first_some, fault_if}
 use Rattle.elf_loader.specs.declared.faults.ElfFault.TheVariants as fault
 use Rattle.std.specs.List.{range_with_len, find}
-use Rattle.std.proofs.lemmas.List.{length-replicate, get_or-replicate, ext_get_or}
+use Rattle.std.proofs.lemmas.List.{ext_get_or}
 use Rattle.std.proofs.lemmas.List.Folds.{find-append}
 use Rattle.std.proofs.lemmas.List.FromFn.{length-map-range_with_len, get_or-map-range_with_len}
 use Rattle.std.proofs.lemmas.Grind.{reverse_onto}
@@ -21,6 +21,7 @@ last_at loads a = find (λ s. covers s a) (reverse loads)
 -- memory has their bytes, and those places are left that none of them takes
 pub record Placed (loads : List SegmentText) (old new : Ram) (left : List Bool) : Type 0 where
   pub base : new.base ≡ old.base
+  pub misaligned : new.misaligned ≡ old.misaligned
   pub size : length new.bytes ≡ length old.bytes
   pub room : length left ≡ length old.bytes
   pub cells : (k : ℕ) → k < length old.bytes → get_or new.bytes k 0 ≡ byte_after loads (old.base + k) (get_or old.bytes k 0)
@@ -44,6 +45,7 @@ place_by s (Some t) c = refl
 pub placed_more : (s : SegmentText) (loads : List SegmentText) (old mid new : Ram) (left left' : List Bool) → Placed loads old mid left → FillsBytes s mid new left left' → Placed (s ∷ loads) old new left'
 placed_more s loads old mid new left left' h f = record {
   base = f.base ∙ h.base;
+  misaligned = f.misaligned ∙ h.misaligned;
   size = f.bytes.size ∙ h.size;
   room = f.bytes.room ∙ h.room;
   cells = λ k l.
@@ -91,12 +93,12 @@ inside_still loads old new left o h i =
     subst Q (sym h.size) (subst P (sym h.base) i)
 
 -- once all are placed memory is what it is after loading
-ram_of : ℕ → List ℕ → Ram
-ram_of base bytes = record { base = base; bytes = bytes }
+ram_of : Bool → ℕ → List ℕ → Ram
+ram_of misaligned base bytes = record { base = base; bytes = bytes; misaligned = misaligned }
 
-pub same_ram : (m n : Ram) → m.base ≡ n.base → m.bytes ≡ n.bytes → m ≡ n
+pub same_ram : (m n : Ram) → m.misaligned ≡ n.misaligned → m.base ≡ n.base → m.bytes ≡ n.bytes → m ≡ n
 unfolding ram_of
-same_ram m n e f = ap₂ ram_of e f
+same_ram m n a e f = ap (λ t. ram_of t m.base m.bytes) a ∙ ap₂ (ram_of n.misaligned) e f
 
 pub placed_end : (file : List ℕ) (old new : Ram) (left : List Bool) → Placed (loads_from file 0) old new left → new ≡ ram_after file old
 unfolding ram_after
@@ -106,7 +108,7 @@ placed_end file old new left h0 =
     let at = λ (k : ℕ). byte_after (loads_of file) (old.base + k) (get_or old.bytes k 0) in
     let n = length old.bytes in
     let size : length (map at (range_with_len 0 n)) ≡ n = length-map-range_with_len at 0 n in
-    same_ram new (ram_after file old) h.base
+    same_ram new (ram_after file old) h.misaligned h.base
     (ext_get_or 0 new.bytes (map at (range_with_len 0 n)) (h.size ∙ sym size)
     (λ k l. let l2 : k < n = omega (arith, h.size) in h.cells k l2 ∙ sym (get_or-map-range_with_len at 0 n k k 0 l2 (omega arith))))
 

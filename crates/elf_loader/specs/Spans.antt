@@ -6,7 +6,7 @@ use Rattle.elf_loader.specs.Filling.{Inside}
 
 -- the part of memory from this place on and before that one
 abbrev pub part : Ram → ℕ → ℕ → Ram
-part ram from to = record { base = ram.base + from; bytes = slice_range ram.bytes from to }
+part ram from to = record ram { base = ram.base + from; bytes = slice_range ram.bytes from to }
 
 -- two places in memory of this size, at which rows of 16 bytes begin
 pub record InRows (size from to : ℕ) : Type 0 where

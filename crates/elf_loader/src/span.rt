@@ -112,7 +112,8 @@ pub fn part_of(alloc: Global, ram: &Ram, span: Span) -> Result<Ram, NoMemory>
 {
     let _size = ram.size();
     let base = ram.base() + span.from as u32;
-    let mut part = Ram::new(alloc, base, (span.to - span.from) as u32)?;
+    let size = (span.to - span.from) as u32;
+    let mut part = Ram::new(alloc, base, size, ram.misaligned())?;
     part.place(base, &ram.bytes()[span.from..span.to]);
     Ok(part)
 }

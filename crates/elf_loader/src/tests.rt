@@ -30,7 +30,7 @@ fn front(bytes: &[u8], size: usize) -> &[u8] {
 fn loaded(alloc: Global, file: &[u8]) -> Result<Result<Image, ElfFault>, Fail> {
     match segments(file) {
         Ok(segments) => {
-            let ram = Ram::new(alloc, BASE, SIZE)?;
+            let ram = Ram::new(alloc, BASE, SIZE, false)?;
             Ok(load(alloc, &segments, ram))
         }
         Err(fault) => Ok(Err(fault)),
@@ -66,7 +66,7 @@ fn loads_the_first_program(rt: HostRuntime) -> Result<(), Fail> {
     assert_eq!(rt; (part.vaddr, part.memsz, part.flags), (BASE, 8, 5));
     let bytes = &FIRST[84..];
     assert_eq!(rt; part.bytes, bytes);
-    let image = load(alloc, &file, Ram::new(alloc, BASE, SIZE)?)?;
+    let image = load(alloc, &file, Ram::new(alloc, BASE, SIZE, false)?)?;
     assert_eq!(rt; image.entry, BASE);
     assert_eq!(rt; front(image.ram.bytes(), 8), bytes);
     let words: [(u32, Option<u32>); 6] = [

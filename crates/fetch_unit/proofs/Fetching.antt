@@ -1,5 +1,5 @@
 -- Fetching item by item: what is left makes the whole, whatever else the machine holds.
-use Rattle.std.proofs.Common.{◌≡◌, ℕ, zero, suc, ◌+◌, ◌-◌, ◌<◌, ◌≤◌, Bool, true, false, List, [], ◌∷◌, ◌++◌, length, Option, Some, None, refl, ap, sym, ◌∙◌, arith}
+use Rattle.std.proofs.Common.{◌≡◌, ℕ, zero, suc, ◌+◌, ◌-◌, ◌<◌, ◌≤◌, Bool, true, false, List, [], ◌∷◌, ◌++◌, length, Option, Some, None, refl, ap, ap₂, sym, ◌∙◌, arith}
 use Rattle.std.specs.Prelude.{if◌then◌else◌, nat_lt}
 use Rattle.std.proofs.lemmas.List.{append-nil, append_assoc, length-append}
 use Rattle.rv_types.specs.Memory.{Code}
@@ -9,10 +9,11 @@ use Rattle.window_model.specs.declared.Event.TheVariants as event
 use Rattle.window_model.specs.declared.Item.{Item}
 use Rattle.window_model.specs.State.{Machine, After, then_does, nothing}
 use Rattle.window_model.specs.Row.{Row}
-use Rattle.window_model.specs.Resolve.{with_predictor}
-use Rattle.window_model.specs.Fetch.{fetch, fetch_up_to, fetch_from, fetch_one, item_at}
+use Rattle.window_model.specs.Fetch.{fetch, fetch_up_to, fetch_from, fetch_one, guess, item_at}
+use Rattle.window_model.specs.History.{mark_after}
 use Rattle.predictor.specs.Tables.{Tables}
-use Rattle.fetch_unit.specs.Unit.{FetchUnit, with_unit, fetches, next_fetch}
+use Rattle.history_pred.specs.Past.{Past}
+use Rattle.fetch_unit.specs.Unit.{FetchUnit, with_unit, fetches, next_fetch, predicting}
 
 -- the events so far, before those of what follows
 abbrev pub behind : List Event → After → After
@@ -23,17 +24,18 @@ abbrev pub with_item : FetchUnit → Item → FetchUnit
 with_item f item = record f { queue = f.queue ++ item ∷ []; fetch_pc = item.predicted }
 
 -- at most n items more make the whole phase
-pub record FetchesOn (code : Code) (t : Tables) (first : FetchUnit) (row : Row) (n : ℕ) (f : FetchUnit) (now : Row) : Type 0 where
-  pub whole : (x : Machine) → behind now.events (fetch_up_to first.desc code n (with_unit f t x)) ≡ behind row.events (fetches code first t x)
+pub record FetchesOn (code : Code) (t : Tables) (first : FetchUnit) (past : Past) (row : Row) (n : ℕ) (f : FetchUnit) (p : Past) (now : Row) : Type 0 where
+  pub whole : (x : Machine) → behind now.events (fetch_up_to first.desc code n (with_unit f t p x)) ≡ behind row.events (fetches code first t past x)
   pub desc : f.desc ≡ first.desc
+  pub past_desc : p.desc ≡ past.desc
   pub cycle : now.cycle ≡ row.cycle
   pub few : length now.events + n ≤ length row.events + first.desc.core_fetch_width
 
-pub fetches_start : (code : Code) (t : Tables) (f : FetchUnit) (row : Row) → FetchesOn code t f row (f.desc.core_fetch_width - 0) f row
+pub fetches_start : (code : Code) (t : Tables) (f : FetchUnit) (p : Past) (row : Row) → FetchesOn code t f p row (f.desc.core_fetch_width - 0) f p row
 unfolding fetch
-fetches_start code t f row =
+fetches_start code t f p row =
     let e : f.desc.core_fetch_width - 0 ≡ f.desc.core_fetch_width = omega arith in
-    record { whole = λ x. ap (λ n. behind row.events (fetch_up_to f.desc code n (with_unit f t x))) e; desc = refl; cycle = refl; few = omega arith }
+    record { whole = λ x. ap (λ n. behind row.events (fetch_up_to f.desc code n (with_unit f t p x))) e; desc = refl; past_desc = refl; cycle = refl; few = omega arith }
 
 -- ---- one item
 
@@ -53,27 +55,36 @@ one_behind d code n x pc es r p =
     let a = fetch_up_to d code n (fetch_one d (item_at d code x pc) x).machine in
     ap (λ es. record { machine = a.machine; events = es }) (append_assoc es (event.Fet pc ∷ []) a.events) ∙ sym (ap (behind es) (one_more d code n x pc r p))
 
-pub fetches_more : (code : Code) (t : Tables) (first : FetchUnit) (row : Row) (i : ℕ) (f : FetchUnit) (now : Row) (pc : ℕ) (item : Item) (f2 : FetchUnit) (now2 : Row) →
-    FetchesOn code t first row (first.desc.core_fetch_width - i) f now → i < first.desc.core_fetch_width → next_fetch f ≡ Some pc → t.desc ≡ first.desc →
-    ((x : Machine) → item ≡ item_at t.desc code (with_predictor x t.counters t.targets) pc) → f2 ≡ with_item f item → now2 ≡ record now { events = now.events ++ event.Fet pc ∷ [] } →
-    FetchesOn code t first row (first.desc.core_fetch_width - (i + 1)) f2 now2
-fetches_more code t first row i f now pc item f2 now2 s lt q same h e r =
+-- history and stack after an item that goes this way
+abbrev pub followed : Past → Item → Bool → Past
+followed p item way = record p { mark = mark_after item.kind p.desc item.pc item.instr way p.mark }
+
+pub fetches_more : (code : Code) (t : Tables) (first : FetchUnit) (past : Past) (row : Row) (i : ℕ) (f : FetchUnit) (p : Past) (now : Row) (pc : ℕ) (item : Item) (way : Bool) (f2 : FetchUnit) (p2 : Past) (now2 : Row) →
+    FetchesOn code t first past row (first.desc.core_fetch_width - i) f p now → i < first.desc.core_fetch_width → next_fetch f ≡ Some pc → past.desc ≡ first.desc →
+    ((x : Machine) → item ≡ item_at p.desc code (predicting t p x) pc) → way ≡ guess item.kind p.desc t.counters p.mark pc →
+    f2 ≡ with_item f item → p2 ≡ followed p item way → now2 ≡ record now { events = now.events ++ event.Fet pc ∷ [] } →
+    FetchesOn code t first past row (first.desc.core_fetch_width - (i + 1)) f2 p2 now2
+fetches_more code t first past row i f p now pc item way f2 p2 now2 s lt q same h guessed e follows r =
     let d = first.desc in
     let k = d.core_fetch_width - (i + 1) in
     let n : d.core_fetch_width - i ≡ suc k = omega (arith, lt) in
     let a = by_room (nat_lt (length f.queue) f.desc.core_queue) f.fetch_pc pc q in
     let room : nat_lt (length f.queue) d.core_queue ≡ true = ap (λ (d : Desc). nat_lt (length f.queue) d.core_queue) (sym s.desc) ∙ a.0 in
     let es : now2.events ≡ now.events ++ event.Fet pc ∷ [] = ap (λ (r : Row). r.events) r in
+    let one : p.desc ≡ d = s.past_desc ∙ same in
+    let after : Item → Desc → Past = λ i d. record p { mark = mark_after i.kind d i.pc i.instr (guess i.kind d t.counters p.mark pc) p.mark } in
     record {
       whole = λ x.
-          let y = with_unit f t x in
-          let own : item ≡ item_at d code y pc = h x ∙ ap (λ (d : Desc). item_at d code y pc) same in
-          ap (λ es. behind es (fetch_up_to d code k (with_unit f2 t x))) es
-          ∙ ap (λ f. behind (now.events ++ event.Fet pc ∷ []) (fetch_up_to d code k (with_unit f t x))) (e ∙ ap (with_item f) own)
+          let y = with_unit f t p x in
+          let own : item ≡ item_at d code y pc = h x ∙ ap (λ (d : Desc). item_at d code y pc) one in
+          let gone : p2 ≡ after (item_at d code y pc) d = follows ∙ ap (followed p item) guessed ∙ ap₂ after own one in
+          ap (λ es. behind es (fetch_up_to d code k (with_unit f2 t p2 x))) es
+          ∙ ap₂ (λ f p. behind (now.events ++ event.Fet pc ∷ []) (fetch_up_to d code k (with_unit f t p x))) (e ∙ ap (with_item f) own) gone
           ∙ one_behind d code k y pc now.events room a.1
           ∙ ap (λ n. behind now.events (fetch_up_to d code n y)) (sym n)
           ∙ s.whole x;
       desc = ap (λ (f : FetchUnit). f.desc) e ∙ s.desc;
+      past_desc = ap (λ (p : Past). p.desc) follows ∙ s.past_desc;
       cycle = ap (λ (r : Row). r.cycle) r ∙ s.cycle;
       few = (let l = ap length es in let l2 = length-append now.events (event.Fet pc ∷ []) in omega (arith, l, l2, s.few, n));
     }
@@ -90,25 +101,27 @@ no_more d code (suc n) x (Some pc) false p r h =
     ∙ ap (λ b. if b then then_does (fetch_one d (item_at d code x pc) x) (fetch_up_to d code n) else nothing x) r
 
 -- nothing is left to fetch
-pub record Over (code : Code) (t : Tables) (first : FetchUnit) (begun : Row) (f : FetchUnit) (now : Row) : Type 0 where
-  pub machine : (x : Machine) → with_unit f t x ≡ (fetches code first t x).machine
-  pub row : (x : Machine) → now ≡ record begun { events = begun.events ++ (fetches code first t x).events }
+pub record Over (code : Code) (t : Tables) (first : FetchUnit) (past : Past) (begun : Row) (f : FetchUnit) (p : Past) (now : Row) : Type 0 where
+  pub machine : (x : Machine) → with_unit f t p x ≡ (fetches code first t past x).machine
+  pub row : (x : Machine) → now ≡ record begun { events = begun.events ++ (fetches code first t past x).events }
   pub desc : f.desc ≡ first.desc
+  pub past_desc : p.desc ≡ past.desc
   pub few : length now.events ≤ length begun.events + first.desc.core_fetch_width
 
-over : (code : Code) (t : Tables) (first : FetchUnit) (row : Row) (n : ℕ) (f : FetchUnit) (now : Row) →
-    ((x : Machine) → fetch_up_to first.desc code n (with_unit f t x) ≡ nothing (with_unit f t x)) → FetchesOn code t first row n f now → Over code t first row f now
-over code t first row n f now h s =
-    let both : (x : Machine) → record { machine = with_unit f t x; events = now.events } ≡ behind row.events (fetches code first t x) =
-    λ x. ap (λ es. record { machine = with_unit f t x; events = es }) (sym (append-nil now.events)) ∙ sym (ap (behind now.events) (h x)) ∙ s.whole x in
+over : (code : Code) (t : Tables) (first : FetchUnit) (past : Past) (row : Row) (n : ℕ) (f : FetchUnit) (p : Past) (now : Row) →
+    ((x : Machine) → fetch_up_to first.desc code n (with_unit f t p x) ≡ nothing (with_unit f t p x)) → FetchesOn code t first past row n f p now → Over code t first past row f p now
+over code t first past row n f p now h s =
+    let both : (x : Machine) → record { machine = with_unit f t p x; events = now.events } ≡ behind row.events (fetches code first t past x) =
+    λ x. ap (λ es. record { machine = with_unit f t p x; events = es }) (sym (append-nil now.events)) ∙ sym (ap (behind now.events) (h x)) ∙ s.whole x in
     record {
       machine = λ x. ap (λ (a : After). a.machine) (both x);
       row = λ x. ap (λ c. record { cycle = c; events = now.events }) s.cycle ∙ ap (λ (a : After). record { cycle = row.cycle; events = a.events }) (both x);
       desc = s.desc;
+      past_desc = s.past_desc;
       few = omega (arith, s.few);
     }
 
-pub over_early : (code : Code) (t : Tables) (first : FetchUnit) (row : Row) (n : ℕ) (f : FetchUnit) (now : Row) → FetchesOn code t first row n f now → next_fetch f ≡ None → Over code t first row f now
-over_early code t first row n f now s q =
+pub over_early : (code : Code) (t : Tables) (first : FetchUnit) (past : Past) (row : Row) (n : ℕ) (f : FetchUnit) (p : Past) (now : Row) → FetchesOn code t first past row n f p now → next_fetch f ≡ None → Over code t first past row f p now
+over_early code t first past row n f p now s q =
     let room = ap (λ (d : Desc). nat_lt (length f.queue) d.core_queue) (sym s.desc) in
-    over code t first row n f now (λ x. no_more first.desc code n (with_unit f t x) f.fetch_pc (nat_lt (length f.queue) f.desc.core_queue) refl room q) s
+    over code t first past row n f p now (λ x. no_more first.desc code n (with_unit f t p x) f.fetch_pc (nat_lt (length f.queue) f.desc.core_queue) refl room q) s

@@ -8,14 +8,14 @@ use Rattle.rv_types.specs.declared.Instr.{Instr}
 use Rattle.machine_desc.specs.declared.Desc.{Desc}
 use Rattle.window_model.specs.declared.Item.{Item}
 use Rattle.window_model.specs.State.{Machine}
-use Rattle.window_model.specs.Fetch.{item_at, predicted, instr_at, kind_at}
+use Rattle.window_model.specs.Fetch.{guess, item_at, predicted, instr_at, kind_at}
 
 -- the item of an instruction
 abbrev item_of : Desc → Machine → ℕ → Instr → Item
-item_of d x pc i = record { pc = pc; instr = i; kind = kind_of i; predicted = predicted (kind_of i) d x.counters x.targets pc i }
+item_of d x pc i = record { pc = pc; instr = i; kind = kind_of i; predicted = predicted (kind_of i) d x.targets x.mark (guess (kind_of i) d x.counters x.mark pc) pc i; mark = x.mark }
 
 abbrev item_by : Desc → Machine → ℕ → Option ℕ → Item
-item_by d x pc w = record { pc = pc; instr = instr_at w; kind = kind_at w; predicted = predicted (kind_at w) d x.counters x.targets pc (instr_at w) }
+item_by d x pc w = record { pc = pc; instr = instr_at w; kind = kind_at w; predicted = predicted (kind_at w) d x.targets x.mark (guess (kind_at w) d x.counters x.mark pc) pc (instr_at w); mark = x.mark }
 
 some_is : (w : ℕ) (i : Instr) → Some i ≡ option_map decode (Some w) → i ≡ decode w
 some_is w i e = cc

@@ -1,12 +1,14 @@
 //! The item of an address, and where fetching goes on after it (`docs/machine.md`, "Entries", "Fetch").
 ghost use Rattle.std.specs.Prelude.{◌≡◌, None, slice_index_or};
+ghost use Rattle.fetch_unit.specs.Unit.{predicting};
 ghost use Rattle.elf_loader.specs.Code.{word_at};
 ghost use Rattle.predictor.specs.Tables.{target_place};
 ghost use Rattle.window_model.specs.State.{Machine};
-ghost use Rattle.window_model.specs.Resolve.{with_predictor};
-ghost use Rattle.window_model.specs.Fetch.{item_at, predicted, stored_target, target_of};
+ghost use Rattle.window_model.specs.Fetch.{guess, item_at, predicted, stored_target, target_of, unless_returns};
+ghost use Rattle.window_model.specs.History.{returns_to};
 
 use elf_loader::Code;
+use history_pred::History;
 use predictor::Predictor;
 use rv_effect::relative;
 use rv_types::{Cause, Instr, Kind, kind_of};
@@ -31,40 +33,73 @@ fn stored_target(predictor: &Predictor, pc: u32) -> u32
     predictor.target(pc).unwrap_or(pc.wrapping_add(4))
 }
 
-// The address that is predicted to follow, None after a stop.
-fn predicted(predictor: &Predictor, pc: u32, instr: &Instr, kind: Kind) -> Option<u32>
-    ensures { result ≡ predicted kind predictor.now.desc predictor.now.counters predictor.now.targets pc instr.now }
+// Where a JALR is predicted to go: a return to the youngest address on the stack, if there is one. Any other to the target stored
+// for it, else to the address behind.
+fn jump_target(predictor: &Predictor, history: &History, pc: u32, instr: &Instr) -> u32
+    ensures { result ≡ unless_returns (returns_to instr.now history.now.mark)
+        (stored_target pc (slice_index_or predictor.now.targets (target_place predictor.now pc) None)) }
+{
+    match history.returns_to(instr) {
+        Some(back) => back,
+        None => stored_target(predictor, pc),
+    }
+}
+
+// The direction that is predicted: taken only of a branch.
+pub(crate) fn guess(predictor: &Predictor, history: &History, pc: u32, kind: Kind) -> bool
+    requires one_description { predictor.now.desc ≡ history.now.desc }
+    ensures { result ≡ guess kind history.now.desc predictor.now.counters history.now.mark pc }
+{
+    match kind {
+        Kind::Branch => predictor.direction(history.index(history.mark(), pc)),
+        _ => false,
+    }
+}
+
+// The address that is predicted to follow, None after a stop. A branch goes this way.
+fn predicted(
+    predictor: &Predictor,
+    history: &History,
+    taken: bool,
+    pc: u32,
+    instr: &Instr,
+    kind: Kind,
+) -> Option<u32>
+    ensures { result ≡ predicted kind predictor.now.desc predictor.now.targets history.now.mark taken pc instr.now }
 {
     match kind {
         Kind::Stop(_) => None,
         Kind::Jal => Some(target_of(pc, instr)),
         Kind::Branch => {
-            if predictor.direction(pc) {
+            if taken {
                 Some(target_of(pc, instr))
             } else {
                 Some(pc.wrapping_add(4))
             }
         }
-        Kind::Jalr => Some(stored_target(predictor, pc)),
+        Kind::Jalr => Some(jump_target(predictor, history, pc, instr)),
         _ => Some(pc.wrapping_add(4)),
     }
 }
 
 /// The item of an address. Outside code it is a stop.
 #[tactic(auto, using(crate::proofs::Items::item_there, crate::proofs::Items::nothing_there))]
-pub(crate) fn item_at(predictor: &Predictor, code: &Code, pc: u32) -> Item
-    ensures { (x : Machine) → result ≡ item_at predictor.now.desc (word_at code.now)
-        (with_predictor x predictor.now.counters predictor.now.targets) pc }
+pub(crate) fn item_at(predictor: &Predictor, history: &History, code: &Code, pc: u32) -> Item
+    requires one_description { predictor.now.desc ≡ history.now.desc }
+    ensures { (x : Machine) → result ≡ item_at history.now.desc (word_at code.now)
+        (predicting predictor.now history.now x) pc }
 {
     match code.instr(pc) {
         Some(instr) => {
             let kind = kind_of(&instr);
-            let predicted = predicted(predictor, pc, &instr, kind);
+            let taken = guess(predictor, history, pc, kind);
+            let predicted = predicted(predictor, history, taken, pc, &instr, kind);
             Item {
                 pc,
                 instr,
                 kind,
                 predicted,
+                mark: *history.mark(),
             }
         }
         None => Item {
@@ -72,6 +107,7 @@ pub(crate) fn item_at(predictor: &Predictor, code: &Code, pc: u32) -> Item
             instr: Instr::Illegal(0),
             kind: Kind::Stop(Cause::outside_code()),
             predicted: None,
+            mark: *history.mark(),
         },
     }
 }

@@ -2,6 +2,7 @@
 use crate::Fetch;
 use byte_ram::Ram;
 use elf_loader::{Code, load, segments};
+use history_pred::History;
 use machine_desc::{Desc, EXAMPLE, read_desc};
 use predictor::Predictor;
 use rv_types::{Cause, Kind};
@@ -29,7 +30,7 @@ const OUTSIDE: u32 = 0x10010;
 
 // The code of the image, None where the image is refused.
 fn code(alloc: Global, desc: &Desc) -> Result<Option<Code>, Fail> {
-    let ram = Ram::new(alloc, desc.ram_base, desc.ram_size)?;
+    let ram = Ram::new(alloc, desc.ram_base, desc.ram_size, false)?;
     match segments(FILE.as_slice()) {
         Ok(segments) => match load(alloc, &segments, ram) {
             Ok(image) => Ok(Some(image.code)),
@@ -56,12 +57,13 @@ fn fetching_goes_on_at_the_predicted_next(rt: HostRuntime) -> Result<(), Fail> {
     };
     let mut predictor = Predictor::new(alloc, &desc)?;
     let mut fetch = Fetch::new(alloc, &desc, BRANCH)?;
+    let mut history = History::new(&desc);
     let mut row = empty_row();
     assert_eq!(rt; fetch.front(), None);
     // The branch is predicted not to be taken, and no target is stored.
-    fetch.fetch(&code, &predictor, &mut row);
-    fetch.fetch(&code, &predictor, &mut row);
-    fetch.fetch(&code, &predictor, &mut row);
+    fetch.fetch(&code, &predictor, &mut history, &mut row);
+    fetch.fetch(&code, &predictor, &mut history, &mut row);
+    fetch.fetch(&code, &predictor, &mut history, &mut row);
     let events = [
         Event::Fet(BRANCH),
         Event::Fet(JUMP),
@@ -83,12 +85,12 @@ fn fetching_goes_on_at_the_predicted_next(rt: HostRuntime) -> Result<(), Fail> {
     );
     assert_eq!(rt; fetch.take(), None);
     // The branch is predicted to be taken, and a target is stored.
-    let _ = predictor.learn_branch(BRANCH, true);
+    let _ = predictor.learn_branch(history.index(history.mark(), BRANCH), true);
     let _ = predictor.learn_target(RETURN, BRANCH);
     assert_eq!(rt; fetch.redirect(Some(RETURN)), 0);
     row.begin(2);
-    fetch.fetch(&code, &predictor, &mut row);
-    fetch.fetch(&code, &predictor, &mut row);
+    fetch.fetch(&code, &predictor, &mut history, &mut row);
+    fetch.fetch(&code, &predictor, &mut history, &mut row);
     let events = [Event::Fet(RETURN), Event::Fet(BRANCH), Event::Fet(STOP)];
     assert_eq!(rt; row.events(), events.as_slice());
     assert_eq!(rt; fetch.redirect(None), 3);

@@ -5,9 +5,10 @@ ghost use Rattle.window_model.specs.Row.{HasRoom, IsLonger, most_fetched, with_e
 ghost use Rattle.window_model.specs.State.{Machine};
 ghost use Rattle.fetch_unit.specs.Unit.{with_unit, fetches, next_fetch};
 
-use crate::item::item_at;
+use crate::item::{guess, item_at};
 use circular_buffer::HeapCircularBuffer;
 use elf_loader::Code;
+use history_pred::History;
 use machine_desc::Desc;
 use predictor::Predictor;
 use rv_types::NoMemory;
@@ -52,22 +53,33 @@ impl Fetch {
     }
 
     /// Phase Fetch: up to the description's width of fetching, items come into the queue, each with its event. What it
-    /// leaves is what the definition leaves of every machine with this queue, this fetch pc and this predictor.
-    pub fn fetch(&mut self, code: &Code, predictor: &Predictor, row: &mut Row)
+    /// leaves is what the definition leaves of every machine with this queue, this fetch pc, this predictor, and this history and
+    /// stack.
+    pub fn fetch(
+        &mut self,
+        code: &Code,
+        predictor: &Predictor,
+        history: &mut History,
+        row: &mut Row,
+    )
         requires room { HasRoom most_fetched row.old }
         requires one_description { predictor.now.desc ≡ self.old.desc }
-        ensures machine { (x : Machine) → with_unit self.new predictor.now x
-            ≡ (fetches (word_at code.now) self.old predictor.now x).machine }
+        requires of_history { history.old.desc ≡ self.old.desc }
+        ensures machine { (x : Machine) → with_unit self.new predictor.now history.new x
+            ≡ (fetches (word_at code.now) self.old predictor.now history.old x).machine }
         ensures row { (x : Machine) → row.new
-            ≡ with_events row.old (fetches (word_at code.now) self.old predictor.now x).events }
+            ≡ with_events row.old (fetches (word_at code.now) self.old predictor.now history.old x).events }
         ensures desc { self.new.desc ≡ self.old.desc }
+        ensures history_desc { history.new.desc ≡ history.old.desc }
         ensures few { IsLonger most_fetched row.old row.new }
     {
         for _ in 0..self.desc.core_fetch_width {
             let Some(pc) = self.next() else {
                 return;
             };
-            self.add(item_at(predictor, code, pc));
+            let item = item_at(predictor, history, code, pc);
+            history.follow(&item, guess(predictor, history, pc, item.kind));
+            self.add(item);
             row.push(Event::Fet(pc));
         }
     }

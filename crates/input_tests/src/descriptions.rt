@@ -4,8 +4,8 @@ use std::alloc::Global;
 use std::process::Abort;
 use std::test::Fail;
 
-// The example with two of its lines replaced.
-fn text(alloc: Global, first: (&str, &str), second: (&str, &str)) -> Result<String, Fail> {
+/// The example with two of its lines replaced.
+pub fn text(alloc: Global, first: (&str, &str), second: (&str, &str)) -> Result<String, Fail> {
     let mut text = String::new(alloc);
     for line in EXAMPLE.lines() {
         if line == first.0 {
@@ -57,7 +57,8 @@ fn told(alloc: Global, read: Result<Desc, DescFault>) -> Result<Vec<u8>, Fail> {
     Ok(line)
 }
 
-fn expect(rt: &impl Abort, alloc: Global, bytes: &[u8], wanted: &str) -> Result<(), Fail> {
+/// Reading these bytes, this is told.
+pub fn expect(rt: &impl Abort, alloc: Global, bytes: &[u8], wanted: &str) -> Result<(), Fail> {
     let line = told(alloc, read_desc(alloc, bytes))?;
     assert_eq!(rt; line.as_slice(), wanted.as_bytes());
     Ok(())
@@ -113,7 +114,7 @@ fn the_example_is_accepted(rt: HostRuntime) -> Result<(), Fail> {
 }
 
 /// A description of version 2: what is wider there at its most, and no number twice where its range lets it be another.
-const LARGE: &str = "\
+pub const LARGE: &str = "\
 version = 2\n\
 [core]\n\
 fetch_width = 4\n\

@@ -7,4 +7,6 @@
 #[cfg(test)]
 mod descriptions;
 #[cfg(test)]
+mod optional_keys;
+#[cfg(test)]
 mod words;

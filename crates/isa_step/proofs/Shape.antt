@@ -14,16 +14,17 @@ use Rattle.rv_types.specs.declared.Cause.{Cause}
 use Rattle.rv_types.specs.declared.Instr.{Instr}
 use Rattle.rv_types.specs.declared.Instr.TheVariants.{Load, Store, Ecall, Ebreak, Illegal}
 
--- two memories lie in one place
+-- two memories lie in one place and take the same addresses
 pub record SameShape (m m2 : Ram) : Type 0 where
   pub base : m2.base ≡ m.base
   pub size : length m2.bytes ≡ length m.bytes
+  pub misaligned : m2.misaligned ≡ m.misaligned
 
 pub same : (m : Ram) → SameShape m m
-same m = record { base = refl; size = refl }
+same m = record { base = refl; size = refl; misaligned = refl }
 
 pub same_then : (a b c : Ram) → SameShape a b → SameShape b c → SameShape a c
-same_then a b c p q = record { base = q.base ∙ p.base; size = q.size ∙ p.size }
+same_then a b c p q = record { base = q.base ∙ p.base; size = q.size ∙ p.size; misaligned = q.misaligned ∙ p.misaligned }
 
 -- a step leaves memory where it is
 abbrev Keeps : Ram → Step → Type 0
@@ -74,10 +75,10 @@ written s a n v next = record s { pc = next; ram = with_bytes s.ram a (to_le n v
 write_keeps : (s : Hart) (a n v next : ℕ) → in_ram s.ram a n ≡ true → SameShape s.ram (written s a n v next).ram
 write_keeps s a n v next h =
     let h' : in_ram s.ram a (length (to_le n v)) ≡ true = rw (length_to_le n v) h in
-    record { base = refl; size = length_written s.ram a (to_le n v) h' }
+    record { base = refl; size = length_written s.ram a (to_le n v) h'; misaligned = refl }
 
 store_by : (s : Hart) (a n v next : ℕ) (fault : Option Cause) → store_fault s.ram a n ≡ fault → Keeps s.ram (or_trap fault (Goes (written s a n v next) []))
-store_by s a n v next None e = write_keeps s a n v next (inside (not (a % n == 0)) (in_ram s.ram a n) _ _ e)
+store_by s a n v next None e = write_keeps s a n v next (inside (not (s.ram.misaligned || a % n == 0)) (in_ram s.ram a n) _ _ e)
 store_by s a n v next (Some cause) e = tt
 
 write_of_keeps : (s : Hart) (a m : ℕ) → Keeps s.ram (write_of s a m)

@@ -80,10 +80,10 @@ module _ (d : Desc) (x : Machine) (h : Along (AsksNone d (around x)) [] x.window
   -- and leaves the machine as it is
   pub idle_machine : x ≡ (issue d x).machine
   idle_machine =
-      leaves d x x.window None x.cache x.misses x.divider
+      leaves d x x.window None x.cache x.second x.misses x.divider
       (sym (ap (map (λ b. b.entry)) (each_waits d (around x) [] x.window h) ∙ same_entries x.window))
       (sym (ap (option_map _) (none_first d (around x) LoadPort [] x.window h)))
-      refl refl
+      refl refl refl
       (sym (ap (λ o. divider_left (option_map (λ (p : Place). taken_for (around x) p.before p.entry) o) x.divider) (none_first d (around x) DivPort [] x.window h)))
 
 -- ---- of parts with no station that is able

@@ -1,5 +1,5 @@
 -- The phase leaves parts that hold what the machine then holds, and stand for it.
-use Rattle.std.proofs.Common.{◌≡◌, ℕ, ◌<◌, ◌≤◌, length, [], ap, sym, ◌∙◌, subst, arith}
+use Rattle.std.proofs.Common.{◌≡◌, ℕ, ◌+◌, ◌≤◌, length, [], ap, sym, ◌∙◌, subst, arith}
 use Rattle.std.specs.List.{AllByRecursion as Each, flat_map}
 use Rattle.std.specs.Option.{option_map}
 use Rattle.machine_desc.proofs.EveryDesc.{every_desc}
@@ -8,7 +8,7 @@ use Rattle.window_model.specs.Around.{Around, around}
 use Rattle.window_model.specs.Issue.{issue, issue_entry}
 use Rattle.window_model.specs.Order.{each}
 use Rattle.window_model.specs.State.{Machine}
-use Rattle.window_model.specs.Row.{Row, with_events}
+use Rattle.window_model.specs.Row.{Row, most_issued, with_events}
 use Rattle.machine_facts.specs.Sized.{Sized}
 use Rattle.machine_facts.specs.Timely.{WaitsOrDone}
 use Rattle.machine_facts.proofs.SizedPhases.{sized_issue}
@@ -29,9 +29,9 @@ use Rattle.issue.specs.declared.decide.Decided.{Decided}
 use Rattle.issue.specs.Accesses.{as_access}
 use Rattle.issue.specs.Decisions.{Decides, most_begun}
 use Rattle.issue.specs.Parts.{holding}
-use Rattle.issue.specs.Ports.{left_in_all}
+use Rattle.issue.specs.Ports.{events_left, left_in_all}
 use Rattle.issue.specs.Puts.{placed}
-use Rattle.issue.specs.Shared.{IsMiss, cache_left, misses_left}
+use Rattle.issue.specs.Shared.{cache_left, misses_left, requested, second_left}
 use Rattle.issue.proofs.Advanced.{issue_advanced}
 use Rattle.issue.proofs.Leaving.{has_room, leaves}
 
@@ -53,6 +53,13 @@ few_left h cycle ports w b =
     let few = (every_desc h.desc).alus.1 in
     omega (arith, n, alus, few)
 
+-- and as many events
+pub events_few : (h : Held) (cycle : ℕ) (ports : Ports) → Whole h → ports ≡ begun_at cycle h.ports → events_left ports ≤ most_issued
+events_few h cycle ports w b =
+    let left = few_left h cycle ports w b in
+    let one = ap (λ (p : Ports). p.load) b in
+    omega (arith, left, one)
+
 -- and all of them are
 pub all_left : (h : Held) (cycle : ℕ) (now : Around) (ports : Ports) → Whole h → ports ≡ begun_at cycle h.ports → LeftAfter h.desc now [] ports
 all_left h cycle now ports w b = subst (LeftAfter h.desc now []) (sym b) (left_first h.desc now cycle h.ports (ap (λ (s : Sizes). s.alus) w.made))
@@ -63,7 +70,7 @@ standing h w = (in_flight h, w.stands)
 
 -- what an entry looks at, with this divider
 abbrev pub now_with : Held → Divider → Around
-now_with h v = record { cycle = h.cycle; regs = h.regs; ram = h.ram; cache = h.tags.sets; misses = h.mshrs.misses; free_from = v.free_from }
+now_with h v = record { cycle = h.cycle; regs = h.regs; ram = h.ram; cache = h.tags.sets; second = h.second.sets; misses = h.mshrs.misses; free_from = v.free_from }
 
 -- what is decided for what is seen is decided for the machine
 pub decides : (h : Held) (v : Divider) (cycle : ℕ) (begun : Ports) (new : Divider) (decided : Decided) → Whole h → v ≡ h.ports.divider →
@@ -73,9 +80,16 @@ decides h v cycle begun new decided w q b k =
     subst (λ (v : Divider). Decides h.desc (now_with h v) h.rob.entries decided h.ports.divider new) q
     (subst (λ (p : Ports). Decides h.desc (now_with h v) h.rob.entries decided p.divider new) b k)
 
--- a load takes a register where one is left
-pub register_left : (h : Held) (decided : Decided) (new : Divider) → Whole h → Decides h.desc (around (machine_of h)) h.rob.entries decided h.ports.divider new → IsMiss decided.load → length h.mshrs.misses < h.mshrs.room
-register_left h decided new w k m = subst (λ n. length h.mshrs.misses < n) (sym (ap (λ (s : Sizes). s.registers) w.made)) (has_room h.desc (machine_of h) decided.load k.load m)
+-- no more registers are taken than there are
+pub registers_fit : (h : Held) → Whole h → length h.mshrs.misses ≤ h.mshrs.room
+registers_fit h w = subst (λ n. length h.mshrs.misses ≤ n) (sym (ap (λ (s : Sizes). s.registers) w.made)) w.sized.misses
+
+-- lines take registers where as many are left
+pub registers_left : (h : Held) (decided : Decided) (new : Divider) → Whole h → Decides h.desc (around (machine_of h)) h.rob.entries decided h.ports.divider new →
+    length h.mshrs.misses + length (requested (option_map as_access decided.load)) ≤ h.mshrs.room
+registers_left h decided new w k =
+    subst (λ n. length h.mshrs.misses + length (requested (option_map as_access decided.load)) ≤ n) (sym (ap (λ (s : Sizes). s.registers) w.made))
+    (has_room h.desc (machine_of h) w.sized.misses (option_map as_access decided.load) k.load)
 
 -- and so are its events
 pub issued_row : (h : Held) (divider : Divider) (v : Described) (old new : Row) → Whole h → divider ≡ h.ports.divider →
@@ -87,26 +101,29 @@ issued_row h divider v old new w q e s =
 -- ---- what the phase leaves
 
 -- the parts that are written, by what is decided
-module _ (h : Held) (decided : Decided) (rob : Ring) (stations : Stations) (queues : Queues) (tags : Cache) (mshrs : Registers) (ports : Ports) (w : Whole h)
+module _ (h : Held) (decided : Decided) (rob : Ring) (stations : Stations) (queues : Queues) (tags : Cache) (second : Cache) (mshrs : Registers) (ports : Ports) (w : Whole h)
     (k : Decides h.desc (around (machine_of h)) h.rob.entries decided h.ports.divider ports.divider)
     (r : rob ≡ record (h.rob) { entries = placed decided.puts.items h.rob.entries })
     (t : tags ≡ record (h.tags) { sets = cache_left h.tags.desc (option_map as_access decided.load) h.tags.sets })
+    (t2 : second ≡ record (h.second) { sets = second_left h.second.desc (option_map as_access decided.load) h.second.sets })
     (m : mshrs ≡ record (h.mshrs) { misses = misses_left h.desc h.cycle (option_map as_access decided.load) h.mshrs.misses }) where
   abbrev new : Held
-  new = record h { rob = rob; stations = stations; queues = queues; tags = tags; mshrs = mshrs; ports = ports }
+  new = record h { rob = rob; stations = stations; queues = queues; tags = tags; second = second; mshrs = mshrs; ports = ports }
 
   -- they hold what the definition leaves
   issued_machine : machine_of new ≡ (issue h.desc (machine_of h)).machine
   issued_machine =
-      leaves h.desc (machine_of h) rob.entries (option_map as_access decided.load) tags.sets mshrs.misses ports.divider
+      leaves h.desc (machine_of h) rob.entries (option_map as_access decided.load) tags.sets second.sets mshrs.misses ports.divider
       (ap (λ (r : Ring). r.entries) r ∙ k.window) k.load
       (ap (λ (t : Cache). t.sets) t ∙ ap (λ (s : Sizes). cache_left s.tags (option_map as_access decided.load) h.tags.sets) w.made)
+      (ap (λ (t : Cache). t.sets) t2 ∙ ap (λ (s : Sizes). second_left s.second (option_map as_access decided.load) h.second.sets) w.made)
       (ap (λ (m : Registers). m.misses) m) k.divider
 
   issued_sizes : stations.room ≡ h.stations.room → queues.max_loads ≡ h.queues.max_loads → queues.max_stores ≡ h.queues.max_stores → ports.alus ≡ h.ports.alus → sizes new ≡ sizes h
   issued_sizes s a b p =
       let entries = ap (λ (r : Ring). r.room) r in
       let lines = ap (λ (t : Cache). t.desc) t in
+      let more_lines = ap (λ (t : Cache). t.desc) t2 in
       let registers = ap (λ (m : Registers). m.room) m in
       cc
 

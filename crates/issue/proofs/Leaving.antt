@@ -1,34 +1,30 @@
 -- What the phase leaves of the machine, once it has decided.
-use Rattle.std.proofs.Common.{◌≡◌, ℕ, ◌+◌, ◌<◌, ◌≤◌, List, [], ◌∷◌, length, map, Option, Some, None, refl, ap, sym, subst, ◌∙◌, arith}
+use Rattle.std.proofs.Common.{◌≡◌, ℕ, ◌+◌, ◌≤◌, List, [], ◌∷◌, ◌++◌, length, map, Option, Some, None, refl, ap, sym, subst, ◌∙◌, arith}
+use Rattle.std.proofs.lemmas.List.{length-append}
 use Rattle.std.specs.Option.{option_map}
 use Rattle.machine_desc.specs.declared.Desc.{Desc}
 use Rattle.window_model.specs.declared.Divider.{Divider}
 use Rattle.window_model.specs.declared.Entry.{Entry}
 use Rattle.window_model.specs.declared.Miss.{Miss}
 use Rattle.window_model.specs.State.{Machine}
-use Rattle.window_model.specs.Around.{around}
+use Rattle.window_model.specs.Around.{Around, around}
 use Rattle.window_model.specs.Order.{Place, first}
-use Rattle.window_model.specs.Access as model
-use Rattle.window_model.specs.Access.{taken_lines}
+use Rattle.window_model.specs.Access.{Access, Line, line_behind, prefetched, request, requests}
 use Rattle.window_model.specs.Issue.{DivPort, LoadPort, access_of, after_load, divider_after, issue, may_at, taken_for}
-use Rattle.window_model.proofs.Issuing.{by_load}
-use Rattle.issue.specs.declared.access.Access.{Access}
-use Rattle.issue.specs.declared.access.Access.TheVariants.{Looks}
-use Rattle.issue.specs.declared.access.Line.TheVariants.{Takes}
-use Rattle.issue.specs.Accesses.{as_access}
+use Rattle.window_model.proofs.Issuing.{by_load, by_prefetched, looked}
 use Rattle.issue.specs.Decisions.{division_of, load_of, turns}
-use Rattle.issue.specs.Shared.{IsMiss, cache_left, divider_left, misses_left}
+use Rattle.issue.specs.Shared.{cache_left, divider_left, misses_left, requested, second_left}
 
 -- what the access of the load in this place comes to, and the divider with the division in it
-abbrev loaded : Desc → Machine → Option Place → Option model.Access
+abbrev loaded : Desc → Machine → Option Place → Option Access
 loaded d x o = option_map (λ p. access_of d (around x) p.before p.entry) o
 
 abbrev divided : Machine → Option Place → Option Divider
 divided x o = option_map (λ p. taken_for (around x) p.before p.entry) o
 
--- the load that is tried leaves its cache and its registers
+-- the load that is tried leaves both levels of its cache, and its registers
 load_is : (d : Desc) (x : Machine) (o : Option Place) →
-    after_load d o x ≡ record x { cache = cache_left d (loaded d x o) x.cache; misses = misses_left d x.cycle (loaded d x o) x.misses }
+    after_load d o x ≡ record x { cache = cache_left d (loaded d x o) x.cache; second = second_left d (loaded d x o) x.second; misses = misses_left d x.cycle (loaded d x o) x.misses }
 load_is d x None = refl
 load_is d x (Some p) = refl
 
@@ -36,48 +32,45 @@ divider_is : (x : Machine) (o : Option Place) → divider_after x o ≡ divider_
 divider_is x None = refl
 divider_is x (Some p) = refl
 
-pub leaves : (d : Desc) (x : Machine) (window : List Entry) (load : Option model.Access) (cache : List (List ℕ)) (misses : List Miss) (divider : Divider) →
+pub leaves : (d : Desc) (x : Machine) (window : List Entry) (load : Option Access) (cache second : List (List ℕ)) (misses : List Miss) (divider : Divider) →
     window ≡ map (λ b. b.entry) (turns d (around x) x.window) → load ≡ load_of d (around x) x.window →
-    cache ≡ cache_left d load x.cache → misses ≡ misses_left d x.cycle load x.misses → divider ≡ divider_left (division_of d (around x) x.window) x.divider →
-    record x { window = window; cache = cache; misses = misses; divider = divider } ≡ (issue d x).machine
-leaves d x window load cache misses divider w l c m n =
+    cache ≡ cache_left d load x.cache → second ≡ second_left d load x.second → misses ≡ misses_left d x.cycle load x.misses → divider ≡ divider_left (division_of d (around x) x.window) x.divider →
+    record x { window = window; cache = cache; second = second; misses = misses; divider = divider } ≡ (issue d x).machine
+leaves d x window load cache second misses divider w l c s m n =
     let o = first (may_at d (around x) LoadPort) x.window in
     let o2 = first (may_at d (around x) DivPort) x.window in
     let entries = map (λ b. b.entry) (turns d (around x) x.window) in
     let shared : Machine → Machine = λ y. record y { window = entries; divider = divider_after x o2 } in
     let cache2 = cache_left d (loaded d x o) x.cache in
+    let second2 = second_left d (loaded d x o) x.second in
     let misses2 = misses_left d x.cycle (loaded d x o) x.misses in
     let whole = ap shared (load_is d x o) in
     let a : cache ≡ cache2 = c ∙ ap (λ l. cache_left d l x.cache) l in
+    let a2 : second ≡ second2 = s ∙ ap (λ l. second_left d l x.second) l in
     let b : misses ≡ misses2 = m ∙ ap (λ l. misses_left d x.cycle l x.misses) l in
     let e : divider ≡ divider_after x o2 = n ∙ sym (divider_is x o2) in
-    let left : record x { window = window; cache = cache; misses = misses; divider = divider }
-    ≡ record x { window = entries; cache = cache2; misses = misses2; divider = divider_after x o2 } = cc in
+    let left : record x { window = window; cache = cache; second = second; misses = misses; divider = divider }
+    ≡ record x { window = entries; cache = cache2; second = second2; misses = misses2; divider = divider_after x o2 } = cc in
     left ∙ sym whole
 
--- ---- a load takes a register only where one is free
+-- ---- lines take registers only where there are as many
 
--- its line is the one that was looked up, and it takes a register only where the cache lacks it
-abbrev TakesRoom : Desc → Machine → model.Access → Type 0
-TakesRoom d x (model.Looks (model.Takes line ∷ [])) = length x.misses < d.cache_mshrs
-TakesRoom d x _ = Unit {0}
+-- where the load's own lines have registers, a line that is prefetched has one too
+ahead_room : (d : Desc) (now : Around) (found : List Line) → length now.misses + length (requests found) ≤ d.cache_mshrs → length now.misses + length (requests found ++ prefetched d now found) ≤ d.cache_mshrs
+ahead_room d now found h =
+    by_prefetched d now found (λ ahead. length now.misses + length (requests found ++ ahead) ≤ d.cache_mshrs)
+    (let n = length-append (requests found) [] in omega (arith, h, n))
+    (λ within room none. let n = length-append (requests found) (request d now (line_behind d found) ∷ []) in omega (arith, room, n))
 
-room_of : (d : Desc) (x : Machine) (l : model.Line) → length x.misses + length (taken_lines (l ∷ [])) ≤ d.cache_mshrs → TakesRoom d x (model.Looks (l ∷ []))
-room_of d x (model.Takes line) h = omega (arith, h)
-room_of d x _ h = tt
+module _ (d : Desc) (x : Machine) (fits : length x.misses ≤ d.cache_mshrs) where
+  access_room : (b : List Entry) (e : Entry) → length x.misses + length (requested (Some (access_of d (around x) b e))) ≤ d.cache_mshrs
+  access_room =
+      by_load d (around x) (λ a. length x.misses + length (requested (Some a)) ≤ d.cache_mshrs) (omega (arith, fits)) (λ a n some room. ahead_room d (around x) (looked d (around x) a n) room)
+      (λ a n some full. omega (arith, fits)) (λ c. omega (arith, fits))
 
-takes_room : (d : Desc) (x : Machine) (b : List Entry) (e : Entry) → TakesRoom d x (access_of d (around x) b e)
-takes_room d x = by_load d (around x) (TakesRoom d x) tt (λ line room. room_of d x _ room) (λ full. tt) (λ c. tt)
+  room_by : (o : Option Place) → length x.misses + length (requested (loaded d x o)) ≤ d.cache_mshrs
+  room_by None = omega (arith, fits)
+  room_by (Some p) = access_room p.before p.entry
 
-room_at : (d : Desc) (x : Machine) (line : ℕ) (o : Option Place) → Some (model.Looks (model.Takes line ∷ [])) ≡ loaded d x o → length x.misses < d.cache_mshrs
-room_at d x line None h = absurd (cc)
-room_at d x line (Some p) h =
-    let is : access_of d (around x) p.before p.entry ≡ model.Looks (model.Takes line ∷ []) = cc in
-    subst (TakesRoom d x) is (takes_room d x p.before p.entry)
-
-room_by : (d : Desc) (x : Machine) (o : Option Place) (load : Option Access) → option_map as_access load ≡ loaded d x o → IsMiss load → length x.misses < d.cache_mshrs
-room_by d x o (Some (Looks (Takes line))) h m = room_at d x line o h
-room_by d x o _ h m = absurd m
-
-pub has_room : (d : Desc) (x : Machine) (load : Option Access) → option_map as_access load ≡ load_of d (around x) x.window → IsMiss load → length x.misses < d.cache_mshrs
-has_room d x load h m = room_by d x (first (may_at d (around x) LoadPort) x.window) load h m
+  pub has_room : (load : Option Access) → load ≡ load_of d (around x) x.window → length x.misses + length (requested load) ≤ d.cache_mshrs
+  has_room load h = subst (λ l. length x.misses + length (requested l) ≤ d.cache_mshrs) (sym h) (room_by (first (may_at d (around x) LoadPort) x.window))

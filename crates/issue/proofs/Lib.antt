@@ -1,4 +1,3 @@
-pub mod Options
 pub mod Writers
 pub mod Width
 pub mod Bytes
@@ -7,6 +6,8 @@ pub mod Waiting
 pub mod Asking
 pub mod Testing
 pub mod Choosing
+pub mod Skipping
+pub mod Stepping
 pub mod Slots
 pub mod Advanced
 pub mod Turning

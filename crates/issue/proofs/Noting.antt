@@ -1,5 +1,5 @@
 -- What is kept as an entry's turn is noted.
-use Rattle.std.proofs.Common.{◌≡◌, ◌≤◌, ℕ, ◌+◌, List, [], ◌∷◌, ◌++◌, length, ap, refl, ◌∙◌, append-nil, arith}
+use Rattle.std.proofs.Common.{◌≡◌, ◌≤◌, ℕ, ◌+◌, List, [], ◌∷◌, ◌++◌, length, Option, None, Some, ap, refl, ◌∙◌, append-nil, arith}
 use Rattle.std.proofs.lemmas.List.{length-append}
 use Rattle.window_model.specs.declared.Entry.{Entry}
 use Rattle.window_model.specs.declared.Event.{Event}
@@ -8,20 +8,28 @@ use Rattle.window_model.specs.Row.{Row, with_events}
 use Rattle.unit_ports.specs.Ports.{Ports}
 use Rattle.issue.specs.declared.decide.Put.{Put}
 use Rattle.issue.specs.Ports.{OnlyPorts}
-use Rattle.issue.specs.Turns.{after_by, puts_by, puts_of}
+use Rattle.issue.specs.Turns.{after_by, after_of, puts_by, puts_of}
 
 -- ---- how many there are
 
-few_puts : (i station : ℕ) (e : Entry) (events : List Event) → length (puts_by i station (after_by e events)) ≤ length events
-few_puts i station e [] = omega arith
-few_puts i station e (v ∷ events) = omega arith
+puts_by_events : (i station : ℕ) (e : Entry) (events : List Event) → length (puts_by i station (after_by e events)) ≤ length events
+puts_by_events i station e [] = omega arith
+puts_by_events i station e (v ∷ events) = omega arith
 
 -- no more puts than events
-pub as_many_puts : (puts new_puts : List Put) (i station : ℕ) (b : Begun) → new_puts ≡ puts ++ puts_of i station b → length new_puts ≤ length puts + length b.events
-as_many_puts puts new_puts i station b p =
-    let n = ap length p ∙ length-append puts (puts_of i station b) in
-    let few = few_puts i station b.entry b.events in
-    omega (arith, n, few)
+pub few_puts : (i station : ℕ) (b : Begun) → length (puts_of i station b) ≤ length b.events
+few_puts i station b = puts_by_events i station b.entry b.events
+
+-- one at most
+one_put : (i station : ℕ) (after : Option Entry) → length (puts_by i station after) ≤ 1
+one_put i station None = omega arith
+one_put i station (Some e) = omega arith
+
+pub one_put_of : (i station : ℕ) (b : Begun) → length (puts_of i station b) ≤ 1
+one_put_of i station b = one_put i station (after_of b)
+
+pub as_many_puts : (puts new_puts : List Put) (i station : ℕ) (b : Begun) → new_puts ≡ puts ++ puts_of i station b → length new_puts ≡ length puts + length (puts_of i station b)
+as_many_puts puts new_puts i station b p = ap length p ∙ length-append puts (puts_of i station b)
 
 pub as_many_events : (events more : List Event) (b : Begun) → more ≡ events ++ b.events → length more ≡ length events + length b.events
 as_many_events events more b m = ap length m ∙ length-append events b.events

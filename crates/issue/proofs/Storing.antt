@@ -17,12 +17,12 @@ use Rattle.issue.specs.declared.seen.Place.{Place}
 use Rattle.issue.specs.declared.seen.Seen.{Seen}
 use Rattle.issue.specs.Accesses.{as_access}
 use Rattle.issue.specs.Decisions.{HadTurn}
-use Rattle.issue.specs.Ports.{LeftBehind, LeftFor, OnlyPorts, granted_at, left_in_all, may_here}
+use Rattle.issue.specs.Ports.{LeftBehind, LeftFor, OnlyPorts, events_left, granted_at, left_in_all, may_here}
 use Rattle.issue.specs.State.{around_of, before_of, here}
 use Rattle.issue.specs.Turns.{Goes, after_of, divider_by, load_by, parts_by, puts_by, puts_of}
 use Rattle.issue.proofs.Choosing.{no_division, no_load}
-use Rattle.issue.proofs.Noting.{only_both, same_row}
-use Rattle.issue.proofs.Testing.{asked_divider, asked_less, asked_only, data_left}
+use Rattle.issue.proofs.Noting.{few_puts, only_both, same_row}
+use Rattle.issue.proofs.Testing.{asked_address_load, asked_data_load, asked_divider, asked_less, asked_only, data_left}
 use Rattle.issue.proofs.Turning.{few_parts, not_alone, parts_as, parts_put, store_turn}
 
 -- one of two
@@ -102,13 +102,24 @@ module _ (s : Seen) (p : Place) (ports first new : Ports) (address stored : Bool
   pub room_left : one_if address + one_if stored ≤ left_in_all ports
   room_left = let x = taken_first in let y = taken_second in omega (arith, x, y)
 
-  fewer : length (here issue_entry s p).events + left_in_all new ≤ left_in_all ports
-  fewer =
+  one_each : length (here issue_entry s p).events + left_in_all new ≤ left_in_all ports
+  one_each =
       let x = taken_first in
       let y = taken_second in
       let is = ap (λ (b : Begun). length b.events) turn_is in
       let few = few_parts address stored d now before e in
       omega (arith, x, y, is, few)
+
+  fewer : length (puts_of p.position p.station (here issue_entry s p)) + left_in_all new ≤ left_in_all ports
+  fewer = let one = one_each in let few = few_puts p.position p.station (here issue_entry s p) in omega (arith, one, few)
+
+  same_load : new.load ≡ ports.load
+  same_load =
+      ap (λ (p : Ports). p.load) a2 ∙ asked_data_load (may_here DataPort s p) first
+      ∙ ap (λ (p : Ports). p.load) a ∙ asked_address_load (may_here AddressPort s p) ports
+
+  events : length (here issue_entry s p).events + events_left new ≤ events_left ports
+  events = let one = one_each in let same = same_load in omega (arith, one, same)
 
   -- ---- the turn
 
@@ -126,6 +137,7 @@ module _ (s : Seen) (p : Place) (ports first new : Ports) (address stored : Bool
         divider = same_divider ∙ sym (ap (λ b. divider_by b s p ports.divider) (no_division d now before e store));
         left = left_new;
         fewer = fewer;
+        events = events;
         only = only;
       }
 
@@ -140,5 +152,6 @@ module _ (s : Seen) (p : Place) (ports first new : Ports) (address stored : Bool
         divider = same_divider ∙ sym (ap (λ b. divider_by b s p ports.divider) (no_division d now before e store));
         left = left_new;
         fewer = fewer;
+        events = events;
         only = only;
       }

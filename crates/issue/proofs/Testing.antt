@@ -1,10 +1,12 @@
 -- What the parts tell of an entry at its position is what the machine's definitions find there.
-use Rattle.std.proofs.Common.{◌≡◌, ℕ, zero, suc, ◌+◌, ◌-◌, ◌≤◌, Bool, true, false, ◌&&◌, List, ◌∷◌, Option, Some, refl, ap, ap₂, sym, subst, ◌∙◌, slice_get, arith}
+use Rattle.std.proofs.Common.{◌≡◌, ℕ, zero, suc, ◌+◌, ◌-◌, ◌*◌, ◌≤◌, Bool, true, false, ◌&&◌, List, ◌∷◌, Option, Some, refl, ap, ap₂, sym, subst, ◌∙◌, slice_get, arith}
 use Rattle.std.specs.Prelude.{nat_lt}
 use Rattle.std.specs.Option.{option_map}
 use Rattle.std.proofs.lemmas.Bool.Decides.{nat_tests}
 use Rattle.std.proofs.Math.Bool.{and-false, and-true}
 use Rattle.rv_types.specs.Value.{one_if}
+use Rattle.rv_types.specs.declared.Kind.{Kind}
+use Rattle.rv_types.specs.declared.Kind.TheVariants.{Div, Load, Mul, Store}
 use Rattle.machine_desc.specs.declared.Desc.{Desc}
 use Rattle.window_model.specs.declared.Divider.{Divider}
 use Rattle.window_model.specs.declared.Entry.{Entry}
@@ -24,7 +26,7 @@ use Rattle.parts_stand.specs.Parts.{wants_of}
 use Rattle.parts_stand.specs.Telling.{asks_besides, has_sources, own_of}
 use Rattle.parts_stand.proofs.Answering.{tells_able, tells_issue, tells_part}
 use Rattle.issue.specs.declared.seen.Seen.{Seen}
-use Rattle.issue.specs.Ports.{OnlyPorts, left_in_all}
+use Rattle.issue.specs.Ports.{OnlyPorts, events_left, left_in_all, most_events_of}
 use Rattle.issue.specs.State.{Stands, StandsAt, around_of, parts_of}
 use Rattle.issue.proofs.Asking.{AsksNone, asks_own}
 
@@ -119,10 +121,28 @@ pub data_left : (may : Bool) (p : Ports) → left_at DataPort (if_asked may Addr
 data_left true p = refl
 data_left false p = refl
 
+-- neither part of a store takes the load's
+pub asked_address_load : (may : Bool) (p : Ports) → (if_asked may AddressPort p).load ≡ p.load
+asked_address_load true p = refl
+asked_address_load false p = refl
+
+pub asked_data_load : (may : Bool) (p : Ports) → (if_asked may DataPort p).load ≡ p.load
+asked_data_load true p = refl
+asked_data_load false p = refl
+
+-- a load that is served takes the two events more that its port allows
+two_more : (k : Kind) (p : Ports) → nat_lt 0 (left_at (port_for k) p) ≡ true → 2 * (taken_at (port_for k) p).load + most_events_of k ≡ 2 * p.load + 1
+two_more Load p h = let some = some_less p.load in let one = ap one_if h in omega (arith, some, one)
+two_more Mul p h = refl
+two_more Div p h = refl
+two_more Store p h = refl
+two_more _ p h = refl
+
 -- what one that is served leaves
 pub record Served (d : Desc) (now : Around) (before : List Entry) (e : Entry) (old new : Ports) (v : Divider) : Type 0 where
   pub left : LeftAfter d now (e ∷ before) new
   pub fewer : left_in_all new + 1 ≡ left_in_all old
+  pub events : events_left new + most_events_of e.item.kind ≡ events_left old
   pub only : OnlyPorts old new
   pub divider : new.divider ≡ v
 
@@ -161,6 +181,14 @@ module _ (d : Desc) (now : Around) (before : List Entry) (e : Entry) (p : Ports)
     pub some_left : 1 ≤ left_in_all p
     some_left = let n = one_less own p in let one = ap one_if is_left in omega (arith, n, one)
 
+    -- and its events
+    pub events_served : most_events_of e.item.kind ≤ events_left p
+    events_served =
+        let all = one_less own p in
+        let one = ap one_if is_left in
+        let two = two_more e.item.kind p is_left in
+        omega (arith, all, one, two)
+
     pub served : (v : Divider) (begun new : Ports) → begun ≡ record p { divider = v } → new ≡ taken_at own begun → Served d now before e p new v
     served v begun new b n =
         let is : new ≡ taken_at own (record p { divider = v }) = n ∙ ap (taken_at own) b in
@@ -168,10 +196,13 @@ module _ (d : Desc) (now : Around) (before : List Entry) (e : Entry) (p : Ports)
         let less = one_less own (record p { divider = v }) in
         let one : one_if (nat_lt 0 (left_at own (record p { divider = v }))) ≡ 1 = ap (λ n. one_if (nat_lt 0 n)) (with_divider own p v) ∙ ap one_if is_left in
         let all = ap left_in_all is in
+        let loads = ap (λ (p : Ports). p.load) is in
+        let two = two_more e.item.kind (record p { divider = v }) (ap (nat_lt 0) (with_divider own p v) ∙ is_left) in
         let only = only_ports own (record p { divider = v }) in
         record {
           left = subst (LeftAfter d now (e ∷ before)) (sym is) (left_asked true d now before e (record p { divider = v }) s m (left_with d now before p v l));
           fewer = omega (arith, all, less, one);
+          events = omega (arith, all, less, one, loads, two);
           only = subst (OnlyPorts p) (sym is) (record { alus = only.alus; cycle = only.cycle });
           divider = ap (λ (p : Ports). p.divider) is ∙ divider_stays own (record p { divider = v });
         }

@@ -1,6 +1,6 @@
 -- What an entry's turn comes to: it waits on, or it goes on with an event.
 use Rattle.std.proofs.Common.{◌≡◌, ℕ, ◌+◌, ◌<◌, ◌≤◌, Bool, true, false, List, [], ◌∷◌, ◌++◌, length, refl, ap, ap₂, sym, subst, ◌∙◌, inl, inr, arith, append-nil, slice_get, Some, eqb-true}
-use Rattle.std.specs.Prelude.{◌==◌, ◌||◌, if◌then◌else◌, slice_set, ◌⊎◌}
+use Rattle.std.specs.Prelude.{◌==◌, ◌||◌, if◌then◌else◌, map, slice_set, ◌⊎◌}
 use Rattle.std.specs.List.{All}
 use Rattle.std.proofs.lemmas.List.{set_at}
 use Rattle.std.proofs.lemmas.List.Elements.{All-push}
@@ -15,16 +15,19 @@ use Rattle.window_model.specs.declared.Event.{Event}
 use Rattle.window_model.specs.declared.Event.TheVariants as event
 use Rattle.window_model.specs.declared.Outcome.{Outcome}
 use Rattle.window_model.specs.Around.{Around}
+use Rattle.window_model.specs.State.{lines_of}
+use Rattle.window_model.specs.Access.{Line, Looks, Request, look_up, prefetched, source_of}
 use Rattle.window_model.specs.Order.{has_address, has_data, is_store, is_waiting}
 use Rattle.window_model.specs.Retire.{op_of, width_of}
 use Rattle.window_model.specs.Issue.{AddressPort, Begun, DataPort, access_of, begin_as, begins, data_events, effect_of, if_granted, is_granted, issue_entry, issue_parts, load_as, port_of, waits, with_address, with_data}
 use Rattle.window_model.proofs.Booleans.{waiting_done}
-use Rattle.window_model.proofs.Issuing.{by_load, may_parts}
+use Rattle.window_model.proofs.Issuing.{OneOrTwo, One, Two, by_load, by_prefetched, lines_are, may_parts}
 use Rattle.window_model.proofs.Together.{granted_together}
 use Rattle.unit_ports.specs.Ports.{port_for}
 use Rattle.queue_laws.specs.Window.{PartsGoOn}
 use Rattle.parts_stand.specs.Steps.{Issues, station_of}
 use Rattle.issue.specs.declared.decide.Put.{Put}
+use Rattle.issue.specs.Ports.{most_events_of}
 use Rattle.issue.specs.Puts.{ArePuts, IsPut, placed, width_for}
 use Rattle.issue.specs.Turns.{after_by, begin_entry, puts_by, puts_of}
 use Rattle.issue.proofs.Advanced.{lacks_address, lacks_data, still_undone}
@@ -83,19 +86,29 @@ pub record Acts (e : Entry) (b : Begun) : Type 0 where
 abbrev pub Turns : Entry → Begun → Type 0
 Turns e b = (b ≡ waits e) ⊎ Acts e b
 
-one_event : (e : Entry) (due : ℕ) (o : Outcome) (v : Event) → is_store e.item.kind ≡ false → is_waiting e.state ≡ true → Turns e (begins e due o (v ∷ []))
-one_event e due o v s w = inr (record {
+some_events : (e : Entry) (due : ℕ) (o : Outcome) (v : Event) (more : List Event) → is_store e.item.kind ≡ false → is_waiting e.state ≡ true → Turns e (begins e due o (v ∷ more))
+some_events e due o v more s w = inr (record {
   event = v;
-  more = [];
+  more = more;
   has = refl;
   waits = w;
   issues = record { on = record { serial = refl; item = refl }; undone = refl; resolved = refl };
   stay = λ t. absurd (cc);
 })
 
+one_event : (e : Entry) (due : ℕ) (o : Outcome) (v : Event) → is_store e.item.kind ≡ false → is_waiting e.state ≡ true → Turns e (begins e due o (v ∷ []))
+one_event e due o v s w = some_events e due o v [] s w
+
+-- a load that looks lines up has an event for the first of them
+looks_turns : (d : Desc) (now : Around) (e : Entry) (f : Effect) (v : ℕ) (lines : List ℕ) (ahead : List Request) → OneOrTwo lines → is_store e.item.kind ≡ false → is_waiting e.state ≡ true →
+    Turns e (load_as (Looks (map (look_up d now) lines) ahead) d now e f v)
+looks_turns d now e f v _ ahead (One line) s w = some_events e _ _ _ _ s w
+looks_turns d now e f v _ ahead (Two low high up) s w = some_events e _ _ _ _ s w
+
 load_turns : (d : Desc) (now : Around) (b : List Entry) (e : Entry) (f : Effect) (v : ℕ) → is_store e.item.kind ≡ false → is_waiting e.state ≡ true → Turns e (load_as (access_of d now b e) d now e f v)
 load_turns d now b e f v s w =
-    by_load d now (λ a. Turns e (load_as a d now e f v)) (one_event e _ _ _ s w) (λ line room. one_event e _ _ _ s w) (λ full. inl refl) (λ c. one_event e _ _ _ s w) b e
+    by_load d now (λ a. Turns e (load_as a d now e f v)) (one_event e _ _ _ s w) (λ a n some room. looks_turns d now e f v (lines_of d a n) _ (lines_are d a n some) s w)
+    (λ a n some full. inl refl) (λ c. one_event e _ _ _ s w) b e
 
 begin_turns : (k : Kind) (d : Desc) (now : Around) (before : List Entry) (e : Entry) → is_store e.item.kind ≡ false → is_waiting e.state ≡ true → Turns e (begin_as k d now before e)
 begin_turns Load d now before e s w = load_turns d now before e _ _ s w
@@ -169,15 +182,26 @@ module _ (d : Desc) (now : Around) (before : List Entry) (e : Entry) where
 
 -- ---- how many events it has
 
-load_few : (d : Desc) (now : Around) (b : List Entry) (e : Entry) (f : Effect) (v : ℕ) → length (load_as (access_of d now b e) d now e f v).events ≤ 1
-load_few d now b e f v = by_load d now (λ a. length (load_as a d now e f v).events ≤ 1) (omega arith) (λ line room. omega arith) (λ full. omega arith) (λ c. omega arith) b e
+-- a load has one for each of its lines, and one for a line that is prefetched
+ahead_few : (d : Desc) (now : Around) (found : List Line) → length (map (λ r. event.Pf r.line (source_of r)) (prefetched d now found)) ≤ 1
+ahead_few d now found = by_prefetched d now found (λ rs. length (map (λ r. event.Pf r.line (source_of r)) rs) ≤ 1) (omega arith) (λ within room none. omega arith)
 
-begin_few : (k : Kind) (d : Desc) (now : Around) (before : List Entry) (e : Entry) → length (begin_as k d now before e).events ≤ 1
+looks_few : (d : Desc) (now : Around) (e : Entry) (f : Effect) (v : ℕ) (lines : List ℕ) → OneOrTwo lines →
+    (let found = map (look_up d now) lines in length (load_as (Looks found (prefetched d now found)) d now e f v).events ≤ 3)
+looks_few d now e f v _ (One line) = let few = ahead_few d now (look_up d now line ∷ []) in omega (arith, few)
+looks_few d now e f v _ (Two low high up) = let few = ahead_few d now (look_up d now low ∷ look_up d now high ∷ []) in omega (arith, few)
+
+load_few : (d : Desc) (now : Around) (b : List Entry) (e : Entry) (f : Effect) (v : ℕ) → length (load_as (access_of d now b e) d now e f v).events ≤ 3
+load_few d now b e f v =
+    by_load d now (λ a. length (load_as a d now e f v).events ≤ 3) (omega arith) (λ a n some room. looks_few d now e f v (lines_of d a n) (lines_are d a n some))
+    (λ a n some full. omega arith) (λ c. omega arith) b e
+
+begin_few : (k : Kind) (d : Desc) (now : Around) (before : List Entry) (e : Entry) → length (begin_as k d now before e).events ≤ most_events_of k
 begin_few Load d now before e = load_few d now before e _ _
 begin_few _ d now before e = omega arith
 
--- one in one piece has one at most
-pub few_events : (d : Desc) (now : Around) (before : List Entry) (e : Entry) → length (begin_entry d now before e).events ≤ 1
+-- one in one piece has at most those of its kind
+pub few_events : (d : Desc) (now : Around) (before : List Entry) (e : Entry) → length (begin_entry d now before e).events ≤ most_events_of e.item.kind
 few_events d now before e = begin_few e.item.kind d now before e
 
 data_few : (d : Desc) (e : Entry) (v : Bool) → (d.version == 1) ≡ v → length (data_events d e) ≤ 1

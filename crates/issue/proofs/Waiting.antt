@@ -1,7 +1,7 @@
 -- The entries that wait, by their stations, and a walk from one of them to the next.
-use Rattle.std.proofs.Common.{◌≡◌, ℕ, zero, suc, ◌+◌, ◌-◌, ◌<◌, ◌≤◌, Bool, true, false, cond, List, [], ◌∷◌, length, take, Option, Some, None, refl, ap, sym, subst, ◌∙◌, slice_get, arith}
+use Rattle.std.proofs.Common.{◌≡◌, ◌≢◌, ℕ, zero, suc, ◌+◌, ◌-◌, ◌<◌, ◌≤◌, Bool, true, false, cond, List, [], ◌∷◌, length, take, Option, Some, None, refl, ap, sym, subst, ◌∙◌, slice_get, arith}
 use Rattle.std.specs.Prelude.{if◌then◌else◌, nat_le}
-use Rattle.std.specs.List.{count_by}
+use Rattle.std.specs.List.{All, count_by}
 use Rattle.std.specs.Option.{option_map}
 use Rattle.std.proofs.lemmas.Bool.Decides.{nat_tests}
 use Rattle.std.proofs.lemmas.List.{take_all}
@@ -15,7 +15,7 @@ use Rattle.stations.specs.Stations.{Station}
 use Rattle.parts_stand.specs.Parts.{Parts, Stand, Waiter, waiter_in}
 use Rattle.parts_stand.specs.Steps.{station_of}
 use Rattle.parts_stand.proofs.Answering.{counts_room, counts_stations, has_station}
-use Rattle.window_model.proofs.Serials.{place_of}
+use Rattle.window_model.proofs.Serials.{all_at, place_of}
 
 -- ---- how many wait before a position
 
@@ -107,6 +107,16 @@ module _ (p : Parts) (s : Stand p) where
       let at = ap (λ k. option_map (λ s. s.serial) (slice_get p.held k)) t.station ∙ h in
       let same = serial_of (slice_get p.held (station_of w.0 p.window)) _ serial told at in
       subst (WaitsAt p.window k) (sym (q ∙ ap (λ n. length (below n p.window)) same ∙ place_of p.window w.0 t.entry s.rise t.is)) t
+
+  -- and is in flight
+  pub in_window : (k serial : ℕ) → k < length p.held → option_map (λ s. s.serial) (slice_get p.held k) ≡ Some serial → All (λ e. e.serial ≢ serial) p.window → ⊥
+  in_window k serial lt h none =
+      let w = waits_at k lt in
+      let t = w.1 in
+      let told = (has_station p w.0 t.entry s t.is t.waits).is in
+      let at = ap (λ k. option_map (λ s. s.serial) (slice_get p.held k)) t.station ∙ h in
+      let same = serial_of (slice_get p.held (station_of w.0 p.window)) _ serial told at in
+      all_at (λ e. e.serial ≢ serial) p.window w.0 t.entry none t.is (sym same)
 
 -- ---- the walk
 

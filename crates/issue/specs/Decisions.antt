@@ -14,7 +14,7 @@ use Rattle.issue.specs.Accesses.{as_access}
 use Rattle.issue.specs.Puts.{placed}
 use Rattle.issue.specs.Shared.{divider_left}
 use Rattle.issue.specs.declared.seen.Place.{Place}
-use Rattle.issue.specs.Ports.{LeftBehind, OnlyPorts, granted_at, left_in_all}
+use Rattle.issue.specs.Ports.{LeftBehind, OnlyPorts, events_left, granted_at, left_in_all}
 use Rattle.issue.specs.State.{around_of, here, window_of}
 use Rattle.issue.specs.Turns.{divider_by, load_by, puts_of}
 use Rattle.unit_ports.specs.Ports.{Ports}
@@ -63,6 +63,7 @@ pub record HadTurn (s : Seen) (p : Place) (ports : Ports) (decided : Decided) (r
   pub load : option_map as_access new_decided.load ≡ load_by (granted_at LoadPort s p) s p (option_map as_access decided.load)
   pub divider : new_ports.divider ≡ divider_by (granted_at DivPort s p) s p ports.divider
   pub left : LeftBehind s p new_ports
-  -- each event took a port
-  pub fewer : length (here issue_entry s p).events + left_in_all new_ports ≤ left_in_all ports
+  -- whoever goes on took a port, and so has the events that it allows
+  pub fewer : length (puts_of p.position p.station (here issue_entry s p)) + left_in_all new_ports ≤ left_in_all ports
+  pub events : length (here issue_entry s p).events + events_left new_ports ≤ events_left ports
   pub only : OnlyPorts ports new_ports

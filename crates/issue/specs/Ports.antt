@@ -1,5 +1,7 @@
 -- Ports, as entries are granted them (docs/machine.md, "Issue").
-use Rattle.std.specs.Prelude.{◌≡◌, ℕ, ◌+◌, Bool, ◌∷◌}
+use Rattle.std.specs.Prelude.{◌≡◌, ℕ, ◌+◌, ◌*◌, Bool, ◌∷◌}
+use Rattle.rv_types.specs.declared.Kind.{Kind}
+use Rattle.rv_types.specs.declared.Kind.TheVariants.{Load}
 use Rattle.window_model.specs.declared.Entry.{Entry}
 use Rattle.window_model.specs.Order.{has_address, has_data}
 use Rattle.window_model.specs.Issue.{AddressPort, DataPort, Port, is_granted, may_at}
@@ -52,6 +54,15 @@ LeftBehind s p ports = LeftAfter s.desc.now (around_of s) (p.entry.now ∷ befor
 -- how many are left in all
 abbrev pub left_in_all : Ports → ℕ
 left_in_all p = p.alu + p.mul + p.div + p.address_part + p.data_part + p.load
+
+-- how many events they allow: the load's two more than any other, since it may have two lines and one that is prefetched
+abbrev pub events_left : Ports → ℕ
+events_left p = left_in_all p + 2 * p.load
+
+-- the most events of an entry in one piece
+abbrev pub most_events_of : Kind → ℕ
+most_events_of Load = 3
+most_events_of _ = 1
 
 -- but for the ports that are left, and the divider, nothing changes
 pub record OnlyPorts (old new : Ports) : Type 0 where

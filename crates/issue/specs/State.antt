@@ -1,6 +1,6 @@
 -- The state that the phase looks at, when it stands for a machine, and an entry in its place (docs/machine.md, "Issue", "The
 -- parts stand for the machine").
-use Rattle.std.specs.Prelude.{◌≡◌, ℕ, List, true, slice_get, Some}
+use Rattle.std.specs.Prelude.{◌≡◌, ℕ, ◌+◌, ◌^◌, ◌≤◌, List, true, length, slice_get, Some}
 use Rattle.std.specs.List.{AllByRecursion as Each}
 use Rattle.machine_desc.specs.declared.Desc.{Desc}
 use Rattle.machine_facts.specs.Sized.{HasParts, Together}
@@ -22,7 +22,7 @@ use Rattle.issue.specs.declared.seen.Seen.{Seen}
 
 -- what an entry looks at besides the older ones
 abbrev pub around_of : Seen → Around
-around_of s = record { cycle = s.cycle; regs = s.regs.now; ram = s.ram.now; cache = s.tags.now.sets; misses = s.mshrs.now.misses; free_from = s.free_from }
+around_of s = record { cycle = s.cycle; regs = s.regs.now; ram = s.ram.now; cache = s.tags.now.sets; second = s.second.now.sets; misses = s.mshrs.now.misses; free_from = s.free_from }
 
 -- the window
 abbrev pub window_of : Seen → List Entry
@@ -32,7 +32,8 @@ window_of s = s.rob.now.entries
 abbrev pub parts_of : ℕ → List Write → Seen → Parts
 parts_of next writes s = record { version = s.desc.now.version; next = next; window = s.rob.now.entries; roots = each_roots s.sources.now.items; writes = writes; held = s.stations.now.held }
 
--- the parts stand for the window, the point has just moved, and the cache and the registers are of the description
+-- the parts stand for the window, the point has just moved, both levels of the cache and the registers are of the
+-- description, and memory ends where it is said to
 pub record Stands (s : Seen) : Type 0 where
   pub next : ℕ
   pub writes : List Write
@@ -48,7 +49,11 @@ pub record Stands (s : Seen) : Type 0 where
   pub advanced : HasAdvanced s.point.now s.rob.now.entries
   pub model : s.point.now.model ≡ s.desc.now.stt_model
   pub cache : s.tags.now.desc ≡ s.desc.now
+  pub second : s.second.now.desc ≡ s.desc.now
   pub registers : s.mshrs.now.room ≡ s.desc.now.cache_mshrs
+  pub fits : length s.mshrs.now.misses ≤ s.mshrs.now.room
+  pub memory : s.memory_end ≡ s.ram.now.base + length s.ram.now.bytes
+  pub low : s.memory_end ≤ 2 ^ 32
 
 -- ---- an entry in its place
 

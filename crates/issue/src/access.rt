@@ -1,57 +1,8 @@
-//! What a load finds (`docs/machine.md`, "Loads"): bytes of older stores, the cache, or a miss.
+//! What a load finds (`docs/machine.md`, "Loads", "Second level"): bytes of older stores, the cache, or misses.
+use crate::lines::{Line, Lines, Request};
 use crate::seen::Seen;
 use rv_types::Cause;
-use window_model::{Look, line_of};
-
-/// What looking up one line comes to.
-#[derive(Clone, Copy, Debug, PartialEq, Eq)]
-pub(crate) enum Line {
-    /// The cache has it.
-    Hits(u32),
-    /// A miss register waits for it, until this cycle.
-    Joins(u32, u64),
-    /// It takes a miss register.
-    Takes(u32),
-}
-
-impl Line {
-    ghost use Rattle.std.specs.Prelude.{◌≡◌, ◌≤◌, length};
-    ghost use Rattle.window_model.specs.Access.{line_at, look_at, taken_by};
-    ghost use Rattle.issue.specs.Accesses.{as_line};
-
-    // How many miss registers it takes.
-    fn registers(&self) -> usize
-        ensures number { result ≡ length (taken_by (as_line self.now)) }
-        ensures few { result ≤ 1 }
-    {
-        match self {
-            Line::Takes(_) => 1,
-            _ => 0,
-        }
-    }
-
-    /// Its first address.
-    pub(crate) fn line(&self) -> u32
-        ensures { result ≡ line_at (as_line self.now) }
-    {
-        match *self {
-            Line::Hits(line) => line,
-            Line::Joins(line, _) => line,
-            Line::Takes(line) => line,
-        }
-    }
-
-    /// Where it was found.
-    pub(crate) fn look(&self) -> Look
-        ensures { result ≡ look_at (as_line self.now) }
-    {
-        match self {
-            Line::Hits(_) => Look::Hit,
-            Line::Joins(_, _) => Look::Join,
-            Line::Takes(_) => Look::Miss,
-        }
-    }
-}
+use window_model::lines_of;
 
 /// What the access of a load comes to.
 #[derive(Clone, Copy, Debug, PartialEq, Eq)]
@@ -60,26 +11,41 @@ pub(crate) enum Access {
     Faults(Cause),
     /// All its bytes come from older stores.
     Forwards,
-    /// Its line is looked up.
-    Looks(Line),
-    /// No miss register is free for its line.
+    /// Its lines are looked up, and this line is prefetched with them.
+    Looks(Lines, Option<Request>),
+    /// Too few miss registers are free for its lines.
     Waits,
 }
 
 impl<'a> Seen<'a> {
-    ghost use Rattle.std.specs.Prelude.{◌≡◌, ◌==◌, [], ◌∷◌};
+    ghost use Rattle.std.specs.Prelude.{◌≡◌, ◌==◌, ◌≤◌, ◌<◌, ◌+◌, ◌^◌, IsTrue, map};
     ghost use Rattle.std.specs.List.{find};
-    ghost use Rattle.window_model.specs.Access.{joined, look_up, unless_lacking};
-    ghost use Rattle.issue.specs.Accesses.{as_access, as_line, found};
+    ghost use Rattle.std.specs.Option.{option_map, option_to_list};
+    ghost use Rattle.window_model.specs.State.{lines_of};
+    ghost use Rattle.window_model.specs.Access.{joined, line_behind, look_up, prefetched, prefetches, request, unless_lacking};
+    ghost use Rattle.issue.specs.Accesses.{as_access, as_line, as_lines, as_request, found};
     ghost use Rattle.issue.specs.State.{Stands, around_of};
+
+    // A line that takes a miss register: it comes from the second level, where that has it.
+    fn request(&self, line: u32) -> Request
+        requires stands { Stands self.now }
+        ensures { as_request result ≡ request self.now.desc.now (around_of self.now) line }
+    {
+        Request {
+            line,
+            from_memory: !self.second.holds(line),
+        }
+    }
 
     // A line that the cache lacks.
     fn join(&self, line: u32) -> Line
-        ensures { as_line result ≡ joined line (find (λ m. m.line == line) self.now.mshrs.now.misses) }
+        requires stands { Stands self.now }
+        ensures { as_line result ≡ joined self.now.desc.now (around_of self.now) line
+            (find (λ m. m.line == line) self.now.mshrs.now.misses) }
     {
         match self.mshrs.find(line) {
             Some(due) => Line::Joins(line, due),
-            None => Line::Takes(line),
+            None => Line::Takes(self.request(line)),
         }
     }
 
@@ -94,26 +60,73 @@ impl<'a> Seen<'a> {
         self.join(line)
     }
 
-    // Where there are too few registers for the line, it isn't looked up.
-    fn unless_lacking(&self, line: Line) -> Access
+    // The lines of so many bytes.
+    fn look_up_each(&self, addr: u32, bytes: u32) -> Lines
         requires stands { Stands self.now }
-        ensures { as_access result ≡ unless_lacking self.now.desc.now (around_of self.now) (as_line line ∷ []) }
+        requires some { 0 < bytes }
+        requires within { addr + bytes ≤ 2 ^ 32 }
+        ensures { as_lines result
+            ≡ map (look_up self.now.desc.now (around_of self.now)) (lines_of self.now.desc.now addr bytes) }
     {
-        if self.mshrs.len() + line.registers() <= self.desc.cache_mshrs as usize {
-            return Access::Looks(line);
+        let lines = lines_of(self.desc, addr, bytes);
+        let lower = self.look_up(lines[0]);
+        match lines.get(1) {
+            Some(line) => Lines {
+                lower,
+                upper: Some(self.look_up(*line)),
+            },
+            None => Lines { lower, upper: None },
         }
-        Access::Waits
     }
 
-    /// What an access without fault comes to. `forwarded` says that older stores have all its bytes, and that none of them
-    /// hides its address.
-    pub(crate) fn find(&self, forwarded: bool, addr: u32) -> Access
+    // Whether the line behind these is looked up as well: one of them takes a miss register, it begins in memory, and a
+    // register is left.
+    fn prefetches(&self, lines: &Lines) -> bool
         requires stands { Stands self.now }
-        ensures { as_access result ≡ found self.now.desc.now (around_of self.now) forwarded addr }
+        ensures value { result ≡ prefetches self.now.desc.now (around_of self.now) (as_lines lines.now) }
+        ensures within { IsTrue result → line_behind self.now.desc.now (as_lines lines.now) < 2 ^ 32 }
+    {
+        let taken = lines.registers();
+        self.desc.cache_prefetch == 1
+            && taken > 0
+            && lines.behind(self.desc) < self.memory_end
+            && taken < self.mshrs.free()
+    }
+
+    // It is prefetched, if it takes that register.
+    fn prefetched(&self, lines: &Lines) -> Option<Request>
+        requires stands { Stands self.now }
+        ensures { option_to_list (option_map as_request result)
+            ≡ prefetched self.now.desc.now (around_of self.now) (as_lines lines.now) }
+    {
+        if !self.prefetches(lines) {
+            return None;
+        }
+        self.look_up(lines.behind(self.desc) as u32).request()
+    }
+
+    // Where there are too few registers for the lines, none is looked up.
+    fn unless_lacking(&self, lines: Lines) -> Access
+        requires stands { Stands self.now }
+        ensures { as_access result ≡ unless_lacking self.now.desc.now (around_of self.now) (as_lines lines) }
+    {
+        if lines.registers() > self.mshrs.free() {
+            return Access::Waits;
+        }
+        Access::Looks(lines, self.prefetched(&lines))
+    }
+
+    /// What an access of so many bytes comes to that has no fault. `forwarded` says that older stores have all its bytes, and
+    /// that none of them hides its address.
+    pub(crate) fn find(&self, forwarded: bool, addr: u32, bytes: u32) -> Access
+        requires stands { Stands self.now }
+        requires some { 0 < bytes }
+        requires within { addr + bytes ≤ 2 ^ 32 }
+        ensures { as_access result ≡ found self.now.desc.now (around_of self.now) forwarded addr bytes }
     {
         if forwarded {
             return Access::Forwards;
         }
-        self.unless_lacking(self.look_up(line_of(self.desc, addr)))
+        self.unless_lacking(self.look_up_each(addr, bytes))
     }
 }

@@ -3,7 +3,7 @@ ghost use Rattle.std.specs.Prelude.{◌≡◌, None, Some};
 ghost use Rattle.rv_effect.specs.Seen.{seen};
 ghost use Rattle.window_model.specs.Issue.{begun, fault_if, outcome};
 
-use crate::access::{Access, Line};
+use crate::access::Access;
 use crate::loads::Loaded;
 use crate::seen::{Place, Seen};
 use rv_alu::div_time;
@@ -12,8 +12,8 @@ use rv_types::{Cause, Kind};
 use unit_ports::Ports;
 use window_model::{Entry, Event, Outcome, Progress, Row};
 
-// What an effect comes to with this value and fault.
-fn outcome(effect: &Effect, value: u32, fault: Option<Cause>) -> Outcome
+/// What an effect comes to with this value and fault.
+pub(crate) fn outcome(effect: &Effect, value: u32, fault: Option<Cause>) -> Outcome
     ensures { result ≡ outcome (seen effect.now) value fault }
 {
     Outcome {
@@ -35,8 +35,8 @@ fn fault_if(misaligned: bool) -> Option<Cause>
     None
 }
 
-// The entry as it executes until this cycle.
-fn begun(entry: &Entry, due: u64, outcome: Outcome) -> Entry
+/// The entry as it executes until this cycle.
+pub(crate) fn begun(entry: &Entry, due: u64, outcome: Outcome) -> Entry
     ensures { result ≡ begun entry.now due outcome }
 {
     Entry {
@@ -55,57 +55,14 @@ impl<'a> Seen<'a> {
     ghost use Rattle.std.specs.Option.{option_map};
     ghost use Rattle.rv_types.specs.declared.Kind.TheVariants as kind;
     ghost use Rattle.rv_effect.specs.Seen.{seen};
-    ghost use Rattle.window_model.specs.Access.{due_of};
     ghost use Rattle.window_model.specs.Issue.{begin_as, goes_behind, is_division};
     ghost use Rattle.window_model.specs.Order.{is_load, is_store};
     ghost use Rattle.window_model.specs.Row.{HasRoom};
-    ghost use Rattle.issue.specs.Accesses.{as_access, as_line};
+    ghost use Rattle.issue.specs.Accesses.{as_access};
     ghost use Rattle.issue.specs.Operands.{first_of};
+    ghost use Rattle.issue.specs.Ports.{most_events_of};
     ghost use Rattle.issue.specs.State.{HasTurn, around_of, here};
-    ghost use Rattle.issue.specs.Turns.{Comes, begin_entry, divider_by, effect_here, load_by, loads};
-
-    // The cycle in which a line is there.
-    fn due_of(&self, line: &Line) -> u64
-        ensures { result ≡ due_of self.now.desc.now (around_of self.now) (as_line line.now) }
-    {
-        let cycle = self.cycle as u64;
-        match *line {
-            Line::Hits(_) => cycle + self.desc.cache_hit_latency as u64,
-            Line::Joins(_, due) => due,
-            Line::Takes(_) => cycle + self.desc.cache_miss_latency as u64,
-        }
-    }
-
-    // A load by what it found. One that finds no miss register stays as it is.
-    fn begin_load(
-        &self,
-        place: &Place,
-        made: &Effect,
-        found: &Loaded,
-        row: &mut Row,
-    ) -> Option<Entry>
-        requires room { HasRoom 1 row.old }
-        ensures { Comes (loads self.now place.now made.now found.now) result row.old row.new }
-    {
-        let soon = self.cycle as u64 + 1;
-        let serial = place.entry.serial;
-        match found.access {
-            Access::Faults(cause) => {
-                row.push(Event::LdFault(serial));
-                Some(begun(place.entry, soon, outcome(made, 0, Some(cause))))
-            }
-            Access::Forwards => {
-                row.push(Event::LdForward(serial));
-                Some(begun(place.entry, soon, outcome(made, found.value, None)))
-            }
-            Access::Looks(line) => {
-                row.push(Event::Ld(serial, line.line(), line.look()));
-                let value = outcome(made, found.value, None);
-                Some(begun(place.entry, self.due_of(&line), value))
-            }
-            Access::Waits => None,
-        }
-    }
+    ghost use Rattle.issue.specs.Turns.{Comes, begin_entry, divider_by, effect_here, load_by};
 
     // A division takes the divider for its time, which its first operand tells.
     fn begin_division(
@@ -165,7 +122,7 @@ impl<'a> Seen<'a> {
         requires turn { HasTurn self.now place.now }
         requires whole { is_store place.now.entry.now.item.kind ≡ false }
         requires goes { is_load place.now.entry.now.item.kind ≡ true → here goes_behind self.now place.now ≡ true }
-        requires room { HasRoom 1 row.old }
+        requires room { HasRoom (most_events_of place.now.entry.now.item.kind) row.old }
         ensures comes { Comes (here begin_entry self.now place.now) result row.old row.new }
         ensures load { option_map as_access load.new
             ≡ load_by (is_load place.now.entry.now.item.kind) self.now place.now (option_map as_access load.old) }

@@ -94,7 +94,7 @@ impl<'a> Seen<'a> {
     ghost use Rattle.unit_ports.specs.Laws.{LeftAfter};
     ghost use Rattle.stations.specs.Stations.{is_able};
     ghost use Rattle.issue.specs.Decisions.{DecidesFor, HadTurn, IsNothing, most_begun, turns_of};
-    ghost use Rattle.issue.specs.Ports.{LeftFor, OnlyPorts, left_in_all};
+    ghost use Rattle.issue.specs.Ports.{LeftFor, OnlyPorts, events_left, left_in_all};
     ghost use Rattle.issue.specs.Puts.{ArePuts};
     ghost use Rattle.issue.specs.State.{HasTurn, Stands, around_of, window_of};
 
@@ -106,11 +106,13 @@ impl<'a> Seen<'a> {
         ensures turn { HasTurn self.now result }
         ensures station { result.station ≡ station }
     {
-        let position = self.rob.position_of(self.stations.serial(station));
-        Place {
-            position,
-            station,
-            entry: self.rob.lend(position),
+        match self.rob.find(self.stations.serial(station)) {
+            Some(found) => Place {
+                position: found.position,
+                station,
+                entry: found.entry,
+            },
+            None => unreachable!(),
         }
     }
 
@@ -120,7 +122,7 @@ impl<'a> Seen<'a> {
         requires whole { is_store place.now.entry.now.item.kind ≡ false }
         requires left { LeftFor self.now place.now ports.old }
         requires few { length decided.old.puts.items + left_in_all ports.old ≤ most_begun }
-        requires room { HasRoom (left_in_all ports.old) row.old }
+        requires room { HasRoom (events_left ports.old) row.old }
         ensures { HadTurn self.now place.now ports.old decided.old row.old ports.new decided.new row.new }
     {
         if !self.is_served(place, ports) {
@@ -136,7 +138,7 @@ impl<'a> Seen<'a> {
         requires turn { HasTurn self.now place.now }
         requires left { LeftFor self.now place.now ports.old }
         requires few { length decided.old.puts.items + left_in_all ports.old ≤ most_begun }
-        requires room { HasRoom (left_in_all ports.old) row.old }
+        requires room { HasRoom (events_left ports.old) row.old }
         ensures { HadTurn self.now place.now ports.old decided.old row.old ports.new decided.new row.new }
     {
         if place.entry.is_store() {
@@ -146,13 +148,13 @@ impl<'a> Seen<'a> {
         }
     }
 
-    /// Goes over the stations, oldest first: entries that don't wait, or lack what they want, stay as
-    /// they are. All ports of the cycle
-    /// are left, and nothing is decided as yet.
+    /// Goes over the stations, oldest first, until none is left that may issue: entries that don't wait, or lack what they
+    /// want, stay as they are. All ports of the cycle are left, and nothing is decided as yet.
     pub(crate) fn decide(&self, ports: &mut Ports, decided: &mut Decided, row: &mut Row)
         requires stands { Stands self.now }
         requires left { LeftAfter self.now.desc.now (around_of self.now) [] ports.old }
         requires few { left_in_all ports.old ≤ most_begun }
+        requires events { events_left ports.old ≤ most_issued }
         requires nothing { IsNothing decided.old }
         requires room { HasRoom most_issued row.old }
         ensures decides { DecidesFor self.now decided.new ports.old.divider ports.new.divider }
@@ -161,12 +163,17 @@ impl<'a> Seen<'a> {
         ensures only { OnlyPorts ports.old ports.new }
         ensures few { IsLonger most_issued row.old row.new }
     {
+        let mut marks = self.stations.able_marks();
         for station in 0..self.stations.len() {
-            if !self.stations.able(station) {
+            if !self.stations.is_marked(marks, station) {
                 continue;
             }
             let place = self.place_at(station);
             self.decide_entry(&place, ports, decided, row);
+            marks = self.stations.passed(marks, station);
+            if marks == 0 {
+                return;
+            }
         }
     }
 }

@@ -10,6 +10,7 @@ mod access;
 mod begin;
 mod decide;
 mod gate;
+mod lines;
 mod loads;
 mod operands;
 mod parts;

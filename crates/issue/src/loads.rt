@@ -1,9 +1,19 @@
-//! What a load finds (`docs/machine.md`, "Loads"): its access, and its value from older stores' bytes and memory's.
+//! A load that is granted its port (`docs/machine.md`, "Loads"): its access, its value from older stores' bytes and memory's, and
+//! what becomes of it.
+ghost use Rattle.std.specs.Prelude.{◌≡◌};
+ghost use Rattle.std.specs.Option.{option_map, option_to_list};
+ghost use Rattle.window_model.specs.Access.{look_events};
+ghost use Rattle.window_model.specs.Row.{HasRoom, with_events};
+ghost use Rattle.issue.specs.Accesses.{as_lines, as_request};
+
 use crate::access::Access;
+use crate::begin::{begun, outcome};
+use crate::lines::{Line, Lines, Request};
 use crate::seen::{Place, Seen};
 use lsq::Merged;
 use rv_alu::extend;
 use rv_effect::Effect;
+use window_model::{Entry, Event, Row};
 
 /// What a load finds.
 #[derive(Clone, Copy, Debug, PartialEq, Eq)]
@@ -14,17 +24,34 @@ pub(crate) struct Loaded {
     pub(crate) value: u32,
 }
 
+// An event for each line that a load looks up, and for what is prefetched.
+fn tell_lines(serial: u64, lines: &Lines, ahead: Option<Request>, row: &mut Row)
+    requires room { HasRoom 3 row.old }
+    ensures { row.new ≡ with_events row.old
+        (look_events serial (as_lines lines.now) (option_to_list (option_map as_request ahead))) }
+{
+    row.push(Event::Ld(serial, lines.lower.line(), lines.lower.look()));
+    if let Some(upper) = &lines.upper {
+        row.push(Event::Ld(serial, upper.line(), upper.look()));
+    }
+    if let Some(request) = ahead {
+        row.push(Event::Pf(request.line, request.source()));
+    }
+}
+
 impl<'a> Seen<'a> {
     ghost use Rattle.std.specs.Prelude.{◌≡◌, ◌&&◌, not, None, true};
     ghost use Rattle.rv_types.specs.declared.Kind.TheVariants as kind;
     ghost use Rattle.rv_types.specs.Memory.{load_fault, range};
     ghost use Rattle.rv_effect.specs.Seen.{seen};
+    ghost use Rattle.window_model.specs.Access.{due_by, due_of};
     ghost use Rattle.window_model.specs.Issue.{access_of, begin_as, goes_behind, stores_let};
     ghost use Rattle.window_model.specs.Retire.{width_of};
+    ghost use Rattle.window_model.specs.Row.{HasRoom};
     ghost use Rattle.visibility.specs.Point.{is_hidden};
-    ghost use Rattle.issue.specs.Accesses.{as_access};
-    ghost use Rattle.issue.specs.State.{HasTurn, before_of, here};
-    ghost use Rattle.issue.specs.Turns.{access_from, effect_here, loads, value_from};
+    ghost use Rattle.issue.specs.Accesses.{as_access, as_line, as_lines};
+    ghost use Rattle.issue.specs.State.{HasTurn, around_of, before_of, here};
+    ghost use Rattle.issue.specs.Turns.{Comes, access_from, effect_here, loads, value_from};
 
     // Whether older stores have all bytes, and none of them hides its address.
     fn is_forwarded(&self, merged: &Merged) -> bool
@@ -44,8 +71,9 @@ impl<'a> Seen<'a> {
         let op = place.entry.op();
         let width = rv_types::width_of(op);
         let merged = self.lsq.merge(place.entry.serial, addr, width, self.ram);
+        let forwarded = self.is_forwarded(&merged);
         Loaded {
-            access: self.find(self.is_forwarded(&merged), addr),
+            access: self.find(forwarded, addr, place.entry.bytes()),
             value: extend(op, merged.value),
         }
     }
@@ -64,6 +92,60 @@ impl<'a> Seen<'a> {
                 access: Access::Faults(cause),
                 value: 0,
             },
+        }
+    }
+
+    // The cycle in which a line is there.
+    fn due_of(&self, line: &Line) -> u64
+        ensures { result ≡ due_of self.now.desc.now (around_of self.now) (as_line line.now) }
+    {
+        let cycle = self.cycle as u64;
+        match line {
+            Line::Hits(_) => cycle + self.desc.cache_hit_latency as u64,
+            Line::Joins(_, due) => *due,
+            Line::Takes(request) => request.due(cycle, self.desc),
+        }
+    }
+
+    // The cycle in which all are.
+    fn due_by(&self, lines: &Lines) -> u64
+        ensures { result ≡ due_by self.now.desc.now (around_of self.now) (as_lines lines.now) }
+    {
+        let lower = self.due_of(&lines.lower);
+        match &lines.upper {
+            Some(upper) => lower.max(self.due_of(upper)),
+            None => lower,
+        }
+    }
+
+    /// A load by what it found. One that finds too few miss registers stays as it is.
+    pub(crate) fn begin_load(
+        &self,
+        place: &Place,
+        made: &Effect,
+        found: &Loaded,
+        row: &mut Row,
+    ) -> Option<Entry>
+        requires room { HasRoom 3 row.old }
+        ensures { Comes (loads self.now place.now made.now found.now) result row.old row.new }
+    {
+        let soon = self.cycle as u64 + 1;
+        let serial = place.entry.serial;
+        match found.access {
+            Access::Faults(cause) => {
+                row.push(Event::LdFault(serial));
+                Some(begun(place.entry, soon, outcome(made, 0, Some(cause))))
+            }
+            Access::Forwards => {
+                row.push(Event::LdForward(serial));
+                Some(begun(place.entry, soon, outcome(made, found.value, None)))
+            }
+            Access::Looks(lines, ahead) => {
+                tell_lines(serial, &lines, ahead, row);
+                let value = outcome(made, found.value, None);
+                Some(begun(place.entry, self.due_by(&lines), value))
+            }
+            Access::Waits => None,
         }
     }
 }

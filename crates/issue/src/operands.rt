@@ -6,34 +6,22 @@ ghost use Rattle.rv_types.specs.Regs.{reads_of, two};
 ghost use Rattle.rob_ring.specs.Ring.{below};
 ghost use Rattle.window_model.specs.Order.{from_writer};
 ghost use Rattle.window_model.specs.Serials.{Rise};
-ghost use Rattle.parts_stand.specs.Writers.{if_serial, in_flight};
+ghost use Rattle.parts_stand.specs.Writers.{in_flight};
 ghost use Rattle.issue.specs.Operands.{value_by};
 
 use crate::seen::{Place, Seen};
 use rob_ring::RobRing;
 use rv_types::{REGISTERS, Reg, reads_of};
-use window_model::Entry;
-
-// The value of the entry, if it has this serial; else this one.
-fn value_if_serial(serial: u64, entry: &Entry, retired: u32) -> u32
-    ensures { result ≡ from_writer (if_serial serial (Some entry.now)) retired }
-{
-    if entry.serial == serial {
-        return entry.value();
-    }
-    retired
-}
 
 // The value of the entry with this serial, if it is in flight; else this one.
 fn value_in_flight(rob: &RobRing, serial: u64, retired: u32) -> u32
     requires rise { Rise rob.now.entries }
     ensures { result ≡ from_writer (in_flight rob.now.entries (Some serial)) retired }
 {
-    let position = rob.position_of(serial);
-    if position == rob.len() {
-        return retired;
+    match rob.find(serial) {
+        Some(found) => found.entry.value(),
+        None => retired,
     }
-    value_if_serial(serial, rob.lend(position), retired)
 }
 
 // The value of a register whose writer has this serial: the retired one where the writer isn't in flight.

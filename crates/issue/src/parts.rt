@@ -64,7 +64,7 @@ impl<'a> Seen<'a> {
     ghost use Rattle.unit_ports.specs.Laws.{if_asked};
     ghost use Rattle.unit_ports.specs.Ports.{Ports};
     ghost use Rattle.issue.specs.Decisions.{HadTurn, most_begun};
-    ghost use Rattle.issue.specs.Ports.{LeftFor, granted_at, left_in_all, may_here, part_port};
+    ghost use Rattle.issue.specs.Ports.{LeftFor, events_left, granted_at, left_in_all, may_here, part_port};
     ghost use Rattle.issue.specs.State.{HasTurn, around_of};
     ghost use Rattle.issue.specs.Turns.{Goes, parts_by};
 
@@ -175,7 +175,7 @@ impl<'a> Seen<'a> {
         requires store { is_store place.now.entry.now.item.kind ≡ true }
         requires left { LeftFor self.now place.now ports.old }
         requires few { length decided.old.puts.items + left_in_all ports.old ≤ most_begun }
-        requires room { HasRoom (left_in_all ports.old) row.old }
+        requires room { HasRoom (events_left ports.old) row.old }
         ensures { HadTurn self.now place.now ports.old decided.old row.old ports.new decided.new row.new }
     {
         let address = self.grant_address(place, ports);

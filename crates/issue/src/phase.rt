@@ -9,7 +9,7 @@ ghost use Rattle.visibility.specs.Point.{HasAdvanced};
 use crate::decide::Decided;
 use crate::placing::place;
 use crate::seen::Seen;
-use crate::shared::{take_register, touch};
+use crate::shared::{take_registers, touch};
 use core_parts::Parts;
 use rename_taint::RenameTaint;
 use window_model::Row;
@@ -17,8 +17,9 @@ use window_model::Row;
 /// Phase Issue of this cycle, once the visibility point has moved over the window, in which no store executes: each entry that may
 /// issue begins to execute, oldest first, as far as there are ports, with its event in the row, and its station is freed. A store
 /// issues in two parts, each at a port of its own, and begins to execute once both have issued; what has issued of it is known to
-/// the queue of stores. A load's line moves to the front of its set where the cache has it, and takes a miss register where it
-/// needs one; a division takes the divider. The point goes on to say which entries are visible.
+/// the queue of stores. A load's lines move to the front of their sets where the cache has them, and take miss registers where they
+/// need them, with which the line behind them may be prefetched; a division takes the divider. The point goes on to say which
+/// entries are visible.
 pub fn issue<R: RenameTaint>(parts: &mut Parts<R>, row: &mut Row)
     requires advanced { HasAdvanced parts.old.point parts.old.machine.window }
     requires settled { Each WaitsOrDone parts.old.machine.window }
@@ -41,8 +42,10 @@ pub fn issue<R: RenameTaint>(parts: &mut Parts<R>, row: &mut Row)
         point: &parts.point,
         sources: &parts.sources,
         tags: &parts.tags,
+        second: &parts.second,
         mshrs: &parts.mshrs,
         ram: &parts.ram,
+        memory_end: parts.ram.base() as u64 + parts.ram.size() as u64,
         regs: &parts.regs,
         desc: &parts.desc,
         free_from: divider.free_from,
@@ -57,5 +60,11 @@ pub fn issue<R: RenameTaint>(parts: &mut Parts<R>, row: &mut Row)
         &mut parts.lsq,
     );
     touch(&mut parts.tags, decided.load);
-    take_register(&mut parts.mshrs, decided.load, parts.cycle, &parts.desc);
+    take_registers(
+        &mut parts.mshrs,
+        &mut parts.second,
+        decided.load,
+        parts.cycle,
+        &parts.desc,
+    );
 }

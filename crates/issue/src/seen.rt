@@ -7,6 +7,7 @@ use machine_desc::Desc;
 use mshr_file::Mshrs;
 use rob_ring::{RobRing, Sources};
 use rv_types::REGISTERS;
+use second_level::Second;
 use stations::Stations;
 use visibility::VisPoint;
 use window_model::Entry;
@@ -26,10 +27,14 @@ pub(crate) struct Seen<'a> {
     pub(crate) sources: &'a HeapCircularBuffer<Sources>,
     /// The cache.
     pub(crate) tags: &'a Tags,
+    /// Its second level.
+    pub(crate) second: &'a Second,
     /// The miss registers.
     pub(crate) mshrs: &'a Mshrs,
     /// Memory.
     pub(crate) ram: &'a Ram,
+    /// The address behind its last byte, which is at most 2^32.
+    pub(crate) memory_end: u64,
     /// The registers, as retired.
     pub(crate) regs: &'a [u32; REGISTERS],
     /// The machine's description.

@@ -1,31 +1,74 @@
-//! What the load of a cycle leaves of the cache and the miss registers (`docs/machine.md`, "Issue").
-ghost use Rattle.std.specs.Prelude.{◌≡◌, ◌<◌, length};
-ghost use Rattle.std.specs.Option.{option_map};
-ghost use Rattle.issue.specs.Accesses.{as_access};
-ghost use Rattle.issue.specs.Shared.{IsMiss, cache_left, misses_left};
+//! What the load of a cycle leaves of the cache, of its second level and of the miss registers (`docs/machine.md`, "Issue").
+ghost use Rattle.std.specs.Prelude.{◌≡◌, ◌<◌, ◌≤◌, ◌+◌, ◌^◌, [], ◌∷◌, ◌++◌, length, map};
+ghost use Rattle.std.specs.List.{fold};
+ghost use Rattle.std.specs.Option.{option_map, option_to_list};
+ghost use Rattle.window_model.specs.Access.{register};
+ghost use Rattle.window_model.specs.SecondLevel.{second_touched};
+ghost use Rattle.issue.specs.Accesses.{as_access, as_request};
+ghost use Rattle.issue.specs.Shared.{cache_left, misses_left, requested, second_left};
 
-use crate::access::{Access, Line};
+use crate::access::Access;
+use crate::lines::Request;
 use cache_tags::Tags;
 use machine_desc::Desc;
 use mshr_file::Mshrs;
+use second_level::Second;
 
-/// The line of a load moves to the front, where the cache has it.
+/// Each line of a load moves to the front of its set, where the cache has it.
 pub(crate) fn touch(tags: &mut Tags, load: Option<Access>)
     ensures { tags.new ≡ record tags.old { sets = cache_left tags.old.desc (option_map as_access load) tags.old.sets } }
 {
-    if let Some(Access::Looks(line)) = load {
-        let _ = tags.touch(line.line());
+    if let Some(Access::Looks(lines, _)) = load {
+        let _ = tags.touch(lines.lower.line());
+        if let Some(upper) = lines.upper {
+            let _ = tags.touch(upper.line());
+        }
     }
 }
 
-/// A load that misses takes a register.
-pub(crate) fn take_register(mshrs: &mut Mshrs, load: Option<Access>, cycle: u32, desc: &Desc)
-    requires room { IsMiss load → length mshrs.old.misses < mshrs.old.room }
-    ensures { mshrs.new ≡ record mshrs.old {
-      misses = misses_left desc.now cycle (option_map as_access load) mshrs.old.misses;
+// This line takes a register, if there is one, and moves to the front of its set where the second level has it.
+fn take_register(
+    mshrs: &mut Mshrs,
+    second: &mut Second,
+    request: Option<Request>,
+    cycle: u32,
+    desc: &Desc,
+)
+    requires room { length mshrs.old.misses + length (option_to_list (option_map as_request request)) ≤ mshrs.old.room }
+    ensures misses { mshrs.new ≡ record mshrs.old {
+      misses = mshrs.old.misses ++ map (register desc.now cycle) (option_to_list (option_map as_request request));
+    } }
+    ensures second { second.new ≡ record second.old {
+      sets = fold (second_touched second.old.desc) second.old.sets
+          (map (λ r. r.line) (option_to_list (option_map as_request request)));
     } }
 {
-    if let Some(Access::Looks(Line::Takes(line))) = load {
-        mshrs.take(line, cycle as u64 + desc.cache_miss_latency as u64);
+    if let Some(request) = request {
+        let due = request.due(cycle as u64, desc);
+        mshrs.take(request.line, due, request.from_memory);
+        let _ = second.look(request.line);
+    }
+}
+
+/// Each line of a load that misses takes a register, the lower first, and then the line that is prefetched does.
+pub(crate) fn take_registers(
+    mshrs: &mut Mshrs,
+    second: &mut Second,
+    load: Option<Access>,
+    cycle: u32,
+    desc: &Desc,
+)
+    requires room { length mshrs.old.misses + length (requested (option_map as_access load)) ≤ mshrs.old.room }
+    ensures misses { mshrs.new ≡ record mshrs.old {
+      misses = misses_left desc.now cycle (option_map as_access load) mshrs.old.misses;
+    } }
+    ensures second { second.new ≡ record second.old {
+      sets = second_left second.old.desc (option_map as_access load) second.old.sets;
+    } }
+{
+    if let Some(Access::Looks(lines, ahead)) = load {
+        take_register(mshrs, second, lines.lower.request(), cycle, desc);
+        take_register(mshrs, second, lines.upper_request(), cycle, desc);
+        take_register(mshrs, second, ahead, cycle, desc);
     }
 }

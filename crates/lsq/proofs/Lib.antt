@@ -3,3 +3,4 @@ pub mod Gathers
 pub mod Awaiting
 pub mod Faultless
 mod Absent
+mod Rising

@@ -1,6 +1,6 @@
 -- The loads and stores in flight as contracts see them (docs/machine.md, "Issue" and "Loads").
-use Rattle.std.specs.Prelude.{ℕ, nat_lt, ◌==◌, if◌then◌else◌, List, [], ◌∷◌, reverse, Option, Some, None, is_some, Bool, ◌&&◌}
-use Rattle.std.specs.List.{filter}
+use Rattle.std.specs.Prelude.{ℕ, ◌<◌, nat_lt, ◌==◌, if◌then◌else◌, List, [], ◌∷◌, reverse, Option, Some, None, is_some, Bool, ◌&&◌}
+use Rattle.std.specs.List.{AllPairs, filter}
 use Rattle.machine_desc.specs.declared.Desc.{Desc}
 use Rattle.rename_taint.specs.Writes.{later}
 use Rattle.lsq.specs.declared.store.Span.{Span}
@@ -12,6 +12,10 @@ pub record Queues : Type 0 where
   pub stores : List Store
   pub max_loads : ℕ
   pub max_stores : ℕ
+
+-- serials rise from the oldest on
+abbrev pub Rise : List ℕ → Type 0
+Rise serials = AllPairs (λ a b. a < b) serials
 
 -- no loads and no stores, with a description's room
 abbrev pub empty : Desc → Queues

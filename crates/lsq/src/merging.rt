@@ -114,7 +114,8 @@ impl Gathered {
 
     // The number of the bytes from an address on: those that were gathered, else memory's.
     fn number(&self, addr: u64, width: Width, ram: &Ram) -> u32
-        requires { load_fault ram.now addr (bytes_in width) ≡ None }
+        requires address { load_fault ram.now addr (bytes_in width) ≡ None }
+        requires low { addr < 2 ^ 32 }
         ensures value { result ≡ number_in ram.now addr width self.now }
         ensures small { result < 2 ^ (8 * bytes_in width) }
     {

@@ -1,10 +1,10 @@
 //! The queue of loads and the queue of stores.
-ghost use Rattle.std.specs.Prelude.{◌≡◌, ◌<◌, ◌≤◌, ◌*◌, ◌^◌, not, ◌==◌, ◌||◌, nat_le, nat_lt, [], ◌∷◌, ◌++◌, length, map, None, is_some, IfOk, vec_len, vec_capacity};
+ghost use Rattle.std.specs.Prelude.{◌≡◌, ◌<◌, ◌≤◌, ◌*◌, ◌^◌, not, ◌==◌, ◌||◌, nat_le, nat_lt, [], ◌∷◌, ◌++◌, length, map, None, is_some, true, IfOk, vec_len, vec_capacity};
 ghost use Rattle.std.specs.List.{filter, list_all, list_any};
 ghost use Rattle.rv_types.specs.Memory.{load_fault};
 ghost use Rattle.rv_types.specs.Value.{bytes_in};
 ghost use Rattle.rv_types.specs.Word.{from_le};
-ghost use Rattle.lsq.specs.Queues.{addressed_at, empty, filled_at, is_known, older, youngest_root};
+ghost use Rattle.lsq.specs.Queues.{Rise, addressed_at, empty, filled_at, is_known, older, youngest_root};
 ghost use Rattle.lsq.specs.Merging.{all_forwarded, merged_bytes};
 ghost use Rattle.lsq.specs.Pending.{bytes_asked, lacks_address, lacks_data_for};
 
@@ -24,11 +24,13 @@ pub struct Lsq {
     stores: Vec<Store>,
     max_loads: u32,
     max_stores: u32,
+    // Whether the loads are known to rise, as they do where each is the youngest as it comes: then who retires is found at the head.
+    rising: bool,
 }
 
 impl Model for Lsq {
-    ghost use Rattle.std.specs.Prelude.{◌≤◌, vec_capacity};
-    ghost use Rattle.lsq.specs.Queues.{Queues};
+    ghost use Rattle.std.specs.Prelude.{◌≡◌, ◌≤◌, true, vec_capacity};
+    ghost use Rattle.lsq.specs.Queues.{Queues, Rise};
 
     ghost Value = { Queues };
 
@@ -39,7 +41,8 @@ impl Model for Lsq {
       max_stores = q.max_stores;
     } };
 
-    ghost invariant = { λ q. (q.max_loads ≤ vec_capacity q.loads) × (q.max_stores ≤ vec_capacity q.stores) };
+    ghost invariant = { λ q. (q.max_loads ≤ vec_capacity q.loads) × (q.max_stores ≤ vec_capacity q.stores)
+        × (q.rising ≡ true → Rise q.loads.items) };
 }
 
 impl Lsq {
@@ -54,6 +57,7 @@ impl Lsq {
             stores,
             max_loads: desc.core_loads,
             max_stores: desc.core_stores,
+            rising: true,
         })
     }
 
@@ -76,6 +80,7 @@ impl Lsq {
         requires room { length self.old.loads < self.old.max_loads }
         ensures { self.new ≡ record self.old { loads = self.old.loads ++ serial ∷ [] } }
     {
+        self.rising = rises_with(self.rising, self.loads.as_slice(), serial);
         push_within(&mut self.loads, serial);
     }
 
@@ -165,7 +170,7 @@ impl Lsq {
           stores = filter (λ s. not (s.serial == serial)) self.old.stores;
         } }
     {
-        pop_load(&mut self.loads, serial);
+        pop_load(&mut self.loads, self.rising, serial);
         pop_store(&mut self.stores, serial);
     }
 }
@@ -255,17 +260,41 @@ fn cut_stores(stores: &mut Vec<Store>, first: u64)
     stores.retain(|store| store.serial < first);
 }
 
-// Takes out the oldest load where it has this serial, as who retires has.
-fn pop_oldest_load(loads: &mut Vec<u64>, serial: u64)
-    ensures left { filter (λ l. not (l == serial)) loads.new.items ≡ filter (λ l. not (l == serial)) loads.old.items }
-    ensures capacity { vec_capacity loads.new ≡ vec_capacity loads.old }
+// Whether the loads are known to rise, with this one as the youngest.
+fn rises_with(rising: bool, loads: &[u64], serial: u64) -> bool
+    requires { rising ≡ true → Rise loads.now }
+    ensures { result ≡ true → Rise (loads.now ++ serial ∷ []) }
 {
-    if loads.len() > 0 && loads[0] == serial {
-        loads.remove(0);
+    if !rising {
+        return false;
     }
+    if loads.len() == 0 {
+        return true;
+    }
+    loads[loads.len() - 1] < serial
 }
 
-// The same for a store.
+// Takes out the load with this serial, if there is one. Who retires is the oldest, so it is the first or isn't there.
+fn pop_rising(loads: &mut Vec<u64>, serial: u64)
+    requires { Rise loads.old.items }
+    ensures kept { loads.new.items ≡ filter (λ l. not (l == serial)) loads.old.items }
+    ensures capacity { vec_capacity loads.new ≡ vec_capacity loads.old }
+{
+    if loads.len() == 0 {
+        return;
+    }
+    let first = loads[0];
+    if serial < first {
+        return;
+    }
+    if first == serial {
+        loads.remove(0);
+        return;
+    }
+    loads.retain(|load| *load != serial);
+}
+
+// Takes out the oldest store where it has this serial, as who retires has.
 fn pop_oldest_store(stores: &mut Vec<Store>, serial: u64)
     ensures left { filter (λ s. not (s.serial == serial)) stores.new.items
         ≡ filter (λ s. not (s.serial == serial)) stores.old.items }
@@ -276,26 +305,21 @@ fn pop_oldest_store(stores: &mut Vec<Store>, serial: u64)
     }
 }
 
-// Whether there is a load with this serial.
-fn holds_load(loads: &[u64], serial: u64) -> bool
-    ensures { result ≡ list_any (λ l. l == serial) loads.now }
-{
-    loads.iter().any(|load| *load == serial)
-}
-
-// The same for a store.
+// Whether there is a store with this serial.
 fn holds_store(stores: &[Store], serial: u64) -> bool
     ensures { result ≡ list_any (λ s. s.serial == serial) stores.now }
 {
     stores.iter().any(|store| store.serial == serial)
 }
 
-fn pop_load(loads: &mut Vec<u64>, serial: u64)
+fn pop_load(loads: &mut Vec<u64>, rising: bool, serial: u64)
+    requires { rising ≡ true → Rise loads.old.items }
     ensures kept { loads.new.items ≡ filter (λ l. not (l == serial)) loads.old.items }
     ensures capacity { vec_capacity loads.new ≡ vec_capacity loads.old }
 {
-    pop_oldest_load(loads, serial);
-    if holds_load(loads.as_slice(), serial) {
+    if rising {
+        pop_rising(loads, serial);
+    } else {
         loads.retain(|load| *load != serial);
     }
 }

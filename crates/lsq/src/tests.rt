@@ -46,7 +46,7 @@ fn merged(value: u32, covered: bool, root: Option<u64>) -> Option<Merged> {
 #[test]
 fn a_load_finds_the_youngest_bytes_before_it(rt: HostRuntime) -> Result<(), Fail> {
     let alloc = rt.alloc();
-    let mut ram = Ram::new(alloc, BASE, 64)?;
+    let mut ram = Ram::new(alloc, BASE, 64, false)?;
     assert_eq!(rt; ram.put(BASE, Width::W, 0x4433_2211), Ok(()));
     let mut lsq = Lsq::new(alloc, &read_desc(alloc, EXAMPLE.as_bytes())?)?;
     assert_eq!(rt; add_store(&mut lsq, 3, None), true);

@@ -1,7 +1,15 @@
 -- All that is asked of a description holds of each.
-use Rattle.std.proofs.Common.{arith}
+use Rattle.std.proofs.Common.{◌≡◌, ◌<◌, ◌⊎◌, inl, inr, ℕ, Bool, true, false, IsTrue, refl, arith, eqb-true, ltb-true}
+use Rattle.std.specs.Prelude.{◌==◌, ◌&&◌, ◌||◌, nat_lt}
 use Rattle.machine_desc.specs.declared.Desc.{Desc}
 use Rattle.machine_desc.specs.Ranges.{IsDesc}
+
+between : (sets hit second miss : ℕ) (none low high : Bool) → (sets == 0) ≡ none → nat_lt hit second ≡ low → nat_lt second miss ≡ high
+    → IsTrue (none || low && high) → (sets ≡ 0) ⊎ (hit < second) × (second < miss)
+between sets hit second miss true low high n l u h = inl (eqb-true sets 0 n)
+between sets hit second miss false true true n l u h = inr (ltb-true hit second l, ltb-true second miss u)
+between sets hit second miss false true false n l u h = absurd (cc)
+between sets hit second miss false false high n l u h = absurd (cc)
 
 pub every_desc : (d : Desc) → IsDesc d
 every_desc d = record {
@@ -25,4 +33,14 @@ every_desc d = record {
   mshrs = (d.some_misses, d.few_misses, tt);
   ram_base = (omega arith, d.low_base, d.base_aligned);
   ram_size = ((d.some_ram, d.small_ram, d.size_aligned), d.ram_ends);
+  misaligned = ((omega arith, d.few_misaligned, tt), d.two_lines);
+  history = (omega arith, d.short_history, tt);
+  returns = (omega arith, d.few_returns, tt);
+  second_sets = (omega arith, d.few_second_sets, d.second_sets_power);
+  second_ways = (d.some_second_ways, d.few_second_ways, tt);
+  second_latency = (
+    (d.some_second_latency, d.short_second_latency, tt),
+    between d.cache_second_sets d.cache_hit_latency d.cache_second_latency d.cache_miss_latency _ _ _ refl refl refl d.second_between,
+  );
+  prefetch = (omega arith, d.few_prefetches, tt);
 }

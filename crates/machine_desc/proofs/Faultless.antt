@@ -1,12 +1,13 @@
 -- What a document without fault has.
-use Rattle.std.proofs.Common.{◌≡◌, ◌+◌, ◌^◌, ℕ, ◌<◌, ◌≤◌, nat_lt, nat_le, Bool, true, false, if◌then◌else◌, List, [], ◌∷◌, map, Option, Some, None, Ok, refl, leb-true, ltb-true}
+use Rattle.std.proofs.Common.{◌≡◌, ◌+◌, ◌*◌, ◌^◌, ℕ, IsTrue, ◌<◌, ◌≤◌, nat_lt, nat_le, Bool, true, false, if◌then◌else◌, List, [], ◌∷◌, map, Option, Some, None, Ok, refl, leb-true, ltb-true}
 use Rattle.std.specs.List.{AllByRecursion as Each}
 use Rattle.toml.specs.Data.{Members}
 use Rattle.machine_desc.specs.declared.keys.Key.{Key}
-use Rattle.machine_desc.specs.declared.keys.Key.TheVariants.{CoreFetchWidth, CoreRetireWidth, CoreRob, CoreStations, CoreLoads, CoreStores, CoreQueue, UnitsAlus, UnitsMulLatency, PredictorCounters, PredictorBtb, CacheSets, CacheWays, CacheLine, CacheHitLatency, CacheMissLatency, CacheMshrs, RamBase, RamSize, SttModel}
+use Rattle.machine_desc.specs.declared.keys.Key.TheVariants.{CoreFetchWidth, CoreRetireWidth, CoreRob, CoreStations, CoreLoads, CoreStores, CoreQueue, UnitsAlus, UnitsMulLatency, PredictorCounters, PredictorBtb, CacheSets, CacheWays, CacheLine, CacheHitLatency, CacheMissLatency, CacheMshrs, RamBase, RamSize, SttModel, RamMisaligned, PredictorHistory, PredictorReturns, CacheSecondSets, CacheSecondWays, CacheSecondLatency, CachePrefetch}
 use Rattle.machine_desc.specs.declared.fault.DescFault.{DescFault}
 use Rattle.machine_desc.specs.Table.{keys}
-use Rattle.machine_desc.specs.Description.{first, checked, top_fault, sections_fault, key_fault, keys_fault, latency_fault, end_fault, document_fault, number}
+use Rattle.machine_desc.specs.Description.{first, checked, top_fault, sections_fault, key_fault, keys_fault, latency_fault, end_fault, registers_fault, second_fault, document_fault, number}
+use Rattle.machine_desc.specs.Version.{comes_between}
 use Rattle.machine_desc.specs.Clean.{IsClean}
 
 -- where there is no first fault there is none
@@ -27,15 +28,27 @@ ends : (v : ℕ) (document : Members) → end_fault v document ≡ None → numb
 unfolding end_fault
 ends v document h = leb-true _ _ (none_from_if (nat_le (number v document RamBase + number v document RamSize) (2 ^ 32)) _ h)
 
+registers : (v : ℕ) (document : Members) → registers_fault v document ≡ None → 2 * number v document RamMisaligned ≤ number v document CacheMshrs
+unfolding registers_fault
+registers v document h = leb-true _ _ (none_from_if (nat_le (2 * number v document RamMisaligned) (number v document CacheMshrs)) _ h)
+
+second : (v : ℕ) (document : Members) → second_fault v document ≡ None
+    → IsTrue (comes_between (number v document CacheSecondSets) (number v document CacheHitLatency) (number v document CacheSecondLatency) (number v document CacheMissLatency))
+unfolding second_fault
+second v document h =
+    none_from_if (comes_between (number v document CacheSecondSets) (number v document CacheHitLatency) (number v document CacheSecondLatency) (number v document CacheMissLatency)) _ h
+
 each_key : (v : ℕ) (document : Members) → keys_fault v document ≡ None → Each (λ x. x ≡ None) (map (key_fault v document) keys)
 unfolding keys_fault
 each_key v document h = none_first (map (key_fault v document) keys) h
 
 each_step : (v : ℕ) (document : Members) → document_fault v document ≡ None
-    → Each (λ x. x ≡ None) (top_fault document ∷ sections_fault document ∷ keys_fault v document ∷ latency_fault v document ∷ end_fault v document ∷ [])
+    → Each (λ x. x ≡ None) (top_fault document ∷ sections_fault v document ∷ keys_fault v document ∷ latency_fault v document ∷ end_fault v document ∷
+    registers_fault v document ∷ second_fault v document ∷ [])
 unfolding document_fault
 each_step v document h =
-    none_first (top_fault document ∷ sections_fault document ∷ keys_fault v document ∷ latency_fault v document ∷ end_fault v document ∷ []) h
+    none_first (top_fault document ∷ sections_fault v document ∷ keys_fault v document ∷ latency_fault v document ∷ end_fault v document ∷
+    registers_fault v document ∷ second_fault v document ∷ []) h
 
 -- so each key has none
 key_clean : (v : ℕ) (document : Members) → Each (λ x. x ≡ None) (map (key_fault v document) keys) → (k : Key) → key_fault v document k ≡ None
@@ -59,6 +72,13 @@ key_clean v document e CacheMshrs = e.1.1.1.1.1.1.1.1.1.1.1.1.1.1.1.1.0
 key_clean v document e RamBase = e.1.1.1.1.1.1.1.1.1.1.1.1.1.1.1.1.1.0
 key_clean v document e RamSize = e.1.1.1.1.1.1.1.1.1.1.1.1.1.1.1.1.1.1.0
 key_clean v document e SttModel = e.1.1.1.1.1.1.1.1.1.1.1.1.1.1.1.1.1.1.1.0
+key_clean v document e RamMisaligned = e.1.1.1.1.1.1.1.1.1.1.1.1.1.1.1.1.1.1.1.1.0
+key_clean v document e PredictorHistory = e.1.1.1.1.1.1.1.1.1.1.1.1.1.1.1.1.1.1.1.1.1.0
+key_clean v document e PredictorReturns = e.1.1.1.1.1.1.1.1.1.1.1.1.1.1.1.1.1.1.1.1.1.1.0
+key_clean v document e CacheSecondSets = e.1.1.1.1.1.1.1.1.1.1.1.1.1.1.1.1.1.1.1.1.1.1.1.0
+key_clean v document e CacheSecondWays = e.1.1.1.1.1.1.1.1.1.1.1.1.1.1.1.1.1.1.1.1.1.1.1.1.0
+key_clean v document e CacheSecondLatency = e.1.1.1.1.1.1.1.1.1.1.1.1.1.1.1.1.1.1.1.1.1.1.1.1.1.0
+key_clean v document e CachePrefetch = e.1.1.1.1.1.1.1.1.1.1.1.1.1.1.1.1.1.1.1.1.1.1.1.1.1.1.0
 
 pub is_clean : (v : ℕ) (document : Members) → document_fault v document ≡ None → IsClean v document
 is_clean v document h =
@@ -67,6 +87,8 @@ is_clean v document h =
       keys = key_clean v document (each_key v document steps.1.1.0);
       latencies = latencies v document steps.1.1.1.0;
       ends = ends v document steps.1.1.1.1.0;
+      registers = registers v document steps.1.1.1.1.1.0;
+      second = second v document steps.1.1.1.1.1.1.0;
     }
 
 none_from_checked : (x : Option DescFault) → checked x ≡ Ok tt → x ≡ None

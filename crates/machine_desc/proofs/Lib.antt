@@ -4,6 +4,8 @@ pub mod Faultless
 pub mod Texts
 pub mod Powers
 pub mod Fitting
+pub mod Passing
+pub mod LeftOut
 pub mod EveryDesc
 pub mod SameDesc
 pub mod SomeDesc

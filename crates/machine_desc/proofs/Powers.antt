@@ -1,6 +1,8 @@
--- The test of a power of two is right.
-use Rattle.std.proofs.Common.{◌≡◌, ◌+◌, ◌*◌, ◌/◌, ◌%◌, ◌≤◌, ◌⊎◌, inl, inr, ℕ, zero, suc, arith, IsTrue, count_ones, eqb-true}
+-- The tests of a power of two, and of zero or a power of two, are right.
+use Rattle.std.proofs.Common.{◌≡◌, ◌+◌, ◌*◌, ◌/◌, ◌%◌, ◌≤◌, ◌⊎◌, inl, inr, ℕ, zero, suc, arith, IsTrue, count_ones, eqb-true, Bool, true, false, refl}
+use Rattle.std.specs.Prelude.{◌==◌, ◌||◌}
 use Rattle.std.specs.Int.{IsPowerOfTwo, is_power_of_two}
+use Rattle.machine_desc.specs.Power.{IsZeroOrPower}
 use Rattle.std.proofs.lemmas.Nat.{zero_from_ones, ones_le_self, pow-add}
 use lib.Count.{ones_step}
 
@@ -28,3 +30,11 @@ from_ones (suc d) n h e = by_parity n (parity n) e (from_ones d (n / 2) (halved 
 -- one bit is set only in a power of two
 pub power_from_test : (n : ℕ) → IsTrue (is_power_of_two n) → IsPowerOfTwo n
 power_from_test n h = from_ones n n (omega arith) (eqb-true _ _ h)
+
+by_test : (n : ℕ) (zero power : Bool) → (n == 0) ≡ zero → is_power_of_two n ≡ power → IsTrue (zero || power) → IsZeroOrPower n
+by_test n true power z p h = inl (eqb-true n 0 z)
+by_test n false true z p h = inr (power_from_test n p)
+by_test n false false z p h = absurd (cc)
+
+pub zero_or_power_from_test : (n : ℕ) → IsTrue (n == 0 || is_power_of_two n) → IsZeroOrPower n
+zero_or_power_from_test n h = by_test n _ _ refl refl h

@@ -1,15 +1,16 @@
 -- The contents of a description tell it from any other.
-use Rattle.std.proofs.Common.{◌≡◌, ◌+◌, ◌%◌, ◌^◌, ◌<◌, ◌≤◌, ℕ, List, ap, slice_index, Result, Ok}
+use Rattle.std.proofs.Common.{◌≡◌, ◌+◌, ◌*◌, ◌%◌, ◌^◌, ◌<◌, ◌≤◌, ℕ, Bool, true, IsTrue, List, ap, slice_index, Result, Ok}
 use Rattle.std.specs.Int.{IsPowerOfTwo}
 use Rattle.std.specs.Coded.{le_prop}
 use mathlib.Core.Path.{PathP}
 use mathlib.Core.HLevel.{is_prop→PathP, hedberg}
+use mathlib.Core.Bool.{Bool-discrete}
 use native.Mathlib.Decide.{ℕ_discrete}
 use Rattle.machine_desc.specs.declared.Desc.{Desc}
 use Rattle.machine_desc.specs.declared.fault.DescFault.{DescFault}
 use Rattle.machine_desc.specs.Description.{Contents, contents, description_of, Describes}
-use Rattle.machine_desc.specs.Power.{power_prop}
-use Rattle.machine_desc.specs.Version.{most}
+use Rattle.machine_desc.specs.Power.{IsZeroOrPower, power_prop, zero_or_power_prop}
+use Rattle.machine_desc.specs.Version.{most, comes_between}
 
 -- two proofs of one fact, at two descriptions along a path of the number that it is about
 up : (least : ℕ) {a b : ℕ} (p : a ≡ b) (u : least ≤ a) (v : least ≤ b) → PathP (λ i. least ≤ p i) u v
@@ -33,6 +34,15 @@ ends p q u v = is_prop→PathP (λ i. p i + q i ≤ 2 ^ 32) (λ i. le_prop) u v
 by_version : (in_1 in_2 : ℕ) {a b v w : ℕ} (p : a ≡ b) (q : v ≡ w) (u : a ≤ most in_1 in_2 v) (x : b ≤ most in_1 in_2 w) → PathP (λ i. p i ≤ most in_1 in_2 (q i)) u x
 by_version in_1 in_2 p q u x = is_prop→PathP (λ i. p i ≤ most in_1 in_2 (q i)) (λ i. le_prop) u x
 
+zero_or_power : {a b : ℕ} (p : a ≡ b) (u : IsZeroOrPower a) (v : IsZeroOrPower b) → PathP (λ i. IsZeroOrPower (p i)) u v
+zero_or_power p u v = is_prop→PathP (λ i. IsZeroOrPower (p i)) (λ i. zero_or_power_prop (p i)) u v
+
+twice : {a b c d : ℕ} (p : a ≡ b) (q : c ≡ d) (u : 2 * a ≤ c) (v : 2 * b ≤ d) → PathP (λ i. 2 * p i ≤ q i) u v
+twice p q u v = is_prop→PathP (λ i. 2 * p i ≤ q i) (λ i. le_prop) u v
+
+tested : {a b : Bool} (p : a ≡ b) (u : IsTrue a) (v : IsTrue b) → PathP (λ i. IsTrue (p i)) u v
+tested p u v = is_prop→PathP (λ i. IsTrue (p i)) (λ i. hedberg Bool-discrete (p i) true) u v
+
 pub same_desc : (d e : Desc) → contents d ≡ contents e → d ≡ e
 same_desc d e h =
     let version : d.version ≡ e.version = ap (λ (c : Contents). c.version) h in
@@ -55,6 +65,13 @@ same_desc d e h =
     let cache_mshrs : d.cache_mshrs ≡ e.cache_mshrs = ap (λ (c : Contents). slice_index c.numbers 16) h in
     let ram_base : d.ram_base ≡ e.ram_base = ap (λ (c : Contents). slice_index c.numbers 17) h in
     let ram_size : d.ram_size ≡ e.ram_size = ap (λ (c : Contents). slice_index c.numbers 18) h in
+    let ram_misaligned : d.ram_misaligned ≡ e.ram_misaligned = ap (λ (c : Contents). slice_index c.numbers 19) h in
+    let predictor_history : d.predictor_history ≡ e.predictor_history = ap (λ (c : Contents). slice_index c.numbers 20) h in
+    let predictor_returns : d.predictor_returns ≡ e.predictor_returns = ap (λ (c : Contents). slice_index c.numbers 21) h in
+    let cache_second_sets : d.cache_second_sets ≡ e.cache_second_sets = ap (λ (c : Contents). slice_index c.numbers 22) h in
+    let cache_second_ways : d.cache_second_ways ≡ e.cache_second_ways = ap (λ (c : Contents). slice_index c.numbers 23) h in
+    let cache_second_latency : d.cache_second_latency ≡ e.cache_second_latency = ap (λ (c : Contents). slice_index c.numbers 24) h in
+    let cache_prefetch : d.cache_prefetch ≡ e.cache_prefetch = ap (λ (c : Contents). slice_index c.numbers 25) h in
     let stt_model : d.stt_model ≡ e.stt_model = ap (λ (c : Contents). c.model) h in
     λ i. record {
       version = version i;
@@ -69,14 +86,21 @@ same_desc d e h =
       units_mul_latency = units_mul_latency i;
       predictor_counters = predictor_counters i;
       predictor_btb = predictor_btb i;
+      predictor_history = predictor_history i;
+      predictor_returns = predictor_returns i;
       cache_sets = cache_sets i;
       cache_ways = cache_ways i;
       cache_line = cache_line i;
       cache_hit_latency = cache_hit_latency i;
       cache_miss_latency = cache_miss_latency i;
       cache_mshrs = cache_mshrs i;
+      cache_second_sets = cache_second_sets i;
+      cache_second_ways = cache_second_ways i;
+      cache_second_latency = cache_second_latency i;
+      cache_prefetch = cache_prefetch i;
       ram_base = ram_base i;
       ram_size = ram_size i;
+      ram_misaligned = ram_misaligned i;
       stt_model = stt_model i;
       some_version = up _ version d.some_version e.some_version i;
       known_version = down _ version d.known_version e.known_version i;
@@ -124,6 +148,20 @@ same_desc d e h =
       small_ram = down _ ram_size d.small_ram e.small_ram i;
       size_aligned = aligned ram_size d.size_aligned e.size_aligned i;
       ram_ends = ends ram_base ram_size d.ram_ends e.ram_ends i;
+      few_misaligned = by_version _ _ ram_misaligned version d.few_misaligned e.few_misaligned i;
+      short_history = by_version _ _ predictor_history version d.short_history e.short_history i;
+      few_returns = by_version _ _ predictor_returns version d.few_returns e.few_returns i;
+      few_second_sets = by_version _ _ cache_second_sets version d.few_second_sets e.few_second_sets i;
+      second_sets_power = zero_or_power cache_second_sets d.second_sets_power e.second_sets_power i;
+      some_second_ways = up _ cache_second_ways d.some_second_ways e.some_second_ways i;
+      few_second_ways = by_version _ _ cache_second_ways version d.few_second_ways e.few_second_ways i;
+      some_second_latency = up _ cache_second_latency d.some_second_latency e.some_second_latency i;
+      short_second_latency = by_version _ _ cache_second_latency version d.short_second_latency e.short_second_latency i;
+      few_prefetches = by_version _ _ cache_prefetch version d.few_prefetches e.few_prefetches i;
+      two_lines = twice ram_misaligned cache_mshrs d.two_lines e.two_lines i;
+      second_between =
+          tested (λ j. comes_between (cache_second_sets j) (cache_hit_latency j) (cache_second_latency j) (cache_miss_latency j))
+          d.second_between e.second_between i;
     }
 
 same_ok : (c c' : Contents) (r : Result Contents DescFault) → r ≡ Ok c → r ≡ Ok c' → c ≡ c'

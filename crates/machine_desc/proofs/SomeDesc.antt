@@ -1,59 +1,27 @@
 -- A text without a fault describes something: its numbers are all that is asked of a description.
 use Rattle.std.proofs.Common.{◌≡◌, ℕ, List, Option, Some, None, Result, Ok, Err, Bool, true, false, if◌then◌else◌, refl, ◌∙◌, map}
-use Rattle.std.specs.Prelude.{pos, negsuc, nat_le, ◌&&◌}
-use borrow.Author.Tests.{leb-true}
 use Rattle.std.specs.Str.{is_utf8}
-use Rattle.toml.specs.Data.{Data, integer, Members}
+use Rattle.toml.specs.Data.{Members}
 use Rattle.toml.specs.Parse.{parse_document}
 use Rattle.machine_desc.specs.declared.Desc.{Desc}
 use Rattle.machine_desc.specs.declared.SttModel.{SttModel}
 use Rattle.machine_desc.specs.declared.keys.Key.{Key}
-use Rattle.machine_desc.specs.declared.keys.Key.TheVariants.{CoreFetchWidth, CoreRetireWidth, CoreRob, CoreStations, CoreLoads, CoreStores, CoreQueue, UnitsAlus, UnitsMulLatency, PredictorCounters, PredictorBtb, CacheSets, CacheWays, CacheLine, CacheHitLatency, CacheMissLatency, CacheMshrs, RamBase, RamSize}
-use Rattle.machine_desc.specs.declared.keys.Shape.{Shape}
-use Rattle.machine_desc.specs.declared.keys.Values.{Values}
-use Rattle.machine_desc.specs.declared.keys.Values.TheVariants.{Numbers, Models}
+use Rattle.machine_desc.specs.declared.keys.Key.TheVariants.{CoreFetchWidth, CoreRetireWidth, CoreRob, CoreStations, CoreLoads, CoreStores, CoreQueue, UnitsAlus, UnitsMulLatency, PredictorCounters, PredictorBtb, CacheSets, CacheWays, CacheLine, CacheHitLatency, CacheMissLatency, CacheMshrs, RamBase, RamSize, RamMisaligned, PredictorHistory, PredictorReturns, CacheSecondSets, CacheSecondWays, CacheSecondLatency, CachePrefetch}
 use Rattle.machine_desc.specs.declared.fault.DescFault.{DescFault}
 use Rattle.machine_desc.specs.declared.fault.DescFault.TheVariants.{Syntax}
-use Rattle.machine_desc.specs.Table.{row, number_keys}
-use Rattle.machine_desc.specs.Description.{has_shape, value_at, number_in, number_or_zero, number_of, number, fault_of, value_fault, key_fault, document_fault, version, model, Contents, contents, contents_or, contents_by, text_contents, description_of}
+use Rattle.machine_desc.specs.Table.{number_keys}
+use Rattle.machine_desc.specs.Description.{number, document_fault, version, model, Contents, contents, contents_or, contents_by, text_contents, description_of}
 use Rattle.machine_desc.specs.Version.{IsKnown}
-use Rattle.machine_desc.specs.Clean.{PassesAs, IsClean}
+use Rattle.machine_desc.specs.Clean.{IsClean}
 use Rattle.machine_desc.specs.Ranges.{MayBe}
-use Rattle.machine_desc.proofs.Fitting.{fits_from_test}
+use Rattle.machine_desc.proofs.Passing.{fits}
 use Rattle.machine_desc.proofs.Faultless.{is_clean}
 use Rattle.machine_desc.proofs.Versions.{is_known}
-
--- both tests hold where no fault is found
-passes : (n least most : ℕ) (shape : Shape) (low high fits : Bool) (a b : DescFault) → nat_le least n ≡ low → nat_le n most ≡ high → has_shape shape n ≡ fits
-    → fault_of (if low && high then (if fits then Ok n else Err a) else Err b) ≡ None
-    → PassesAs (Numbers least most shape) (number_or_zero (if low && high then (if fits then Ok n else Err a) else Err b))
-passes n least most shape true true true a b l h f e = (leb-true least n l, leb-true n most h, f)
-passes n least most shape true true false a b l h f e = absurd (cc)
-passes n least most shape true false fits a b l h f e = absurd (cc)
-passes n least most shape false high fits a b l h f e = absurd (cc)
-
-number_passes : (key : Key) (least most : ℕ) (shape : Shape) (v : Option Data) → fault_of (number_in key least most shape v) ≡ None
-    → PassesAs (Numbers least most shape) (number_or_zero (number_in key least most shape v))
-number_passes key least most shape None e = absurd (cc)
-number_passes key least most shape (Some (integer (pos n))) e =
-    passes n least most shape (nat_le least n) (nat_le n most) (has_shape shape n) _ _ refl refl refl e
-number_passes key least most shape (Some (integer (negsuc n))) e = absurd (cc)
-number_passes key least most shape (Some _) e = absurd (cc)
-
-value_passes : (key : Key) (values : Values) (v : Option Data) → value_fault key values v ≡ None → PassesAs values (number_of key values v)
-value_passes key (Numbers least most shape) v e = number_passes key least most shape v e
-value_passes key Models v e = tt
-
--- each number of a document without fault is one of its key's values
-fits : (v : ℕ) (document : Members) → IsClean v document → (key : Key) → MayBe v key (number v document key)
-unfolding key_fault
-fits v document clean key =
-    fits_from_test (row v key).values (number v document key) (value_passes key (row v key).values (value_at document key) (clean.keys key))
 
 -- the description of a document without fault
 desc_of : (v : ℕ) → IsKnown v → (document : Members) (m : SttModel) → IsClean v document → Desc
 desc_of v known document m clean =
-    let f = fits v document clean in
+    let f : (key : Key) → MayBe v key (number v document key) = λ key. fits v document key (clean.keys key) in
     record {
       version = v;
       core_fetch_width = number v document CoreFetchWidth;
@@ -67,14 +35,21 @@ desc_of v known document m clean =
       units_mul_latency = number v document UnitsMulLatency;
       predictor_counters = number v document PredictorCounters;
       predictor_btb = number v document PredictorBtb;
+      predictor_history = number v document PredictorHistory;
+      predictor_returns = number v document PredictorReturns;
       cache_sets = number v document CacheSets;
       cache_ways = number v document CacheWays;
       cache_line = number v document CacheLine;
       cache_hit_latency = number v document CacheHitLatency;
       cache_miss_latency = number v document CacheMissLatency;
       cache_mshrs = number v document CacheMshrs;
+      cache_second_sets = number v document CacheSecondSets;
+      cache_second_ways = number v document CacheSecondWays;
+      cache_second_latency = number v document CacheSecondLatency;
+      cache_prefetch = number v document CachePrefetch;
       ram_base = number v document RamBase;
       ram_size = number v document RamSize;
+      ram_misaligned = number v document RamMisaligned;
       stt_model = m;
       some_version = known.0;
       known_version = known.1;
@@ -122,6 +97,18 @@ desc_of v known document m clean =
       small_ram = (f RamSize).1;
       size_aligned = (f RamSize).2;
       ram_ends = clean.ends;
+      few_misaligned = (f RamMisaligned).1;
+      short_history = (f PredictorHistory).1;
+      few_returns = (f PredictorReturns).1;
+      few_second_sets = (f CacheSecondSets).1;
+      second_sets_power = (f CacheSecondSets).2;
+      some_second_ways = (f CacheSecondWays).0;
+      few_second_ways = (f CacheSecondWays).1;
+      some_second_latency = (f CacheSecondLatency).0;
+      short_second_latency = (f CacheSecondLatency).1;
+      few_prefetches = (f CachePrefetch).1;
+      two_lines = clean.registers;
+      second_between = clean.second;
     }
 
 -- its contents are the document's

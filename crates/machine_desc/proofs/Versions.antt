@@ -37,6 +37,14 @@ by_first in_1 in_2 n false wider h = h
 pub most_up_to : (in_1 in_2 version n : ℕ) → in_1 ≤ in_2 → n ≤ most in_1 in_2 version → n ≤ in_2
 most_up_to in_1 in_2 version n wider h = by_first in_1 in_2 n (version == 1) wider h
 
+-- the number of version 1 is at most that of any version
+by_first_least : (in_1 in_2 : ℕ) (one : Bool) → in_1 ≤ in_2 → in_1 ≤ (if one then in_1 else in_2)
+by_first_least in_1 in_2 true wider = omega arith
+by_first_least in_1 in_2 false wider = wider
+
+pub first_within : (in_1 in_2 version : ℕ) → in_1 ≤ in_2 → in_1 ≤ most in_1 in_2 version
+first_within in_1 in_2 version wider = by_first_least in_1 in_2 (version == 1) wider
+
 -- ---- versions: without a value it is 1; 1 and 2 are known; no other number is, and nothing else is a version
 
 absent : version_in None ≡ Ok 1
@@ -63,7 +71,7 @@ of_text = refl
 -- ---- the ranges that differ: the most in each version, and one more
 
 -- what is told of a number in a version
-abbrev told : ℕ → Key → ℕ → Option DescFault
+abbrev pub told : ℕ → Key → ℕ → Option DescFault
 told version key n = value_fault key (row version key).values (Some (integer (pos n)))
 
 rob : (told 1 CoreRob 64 ≡ None) × (told 1 CoreRob 65 ≡ Some (Range CoreRob (pos 65)))

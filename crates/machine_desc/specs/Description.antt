@@ -1,5 +1,5 @@
 -- What a text describes: a description, or the first of its faults (docs/formats.md, "Machine descriptions").
-use Rattle.std.specs.Prelude.{◌≡◌, ◌+◌, ◌%◌, ◌^◌, ◌==◌, Bool, true, ◌&&◌, nat_lt, nat_le, ℕ, ℤ, pos, int_le, nat_abs, if◌then◌else◌, List, [], ◌∷◌, ◌++◌, map, take, codes, Option, Some, None, option_map, option_and_then, Result, Ok, Err}
+use Rattle.std.specs.Prelude.{◌≡◌, ◌+◌, ◌*◌, ◌%◌, ◌^◌, ◌==◌, ◌||◌, Bool, true, ◌&&◌, nat_lt, nat_le, ℕ, ℤ, pos, int_le, nat_abs, if◌then◌else◌, List, [], ◌∷◌, ◌++◌, map, take, codes, Option, Some, None, option_map, option_and_then, Result, Ok, Err}
 use Rattle.std.specs.Int.{is_power_of_two}
 use Rattle.std.specs.Str.{bytes_eq, is_utf8}
 use Rattle.toml.specs.Data.{Data, table, string, integer, Members, no_members, member, get_member, as_table}
@@ -9,15 +9,15 @@ use Rattle.machine_desc.specs.declared.SttModel.{SttModel}
 use Rattle.machine_desc.specs.declared.SttModel.TheVariants.{Spectre, Futuristic}
 use Rattle.machine_desc.specs.declared.keys.Section.{Section}
 use Rattle.machine_desc.specs.declared.keys.Key.{Key}
-use Rattle.machine_desc.specs.declared.keys.Key.TheVariants.{CacheHitLatency, CacheMissLatency, RamBase, RamSize, SttModel as ModelKey}
+use Rattle.machine_desc.specs.declared.keys.Key.TheVariants.{CacheHitLatency, CacheMissLatency, CacheMshrs, CacheSecondSets, CacheSecondLatency, RamBase, RamSize, RamMisaligned, SttModel as ModelKey}
 use Rattle.machine_desc.specs.declared.keys.Shape.{Shape}
-use Rattle.machine_desc.specs.declared.keys.Shape.TheVariants.{Any, PowerOfTwo, MultipleOf16}
+use Rattle.machine_desc.specs.declared.keys.Shape.TheVariants.{Any, PowerOfTwo, ZeroOrPowerOfTwo, MultipleOf16}
 use Rattle.machine_desc.specs.declared.keys.Values.{Values}
-use Rattle.machine_desc.specs.declared.keys.Values.TheVariants.{Numbers, Models}
+use Rattle.machine_desc.specs.declared.keys.Values.TheVariants.{Numbers, Optional, Models}
 use Rattle.machine_desc.specs.declared.fault.Subject.TheVariants.{Version as OfVersion, Table as OfTable, Key as OfKey}
 use Rattle.machine_desc.specs.declared.fault.DescFault.{DescFault}
 use Rattle.machine_desc.specs.declared.fault.DescFault.TheVariants.{Syntax, Unknown, Missing, Kind, Version, Range, Shape as WrongShape}
-use Rattle.machine_desc.specs.Version.{newest}
+use Rattle.machine_desc.specs.Version.{newest, comes_between}
 use Rattle.machine_desc.specs.Table.{row, section_of, name_of, section_name, version_name, sections, number_keys, keys, some_top, some_key}
 
 -- the first fault of these places, if there is one
@@ -55,23 +55,23 @@ unfoldable pub top_fault : Members → Option DescFault
 top_fault document = option_map (λ name. Unknown (take 64 name)) (unknown (some_top sections) document)
 
 -- of a name in a table too, behind the table's name and a dot
-abbrev pub name_fault : Section → Members → Option DescFault
-name_fault section members =
-    option_map (λ name. Unknown (section_name section ++ codes "." ++ take 64 name)) (unknown (some_key keys section) members)
+abbrev pub name_fault : ℕ → Section → Members → Option DescFault
+name_fault version section members =
+    option_map (λ name. Unknown (section_name section ++ codes "." ++ take 64 name)) (unknown (some_key version keys section) members)
 
--- what stands at a table's name has to be a table, whose names are all known
-abbrev pub table_fault : Section → Option Data → Option DescFault
-table_fault section None = None
-table_fault section (Some (table members)) = name_fault section members
-table_fault section (Some other) = Some (Kind (OfTable section))
+-- what stands at a table's name has to be a table, whose names the version all knows
+abbrev pub table_fault : ℕ → Section → Option Data → Option DescFault
+table_fault version section None = None
+table_fault version section (Some (table members)) = name_fault version section members
+table_fault version section (Some other) = Some (Kind (OfTable section))
 
 -- the fault of what a document has at a table's name
-abbrev pub section_fault : Members → Section → Option DescFault
-section_fault document section = table_fault section (get_member (section_name section) document)
+abbrev pub section_fault : ℕ → Members → Section → Option DescFault
+section_fault version document section = table_fault version section (get_member (section_name section) document)
 
 -- the tables in order
-unfoldable pub sections_fault : Members → Option DescFault
-sections_fault document = first (map (section_fault document) sections)
+unfoldable pub sections_fault : ℕ → Members → Option DescFault
+sections_fault version document = first (map (section_fault version document) sections)
 
 -- ---- values
 
@@ -83,6 +83,7 @@ value_at document key = option_and_then (get_member (name_of key)) (option_and_t
 abbrev pub has_shape : Shape → ℕ → Bool
 has_shape Any n = true
 has_shape PowerOfTwo n = is_power_of_two n
+has_shape ZeroOrPowerOfTwo n = n == 0 || is_power_of_two n
 has_shape MultipleOf16 n = n % 16 == 0
 
 -- the number where it is in the range and of the shape; the range is looked at first
@@ -97,6 +98,11 @@ abbrev pub number_in : Key → ℕ → ℕ → Shape → Option Data → Result 
 number_in key least most shape None = Err (Missing key)
 number_in key least most shape (Some (integer z)) = whole_in key least most shape z
 number_in key least most shape (Some other) = Err (Kind (OfKey key))
+
+-- the number of a key that may be left out: the least then
+abbrev pub number_or_least : Key → ℕ → ℕ → Shape → Option Data → Result ℕ DescFault
+number_or_least key least most shape None = Ok least
+number_or_least key least most shape (Some value) = number_in key least most shape (Some value)
 
 -- the model of a name
 abbrev pub model_named : Key → List ℕ → Result SttModel DescFault
@@ -118,6 +124,7 @@ fault_of (Err fault) = Some fault
 -- the fault of a value, by what its key may have
 abbrev pub value_fault : Key → Values → Option Data → Option DescFault
 value_fault key (Numbers least most shape) value = fault_of (number_in key least most shape value)
+value_fault key (Optional least most shape) value = fault_of (number_or_least key least most shape value)
 value_fault key Models value = fault_of (model_in key value)
 
 -- the fault of a key in a version
@@ -136,6 +143,7 @@ number_or_zero (Err fault) = 0
 -- the number that a value gives, by what its key may have
 abbrev pub number_of : Key → Values → Option Data → ℕ
 number_of key (Numbers least most shape) value = number_or_zero (number_in key least most shape value)
+number_of key (Optional least most shape) value = number_or_zero (number_or_least key least most shape value)
 number_of key Models value = 0
 
 -- the number of a key, 0 where it has a fault
@@ -156,16 +164,29 @@ unfoldable pub end_fault : ℕ → Members → Option DescFault
 end_fault v document =
     if nat_le (number v document RamBase + number v document RamSize) (2 ^ 32) then None else Some (WrongShape RamSize)
 
+-- where an access may lie in two lines there are two miss registers
+unfoldable pub registers_fault : ℕ → Members → Option DescFault
+registers_fault v document =
+    if nat_le (2 * number v document RamMisaligned) (number v document CacheMshrs) then None else Some (WrongShape CacheMshrs)
+
+-- a line of the second level comes between a hit and a miss
+unfoldable pub second_fault : ℕ → Members → Option DescFault
+second_fault v document =
+    if comes_between (number v document CacheSecondSets) (number v document CacheHitLatency) (number v document CacheSecondLatency) (number v document CacheMissLatency)
+    then None else Some (WrongShape CacheSecondLatency)
+
 -- ---- the whole
 
--- the first fault of a document of this version: names at the top, tables, keys, and the two facts on pairs of numbers
+-- the first fault of a document of this version: names at the top, tables, keys, and the four facts on several numbers
 unfoldable pub document_fault : ℕ → Members → Option DescFault
 document_fault version document = first (
     top_fault document ∷
-    sections_fault document ∷
+    sections_fault version document ∷
     keys_fault version document ∷
     latency_fault version document ∷
-    end_fault version document ∷ [])
+    end_fault version document ∷
+    registers_fault version document ∷
+    second_fault version document ∷ [])
 
 -- what a description holds: its version, its numbers in the order of their keys, and its model
 pub record Contents : Type 0 where
@@ -182,7 +203,10 @@ contents d = record {
       d.units_alus ∷ d.units_mul_latency ∷
       d.predictor_counters ∷ d.predictor_btb ∷
       d.cache_sets ∷ d.cache_ways ∷ d.cache_line ∷ d.cache_hit_latency ∷ d.cache_miss_latency ∷ d.cache_mshrs ∷
-      d.ram_base ∷ d.ram_size ∷ [];
+      d.ram_base ∷ d.ram_size ∷
+      d.ram_misaligned ∷
+      d.predictor_history ∷ d.predictor_returns ∷
+      d.cache_second_sets ∷ d.cache_second_ways ∷ d.cache_second_latency ∷ d.cache_prefetch ∷ [];
   model = d.stt_model;
 }
 

@@ -1,5 +1,5 @@
 -- The example of docs/formats.md, "Machine descriptions".
-use Rattle.std.proofs.Common.{refl, lit<, lit≤}
+use Rattle.std.proofs.Common.{refl, inl, lit<, lit≤}
 use Rattle.machine_desc.specs.declared.Desc.{Desc}
 use Rattle.machine_desc.specs.declared.SttModel.TheVariants.{Spectre}
 
@@ -18,14 +18,21 @@ example = record {
   units_mul_latency = 3;
   predictor_counters = 16;
   predictor_btb = 4;
+  predictor_history = 0;
+  predictor_returns = 0;
   cache_sets = 2;
   cache_ways = 2;
   cache_line = 16;
   cache_hit_latency = 2;
   cache_miss_latency = 10;
   cache_mshrs = 2;
+  cache_second_sets = 0;
+  cache_second_ways = 1;
+  cache_second_latency = 2;
+  cache_prefetch = 0;
   ram_base = 65536;
   ram_size = 65536;
+  ram_misaligned = 0;
   stt_model = Spectre;
   some_version = lit≤ tt;
   known_version = lit≤ tt;
@@ -73,4 +80,16 @@ example = record {
   small_ram = lit≤ tt;
   size_aligned = refl;
   ram_ends = lit≤ tt;
+  few_misaligned = lit≤ tt;
+  short_history = lit≤ tt;
+  few_returns = lit≤ tt;
+  few_second_sets = lit≤ tt;
+  second_sets_power = inl refl;
+  some_second_ways = lit≤ tt;
+  few_second_ways = lit≤ tt;
+  some_second_latency = lit≤ tt;
+  short_second_latency = lit≤ tt;
+  few_prefetches = lit≤ tt;
+  two_lines = lit≤ tt;
+  second_between = refl;
 }

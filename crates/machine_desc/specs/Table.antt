@@ -1,15 +1,15 @@
 -- The table of the keys (docs/formats.md, "Machine descriptions").
-use Rattle.std.specs.Prelude.{Bool, ℕ, List, [], ◌∷◌, ◌++◌, ◌&&◌, ◌||◌, codes}
+use Rattle.std.specs.Prelude.{Bool, true, nat_lt, ℕ, List, [], ◌∷◌, ◌++◌, ◌&&◌, ◌||◌, codes}
 use Rattle.std.specs.List.{list_any}
 use Rattle.std.specs.Str.{bytes_eq}
 use Rattle.machine_desc.specs.declared.keys.Section.{Section}
 use Rattle.machine_desc.specs.declared.keys.Section.TheVariants.{Core, Units, Predictor, Cache, Ram, Stt}
 use Rattle.machine_desc.specs.declared.keys.Key.{Key}
-use Rattle.machine_desc.specs.declared.keys.Key.TheVariants.{CoreFetchWidth, CoreRetireWidth, CoreRob, CoreStations, CoreLoads, CoreStores, CoreQueue, UnitsAlus, UnitsMulLatency, PredictorCounters, PredictorBtb, CacheSets, CacheWays, CacheLine, CacheHitLatency, CacheMissLatency, CacheMshrs, RamBase, RamSize, SttModel}
+use Rattle.machine_desc.specs.declared.keys.Key.TheVariants.{CoreFetchWidth, CoreRetireWidth, CoreRob, CoreStations, CoreLoads, CoreStores, CoreQueue, UnitsAlus, UnitsMulLatency, PredictorCounters, PredictorBtb, CacheSets, CacheWays, CacheLine, CacheHitLatency, CacheMissLatency, CacheMshrs, RamBase, RamSize, SttModel, RamMisaligned, PredictorHistory, PredictorReturns, CacheSecondSets, CacheSecondWays, CacheSecondLatency, CachePrefetch}
 use Rattle.machine_desc.specs.declared.keys.Shape.{Shape}
-use Rattle.machine_desc.specs.declared.keys.Shape.TheVariants.{Any, PowerOfTwo, MultipleOf16}
+use Rattle.machine_desc.specs.declared.keys.Shape.TheVariants.{Any, PowerOfTwo, ZeroOrPowerOfTwo, MultipleOf16}
 use Rattle.machine_desc.specs.declared.keys.Values.{Values}
-use Rattle.machine_desc.specs.declared.keys.Values.TheVariants.{Numbers, Models}
+use Rattle.machine_desc.specs.declared.keys.Values.TheVariants.{Numbers, Optional, Models}
 use Rattle.machine_desc.specs.declared.fault.Subject.{Subject}
 use Rattle.machine_desc.specs.declared.fault.Subject.TheVariants.{Version as OfVersion, Table as OfTable, Key as OfKey}
 use Rattle.machine_desc.specs.Version.{most}
@@ -23,6 +23,10 @@ pub record Row : Type 0 where
 -- the row of a key whose values are the whole numbers from least to most that have a shape
 abbrev pub whole : Section → List ℕ → ℕ → ℕ → Shape → Row
 whole section name least most shape = record { section = section; name = name; values = Numbers least most shape }
+
+-- the same of a key that may be left out: it has the least then
+abbrev pub optional : Section → List ℕ → ℕ → ℕ → Shape → Row
+optional section name least most shape = record { section = section; name = name; values = Optional least most shape }
 
 -- the rows of a version: table, name, least, most, shape
 abbrev pub row : ℕ → Key → Row
@@ -46,6 +50,13 @@ row v CacheMshrs = whole Cache (codes "mshrs") 1 8 Any
 row v RamBase = whole Ram (codes "base") 0 4294963200 MultipleOf16
 row v RamSize = whole Ram (codes "size") 4096 16777216 MultipleOf16
 row v SttModel = record { section = Stt; name = codes "model"; values = Models }
+row v RamMisaligned = optional Ram (codes "misaligned") 0 (most 0 1 v) Any
+row v PredictorHistory = optional Predictor (codes "history") 0 (most 0 12 v) Any
+row v PredictorReturns = optional Predictor (codes "returns") 0 (most 0 16 v) Any
+row v CacheSecondSets = optional Cache (codes "second_sets") 0 (most 0 1024 v) ZeroOrPowerOfTwo
+row v CacheSecondWays = optional Cache (codes "second_ways") 1 (most 1 8 v) Any
+row v CacheSecondLatency = optional Cache (codes "second_latency") 2 (most 2 100 v) Any
+row v CachePrefetch = optional Cache (codes "prefetch") 0 (most 0 1 v) Any
 
 -- where a key stands, which is the same in every version
 abbrev pub section_of : Key → Section
@@ -55,18 +66,38 @@ section_of key = (row 1 key).section
 abbrev pub name_of : Key → List ℕ
 name_of key = (row 1 key).name
 
--- the keys of numbers, in order
-abbrev pub number_keys : List Key
-number_keys =
+-- the keys of numbers that have to be there, in order
+abbrev pub required_numbers : List Key
+required_numbers =
     CoreFetchWidth ∷ CoreRetireWidth ∷ CoreRob ∷ CoreStations ∷ CoreLoads ∷ CoreStores ∷ CoreQueue ∷
     UnitsAlus ∷ UnitsMulLatency ∷
     PredictorCounters ∷ PredictorBtb ∷
     CacheSets ∷ CacheWays ∷ CacheLine ∷ CacheHitLatency ∷ CacheMissLatency ∷ CacheMshrs ∷
     RamBase ∷ RamSize ∷ []
 
+-- the keys of numbers that may be left out, in order
+abbrev pub optional_numbers : List Key
+optional_numbers =
+    RamMisaligned ∷
+    PredictorHistory ∷ PredictorReturns ∷
+    CacheSecondSets ∷ CacheSecondWays ∷ CacheSecondLatency ∷ CachePrefetch ∷ []
+
+-- the keys of numbers, in order
+abbrev pub number_keys : List Key
+number_keys = required_numbers ++ optional_numbers
+
 -- all keys, in order
 abbrev pub keys : List Key
-keys = number_keys ++ SttModel ∷ []
+keys = required_numbers ++ SttModel ∷ optional_numbers
+
+-- a key that may be left out has a choice where more than its least is allowed; any other always has one
+abbrev pub has_choice : Values → Bool
+has_choice (Optional least most shape) = nat_lt least most
+has_choice _ = true
+
+-- a version knows the keys that have a choice in it: version 1 knows none that may be left out
+abbrev pub is_known : ℕ → Key → Bool
+is_known version key = has_choice (row version key).values
 
 -- the tables, in the order of their keys
 abbrev pub sections : List Section
@@ -103,10 +134,11 @@ some_section tables name = list_any (λ s. bytes_eq (section_name s) name) table
 abbrev pub some_top : List Section → List ℕ → Bool
 some_top tables name = bytes_eq version_name name || some_section tables name
 
--- a key stands in this table under this name
-abbrev pub stands_at : Section → List ℕ → Key → Bool
-stands_at section name key = bytes_eq (section_name (section_of key)) (section_name section) && bytes_eq (name_of key) name
+-- a key that the version knows stands in this table under this name
+abbrev pub stands_at : ℕ → Section → List ℕ → Key → Bool
+stands_at version section name key =
+    is_known version key && bytes_eq (section_name (section_of key)) (section_name section) && bytes_eq (name_of key) name
 
 -- one of these keys stands in this table under this name
-abbrev pub some_key : List Key → Section → List ℕ → Bool
-some_key ks section name = list_any (stands_at section name) ks
+abbrev pub some_key : ℕ → List Key → Section → List ℕ → Bool
+some_key version ks section name = list_any (stands_at version section name) ks

@@ -3,7 +3,7 @@ ghost use Rattle.std.specs.Prelude.{◌≡◌, pos, ◌≤ℤ◌, codes, ◌≤�
 ghost use Rattle.toml.specs.View.{table_view, view};
 ghost use Rattle.toml.specs.Data.{get_member};
 ghost use Rattle.machine_desc.specs.Table.{some_key, some_top, section_of, name_of};
-ghost use Rattle.machine_desc.specs.Description.{unknown, version_in, value_at, has_shape, whole_in, number_in, model_in, model_named};
+ghost use Rattle.machine_desc.specs.Description.{unknown, version_in, value_at, has_shape, whole_in, number_in, number_or_least, model_in, model_named};
 
 use crate::keys::{FIRST, NEWEST, Shape, some_key, some_top};
 use crate::{DescFault, Key, Section, SttModel, Subject};
@@ -21,12 +21,17 @@ pub fn unknown_section<'a>(document: &'a Table, sections: &[Section]) -> Option<
     None
 }
 
-// The least name of a table that isn't a key's.
-pub fn unknown_key<'a>(table: &'a Table, keys: &[Key], section: Section) -> Option<&'a str>
-    ensures { option_map (λ s. s.now) result ≡ unknown (some_key keys.now section) (table_view table.now) }
+// The least name of a table that isn't that of a key of this version.
+pub fn unknown_key<'a>(
+    version: u32,
+    table: &'a Table,
+    keys: &[Key],
+    section: Section,
+) -> Option<&'a str>
+    ensures { option_map (λ s. s.now) result ≡ unknown (some_key version keys.now section) (table_view table.now) }
 {
     for name in table.keys() {
-        if !some_key(keys, section, name.as_str()) {
+        if !some_key(version, keys, section, name.as_str()) {
             return Some(name.as_str());
         }
     }
@@ -44,10 +49,9 @@ pub fn member_of<'a>(table: &'a Table, name: &str) -> Option<&'a Value>
 pub fn value_at<'a>(document: &'a Table, key: Key) -> Option<&'a Value>
     ensures { option_map (λ v. view v.now) result ≡ value_at (table_view document.now) key }
 {
-    let row = key.row(FIRST);
-    match member_of(document, row.section.name()) {
+    match member_of(document, key.section().name()) {
         Some(value) => match value.as_table() {
-            Some(table) => member_of(table, row.name),
+            Some(table) => member_of(table, key.name()),
             None => None,
         },
         None => None,
@@ -79,6 +83,7 @@ fn has_shape(shape: Shape, number: u32) -> bool
     match shape {
         Shape::Any => true,
         Shape::PowerOfTwo => number.is_power_of_two(),
+        Shape::ZeroOrPowerOfTwo => number == 0 || number.is_power_of_two(),
         Shape::MultipleOf16 => number % 16 == 0,
     }
 }
@@ -115,6 +120,22 @@ pub fn number_in(
             None => Err(DescFault::Kind(Subject::Key(key))),
             Some(number) => whole_in(key, least, most, shape, number),
         },
+    }
+}
+
+// The number of a key that may be left out.
+pub fn number_or_least(
+    key: Key,
+    least: u32,
+    most: u32,
+    shape: Shape,
+    value: Option<&Value>,
+) -> Result<u32, DescFault>
+    ensures { result ≡ number_or_least key least most shape (option_map (λ v. view v.now) value.entry) }
+{
+    match value {
+        None => Ok(least),
+        Some(value) => number_in(key, least, most, shape, Some(value)),
     }
 }
 

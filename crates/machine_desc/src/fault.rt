@@ -40,7 +40,7 @@ pub enum DescFault {
     /// The bytes aren't UTF-8, or aren't a TOML document.
     #[error("K1: the bytes aren't UTF-8, or aren't a TOML document")]
     Syntax,
-    /// There is no table, or no key of its table, of this name.
+    /// There is no table, or no key of its table, of this name in this version.
     #[error("K2: there is no table or key of the name {0}")]
     Unknown(Name),
     /// The key isn't there, or its table isn't.
@@ -56,8 +56,9 @@ pub enum DescFault {
     /// The number is outside the key's range.
     #[error("K5: {0} is {1}, outside its range")]
     Range(Key, i64),
-    /// The number isn't a power of two or a multiple of 16 where the key asks for one; a miss doesn't take longer than a
-    /// hit; or RAM ends above 2^32.
+    /// The number isn't a power of two, zero or a power of two, or a multiple of 16 where the key asks for one; a miss
+    /// doesn't take longer than a hit; RAM ends above 2^32; there is one miss register where an access may lie in two
+    /// lines; or a line of the second level doesn't come between a hit and a miss.
     #[error("K6: {0} isn't of the shape or size that is asked for")]
     Shape(Key),
     /// There was no memory to read the text.

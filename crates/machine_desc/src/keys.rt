@@ -1,9 +1,10 @@
 //! The table of the keys: where each stands and which values it may have.
 //!
 //! `docs/formats.md`, "Machine descriptions", has the same table with what each key means. A further key is one more
-//! variant, one more row, and its place in `KEYS`.
+//! variant, its place in `KEYS`, and an arm of `section`, `name` and `values`. A version in which a key that may be left out
+//! has one value alone doesn't know its name.
 ghost use Rattle.std.specs.Prelude.{◌≡◌, ◌≤◌, ◌++◌, length, codes};
-ghost use Rattle.machine_desc.specs.Table.{section_name, row, whole, key_text};
+ghost use Rattle.machine_desc.specs.Table.{section_name, row, section_of, name_of, key_text, has_choice, is_known};
 ghost use Rattle.machine_desc.specs.Table.{some_key, some_section, some_top, stands_at};
 ghost use Rattle.machine_desc.specs.Version.{most};
 
@@ -44,6 +45,13 @@ pub enum Key {
     RamBase,
     RamSize,
     SttModel,
+    RamMisaligned,
+    PredictorHistory,
+    PredictorReturns,
+    CacheSecondSets,
+    CacheSecondWays,
+    CacheSecondLatency,
+    CachePrefetch,
 }
 
 /// What is asked of a number besides its range.
@@ -51,6 +59,7 @@ pub enum Key {
 pub(crate) enum Shape {
     Any,
     PowerOfTwo,
+    ZeroOrPowerOfTwo,
     MultipleOf16,
 }
 
@@ -59,22 +68,16 @@ pub(crate) enum Shape {
 pub(crate) enum Values {
     /// The whole numbers from `least` to `most` that have the shape.
     Numbers { least: u32, most: u32, shape: Shape },
+    /// The same, and the least of them where the key is left out.
+    Optional { least: u32, most: u32, shape: Shape },
     /// The texts that name a model.
     Models,
-}
-
-/// A row of the table of keys.
-#[derive(Clone, Copy, Debug)]
-pub(crate) struct Row {
-    pub section: Section,
-    pub name: &'static str,
-    pub values: Values,
 }
 
 /// The newest version that is known: each one from 1 on is.
 pub(crate) const NEWEST: i64 = 2;
 
-/// The first version. What doesn't differ between versions is looked up in its table.
+/// The first version, which a text without one is of.
 pub(crate) const FIRST: u32 = 1;
 
 /// The name of the version, which stands in no table.
@@ -91,7 +94,7 @@ pub(crate) const SECTIONS: [Section; 6] = [
 ];
 
 /// The keys, in order.
-pub(crate) const KEYS: [Key; 20] = [
+pub(crate) const KEYS: [Key; 27] = [
     Key::CoreFetchWidth,
     Key::CoreRetireWidth,
     Key::CoreRob,
@@ -112,6 +115,13 @@ pub(crate) const KEYS: [Key; 20] = [
     Key::RamBase,
     Key::RamSize,
     Key::SttModel,
+    Key::RamMisaligned,
+    Key::PredictorHistory,
+    Key::PredictorReturns,
+    Key::CacheSecondSets,
+    Key::CacheSecondWays,
+    Key::CacheSecondLatency,
+    Key::CachePrefetch,
 ];
 
 impl Section {
@@ -131,17 +141,18 @@ impl Section {
     }
 }
 
-// A row of a number.
-fn number(section: Section, name: &'static str, least: u32, most: u32, shape: Shape) -> Row
-    ensures row { record { section = result.section; name = result.name.now; values = result.values }
-        ≡ whole section name.now least most shape }
-    ensures name { result.name.now ≡ name.now }
+// Whole numbers that have to be there.
+fn numbers(least: u32, most: u32, shape: Shape) -> Values
+    ensures { result ≡ Values.Numbers least most shape }
 {
-    Row {
-        section,
-        name,
-        values: Values::Numbers { least, most, shape },
-    }
+    Values::Numbers { least, most, shape }
+}
+
+// Whole numbers that may be left out.
+fn optional(least: u32, most: u32, shape: Shape) -> Values
+    ensures { result ≡ Values.Optional least most shape }
+{
+    Values::Optional { least, most, shape }
 }
 
 // A number by the version: the first one in version 1, the second in any later one.
@@ -151,73 +162,139 @@ fn most(in_1: u32, in_2: u32, version: u32) -> u32
     if version == 1 { in_1 } else { in_2 }
 }
 
+// Is there a choice of values? A key that has to be there always has one.
+fn has_choice(values: Values) -> bool
+    ensures { result ≡ has_choice values }
+{
+    match values {
+        Values::Optional { least, most, .. } => least < most,
+        Values::Numbers { .. } | Values::Models => true,
+    }
+}
+
 impl Key {
-    /// The key's row in a version.
-    pub(crate) fn row(self, version: u32) -> Row
-        ensures row { record { section = result.section; name = result.name.now; values = result.values }
-            ≡ row version self }
-        ensures few { length result.name.now ≤ 64 }
+    /// The table in which the key stands.
+    pub(crate) fn section(self) -> Section
+        ensures { result ≡ section_of self }
     {
         match self {
-            Key::CoreFetchWidth => number(Section::Core, "fetch_width", 1, 4, Shape::Any),
-            Key::CoreRetireWidth => number(Section::Core, "retire_width", 1, 4, Shape::Any),
-            Key::CoreRob => number(Section::Core, "rob", 4, most(64, 192, version), Shape::Any),
-            Key::CoreStations => number(
-                Section::Core,
-                "stations",
-                2,
-                most(32, 96, version),
-                Shape::Any,
-            ),
-            Key::CoreLoads => number(Section::Core, "loads", 1, most(16, 64, version), Shape::Any),
-            Key::CoreStores => number(
-                Section::Core,
-                "stores",
-                1,
-                most(16, 48, version),
-                Shape::Any,
-            ),
-            Key::CoreQueue => number(Section::Core, "queue", 1, most(16, 32, version), Shape::Any),
-            Key::UnitsAlus => number(Section::Units, "alus", 1, 4, Shape::Any),
-            Key::UnitsMulLatency => number(Section::Units, "mul_latency", 1, 8, Shape::Any),
-            Key::PredictorCounters => number(
-                Section::Predictor,
-                "counters",
-                2,
-                4096,
-                Shape::PowerOfTwo,
-            ),
-            Key::PredictorBtb => number(Section::Predictor, "btb", 1, 256, Shape::PowerOfTwo),
-            Key::CacheSets => number(Section::Cache, "sets", 1, 256, Shape::PowerOfTwo),
-            Key::CacheWays => number(Section::Cache, "ways", 1, 8, Shape::Any),
-            Key::CacheLine => number(Section::Cache, "line", 4, 64, Shape::PowerOfTwo),
-            Key::CacheHitLatency => number(Section::Cache, "hit_latency", 1, 8, Shape::Any),
-            Key::CacheMissLatency => number(Section::Cache, "miss_latency", 2, 200, Shape::Any),
-            Key::CacheMshrs => number(Section::Cache, "mshrs", 1, 8, Shape::Any),
-            Key::RamBase => number(Section::Ram, "base", 0, 4_294_963_200, Shape::MultipleOf16),
-            Key::RamSize => number(Section::Ram, "size", 4096, 16_777_216, Shape::MultipleOf16),
-            Key::SttModel => Row {
-                section: Section::Stt,
-                name: "model",
-                values: Values::Models,
-            },
+            Key::CoreFetchWidth
+            | Key::CoreRetireWidth
+            | Key::CoreRob
+            | Key::CoreStations
+            | Key::CoreLoads
+            | Key::CoreStores
+            | Key::CoreQueue => Section::Core,
+            Key::UnitsAlus | Key::UnitsMulLatency => Section::Units,
+            Key::PredictorCounters
+            | Key::PredictorBtb
+            | Key::PredictorHistory
+            | Key::PredictorReturns => Section::Predictor,
+            Key::CacheSets
+            | Key::CacheWays
+            | Key::CacheLine
+            | Key::CacheHitLatency
+            | Key::CacheMissLatency
+            | Key::CacheMshrs
+            | Key::CacheSecondSets
+            | Key::CacheSecondWays
+            | Key::CacheSecondLatency
+            | Key::CachePrefetch => Section::Cache,
+            Key::RamBase | Key::RamSize | Key::RamMisaligned => Section::Ram,
+            Key::SttModel => Section::Stt,
         }
     }
 
-    // Does the key stand in this table under this name?
-    fn stands_at(self, section: Section, name: &str) -> bool
-        ensures { result ≡ stands_at section name.now self }
+    /// The key's name in its table.
+    pub(crate) fn name(self) -> &'static str
+        ensures name { result.now ≡ name_of self }
+        ensures few { length result.now ≤ 64 }
     {
-        let row = self.row(FIRST);
-        row.section == section && row.name == name
+        match self {
+            Key::CoreFetchWidth => "fetch_width",
+            Key::CoreRetireWidth => "retire_width",
+            Key::CoreRob => "rob",
+            Key::CoreStations => "stations",
+            Key::CoreLoads => "loads",
+            Key::CoreStores => "stores",
+            Key::CoreQueue => "queue",
+            Key::UnitsAlus => "alus",
+            Key::UnitsMulLatency => "mul_latency",
+            Key::PredictorCounters => "counters",
+            Key::PredictorBtb => "btb",
+            Key::CacheSets => "sets",
+            Key::CacheWays => "ways",
+            Key::CacheLine => "line",
+            Key::CacheHitLatency => "hit_latency",
+            Key::CacheMissLatency => "miss_latency",
+            Key::CacheMshrs => "mshrs",
+            Key::RamBase => "base",
+            Key::RamSize => "size",
+            Key::SttModel => "model",
+            Key::RamMisaligned => "misaligned",
+            Key::PredictorHistory => "history",
+            Key::PredictorReturns => "returns",
+            Key::CacheSecondSets => "second_sets",
+            Key::CacheSecondWays => "second_ways",
+            Key::CacheSecondLatency => "second_latency",
+            Key::CachePrefetch => "prefetch",
+        }
+    }
+
+    /// The values that the key may have in a version.
+    pub(crate) fn values(self, version: u32) -> Values
+        ensures { result ≡ (row version self).values }
+    {
+        match self {
+            Key::CoreFetchWidth => numbers(1, 4, Shape::Any),
+            Key::CoreRetireWidth => numbers(1, 4, Shape::Any),
+            Key::CoreRob => numbers(4, most(64, 192, version), Shape::Any),
+            Key::CoreStations => numbers(2, most(32, 96, version), Shape::Any),
+            Key::CoreLoads => numbers(1, most(16, 64, version), Shape::Any),
+            Key::CoreStores => numbers(1, most(16, 48, version), Shape::Any),
+            Key::CoreQueue => numbers(1, most(16, 32, version), Shape::Any),
+            Key::UnitsAlus => numbers(1, 4, Shape::Any),
+            Key::UnitsMulLatency => numbers(1, 8, Shape::Any),
+            Key::PredictorCounters => numbers(2, 4096, Shape::PowerOfTwo),
+            Key::PredictorBtb => numbers(1, 256, Shape::PowerOfTwo),
+            Key::CacheSets => numbers(1, 256, Shape::PowerOfTwo),
+            Key::CacheWays => numbers(1, 8, Shape::Any),
+            Key::CacheLine => numbers(4, 64, Shape::PowerOfTwo),
+            Key::CacheHitLatency => numbers(1, 8, Shape::Any),
+            Key::CacheMissLatency => numbers(2, 200, Shape::Any),
+            Key::CacheMshrs => numbers(1, 8, Shape::Any),
+            Key::RamBase => numbers(0, 4_294_963_200, Shape::MultipleOf16),
+            Key::RamSize => numbers(4096, 16_777_216, Shape::MultipleOf16),
+            Key::SttModel => Values::Models,
+            Key::RamMisaligned => optional(0, most(0, 1, version), Shape::Any),
+            Key::PredictorHistory => optional(0, most(0, 12, version), Shape::Any),
+            Key::PredictorReturns => optional(0, most(0, 16, version), Shape::Any),
+            Key::CacheSecondSets => optional(0, most(0, 1024, version), Shape::ZeroOrPowerOfTwo),
+            Key::CacheSecondWays => optional(1, most(1, 8, version), Shape::Any),
+            Key::CacheSecondLatency => optional(2, most(2, 100, version), Shape::Any),
+            Key::CachePrefetch => optional(0, most(0, 1, version), Shape::Any),
+        }
+    }
+
+    // Does this version know the key?
+    fn is_known(self, version: u32) -> bool
+        ensures { result ≡ is_known version self }
+    {
+        has_choice(self.values(version))
+    }
+
+    // Does the key, if this version knows it, stand in this table under this name?
+    fn stands_at(self, version: u32, section: Section, name: &str) -> bool
+        ensures { result ≡ stands_at version section name.now self }
+    {
+        self.is_known(version) && self.section() == section && self.name() == name
     }
 
     /// The key's whole name, as `core.fetch_width`.
     pub fn text(self) -> Name
         ensures { result ≡ key_text self }
     {
-        let row = self.row(FIRST);
-        Name::in_section(row.section, row.name.as_bytes())
+        Name::in_section(self.section(), self.name().as_bytes())
     }
 }
 
@@ -246,12 +323,12 @@ pub(crate) fn some_top(sections: &[Section], name: &str) -> bool
     name == VERSION_NAME || some_section(sections, name)
 }
 
-// Does one of these keys stand in this table under this name?
-pub(crate) fn some_key(keys: &[Key], section: Section, name: &str) -> bool
-    ensures { result ≡ some_key keys.now section name.now }
+// Does one of these keys, of those that this version knows, stand in this table under this name?
+pub(crate) fn some_key(version: u32, keys: &[Key], section: Section, name: &str) -> bool
+    ensures { result ≡ some_key version keys.now section name.now }
 {
     for key in keys {
-        if key.stands_at(section, name) {
+        if key.stands_at(version, section, name) {
             return true;
         }
     }

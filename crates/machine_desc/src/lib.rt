@@ -4,10 +4,10 @@
 //! faults are looked for. `specs/Table.antt` is that table, and `specs/Description.antt` says what a text describes.
 #![tactic(auto)]
 
-ghost use Rattle.std.specs.Prelude.{◌≡◌, ◌+◌, ◌%◌, ◌^◌, ◌<◌, ◌≤◌};
+ghost use Rattle.std.specs.Prelude.{◌≡◌, ◌+◌, ◌*◌, ◌%◌, ◌^◌, ◌<◌, ◌≤◌, IsTrue};
 ghost use Rattle.std.specs.Int.{IsPowerOfTwo};
-ghost use Rattle.machine_desc.specs.Power.{power_prop};
-ghost use Rattle.machine_desc.specs.Version.{most};
+ghost use Rattle.machine_desc.specs.Power.{IsZeroOrPower, power_prop, zero_or_power_prop};
+ghost use Rattle.machine_desc.specs.Version.{most, comes_between};
 
 mod document;
 mod example;
@@ -36,7 +36,9 @@ pub enum SttModel {
 }
 
 /// A machine description of a known version: every number is in its key's range in that version and of its key's shape,
-/// a miss takes longer than a hit, and RAM ends at or below 2^32.
+/// a miss takes longer than a hit, RAM ends at or below 2^32, there are two miss registers where an access may lie in two
+/// lines, and a line of the second level comes later than a hit and sooner than from memory. A number that its version
+/// doesn't know has the value that it has where it is left out.
 #[derive(Clone, Copy, Debug, PartialEq, Eq)]
 pub struct Desc {
     /// The version of the machine that is described.
@@ -63,6 +65,10 @@ pub struct Desc {
     pub predictor_counters: u32,
     /// Entries of the table of jump targets.
     pub predictor_btb: u32,
+    /// Branches whose directions the global history keeps.
+    pub predictor_history: u32,
+    /// Addresses of the return stack; with 0 there is none.
+    pub predictor_returns: u32,
     /// Sets of the cache.
     pub cache_sets: u32,
     /// Lines of a set.
@@ -75,10 +81,20 @@ pub struct Desc {
     pub cache_miss_latency: u32,
     /// Misses under way at most.
     pub cache_mshrs: u32,
+    /// Sets of the second level; with 0 there is none.
+    pub cache_second_sets: u32,
+    /// Lines of a set of the second level.
+    pub cache_second_ways: u32,
+    /// Cycles of a load that finds its line in the second level alone.
+    pub cache_second_latency: u32,
+    /// 1 where the line behind one that a load fetches is fetched with it, else 0.
+    pub cache_prefetch: u32,
     /// RAM's first address.
     pub ram_base: u32,
     /// RAM's length in bytes.
     pub ram_size: u32,
+    /// 1 where a load or store may have any address, 0 where its address has to be a multiple of its width.
+    pub ram_misaligned: u32,
     /// When taint ends.
     pub stt_model: SttModel,
     pub ghost some_version: { 1 ≤ version },
@@ -127,4 +143,16 @@ pub struct Desc {
     pub ghost small_ram: { ram_size ≤ 16777216 },
     pub ghost size_aligned: { ram_size % 16 ≡ 0 },
     pub ghost ram_ends: { ram_base + ram_size ≤ 2 ^ 32 },
+    pub ghost few_misaligned: { ram_misaligned ≤ most 0 1 version },
+    pub ghost short_history: { predictor_history ≤ most 0 12 version },
+    pub ghost few_returns: { predictor_returns ≤ most 0 16 version },
+    pub ghost few_second_sets: { cache_second_sets ≤ most 0 1024 version },
+    pub ghost second_sets_power: { IsZeroOrPower cache_second_sets } by { zero_or_power_prop cache_second_sets },
+    pub ghost some_second_ways: { 1 ≤ cache_second_ways },
+    pub ghost few_second_ways: { cache_second_ways ≤ most 1 8 version },
+    pub ghost some_second_latency: { 2 ≤ cache_second_latency },
+    pub ghost short_second_latency: { cache_second_latency ≤ most 2 100 version },
+    pub ghost few_prefetches: { cache_prefetch ≤ most 0 1 version },
+    pub ghost two_lines: { 2 * ram_misaligned ≤ cache_mshrs },
+    pub ghost second_between: { IsTrue (comes_between cache_second_sets cache_hit_latency cache_second_latency cache_miss_latency) },
 }

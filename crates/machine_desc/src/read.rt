@@ -7,11 +7,12 @@ ghost use Rattle.toml.specs.Data.{get_member};
 ghost use Rattle.machine_desc.specs.Table.{number_keys};
 ghost use Rattle.machine_desc.specs.Clean.{IsClean};
 ghost use Rattle.machine_desc.specs.Ranges.{MayBe};
-ghost use Rattle.machine_desc.specs.Version.{IsKnown};
-ghost use Rattle.machine_desc.specs.Description.{checked, first, version, top_fault, name_fault, section_fault, sections_fault, key_fault, keys_fault, number, model, latency_fault, end_fault, document_contents, document_fault, Contents, contents, description_of, Describes};
+ghost use Rattle.machine_desc.specs.Version.{IsKnown, comes_between};
+ghost use Rattle.machine_desc.specs.Description.{checked, first, version, top_fault, name_fault, section_fault, sections_fault, key_fault, keys_fault, number, model, latency_fault, end_fault, registers_fault, second_fault, document_contents, document_fault, Contents, contents, description_of, Describes};
 
 use crate::document::{
-    member_of, model_in, number_in, unknown_key, unknown_section, value_at, version_in,
+    member_of, model_in, number_in, number_or_least, unknown_key, unknown_section, value_at,
+    version_in,
 };
 use crate::keys::{KEYS, SECTIONS, VERSION_NAME, Values};
 use crate::{Desc, DescFault, Key, Name, Section, SttModel, Subject};
@@ -36,44 +37,44 @@ fn check_top(document: &Table) -> Result<(), DescFault>
     }
 }
 
-// Each name of a table is a key's.
-fn check_names(table: &Table, section: Section) -> Result<(), DescFault>
-    ensures { result ≡ checked (name_fault section (table_view table.now)) }
+// Each name of a table is that of a key of this version.
+fn check_names(version: u32, table: &Table, section: Section) -> Result<(), DescFault>
+    ensures { result ≡ checked (name_fault version section (table_view table.now)) }
 {
-    match unknown_key(table, &KEYS, section) {
+    match unknown_key(version, table, &KEYS, section) {
         None => Ok(()),
         Some(name) => Err(DescFault::Unknown(Name::in_section(section, name.as_bytes()))),
     }
 }
 
 // What stands at a table's name is a table with no unknown name.
-fn check_section(document: &Table, section: Section) -> Result<(), DescFault>
-    ensures { result ≡ checked (section_fault (table_view document.now) section) }
+fn check_section(version: u32, document: &Table, section: Section) -> Result<(), DescFault>
+    ensures { result ≡ checked (section_fault version (table_view document.now) section) }
 {
     match member_of(document, section.name()) {
         None => Ok(()),
         Some(value) => match value.as_table() {
             None => Err(DescFault::Kind(Subject::Table(section))),
-            Some(table) => check_names(table, section),
+            Some(table) => check_names(version, table, section),
         },
     }
 }
 
-fn check_each_section(document: &Table, sections: &[Section]) -> Result<(), DescFault>
-    ensures { result ≡ checked (first (map (section_fault (table_view document.now)) sections.now)) }
+fn check_each_section(version: u32, document: &Table, sections: &[Section]) -> Result<(), DescFault>
+    ensures { result ≡ checked (first (map (section_fault version (table_view document.now)) sections.now)) }
 {
     for section in sections {
-        check_section(document, *section)?;
+        check_section(version, document, *section)?;
     }
     Ok(())
 }
 
 // Each table, in order.
 #[tactic(auto, unfolding(crate::specs::Description::sections_fault))]
-fn check_sections(document: &Table) -> Result<(), DescFault>
-    ensures { result ≡ checked (sections_fault (table_view document.now)) }
+fn check_sections(version: u32, document: &Table) -> Result<(), DescFault>
+    ensures { result ≡ checked (sections_fault version (table_view document.now)) }
 {
-    check_each_section(document, &SECTIONS)
+    check_each_section(version, document, &SECTIONS)
 }
 
 // A key's value is there, and one that it may have.
@@ -82,9 +83,12 @@ fn check_key(version: u32, document: &Table, key: Key) -> Result<(), DescFault>
     ensures { result ≡ checked (key_fault version (table_view document.now) key) }
 {
     let value = value_at(document, key);
-    match key.row(version).values {
+    match key.values(version) {
         Values::Numbers { least, most, shape } => {
             number_in(key, least, most, shape, value)?;
+        }
+        Values::Optional { least, most, shape } => {
+            number_or_least(key, least, most, shape, value)?;
         }
         Values::Models => {
             model_in(key, value)?;
@@ -114,9 +118,12 @@ fn check_keys(version: u32, document: &Table) -> Result<(), DescFault>
 fn number(version: u32, document: &Table, key: Key) -> u32
     ensures { result ≡ number version (table_view document.now) key }
 {
-    match key.row(version).values {
+    match key.values(version) {
         Values::Numbers { least, most, shape } => {
             number_in(key, least, most, shape, value_at(document, key)).unwrap_or(0)
+        }
+        Values::Optional { least, most, shape } => {
+            number_or_least(key, least, most, shape, value_at(document, key)).unwrap_or(0)
         }
         Values::Models => 0,
     }
@@ -150,16 +157,54 @@ fn check_end(version: u32, document: &Table) -> Result<(), DescFault>
     }
 }
 
+// Where an access may lie in two lines there are two miss registers.
+#[tactic(auto, unfolding(crate::specs::Description::registers_fault))]
+fn check_registers(version: u32, document: &Table) -> Result<(), DescFault>
+    ensures { result ≡ checked (registers_fault version (table_view document.now)) }
+{
+    let lines = 2 * number(version, document, Key::RamMisaligned) as u64;
+    if lines <= number(version, document, Key::CacheMshrs) as u64 {
+        Ok(())
+    } else {
+        Err(DescFault::Shape(Key::CacheMshrs))
+    }
+}
+
+// Where there is a second level, its line comes later than a hit and sooner than from memory.
+fn comes_between(second_sets: u32, hit: u32, second: u32, miss: u32) -> bool
+    ensures { result ≡ comes_between second_sets hit second miss }
+{
+    second_sets == 0 || hit < second && second < miss
+}
+
+// A line of the second level comes between a hit and a miss.
+#[tactic(auto, unfolding(crate::specs::Description::second_fault))]
+fn check_second(version: u32, document: &Table) -> Result<(), DescFault>
+    ensures { result ≡ checked (second_fault version (table_view document.now)) }
+{
+    let second_sets = number(version, document, Key::CacheSecondSets);
+    let hit = number(version, document, Key::CacheHitLatency);
+    let second = number(version, document, Key::CacheSecondLatency);
+    let miss = number(version, document, Key::CacheMissLatency);
+    if comes_between(second_sets, hit, second, miss) {
+        Ok(())
+    } else {
+        Err(DescFault::Shape(Key::CacheSecondLatency))
+    }
+}
+
 // The first fault of a document of this version.
 #[tactic(auto, unfolding(crate::specs::Description::document_fault))]
 fn check_document(version: u32, document: &Table) -> Result<(), DescFault>
     ensures { result ≡ checked (document_fault version (table_view document.now)) }
 {
     check_top(document)?;
-    check_sections(document)?;
+    check_sections(version, document)?;
     check_keys(version, document)?;
     check_latencies(version, document)?;
-    check_end(version, document)
+    check_end(version, document)?;
+    check_registers(version, document)?;
+    check_second(version, document)
 }
 
 // The number of a key without fault.
@@ -204,6 +249,13 @@ fn desc(version: u32, document: &Table, stt_model: SttModel) -> Desc
         ram_base: clean_number(version, document, Key::RamBase),
         ram_size: clean_number(version, document, Key::RamSize),
         stt_model,
+        ram_misaligned: clean_number(version, document, Key::RamMisaligned),
+        predictor_history: clean_number(version, document, Key::PredictorHistory),
+        predictor_returns: clean_number(version, document, Key::PredictorReturns),
+        cache_second_sets: clean_number(version, document, Key::CacheSecondSets),
+        cache_second_ways: clean_number(version, document, Key::CacheSecondWays),
+        cache_second_latency: clean_number(version, document, Key::CacheSecondLatency),
+        cache_prefetch: clean_number(version, document, Key::CachePrefetch),
     }
 }
 

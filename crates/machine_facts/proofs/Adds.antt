@@ -1,5 +1,5 @@
 -- How many events each phase has, and how much it adds to the next serial and to the count of the retired.
-use Rattle.std.proofs.Common.{◌≡◌, ℕ, suc, ◌+◌, ◌*◌, ◌≤◌, Bool, true, false, List, ◌++◌, length, Option, Some, None, refl, ◌∙◌, arith, length-append}
+use Rattle.std.proofs.Common.{◌≡◌, ℕ, suc, ◌+◌, ◌≤◌, Bool, true, false, List, ◌++◌, length, Option, Some, None, refl, ◌∙◌, arith, length-append}
 use Rattle.std.proofs.lemmas.List.{length-map}
 use Rattle.std.specs.Prelude.{if◌then◌else◌, map}
 use Rattle.std.specs.List.{filter}
@@ -84,36 +84,30 @@ resolve_adds d x = resolve_at_adds d (first (may_resolve d) x.window) x
 
 -- ---- retire
 
--- at most two events a turn, and one retired
+-- at most one retires a turn
 pub record Turns (n : ℕ) (x : Machine) (r : Retired) : Type 0 where
-  pub events : length r.events ≤ 2 * n
   pub cycle : r.machine.cycle ≡ x.cycle
   pub serials : r.machine.next_serial ≡ x.next_serial
   pub retired : r.machine.retired ≤ x.retired + n
 
 call_turn : (e : Entry) (rest : List Entry) (x : Machine) (s : Step) → Turns 1 x (call_leaves e rest x s)
-call_turn e rest x (Goes s p) = record { events = omega arith; cycle = refl; serials = refl; retired = omega arith }
-call_turn e rest x (Exits v s) = record { events = omega arith; cycle = refl; serials = refl; retired = omega arith }
-call_turn e rest x (Traps c) = record { events = omega arith; cycle = refl; serials = refl; retired = omega arith }
+call_turn e rest x (Goes s p) = record { cycle = refl; serials = refl; retired = omega arith }
+call_turn e rest x (Exits v s) = record { cycle = refl; serials = refl; retired = omega arith }
+call_turn e rest x (Traps c) = record { cycle = refl; serials = refl; retired = omega arith }
 
 head_turn : (k : Kind) (d : Desc) (e : Entry) (rest : List Entry) (x : Machine) → Turns 1 x (head_leaves k d e rest x)
-head_turn Store d e rest x = record { events = omega arith; cycle = refl; serials = refl; retired = omega arith }
+head_turn Store d e rest x = record { cycle = refl; serials = refl; retired = omega arith }
 head_turn Call d e rest x = call_turn e rest x (call (hart_of x))
-head_turn _ d e rest x = record { events = omega arith; cycle = refl; serials = refl; retired = omega arith }
+head_turn _ d e rest x = record { cycle = refl; serials = refl; retired = omega arith }
 
 then_turns : (n : ℕ) (x : Machine) (r s : Retired) → Turns 1 x r → Turns n r.machine s → Turns (suc n) x (record { machine = s.machine; events = r.events ++ s.events; piece = r.piece ++ s.piece })
-then_turns n x r s p q = record {
-  events = let j = joined 2 (2 * n) r.events s.events (omega (arith, p.events)) q.events in omega (arith, j);
-  cycle = q.cycle ∙ p.cycle;
-  serials = q.serials ∙ p.serials;
-  retired = omega (arith, p.retired, q.retired);
-}
+then_turns n x r s p q = record { cycle = q.cycle ∙ p.cycle; serials = q.serials ∙ p.serials; retired = omega (arith, p.retired, q.retired) }
 
 pub retire_turns : (d : Desc) (x : Machine) → Turns d.core_retire_width x (retire d x)
 retire_turns d x =
-    retire_by d (λ n stored x r. Turns n x r) (λ n stored x s. record { events = omega arith; cycle = refl; serials = refl; retired = omega arith })
+    retire_by d (λ n stored x r. Turns n x r) (λ n stored x s. record { cycle = refl; serials = refl; retired = omega arith })
     (λ n stored x e rest u q l t w more. then_turns n x (head_leaves e.item.kind d e rest x) _ (head_turn e.item.kind d e rest x) more)
-    (λ n stored x e rest cause u q l t. record { events = omega arith; cycle = refl; serials = refl; retired = omega arith }) x
+    (λ n stored x e rest cause u q l t. record { cycle = refl; serials = refl; retired = omega arith }) x
 
 -- ---- rename and fetch
 

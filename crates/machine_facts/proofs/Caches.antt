@@ -1,4 +1,4 @@
--- The cache keeps its sets, and each set at most as many lines as there are ways.
+-- A level of the cache keeps its sets, and each set at most as many lines as there are ways.
 use Rattle.std.proofs.Common.{◌≡◌, ℕ, suc, ◌<◌, ◌≤◌, Bool, true, false, not, ◌||◌, List, [], ◌∷◌, length, take, set, get_or, ◌∙◌, refl, arith}
 use Rattle.std.specs.Prelude.{if◌then◌else◌, ◌==◌}
 use Rattle.std.specs.List.{filter, fold, list_any}
@@ -6,21 +6,11 @@ use Rattle.std.proofs.lemmas.List.{length-set, length-take}
 use Rattle.machine_desc.specs.declared.Desc.{Desc}
 use Rattle.window_model.specs.State.{set_of}
 use Rattle.window_model.specs.Fill.{with_line}
-use Rattle.window_model.specs.Retire.{touched, has_line}
+use Rattle.window_model.specs.Retire.{touched}
+use Rattle.window_model.specs.SecondLevel.{second_set_of, second_touched, second_with_line}
+use Rattle.window_model.specs.Sets.{entered, is_in, moved_up}
 use Rattle.window_model.proofs.Lists.{each_set, each_at, filter_shortens}
-use Rattle.machine_facts.proofs.Parts.{CacheFits}
-
-module _ (d : Desc) where
-  with_line_fits : (cache : List (List ℕ)) (line : ℕ) → CacheFits d cache → CacheFits d (with_line d cache line)
-  with_line_fits cache line h =
-      let s = set_of d line in
-      let v = take d.cache_ways (line ∷ get_or cache s []) in
-      let n = length-take d.cache_ways (line ∷ get_or cache s []) in
-      record { sets = length-set cache s v ∙ h.sets; ways = each_set (λ lines. length lines ≤ d.cache_ways) cache s v (omega (arith, n)) h.ways }
-
-  pub filled_fits : (lines : List ℕ) (cache : List (List ℕ)) → CacheFits d cache → CacheFits d (fold (with_line d) cache lines)
-  filled_fits [] cache h = h
-  filled_fits (l ∷ ls) cache h = filled_fits ls (with_line d cache l) (with_line_fits cache l h)
+use Rattle.machine_facts.proofs.Parts.{CacheFits, LevelFits, SecondFits}
 
 -- ---- a line that moves to the front
 
@@ -33,21 +23,44 @@ shrinks : (p : ℕ → Bool) (xs : List ℕ) → list_any p xs ≡ true → leng
 shrinks p [] h = absurd (cc)
 shrinks p (x ∷ xs) h = shrinks_if (p x) (list_any p xs) x _ xs h (filter_shortens (λ l. not (p l)) xs) (shrinks p xs)
 
-touched_if : (b : Bool) (d : Desc) (cache : List (List ℕ)) (line : ℕ) → has_line d cache line ≡ b → CacheFits d cache →
-    CacheFits d (if b then set cache (set_of d line) (line ∷ filter (λ l. not (l == line)) (get_or cache (set_of d line) [])) else cache)
-touched_if false d cache line q h = h
-touched_if true d cache line q h =
-    let s = set_of d line in
-    let old = get_or cache s [] in
-    let v = line ∷ filter (λ l. not (l == line)) old in
-    let lt = shrinks (λ l. l == line) old q in
-    let le = each_at (λ lines. length lines ≤ d.cache_ways) cache s [] (omega arith) h.ways in
-    record { sets = length-set cache s v ∙ h.sets; ways = each_set (λ lines. length lines ≤ d.cache_ways) cache s v (omega (arith, lt, le)) h.ways }
+-- ---- a line that enters or moves, and several
 
-touched_fits : (d : Desc) (cache : List (List ℕ)) (line : ℕ) → CacheFits d cache → CacheFits d (touched d cache line)
-touched_fits d cache line h = touched_if (has_line d cache line) d cache line refl h
+module _ (count most : ℕ) where
+  entered_fits : (level : List (List ℕ)) (s line : ℕ) → LevelFits count most level → LevelFits count most (entered most level s line)
+  entered_fits level s line h =
+      let v = take most (line ∷ get_or level s []) in
+      let n = length-take most (line ∷ get_or level s []) in
+      record { sets = length-set level s v ∙ h.sets; ways = each_set (λ lines. length lines ≤ most) level s v (omega (arith, n)) h.ways }
 
--- so do several
-pub lines_fit : (d : Desc) (lines : List ℕ) (cache : List (List ℕ)) → CacheFits d cache → CacheFits d (fold (touched d) cache lines)
-lines_fit d [] cache c = c
-lines_fit d (line ∷ lines) cache c = lines_fit d lines (touched d cache line) (touched_fits d cache line c)
+  moved_if : (b : Bool) (level : List (List ℕ)) (s line : ℕ) → is_in level s line ≡ b → LevelFits count most level →
+      LevelFits count most (if b then set level s (line ∷ filter (λ l. not (l == line)) (get_or level s [])) else level)
+  moved_if false level s line q h = h
+  moved_if true level s line q h =
+      let old = get_or level s [] in
+      let v = line ∷ filter (λ l. not (l == line)) old in
+      let lt = shrinks (λ l. l == line) old q in
+      let le = each_at (λ lines. length lines ≤ most) level s [] (omega arith) h.ways in
+      record { sets = length-set level s v ∙ h.sets; ways = each_set (λ lines. length lines ≤ most) level s v (omega (arith, lt, le)) h.ways }
+
+  moved_fits : (level : List (List ℕ)) (s line : ℕ) → LevelFits count most level → LevelFits count most (moved_up level s line)
+  moved_fits level s line h = moved_if (is_in level s line) level s line refl h
+
+  several : (f : List (List ℕ) → ℕ → List (List ℕ)) → ((level : List (List ℕ)) (line : ℕ) → LevelFits count most level → LevelFits count most (f level line)) →
+      (lines : List ℕ) (level : List (List ℕ)) → LevelFits count most level → LevelFits count most (fold f level lines)
+  several f keeps [] level h = h
+  several f keeps (line ∷ lines) level h = several f keeps lines (f level line) (keeps level line h)
+
+-- ---- both levels
+
+module _ (d : Desc) where
+  pub filled_fits : (lines : List ℕ) (cache : List (List ℕ)) → CacheFits d cache → CacheFits d (fold (with_line d) cache lines)
+  filled_fits = several d.cache_sets d.cache_ways (with_line d) (λ cache line. entered_fits d.cache_sets d.cache_ways cache (set_of d line) line)
+
+  pub lines_fit : (lines : List ℕ) (cache : List (List ℕ)) → CacheFits d cache → CacheFits d (fold (touched d) cache lines)
+  lines_fit = several d.cache_sets d.cache_ways (touched d) (λ cache line. moved_fits d.cache_sets d.cache_ways cache (set_of d line) line)
+
+  pub second_filled_fits : (lines : List ℕ) (second : List (List ℕ)) → SecondFits d second → SecondFits d (fold (second_with_line d) second lines)
+  second_filled_fits = several d.cache_second_sets d.cache_second_ways (second_with_line d) (λ second line. entered_fits d.cache_second_sets d.cache_second_ways second (second_set_of d line) line)
+
+  pub second_lines_fit : (lines : List ℕ) (second : List (List ℕ)) → SecondFits d second → SecondFits d (fold (second_touched d) second lines)
+  second_lines_fit = several d.cache_second_sets d.cache_second_ways (second_touched d) (λ second line. moved_fits d.cache_second_sets d.cache_second_ways second (second_set_of d line) line)

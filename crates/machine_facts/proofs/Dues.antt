@@ -1,5 +1,5 @@
 -- What is under way ends soon: as the cycle goes on, as lines arrive and entries become done, and as entries begin.
-use Rattle.std.proofs.Common.{◌≡◌, ◌≢◌, ℕ, ◌+◌, ◌<◌, ◌≤◌, Bool, true, false, not, cond, List, [], ◌∷◌, ◌++◌, Option, Some, None, refl, sym, subst, arith, append-nil}
+use Rattle.std.proofs.Common.{◌≡◌, ◌≢◌, ◌⊎◌, inl, inr, ℕ, suc, ◌+◌, ◌<◌, ◌≤◌, Bool, true, false, not, cond, List, [], ◌∷◌, ◌++◌, length, Option, Some, None, refl, sym, subst, arith}
 use Rattle.std.proofs.lemmas.Bool.Decides.{nat_tests}
 use Rattle.std.specs.Prelude.{if◌then◌else◌, ◌==◌, map}
 use Rattle.std.specs.List.{filter, find, AllByRecursion as Each}
@@ -13,15 +13,17 @@ use Rattle.window_model.specs.declared.Item.{Item}
 use Rattle.window_model.specs.declared.Miss.{Miss}
 use Rattle.window_model.specs.declared.Progress.{Progress}
 use Rattle.window_model.specs.declared.Progress.TheVariants.{Waiting, Busy, Done}
-use Rattle.window_model.specs.State.{Machine}
+use Rattle.window_model.specs.State.{Machine, lines_of}
 use Rattle.window_model.specs.Order.{Place, each_from, is_store}
 use Rattle.window_model.specs.Fill.{is_due, completed, completes, completes_at}
 use Rattle.window_model.specs.Around.{Around}
-use Rattle.window_model.specs.Access.{Access, Faults, Forwards, Looks, Waits, due_by, misses_after, register}
+use Rattle.window_model.specs.Access.{Access, Faults, Forwards, Looks, Waits, Request, due_by, due_of, latency_of, look_up, misses_after, prefetched, register, request, requests}
+use Rattle.window_model.specs.SecondLevel.{second_has}
 use Rattle.window_model.specs.Issue.{Begun, issue_entry, begin_as, busy_until_both, effect_of, load_as, with_address, access_of, time_of, divider_after}
 use Rattle.window_model.specs.Rename.{renamed, at_once}
-use Rattle.window_model.proofs.Lists.{each_then, each_map, each_push, each_filter, OfSome, find_each}
-use Rattle.window_model.proofs.Issuing.{Comes, Remains, Begins, by_issue, begin_comes, begin_goes, gone_parts, by_line, by_load}
+use Rattle.window_model.proofs.Lists.{each_then, each_map, each_join, each_filter, OfSome, find_each}
+use Rattle.window_model.proofs.Issuing.{Comes, Remains, Begins, by_issue, begin_comes, begin_goes, gone_parts, OneOrTwo, One, Two, by_line, by_load, lines_are, looked}
+use Rattle.machine_facts.proofs.Requests.{AllFresh, all_fresh}
 use Rattle.machine_facts.specs.Timely.{IsSoon, DueSoon, IsDue, PartDue, PartsDue, IsPending, Apart, latency, longest_division}
 
 -- ---- the cycle goes on
@@ -75,29 +77,61 @@ time_in regs b e = (omega arith, omega arith)
 of_found : (d : Desc) (now : Around) (o : Option Miss) (m : Miss) → o ≡ Some m → OfSome (IsPending d now.cycle now.cycle) o → IsPending d now.cycle now.cycle m
 of_found d now o m q h = subst (OfSome (IsPending d now.cycle now.cycle)) q h
 
+-- a level without sets has no line
+no_sets : (d : Desc) (second : List (List ℕ)) (line : ℕ) → length second ≡ 0 → second_has d second line ≡ false
+no_sets d [] line h = refl
+no_sets d (s ∷ second) line h = absurd (omega (arith, h))
+
+-- a line that takes a register comes within the latency of a miss, from either level
+latency_soon : (d : Desc) (now : Around) → IsDesc d → length now.second ≡ d.cache_second_sets → (line : ℕ) →
+    let r = request d now line in (0 < latency_of d r) × (latency_of d r ≤ d.cache_miss_latency)
+latency_soon d now i sets line = by_level (second_has d now.second line) refl
+  where
+    between : (d.cache_second_sets ≡ 0) ⊎ (d.cache_hit_latency < d.cache_second_latency) × (d.cache_second_latency < d.cache_miss_latency) → second_has d now.second line ≡ true →
+        (0 < d.cache_second_latency) × (d.cache_second_latency ≤ d.cache_miss_latency)
+    between (inl none) h = let n = no_sets d now.second line (omega (arith, sets, none)) in absurd (cc)
+    between (inr p) h = (omega (arith, p.0), omega (arith, p.1))
+
+    by_level : (b : Bool) → second_has d now.second line ≡ b → let t = (if not b then d.cache_miss_latency else d.cache_second_latency) in (0 < t) × (t ≤ d.cache_miss_latency)
+    by_level false h = (omega (arith, i.miss_latency.0.0), omega arith)
+    by_level true h = between i.second_latency.1 h
+
+register_soon : (d : Desc) (now : Around) → IsDesc d → length now.second ≡ d.cache_second_sets → (line : ℕ) → IsPending d now.cycle now.cycle (register d now.cycle (request d now line))
+register_soon d now i sets line = let l = latency_soon d now i sets line in (omega (arith, l.0), omega (arith, l.1))
+
 -- lines come soon
 abbrev pub LooksSoon : Desc → Around → Access → Type 0
-LooksSoon d now (Looks found) = IsSoon now.cycle now.cycle d.cache_miss_latency (due_by d now found)
+LooksSoon d now (Looks found ahead) = IsSoon now.cycle now.cycle d.cache_miss_latency (due_by d now found)
 LooksSoon d now _ = Unit {0}
 
-pub looks_soon : (d : Desc) (now : Around) → IsDesc d → Each (IsPending d now.cycle now.cycle) now.misses → (b : List Entry) (e : Entry) → LooksSoon d now (access_of d now b e)
-looks_soon d now i h =
-    by_load d now (LooksSoon d now) tt
-    (λ line room. by_line d now (λ l. LooksSoon d now (Looks (l ∷ []))) (λ line q. (omega (arith, i.hit_latency.0), omega (arith, i.miss_latency.1)))
-    (λ line m q. of_found d now _ m q (find_each (IsPending d now.cycle now.cycle) (λ m. m.line == line) now.misses h)) (λ line q. (omega (arith, i.miss_latency.0.0), omega arith)) line)
-    (λ r. tt) (λ c. tt)
+module _ (d : Desc) (now : Around) (i : IsDesc d) (sets : length now.second ≡ d.cache_second_sets) (h : Each (IsPending d now.cycle now.cycle) now.misses) where
+  abbrev Soon : ℕ → Type 0
+  Soon due = IsSoon now.cycle now.cycle d.cache_miss_latency due
 
-module _ (d : Desc) (now : Around) (i : IsDesc d) where
-  abbrev Soon : Kind → Progress → Type 0
-  Soon k t = DueSoon now.cycle now.cycle (latency k d) t
+  line_soon : (line : ℕ) → Soon (due_of d now (look_up d now line))
+  line_soon line =
+      by_line d now line (λ l. Soon (due_of d now l)) (λ q. (omega (arith, i.hit_latency.0), omega (arith, i.miss_latency.1)))
+      (λ m q. of_found d now _ m q (find_each (IsPending d now.cycle now.cycle) (λ m. m.line == line) now.misses h)) (λ q. register_soon d now i sets line)
 
-  load_soon : (a : Access) (e : Entry) (f : Effect) (v : ℕ) → LooksSoon d now a → Soon Load e.state → Soon Load (load_as a d now e f v).entry.state
+  -- the later of two
+  lines_soon : (lines : List ℕ) → OneOrTwo lines → Soon (due_by d now (map (look_up d now) lines))
+  lines_soon _ (One line) = line_soon line
+  lines_soon _ (Two low high l) = let p = line_soon low in let q = line_soon high in (omega (arith, p.0, q.0), omega (arith, p.1, q.1))
+
+  pub looks_soon : (b : List Entry) (e : Entry) → LooksSoon d now (access_of d now b e)
+  looks_soon = by_load d now (LooksSoon d now) tt (λ a n some room. lines_soon (lines_of d a n) (lines_are d a n some)) (λ a n some r. tt) (λ c. tt)
+
+module _ (d : Desc) (now : Around) (i : IsDesc d) (sets : length now.second ≡ d.cache_second_sets) where
+  abbrev BusySoon : Kind → Progress → Type 0
+  BusySoon k t = DueSoon now.cycle now.cycle (latency k d) t
+
+  load_soon : (a : Access) (e : Entry) (f : Effect) (v : ℕ) → LooksSoon d now a → BusySoon Load e.state → BusySoon Load (load_as a d now e f v).entry.state
   load_soon (Faults c) e f v h k = (omega arith, omega (arith, i.miss_latency.0.0))
   load_soon Forwards e f v h k = (omega arith, omega (arith, i.miss_latency.0.0))
-  load_soon (Looks found) e f v h k = h
+  load_soon (Looks found ahead) e f v h k = h
   load_soon Waits e f v h k = k
 
-  begin_soon : (k : Kind) (b : List Entry) (e : Entry) → LooksSoon d now (access_of d now b e) → Soon k e.state → Soon k (begin_as k d now b e).entry.state
+  begin_soon : (k : Kind) (b : List Entry) (e : Entry) → LooksSoon d now (access_of d now b e) → BusySoon k e.state → BusySoon k (begin_as k d now b e).entry.state
   begin_soon Load b e j h = load_soon (access_of d now b e) e _ _ j h
   begin_soon Mul b e j h = (omega (arith, i.mul_latency.0), omega arith)
   begin_soon Div b e j h = let n = time_in now.regs b e in (omega (arith, n.0), omega (arith, n.1))
@@ -128,7 +162,7 @@ module _ (d : Desc) (now : Around) (i : IsDesc d) where
   issue_soon : Each (IsPending d now.cycle now.cycle) now.misses → (b : List Entry) (e : Entry) → PartsDue now.cycle e → IsDue d now.cycle now.cycle e → IsDue d now.cycle now.cycle (issue_entry d now b e).entry
   issue_soon p b e u h = by_issue d now b e (IsDue d now.cycle now.cycle) h (λ s m.
       let r = (begin_as e.item.kind d now b e).entry in
-      subst (λ (j : Item). DueSoon now.cycle now.cycle (latency j.kind d) r.state) (sym (begin_goes e.item.kind d now b e).item) (begin_soon e.item.kind b e (looks_soon d now i p b e) h)) (λ s a c g k. gone_soon b e a c (one_cycle e.item.kind s) u h)
+      subst (λ (j : Item). DueSoon now.cycle now.cycle (latency j.kind d) r.state) (sym (begin_goes e.item.kind d now b e).item) (begin_soon e.item.kind b e (looks_soon d now i sets p b e) h)) (λ s a c g k. gone_soon b e a c (one_cycle e.item.kind s) u h)
 
   pub dues_issued : Each (IsPending d now.cycle now.cycle) now.misses → (b es : List Entry) → Each (PartsDue now.cycle) es → Each (IsDue d now.cycle now.cycle) es → Each (IsDue d now.cycle now.cycle) (map (λ (t : Begun). t.entry) (each_from (issue_entry d now) b es))
   dues_issued p b [] u h = tt
@@ -192,10 +226,6 @@ pub apart_filter : (t : Miss → Bool) (ms : List Miss) → Apart ms → Apart (
 apart_filter t [] h = tt
 apart_filter t (m ∷ ms) h = apart_if (t m) m (filter t ms) (each_filter (λ (n : Miss). m.line ≢ n.line) t ms h.0) (apart_filter t ms h.1)
 
-apart_push : (ms : List Miss) (n : Miss) → Apart ms → Each (λ (m : Miss). m.line ≢ n.line) ms → Apart (ms ++ n ∷ [])
-apart_push [] n h k = (tt, tt)
-apart_push (m ∷ ms) n h k = (each_push (λ (n : Miss). m.line ≢ n.line) ms n h.0 k.0, apart_push ms n h.1 k.1)
-
 other_if : (m : Miss) (line : ℕ) (b : Bool) (o : Option Miss) → (m.line == line) ≡ b → (if b then Some m else o) ≡ None → (m.line ≢ line) × (o ≡ None)
 other_if m line true o h k = absurd (cc)
 other_if m line false o h k = (grind (arith, nat_tests), k)
@@ -206,21 +236,49 @@ none_found (m ∷ ms) line h =
     let o = other_if m line (m.line == line) (find (λ m. m.line == line) ms) refl h in
     (o.0, none_found ms line o.1)
 
+-- registers behind others, none of which has the line of one of these
+apart_join : (ms ns : List Miss) → Apart ms → Apart ns → Each (λ (n : Miss). Each (λ (m : Miss). m.line ≢ n.line) ms) ns → Apart (ms ++ ns)
+apart_join [] ns p q h = q
+apart_join (m ∷ ms) ns p q h =
+    (each_join (λ (n : Miss). m.line ≢ n.line) ms ns p.0 (each_then _ _ (λ n k. k.0) ns h), apart_join ms ns p.1 q (each_then _ _ (λ n k. k.1) ns h))
+
+-- what is said of the registers that lines take
+module _ (d : Desc) (now : Around) where
+  abbrev taken : List Request → List Miss
+  taken rs = map (register d now.cycle) rs
+
+  taken_others : (line low : ℕ) (rs : List Request) → line < low → AllFresh d now low rs → Each (λ (n : Miss). line ≢ n.line) (taken rs)
+  taken_others line low [] l h = tt
+  taken_others line low (r ∷ rs) l h = (omega (arith, l, h.0), taken_others line (suc r.line) rs (omega (arith, l, h.0)) h.2)
+
+  taken_apart : (low : ℕ) (rs : List Request) → AllFresh d now low rs → Apart (taken rs)
+  taken_apart low [] h = tt
+  taken_apart low (r ∷ rs) h = (taken_others r.line (suc r.line) rs (omega arith) h.2, taken_apart (suc r.line) rs h.2)
+
+  taken_fresh : (low : ℕ) (rs : List Request) → AllFresh d now low rs → Each (λ (n : Miss). Each (λ (m : Miss). m.line ≢ n.line) now.misses) (taken rs)
+  taken_fresh low [] h = tt
+  taken_fresh low (r ∷ rs) h = (none_found now.misses r.line h.1.fresh, taken_fresh (suc r.line) rs h.2)
+
+  taken_pending : IsDesc d → length now.second ≡ d.cache_second_sets → (low : ℕ) (rs : List Request) → AllFresh d now low rs → Each (IsPending d now.cycle now.cycle) (taken rs)
+  taken_pending i sets low [] h = tt
+  taken_pending i sets low (r ∷ rs) h =
+      (subst (λ r. IsPending d now.cycle now.cycle (register d now.cycle r)) (sym h.1.own) (register_soon d now i sets r.line), taken_pending i sets (suc r.line) rs h.2)
+
 -- the miss registers after an access
 pub record MissesSoon (d : Desc) (cycle : ℕ) (ms : List Miss) : Type 0 where
   pub misses : Each (IsPending d cycle cycle) ms
   pub lines : Apart ms
 
-pub taken_soon : (d : Desc) (now : Around) → IsDesc d → MissesSoon d now.cycle now.misses → (b : List Entry) (e : Entry) → MissesSoon d now.cycle (misses_after (access_of d now b e) d now.cycle now.misses)
-taken_soon d now i h =
-    let after : Access → Type 0 = λ a. MissesSoon d now.cycle (misses_after a d now.cycle now.misses) in
-    let same : MissesSoon d now.cycle (now.misses ++ []) = subst (MissesSoon d now.cycle) (sym (append-nil now.misses)) h in
-    by_load d now after h
-    (λ line room. by_line d now (λ l. after (Looks (l ∷ []))) (λ line q. same) (λ line m q. same)
-    (λ line q.
-    let new = register d now.cycle line in
+pub taken_soon : (d : Desc) (now : Around) → IsDesc d → length now.second ≡ d.cache_second_sets → MissesSoon d now.cycle now.misses → (b : List Entry) (e : Entry) →
+    MissesSoon d now.cycle (misses_after (access_of d now b e) d now.cycle now.misses)
+taken_soon d now i sets h =
+    by_load d now (λ a. MissesSoon d now.cycle (misses_after a d now.cycle now.misses)) h
+    (λ a n some room.
+    let found = looked d now a n in
+    let rs = requests found ++ prefetched d now found in
+    let fresh = all_fresh d now a n some in
     record {
-      misses = each_push (IsPending d now.cycle now.cycle) now.misses new h.misses (omega (arith, i.miss_latency.0.0), omega arith);
-      lines = apart_push now.misses new h.lines (none_found now.misses line q);
-    }) line)
-    (λ r. h) (λ c. h)
+      misses = each_join (IsPending d now.cycle now.cycle) now.misses (taken d now rs) h.misses (taken_pending d now i sets 0 rs fresh);
+      lines = apart_join now.misses (taken d now rs) h.lines (taken_apart d now 0 rs fresh) (taken_fresh d now 0 rs fresh);
+    })
+    (λ a n some r. h) (λ c. h)

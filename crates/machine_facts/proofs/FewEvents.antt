@@ -15,11 +15,13 @@ use Rattle.window_model.specs.Fetch.{fetch}
 use Rattle.window_model.specs.Cycle.{after_retire, at, before_retire, begins_cycle, cycle}
 use Rattle.window_model.specs.Row.{most_events}
 use Rattle.window_model.proofs.Quiet.{at_retire}
+use Rattle.window_model.proofs.Telling.{retire_few}
 use Rattle.window_model.proofs.Walks.{run_keep}
 use Rattle.machine_facts.specs.Sized.{Sized}
 use Rattle.machine_facts.specs.Timely.{Counted}
 use Rattle.machine_facts.proofs.Adds.{Adds, joined, fill_adds, complete_adds, resolve_adds, retire_turns, rename_renames, fetch_adds}
 use Rattle.machine_facts.proofs.Ports.{issue_adds}
+use Rattle.machine_facts.proofs.SizedRun.{sized_at_retire}
 
 -- ---- the phases before Retire, and those after it
 
@@ -45,7 +47,7 @@ record AddsAfter (most n : ℕ) (x : Machine) (a : After) : Type 0 where
   serials : a.machine.next_serial ≤ x.next_serial + n
   retired : a.machine.retired ≡ x.retired
 
-after_adds : (d : Desc) (code : Code) (o : Option End) (x : Machine) → AddsAfter (d.units_alus + 5 + (d.core_fetch_width + d.core_fetch_width)) d.core_fetch_width x (unless_ended o (nothing x) (then_does (issue d x) (λ y. then_does (rename d y) (fetch d code))))
+after_adds : (d : Desc) (code : Code) (o : Option End) (x : Machine) → AddsAfter (d.units_alus + 7 + (d.core_fetch_width + d.core_fetch_width)) d.core_fetch_width x (unless_ended o (nothing x) (then_does (issue d x) (λ y. then_does (rename d y) (fetch d code))))
 after_adds d code (Some e) x = record { events = omega arith; cycle = refl; serials = omega arith; retired = refl }
 after_adds d code None x =
     let i = issue d x in
@@ -55,7 +57,7 @@ after_adds d code None x =
     let q = rename_renames d i.machine in
     let u = fetch_adds d code r.machine in
     record {
-      events = joined (d.units_alus + 5) (d.core_fetch_width + d.core_fetch_width) i.events (r.events ++ f.events) p.events (joined d.core_fetch_width d.core_fetch_width r.events f.events q.events u.events);
+      events = joined (d.units_alus + 7) (d.core_fetch_width + d.core_fetch_width) i.events (r.events ++ f.events) p.events (joined d.core_fetch_width d.core_fetch_width r.events f.events q.events u.events);
       cycle = u.cycle ∙ q.cycle ∙ p.cycle;
       serials = omega (arith, u.serials, q.serials, p.serials);
       retired = u.retired ∙ q.retired ∙ p.retired;
@@ -71,13 +73,14 @@ few_events d code x i s =
     let r = retire d f.machine in
     let k = after_retire d code r.machine in
     let n = length x.misses + (length x.window + 3) in
-    let w = joined n (2 * d.core_retire_width) f.events r.events (before_adds d x1).events (retire_turns d f.machine).events in
+    let few = retire_few d f.machine (sized_at_retire d x i s).call_alone in
+    let w = joined n (d.core_retire_width + 2) f.events r.events (before_adds d x1).events few in
     let rob = most_up_to 64 192 d.version d.core_rob (lit≤ tt) i.rob.1 in
-    let all = joined (n + 2 * d.core_retire_width) (d.units_alus + 5 + (d.core_fetch_width + d.core_fetch_width)) (f.events ++ r.events) k.events w (after_adds d code r.machine.end r.machine).events in
+    let all = joined (n + (d.core_retire_width + 2)) (d.units_alus + 7 + (d.core_fetch_width + d.core_fetch_width)) (f.events ++ r.events) k.events w (after_adds d code r.machine.end r.machine).events in
     small (length ((f.events ++ r.events) ++ k.events)) (length x.misses) (length x.window) d.core_retire_width d.units_alus d.core_fetch_width all
     (omega (arith, s.misses, i.mshrs.1)) (omega (arith, s.entries, rob)) i.retire_width.1 i.alus.1 i.fetch_width.1
   where
-    small : (n m w r u f : ℕ) → n ≤ m + (w + 3) + 2 * r + (u + 5 + (f + f)) → m ≤ 8 → w ≤ 192 → r ≤ 4 → u ≤ 4 → f ≤ 4 → n ≤ most_events
+    small : (n m w r u f : ℕ) → n ≤ m + (w + 3) + (r + 2) + (u + 7 + (f + f)) → m ≤ 8 → w ≤ 192 → r ≤ 4 → u ≤ 4 → f ≤ 4 → n ≤ most_events
     small n m w r u f h a b c e g = omega arith
 
 pub cycle_number : (d : Desc) (code : Code) (x : Machine) → (cycle d code x).machine.cycle ≡ x.cycle + 1

@@ -2,6 +2,8 @@ pub mod Parts
 pub mod Together
 pub mod StoreParts
 pub mod Caches
+pub mod Requests
+pub mod Marks
 pub mod SizedWindow
 pub mod SizedPhases
 pub mod SizedRetire

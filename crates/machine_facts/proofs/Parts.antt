@@ -35,9 +35,16 @@ pub record PredictorFits (d : Desc) (c : List ℕ) (t : List (Option Target)) : 
   pub counters : length c ≡ d.predictor_counters
   pub targets : length t ≡ d.predictor_btb
 
-pub record CacheFits (d : Desc) (cache : List (List ℕ)) : Type 0 where
-  pub sets : length cache ≡ d.cache_sets
-  pub ways : Each (λ lines. length lines ≤ d.cache_ways) cache
+-- a level of the cache has so many sets, and each set at most so many lines
+pub record LevelFits (count most : ℕ) (level : List (List ℕ)) : Type 0 where
+  pub sets : length level ≡ count
+  pub ways : Each (λ lines. length lines ≤ most) level
+
+abbrev pub CacheFits : Desc → List (List ℕ) → Type 0
+CacheFits d cache = LevelFits d.cache_sets d.cache_ways cache
+
+abbrev pub SecondFits : Desc → List (List ℕ) → Type 0
+SecondFits d second = LevelFits d.cache_second_sets d.cache_second_ways second
 
 -- all parts of a state
 pub record Fits (d : Desc) (x : Machine) : Type 0 where
@@ -46,6 +53,7 @@ pub record Fits (d : Desc) (x : Machine) : Type 0 where
   pub queue : QueueFits d x.queue
   pub predictor : PredictorFits d x.counters x.targets
   pub cache : CacheFits d x.cache
+  pub second : SecondFits d x.second
   pub misses : length x.misses ≤ d.cache_mshrs
   pub registers : length x.regs ≡ 32
 
@@ -60,6 +68,7 @@ parts d x s = record {
   queue = record { queue = s.queue; item_kinds = s.item_kinds };
   predictor = record { counters = s.counters; targets = s.targets };
   cache = record { sets = s.sets; ways = s.ways };
+  second = record { sets = s.second_sets; ways = s.second_ways };
   misses = s.misses;
   registers = s.registers;
 }
@@ -76,6 +85,8 @@ whole d x f = record {
   targets = f.predictor.targets;
   sets = f.cache.sets;
   ways = f.cache.ways;
+  second_sets = f.second.sets;
+  second_ways = f.second.ways;
   misses = f.misses;
   registers = f.registers;
   kinds = each_then (IsEntry d x.ram) (λ (e : Entry). HasKind e.item) (λ e h. h.kind) x.window f.entries;

@@ -1,6 +1,7 @@
 -- No port is granted more often than it is there, so Issue has few events.
-use Rattle.std.proofs.Common.{◌≡◌, ℕ, ◌+◌, ◌-◌, ◌≤◌, ◌<◌, Bool, true, false, ◌&&◌, cond, List, [], ◌∷◌, length, refl, arith, length-append}
-use Rattle.std.specs.Prelude.{if◌then◌else◌, nat_lt, ◌==◌}
+use Rattle.std.proofs.Common.{◌≡◌, ℕ, ◌+◌, ◌-◌, ◌*◌, ◌≤◌, ◌<◌, Bool, true, false, ◌&&◌, cond, List, [], ◌∷◌, length, refl, arith, length-append}
+use Rattle.std.proofs.lemmas.List.{length-map}
+use Rattle.std.specs.Prelude.{if◌then◌else◌, nat_lt, ◌==◌, map}
 use Rattle.std.specs.List.{flat_map}
 use Rattle.rv_types.specs.Value.{one_if}
 use Rattle.rv_types.specs.Isa.{Effect}
@@ -11,11 +12,13 @@ use Rattle.window_model.specs.declared.Divider.{Divider}
 use Rattle.window_model.specs.declared.Entry.{Entry}
 use Rattle.window_model.specs.declared.Event.{Event}
 use Rattle.window_model.specs.declared.Event.TheVariants as event
-use Rattle.window_model.specs.State.{Machine}
+use Rattle.window_model.specs.State.{Machine, lines_of}
 use Rattle.window_model.specs.Order.{first, each_from, is_store}
 use Rattle.window_model.specs.Around.{Around, around}
 use Rattle.window_model.specs.Issue.{Begun, Port, AluPort, MulPort, DivPort, AddressPort, DataPort, LoadPort, port_of, ports, asking, is_granted, may_at, issue, issue_entry, issue_parts, issue_whole, effect_of, if_granted, data_events, with_address, with_data, begin_as, load_as, access_of, waits}
-use Rattle.window_model.proofs.Issuing.{by_after_load, by_load}
+use Rattle.window_model.specs.Access.{Request, line_at, look_at, look_events, look_up, prefetched, source_of}
+use Rattle.window_model.proofs.Issuing.{by_after_load, by_load, by_prefetched, looked}
+use Rattle.window_model.proofs.Telling.{lines_few}
 use Rattle.window_model.proofs.Booleans.{below}
 use Rattle.machine_facts.proofs.Adds.{Adds}
 
@@ -36,28 +39,48 @@ taken_few d now p before (e ∷ es) =
     one_taken (may_at d now p before e) (nat_lt (asking d now p before) (ports d p)) (taken d now p (e ∷ before) es) (asking d now p before) (ports d p) (taken_few d now p (e ∷ before) es)
     (λ l. below _ _ l)
 
--- ---- an entry that begins has one event at most
+-- ---- an entry that begins has one event, and a load at most three
 
-load_few : (d : Desc) (now : Around) (b : List Entry) (e : Entry) (f : Effect) (v : ℕ) → length (load_as (access_of d now b e) d now e f v).events ≤ 1
-load_few d now b e f v = by_load d now (λ a. length (load_as a d now e f v).events ≤ 1) (omega arith) (λ line room. omega arith) (λ r. omega arith) (λ c. omega arith) b e
+-- the most events of what goes at a port
+abbrev told_at : Port → ℕ
+told_at LoadPort = 3
+told_at _ = 1
 
-begin_few : (k : Kind) (d : Desc) (now : Around) (before : List Entry) (e : Entry) → length (begin_as k d now before e).events ≤ 1
+-- of a load its lines and what is prefetched
+looks_few : (d : Desc) (now : Around) (a n serial : ℕ) → let found = looked d now a n in length (look_events serial found (prefetched d now found)) ≤ 3
+looks_few d now a n serial =
+    let found = looked d now a n in
+    let ahead = prefetched d now found in
+    let own = map (λ l. event.Ld serial (line_at l) (look_at l)) found in
+    let more = map (λ (r : Request). event.Pf r.line (source_of r)) ahead in
+    let sum = length-append own more in
+    let own_many = length-map found (λ l. event.Ld serial (line_at l) (look_at l)) in
+    let more_many = length-map ahead (λ (r : Request). event.Pf r.line (source_of r)) in
+    let looked_many = length-map (lines_of d a n) (look_up d now) in
+    let two = lines_few d a n in
+    let one = by_prefetched d now found (λ ahead. length ahead ≤ 1) (omega arith) (λ m r f. omega arith) in
+    omega (arith, sum, own_many, more_many, looked_many, two, one)
+
+load_few : (d : Desc) (now : Around) (b : List Entry) (e : Entry) (f : Effect) (v : ℕ) → length (load_as (access_of d now b e) d now e f v).events ≤ 3
+load_few d now b e f v = by_load d now (λ a. length (load_as a d now e f v).events ≤ 3) (omega arith) (λ a n some room. looks_few d now a n e.serial) (λ a n some r. omega arith) (λ c. omega arith) b e
+
+begin_few : (k : Kind) (d : Desc) (now : Around) (before : List Entry) (e : Entry) → length (begin_as k d now before e).events ≤ told_at (port_of k)
 begin_few Load d now before e = load_few d now before e _ _
 begin_few _ d now before e = omega arith
 
-granted_few : (b : Bool) (s t : Begun) → length s.events ≤ 1 → length t.events ≤ 0 → length (if b then s else t).events ≤ cond b 1 0
-granted_few true s t p q = p
-granted_few false s t p q = q
+granted_few : (b : Bool) (most : ℕ) (s t : Begun) → length s.events ≤ most → length t.events ≤ 0 → length (if b then s else t).events ≤ cond b most 0
+granted_few true most s t p q = p
+granted_few false most s t p q = q
 
 -- ---- an entry in one piece has one port, and each part of a store its own
 
--- how often an entry is granted a port
+-- the most events of an entry by the ports that it is granted
 abbrev somewhere : Desc → Around → List Entry → Entry → ℕ
 somewhere d now b e =
     cond (is_granted d now AluPort b e) 1 0
-    + (cond (is_granted d now MulPort b e) 1 0 + (cond (is_granted d now DivPort b e) 1 0 + (cond (is_granted d now LoadPort b e) 1 0 + (cond (is_granted d now AddressPort b e) 1 0 + cond (is_granted d now DataPort b e) 1 0))))
+    + (cond (is_granted d now MulPort b e) 1 0 + (cond (is_granted d now DivPort b e) 1 0 + (cond (is_granted d now LoadPort b e) 3 0 + (cond (is_granted d now AddressPort b e) 1 0 + cond (is_granted d now DataPort b e) 1 0))))
 
-one_port : (d : Desc) (now : Around) (b : List Entry) (e : Entry) (p : Port) → cond (is_granted d now p b e) 1 0 ≤ somewhere d now b e
+one_port : (d : Desc) (now : Around) (b : List Entry) (e : Entry) (p : Port) → cond (is_granted d now p b e) (told_at p) 0 ≤ somewhere d now b e
 one_port d now b e AluPort = omega arith
 one_port d now b e MulPort = omega arith
 one_port d now b e DivPort = omega arith
@@ -67,7 +90,7 @@ one_port d now b e LoadPort = omega arith
 
 whole_few : (d : Desc) (now : Around) (b : List Entry) (e : Entry) → length (issue_whole d now b e).events ≤ somewhere d now b e
 whole_few d now b e =
-    let here = granted_few (is_granted d now (port_of e.item.kind) b e) (begin_as e.item.kind d now b e) (waits e) (begin_few e.item.kind d now b e) (omega arith) in
+    let here = granted_few (is_granted d now (port_of e.item.kind) b e) (told_at (port_of e.item.kind)) (begin_as e.item.kind d now b e) (waits e) (begin_few e.item.kind d now b e) (omega arith) in
     let once = one_port d now b e (port_of e.item.kind) in
     omega (arith, here, once)
 
@@ -98,20 +121,26 @@ entry_few d now b e = by_kind (is_store e.item.kind)
     by_kind true = parts_few d now b e
     by_kind false = whole_few d now b e
 
+-- three times the loads
+thrice : (b : Bool) (t : ℕ) → cond b 3 0 + 3 * t ≡ 3 * (cond b 1 0 + t)
+thrice true t = omega arith
+thrice false t = omega arith
+
 abbrev all_taken : Desc → Around → List Entry → List Entry → ℕ
-all_taken d now b es = taken d now AluPort b es + (taken d now MulPort b es + (taken d now DivPort b es + (taken d now LoadPort b es + (taken d now AddressPort b es + taken d now DataPort b es))))
+all_taken d now b es = taken d now AluPort b es + (taken d now MulPort b es + (taken d now DivPort b es + (3 * taken d now LoadPort b es + (taken d now AddressPort b es + taken d now DataPort b es))))
 
 issued_few : (d : Desc) (now : Around) (before es : List Entry) → length (flat_map (λ (b : Begun). b.events) (each_from (issue_entry d now) before es)) ≤ all_taken d now before es
 issued_few d now before [] = omega arith
 issued_few d now before (e ∷ es) =
     let here = entry_few d now before e in
     let more = issued_few d now (e ∷ before) es in
+    let t = thrice (is_granted d now LoadPort before e) (taken d now LoadPort (e ∷ before) es) in
     let l = length-append (issue_entry d now before e).events (flat_map (λ (b : Begun). b.events) (each_from (issue_entry d now) (e ∷ before) es)) in
     omega arith
 
 -- ---- the phase
 
-issue_few : (d : Desc) (x : Machine) → length (issue d x).events ≤ d.units_alus + 5
+issue_few : (d : Desc) (x : Machine) → length (issue d x).events ≤ d.units_alus + 7
 issue_few d x =
     let now = around x in
     let a = taken_few d now AluPort [] x.window in
@@ -123,8 +152,8 @@ issue_few d x =
     let i = issued_few d now [] x.window in
     omega arith
 
-pub issue_adds : (d : Desc) (x : Machine) → Adds (d.units_alus + 5) x (issue d x)
+pub issue_adds : (d : Desc) (x : Machine) → Adds (d.units_alus + 7) x (issue d x)
 issue_adds d x =
     let few = issue_few d x in
-    by_after_load d x (λ y. (w : List Entry) (v : Divider) → Adds (d.units_alus + 5) x (record { machine = record y { window = w; divider = v }; events = (issue d x).events }))
-    (λ c m w v. record { events = few; cycle = refl; serials = refl; retired = refl }) (first (may_at d (around x) LoadPort) x.window) _ _
+    by_after_load d x (λ y. (w : List Entry) (v : Divider) → Adds (d.units_alus + 7) x (record { machine = record y { window = w; divider = v }; events = (issue d x).events }))
+    (λ c s m w v. record { events = few; cycle = refl; serials = refl; retired = refl }) (first (may_at d (around x) LoadPort) x.window) _ _

@@ -13,16 +13,17 @@ use Rattle.machine_desc.specs.Ranges.{IsDesc}
 use Rattle.window_model.specs.declared.Divider.{Divider}
 use Rattle.window_model.specs.declared.Entry.{Entry}
 use Rattle.window_model.specs.declared.Item.{Item}
+use Rattle.window_model.specs.declared.Mark.{Mark}
 use Rattle.window_model.specs.declared.Miss.{Miss}
 use Rattle.window_model.specs.declared.Progress.{Progress}
 use Rattle.window_model.specs.declared.Progress.TheVariants.{Waiting, Busy, Done}
 use Rattle.window_model.specs.declared.Target.{Target}
 use Rattle.window_model.specs.State.{Machine, opening}
 use Rattle.window_model.specs.Order.{Place, first, each_from, is_waiting, is_faulty, is_store}
-use Rattle.window_model.specs.Fill.{fill, complete, completed, completes, completes_at, is_due}
+use Rattle.window_model.specs.Fill.{fill, complete, completed, completes, completes_at, is_due, lines}
 use Rattle.window_model.specs.Resolve.{resolve, Learnt, learn, learn_as, squash, keep}
 use Rattle.window_model.specs.Around.{Around, around}
-use Rattle.window_model.specs.Access.{cache_after, line_at, look_up, misses_after, register, taken_lines}
+use Rattle.window_model.specs.Access.{Request, cache_after, line_at, misses_after, prefetched, register, requests, second_after}
 use Rattle.window_model.specs.Issue.{Begun, LoadPort, issue, issue_entry, access_of, after_load, may_at}
 use Rattle.window_model.specs.Rename.{rename, rename_one, renamed, fits, at_once}
 use Rattle.window_model.specs.Fetch.{fetch, fetch_one, item_at, instr_at, kind_at}
@@ -30,11 +31,12 @@ use Rattle.window_model.proofs.Booleans.{below}
 use Rattle.window_model.proofs.Lists.{each_then, each_map, each_join, each_left, each_right, each_push, each_replicate, filter_shortens}
 use Rattle.window_model.proofs.Placing.{Taken, resolve_keep, taught}
 use Rattle.window_model.proofs.Counts.{Evolves, evolves_same, evolves_thins, map_evolves, place_evolves, completed_goes}
-use Rattle.window_model.proofs.Issuing.{issue_evolves, by_after_load, by_load}
+use Rattle.window_model.proofs.Issuing.{issue_evolves, by_after_load, by_load, looked}
 use Rattle.window_model.proofs.Walks.{rename_keep, fetch_keep}
 use Rattle.machine_facts.specs.Sized.{Sized, HasKind, FitsKind}
-use Rattle.machine_facts.proofs.Parts.{WindowFits, IsEntry, PredictorFits, CacheFits, Fits, parts, whole}
-use Rattle.machine_facts.proofs.Caches.{filled_fits, lines_fit}
+use Rattle.machine_facts.proofs.Parts.{WindowFits, IsEntry, PredictorFits, CacheFits, SecondFits, Fits, parts, whole}
+use Rattle.machine_facts.proofs.Caches.{filled_fits, lines_fit, second_filled_fits, second_lines_fit}
+use Rattle.machine_facts.proofs.Requests.{room_ahead}
 use Rattle.machine_facts.proofs.SizedWindow.{thinner, renamed_fits}
 use Rattle.machine_facts.proofs.StoreParts.{issue_sizes}
 use Rattle.window_model.proofs.Resolving.{resolved_one, resolved_goes}
@@ -48,6 +50,7 @@ sized_opening d entry ram i = whole d (opening d entry ram) (record {
   queue = record { queue = omega arith; item_kinds = tt };
   predictor = record { counters = length-replicate d.predictor_counters _; targets = length-replicate d.predictor_btb _ };
   cache = record { sets = length-replicate d.cache_sets _; ways = each_replicate (λ (lines : List ℕ). length lines ≤ d.cache_ways) d.cache_sets [] (omega arith) };
+  second = record { sets = length-replicate d.cache_second_sets _; ways = each_replicate (λ (lines : List ℕ). length lines ≤ d.cache_second_ways) d.cache_second_sets [] (omega arith) };
   misses = omega arith;
   registers = refl;
 })
@@ -57,7 +60,7 @@ sized_opening d entry ram i = whole d (opening d entry ram) (record {
 pub sized_begin : (d : Desc) (x : Machine) → IsDesc d → Sized d x → Sized d (record x { cycle = x.cycle + 1 })
 sized_begin d x i s =
     let f = parts d x s in
-    whole d (record x { cycle = x.cycle + 1 }) (record { window = f.window; entries = f.entries; queue = f.queue; predictor = f.predictor; cache = f.cache; misses = f.misses; registers = f.registers })
+    whole d (record x { cycle = x.cycle + 1 }) (record { window = f.window; entries = f.entries; queue = f.queue; predictor = f.predictor; cache = f.cache; second = f.second; misses = f.misses; registers = f.registers })
 
 pub sized_fill : (d : Desc) (x : Machine) → IsDesc d → Sized d x → Sized d (fill d x).machine
 sized_fill d x i s =
@@ -68,7 +71,8 @@ sized_fill d x i s =
       entries = f.entries;
       queue = f.queue;
       predictor = f.predictor;
-      cache = filled_fits d (map (λ (m : Miss). m.line) (filter (is_due x.cycle) x.misses)) x.cache f.cache;
+      cache = filled_fits d (lines (filter (is_due x.cycle) x.misses)) x.cache f.cache;
+      second = second_filled_fits d (lines (filter (λ (m : Miss). m.from_memory) (filter (is_due x.cycle) x.misses))) x.second f.second;
       misses = omega (arith, n, f.misses);
       registers = f.registers;
     })
@@ -95,6 +99,7 @@ sized_complete d x i s =
       queue = f.queue;
       predictor = f.predictor;
       cache = f.cache;
+      second = f.second;
       misses = f.misses;
       registers = f.registers;
     })
@@ -134,6 +139,7 @@ module _ (d : Desc) where
       queue = record { queue = omega arith; item_kinds = tt };
       predictor = predictor;
       cache = f.cache;
+      second = f.second;
       misses = f.misses;
       registers = f.registers;
     })
@@ -145,6 +151,7 @@ module _ (d : Desc) where
       queue = f.queue;
       predictor = predictor;
       cache = f.cache;
+      second = f.second;
       misses = f.misses;
       registers = f.registers;
     })
@@ -159,32 +166,38 @@ issue_entries d now b [] h = tt
 issue_entries d now b (e ∷ es) h = (issue_sizes d now b e h.0, issue_entries d now (e ∷ b) es h.1)
 
 -- what a load shares
-record SharedFits (d : Desc) (lines : List (List ℕ)) (taken : List Miss) : Type 0 where
+record SharedFits (d : Desc) (lines lower : List (List ℕ)) (taken : List Miss) : Type 0 where
   cache : CacheFits d lines
+  second : SecondFits d lower
   misses : length taken ≤ d.cache_mshrs
 
-load_shares : (d : Desc) (now : Around) → CacheFits d now.cache → length now.misses ≤ d.cache_mshrs → (b : List Entry) (e : Entry) →
-    let a = access_of d now b e in SharedFits d (cache_after a d now.cache) (misses_after a d now.cycle now.misses)
-load_shares d now c m =
-    let same : SharedFits d now.cache now.misses = record { cache = c; misses = m } in
-    by_load d now (λ a. SharedFits d (cache_after a d now.cache) (misses_after a d now.cycle now.misses)) same
-    (λ line room.
-    let found = look_up d now line ∷ [] in
-    let taken = map (register d now.cycle) (taken_lines found) in
+load_shares : (d : Desc) (now : Around) → SharedFits d now.cache now.second now.misses → (b : List Entry) (e : Entry) →
+    let a = access_of d now b e in SharedFits d (cache_after a d now.cache) (second_after a d now.second) (misses_after a d now.cycle now.misses)
+load_shares d now s =
+    by_load d now (λ a. SharedFits d (cache_after a d now.cache) (second_after a d now.second) (misses_after a d now.cycle now.misses)) s
+    (λ a n some room.
+    let found = looked d now a n in
+    let asked = requests found ++ prefetched d now found in
+    let taken = map (register d now.cycle) asked in
     let more = length-append now.misses taken in
-    let as_many = length-map (taken_lines found) (register d now.cycle) in
-    record { cache = lines_fit d (map line_at found) now.cache c; misses = omega (arith, more, as_many, room) })
-    (λ r. same) (λ cause. same)
+    let as_many = length-map asked (register d now.cycle) in
+    let fits = room_ahead d now a n room in
+    record {
+      cache = lines_fit d (map line_at found) now.cache s.cache;
+      second = second_lines_fit d (map (λ (r : Request). r.line) asked) now.second s.second;
+      misses = omega (arith, more, as_many, fits);
+    })
+    (λ a n some r. s) (λ cause. s)
 
-after_shares : (d : Desc) (x : Machine) (o : Option Place) → Fits d x → SharedFits d (after_load d o x).cache (after_load d o x).misses
-after_shares d x None f = record { cache = f.cache; misses = f.misses }
-after_shares d x (Some p) f = load_shares d (around x) f.cache f.misses p.before p.entry
+after_shares : (d : Desc) (x : Machine) (o : Option Place) → SharedFits d x.cache x.second x.misses → let y = after_load d o x in SharedFits d y.cache y.second y.misses
+after_shares d x None s = s
+after_shares d x (Some p) s = load_shares d (around x) s p.before p.entry
 
 after_same : (d : Desc) (x : Machine) (o : Option Place) (w : List Entry) (v : Divider) → WindowFits d w → Each (IsEntry d x.ram) w → Fits d x → Sized d (record (after_load d o x) { window = w; divider = v })
 after_same d x o w v f e g =
-    let s = after_shares d x o g in
-    by_after_load d x (λ y. SharedFits d y.cache y.misses → Sized d (record y { window = w; divider = v }))
-    (λ cache misses s. whole d _ (record { window = f; entries = e; queue = g.queue; predictor = g.predictor; cache = s.cache; misses = s.misses; registers = g.registers })) o s
+    let s = after_shares d x o (record { cache = g.cache; second = g.second; misses = g.misses }) in
+    by_after_load d x (λ y. SharedFits d y.cache y.second y.misses → Sized d (record y { window = w; divider = v }))
+    (λ cache second misses s. whole d _ (record { window = f; entries = e; queue = g.queue; predictor = g.predictor; cache = s.cache; second = s.second; misses = s.misses; registers = g.registers })) o s
 
 pub sized_issue : (d : Desc) (x : Machine) → IsDesc d → Sized d x → Sized d (issue d x).machine
 sized_issue d x i s =
@@ -214,6 +227,7 @@ rename_item d x i rest q r s =
       queue = record { queue = omega (arith, n, f.queue.queue); item_kinds = items.1 };
       predictor = f.predictor;
       cache = f.cache;
+      second = f.second;
       misses = f.misses;
       registers = f.registers;
     })
@@ -225,9 +239,9 @@ own_kind : (k : Kind) (i : Item) → i.kind ≡ k → k ≡ kind_of i.instr → 
 own_kind (Stop c) i q h = tt
 own_kind _ i q h = h
 
-fetched_kind : (w : Option ℕ) (pc : ℕ) (p : Option ℕ) → HasKind (record { pc = pc; instr = instr_at w; kind = kind_at w; predicted = p })
-fetched_kind None pc p = tt
-fetched_kind (Some w) pc p = own_kind (kind_of (decode w)) (record { pc = pc; instr = decode w; kind = kind_of (decode w); predicted = p }) refl refl
+fetched_kind : (w : Option ℕ) (pc : ℕ) (p : Option ℕ) (m : Mark) → HasKind (record { pc = pc; instr = instr_at w; kind = kind_at w; predicted = p; mark = m })
+fetched_kind None pc p m = tt
+fetched_kind (Some w) pc p m = own_kind (kind_of (decode w)) (record { pc = pc; instr = decode w; kind = kind_of (decode w); predicted = p; mark = m }) refl refl
 
 -- an item for which there is room is fetched
 pub fetch_item : (d : Desc) (code : Code) (x : Machine) (pc : ℕ) → x.fetch_pc ≡ Some pc → nat_lt (length x.queue) d.core_queue ≡ true → Sized d x → Sized d (fetch_one d (item_at d code x pc) x).machine
@@ -239,9 +253,10 @@ fetch_item d code x pc q r s =
     whole d (fetch_one d i x).machine (record {
       window = f.window;
       entries = f.entries;
-      queue = record { queue = omega (arith, b, l); item_kinds = each_push HasKind x.queue i f.queue.item_kinds (fetched_kind (code pc) pc i.predicted) };
+      queue = record { queue = omega (arith, b, l); item_kinds = each_push HasKind x.queue i f.queue.item_kinds (fetched_kind (code pc) pc i.predicted i.mark) };
       predictor = f.predictor;
       cache = f.cache;
+      second = f.second;
       misses = f.misses;
       registers = f.registers;
     })

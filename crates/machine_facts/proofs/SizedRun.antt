@@ -1,11 +1,11 @@
 -- A cycle and a run keep sizes and entries, and leave memory where it is.
-use Rattle.std.proofs.Common.{ℕ, ◌+◌, ap, sym, subst}
+use Rattle.std.proofs.Common.{ℕ, ap, sym, subst}
 use Rattle.rv_types.specs.Memory.{Code, Ram}
 use Rattle.machine_desc.specs.declared.Desc.{Desc}
 use Rattle.machine_desc.specs.Ranges.{IsDesc}
 use Rattle.window_model.specs.Shape.{SameShape}
 use Rattle.window_model.specs.State.{Machine, opening}
-use Rattle.window_model.specs.Cycle.{cycle, at}
+use Rattle.window_model.specs.Cycle.{begins_cycle, cycle, at}
 use Rattle.window_model.proofs.Walks.{cycle_keep, run_keep}
 use Rattle.window_model.specs.Fill.{fill, complete}
 use Rattle.window_model.specs.Retire.{retire}
@@ -24,6 +24,14 @@ sized_cycle d code x i s =
 pub sized_at : (d : Desc) (code : Code) (entry : ℕ) (ram : Ram) (k : ℕ) → IsDesc d → Sized d (at d code entry ram k)
 sized_at d code entry ram k i = run_keep d (Sized d) code (λ x. sized_cycle d code x i) k (opening d entry ram) (sized_opening d entry ram i)
 
+-- what Retire finds
+pub sized_at_retire : (d : Desc) (x : Machine) → IsDesc d → Sized d x → Sized d (at_retire d x)
+sized_at_retire d x i s =
+    let x1 = begins_cycle x in
+    let x2 = (fill d x1).machine in
+    let x3 = (complete x2).machine in
+    sized_resolve d x3 i (sized_complete d x2 i (sized_fill d x1 i (sized_begin d x i s)))
+
 -- ---- memory
 
 pub memory_stays_cycle : (d : Desc) (code : Code) (x : Machine) → IsDesc d → Sized d x → SameShape x.ram (cycle d code x).machine.ram
@@ -32,11 +40,7 @@ memory_stays_cycle d code x i s =
     let z = (retire d y).machine in
     let before = ap (λ (h : Hart). h.ram) (before_quiet d x).hart in
     let after = ap (λ (h : Hart). h.ram) (after_quiet d code z).hart in
-    let x1 : Machine = record x { cycle = x.cycle + 1 } in
-    let x2 = (fill d x1).machine in
-    let x3 = (complete x2).machine in
-    let t : Sized d y = sized_resolve d x3 i (sized_complete d x2 i (sized_fill d x1 i (sized_begin d x i s))) in
-    let stays = subst (λ m. SameShape m z.ram) before (memory_stays_retire d y i t) in
+    let stays = subst (λ m. SameShape m z.ram) before (memory_stays_retire d y i (sized_at_retire d x i s)) in
     subst (λ (u : Machine). SameShape x.ram u.ram) (sym (cycle_is d code x)) (subst (SameShape x.ram) (sym after) stays)
 
 -- sizes, and memory where it was at first

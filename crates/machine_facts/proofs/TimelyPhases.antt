@@ -19,7 +19,7 @@ use Rattle.window_model.specs.Retire.{retire, head_leaves, trap_of}
 use Rattle.window_model.specs.Around.{around}
 use Rattle.window_model.specs.Issue.{DivPort, LoadPort, issue, after_load, may_at}
 use Rattle.window_model.specs.Rename.{rename, rename_one, renamed, fits, is_stop}
-use Rattle.window_model.specs.Fetch.{fetch, fetch_one, item_at, instr_at, kind_at}
+use Rattle.window_model.specs.Fetch.{fetch, fetch_one, guess, item_at, instr_at, kind_at}
 use Rattle.window_model.proofs.Lists.{each_join, each_left, each_right, each_push}
 use Rattle.window_model.proofs.Placing.{Taken, resolve_keep, taught}
 use Rattle.window_model.proofs.Registers.{read_other, writes_not_zero}
@@ -187,24 +187,24 @@ timely_retire d x i h = heads_keep d (Timely d) (λ x e rest w l t k. leaves d x
 
 -- ---- issue
 
-after_soon : (d : Desc) (x : Machine) (o : Option Place) → IsDesc d → Timely d x → MissesSoon d x.cycle (after_load d o x).misses
-after_soon d x None i h = record { misses = h.misses; lines = h.lines }
-after_soon d x (Some p) i h = taken_soon d (around x) i (record { misses = h.misses; lines = h.lines }) p.before p.entry
+after_soon : (d : Desc) (x : Machine) (o : Option Place) → IsDesc d → length x.second ≡ d.cache_second_sets → Timely d x → MissesSoon d x.cycle (after_load d o x).misses
+after_soon d x None i z h = record { misses = h.misses; lines = h.lines }
+after_soon d x (Some p) i z h = taken_soon d (around x) i z (record { misses = h.misses; lines = h.lines }) p.before p.entry
 
-issue_done : (d : Desc) (x : Machine) (o : Option Place) (w : List Entry) (v : Divider) → IsDesc d → Rises 0 w x.next_serial → Each (IsDue d x.cycle x.cycle) w → Each (PartsDue x.cycle) w → v.free_from ≤ x.cycle + longest_division →
+issue_done : (d : Desc) (x : Machine) (o : Option Place) (w : List Entry) (v : Divider) → IsDesc d → length x.second ≡ d.cache_second_sets → Rises 0 w x.next_serial → Each (IsDue d x.cycle x.cycle) w → Each (PartsDue x.cycle) w → v.free_from ≤ x.cycle + longest_division →
     (x.fetch_pc ≡ None → last_item_from (last_from (is_some x.end) w) x.queue ≡ true) → Timely d x → Timely d (record (after_load d o x) { window = w; divider = v })
-issue_done d x o w v i r u p f n h =
-    let soon = after_soon d x o i h in
+issue_done d x o w v i z r u p f n h =
+    let soon = after_soon d x o i z h in
     by_after_load d x (λ y. MissesSoon d x.cycle y.misses → Timely d (record y { window = w; divider = v }))
-    (λ c m s. record { serials = r; dues = u; parts = p; misses = s.misses; lines = s.lines; divider = f; fetches = n; zero = h.zero }) o soon
+    (λ c l m s. record { serials = r; dues = u; parts = p; misses = s.misses; lines = s.lines; divider = f; fetches = n; zero = h.zero }) o soon
 
 -- a store that lacks a part waits: so no fault that is known is lost
-pub timely_issue : (d : Desc) (x : Machine) → IsDesc d → Each HasParts x.window → Timely d x → Timely d (issue d x).machine
-timely_issue d x i k h =
+pub timely_issue : (d : Desc) (x : Machine) → IsDesc d → length x.second ≡ d.cache_second_sets → Each HasParts x.window → Timely d x → Timely d (issue d x).machine
+timely_issue d x i z k h =
     let now = around x in
-    issue_done d x (first (may_at d now LoadPort) x.window) _ _ i
+    issue_done d x (first (may_at d now LoadPort) x.window) _ _ i z
     (rises_on 0 x.next_serial x.window _ (issue_evolves d now [] x.window) h.serials)
-    (dues_issued d now i h.misses [] x.window h.parts h.dues)
+    (dues_issued d now i z h.misses [] x.window h.parts h.dues)
     (parts_issued d now [] x.window h.parts)
     (divider_soon x (first (may_at d now DivPort) x.window) h.divider)
     (λ n. items_more _ _ (last_issued d now [] (is_some x.end) (is_some x.end) (λ h. h) x.window k) x.queue (h.fetches n)) h
@@ -236,7 +236,7 @@ fetch_item d code x pc q r h = record {
   misses = h.misses;
   lines = h.lines;
   divider = h.divider;
-  fetches = λ n. last_item_push (last_from (is_some x.end) x.window) x.queue (item_at d code x pc) ∙ stop_predicts (kind_at (code pc)) d x.counters x.targets pc (instr_at (code pc)) n;
+  fetches = λ n. last_item_push (last_from (is_some x.end) x.window) x.queue (item_at d code x pc) ∙ stop_predicts (kind_at (code pc)) d x.targets x.mark (guess (kind_at (code pc)) d x.counters x.mark pc) pc (instr_at (code pc)) n;
   zero = h.zero;
 }
 

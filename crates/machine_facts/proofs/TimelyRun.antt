@@ -23,7 +23,7 @@ pub timely_cycle : (d : Desc) (code : Code) (x : Machine) → IsDesc d → Sized
 timely_cycle d code x i s h =
     let x1 : Machine = record x { cycle = x.cycle + 1 } in
     let arrived = timely_fill x.cycle x.cycle d x1 i refl (timely_begin d x i h) in
-    (completed_keep d (Both d) code (λ x b. record { sized = sized_issue d x i b.sized; timely = timely_issue d x i b.sized.parts b.timely })
+    (completed_keep d (Both d) code (λ x b. record { sized = sized_issue d x i b.sized; timely = timely_issue d x i b.sized.second_sets b.sized.parts b.timely })
     (λ x b. record { sized = sized_rename d x i b.sized; timely = timely_rename d x i b.timely })
     (λ x b. record { sized = sized_fetch d code x i b.sized; timely = timely_fetch d code x i b.timely })
     (λ x b. record { sized = sized_resolve d x i b.sized; timely = timely_resolve d x i b.timely })

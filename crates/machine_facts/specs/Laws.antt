@@ -13,6 +13,7 @@ use Rattle.window_model.specs.Cycle.{at, cycle}
 use Rattle.window_model.specs.Row.{most_events}
 use Rattle.machine_facts.specs.Sized.{Sized}
 use Rattle.machine_facts.specs.Timely.{Timely, Counted, WaitsOrDone}
+use Rattle.machine_facts.specs.Marks.{Marked}
 
 -- every state of a run has its sizes
 abbrev pub StatesAreSized : Type 0
@@ -21,6 +22,10 @@ StatesAreSized = (d : Desc) (code : Code) (entry : ℕ) (ram : Ram) (k : ℕ) �
 -- in every state of a run serials rise, all that is under way ends soon, and fetching stops only for a reason
 abbrev pub StatesAreTimely : Type 0
 StatesAreTimely = (d : Desc) (code : Code) (entry : ℕ) (ram : Ram) (k : ℕ) → IsDesc d → Timely d (at d code entry ram k)
+
+-- in every state of a run history and stack are as large as the description says
+abbrev pub StatesAreMarked : Type 0
+StatesAreMarked = (d : Desc) (code : Code) (entry : ℕ) (ram : Ram) (k : ℕ) → IsDesc d → Marked d (at d code entry ram k)
 
 -- from a state between two cycles on, a store takes one cycle to execute: so none is busy in what Issue finds
 abbrev pub NoStoreIsBusy : Type 0

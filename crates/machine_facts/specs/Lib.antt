@@ -1,3 +1,4 @@
 pub mod Sized
 pub mod Timely
+pub mod Marks
 pub mod Laws

@@ -71,6 +71,8 @@ pub record Sized (d : Desc) (x : Machine) : Type 0 where
   pub targets : length x.targets ≡ d.predictor_btb
   pub sets : length x.cache ≡ d.cache_sets
   pub ways : Each (λ lines. length lines ≤ d.cache_ways) x.cache
+  pub second_sets : length x.second ≡ d.cache_second_sets
+  pub second_ways : Each (λ lines. length lines ≤ d.cache_second_ways) x.second
   pub misses : length x.misses ≤ d.cache_mshrs
   pub registers : length x.regs ≡ 32
   pub kinds : Each (λ e. HasKind e.item) x.window

@@ -1,6 +1,6 @@
 -- The first register that passes a test, and the others.
 use Rattle.std.proofs.Common.{◌≡◌, Bool, true, false, cond, not, List, [], ◌∷◌, Some, None, refl, ap, sym, ◌∙◌}
-use Rattle.std.specs.Prelude.{if◌then◌else◌, map}
+use Rattle.std.specs.Prelude.{if◌then◌else◌}
 use Rattle.std.specs.List.{find, filter}
 use Rattle.window_model.specs.declared.Miss.{Miss}
 use Rattle.window_model.specs.Fill.{is_due}
@@ -37,10 +37,10 @@ none_passes p (n ∷ ms) h = at (p n) (none_passes p ms) h
 -- ---- the laws
 
 pub due_first : ArrivesFirst
-due_first cycle misses m h = ap (map (λ m. m.line)) (first_passes (is_due cycle) misses m h)
+due_first cycle misses m h = first_passes (is_due cycle) misses m h
 
 pub due_rest : LeavesTheRest
 due_rest cycle misses = others_stay (is_due cycle) misses
 
 pub due_none : ArrivesNone
-due_none cycle misses h = let n = none_passes (is_due cycle) misses h in (ap (map (λ m. m.line)) n.0, n.1)
+due_none cycle misses h = none_passes (is_due cycle) misses h

@@ -1,22 +1,22 @@
 -- Freeing the registers that are due, one after the other, is phase Fill (docs/machine.md, "Fill").
-use Rattle.std.specs.Prelude.{◌≡◌, ℕ, not, List, [], ◌∷◌, map, Some, None}
+use Rattle.std.specs.Prelude.{◌≡◌, ℕ, not, List, [], ◌∷◌, Some, None}
 use Rattle.std.specs.List.{filter, find}
 use Rattle.window_model.specs.declared.Miss.{Miss}
 use Rattle.window_model.specs.Fill.{is_due}
 use Rattle.mshr_file.specs.Registers.{without_first}
 
--- the lines that phase Fill brings into the cache, in its order
-abbrev pub arriving : ℕ → List Miss → List ℕ
-arriving cycle misses = map (λ m. m.line) (filter (is_due cycle) misses)
+-- the registers whose lines phase Fill brings into the cache, in its order
+abbrev pub arriving : ℕ → List Miss → List Miss
+arriving cycle misses = filter (is_due cycle) misses
 
 -- the registers that phase Fill leaves
 abbrev pub staying : ℕ → List Miss → List Miss
 staying cycle misses = filter (λ m. not (is_due cycle m)) misses
 
--- the register that is freed has the first line that arrives, and the others then arrive as before
+-- the register that is freed is the first whose line arrives, and the others then arrive as before
 abbrev pub ArrivesFirst : Type 0
 ArrivesFirst = (cycle : ℕ) (misses : List Miss) (m : Miss) → find (is_due cycle) misses ≡ Some m →
-    arriving cycle misses ≡ m.line ∷ arriving cycle (without_first (is_due cycle) misses)
+    arriving cycle misses ≡ m ∷ arriving cycle (without_first (is_due cycle) misses)
 
 -- those that stay do so whether it is freed or not
 abbrev pub LeavesTheRest : Type 0

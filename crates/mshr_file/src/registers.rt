@@ -1,5 +1,5 @@
 //! The registers themselves.
-ghost use Rattle.std.specs.Prelude.{◌≡◌, ◌<◌, ◌≤◌, ◌==◌, not, nat_lt, [], ◌∷◌, ◌++◌, length, IfOk, vec_len, vec_capacity};
+ghost use Rattle.std.specs.Prelude.{◌≡◌, ◌<◌, ◌≤◌, ◌-◌, ◌==◌, not, nat_lt, [], ◌∷◌, ◌++◌, length, IfOk, vec_len, vec_capacity};
 ghost use Rattle.std.specs.List.{find, position};
 ghost use Rattle.std.specs.Option.{option_map};
 ghost use Rattle.window_model.specs.Fill.{is_due};
@@ -68,6 +68,13 @@ impl Mshrs {
         self.misses.len()
     }
 
+    /// How many registers are free.
+    pub fn free(&self) -> u32
+        ensures { result ≡ self.now.room - length self.now.misses }
+    {
+        self.room - self.len() as u32
+    }
+
     /// Whether no register is free.
     pub fn full(&self) -> bool
         ensures { result ≡ not (nat_lt (length self.now.misses) self.now.room) }
@@ -75,21 +82,28 @@ impl Mshrs {
         self.len() >= self.room as usize
     }
 
-    /// Takes a register for a line that comes in a cycle.
-    pub fn take(&mut self, line: u32, due: u64)
+    /// Takes a register for a line that comes in a cycle, from memory or from the second level.
+    pub fn take(&mut self, line: u32, due: u64, from_memory: bool)
         requires room { length self.old.misses < self.old.room }
-        ensures { self.new ≡ record self.old { misses = self.old.misses ++ record { line = line; due = due } ∷ [] } }
+        ensures { self.new ≡ record self.old {
+          misses = self.old.misses ++ record { line = line; due = due; from_memory = from_memory } ∷ [];
+        } }
     {
-        push_within(&mut self.misses, Miss { line, due });
+        let miss = Miss {
+            line,
+            due,
+            from_memory,
+        };
+        push_within(&mut self.misses, miss);
     }
 
-    /// Frees the register that was taken first of those due in this cycle, and tells its line. None exactly where none is
-    /// due, and nothing changes then.
-    pub fn due(&mut self, cycle: u64) -> Option<u32>
-        ensures line { result ≡ option_map (λ m. m.line) (find (is_due cycle) self.old.misses) }
+    /// Frees the register that was taken first of those due in this cycle, and tells its line and whether that comes from
+    /// memory. None exactly where none is due, and nothing changes then.
+    pub fn due(&mut self, cycle: u64) -> Option<(u32, bool)>
+        ensures line { result ≡ option_map (λ m. (m.line, m.from_memory)) (find (is_due cycle) self.old.misses) }
         ensures freed { self.new ≡ record self.old { misses = without_first (is_due cycle) self.old.misses } }
     {
-        free_due(&mut self.misses, cycle)
+        free_due(&mut self.misses, cycle).map(|miss| (miss.line, miss.from_memory))
     }
 }
 
@@ -113,14 +127,14 @@ fn first_due(misses: &[Miss], cycle: u64) -> Option<usize>
 }
 
 // Takes out the first of those due in a cycle.
-fn free_due(misses: &mut Vec<Miss>, cycle: u64) -> Option<u32>
-    ensures line { result ≡ option_map (λ m. m.line) (find (is_due cycle) misses.old.items) }
+fn free_due(misses: &mut Vec<Miss>, cycle: u64) -> Option<Miss>
+    ensures found { result ≡ find (is_due cycle) misses.old.items }
     ensures freed { misses.new.items ≡ without_first (is_due cycle) misses.old.items }
     ensures fewer { vec_len misses.new ≤ vec_len misses.old }
     ensures capacity { vec_capacity misses.new ≡ vec_capacity misses.old }
 {
     match first_due(misses.as_slice(), cycle) {
-        Some(place) => Some(misses.remove(place).line),
+        Some(place) => Some(misses.remove(place)),
         None => None,
     }
 }

@@ -48,7 +48,7 @@ agree_on secret lt addresses same =
     let none : 0 < 2 ^ 8 = lit< tt in
     let tail : List ℕ = 0 ∷ 0 ∷ 0 ∷ 0 ∷ 0 ∷ 0 ∷ 0 ∷ 0 ∷ secret ∷ replicate 7 0 in
     let low : Each Byte tail = (none, (none, (none, (none, (none, (none, (none, (none, (lt, (none, (none, (none, (none, (none, (none, (none, tt)))))))))))))))) in
-    record { base = refl; size = refl; bytes = All-append Byte (replicate 65520 0) tail (All-replicate Byte 65520 0 none) (All-from_recursion Byte tail low); same = All-from_recursion _ addresses same }
+    record { base = refl; size = refl; misaligned = refl; bytes = All-append Byte (replicate 65520 0) tail (All-replicate Byte 65520 0 none) (All-from_recursion Byte tail low); same = All-from_recursion _ addresses same }
 
 -- what the path loads in so many steps, where the secret is 0
 abbrev loads : SttModel → List ℕ → ℕ → List ℕ

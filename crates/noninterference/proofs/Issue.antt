@@ -15,7 +15,7 @@ use Rattle.window_model.specs.State.{Machine, After}
 use Rattle.window_model.specs.declared.Divider.{Divider}
 use Rattle.window_model.specs.Order.{Place, each, each_from, first, is_load, is_store}
 use Rattle.window_model.specs.Around.{Around, around}
-use Rattle.window_model.specs.Access.{Access, Faults, Forwards, Looks, Waits, Line, Hits, Joins, Takes, cache_after, due_of, latest, look_events, misses_after}
+use Rattle.window_model.specs.Access.{Access, Faults, Forwards, Looks, Waits, Line, Hits, Joins, Takes, cache_after, due_of, latency_of, latest, look_events, misses_after, second_after}
 use Rattle.window_model.specs.Issue.{Port, AddressPort, DataPort, DivPort, LoadPort, issue, issue_entry, issue_parts, issue_whole, begin_as, Begun, waits, with_address, with_data, if_granted, data_events, load_as, access_of, value_loaded, effect_of, is_granted, may_at, may_issue_as, port_of, is_division, after_load, divider_after}
 use Rattle.window_model.specs.Along.{Along}
 use Rattle.window_model.specs.Shape.{SameShape}
@@ -52,7 +52,7 @@ same_waits e e2 h = ap (λ t. let b : Begun = record { entry = t; events = [] } 
 same_due : (d : Desc) (now now2 : Around) (l : Line) → now.cycle ≡ now2.cycle → due_of d now l ≡ due_of d now2 l
 same_due d now now2 (Hits line) q = ap (λ n. n + d.cache_hit_latency) q
 same_due d now now2 (Joins line due) q = refl
-same_due d now now2 (Takes line) q = ap (λ n. n + d.cache_miss_latency) q
+same_due d now now2 (Takes r) q = ap (λ n. n + latency_of d r) q
 
 same_dues : (d : Desc) (now now2 : Around) (found : List Line) → now.cycle ≡ now2.cycle → map (due_of d now) found ≡ map (due_of d now2) found
 same_dues d now now2 [] q = refl
@@ -61,7 +61,7 @@ same_dues d now now2 (l ∷ found) q = ap₂ (λ due dues. due ∷ dues) (same_d
 same_load_as : (a : Access) (d : Desc) (now now2 : Around) (e e2 : Entry) (f f2 : Effect) (v v2 : ℕ) → without_outcome e ≡ without_outcome e2 → now.cycle ≡ now2.cycle → begun_without (load_as a d now e f v) ≡ begun_without (load_as a d now2 e2 f2 v2)
 same_load_as (Faults c) d now now2 e e2 f f2 v v2 h q = same_begins e e2 _ _ _ _ h (ap (λ n. n + 1) q) (ap (λ (t : Entry). event.LdFault t.serial ∷ []) h)
 same_load_as Forwards d now now2 e e2 f f2 v v2 h q = same_begins e e2 _ _ _ _ h (ap (λ n. n + 1) q) (ap (λ (t : Entry). event.LdForward t.serial ∷ []) h)
-same_load_as (Looks found) d now now2 e e2 f f2 v v2 h q = same_begins e e2 _ _ _ _ h (ap latest (same_dues d now now2 found q)) (ap (λ (t : Entry). look_events t.serial found) h)
+same_load_as (Looks found ahead) d now now2 e e2 f f2 v v2 h q = same_begins e e2 _ _ _ _ h (ap latest (same_dues d now now2 found q)) (ap (λ (t : Entry). look_events t.serial found ahead) h)
 same_load_as Waits d now now2 e e2 f f2 v v2 h q = same_waits e e2 h
 
 -- ---- a store's parts
@@ -159,8 +159,9 @@ module _ (d : Desc) (code : Code) (x x2 : Machine) (r : Alike x x2) (place : Sam
   at_port port b b2 e e2 s h = at_alike d x x2 r place b b2 s e e2 h.but_outcome port
 
   load_shown : (a : Access) (m m2 : Machine) → Alike m m2 →
-      shown (record m { cache = cache_after a d m.cache; misses = misses_after a d m.cycle m.misses }) ≡ shown (record m2 { cache = cache_after a d m2.cache; misses = misses_after a d m2.cycle m2.misses })
-  load_shown a m m2 q = ap (λ (t : Machine). let u : Machine = record t { cache = cache_after a d t.cache; misses = misses_after a d t.cycle t.misses } in u) q
+      shown (record m { cache = cache_after a d m.cache; second = second_after a d m.second; misses = misses_after a d m.cycle m.misses })
+      ≡ shown (record m2 { cache = cache_after a d m2.cache; second = second_after a d m2.second; misses = misses_after a d m2.cycle m2.misses })
+  load_shown a m m2 q = ap (λ (t : Machine). let u : Machine = record t { cache = cache_after a d t.cache; second = second_after a d t.second; misses = misses_after a d t.cycle t.misses } in u) q
 
   -- the place that is found is an instruction of the program
   item_at : (b older es : List Entry) (e : Entry) → Along (Stands code (bank_in (hart_of x))) b (older ++ e ∷ es) → IsItem code e.item
@@ -177,7 +178,7 @@ module _ (d : Desc) (code : Code) (x x2 : Machine) (r : Alike x x2) (place : Sam
       let m = load_clean p.entry.item.kind d now p.before p.entry (may_parts d now p.before p.entry t.0).kind l in
       let a = same_access_of d code x x2 r place p.before p2.before s.before p.entry p2.entry s.here.but_outcome item l m in
       load_shown (access_of d now p.before p.entry) x x2 r
-      ∙ ap (λ a. shown (record x2 { cache = cache_after a d x2.cache; misses = misses_after a d x2.cycle x2.misses })) a
+      ∙ ap (λ a. shown (record x2 { cache = cache_after a d x2.cache; second = second_after a d x2.second; misses = misses_after a d x2.cycle x2.misses })) a
   tried_alike_at None (Some p2) s i f = absurd s
   tried_alike_at (Some p) None s i f = absurd s
 

@@ -56,10 +56,10 @@ module _ (code : Code) (aligned : Aligned code) (s : Bank) (e : Entry) (n : ℕ)
   abbrev i : Instr
   i = decode word_there.0
 
-  item_is : e.item ≡ item_of e.item.pc i e.item.predicted
+  item_is : e.item ≡ item_of e.item.pc i e.item
   item_is = item_eq e.item e.item.pc i refl word_there.2 word_there.3
 
-  outcome_is : O ≡ replayed s (entry_of s e.item.pc e.item.predicted i)
+  outcome_is : O ≡ replayed s (entry_of s e.item.pc e.item i)
   outcome_is = ap (λ t. replayed s (of_item t)) item_is
 
   -- what isn't a branch or JALR goes on at its prediction, and so does the replay
@@ -76,7 +76,7 @@ module _ (code : Code) (aligned : Aligned code) (s : Bank) (e : Entry) (n : ℕ)
       let a = first_of (sources e) s.regs in
       let b = second_of (sources e) s.regs in
       let at_i = λ (k : Kind). k ≡ kind_of i in
-      let to = goes_on i e.item.pc a b e.item.predicted (subst (λ (t : Item). Predicts t.kind t) item_is item.next) (ap is_control (sym word_there.3) ∙ c) (ap at_once (sym word_there.3) ∙ g) in
+      let to = goes_on i e.item.pc a b e.item (subst (λ (t : Item). Predicts t.kind t) item_is item.next) (ap is_control (sym word_there.3) ∙ c) (ap at_once (sym word_there.3) ∙ g) in
       some_of n O.next (sym l ∙ q ∙ to ∙ ap (λ j. Some (effect e.item.pc j a b).next) (sym word_there.2) ∙ ap Some (sym (replayed_next e.item.kind s e)))
 
   -- what is all issued has the replay's outcome
@@ -121,14 +121,14 @@ module _ (code : Code) (aligned : Aligned code) (s : Bank) (e : Entry) (n : ℕ)
       by_fault : (o : Option Cause) → O.fault ≡ o → Steps Spectre
       by_fault None h = of_isa Spectre h (predicted_next c)
       by_fault (Some cause) h =
-          let over = passed_over s e.item.pc e.item.predicted i cause (ap is_access (sym word_there.3) ∙ k) (ap (λ (o : Outcome). o.fault) (sym outcome_is) ∙ h) in
+          let over = passed_over s e.item.pc e.item i cause (ap is_access (sym word_there.3) ∙ k) (ap (λ (o : Outcome). o.fault) (sym outcome_is) ∙ h) in
           ap (λ o. pass_at o (hart e.item.pc s)) word_there.1 ∙ over
-          ∙ ap (λ m. Goes (hart m (bank_after (entry_of s e.item.pc e.item.predicted i) s)) []) (ap (λ (o : Outcome). o.next) (sym outcome_is) ∙ sym (predicted_next c))
+          ∙ ap (λ m. Goes (hart m (bank_after (entry_of s e.item.pc e.item i) s)) []) (ap (λ (o : Outcome). o.next) (sym outcome_is) ∙ sym (predicted_next c))
           ∙ ap (λ b. Goes (hart n b) []) (ap (λ t. bank_after (of_item t) s) (sym item_is))
 
   plain_goes : (model : SttModel) → is_control e.item.kind ≡ false → is_access e.item.kind ≡ false → Steps model
   plain_goes model c k =
-      let h = no_fault s e.item.pc e.item.predicted i (ap at_once (sym word_there.3) ∙ g) (ap is_control (sym word_there.3) ∙ c) (ap is_access (sym word_there.3) ∙ k) (aligned e.item.pc word_there.0 word_there.1) in
+      let h = no_fault s e.item.pc e.item i (ap at_once (sym word_there.3) ∙ g) (ap is_control (sym word_there.3) ∙ c) (ap is_access (sym word_there.3) ∙ k) (aligned e.item.pc word_there.0 word_there.1) in
       of_isa model (ap (λ (o : Outcome). o.fault) outcome_is ∙ h) (predicted_next c)
 
   abbrev passes_as : SttModel → Kind → Bool

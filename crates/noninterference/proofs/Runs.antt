@@ -106,7 +106,7 @@ module _ (d : Desc) (code : Code) (entry : ℕ) (m m2 : Ram) (total : ℕ) (agre
       record {
         pc = refl;
         regs = same_registers;
-        place = record { base = agree.base; size = agree.size };
+        place = record { base = agree.base; size = agree.size; misaligned = agree.misaligned };
         bytes = fewer _ (path d.stt_model) code k total (start entry m) (omega (arith, le)) (each_then _ _ same_byte loaded all);
       }
 

@@ -80,12 +80,17 @@ module _ (d : Desc) (code : Code) (total : ℕ) where
       (m t.machine t2.machine n l.holds l2.holds (omega (arith, le)) (ap (left e (map without_outcome rest)) r ∙ ap (λ w. left e w (shown x2)) w) (in_step_after x x2 t.machine t2.machine [] [] a l.step l2.step refl))
 
   -- what shows of the machine behind a call
-  abbrev called : Machine → List ℕ → ℕ → ℕ → Option End → Machine
-  called m g p b o = record m { window = []; regs = g; pc = p; ram = record { base = b; bytes = [] }; retired = m.retired + 1; end = o }
+  abbrev called : Machine → List ℕ → ℕ → ℕ → Bool → Option End → Machine
+  called m g p b f o = record m { window = []; regs = g; pc = p; ram = record { base = b; bytes = []; misaligned = f }; retired = m.retired + 1; end = o }
 
   as_alike : (x x2 : Machine) (s s2 t t2 : Hart) (o : Option End) → Alike x x2 → Moved s s2 t t2 → Alike (as_hart t [] o x) (as_hart t2 [] o x2)
   as_alike x x2 s s2 t t2 o r v =
-      ap (λ m. called m t.regs t.pc t.ram.base o) r ∙ ap (λ g. called (shown x2) g t.pc t.ram.base o) v.regs ∙ ap (λ p. called (shown x2) t2.regs p t.ram.base o) v.pc ∙ ap (λ b. called (shown x2) t2.regs t2.pc b o) (sym v.place.base)
+      let f = t.ram.misaligned in
+      ap (λ m. called m t.regs t.pc t.ram.base f o) r
+      ∙ ap (λ g. called (shown x2) g t.pc t.ram.base f o) v.regs
+      ∙ ap (λ p. called (shown x2) t2.regs p t.ram.base f o) v.pc
+      ∙ ap (λ b. called (shown x2) t2.regs t2.pc b f o) (sym v.place.base)
+      ∙ ap (λ f. called (shown x2) t2.regs t2.pc t2.ram.base f o) (sym v.place.misaligned)
 
   -- and so does a call
   pub call_turn : (x x2 : Machine) (e : Entry) (n : ℕ) (stored : Bool) (t t2 : Step) → isa_step code (hart_of x) ≡ t → isa_step code (hart_of x2) ≡ t2 → StepsAlike (hart_of x) (hart_of x2) t t2 → CallDoes (hart_of x) t → Alike x x2 → InStepUpTo d.stt_model code total x x2 →
@@ -100,7 +105,7 @@ module _ (d : Desc) (code : Code) (total : ℕ) where
   call_turn x x2 e n stored (Exits v t) (Exits v2 t2) q q2 s c r a =
       let y = as_hart t [] (Some (Exit v)) x in
       let y2 = as_hart t2 [] (Some (Exit v2)) x2 in
-      let al : Alike y y2 = as_alike x x2 (hart_of x) (hart_of x2) t t2 (Some (Exit v)) r s.1 ∙ ap (λ v. called (shown x2) t2.regs t2.pc t2.ram.base (Some (Exit v))) s.0 in
+      let al : Alike y y2 = as_alike x x2 (hart_of x) (hart_of x2) t t2 (Some (Exit v)) r s.1 ∙ ap (λ v. called (shown x2) t2.regs t2.pc t2.ram.base t2.ram.misaligned (Some (Exit v))) s.0 in
       then_alike (call_leaves e [] x (Exits v t)) (call_leaves e [] x2 (Exits v2 t2)) (turns d n stored) (turns d n stored) refl refl
       (subst (λ u. R u (turns d n stored y2)) (sym (turns_empty d n stored y refl)) (subst (R (stays y)) (sym (turns_empty d n stored y2 refl))
       (record { alike = al; events = refl; piece = refl; in_step = λ z. absurd (cc) })))

@@ -81,17 +81,17 @@ fn loads_agree(state: &mut Isa, model: SttModel, one: &Ram, two: &[u8], steps: u
     true
 }
 
-// The same of as many bytes as the memory has, taken for those of a second one at its place.
+// The same of as many bytes as the memory has, taken for those of a second one at its place that takes the same accesses.
 fn memories_agree(state: &mut Isa, model: SttModel, one: &Ram, two: &[u8], steps: u64) -> bool
     requires { length two.now ≡ length one.now.bytes }
-    ensures { IsTrue result ↔ Agree one.now (record { base = one.now.base; bytes = two.now })
+    ensures { IsTrue result ↔ Agree one.now (record one.now { bytes = two.now })
         (reads (path model) (word_at state.old.code) state.old.hart steps) }
 {
     loads_agree(state, model, one, two, steps)
 }
 
 /// Whether two images in memories of one place are to be told apart by nothing that a model's path through the code of both loads:
-/// they have one code and one entry, and their memories agree on each byte that the path loads in so many steps from where the
+/// they have one code, one entry and one rule for addresses, and their memories agree on each byte that the path loads in so many steps from where the
 /// first begins. The state goes on as far as that takes.
 pub fn agree_for(
     state: &mut Isa,
@@ -110,6 +110,9 @@ pub fn agree_for(
         return false;
     }
     if two.entry != one.entry {
+        return false;
+    }
+    if two.ram.misaligned() != one.ram.misaligned() {
         return false;
     }
     memories_agree(state, model, &one.ram, two.ram.bytes(), steps)

@@ -19,17 +19,13 @@ tables_code =
     code_by (Desc × (List ℕ × List (Option Target))) (coded× desc.the_row.coded (coded× (coded_list coded_ℕ) (coded_list (coded_option target.the_row.coded))))
     (λ t. (t.desc, (t.counters, t.targets))) (λ p. record { desc = p.0; counters = p.1.0; targets = p.1.1 }) (λ _. refl)
 
--- the place of a branch's counter
-abbrev pub counter_place : Tables → ℕ → ℕ
-counter_place t pc = index pc t.desc.predictor_counters
-
 -- the place of a JALR's target
 abbrev pub target_place : Tables → ℕ → ℕ
 target_place t pc = index pc t.desc.predictor_btb
 
--- a branch is predicted to be taken where its counter is 2 or 3
+-- a branch is predicted to be taken where its counter, at this place, is 2 or 3
 abbrev pub is_taken : Tables → ℕ → Bool
-is_taken t pc = nat_le 2 (slice_index t.counters (counter_place t pc))
+is_taken t place = nat_le 2 (slice_index t.counters place)
 
 -- a target, where it was stored for this address
 abbrev pub target_if : ℕ → Option Target → Option ℕ
@@ -40,6 +36,6 @@ target_if pc (Some t) = if t.pc == pc then Some t.target else None
 abbrev pub target_at : Tables → ℕ → Option ℕ
 target_at t pc = target_if pc (slice_index_or t.targets (target_place t pc) None)
 
--- the counter of a branch, after the branch went this way
+-- the counter at this place, after its branch went this way
 abbrev pub counter_after : Tables → ℕ → Bool → ℕ
-counter_after t pc way = moved way (slice_index t.counters (counter_place t pc))
+counter_after t place way = moved way (slice_index t.counters place)

@@ -2,7 +2,7 @@
 ghost use Rattle.std.specs.Prelude.{◌≡◌, ◌<◌, replicate, slice_set, IfOk, None, Some};
 ghost use Rattle.window_model.specs.Resolve.{index, moved};
 ghost use Rattle.window_model.specs.declared.Event.TheVariants as event;
-ghost use Rattle.predictor.specs.Tables.{counter_place, target_place, is_taken, target_if, target_at, counter_after};
+ghost use Rattle.predictor.specs.Tables.{target_place, is_taken, target_if, target_at, counter_after};
 
 use machine_desc::Desc;
 use rv_types::NoMemory;
@@ -60,11 +60,13 @@ impl Predictor {
         })
     }
 
-    /// Whether a branch at this address is predicted to be taken: exactly where its counter is 2 or 3.
-    pub fn direction(&self, pc: u32) -> bool
-        ensures { result ≡ is_taken self.now pc }
+    /// Whether a branch whose counter stands at this place is predicted to be taken: exactly where the counter is 2 or 3. The
+    /// branch's address and its history say which place that is.
+    pub fn direction(&self, place: u32) -> bool
+        requires { place < self.now.desc.predictor_counters }
+        ensures { result ≡ is_taken self.now place }
     {
-        self.counters[index(pc, self.desc.predictor_counters)] >= TAKEN_FROM
+        self.counters[place as usize] >= TAKEN_FROM
     }
 
     /// The address to which a JALR at this address is predicted to go. None exactly where no target is stored for this
@@ -75,18 +77,18 @@ impl Predictor {
         target_for(self.targets[index(pc, self.desc.predictor_btb)], pc)
     }
 
-    /// Learns how the branch at this address went: its counter goes one up where it was taken, to at most 3, else one
-    /// down, to at least 0. No other counter changes, and no target. Answers the event that tells the counter's value.
-    pub fn learn_branch(&mut self, pc: u32, taken: bool) -> Event
+    /// Learns how the branch went whose counter stands at this place: the counter goes one up where it was taken, to at most 3,
+    /// else one down, to at least 0. No other counter changes, and no target. Answers the event that tells the counter's value.
+    pub fn learn_branch(&mut self, place: u32, taken: bool) -> Event
+        requires { place < self.old.desc.predictor_counters }
         ensures moved { self.new ≡ record self.old {
-          counters = slice_set self.old.counters (counter_place self.old pc) (counter_after self.old pc taken);
+          counters = slice_set self.old.counters place (counter_after self.old place taken);
         } }
-        ensures event { result ≡ event.Bp (counter_place self.old pc) (counter_after self.old pc taken) }
+        ensures event { result ≡ event.Bp place (counter_after self.old place taken) }
     {
-        let place = index(pc, self.desc.predictor_counters);
-        let counter = moved(self.counters[place], taken);
-        self.counters[place] = counter;
-        Event::Bp(place as u32, counter)
+        let counter = moved(self.counters[place as usize], taken);
+        self.counters[place as usize] = counter;
+        Event::Bp(place, counter)
     }
 
     /// Learns where the JALR at this address went: address and target take its place. No other target changes, and no

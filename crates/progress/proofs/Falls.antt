@@ -1,6 +1,7 @@
 -- In a cycle in which nothing retires and the run doesn't end the measure falls.
 use Rattle.std.proofs.Common.{◌≡◌, ℕ, ◌+◌, ◌-◌, ◌≤◌, ◌<◌, Bool, true, false, List, [], ◌∷◌, ◌++◌, Option, Some, None, refl, ap, sym, ◌∙◌, subst, arith}
 use Rattle.std.specs.Prelude.{if◌then◌else◌}
+use Rattle.rv_types.specs.Isa.{Hart}
 use Rattle.rv_types.specs.Memory.{Code}
 use Rattle.rv_types.specs.declared.Kind.{Kind}
 use Rattle.machine_desc.specs.declared.Desc.{Desc}
@@ -18,20 +19,22 @@ use Rattle.window_model.specs.Issue.{issue}
 use Rattle.window_model.specs.Rename.{rename, at_once, rename_one}
 use Rattle.window_model.specs.Fetch.{fetch, item_at}
 use Rattle.window_model.specs.Cycle.{cycle}
-use Rattle.window_model.proofs.Quiet.{at_retire}
+use Rattle.window_model.proofs.Quiet.{at_retire, before_quiet}
 use Rattle.machine_facts.specs.Sized.{Sized}
 use Rattle.machine_facts.specs.Timely.{Timely}
+use Rattle.progress.specs.Laws.{Allows}
 use Rattle.progress.specs.Measure.{takes, until_renamed, time_left, measure}
 use Rattle.progress.proofs.Bounds.{waiting_at_most, miss_takes_time}
 use Rattle.progress.proofs.RenameFetch.{Appends, appends_then, rename_appends, rename_none, rename_first, fetch_fetches, fetch_some}
 use Rattle.progress.proofs.Oldest.{resolve_oldest, resolve_resolves}
 use Rattle.progress.proofs.Stops.{Stuck}
-use Rattle.progress.proofs.IssueOldest.{needs, Began, oldest_nearer}
-use Rattle.progress.proofs.Idle.{Idle, idle, before_resolve, after_fetch, sized_at_retire, timely_at_retire}
+use Rattle.progress.proofs.IssueOldest.{needs, Began, Served, oldest_nearer}
+use Rattle.progress.proofs.Idle.{Idle, idle, before_resolve, after_fetch, timely_at_retire}
+use Rattle.machine_facts.proofs.SizedRun.{sized_at_retire}
 
 -- the measure falls from x, whose window and queue the lemmas below take apart
 abbrev FallsAt : Desc → Code → Machine → Type 0
-FallsAt d code x = IsDesc d → Sized d x → Timely d x → Idle d code x → measure d (after_fetch d code (at_retire d x)) < measure d x
+FallsAt d code x = IsDesc d → Allows d x.ram → Sized d x → Timely d x → Idle d code x → measure d (after_fetch d code (at_retire d x)) < measure d x
 
 same_left : (d : Desc) (c c2 : ℕ) (ms ms2 : List Miss) (v v2 : Divider) (q : List Item) (w : List Entry) → c ≡ c2 → ms ≡ ms2 → v ≡ v2 → time_left d c ms v.free_from q w ≡ time_left d c2 ms2 v2.free_from q w
 same_left d c c2 ms ms2 v v2 q w p r t = rw p (rw r (rw t refl))
@@ -50,8 +53,8 @@ shorter d y j r w q =
     omega arith
 
 nothing_there : (d : Desc) (code : Code) (o : Option ℕ) (x : Machine) → FallsAt d code (record x { window = []; queue = []; fetch_pc = o })
-nothing_there d code None x i s t h = let f = t.fetches refl in let e = h.end in absurd (cc)
-nothing_there d code (Some pc) x i s t h =
+nothing_there d code None x i l s t h = let f = t.fetches refl in let e = h.end in absurd (cc)
+nothing_there d code (Some pc) x i l s t h =
     let b = at_retire d (record x { window = []; queue = []; fetch_pc = Some pc }) in
     let f = fetch_some d code pc b i in
     let y = (fetch d code b).machine in
@@ -64,7 +67,7 @@ new_takes true k d c ms f h = omega arith
 new_takes false k d c ms f h = h
 
 item_there : (d : Desc) (code : Code) (j : Item) (rest : List Item) (x : Machine) → FallsAt d code (record x { window = []; queue = j ∷ rest })
-item_there d code j rest x i s t h =
+item_there d code j rest x i l s t h =
     let x0 : Machine = record x { window = []; queue = j ∷ rest } in
     let b = at_retire d x0 in
     let r = (rename_one d j rest b).machine in
@@ -90,7 +93,7 @@ less : (m l n k : ℕ) → m ≡ l → l < n → n ≡ k → m < k
 less m l n k e h f = omega arith
 
 entry_there : (d : Desc) (code : Code) (e : Entry) (es : List Entry) (x : Machine) → FallsAt d code (record x { window = e ∷ es })
-entry_there d code e es x i s t h =
+entry_there d code e es x i l s t h =
     let x0 : Machine = record x { window = e ∷ es } in
     let a = before_resolve d x0 in
     let c = x.cycle + 1 in
@@ -105,7 +108,8 @@ entry_there d code e es x i s t h =
     let f = resolve_resolves d a in
     let began : Began d x0 b2 = record { cycle = f.cycle; misses = f.misses; divider = f.divider } in
     let sizes : Sized d b2 = subst (Sized d) same (sized_at_retire d x0 i s) in
-    let nearer = oldest_nearer d x0 b2 o.entry o.rest (ap is_done o.state ∙ waits) sizes.parts.0 sizes.together.0 i u began in
+    let served : Served d b2 = record { allows = λ m. l (ap (λ (s : Hart). s.ram.misaligned) (sym (before_quiet d x0).hart) ∙ m); second = sizes.second_sets } in
+    let nearer = oldest_nearer d x0 b2 o.entry o.rest (ap is_done o.state ∙ waits) sizes.parts.0 sizes.together.0 served i u began in
     let y1 = (issue d b2).machine in
     let z = (rename d y1).machine in
     let y = (fetch d code z).machine in
@@ -122,7 +126,7 @@ by_window d code [] [] x = nothing_there d code x.fetch_pc x
 by_window d code [] (j ∷ rest) x = item_there d code j rest x
 by_window d code (e ∷ es) q x = entry_there d code e es (record x { queue = q })
 
-pub measure_falls : (d : Desc) (code : Code) (x : Machine) → IsDesc d → Sized d x → Timely d x → (cycle d code x).machine.end ≡ None → (cycle d code x).machine.retired ≡ x.retired → measure d (cycle d code x).machine < measure d x
-measure_falls d code x i s t p q =
+pub measure_falls : (d : Desc) (code : Code) (x : Machine) → IsDesc d → Allows d x.ram → Sized d x → Timely d x → (cycle d code x).machine.end ≡ None → (cycle d code x).machine.retired ≡ x.retired → measure d (cycle d code x).machine < measure d x
+measure_falls d code x i l s t p q =
     let h = idle d code x i p q in
-    rw h.after (by_window d code x.window x.queue x i s t h)
+    rw h.after (by_window d code x.window x.queue x i l s t h)

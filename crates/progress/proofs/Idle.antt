@@ -12,9 +12,7 @@ use Rattle.window_model.specs.Rename.{rename}
 use Rattle.window_model.specs.Fetch.{fetch}
 use Rattle.window_model.specs.Cycle.{cycle, after_retire}
 use Rattle.window_model.proofs.Quiet.{Quiet, quiet_then, at_retire, cycle_is, before_quiet, after_quiet, issue_quiet, rename_quiet, fetch_quiet}
-use Rattle.machine_facts.specs.Sized.{Sized}
 use Rattle.machine_facts.specs.Timely.{Timely}
-use Rattle.machine_facts.proofs.SizedPhases.{sized_begin, sized_fill, sized_complete, sized_resolve}
 use Rattle.machine_facts.proofs.TimelyPhases.{timely_begin, timely_fill, timely_complete, timely_resolve}
 use Rattle.progress.proofs.Stops.{Stuck, retire_turned}
 
@@ -30,12 +28,6 @@ pub timely_at_retire : (d : Desc) (x : Machine) → IsDesc d → Timely d x → 
 timely_at_retire d x i h =
     let x1 : Machine = record x { cycle = x.cycle + 1 } in
     timely_resolve d (before_resolve d x) i (timely_complete x.cycle d (fill d x1).machine i refl (timely_fill x.cycle x.cycle d x1 i refl (timely_begin d x i h)))
-
--- and each part holds at most what it may
-pub sized_at_retire : (d : Desc) (x : Machine) → IsDesc d → Sized d x → Sized d (at_retire d x)
-sized_at_retire d x i h =
-    let x1 : Machine = record x { cycle = x.cycle + 1 } in
-    sized_resolve d (before_resolve d x) i (sized_complete d (fill d x1).machine i (sized_fill d x1 i (sized_begin d x i h)))
 
 -- what has retired stays so
 pub cycle_retires : (d : Desc) (code : Code) (x : Machine) → x.retired ≤ (cycle d code x).machine.retired

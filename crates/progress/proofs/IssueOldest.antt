@@ -1,10 +1,15 @@
 -- An oldest entry that isn't done comes nearer to it in Issue.
 use Rattle.std.proofs.Common.{◌≡◌, ℕ, ◌+◌, ◌-◌, ◌≤◌, ◌<◌, max, Bool, true, false, not, ◌&&◌, ◌||◌, List, [], ◌∷◌, length, Option, Some, None, is_some, refl, ap, sym, ◌∙◌, subst, arith, eqb-true}
 use Rattle.std.proofs.lemmas.Bool.Decides.{nat_tests}
+use Rattle.std.proofs.lemmas.List.{length-map}
 use Rattle.std.specs.Prelude.{if◌then◌else◌, nat_lt, nat_le, ◌==◌}
 use Rattle.std.specs.Cmp.Derive.{both_true}
 use Rattle.std.specs.List.{filter, AllByRecursion as Each}
 use Rattle.rv_types.specs.Isa.{Effect}
+use Rattle.rv_types.specs.Memory.{load_fault}
+use Rattle.rv_types.specs.Value.{size_of}
+use Rattle.rv_types.specs.declared.Cause.{Cause}
+use Rattle.rv_types.specs.declared.Op.{Op}
 use Rattle.rv_types.specs.declared.Kind.{Kind}
 use Rattle.rv_types.specs.declared.Kind.TheVariants.{Mul, Div, Load, Store}
 use Rattle.machine_desc.specs.declared.Desc.{Desc}
@@ -14,21 +19,24 @@ use Rattle.window_model.specs.declared.Event.TheVariants as event
 use Rattle.window_model.specs.declared.Miss.{Miss}
 use Rattle.window_model.specs.declared.Progress.{Progress}
 use Rattle.window_model.specs.declared.Progress.TheVariants.{Waiting, Busy, Done}
-use Rattle.window_model.specs.State.{Machine}
+use Rattle.window_model.specs.State.{Machine, lines_of}
 use Rattle.window_model.specs.Order.{Place, first, first_from, is_waiting, is_done, is_store, has_address, has_data, ready, all_known, sources, base_of, others_of}
 use Rattle.window_model.specs.Taint.{any_tainted}
 use Rattle.window_model.specs.Fill.{is_due}
 use Rattle.window_model.specs.Around.{Around, around, is_free}
-use Rattle.window_model.specs.Access.{Access, Faults, Forwards, Looks, Waits, misses_after}
+use Rattle.window_model.specs.Access.{Access, Faults, Forwards, Looks, Waits, Line, access_at, all_covered, any_store_hidden, look_up, misses_after, prefetched, requests, unless_lacking}
+use Rattle.window_model.specs.Retire.{op_of, width_of}
 use Rattle.window_model.specs.Issue.{Begun, AddressPort, DataPort, DivPort, LoadPort, busy_until_both, data_events, if_granted, is_whole, with_address, with_data, issue, issue_entry, begin_as, load_as, access_of, waits, effect_of, value_loaded, time_of, is_granted, may_at, may_issue_as, after_load, divider_after, ports, port_of, same_port}
-use Rattle.window_model.proofs.Issuing.{by_load, may_own}
+use Rattle.window_model.proofs.Issuing.{looked, may_own, requests_few}
 use Rattle.window_model.proofs.Booleans.{is_below}
 use Rattle.machine_facts.specs.Sized.{HasParts, Together}
 use Rattle.machine_facts.specs.Timely.{Timely, IsPending, PartDue, PartsDue, longest_division}
 use Rattle.machine_facts.proofs.Dues.{LooksSoon, looks_soon}
 use Rattle.machine_facts.proofs.Ports.{issue_adds}
 use Rattle.machine_facts.proofs.StoreParts.{issued_stays}
+use Rattle.progress.specs.Laws.{Allows}
 use Rattle.progress.specs.Measure.{wait, takes}
+use Rattle.progress.proofs.OneLine.{registers_enough}
 use Rattle.progress.proofs.Bounds.{register_nearer, miss_takes_time}
 use Rattle.progress.proofs.Oldest.{oldest_known, oldest_ready, oldest_untainted, oldest_address}
 
@@ -107,26 +115,49 @@ one_nearer due y c0 e h = omega arith
 
 -- ---- a load
 
--- a load waits only where all registers are taken
-abbrev WaitsFull : Desc → Around → Access → Type 0
-WaitsFull d now Waits = d.cache_mshrs ≤ length now.misses
-WaitsFull d now _ = Unit {0}
+-- a load waits only where some register is taken
+abbrev WaitsForSome : Around → Access → Type 0
+WaitsForSome now Waits = 1 ≤ length now.misses
+WaitsForSome now _ = Unit {0}
 
-waits_full : (d : Desc) (now : Around) (b : List Entry) (e : Entry) → WaitsFull d now (access_of d now b e)
-waits_full d now = by_load d now (WaitsFull d now) tt (λ line room. tt) (λ full. full) (λ c. tt)
+module _ (d : Desc) (now : Around) (i : IsDesc d) (allows : Allows d now.ram) (op : Op) (a : ℕ) (fits : load_fault now.ram a (size_of op) ≡ None) where
+  abbrev found : List Line
+  found = looked d now a (size_of op)
 
--- a load whose lines come soon, or waits while all registers are taken
-load_nearer : (a : Access) (d : Desc) (x0 x : Machine) (e : Entry) (f : Effect) (v y : ℕ) (ms : List Miss) (g : ℕ) → IsDesc d → Timely d x → Began d x0 x → LooksSoon d (around x) a → WaitsFull d (around x) a → y ≡ x.cycle →
+  by_room : (c : Bool) → nat_le (length now.misses + length (requests found)) d.cache_mshrs ≡ c → WaitsForSome now (if c then Looks found (prefetched d now found) else Waits)
+  by_room true h = tt
+  by_room false h =
+      let few = requests_few found in
+      let as_many = length-map (lines_of d a (size_of op)) (look_up d now) in
+      let enough = registers_enough d now.ram a op i allows fits in
+      let more : d.cache_mshrs < length now.misses + length (requests found) = grind (arith, nat_tests, h) in
+      omega (arith, few, as_many, enough, more)
+
+  by_covered : (c : Bool) → WaitsForSome now (if c then Forwards else unless_lacking d now found)
+  by_covered true = tt
+  by_covered false = by_room _ refl
+
+waits_for_some : (d : Desc) (now : Around) → IsDesc d → Allows d now.ram → (b : List Entry) (e : Entry) → WaitsForSome now (access_of d now b e)
+waits_for_some d now i allows b e = by_fault (load_fault now.ram (effect_of now.regs b e).addr (width_of e)) refl
+  where
+    by_fault : (o : Option Cause) → load_fault now.ram (effect_of now.regs b e).addr (width_of e) ≡ o → WaitsForSome now (access_at d now b (effect_of now.regs b e).addr (width_of e) o)
+    by_fault (Some c) q = tt
+    by_fault None q =
+        let a = (effect_of now.regs b e).addr in
+        by_covered d now i allows (op_of e.item.instr) a q (all_covered b a (width_of e) && not (any_store_hidden d.stt_model b))
+
+-- a load whose lines come soon, or waits while some register is taken
+load_nearer : (a : Access) (d : Desc) (x0 x : Machine) (e : Entry) (f : Effect) (v y : ℕ) (ms : List Miss) (g : ℕ) → IsDesc d → Timely d x → Began d x0 x → LooksSoon d (around x) a → WaitsForSome (around x) a → y ≡ x.cycle →
     ms ≡ misses_after a d x.cycle x.misses → needs (load_as a d (around x) (made Waiting Load e) f v).entry d y ms g < wait Load x0.cycle x0.misses g + d.cache_miss_latency
 load_nearer (Faults c) d x0 x e f v y ms g i s o l a q m = let l = miss_takes_time d i in soon x.cycle y 1 _ q (omega arith)
 load_nearer Forwards d x0 x e f v y ms g i s o l a q m = let l = miss_takes_time d i in soon x.cycle y 1 _ q (omega arith)
-load_nearer (Looks found) d x0 x e f v y ms g i s o l a q m = let n = l.1 in omega arith
+load_nearer (Looks found ahead) d x0 x e f v y ms g i s o l a q m = let n = l.1 in omega arith
 load_nearer Waits d x0 x e f v y ms g i s o l a q m =
     let t : Miss → Bool = λ m. not (is_due (x0.cycle + 1) m) in
-    let n : d.cache_mshrs ≤ length (filter t x0.misses) = subst (λ (v : List Miss). d.cache_mshrs ≤ length v) o.misses a in
+    let n : 1 ≤ length (filter t x0.misses) = subst (λ (v : List Miss). 1 ≤ length v) o.misses a in
     let p : Each (IsPending d (x0.cycle + 1) (x0.cycle + 1)) (filter t x0.misses) =
     subst (λ (c : ℕ). Each (IsPending d c c) (filter t x0.misses)) o.cycle (subst (λ (v : List Miss). Each (IsPending d x.cycle x.cycle) v) o.misses s.misses) in
-    let w = register_nearer d x0.cycle t x0.misses (omega (arith, n, i.mshrs.0)) p in
+    let w = register_nearer d x0.cycle t x0.misses n p in
     let r : wait Load y ms g < wait Load x0.cycle x0.misses g = rw (m ∙ o.misses) (rw (q ∙ o.cycle) w) in
     omega arith
 
@@ -173,10 +204,15 @@ refused d now e h = ap (λ b. b && nat_lt 0 1) (busy_divider Div d now [] (made 
 
 -- ---- by state and kind
 
+-- what loads are served by: memory that takes no other addresses than the description says, and as many sets of the second level
+pub record Served (d : Desc) (x : Machine) : Type 0 where
+  pub allows : Allows d x.ram
+  pub second : length x.second ≡ d.cache_second_sets
+
 -- after Issue the oldest entry needs less than at the cycle's beginning
 abbrev pub Nearer : Progress → Kind → Desc → Machine → Machine → Entry → List Entry → Type 0
 Nearer s k d x0 x e es =
-    HasParts (made s k e) → Together d (made s k e) → IsDesc d → Timely d (headed x (made s k e) es) → Began d x0 (headed x (made s k e) es) →
+    HasParts (made s k e) → Together d (made s k e) → Served d x → IsDesc d → Timely d (headed x (made s k e) es) → Began d x0 (headed x (made s k e) es) →
     let y = (issue d (headed x (made s k e) es)).machine in
     needs (issue_entry d (around x) [] (made s k e)).entry d y.cycle y.misses y.divider.free_from < takes s k d x0.cycle x0.misses x0.divider.free_from
 
@@ -195,7 +231,7 @@ not_free : (f c : ℕ) → nat_le f c ≡ false → c < f
 not_free f c h = grind (arith, nat_tests)
 
 division_nearer : (d : Desc) (x0 x : Machine) (e : Entry) (es : List Entry) (b : Bool) → is_free (around x) ≡ b → Nearer Waiting Div d x0 x e es
-division_nearer d x0 x e es true h p t i s o =
+division_nearer d x0 x e es true h p t r i s o =
     let x2 = headed x (made Waiting Div e) es in
     let a = made Waiting Div e in
     let now = around x in
@@ -203,7 +239,7 @@ division_nearer d x0 x e es true h p t i s o =
     let longest : time_of x.regs [] a ≤ longest_division = omega arith in
     needs_then (is_granted d now DivPort [] a) (begin_as Div d now [] a) (waits a) d y.cycle y.misses y.divider.free_from _ (granted Div d now e refl (division_may d now e h) (omega arith))
     (soon x.cycle y.cycle (time_of x.regs [] a) _ (issue_adds d x2).cycle (omega arith))
-division_nearer d x0 x e es false h p t i s o =
+division_nearer d x0 x e es false h p t r i s o =
     let x2 = headed x (made Waiting Div e) es in
     let a = made Waiting Div e in
     let now = around x in
@@ -255,7 +291,7 @@ busy_stays d now e due q p = ap (λ (r : Entry). r.state) (issued_stays d now []
 
 -- where it waits: it issues, or a register or the divider comes nearer
 waiting_nearer : (k : Kind) (d : Desc) (x0 x : Machine) (e : Entry) (es : List Entry) → Nearer Waiting k d x0 x e es
-waiting_nearer Load d x0 x e es p t i s o =
+waiting_nearer Load d x0 x e es p t r i s o =
     let x2 = headed x (made Waiting Load e) es in
     let a = made Waiting Load e in
     let now = around x in
@@ -265,26 +301,26 @@ waiting_nearer Load d x0 x e es p t i s o =
     let m : y.misses ≡ misses_after (access_of d now [] a) d x.cycle x.misses =
     misses_of_tried (may_at d now LoadPort [] a) (record { before = []; entry = a; younger = es }) (first_from (may_at d now LoadPort) (a ∷ []) es) d x2 (both_true (both_true (oldest_ready a) may) refl) in
     needs_then (is_granted d now LoadPort [] a) (begin_as Load d now [] a) (waits a) d y.cycle y.misses y.divider.free_from _ (granted Load d now e refl may (omega arith))
-    (load_nearer (access_of d now [] a) d x0 x2 e f (value_loaded x.ram [] a f.addr) y.cycle y.misses y.divider.free_from i s o (looks_soon d now i s.misses [] a) (waits_full d now [] a) (issue_adds d x2).cycle m)
-waiting_nearer Div d x0 x e es p t i s o = division_nearer d x0 x e es (is_free (around x)) refl p t i s o
-waiting_nearer Mul d x0 x e es p t i s o =
+    (load_nearer (access_of d now [] a) d x0 x2 e f (value_loaded x.ram [] a f.addr) y.cycle y.misses y.divider.free_from i s o (looks_soon d now i r.second s.misses [] a) (waits_for_some d now i r.allows [] a) (issue_adds d x2).cycle m)
+waiting_nearer Div d x0 x e es p t r i s o = division_nearer d x0 x e es (is_free (around x)) refl p t r i s o
+waiting_nearer Mul d x0 x e es p t r i s o =
     let x2 = headed x (made Waiting Mul e) es in
     plain_nearer Mul d.units_mul_latency _ d (around x) e _ x.cycle _ _ _ refl (granted Mul d (around x) e refl refl (omega arith)) (issue_adds d x2).cycle (omega arith)
-waiting_nearer Store d x0 x e es p t i s o = store_nearer d x e es p t s
-waiting_nearer k d x0 x e es p t i s o =
+waiting_nearer Store d x0 x e es p t r i s o = store_nearer d x e es p t s
+waiting_nearer k d x0 x e es p t r i s o =
     let x2 = headed x (made Waiting k e) es in
     plain_nearer k 1 2 d (around x) e _ x.cycle _ _ _ refl (granted k d (around x) e refl refl i.alus.0) (issue_adds d x2).cycle (omega arith)
 
 state_nearer : (s : Progress) (k : Kind) (d : Desc) (x0 x : Machine) (e : Entry) (es : List Entry) → is_done s ≡ false → Nearer s k d x0 x e es
-state_nearer Waiting k d x0 x e es h p t i s o = waiting_nearer k d x0 x e es p t i s o
-state_nearer Done k d x0 x e es h p t i s o = absurd (cc)
-state_nearer (Busy due) k d x0 x e es h p t i s o =
+state_nearer Waiting k d x0 x e es h p t r i s o = waiting_nearer k d x0 x e es p t r i s o
+state_nearer Done k d x0 x e es h p t r i s o = absurd (cc)
+state_nearer (Busy due) k d x0 x e es h p t r i s o =
     let x2 = headed x (made (Busy due) k e) es in
     let q = (issue_adds d x2).cycle in
     let y = (issue d x2).machine in
-    let r = (issue_entry d (around x) [] (made (Busy due) k e)).entry in
-    let stays : r.state ≡ Busy due = busy_stays d (around x) (made (Busy due) k e) due refl p in
-    subst (λ (v : Progress). takes v r.item.kind d y.cycle y.misses y.divider.free_from < due - x0.cycle) (sym stays)
+    let issued = (issue_entry d (around x) [] (made (Busy due) k e)).entry in
+    let stays : issued.state ≡ Busy due = busy_stays d (around x) (made (Busy due) k e) due refl p in
+    subst (λ (v : Progress). takes v issued.item.kind d y.cycle y.misses y.divider.free_from < due - x0.cycle) (sym stays)
     (one_nearer due _ x0.cycle (q ∙ o.cycle) (let b = s.dues.0.0 in omega arith))
 
 -- an oldest entry that isn't done comes nearer to it

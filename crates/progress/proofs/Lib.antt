@@ -2,6 +2,7 @@ pub mod Bounds
 pub mod RenameFetch
 pub mod Oldest
 pub mod Stops
+pub mod OneLine
 pub mod IssueOldest
 pub mod Idle
 pub mod Falls

@@ -10,10 +10,10 @@ use Rattle.window_model.specs.Cycle.{cycle, after_cycles, at}
 use Rattle.window_model.proofs.Walks.{run_keep}
 use Rattle.machine_facts.specs.Sized.{Sized}
 use Rattle.machine_facts.specs.Timely.{Timely}
-use Rattle.machine_facts.proofs.SizedRun.{sized_cycle, sized_at}
+use Rattle.machine_facts.proofs.SizedRun.{sized_cycle, sized_at, memory_stays_cycle, memory_stays_at}
 use Rattle.machine_facts.proofs.TimelyRun.{timely_cycle, timely_at}
 use Rattle.progress.specs.Measure.{measure}
-use Rattle.progress.specs.Laws.{MeasureIsBounded, RetiresWithinBound, RetiresInBudget}
+use Rattle.progress.specs.Laws.{Allows, MeasureIsBounded, RetiresWithinBound, RetiresInBudget}
 use Rattle.progress.proofs.Bounds.{measure_at_most, measure_at_least}
 use Rattle.progress.proofs.Idle.{cycle_retires}
 use Rattle.progress.proofs.Falls.{measure_falls}
@@ -67,20 +67,20 @@ module _ (d : Desc) (code : Code) where
       by (inr l) = omega arith
 
   -- the next cycle retires something, or the measure is smaller behind it
-  in_one_more : (n : ℕ) (x : Machine) → IsDesc d → Sized d x → Timely d x → RetiresIn n (cycle d code x).machine → measure d x ≤ suc n →
+  in_one_more : (n : ℕ) (x : Machine) → IsDesc d → Allows d x.ram → Sized d x → Timely d x → RetiresIn n (cycle d code x).machine → measure d x ≤ suc n →
       (after_cycles d code n (cycle d code x).machine).end ≡ None → x.retired < (after_cycles d code n (cycle d code x).machine).retired
-  in_one_more n x i s t more m q =
+  in_one_more n x i l s t more m q =
       let y = (cycle d code x).machine in
       let e : y.end ≡ None = not_ended n y q in
       either x.retired y.retired (after_cycles d code n y).retired (cycle_retires d code x) (run_retires n y)
-      (λ same. more q (let f = measure_falls d code x i s t e same in omega arith))
+      (λ same. more q (let f = measure_falls d code x i l s t e same in omega arith))
 
-  retires_in : (n : ℕ) (x : Machine) → IsDesc d → Sized d x → Timely d x → RetiresIn n x
-  retires_in zero x i s t = λ p m. absurd (let h = measure_at_least d x t in omega arith)
-  retires_in (suc n) x i s t = λ p m.
+  retires_in : (n : ℕ) (x : Machine) → IsDesc d → Allows d x.ram → Sized d x → Timely d x → RetiresIn n x
+  retires_in zero x i l s t = λ p m. absurd (let h = measure_at_least d x t in omega arith)
+  retires_in (suc n) x i l s t = λ p m.
       let y = (cycle d code x).machine in
-      let more = retires_in n y i (sized_cycle d code x i s) (timely_cycle d code x i s t) in
-      by_end x.end x (after_cycles d code n y) refl (in_one_more n x i s t more m) p
+      let more = retires_in n y i (λ m. l (sym (memory_stays_cycle d code x i s).misaligned ∙ m)) (sized_cycle d code x i s) (timely_cycle d code x i s t) in
+      by_end x.end x (after_cycles d code n y) refl (in_one_more n x i l s t more m) p
 
 -- ---- the laws of runs
 
@@ -88,21 +88,21 @@ pub measure_is_bounded : MeasureIsBounded
 measure_is_bounded d code entry ram k i = measure_at_most d (at d code entry ram k) i (timely_at d code entry ram k i)
 
 pub retires_within_bound : RetiresWithinBound
-retires_within_bound d code entry ram k i p =
+retires_within_bound d code entry ram k i a p =
     let x = at d code entry ram k in
     let l = later d code k (bound d) (opening d entry ram) in
-    let r = retires_in d code (bound d) x i (sized_at d code entry ram k i) (timely_at d code entry ram k i) (ap (λ (m : Machine). m.end) (sym l) ∙ p) (measure_is_bounded d code entry ram k i) in
+    let r = retires_in d code (bound d) x i (λ m. a (sym (memory_stays_at d code entry ram k i).misaligned ∙ m)) (sized_at d code entry ram k i) (timely_at d code entry ram k i) (ap (λ (m : Machine). m.end) (sym l) ∙ p) (measure_is_bounded d code entry ram k i) in
     subst (λ (m : Machine). x.retired < m.retired) (sym l) r
 
 -- the state at n times the bound, and that a bound later
 pub retires_in_budget : RetiresInBudget
-retires_in_budget d code entry ram zero i p = omega arith
-retires_in_budget d code entry ram (suc n) i p =
+retires_in_budget d code entry ram zero i a p = omega arith
+retires_in_budget d code entry ram (suc n) i a p =
     let k = n * bound d in
     let l = later d code k (bound d) (opening d entry ram) in
     let s : suc n * bound d ≡ k + bound d = suc-mul n (bound d) in
     let q : (at d code entry ram (k + bound d)).end ≡ None = ap (λ j. (at d code entry ram j).end) (sym s) ∙ p in
     let e : (at d code entry ram k).end ≡ None = not_ended d code (bound d) (at d code entry ram k) (ap (λ (m : Machine). m.end) (sym l) ∙ q) in
-    let before = retires_in_budget d code entry ram n i e in
-    let more = retires_within_bound d code entry ram k i q in
+    let before = retires_in_budget d code entry ram n i a e in
+    let more = retires_within_bound d code entry ram k i a q in
     rw s (omega arith)

@@ -15,7 +15,8 @@ use Rattle.window_model.specs.declared.Target.{Target}
 use Rattle.window_model.specs.declared.Way.TheVariants.{Jump}
 use Rattle.window_model.specs.State.{Machine, After, nothing}
 use Rattle.window_model.specs.Order.{Place, first, is_faulty}
-use Rattle.window_model.specs.Fill.{fill, is_due, with_line, complete, completed, completes, completes_at}
+use Rattle.window_model.specs.Fill.{fill, is_due, lines, with_line, complete, completed, completes, completes_at}
+use Rattle.window_model.specs.SecondLevel.{second_with_line}
 use Rattle.window_model.specs.Resolve.{resolve, resolve_at, may_resolve, learn, learn_as, learn_target, next_of}
 use Rattle.window_model.proofs.Lists.{each_then}
 use Rattle.quiet_cycles.specs.Still.{NotDueBefore, NotDoneBefore}
@@ -32,8 +33,14 @@ no_line d x h = none_left (is_due x.cycle) x.misses (map_empty (λ (m : Miss). m
 
 pub fill_nothing : (d : Desc) (x : Machine) → NoLine x.cycle x.misses → fill d x ≡ nothing x
 fill_nothing d x h =
-    let left : List Miss → List Miss → After = λ come stay. let lines = map (λ (m : Miss). m.line) come in
-    record { machine = record x { misses = stay; cache = fold (with_line d) x.cache lines }; events = map event.Fill lines } in
+    let left : List Miss → List Miss → After = λ come stay. record {
+      machine = record x {
+        misses = stay;
+        cache = fold (with_line d) x.cache (lines come);
+        second = fold (second_with_line d) x.second (lines (filter (λ m. m.from_memory) come));
+      };
+      events = map event.Fill (lines come);
+    } in
     ap (λ come. left come (filter (λ m. not (is_due x.cycle m)) x.misses)) (none_kept (is_due x.cycle) x.misses h)
     ∙ ap (left []) (all_kept (is_due x.cycle) x.misses h)
 

@@ -12,12 +12,12 @@ use Rattle.window_model.specs.declared.Entry.{Entry}
 use Rattle.window_model.specs.declared.Event.{Event}
 use Rattle.window_model.specs.declared.Event.TheVariants as event
 use Rattle.window_model.specs.Along.{Along, Fact}
-use Rattle.window_model.specs.State.{Machine, After, nothing}
+use Rattle.window_model.specs.State.{Machine, After, lines_of, nothing}
 use Rattle.window_model.specs.Around.{Around, around}
 use Rattle.window_model.specs.Order.{Place, each_from, first, first_from, is_store}
-use Rattle.window_model.specs.Access.{Access, Waits, cache_after, misses_after}
+use Rattle.window_model.specs.Access.{Access, Waits, Request, cache_after, look_events, look_up, misses_after, second_after}
 use Rattle.window_model.specs.Issue.{Begun, AddressPort, DataPort, DivPort, LoadPort, port_of, ports, asking, is_granted, may_at, issue, issue_entry, issue_parts, issue_whole, begin_as, if_granted, with_address, with_data, load_as, access_of, effect_of, value_loaded, waits, after_load, divider_after}
-use Rattle.window_model.proofs.Issuing.{asks_division, asks_load, by_load}
+use Rattle.window_model.proofs.Issuing.{OneOrTwo, One, Two, asks_division, asks_load, by_load, lines_are}
 use Rattle.window_model.proofs.Together.{granted_together}
 use Rattle.quiet_cycles.proofs.Nothing.{both_empty}
 
@@ -48,10 +48,16 @@ no_events d now before (e ∷ es) h = ap (λ v. v ++ events_of d now (e ∷ befo
 
 -- ---- an entry that does not begin
 
+-- each line that is looked up has an event
+lines_tell : (d : Desc) (now : Around) (serial : ℕ) (lines : List ℕ) (ahead : List Request) → OneOrTwo lines → look_events serial (map (look_up d now) lines) ahead ≡ [] → ⊥
+lines_tell d now serial _ ahead (One line) h = cc
+lines_tell d now serial _ ahead (Two low high l) h = cc
+
 module _ (d : Desc) (now : Around) (before : List Entry) (e : Entry) where
   -- is a load without a miss register, if it is granted
   load_waits : (f : Effect) (v : ℕ) → (load_as (access_of d now before e) d now e f v).events ≡ [] → access_of d now before e ≡ Waits
-  load_waits f v = by_load d now (λ a. (load_as a d now e f v).events ≡ [] → a ≡ Waits) (λ h. absurd (cc)) (λ line room h. absurd (cc)) (λ full h. refl) (λ c h. absurd (cc)) before e
+  load_waits f v = by_load d now (λ a. (load_as a d now e f v).events ≡ [] → a ≡ Waits) (λ h. absurd (cc)) (λ a n some room h. absurd (lines_tell d now e.serial (lines_of d a n) _ (lines_are d a n some) h))
+      (λ a n some full h. refl) (λ c h. absurd (cc)) before e
 
   -- and stays as it is
   begin_stays : (k : Kind) → (begin_as k d now before e).events ≡ [] → (begin_as k d now before e).entry ≡ e
@@ -114,9 +120,9 @@ module _ (d : Desc) (x : Machine) where
   abbrev now : Around
   now = around x
 
-  -- cache and miss registers once the load has been tried
+  -- both levels of the cache and the miss registers once the load has been tried
   abbrev loaded : Access → Machine
-  loaded a = record x { cache = cache_after a d x.cache; misses = misses_after a d x.cycle x.misses }
+  loaded a = record x { cache = cache_after a d x.cache; second = second_after a d x.second; misses = misses_after a d x.cycle x.misses }
 
   tried_waits : (b : Bool) (before : List Entry) (e : Entry) (es : List Entry) (o : Option Place) → may_at d now LoadPort before e ≡ b → asking d now LoadPort before ≡ 0 → DoesNotBegin d now before e →
       (b ≡ false → after_load d o x ≡ x) → after_load d (if b then Some (record { before = before; entry = e; younger = es }) else o) x ≡ x

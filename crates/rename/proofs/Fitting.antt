@@ -1,5 +1,5 @@
 -- What fits: by what the parts tell, and what that says of their room.
-use Rattle.std.proofs.Common.{◌≡◌, ℕ, ◌+◌, ◌<◌, ◌≤◌, Bool, true, false, not, ◌&&◌, ◌||◌, cond, List, [], ◌∷◌, length, Option, Some, None, refl, ap, ap₂, sym, ◌∙◌, subst, arith}
+use Rattle.std.proofs.Common.{◌≡◌, ◌≢◌, ℕ, ◌+◌, ◌<◌, ◌≤◌, Bool, true, false, not, ◌&&◌, ◌||◌, cond, List, [], ◌∷◌, length, Option, Some, None, refl, ap, ap₂, sym, ◌∙◌, subst, arith}
 use Rattle.std.specs.Prelude.{if◌then◌else◌, count_by, nat_lt, slice_get}
 use Rattle.std.specs.List.{list_any}
 use Rattle.rv_types.specs.declared.Kind.{Kind}
@@ -48,9 +48,10 @@ call_is_oldest (x ∷ y ∷ rest) e a h =
     let n : list_any calls (x ∷ y ∷ rest) ≡ false = no_call (x ∷ y ∷ rest) (list_any calls (x ∷ y ∷ rest)) refl a (omega arith) in
     ap calls p ∙ (neither (calls x) (list_any calls (y ∷ rest)) n).0 ∙ sym n
 
-pub none_is_oldest : (w : List Entry) → length w ≡ 0 → false ≡ list_any calls w
-none_is_oldest [] h = refl
-none_is_oldest (x ∷ w) h = absurd (omega (arith, h))
+pub none_unless_one : (w : List Entry) → CallAlone w → length w ≢ 1 → false ≡ list_any calls w
+none_unless_one [] a h = refl
+none_unless_one (x ∷ []) a h = absurd (h refl)
+none_unless_one (x ∷ y ∷ rest) a h = sym (no_call (x ∷ y ∷ rest) (list_any calls (x ∷ y ∷ rest)) refl a (omega arith))
 
 -- ---- what the queues count
 

@@ -13,8 +13,8 @@ use rv_types::Kind;
 use stations::Stations;
 use window_model::Item;
 
-/// Whether the item can go into the window. Nothing is counted: stations and queues know how many they hold, and a call, which
-/// stands alone, is the oldest entry.
+/// Whether the item can go into the window. Nothing is counted: stations and queues know how many they hold, and a call stands
+/// alone.
 pub(crate) fn fits(item: &Item, desc: &Desc, rob: &RobRing, stations: &Stations, lsq: &Lsq) -> bool
     requires call_alone { CallAlone rob.now.entries }
     requires counted { Counted desc.now rob.now.entries stations.now lsq.now }
@@ -42,15 +42,15 @@ pub(crate) fn is_at_once(kind: Kind) -> bool
     }
 }
 
-// Whether there is a call in the window: then it is the oldest entry, of which only the kind is looked at.
+// Whether there is a call in the window: then it is the one entry, of which only the kind is looked at.
 fn has_call(rob: &RobRing) -> bool
     requires { CallAlone rob.now.entries }
     ensures { result ≡ list_any calls rob.now.entries }
 {
-    if rob.len() == 0 {
+    if rob.len() != 1 {
         return false;
     }
-    is_call(rob.at(0).item.kind)
+    is_call(rob.lend(0).item.kind)
 }
 
 // Whether an entry of this kind is a call.

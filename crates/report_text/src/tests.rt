@@ -64,8 +64,8 @@ fn reported(
     alloc: Global,
     call: u64,
 ) -> Result<(Result<(), Failed>, MemSink), Fail> {
-    let before = Ram::new(alloc, 0x0001_0000, 0x0001_0000)?;
-    let mut after = Ram::new(alloc, 0x0001_0000, 0x0001_0000)?;
+    let before = Ram::new(alloc, 0x0001_0000, 0x0001_0000, false)?;
+    let mut after = Ram::new(alloc, 0x0001_0000, 0x0001_0000, false)?;
     let _ = after.put(0x0001_fff0, Width::W, 0x0000_ffff);
     let _ = after.put(0x0001_fff4, Width::W, 0xffff_ffff);
     assert_eq!(rt; before.base(), after.base());

@@ -6,7 +6,7 @@ use Rattle.machine_desc.specs.declared.Desc.{Desc}
 use Rattle.window_model.specs.declared.Entry.{Entry}
 use Rattle.window_model.specs.declared.Event.TheVariants as event
 use Rattle.window_model.specs.Order.{Place, is_faulty}
-use Rattle.window_model.specs.Resolve.{is_next, keep, learn, next_of, resolve, resolve_at, squash, squashes, with_predictor}
+use Rattle.window_model.specs.Resolve.{is_next, keep, learn, next_of, resolve, resolve_at, squash, squashes, true_mark, with_predictor}
 use Rattle.window_model.specs.State.{Machine, After}
 use Rattle.rob_ring.specs.Ring.{below}
 use Rattle.window_model.specs.Serials.{Rise}
@@ -59,6 +59,10 @@ by_place d x o p b h q =
 abbrev pub marked : Desc → ℕ → Entry → Machine → Machine
 marked d i e x = record x { window = slice_set x.window i (resolved_one e); counters = (learn d e x.counters x.targets).counters; targets = (learn d e x.counters x.targets).targets }
 
+-- and history and stack are those behind it
+abbrev pub recalled : Desc → ℕ → Entry → Machine → Machine
+recalled d i e x = record (marked d i e x) { mark = true_mark d e }
+
 module _ (d : Desc) (x : Machine) (i : ℕ) (e : Entry) (picked : Some i ≡ resolving d x.window) (here : slice_get x.window i ≡ Some e) where
   it : Taken d x.window i e
   it = taken d x.window i e picked here
@@ -96,8 +100,8 @@ module _ (d : Desc) (x : Machine) (i : ℕ) (e : Entry) (picked : Some i ≡ res
 
     pub wrong_is : resolve d x
         ≡ record {
-          machine = cut_after e.serial (true_next (resolution_of e)) (marked d i e x);
-          events = (learn d e x.counters x.targets).events ++ event.Sq (younger_count e.serial (marked d i e x)) ∷ [];
+          machine = cut_after e.serial (true_next (resolution_of e)) (recalled d i e x);
+          events = (learn d e x.counters x.targets).events ++ event.Sq (younger_count e.serial (recalled d i e x)) ∷ [];
         }
     unfolding place
     wrong_is =
@@ -105,5 +109,5 @@ module _ (d : Desc) (x : Machine) (i : ℕ) (e : Entry) (picked : Some i ≡ res
         let end : Machine → ℕ → After = λ y n. record { machine = y; events = (learn d e x.counters x.targets).events ++ event.Sq (n + length x.queue) ∷ [] } in
         by_place d x _ place true it.is s.0
         ∙ ap (λ n. end (squash d place (with_predictor x (learn d e x.counters x.targets).counters (learn d e x.counters x.targets).targets)).machine n) (sym gone)
-        ∙ ap (λ w. end (record (cut_after e.serial (if is_faulty e then None else Some (next_of e.outcome)) (marked d i e x)) { window = w }) (length (slice_set x.window i (resolved_one e)) - length (below (e.serial + 1) (slice_set x.window i (resolved_one e))))) (sym below_is)
-        ∙ ap (λ next. end (cut_after e.serial next (marked d i e x)) (length (slice_set x.window i (resolved_one e)) - length (below (e.serial + 1) (slice_set x.window i (resolved_one e))))) (sym s.1)
+        ∙ ap (λ w. end (record (cut_after e.serial (if is_faulty e then None else Some (next_of e.outcome)) (recalled d i e x)) { window = w }) (length (slice_set x.window i (resolved_one e)) - length (below (e.serial + 1) (slice_set x.window i (resolved_one e))))) (sym below_is)
+        ∙ ap (λ next. end (cut_after e.serial next (recalled d i e x)) (length (slice_set x.window i (resolved_one e)) - length (below (e.serial + 1) (slice_set x.window i (resolved_one e))))) (sym s.1)

@@ -6,7 +6,8 @@ use Rattle.std.specs.Option.{option_map}
 use Rattle.machine_desc.specs.declared.Desc.{Desc}
 use Rattle.window_model.specs.declared.Entry.{Entry}
 use Rattle.window_model.specs.Order.{Place, first}
-use Rattle.window_model.specs.Resolve.{learn, may_resolve, resolve, resolve_at}
+use Rattle.window_model.specs.Resolve.{learn, may_resolve, resolve, resolve_at, true_mark}
+use Rattle.window_model.specs.declared.Mark.{Mark}
 use Rattle.window_model.specs.Row.{Row}
 use Rattle.window_model.specs.declared.Event.TheVariants as event
 use Rattle.window_model.specs.State.{After, Machine}
@@ -20,6 +21,7 @@ use Rattle.machine_facts.proofs.SizedPhases.{learns_in}
 use Rattle.machine_facts.proofs.SizedWindow.{thinner}
 use Rattle.rob_ring.specs.Ring.{Ring}
 use Rattle.predictor.specs.Tables.{Tables}
+use Rattle.history_pred.specs.Past.{Past}
 use Rattle.visibility.specs.Point.{HasAdvanced}
 use Rattle.branch_resolve.specs.Effect.{resolution_of, taught, told}
 use Rattle.branch_resolve.specs.declared.effect.Resolution.TheVariants.{Right}
@@ -27,12 +29,12 @@ use Rattle.branch_resolve.specs.Pick.{pick_from}
 use Rattle.parts_stand.proofs.Answering.{picks_first}
 use Rattle.rob_ring.specs.Beside.{each_roots}
 use Rattle.core_parts.specs.Described.{Described}
-use Rattle.core_parts.specs.Held.{Held, Sizes, Whole, described, in_flight, machine_of}
+use Rattle.core_parts.specs.Held.{Held, Sizes, Whole, described, in_flight, machine_of, sizes}
 use Rattle.core_parts.specs.Dropped.{StopsAt, cut_after, younger_count}
 use Rattle.core_parts.proofs.Sizes.{each_set, evolves_set}
 use Rattle.core_parts.proofs.Steps.{stands_resolved, stops_at}
 use Rattle.resolve.specs.Taken.{resolving, true_next}
-use Rattle.resolve.proofs.Effects.{marked, resolved_one, right_is, wrong_is}
+use Rattle.resolve.proofs.Effects.{marked, recalled, resolved_one, right_is, wrong_is}
 use Rattle.window_model.specs.Serials.{Rise}
 use Rattle.resolve.proofs.Picked.{Taken, picked, inside, taken}
 
@@ -60,6 +62,10 @@ none_row v row h = ap (λ es. record row { events = es }) (sym (append-nil row.e
 pub is_inside : (h : Held) (v : Described) (i : ℕ) → Whole h → described h ≡ v → Some i ≡ resolving v.desc v.machine.window → i < length h.rob.entries
 is_inside h v i w s p = subst (λ (v : Described). i < length v.machine.window) (sym s) (inside v.desc v.machine.window i (picked v.desc v.machine.window i p))
 
+-- the predictor and the history are of one description
+pub one_description : (h : Held) → Whole h → h.tables.desc ≡ h.past.desc
+one_description h w = ap (λ (s : Sizes). s.tables) w.made ∙ sym (ap (λ (s : Sizes). s.past) w.made)
+
 -- ---- sizes stay
 
 set_here : (w : List Entry) (i : ℕ) (e e2 : Entry) → slice_get w i ≡ Some e → slice_get (slice_set w i e2) i ≡ Some e2
@@ -77,9 +83,15 @@ sized_marked d x i e h s =
       queue = f.queue;
       predictor = learns_in d e.item.kind e x.counters x.targets f.predictor;
       cache = f.cache;
+      second = f.second;
       misses = f.misses;
       registers = f.registers;
     })
+
+sized_recalled : (d : Desc) (x : Machine) (m : Mark) → Sized d x → Sized d (record x { mark = m })
+sized_recalled d x m s =
+    let f = parts d x s in
+    whole d (record x { mark = m }) (record { window = f.window; entries = f.entries; queue = f.queue; predictor = f.predictor; cache = f.cache; second = f.second; misses = f.misses; registers = f.registers })
 
 -- ---- the parts
 
@@ -134,35 +146,55 @@ module _ (h : Held) (v : Described) (i : ℕ) (e : Entry) (rob : Ring) (tables :
 
   -- ---- it was not
 
-  module _ (wrong : resolution_of e ≡ Right → ⊥) where
-    rises : Rise v.machine.window
-    rises = subst (λ (v : Described). Rise v.machine.window) s w.stands.stand.rise
+  module _ (past : Past) (remembers : past ≡ record (h.past) { mark = true_mark h.past.desc e }) where
+    of_desc : h.past.desc ≡ h.desc
+    of_desc = ap (λ (s : Sizes). s.past) w.made
 
-    all : resolve v.desc v.machine
-        ≡ record {
-          machine = cut_after e.serial (true_next (resolution_of e)) (marked v.desc i e v.machine);
-          events = (learn v.desc e v.machine.counters v.machine.targets).events ++ event.Sq (younger_count e.serial (marked v.desc i e v.machine)) ∷ [];
-        }
-    all = wrong_is v.desc v.machine i e p there wrong rises
+    mark_is : past.mark ≡ true_mark h.desc e
+    mark_is = ap (λ (p : Past). p.mark) remembers ∙ ap (λ d. true_mark d e) of_desc
 
-    pub wrong_shown : (last : Described) (next : Option ℕ) → next ≡ true_next (resolution_of e) →
-        last ≡ (let d = described (record h { rob = rob; tables = tables }) in record d { machine = cut_after e.serial next d.machine }) → last ≡ record v { machine = (resolve v.desc v.machine).machine }
-    wrong_shown last next n l =
-        l
-        ∙ ap (λ (d : Described). record d { machine = cut_after e.serial next d.machine }) marked_shown
-        ∙ ap (λ next. record v { machine = cut_after e.serial next (marked v.desc i e v.machine) }) n
-        ∙ ap (λ (a : After). record v { machine = a.machine }) (sym all)
+    pub recalled_whole : Whole (record h { rob = rob; tables = tables; past = past })
+    recalled_whole = record {
+      sized = sized_recalled h.desc (machine_of (record h { rob = rob; tables = tables })) past.mark marked_whole.sized;
+      stands = marked_whole.stands;
+      made = ap (λ (p : Past). sizes (record h { rob = rob; tables = tables; past = record past { desc = p.desc } })) remembers ∙ marked_whole.made;
+    }
 
-    pub wrong_row : (old then new : Row) (n : ℕ) → then ≡ record old { events = old.events ++ told h.tables e } →
-        n ≡ (let d = described (record h { rob = rob; tables = tables }) in younger_count e.serial d.machine) →
-        new ≡ record then { events = then.events ++ event.Sq n ∷ [] } → new ≡ record old { events = old.events ++ (resolve v.desc v.machine).events }
-    wrong_row old then new n t d r =
-        r
-        ∙ ap (λ n. record then { events = then.events ++ event.Sq n ∷ [] }) (d ∙ ap (λ (d : Described). younger_count e.serial d.machine) marked_shown)
-        ∙ ap (λ (r : Row). record r { events = r.events ++ event.Sq (younger_count e.serial (marked v.desc i e v.machine)) ∷ [] }) t
-        ∙ ap (λ es. record old { events = es }) (append_assoc old.events (told h.tables e) (event.Sq (younger_count e.serial (marked v.desc i e v.machine)) ∷ []))
-        ∙ ap (λ es. record old { events = old.events ++ (es ++ event.Sq (younger_count e.serial (marked v.desc i e v.machine)) ∷ []) }) told_is
-        ∙ ap (λ (a : After). record old { events = old.events ++ a.events }) (sym all)
+    recalled_shown : described (record h { rob = rob; tables = tables; past = past }) ≡ record v { machine = recalled v.desc i e v.machine }
+    recalled_shown =
+        ap (λ m. let d = described (record h { rob = rob; tables = tables }) in record d { machine = record (d.machine) { mark = m } }) mark_is
+        ∙ ap (λ (d : Described). record d { machine = record (d.machine) { mark = true_mark h.desc e } }) marked_shown
+        ∙ ap (λ (d : Described). record v { machine = record (marked v.desc i e v.machine) { mark = true_mark d.desc e } }) s
+
+    module _ (wrong : resolution_of e ≡ Right → ⊥) where
+      rises : Rise v.machine.window
+      rises = subst (λ (v : Described). Rise v.machine.window) s w.stands.stand.rise
+
+      all : resolve v.desc v.machine
+          ≡ record {
+            machine = cut_after e.serial (true_next (resolution_of e)) (recalled v.desc i e v.machine);
+            events = (learn v.desc e v.machine.counters v.machine.targets).events ++ event.Sq (younger_count e.serial (recalled v.desc i e v.machine)) ∷ [];
+          }
+      all = wrong_is v.desc v.machine i e p there wrong rises
+
+      pub wrong_shown : (last : Described) (next : Option ℕ) → next ≡ true_next (resolution_of e) →
+          last ≡ (let d = described (record h { rob = rob; tables = tables; past = past }) in record d { machine = cut_after e.serial next d.machine }) → last ≡ record v { machine = (resolve v.desc v.machine).machine }
+      wrong_shown last next n l =
+          l
+          ∙ ap (λ (d : Described). record d { machine = cut_after e.serial next d.machine }) recalled_shown
+          ∙ ap (λ next. record v { machine = cut_after e.serial next (recalled v.desc i e v.machine) }) n
+          ∙ ap (λ (a : After). record v { machine = a.machine }) (sym all)
+
+      pub wrong_row : (old then new : Row) (n : ℕ) → then ≡ record old { events = old.events ++ told h.tables e } →
+          n ≡ (let d = described (record h { rob = rob; tables = tables; past = past }) in younger_count e.serial d.machine) →
+          new ≡ record then { events = then.events ++ event.Sq n ∷ [] } → new ≡ record old { events = old.events ++ (resolve v.desc v.machine).events }
+      wrong_row old then new n t d r =
+          r
+          ∙ ap (λ n. record then { events = then.events ++ event.Sq n ∷ [] }) (d ∙ ap (λ (d : Described). younger_count e.serial d.machine) recalled_shown)
+          ∙ ap (λ (r : Row). record r { events = r.events ++ event.Sq (younger_count e.serial (recalled v.desc i e v.machine)) ∷ [] }) t
+          ∙ ap (λ es. record old { events = es }) (append_assoc old.events (told h.tables e) (event.Sq (younger_count e.serial (recalled v.desc i e v.machine)) ∷ []))
+          ∙ ap (λ es. record old { events = old.events ++ (es ++ event.Sq (younger_count e.serial (recalled v.desc i e v.machine)) ∷ []) }) told_is
+          ∙ ap (λ (a : After). record old { events = old.events ++ a.events }) (sym all)
 
   -- all that is younger may go
   pub marked_stops_at : StopsAt e.serial h.point rob.entries

@@ -1,5 +1,5 @@
 -- Retiring head by head: what is left makes the whole, whatever else the machine holds.
-use Rattle.std.proofs.Common.{◌≡◌, ℕ, suc, ◌+◌, ◌-◌, ◌*◌, ◌<◌, ◌≤◌, Bool, true, false, ◌||◌, cond, List, [], ◌∷◌, ◌++◌, length, take, drop, Option, Some, None, refl, ap, sym, ◌∙◌, subst, arith}
+use Rattle.std.proofs.Common.{◌≡◌, ℕ, suc, ◌+◌, ◌-◌, ◌<◌, ◌≤◌, Bool, true, false, ◌||◌, cond, List, [], ◌∷◌, ◌++◌, length, take, drop, Option, Some, None, refl, ap, sym, ◌∙◌, subst, arith}
 use Rattle.std.proofs.lemmas.List.{append-nil, append_assoc, length-append, take_at}
 use Rattle.std.specs.List.{AllByRecursion as Each}
 use Rattle.rv_types.specs.Memory.{Ram, store_fault}
@@ -9,16 +9,18 @@ use Rattle.rv_types.specs.declared.End.TheVariants.{Trap}
 use Rattle.rv_types.specs.declared.Kind.TheVariants.{Store, Call}
 use Rattle.machine_desc.specs.declared.Desc.{Desc}
 use Rattle.window_model.specs.declared.Entry.{Entry}
+use Rattle.window_model.specs.declared.Event.{Event}
 use Rattle.window_model.specs.Rename.{is_call, CallAlone, calls}
 use Rattle.window_model.specs.Order.{is_store, is_done}
 use Rattle.window_model.specs.Retire.{Retired, retire, turns, head_leaves, stays, trap_as, addr_of, width_of}
-use Rattle.window_model.specs.Row.{Row, with_events}
+use Rattle.window_model.specs.Row.{HasRoom, Row, most_retired, row_room, with_events}
 use Rattle.window_model.specs.Shape.{SameShape}
 use Rattle.window_model.specs.State.{Machine, opening}
 use Rattle.window_model.proofs.Booleans.{both}
 use Rattle.window_model.proofs.Counts.{count, count_is}
 use Rattle.window_model.proofs.Lists.{each_then, each_push}
 use Rattle.window_model.proofs.Memory.{same_fault}
+use Rattle.window_model.proofs.Telling.{retire_few}
 use Rattle.rob_ring.specs.Ring.{Ring}
 use Rattle.rename_taint.specs.declared.Write.{Write}
 use Rattle.rename_taint.specs.Writes.{without_retired}
@@ -73,7 +75,6 @@ pub record RetiresOn (d : Desc) (s0 : Parts) (n : ℕ) (stored : Bool) (s : Part
   pub went : List Entry
   pub left : Left s0 s went
   pub whole : (x : Machine) → behind s (turns d n stored (standing s (length went) None x)) ≡ behind s0 (phase d s0 x)
-  pub few : length s.row.events + 2 * n ≤ length s0.row.events + 2 * d.core_retire_width
   pub empty : 1 ≤ length s.rob.entries → s.piece ≡ []
   pub alone : CallAlone s.rob.entries
   pub stores : Each (TakesStore s.ram) s.rob.entries
@@ -96,7 +97,6 @@ retires_start d s h =
       went = [];
       left = record { window = refl; may_retire = tt; room = refl; table = refl; table_room = refl; queues = refl; desc = refl; cycle = refl };
       whole = λ x. ap (λ n. behind s (turns d n false (standing s 0 None x))) e ∙ ap (λ y. behind s (turns d d.core_retire_width false y)) (none x);
-      few = omega arith;
       empty = λ one. h.piece;
       alone = h.alone;
       stores = h.stores;
@@ -126,7 +126,6 @@ pub record HeadLeft (d : Desc) (s : Parts) (e : Entry) (end : Option End) (s2 : 
   pub piece : PrintsHead (head_retires d e s.tags s.ram s.regs s.pc) s2.piece
   pub desc : s2.tags.desc ≡ s.tags.desc
   pub shape : SameShape s.ram s2.ram
-  pub few : length s2.row.events ≤ length s.row.events + 2
 
 -- the machine's parts, and its row, are then the definition's
 module _ (d : Desc) (s : Parts) (e : Entry) (end : Option End) (s2 : Parts) (g : HeadLeft d s e end s2) where
@@ -217,7 +216,6 @@ retires_head d s0 i stored s s2 e h lt t g =
       went = h.went ++ e ∷ [];
       left = left_more d s0 s s2 h.went rest e None h.left g w (head.may, head.goes) (opening d 0 s.ram);
       whole = λ x. one_more d (d.core_retire_width - (i + 1)) stored s s2 h.went rest e None t w p g x ∙ sym (ap (λ n. behind s (turns d n stored (standing s (length h.went) None x))) n) ∙ h.whole x;
-      few = omega (arith, g.few, h.few, n);
       empty = λ one.
           quiet_if (calls e) e rest s2.piece refl alone (λ k. g.piece (opening d 0 s.ram) rest ∙ quiet e.item.kind d e rest (with_effects s.tags s.ram s.regs s.pc None (opening d 0 s.ram)) k) (subst (λ w. 1 ≤ length w) after one);
       alone = subst CallAlone (sym after) (alone_rest e rest alone);
@@ -236,6 +234,39 @@ head_inside ram stored w e h t k =
     let own : Each (TakesStore ram) (e ∷ head.first.0) = subst (Each (TakesStore ram)) head.first.1 h in
     own.0 (ap is_store k) (both (is_done e.state) _ head.may).0 (sym (ap (λ k. trap_as k e) k) ∙ head.goes)
 
+-- ---- the row has room
+
+-- the phase has few events, and so has what there is of them so far and the next ones
+few_told : (d : Desc) (s0 s : Parts) (told more : List Event) → Ready d s0 → s.row.events ++ (told ++ more) ≡ s0.row.events ++ (phase d s0 (opening d 0 s0.ram)).events →
+    length s.row.events + length told ≤ length s0.row.events + most_retired
+few_told d s0 s told more r h =
+    let few : length (phase d s0 (opening d 0 s0.ram)).events ≤ d.core_retire_width + 2 = retire_few d _ r.alone in
+    let all = ap length h in
+    let a = length-append s.row.events (told ++ more) in
+    let b = length-append told more in
+    let c = length-append s0.row.events (phase d s0 (opening d 0 s0.ram)).events in
+    omega (arith, few, all, a, b, c, d.few_retires)
+
+-- so there is room for what a head tells
+pub tell_room : (d : Desc) (s0 : Parts) (i : ℕ) (stored : Bool) (s : Parts) (e : Entry) (told : List Event) → RetiresOn d s0 (d.core_retire_width - i) stored s → Ready d s0 → i < d.core_retire_width →
+    Goes stored s.rob.entries e → TellsHead (head_retires d e s.tags s.ram s.regs s.pc) told → HasRoom most_retired s0.row → length s.row.events + length told ≤ row_room
+tell_room d s0 i stored s e told h r lt t tells room =
+    let x = opening d 0 s0.ram in
+    let y : Machine = record x { window = s.rob.entries; retired = x.retired + length h.went } in
+    let head = head_at stored s.rob.entries e t in
+    let rest = head.first.0 in
+    let k = d.core_retire_width - (i + 1) in
+    let n : d.core_retire_width - i ≡ suc k = omega (arith, lt) in
+    let leaving = head_leaves e.item.kind d e rest (standing s (length h.went) None x) in
+    let more = turns d k (stored || is_store e.item.kind) leaving.machine in
+    let here : s.row.events ++ (leaving.events ++ more.events) ≡ s0.row.events ++ (phase d s0 x).events =
+    ap (λ (r : Retired). s.row.events ++ r.events) (sym (leaves d k stored (standing s (length h.went) None x) e rest refl t.turn head.first.1))
+    ∙ ap (λ n. s.row.events ++ (turns d n stored (standing s (length h.went) None x)).events) (sym n)
+    ∙ ap (λ (r : Retired). r.events) (h.whole x) in
+    let few = few_told d s0 s leaving.events more.events r here in
+    let same = ap length (tells y rest) in
+    omega (arith, few, same, room)
+
 -- ---- the end of the phase
 
 -- no turn is left
@@ -244,7 +275,7 @@ pub record Over (d : Desc) (s0 : Parts) (end : Option End) (s : Parts) : Type 0 
   pub row : (x : Machine) → s.row ≡ record s0.row { events = s0.row.events ++ (phase d s0 x).events }
   pub piece : (x : Machine) → s.piece ≡ (phase d s0 x).piece
   pub left : Left s0 s (gone s0.rob s.rob)
-  pub few : length s.row.events ≤ length s0.row.events + 2 * d.core_retire_width
+  pub few : length s.row.events ≤ length s0.row.events + most_retired
 
 as_many : (went w rest : List Entry) → w ≡ went ++ rest → length w - length rest ≡ length went
 as_many went w rest h = let a = ap length h in let b = length-append went rest in omega (arith, a, b)
@@ -252,9 +283,8 @@ as_many went w rest h = let a = ap length h in let b = length-append went rest i
 gone_is : (went w rest : List Entry) → w ≡ went ++ rest → take (length w - length rest) w ≡ went
 gone_is went w rest h = ap (λ n. take n w) (as_many went w rest h) ∙ ap (take (length went)) h ∙ take_at went rest (length went) refl
 
-over : (d : Desc) (s0 s : Parts) (went : List Entry) (end : Option End) → Ready d s0 → Left s0 s went → ((x : Machine) → behind s (stays (standing s (length went) end x)) ≡ behind s0 (phase d s0 x)) →
-    length s.row.events ≤ length s0.row.events + 2 * d.core_retire_width → Over d s0 end s
-over d s0 s went end r l h few =
+over : (d : Desc) (s0 s : Parts) (went : List Entry) (end : Option End) → Ready d s0 → Left s0 s went → ((x : Machine) → behind s (stays (standing s (length went) end x)) ≡ behind s0 (phase d s0 x)) → Over d s0 end s
+over d s0 s went end r l h =
     let n = as_many went s0.rob.entries s.rob.entries l.window in
     let g = gone_is went s0.rob.entries s.rob.entries l.window in
     record {
@@ -264,19 +294,19 @@ over d s0 s went end r l h few =
           ∙ ap (λ es. record { cycle = s0.row.cycle; events = es }) (sym (append-nil s.row.events) ∙ ap (λ (r : Retired). r.events) (h x));
       piece = λ x. sym (append-nil s.piece) ∙ ap (λ (r : Retired). r.piece) (h x) ∙ ap (λ p. p ++ (phase d s0 x).piece) r.piece;
       left = subst (Left s0 s) (sym g) l;
-      few = few;
+      few = let f = few_told d s0 s [] _ r (ap (λ (r : Retired). r.events) (h (opening d 0 s0.ram))) in omega (arith, f);
     }
 
 -- the width is reached
 pub over_last : (d : Desc) (s0 : Parts) (i : ℕ) (stored : Bool) (s : Parts) → RetiresOn d s0 (d.core_retire_width - i) stored s → Ready d s0 → d.core_retire_width ≤ i → Over d s0 None s
 over_last d s0 i stored s h r le =
     let e : d.core_retire_width - i ≡ 0 = omega (arith, le) in
-    over d s0 s h.went None r h.left (λ x. sym (ap (λ n. behind s (turns d n stored (standing s (length h.went) None x))) e) ∙ h.whole x) (omega (arith, h.few))
+    over d s0 s h.went None r h.left (λ x. sym (ap (λ n. behind s (turns d n stored (standing s (length h.went) None x))) e) ∙ h.whole x)
 
 -- the head waits
 pub over_waits : (d : Desc) (s0 : Parts) (n : ℕ) (stored : Bool) (s : Parts) → RetiresOn d s0 n stored s → Ready d s0 → turn_at stored s.rob.entries ≡ Waits → Over d s0 None s
 over_waits d s0 n stored s h r t =
-    over d s0 s h.went None r h.left (λ x. sym (ap (behind s) (waits d n stored (standing s (length h.went) None x) refl t)) ∙ h.whole x) (omega (arith, h.few))
+    over d s0 s h.went None r h.left (λ x. sym (ap (behind s) (waits d n stored (standing s (length h.went) None x) refl t)) ∙ h.whole x)
 
 -- it traps
 pub over_traps : (d : Desc) (s0 : Parts) (i : ℕ) (stored : Bool) (s : Parts) (cause : Cause) (pc : ℕ) → RetiresOn d s0 (d.core_retire_width - i) stored s → Ready d s0 → i < d.core_retire_width → turn_at stored s.rob.entries ≡ Traps cause pc →
@@ -285,7 +315,7 @@ over_traps d s0 i stored s cause pc h r lt t =
     let e : d.core_retire_width - i ≡ suc (d.core_retire_width - (i + 1)) = omega (arith, lt) in
     over d s0 s h.went (Some (Trap cause pc)) r h.left (λ x.
     sym (ap (λ n. behind s (turns d n stored (standing s (length h.went) None x))) e ∙ ap (behind s) (traps d (d.core_retire_width - (i + 1)) stored (standing s (length h.went) None x) cause pc refl t))
-    ∙ h.whole x) (omega (arith, h.few))
+    ∙ h.whole x)
 
 -- it retires and ends the run
 pub over_ends : (d : Desc) (s0 : Parts) (i : ℕ) (stored : Bool) (s s2 : Parts) (e : Entry) (o : Option End) (end : End) → RetiresOn d s0 (d.core_retire_width - i) stored s → Ready d s0 → i < d.core_retire_width → Goes stored s.rob.entries e →
@@ -303,4 +333,4 @@ over_ends d s0 i stored s s2 e o end h r lt t left ends =
     sym (ap (behind s2) (ended d k (stored || is_store e.item.kind) (standing s2 (length went) (Some end) x) end refl))
     ∙ one_more d k stored s s2 h.went rest e (Some end) t w p g x
     ∙ sym (ap (λ n. behind s (turns d n stored (standing s (length h.went) None x))) n)
-    ∙ h.whole x) (omega (arith, g.few, h.few, n))
+    ∙ h.whole x)

@@ -55,14 +55,22 @@ TellsHead head events = (x : Machine) (rest : List Entry) → events ≡ (head x
 abbrev pub PrintsHead : (Machine → List Entry → Retired) → List ℕ → Type 0
 PrintsHead head piece = (x : Machine) (rest : List Entry) → piece ≡ (head x rest).piece
 
--- the cache once the head has retired: each line of a store moves to the front of its set, where the cache has it
+-- the cache once each of these lines has moved to the front of its set, where the cache has it
+abbrev pub with_touched : Desc → List ℕ → Cache → Cache
+with_touched d lines tags = record tags { sets = fold (touched d) tags.sets lines }
+
+-- the cache once the head has retired: the lines of a store move
 abbrev pub lines_moved : Kind → Desc → Entry → Cache → Cache
-lines_moved Store d e tags = record tags { sets = fold (touched d) tags.sets (lines_in d e) }
+lines_moved Store d e tags = with_touched d (lines_in d e) tags
 lines_moved _ d e tags = tags
+
+-- the event of a line of a store: whether the cache has it
+abbrev pub line_told : Desc → List (List ℕ) → Entry → ℕ → Event
+line_told d cache e line = event.St e.serial line (has_line d cache line)
 
 -- the events of a head: that it retires, each line of a store with whether the cache has it, and a call with so many bytes
 abbrev pub head_told : Kind → Desc → Cache → Entry → ℕ → List Event
-head_told Store d tags e bytes = event.Ret e.serial ∷ map (λ line. event.St e.serial line (has_line d tags.sets line)) (lines_in d e)
+head_told Store d tags e bytes = event.Ret e.serial ∷ map (line_told d tags.sets e) (lines_in d e)
 head_told Call d tags e bytes = event.Ret e.serial ∷ event.Call e.serial bytes ∷ []
 head_told _ d tags e bytes = event.Ret e.serial ∷ []
 

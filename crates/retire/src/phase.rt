@@ -62,17 +62,18 @@ pub fn retire<R: RenameTaint>(
     let mut stored = false;
     for _ in 0..desc.core_retire_width {
         let head = match turn_at(rob, stored) {
-            Turn::Leaves => rob.at(0),
+            Turn::Leaves => rob.lend(0),
             Turn::Waits => return None,
             Turn::Traps(cause, at) => return Some(End::Trap(cause, at)),
         };
-        take_out(head.serial, rob, table, lsq);
-        let ended = commit(&head, ram, regs, pc, piece);
-        tell(&head, piece, desc, tags, row);
+        let ended = commit(head, ram, regs, pc, piece);
+        tell(head, piece, desc, tags, row);
+        stored = has_stored(stored, head);
+        let serial = head.serial;
+        take_out(serial, rob, table, lsq);
         if let Some(end) = ended {
             return Some(end);
         }
-        stored = has_stored(stored, &head);
     }
     None
 }

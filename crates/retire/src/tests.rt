@@ -12,7 +12,7 @@ use rename_taint::{ByScan, ByTable, RenameTaint, Source};
 use rob_ring::RobRing;
 use rv_types::{End, Instr, Kind, Op, Piece, Reg, Width};
 use std::test::Fail;
-use window_model::{Entry, Event, Item, Outcome, Progress, empty_row};
+use window_model::{Entry, Event, Item, Mark, Outcome, Progress, empty_row};
 
 const BASE: u32 = 65536;
 
@@ -37,6 +37,7 @@ fn done(serial: u64, instr: Instr, kind: Kind, value: u32, addr: u32, stored: u3
             instr,
             kind,
             predicted: Some(BASE + 4),
+            mark: Mark::default(),
         },
         state: Progress::Done,
         outcome: Some(Outcome {
@@ -67,7 +68,7 @@ fn the_oldest_take_effect(rt: HostRuntime) -> Result<(), Fail> {
     let mut table = ByTable::new(alloc, &desc)?;
     let mut lsq = Lsq::new(alloc, &desc)?;
     let mut tags = Tags::new(alloc, &desc)?;
-    let mut ram = Ram::new(alloc, BASE, 64)?;
+    let mut ram = Ram::new(alloc, BASE, 64, false)?;
     let (mut regs, mut pc) = ([0; 32], BASE);
     let (mut row, mut piece) = (empty_row(), Piece::new());
     let addi = Instr::OpImm {
@@ -113,7 +114,7 @@ fn an_exit_retires_and_ends_the_run(rt: HostRuntime) -> Result<(), Fail> {
     let mut table = ByScan::new(alloc, &desc)?;
     let mut lsq = Lsq::new(alloc, &desc)?;
     let mut tags = Tags::new(alloc, &desc)?;
-    let mut ram = Ram::new(alloc, BASE, 64)?;
+    let mut ram = Ram::new(alloc, BASE, 64, false)?;
     let (mut regs, mut pc) = ([0; 32], BASE);
     let (mut row, mut piece) = (empty_row(), Piece::new());
     regs[10] = 3;

@@ -1,5 +1,7 @@
 -- The position of an entry of which the serial is known.
-use Rattle.std.proofs.Common.{◌≡◌, ℕ, zero, suc, ◌<◌, List, [], ◌∷◌, length, take, Some, refl, ap, sym, ◌∙◌, arith, slice_get}
+use Rattle.std.proofs.Common.{◌≡◌, ◌≢◌, ℕ, zero, suc, ◌<◌, List, [], ◌∷◌, length, take, get_or, Some, refl, ap, sym, subst, ◌∙◌, arith, slice_get}
+use Rattle.std.specs.List.{All}
+use Rattle.std.proofs.lemmas.Option.{slice_get-get_or}
 use Rattle.std.specs.Option.{option_map}
 use Rattle.std.proofs.Math.Seq.{take-append_seam}
 use Rattle.window_model.specs.declared.Entry.{Entry}
@@ -26,3 +28,13 @@ module _ (serial : ℕ) where
   older_at es i r h =
       let s = splits serial es r in
       ap (λ n. take n es) (count_at es i r h) ∙ ap (take (length (below serial es))) s.whole ∙ take-append_seam (below serial es) s.gone
+
+  pub serial_at : (es : List Entry) (i : ℕ) (e : Entry) → slice_get es i ≡ Some e → e.serial ≡ serial → option_map (λ e. e.serial) (slice_get es i) ≡ Some serial
+  serial_at es i e is same = ap (option_map (λ e. e.serial)) is ∙ ap Some same
+
+  -- none has the serial, where the one that stands in its place has another
+  pub lacks : (es : List Entry) → Rise es → ((e : Entry) → slice_get es (length (below serial es)) ≡ Some e → e.serial ≢ serial) → All (λ e. e.serial ≢ serial) es
+  lacks es r other k d lt same =
+      let is = slice_get-get_or es k d lt in
+      let at = count_at es k r (serial_at es k (get_or es k d) is same) in
+      other (get_or es k d) (subst (λ n. slice_get es n ≡ Some (get_or es k d)) at is) same

@@ -11,7 +11,7 @@ mod marks;
 mod ring;
 
 pub use beside::{Sources, sources_at};
-pub use ring::RobRing;
+pub use ring::{Found, RobRing};
 
 #[cfg(test)]
 mod tests;

@@ -1,7 +1,7 @@
 //! The ring itself.
-ghost use Rattle.std.specs.Prelude.{◌≡◌, ◌<◌, ◌≤◌, ◌^◌, ◌++◌, ◌∷◌, [], length, take, drop};
-ghost use Rattle.std.specs.Prelude.{slice_get, slice_set, Some, IfOk, IfSome};
-ghost use Rattle.std.specs.Option.{option_map};
+ghost use Rattle.std.specs.Prelude.{◌≡◌, ◌≢◌, ◌<◌, ◌≤◌, ◌^◌, ◌++◌, ◌∷◌, [], length, take, drop};
+ghost use Rattle.std.specs.Prelude.{slice_get, slice_set, None, Some, IfOk, IfSome};
+ghost use Rattle.std.specs.List.{All};
 ghost use Rattle.window_model.specs.declared.Entry.{Entry};
 ghost use Rattle.window_model.specs.declared.Progress.TheVariants.{Done};
 ghost use Rattle.window_model.specs.Serials.{Rise, below};
@@ -27,6 +27,15 @@ pub struct RobRing {
     unsafes: [u64; 3],
     // The oldest entry's serial where none is missing up to the youngest's: a guess, by which an entry is looked for first.
     counted_from: u64,
+}
+
+/// An entry in its place.
+#[derive(Clone, Copy)]
+pub struct Found<'a> {
+    /// Its position, counted from the oldest entry.
+    pub position: u32,
+    /// The entry.
+    pub entry: &'a Entry,
 }
 
 impl Model for RobRing {
@@ -190,21 +199,60 @@ impl RobRing {
         ensures older { take result self.now.entries ≡ below serial self.now.entries }
         ensures within { result ≤ length self.now.entries }
     {
-        if let Some(position) = self.guessed(serial) {
-            return position;
+        if let Some(found) = self.guessed(serial) {
+            return found.position;
         }
         position_of(self, serial)
     }
 
-    // The position of the entry with this serial, where the guess finds it.
-    fn guessed(&self, serial: u64) -> Option<u32>
-        ensures { IfSome result (λ i. option_map (λ e. e.serial) (slice_get self.now.entries i) ≡ Some serial) }
+    /// The entry with this serial and its position, None where no entry has it.
+    pub fn find(&self, serial: u64) -> Option<Found<'_>>
+        requires rise { Rise self.now.entries }
+        ensures position { IfSome result (λ f. f.position ≡ length (below serial self.now.entries)) }
+        ensures entry { IfSome result (λ f. slice_get self.now.entries f.position ≡ Some f.entry.now) }
+        ensures serial { IfSome result (λ f. f.entry.now.serial ≡ serial) }
+        ensures lacking { result ≡ None → All (λ e. e.serial ≢ serial) self.now.entries }
+    {
+        match self.guessed(serial) {
+            Some(found) => Some(found),
+            None => self.searched(serial),
+        }
+    }
+
+    // The entry with this serial and its position, by the walk of `position_of` of `window_model`.
+    fn searched(&self, serial: u64) -> Option<Found<'_>>
+        requires rise { Rise self.now.entries }
+        ensures position { IfSome result (λ f. f.position ≡ length (below serial self.now.entries)) }
+        ensures entry { IfSome result (λ f. slice_get self.now.entries f.position ≡ Some f.entry.now) }
+        ensures serial { IfSome result (λ f. f.entry.now.serial ≡ serial) }
+        ensures lacking { result ≡ None → All (λ e. e.serial ≢ serial) self.now.entries }
+    {
+        let position = position_of(self, serial);
+        if position >= self.len() {
+            return None;
+        }
+        let entry = self.lend(position);
+        if entry.serial != serial {
+            return None;
+        }
+        Some(Found { position, entry })
+    }
+
+    // The entry with this serial and its position, where the guess finds it.
+    fn guessed(&self, serial: u64) -> Option<Found<'_>>
+        ensures entry { IfSome result (λ f. slice_get self.now.entries f.position ≡ Some f.entry.now) }
+        ensures serial { IfSome result (λ f. f.entry.now.serial ≡ serial) }
     {
         let position = serial.wrapping_sub(self.counted_from);
-        if position < self.len() as u64 && self.lend(position as u32).serial == serial {
-            return Some(position as u32);
+        if position >= self.len() as u64 {
+            return None;
         }
-        None
+        let position = position as u32;
+        let entry = self.lend(position);
+        if entry.serial != serial {
+            return None;
+        }
+        Some(Found { position, entry })
     }
 }
 

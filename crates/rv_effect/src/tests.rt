@@ -213,7 +213,7 @@ const CALLS: [(u32, u32, u32, u32, Option<u32>, u32, usize); 8] = [
 
 #[test]
 fn calls_answer(rt: HostRuntime) -> Result<(), Fail> {
-    let mut ram = Ram::new(rt.alloc(), BASE, SIZE)?;
+    let mut ram = Ram::new(rt.alloc(), BASE, SIZE, false)?;
     let _ = ram.put(BASE, Width::W, 0x7f80_ff01);
     for (a7, a0, a1, a2, ended, answer, count) in CALLS {
         let mut pc = PC;

@@ -1,6 +1,7 @@
 pub mod Numbers
 pub mod Placing
 pub mod Reading
+mod Marking
 pub mod Dropping
 pub mod Leaving
 pub mod Wanting

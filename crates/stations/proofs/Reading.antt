@@ -1,7 +1,7 @@
 -- What is told of the places of the entries that wait.
-use Rattle.std.proofs.Common.{◌≡◌, ◌≢◌, ℕ, ◌<◌, List, ◌++◌, length, get_or, Some, ap, sym, ◌∙◌, arith}
+use Rattle.std.proofs.Common.{◌≡◌, ◌≢◌, ℕ, ◌<◌, ◌≤◌, List, ◌++◌, length, get_or, Some, ap, sym, ◌∙◌, arith}
 use Rattle.std.specs.Prelude.{slice_get}
-use Rattle.std.specs.List.{AllPairs}
+use Rattle.std.specs.List.{All, AllPairs}
 use Rattle.std.proofs.lemmas.List.{get_or-map, get_or_default, get_or_append_left, length-map, length-append}
 use Rattle.std.proofs.lemmas.Option.{slice_get-get_or}
 use Rattle.stations.specs.declared.occupant.Occupant.{Occupant}
@@ -27,3 +27,11 @@ places_differ places ages free s i j d lt l same =
     let p = place_seen places ages free i d (omega arith) in
     let q = place_seen places ages free j d (omega arith) in
     all_differ (length places) (ages ++ free) s.once i j 0 lt (omega arith) (sym p ∙ same ∙ q)
+
+-- there are at most 96 places
+pub places_below : (places : List Occupant) (ages : List ℕ) → All (λ p. p < length places) ages → length places ≤ 96 → All (λ s. s.place < 96) (held_of places ages)
+places_below places ages below few k d lt =
+    let long = length-map ages (station_in places) in
+    let seen = ap (λ (s : Station). s.place) (get_or-map (station_in places) ages k 0 d (omega (arith, long, lt))) in
+    let low = below k 0 (omega (arith, long, lt)) in
+    omega (arith, seen, low, few)

@@ -18,7 +18,7 @@ use Rattle.stations.proofs.Awaited.{neither}
 
 -- ---- the bits of one word that another doesn't have
 
-apart_at : (a b p : ℕ) → bit_at (bit_xor a (bit_and a b)) p ≡ (bit_at a p + min (bit_at a p) (bit_at b p)) % 2
+pub apart_at : (a b p : ℕ) → bit_at (bit_xor a (bit_and a b)) p ≡ (bit_at a p + min (bit_at a p) (bit_at b p)) % 2
 apart_at a b p = bit_at_xor a (bit_and a b) p ∙ ap (λ m. (bit_at a p + m) % 2) (bit_at_and a b p)
 
 pub apart_bits : (a b room : ℕ) (o : Option ℕ) → NextBit (bit_at (bit_xor a (bit_and a b))) 0 room o → NextBit (λ p. (bit_at a p + min (bit_at a p) (bit_at b p)) % 2) 0 room o

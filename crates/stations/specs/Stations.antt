@@ -1,6 +1,8 @@
 -- What is seen of the stations: the entries that wait, by age, and what each of them waits for.
-use Rattle.std.specs.Prelude.{ℕ, zero, suc, ◌<◌, Bool, ◌==◌, List, [], ◌∷◌, map, Option, Some, None, is_none, slice_index_or, if◌then◌else◌}
+use Rattle.std.specs.Prelude.{◌≡◌, ℕ, zero, suc, ◌<◌, ◌≤◌, Bool, ◌==◌, List, [], ◌∷◌, map, Option, Some, None, is_none, slice_get, slice_index_or, if◌then◌else◌}
+use Rattle.std.specs.Int.{bit_at}
 use Rattle.std.specs.List.{AllPairs, list_all, list_any}
+use Rattle.word_bits.specs.Bits.{one_if}
 use Rattle.stations.specs.declared.wants.Part.{Part}
 use Rattle.stations.specs.declared.wants.Part.TheVariants as part
 use Rattle.stations.specs.declared.wants.Wants.{Wants}
@@ -49,6 +51,10 @@ able_as wants.Other awaits = nothing_at 1 awaits
 -- the entry, or a part of it, may issue
 abbrev pub is_able : Station → Bool
 is_able s = able_as s.wants s.awaits
+
+-- a word marks, at their places, which of the entries from a position on may issue, or a part of them
+abbrev pub MarksAble : List Station → ℕ → ℕ → Type 0
+MarksAble held from word = (i : ℕ) (s : Station) → from ≤ i → slice_get held i ≡ Some s → bit_at word s.place ≡ one_if (is_able s)
 
 -- which of an entry's sources a part needs
 abbrev pub source_of : Part → ℕ

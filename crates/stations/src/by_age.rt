@@ -1,8 +1,9 @@
 //! The stations by age.
-ghost use Rattle.std.specs.Prelude.{◌≡◌, ◌≢◌, ◌-◌, ◌<◌, ◌≤◌, ℕ, [], ◌∷◌, ◌++◌, length, map, IfOk, Some, slice_get, nat_lt, nat_le};
+ghost use Rattle.std.specs.Prelude.{◌≡◌, ◌≢◌, ◌+◌, ◌-◌, ◌<◌, ◌≤◌, ℕ, [], ◌∷◌, ◌++◌, length, map, IfOk, Some, slice_get, nat_lt, nat_le};
 ghost use Rattle.std.specs.List.{filter, list_any, remove, All, AllPairs};
 ghost use Rattle.std.specs.Option.{option_map};
-ghost use Rattle.stations.specs.Stations.{Rise, Station, Stations, awaits_none, is_able, left_wanting, ready_part, struck};
+ghost use Rattle.std.specs.Int.{bit_at};
+ghost use Rattle.stations.specs.Stations.{MarksAble, Rise, Station, Stations, awaits_none, is_able, left_wanting, ready_part, struck};
 ghost use Rattle.stations.specs.Places.{station, is_youngest};
 
 use crate::occupant::Occupant;
@@ -132,6 +133,32 @@ impl Stations {
         !has_wide_bit(self.waiting, self.ages[i as usize])
     }
 
+    /// A word that marks which entries may issue, or a part of them.
+    pub fn able_marks(&self) -> u128
+        ensures { MarksAble self.now.held 0 result }
+    {
+        self.taken ^ (self.taken & self.waiting)
+    }
+
+    /// Whether the entry at a position is marked by a word that tells it of the entries from there on.
+    pub fn is_marked(&self, marks: u128, i: u32) -> bool
+        requires within { i < length self.now.held }
+        requires marks { MarksAble self.now.held i marks }
+        ensures { option_map is_able (slice_get self.now.held i) ≡ Some result }
+    {
+        has_wide_bit(marks, self.place(i))
+    }
+
+    /// The word without the mark of the entry at a position.
+    pub fn passed(&self, marks: u128, i: u32) -> u128
+        requires within { i < length self.now.held }
+        requires marks { MarksAble self.now.held i marks }
+        ensures here { option_map (λ s. bit_at result s.place) (slice_get self.now.held i) ≡ Some 0 }
+        ensures later { MarksAble self.now.held (i + 1) result }
+    {
+        with_wide_bit(marks, self.place(i), false)
+    }
+
     /// Whether there is an entry that may issue, or a part of it.
     pub fn any_able(&self) -> bool
         ensures { result ≡ list_any is_able self.now.held }
@@ -166,6 +193,7 @@ impl Stations {
         ensures place { option_map (λ s. s.place) (slice_get self.now.held i) ≡ Some result }
         ensures below { result < self.now.room }
         ensures differ { AllPairs (λ a b. a.place ≢ b.place) self.now.held }
+        ensures few { All (λ s. s.place < 96) self.now.held }
     {
         self.ages[i as usize]
     }

@@ -91,11 +91,11 @@ kept_cycle d code x y k =
     let stays = memory_stays_cycle d code y (every_desc d) k.sized in
     record {
       sized = sized_cycle d code y (every_desc d) k.sized;
-      shape = record { base = stays.base ∙ k.shape.base; size = stays.size ∙ k.shape.size };
+      shape = record { base = stays.base ∙ k.shape.base; size = stays.size ∙ k.shape.size; misaligned = stays.misaligned ∙ k.shape.misaligned };
     }
 
 kept : (d : Desc) (code : Code) (n : ℕ) (x : Machine) → Sized d x → Kept d x (after_cycles d code n x)
-kept d code n x s = run_keep d (Kept d x) code (kept_cycle d code x) n x (record { sized = s; shape = record { base = refl; size = refl } })
+kept d code n x s = run_keep d (Kept d x) code (kept_cycle d code x) n x (record { sized = s; shape = record { base = refl; size = refl; misaligned = refl } })
 
 pub base_stays : (d : Desc) (code : Code) (n : ℕ) (x y : Machine) (before ram : Ram) → Sized d x → y ≡ after_cycles d code n x → before.base ≡ x.ram.base → ram ≡ y.ram
     → before.base ≡ ram.base

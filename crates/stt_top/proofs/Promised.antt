@@ -9,6 +9,7 @@ use Rattle.machine_desc.proofs.EveryDesc.{every_desc}
 use Rattle.window_model.specs.Cycle.{trace, pieces}
 use Rattle.window_model.specs.Committed.{Aligned, Committed, TrapsNext}
 use Rattle.committed_state.proofs.Run.{run_commits}
+use Rattle.progress.specs.Laws.{Allows}
 use Rattle.progress.proofs.Run.{retires_within_bound, retires_in_budget}
 use Rattle.noninterference.proofs.Runs.{same_trace}
 use Rattle.report_text.specs.Report.{report_text}
@@ -27,7 +28,7 @@ use Rattle.stt_top.specs.Outcome.{status_of}
 use Rattle.stt_top.specs.Work.{TaskText, isa_task, report_task, trace_task, pair_task, Work, ComesTo, run_work}
 use Rattle.stt_top.specs.Top.{World, Ends, Statuses}
 use Rattle.stt_top.specs.Promises.{Commits, MovesOn, Hides, Compares, Keeps, Promises, TracesAgree, retired_run, state_at}
-use Rattle.stt_top.proofs.Tasks.{AlignedTask, task_aligned}
+use Rattle.stt_top.proofs.Tasks.{SuitedTask, task_suited}
 use Rattle.stt_top.proofs.Statuses.{statuses_at}
 
 -- ---- Committed state
@@ -53,11 +54,11 @@ commits d image n out out' al w =
 
 -- ---- Progress
 
-moves_on : (d : Desc) (image : ImageText) (n : ℕ) → MovesOn d image n
-moves_on d image n = record {
-  one = λ k le e. retires_within_bound d image.code image.entry image.ram k (every_desc d) e;
+moves_on : (d : Desc) (image : ImageText) (n : ℕ) → Allows d image.ram → MovesOn d image n
+moves_on d image n allows = record {
+  one = λ k le e. retires_within_bound d image.code image.entry image.ram k (every_desc d) allows e;
   many = λ m q e. let P : ℕ → Type 0 = λ n. (trace_of d image n).end ≡ None → m ≤ (trace_of d image n).retired in
-      subst P (sym q) (λ f. retires_in_budget d image.code image.entry image.ram m (every_desc d) f) e;
+      subst P (sym q) (λ f. retires_in_budget d image.code image.entry image.ram m (every_desc d) allows f) e;
 }
 
 -- ---- Noninterference
@@ -71,7 +72,7 @@ hides d image n out out' al w = record {
 pub traces_agree : TracesAgree
 traces_agree d a b one two n f g e c agree =
     let first : trace_of d two n ≡ trace d one.code one.entry two.ram n = ap (λ (x : ℕ). trace d two.code x two.ram n) e ∙ ap (λ (x : Code). trace d x one.entry two.ram n) c in
-    ap text.trace_text (first ∙ same_trace d one.code one.entry one.ram two.ram n (at_words a _ _ one f) agree)
+    ap text.trace_text (first ∙ same_trace d one.code one.entry one.ram two.ram n (at_words a _ _ _ one f) agree)
 
 -- and so the answer on two images whose premise is true is that their runs are the same
 compares : (d : Desc) (one two : ImageText) (n : ℕ) (answer : PairAnswer) (out out' : Told) → Aligned one.code → Answers d one two n answer → Wrote (comparison answer) out out'
@@ -86,17 +87,17 @@ compares d one two n answer out out' al a w = record {
 -- ---- The program
 
 -- a task whose whole text is written keeps what is promised besides
-keeps : (task : TaskText) (work : Work) (out out' : Told) → AlignedTask task → ComesTo task work → Wrote work.text out out' → Keeps task out out'
-keeps (isa_task image steps) work out out' al c w = tt
-keeps (report_task d image n) work out out' al c w = (commits d image n out out' al (subst (λ (k : Work). Wrote k.text out out') c w), moves_on d image n)
-keeps (trace_task d image n) work out out' al c w = (hides d image n out out' al (subst (λ (k : Work). Wrote k.text out out') c w), moves_on d image n)
-keeps (pair_task d one two n) work out out' al c w = compares d one two n c.0 out out' al c.1 (subst (λ (k : Work). Wrote k.text out out') c.2 w)
+keeps : (task : TaskText) (work : Work) (out out' : Told) → SuitedTask task → ComesTo task work → Wrote work.text out out' → Keeps task out out'
+keeps (isa_task image steps) work out out' s c w = tt
+keeps (report_task d image n) work out out' s c w = (commits d image n out out' s.aligned (subst (λ (k : Work). Wrote k.text out out') c w), moves_on d image n s.allows)
+keeps (trace_task d image n) work out out' s c w = (hides d image n out out' s.aligned (subst (λ (k : Work). Wrote k.text out out') c w), moves_on d image n s.allows)
+keeps (pair_task d one two n) work out out' s c w = compares d one two n c.0 out out' s.aligned c.1 (subst (λ (k : Work). Wrote k.text out out') c.2 w)
 
 -- with the status of a text that is written whole
 pub promises : (words : List (List ℕ)) (old new : World) (status : ℕ) → Statuses words old new status → Promises words old new status
 promises words old new status s = record {
   kept = λ h. let a = s.ran h in let d = a.2.0 in
-      (a.0, a.1, (d.task, d.runs, keeps d.task d.work old.out new.out (task_aligned a.0 old.files new.files d.task d.runs) d.comes_to a.2.1));
+      (a.0, a.1, (d.task, d.runs, keeps d.task d.work old.out new.out (task_suited a.0 old.files new.files d.task d.runs) d.comes_to a.2.1));
 }
 
 -- so does the program, with the status of how it ended

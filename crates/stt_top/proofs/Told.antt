@@ -10,7 +10,7 @@ use Rattle.machine_desc.proofs.SameDesc.{one_description}
 use Rattle.elf_loader.specs.Image.{ImageText, image_of}
 use Rattle.elf_loader.specs.declared.faults.ElfFault.{ElfFault}
 use Rattle.stt_top.specs.declared.outcome.Refusal.TheVariants.{DescriptionTooLong, Description}
-use Rattle.stt_top.specs.Input.{description_max, image_max, base_of, size_of, ImageFrom, from_file, from_seed, HasBytes, HasDesc, NamedRefused, IsImage, AreImages, HasFault, HasTooMany}
+use Rattle.stt_top.specs.Input.{description_max, image_max, base_of, size_of, misaligned_of, ImageFrom, from_file, from_seed, HasBytes, HasDesc, NamedRefused, IsImage, AreImages, HasFault, HasTooMany}
 use Rattle.stt_top.specs.Top.{IsFaultyDescription, IsTooLong, IsFaultyImage, TellsDesc, TellsBytes, TellsImage, TellsImages}
 
 -- what was read is what is told
@@ -85,15 +85,17 @@ same_bytes shelf (from_file name) file file' t h =
 same_bytes shelf (from_seed seed blocks) file file' t h = (h ∙ sym t, λ longer. longer)
 
 -- an image of these bytes in this memory, by those that are told
-image_is : (desc desc' : Option Desc) (file file' : List ℕ) → desc' ≡ desc → file' ≡ file → image_of file' (base_of desc') (size_of desc') ≡ image_of file (base_of desc) (size_of desc)
+image_is : (desc desc' : Option Desc) (file file' : List ℕ) → desc' ≡ desc → file' ≡ file → image_of file' (base_of desc') (size_of desc') (misaligned_of desc')
+    ≡ image_of file (base_of desc) (size_of desc) (misaligned_of desc)
 image_is desc desc' file file' a c =
-    ap (λ x. image_of x (base_of desc') (size_of desc')) c ∙ ap (λ (d : Option Desc). image_of file (base_of d) (size_of d)) a
+    ap (λ x. image_of x (base_of desc') (size_of desc') (misaligned_of desc')) c ∙ ap (λ (d : Option Desc). image_of file (base_of d) (size_of d) (misaligned_of d)) a
 
 -- the image that a command had is the one that is told
 same_image : (shelf : Shelf) (desc desc' : Option Desc) (from : ImageFrom) (image image' : ImageText) → desc' ≡ desc → TellsImage shelf desc from image → IsImage shelf desc' from image' → image' ≡ image
 same_image shelf desc desc' from image image' d t i =
     let b = (same_bytes shelf from t.file i.file t.told i.content).0 in
-    let e : image_of i.file (base_of desc') (size_of desc') ≡ image_of t.file (base_of desc) (size_of desc) = image_is desc desc' t.file i.file d b in
+    let e : image_of i.file (base_of desc') (size_of desc') (misaligned_of desc') ≡ image_of t.file (base_of desc) (size_of desc) (misaligned_of desc) =
+    image_is desc desc' t.file i.file d b in
     let told = t.loads in
     let had = i.loads in
     cc

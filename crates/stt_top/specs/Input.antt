@@ -1,6 +1,6 @@
 -- What the program reads, and why it may be refused (docs/theorems.md, "What is read"): a description, if one is named, and
 -- then images in their order, each read and loaded before the next is read.
-use Rattle.std.specs.Prelude.{◌≡◌, ℕ, List, [], ◌∷◌, take, slice_get, Option, Some, None, Result, Ok, Err, MatchResult}
+use Rattle.std.specs.Prelude.{◌≡◌, ℕ, ◌==◌, Bool, false, List, [], ◌∷◌, take, slice_get, Option, Some, None, Result, Ok, Err, MatchResult}
 use Rattle.elf_loader.specs.Image.{ImageText, image_of}
 use Rattle.elf_loader.specs.declared.faults.ElfFault.{ElfFault}
 use Rattle.elf_loader.specs.declared.faults.ElfFault.TheVariants as elf
@@ -98,11 +98,16 @@ abbrev pub size_of : Option Desc → ℕ
 size_of None = 1048576
 size_of (Some d) = d.ram_size
 
+-- whether an access there may have any address: as the description says, and without one not
+abbrev pub misaligned_of : Option Desc → Bool
+misaligned_of None = false
+misaligned_of (Some d) = d.ram_misaligned == 1
+
 -- what is got there is this image
 pub record IsImage (shelf : Shelf) (desc : Option Desc) (from : ImageFrom) (image : ImageText) : Type 0 where
   pub file : List ℕ
   pub content : HasBytes shelf from file
-  pub loads : image_of file (base_of desc) (size_of desc) ≡ Ok image
+  pub loads : image_of file (base_of desc) (size_of desc) (misaligned_of desc) ≡ Ok image
 
 -- it can't be read
 abbrev pub FailsToRead : Shelf → Shelf → ImageFrom → Type 0
@@ -118,7 +123,7 @@ HasTooMany shelf (from_seed seed blocks) = ⊥
 pub record HasFault (shelf : Shelf) (desc : Option Desc) (from : ImageFrom) (fault : ElfFault) : Type 0 where
   pub file : List ℕ
   pub content : HasBytes shelf from file
-  pub refused : image_of file (base_of desc) (size_of desc) ≡ Err fault
+  pub refused : image_of file (base_of desc) (size_of desc) (misaligned_of desc) ≡ Err fault
 
 -- the refusal of a fault of loading: want of memory is one of its own
 abbrev pub refusal_of : Which → ElfFault → Refusal
@@ -126,10 +131,10 @@ refusal_of which elf.NoMemory = Memory
 refusal_of which fault = NoImage which fault
 
 -- why a file is refused as an image
-abbrev pub LoadRefused : Which → List ℕ → ℕ → ℕ → Refusal → Type 0
-LoadRefused which file base size (NoImage w fault) = (w ≡ which) × (image_of file base size ≡ Err fault)
-LoadRefused which file base size Memory = Unit {0}
-LoadRefused which file base size _ = ⊥
+abbrev pub LoadRefused : Which → List ℕ → ℕ → ℕ → Bool → Refusal → Type 0
+LoadRefused which file base size misaligned (NoImage w fault) = (w ≡ which) × (image_of file base size misaligned ≡ Err fault)
+LoadRefused which file base size misaligned Memory = Unit {0}
+LoadRefused which file base size misaligned _ = ⊥
 
 -- why there are no bytes of an image
 abbrev pub BytesRefused : Which → ImageFrom → Shelf → Shelf → Refusal → Type 0

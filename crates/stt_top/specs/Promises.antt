@@ -1,6 +1,6 @@
 -- What may be relied on of a machine's run besides its text: what it has retired, how soon, and what it shows
 -- (docs/theorems.md, "Committed state", "Progress", "Noninterference").
-use Rattle.std.specs.Prelude.{◌≡◌, ℕ, ◌+◌, ◌*◌, ◌<◌, ◌≤◌, List, Some, None, Ok, IsTrue}
+use Rattle.std.specs.Prelude.{◌≡◌, ◌==◌, ℕ, ◌+◌, ◌*◌, ◌<◌, ◌≤◌, List, Some, None, Ok, IsTrue}
 use Rattle.rv_types.specs.Isa.{Run}
 use Rattle.rv_types.specs.Memory.{Ram, Agree}
 use Rattle.elf_loader.specs.Image.{ImageText, image_of}
@@ -60,7 +60,7 @@ pub record Hides (d : Desc) (image : ImageText) (n : ℕ) (out out' : Told) : Ty
 
 -- the file is accepted under the description, and this is its image
 abbrev pub IsImageOf : Desc → List ℕ → ImageText → Type 0
-IsImageOf d file image = image_of file d.ram_base d.ram_size ≡ Ok image
+IsImageOf d file image = image_of file d.ram_base d.ram_size (d.ram_misaligned == 1) ≡ Ok image
 
 -- two files' images with one entry and code, whose memories so agree, have one trace
 abbrev pub TracesAgree : Type 0

@@ -14,7 +14,7 @@ use Rattle.stt_top.specs.declared.outcome.Ended.{Ended}
 use Rattle.stt_top.specs.declared.outcome.Refusal.{Refusal}
 use Rattle.stt_top.specs.declared.outcome.Refusal.TheVariants.{Words, Write, Memory}
 use Rattle.stt_top.specs.Outcome.{status_of, place_of}
-use Rattle.stt_top.specs.Input.{description_max, image_max, ImageFrom, from_file, from_seed, MayHold, MayBeLonger, IsRead, RefusedAt, FailsToRead, HasTooMany, HasFault, Refuses, base_of, size_of}
+use Rattle.stt_top.specs.Input.{description_max, image_max, ImageFrom, from_file, from_seed, MayHold, MayBeLonger, IsRead, RefusedAt, FailsToRead, HasTooMany, HasFault, Refuses, base_of, size_of, misaligned_of}
 use Rattle.stt_top.specs.declared.task.Task.{Task}
 use Rattle.stt_top.specs.Work.{TaskText, task_of, task_text, Work, ComesTo}
 
@@ -92,7 +92,7 @@ IsTooLong (from_seed seed blocks) file = ⊥
 
 -- these bytes are too many for an image, or are none for the memory of this description
 abbrev pub IsFaultyImage : ImageFrom → List ℕ → Option Desc → Type 0
-IsFaultyImage from file desc = IsTooLong from file ⊎ ((fault : ElfFault) × (image_of file (base_of desc) (size_of desc) ≡ Err fault))
+IsFaultyImage from file desc = IsTooLong from file ⊎ ((fault : ElfFault) × (image_of file (base_of desc) (size_of desc) (misaligned_of desc) ≡ Err fault))
 
 -- the files tell that a run has this description
 abbrev pub TellsDesc : Shelf → Option (List ℕ) → Option Desc → Type 0
@@ -110,7 +110,7 @@ pub record TellsImage (shelf : Shelf) (desc : Option Desc) (from : ImageFrom) (i
   pub file : List ℕ
   pub told : TellsBytes shelf from file
   pub short : ¬ IsTooLong from file
-  pub loads : image_of file (base_of desc) (size_of desc) ≡ Ok image
+  pub loads : image_of file (base_of desc) (size_of desc) (misaligned_of desc) ≡ Ok image
 
 -- and so at each of these places
 abbrev pub TellsImages : Shelf → Option Desc → List ImageFrom → List ImageText → Type 0

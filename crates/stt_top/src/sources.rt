@@ -3,7 +3,8 @@ ghost use Rattle.std.specs.Prelude.{◌≡◌, Ok, Result, MatchResult, IfOk, le
 ghost use Rattle.elf_loader.specs.Image.{image_of};
 ghost use Rattle.pair_run.specs.Starts.{loaded};
 ghost use Rattle.tool_io.specs.Outside.{SameContents};
-ghost use Rattle.stt_top.specs.Input.{source_of, ReadsBytes, ReadsImage, LoadRefused, refusal_of, base_of, size_of};
+ghost use Rattle.stt_top.specs.Input.{source_of, ReadsBytes, ReadsImage, LoadRefused, refusal_of};
+ghost use Rattle.stt_top.specs.Input.{base_of, size_of, misaligned_of};
 
 use crate::outcome::{Refusal, Which};
 use crate::reading::{IMAGE_MAX, Unread, read_file};
@@ -62,14 +63,14 @@ fn refusal_of(which: Which, fault: ElfFault) -> Refusal
 // The image of a file in memory that is all 0 before.
 fn image_in(alloc: Global, file: &[u8], which: Which, region: Region) -> Result<Image, Refusal>
     ensures { MatchResult result
-        (λ i. image_of file.now region.base region.size ≡ Ok (loaded i))
-        (λ e. LoadRefused which file.now region.base region.size e) }
+        (λ i. image_of file.now region.base region.size region.misaligned ≡ Ok (loaded i))
+        (λ e. LoadRefused which file.now region.base region.size region.misaligned e) }
 {
     let segments = match segments(file) {
         Ok(segments) => segments,
         Err(fault) => return Err(Refusal::Image(which, fault)),
     };
-    let ram = match Ram::new(alloc, region.base, region.size) {
+    let ram = match Ram::new(alloc, region.base, region.size, region.misaligned) {
         Ok(ram) => ram,
         Err(_) => return Err(Refusal::Memory),
     };
@@ -87,8 +88,8 @@ fn load_image(
     desc: Option<Desc>,
 ) -> Result<Image, Refusal>
     ensures { MatchResult result
-        (λ i. image_of file.now (base_of desc) (size_of desc) ≡ Ok (loaded i))
-        (λ e. LoadRefused which file.now (base_of desc) (size_of desc) e) }
+        (λ i. image_of file.now (base_of desc) (size_of desc) (misaligned_of desc) ≡ Ok (loaded i))
+        (λ e. LoadRefused which file.now (base_of desc) (size_of desc) (misaligned_of desc) e) }
 {
     image_in(alloc, file, which, Region::of(desc))
 }

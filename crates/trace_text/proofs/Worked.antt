@@ -3,8 +3,8 @@ use Rattle.std.proofs.Common.{◌≡◌, [], ◌∷◌, true, Some, refl, codes}
 use Rattle.std.specs.Fmt.{digits}
 use Rattle.rv_types.specs.declared.End.TheVariants.{Exit}
 use Rattle.line_text.specs.EndLine.{end_line}
-use Rattle.window_model.specs.declared.Event.TheVariants.{Fill, Done, Res, Bp, Sq, Ret, St, Call, Alu, Mul, Div, Ld, LdFault, Ren, Fet}
-use Rattle.window_model.specs.declared.Look.TheVariants.{Hit, Miss}
+use Rattle.window_model.specs.declared.Event.TheVariants.{Fill, Done, Res, Bp, Sq, Ret, St, Call, Alu, Mul, Div, Ld, LdFault, Pf, Ren, Fet}
+use Rattle.window_model.specs.declared.Look.TheVariants.{Hit, Miss, Second}
 use Rattle.window_model.specs.declared.Way.TheVariants.{Taken, Jump}
 use Rattle.window_model.proofs.Worked.{row}
 use Rattle.trace_text.specs.TraceText.{event_text, events_text, row_text, rows_text, trace_text}
@@ -29,6 +29,10 @@ line_of_a_miss = refl
 line_of_a_hit : row_text (row 15 (Done 5 ∷ Ld 6 0x0001fff0 Hit ∷ [])) ≡ codes "15 done:5 ld:6:0001fff0:h\n"
 unfolding row_text events_text event_text row digits
 line_of_a_hit = refl
+
+line_of_a_prefetch : row_text (row 3 (Ld 0 0x0001ffd0 Second ∷ Pf 0x0001ffe0 Miss ∷ [])) ≡ codes "3 ld:0:0001ffd0:2 pf:0001ffe0:m\n"
+unfolding row_text events_text event_text row digits
+line_of_a_prefetch = refl
 
 line_of_a_jump : row_text (row 4 (Done 0 ∷ Done 1 ∷ Res 0 Jump ∷ Sq 2 ∷ [])) ≡ codes "4 done:0 done:1 res:0:J sq:2\n"
 unfolding row_text events_text event_text row digits

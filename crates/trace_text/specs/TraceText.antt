@@ -4,11 +4,11 @@ use Rattle.rv_types.specs.declared.Ending.{Ending}
 use Rattle.line_text.specs.Digits.{hex8}
 use Rattle.line_text.specs.EndLine.{end_line}
 use Rattle.window_model.specs.declared.Event.{Event}
-use Rattle.window_model.specs.declared.Event.TheVariants.{Fill, Done, Res, Bp, Bt, Sq, Ret, St, Call, Alu, Mul, Div, Agu, Std, Ld, LdForward, LdFault, Ren, Fet}
+use Rattle.window_model.specs.declared.Event.TheVariants.{Fill, Done, Res, Bp, Bt, Sq, Ret, St, Call, Alu, Mul, Div, Agu, Std, Ld, LdForward, LdFault, Pf, Ren, Fet}
 use Rattle.window_model.specs.declared.Way.{Way}
 use Rattle.window_model.specs.declared.Way.TheVariants.{Taken, NotTaken, Jump}
 use Rattle.window_model.specs.declared.Look.{Look}
-use Rattle.window_model.specs.declared.Look.TheVariants.{Hit, Miss, Join}
+use Rattle.window_model.specs.declared.Look.TheVariants.{Hit, Miss, Join, Second}
 use Rattle.window_model.specs.Row.{Row}
 use Rattle.window_model.specs.Cycle.{Trace}
 
@@ -31,11 +31,12 @@ abbrev pub found_text : Bool → List ℕ
 found_text true = codes ":h"
 found_text false = codes ":m"
 
--- what a load found in the cache
+-- where a line was found
 abbrev pub look_text : Look → List ℕ
 look_text Hit = codes ":h"
 look_text Miss = codes ":m"
 look_text Join = codes ":j"
+look_text Second = codes ":2"
 
 -- the text of an event: its name and what it tells, with colons between
 unfoldable pub event_text : Event → List ℕ
@@ -56,6 +57,7 @@ event_text (Std serial) = codes "std" ++ and_number serial
 event_text (Ld serial line look) = codes "ld" ++ and_number serial ++ and_address line ++ look_text look
 event_text (LdForward serial) = codes "ld" ++ and_number serial ++ codes ":f"
 event_text (LdFault serial) = codes "ld" ++ and_number serial ++ codes ":x"
+event_text (Pf line look) = codes "pf" ++ and_address line ++ look_text look
 event_text (Ren serial pc) = codes "ren" ++ and_number serial ++ and_address pc
 event_text (Fet pc) = codes "fet" ++ and_address pc
 

@@ -149,6 +149,7 @@ fn look_text(look: Look) -> [u8; LETTER]
         Look::Hit => *b":h",
         Look::Miss => *b":m",
         Look::Join => *b":j",
+        Look::Second => *b":2",
     }
 }
 
@@ -160,6 +161,17 @@ fn add_of_text(line: &mut Line, name: &[u8], serial: u64, text: &[u8; LETTER])
     ensures short { length line.new ≤ length line.old + (length name.now + SERIAL + LETTER) }
 {
     add_of(line, name, serial);
+    line.add(text);
+}
+
+// The name of an event, an address and one more text.
+#[inline(always)]
+fn add_at_text(line: &mut Line, name: &[u8], addr: u32, text: &[u8; LETTER])
+    requires { length line.old + (length name.now + ADDRESS + LETTER) ≤ LINE_MAX }
+    ensures text { line.new ≡ line.old ++ (name.now ++ hex8 addr ++ text.now) }
+    ensures short { length line.new ≤ length line.old + (length name.now + ADDRESS + LETTER) }
+{
+    add_at(line, name, addr);
     line.add(text);
 }
 
@@ -211,6 +223,7 @@ pub fn add_event(line: &mut Line, event: Event)
         ),
         Event::LdForward(serial) => add_of_text(line, b" ld:", serial, b":f"),
         Event::LdFault(serial) => add_of_text(line, b" ld:", serial, b":x"),
+        Event::Pf(addr, look) => add_at_text(line, b" pf:", addr, &look_text(look)),
         Event::Ren(serial, pc) => add_of_at(line, b" ren:", serial, pc),
         Event::Fet(pc) => add_at(line, b" fet:", pc),
     }

@@ -7,7 +7,7 @@ use window_model::{Event, Look, Way, empty_row};
 #[test]
 fn events(rt: HostRuntime) -> Result<(), Fail> {
     let alloc = rt.alloc();
-    let rows: [(Event, &[u8]); 23] = [
+    let rows: [(Event, &[u8]); 26] = [
         (Event::Fill(0x0001_fff0), b"7 fill:0001fff0\n"),
         (Event::Done(0), b"7 done:0\n"),
         (Event::Res(2, Way::Taken), b"7 res:2:T\n"),
@@ -36,8 +36,14 @@ fn events(rt: HostRuntime) -> Result<(), Fail> {
             Event::Ld(6, 0x0001_fff0, Look::Join),
             b"7 ld:6:0001fff0:j\n",
         ),
+        (
+            Event::Ld(6, 0x0001_fff0, Look::Second),
+            b"7 ld:6:0001fff0:2\n",
+        ),
         (Event::LdForward(6), b"7 ld:6:f\n"),
         (Event::LdFault(1), b"7 ld:1:x\n"),
+        (Event::Pf(0x0001_fff0, Look::Miss), b"7 pf:0001fff0:m\n"),
+        (Event::Pf(0x0000_0010, Look::Second), b"7 pf:00000010:2\n"),
         (Event::Ren(8, 0x0001_001c), b"7 ren:8:0001001c\n"),
         (Event::Fet(0x0001_0020), b"7 fet:00010020\n"),
     ];

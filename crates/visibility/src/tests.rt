@@ -7,7 +7,7 @@ use rob_ring::RobRing;
 use rv_types::{Cause, Instr, NoMemory, Op, Reg, kind_of};
 use std::alloc::Global;
 use std::test::Fail;
-use window_model::{Entry, Item, Outcome, Progress};
+use window_model::{Entry, Item, Mark, Outcome, Progress};
 
 fn entry(serial: u64, instr: Instr, state: Progress, fault: Option<Cause>, resolved: bool) -> Entry
     ensures { result.serial ≡ serial }
@@ -26,6 +26,7 @@ fn entry(serial: u64, instr: Instr, state: Progress, fault: Option<Cause>, resol
             instr,
             kind: kind_of(&instr),
             predicted: Some(65540),
+            mark: Mark::default(),
         },
         state,
         outcome: Some(outcome),

@@ -1,11 +1,16 @@
 -- What Issue makes of an entry: it remains, or it begins, or a store's parts go; and what a load's access comes to.
-use Rattle.std.proofs.Common.{◌≡◌, ℕ, ◌+◌, ◌<◌, ◌≤◌, Bool, true, false, not, ◌&&◌, List, [], ◌∷◌, length, Option, Some, None, refl, sym, subst, ◌∙◌, arith}
+use Rattle.std.proofs.Common.{◌≡◌, ℕ, ◌+◌, ◌-◌, ◌<◌, ◌≤◌, Bool, true, false, not, ◌&&◌, List, [], ◌∷◌, length, Option, Some, None, refl, sym, subst, ◌∙◌, arith, length-append}
+use Rattle.std.proofs.Math.Nat.{div-mul-le_self, mul-le-mul_right}
+use Rattle.std.proofs.lemmas.Nat.{le-div}
 use Rattle.std.proofs.lemmas.Bool.Decides.{nat_tests}
 use Rattle.std.specs.List.{find}
-use Rattle.std.specs.Prelude.{if◌then◌else◌, nat_le, nat_lt, ◌==◌, map}
+use Rattle.std.specs.Prelude.{if◌then◌else◌, nat_le, nat_lt, ◌/◌, ◌==◌, map}
 use Rattle.rv_types.specs.Isa.{Effect}
 use Rattle.rv_types.specs.Memory.{load_fault}
 use Rattle.rv_types.specs.declared.Cause.{Cause}
+use Rattle.rv_types.specs.Value.{size_of}
+use Rattle.rv_types.specs.declared.Op.{Op}
+use Rattle.rv_types.specs.declared.Op.TheVariants.{Lw, Sw, Lh, Lhu, Sh}
 use Rattle.rv_types.specs.declared.Kind.{Kind}
 use Rattle.rv_types.specs.declared.Kind.TheVariants.{Load, Div}
 use Rattle.machine_desc.specs.declared.Desc.{Desc}
@@ -15,11 +20,11 @@ use Rattle.window_model.specs.declared.Progress.{Progress}
 use Rattle.window_model.specs.declared.Outcome.{Outcome}
 use Rattle.window_model.specs.declared.Miss.{Miss}
 use Rattle.window_model.specs.Around.{Around}
-use Rattle.window_model.specs.Retire.{has_line, width_of}
+use Rattle.window_model.specs.Retire.{has_line, op_of, width_of}
 use Rattle.window_model.specs.Order.{Place, each_from, is_waiting, is_load, is_store, has_address, has_data, is_known, all_known, ready, sources, base_of, others_of}
-use Rattle.window_model.specs.State.{Machine, line_of}
+use Rattle.window_model.specs.State.{Machine, line_of, lines_of}
 use Rattle.window_model.specs.Taint.{any_tainted, address_tainted}
-use Rattle.window_model.specs.Access.{Access, Faults, Forwards, Looks, Waits, Line, Hits, Joins, Takes, access_at, look_up, joined, taken_lines, unless_lacking, all_covered, any_store_hidden}
+use Rattle.window_model.specs.Access.{Access, Faults, Forwards, Looks, Waits, Line, Hits, Joins, Takes, Request, access_at, look_up, joined, request, request_by, requests, line_behind, prefetches, prefetched, unless_lacking, all_covered, any_store_hidden}
 use Rattle.window_model.specs.Issue.{Begun, Port, AluPort, AddressPort, DataPort, DivPort, LoadPort, issue_entry, issue_parts, issue_whole, may_issue, may_issue_as, goes_behind, is_whole, ready_part, part_may, begin_as, begun, busy_until_both, if_granted, data_events, with_address, with_data, load_as, access_of, effect_of, waits, is_division, is_granted, may_at, port_of, same_port, after_load}
 use Rattle.window_model.proofs.Booleans.{both, not_true}
 use Rattle.window_model.proofs.Counts.{Goes, goes_same, goes_then, Evolves}
@@ -134,7 +139,7 @@ pub data Comes (e r : Entry) : Type 0 where
 load_comes : (a : Access) (d : Desc) (now : Around) (e : Entry) (f : Effect) (v : ℕ) → Comes e (load_as a d now e f v).entry
 load_comes (Faults c) d now e f v = Begins _ _ refl
 load_comes Forwards d now e f v = Begins _ _ refl
-load_comes (Looks found) d now e f v = Begins _ _ refl
+load_comes (Looks found ahead) d now e f v = Begins _ _ refl
 load_comes Waits d now e f v = Remains refl
 
 pub begin_comes : (k : Kind) (d : Desc) (now : Around) (b : List Entry) (e : Entry) → Comes e (begin_as k d now b e).entry
@@ -214,58 +219,109 @@ issue_evolves d now b (e ∷ es) = (issue_goes d now b e, issue_evolves d now (e
 -- ---- what an access comes to
 
 -- what holds in each case of a line holds of it: a load joins a register that was found, and takes one where none was found
-module _ (d : Desc) (now : Around) (L : Line → Type 0)
-    (hits : (line : ℕ) → has_line d now.cache line ≡ true → L (Hits line))
-    (joins : (line : ℕ) (m : Miss) → find (λ m. m.line == line) now.misses ≡ Some m → L (Joins line m.due))
-    (takes : (line : ℕ) → find (λ m. m.line == line) now.misses ≡ None → L (Takes line)) where
-  by_register : (line : ℕ) (o : Option Miss) → find (λ m. m.line == line) now.misses ≡ o → L (joined line o)
-  by_register line (Some m) h = joins line m h
-  by_register line None h = takes line h
+module _ (d : Desc) (now : Around) (line : ℕ) (L : Line → Type 0)
+    (hits : has_line d now.cache line ≡ true → L (Hits line))
+    (joins : (m : Miss) → find (λ m. m.line == line) now.misses ≡ Some m → L (Joins line m.due))
+    (takes : find (λ m. m.line == line) now.misses ≡ None → L (Takes (request d now line))) where
+  by_register : (o : Option Miss) → find (λ m. m.line == line) now.misses ≡ o → L (joined d now line o)
+  by_register (Some m) h = joins m h
+  by_register None h = takes h
 
-  pub by_line : (line : ℕ) → L (look_up d now line)
-  by_line line = by_cache (has_line d now.cache line) refl
+  pub by_line : L (look_up d now line)
+  by_line = by_cache (has_line d now.cache line) refl
     where
-      by_cache : (b : Bool) → has_line d now.cache line ≡ b → L (if b then Hits line else joined line (find (λ m. m.line == line) now.misses))
-      by_cache true h = hits line h
-      by_cache false h = by_register line _ refl
+      by_cache : (b : Bool) → has_line d now.cache line ≡ b → L (if b then Hits line else joined d now line (find (λ m. m.line == line) now.misses))
+      by_cache true h = hits h
+      by_cache false h = by_register _ refl
 
--- and of an access without fault: its line is looked up where there is room for the register that it may take
+-- an access has one line, or two of which the first is the lower
+pub data OneOrTwo : List ℕ → Type 0 where
+  One : (line : ℕ) → OneOrTwo (line ∷ [])
+  Two : (low high : ℕ) → low < high → OneOrTwo (low ∷ high ∷ [])
+
+pub lines_are : (d : Desc) (a n : ℕ) → 0 < n → OneOrTwo (lines_of d a n)
+lines_are d a n some = by_same (line_of d a == line_of d (a + n - 1)) refl
+  where
+    first : a / d.cache_line ≤ (a + n - 1) / d.cache_line
+    first = let l = div-mul-le_self a d.cache_line in le-div (a / d.cache_line) (a + n - 1) d.cache_line (omega (arith, d.some_bytes)) (omega (arith, l, some))
+
+    up : line_of d a ≤ line_of d (a + n - 1)
+    up = mul-le-mul_right d.cache_line first
+
+    by_same : (b : Bool) → (line_of d a == line_of d (a + n - 1)) ≡ b → OneOrTwo (if b then line_of d a ∷ [] else line_of d a ∷ line_of d (a + n - 1) ∷ [])
+    by_same true h = One _
+    by_same false h = Two _ _ (grind (arith, nat_tests, up))
+
+-- at most one line a line looked up takes a register, and at most one is prefetched
+pub request_few : (l : Line) → length (request_by l) ≤ 1
+request_few (Hits line) = omega arith
+request_few (Joins line due) = omega arith
+request_few (Takes r) = omega arith
+
+pub requests_few : (found : List Line) → length (requests found) ≤ length found
+requests_few [] = omega arith
+requests_few (l ∷ found) =
+    let a = length-append (request_by l) (requests found) in let o = request_few l in let r = requests_few found in omega (arith, a, o, r)
+
+-- what holds of nothing holds of what is prefetched, if it holds of one line that lies in memory, for which no register waits
+-- and one is left
+pub by_prefetched : (d : Desc) (now : Around) (found : List Line) (P : List Request → Type 0) → P [] →
+    (line_behind d found < now.ram.base + length now.ram.bytes → length now.misses + length (requests found) < d.cache_mshrs →
+    find (λ m. m.line == line_behind d found) now.misses ≡ None → P (request d now (line_behind d found) ∷ [])) → P (prefetched d now found)
+by_prefetched d now found P none one = by_test (prefetches d now found) refl
+  where
+    by_test : (b : Bool) → prefetches d now found ≡ b → P (if b then request_by (look_up d now (line_behind d found)) else [])
+    by_test false h = none
+    by_test true h =
+        let p = both (d.cache_prefetch == 1 && nat_lt 0 (length (requests found)) && nat_lt (line_behind d found) (now.ram.base + length now.ram.bytes)) _ h in
+        let q = both (d.cache_prefetch == 1 && nat_lt 0 (length (requests found))) _ p.0 in
+        by_line d now (line_behind d found) (λ l. P (request_by l)) (λ c. none) (λ m c. none) (λ c. one (grind (arith, nat_tests, q)) (grind (arith, nat_tests, p)) c)
+
+-- an access has some bytes
+pub some_bytes : (op : Op) → 0 < size_of op
+some_bytes Lw = omega arith
+some_bytes Sw = omega arith
+some_bytes Lh = omega arith
+some_bytes Lhu = omega arith
+some_bytes Sh = omega arith
+some_bytes _ = omega arith
+
+-- the lines of an access as they are found
+abbrev pub looked : Desc → Around → ℕ → ℕ → List Line
+looked d now a n = map (look_up d now) (lines_of d a n)
+
+-- and of an access without fault: its lines are looked up where there is room for the registers that they take
 module _ (d : Desc) (now : Around) (P : Access → Type 0) (forwards : P Forwards)
-    (looks : (line : ℕ) → let l = look_up d now line in length now.misses + length (taken_lines (l ∷ [])) ≤ d.cache_mshrs → P (Looks (l ∷ [])))
-    (waits : d.cache_mshrs ≤ length now.misses → P Waits) where
-  few : (l : Line) → length (taken_lines (l ∷ [])) ≤ 1
-  few (Hits line) = omega arith
-  few (Joins line due) = omega arith
-  few (Takes line) = omega arith
-
-  by_lacking : (line : ℕ) → P (unless_lacking d now (look_up d now line ∷ []))
-  by_lacking line = by_room (nat_le (length now.misses + length (taken_lines (look_up d now line ∷ []))) d.cache_mshrs) refl
+    (looks : (a n : ℕ) → 0 < n → let found = looked d now a n in length now.misses + length (requests found) ≤ d.cache_mshrs → P (Looks found (prefetched d now found)))
+    (waits : (a n : ℕ) → 0 < n → d.cache_mshrs < length now.misses + length (requests (looked d now a n)) → P Waits) where
+  by_lacking : (a n : ℕ) → 0 < n → P (unless_lacking d now (looked d now a n))
+  by_lacking a n some = by_room (nat_le (length now.misses + length (requests (looked d now a n))) d.cache_mshrs) refl
     where
-      by_room : (b : Bool) → nat_le (length now.misses + length (taken_lines (look_up d now line ∷ []))) d.cache_mshrs ≡ b → P (if b then Looks (look_up d now line ∷ []) else Waits)
-      by_room true h = looks line (grind (arith, nat_tests))
-      by_room false h = let n = few (look_up d now line) in let more : d.cache_mshrs < length now.misses + length (taken_lines (look_up d now line ∷ [])) = grind (arith, nat_tests) in waits (omega (arith, n, more))
+      by_room : (b : Bool) → nat_le (length now.misses + length (requests (looked d now a n))) d.cache_mshrs ≡ b → P (if b then Looks (looked d now a n) (prefetched d now (looked d now a n)) else Waits)
+      by_room true h = looks a n some (grind (arith, nat_tests))
+      by_room false h = waits a n some (grind (arith, nat_tests))
 
-  pub by_served : (b : List Entry) (a n : ℕ) → P (access_at d now b a n None)
-  by_served b a n = if_then (all_covered b a n && not (any_store_hidden d.stt_model b))
+  pub by_served : (b : List Entry) (a n : ℕ) → 0 < n → P (access_at d now b a n None)
+  by_served b a n some = if_then (all_covered b a n && not (any_store_hidden d.stt_model b))
     where
-      if_then : (c : Bool) → P (if c then Forwards else unless_lacking d now (look_up d now (line_of d a) ∷ []))
+      if_then : (c : Bool) → P (if c then Forwards else unless_lacking d now (looked d now a n))
       if_then true = forwards
-      if_then false = by_lacking (line_of d a)
+      if_then false = by_lacking a n some
 
   -- and of a load's access, where it holds of a fault
   module _ (faults : (c : Cause) → P (Faults c)) where
-    by_fault : (b : List Entry) (a n : ℕ) (o : Option Cause) → P (access_at d now b a n o)
-    by_fault b a n (Some c) = faults c
-    by_fault b a n None = by_served b a n
+    by_fault : (b : List Entry) (a n : ℕ) (o : Option Cause) → 0 < n → P (access_at d now b a n o)
+    by_fault b a n (Some c) some = faults c
+    by_fault b a n None some = by_served b a n some
 
     pub by_load : (b : List Entry) (e : Entry) → P (access_of d now b e)
     by_load b e =
         let a = (effect_of now.regs b e).addr in
-        by_fault b a (width_of e) (load_fault now.ram a (width_of e))
+        by_fault b a (width_of e) (load_fault now.ram a (width_of e)) (some_bytes (op_of e.item.instr))
 
 -- ---- what a load leaves
 
--- what holds whatever the cache and the miss registers holds after the one load that is tried
-pub by_after_load : (d : Desc) (x : Machine) (P : Machine → Type 0) → ((cache : List (List ℕ)) (misses : List Miss) → P (record x { cache = cache; misses = misses })) → (o : Option Place) → P (after_load d o x)
-by_after_load d x P h None = h x.cache x.misses
-by_after_load d x P h (Some p) = h _ _
+-- what holds whatever the cache, the second level and the miss registers holds after the one load that is tried
+pub by_after_load : (d : Desc) (x : Machine) (P : Machine → Type 0) → ((cache second : List (List ℕ)) (misses : List Miss) → P (record x { cache = cache; second = second; misses = misses })) → (o : Option Place) → P (after_load d o x)
+by_after_load d x P h None = h x.cache x.second x.misses
+by_after_load d x P h (Some p) = h _ _ _

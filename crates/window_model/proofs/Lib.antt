@@ -18,4 +18,5 @@ pub mod Placing
 pub mod Leaving
 pub mod Walks
 pub mod Quiet
+pub mod Telling
 pub mod Together

@@ -42,7 +42,7 @@ resolve_quiet d x = resolve_keep d (Quiet x) (λ y p t q k. record { hart = k.ha
 pub issue_quiet : (d : Desc) (x : Machine) → Quiet x (issue d x).machine
 issue_quiet d x =
     by_after_load d x (λ y. (w : List Entry) (v : Divider) → Quiet x (record y { window = w; divider = v }))
-    (λ c m w v. record { hart = refl; retired = refl; ended = refl }) (first (may_at d (around x) LoadPort) x.window) _ _
+    (λ c s m w v. record { hart = refl; retired = refl; ended = refl }) (first (may_at d (around x) LoadPort) x.window) _ _
 
 pub rename_quiet : (d : Desc) (x : Machine) → Quiet x (rename d x).machine
 rename_quiet d x = rename_keep d (Quiet x) (λ y i rest q f k. record { hart = k.hart; retired = k.retired; ended = k.ended }) x (quiet_same x)

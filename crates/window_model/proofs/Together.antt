@@ -1,5 +1,5 @@
 -- In version 1 both parts of a store go in one cycle, in every state: they ask for their ports together, and so are granted them together.
-use Rattle.std.proofs.Common.{◌≡◌, ℕ, ◌+◌, Bool, true, false, not, ◌&&◌, ◌||◌, List, [], ◌∷◌, refl, ap, ap₂}
+use Rattle.std.proofs.Common.{◌≡◌, ℕ, ◌+◌, Bool, true, false, not, ◌&&◌, ◌||◌, List, [], ◌∷◌, refl, ap₂}
 use Rattle.std.specs.Prelude.{if◌then◌else◌, nat_lt, ◌==◌}
 use Rattle.rv_types.specs.Value.{one_if}
 use Rattle.rv_types.specs.declared.Kind.{Kind}
@@ -8,7 +8,7 @@ use Rattle.machine_desc.specs.declared.Desc.{Desc}
 use Rattle.window_model.specs.declared.Entry.{Entry}
 use Rattle.window_model.specs.Around.{Around}
 use Rattle.window_model.specs.Order.{is_store, has_address, has_data, ready, sources, base_of, others_of, all_known}
-use Rattle.window_model.specs.Issue.{AddressPort, DataPort, asking, is_granted, is_whole, may_at, may_issue, part_may, port_of, ports, ready_part, same_port}
+use Rattle.window_model.specs.Issue.{AddressPort, DataPort, asking, is_granted, may_at, may_issue, part_may, port_of, same_port}
 
 -- nothing in one piece asks for a port of stores
 no_store_port : (k : Kind) → (same_port (port_of k) AddressPort ≡ false) × (same_port (port_of k) DataPort ≡ false)

@@ -16,6 +16,7 @@ use Rattle.window_model.specs.State.{Miss, lines_of}
 use Rattle.window_model.specs.Around.{Around}
 use Rattle.window_model.specs.Order.{is_store, has_address}
 use Rattle.window_model.specs.Taint.{address_tainted}
+use Rattle.window_model.specs.SecondLevel.{second_has, second_touched}
 use Rattle.window_model.specs.Retire.{has_line, touched, addr_of, stored_of, width_of}
 
 -- an access of n bytes with this outcome reaches the byte at an address: it has no fault, and the byte is one of its own
@@ -51,42 +52,76 @@ any_store_hidden model (e ∷ before) = is_store e.item.kind && address_tainted 
 
 -- ---- what is found
 
+-- a line that takes a miss register, and whether it comes from memory or from the second level
+pub record Request : Type 0 where
+  pub line : ℕ
+  pub from_memory : Bool
+
 -- what one line comes to: the cache has it, a register waits for it until a cycle, or it takes a register
 pub data Line : Type 0 where
   Hits : ℕ → Line
   Joins : ℕ → ℕ → Line
-  Takes : ℕ → Line
+  Takes : Request → Line
 
--- what an access comes to: a fault, older stores have all its bytes, its lines, or too few registers for them
+-- what an access comes to: a fault, older stores have all its bytes, its lines and what is prefetched with them, or too few
+-- registers
 pub data Access : Type 0 where
   Faults : Cause → Access
   Forwards : Access
-  Looks : List Line → Access
+  Looks : List Line → List Request → Access
   Waits : Access
 
+-- a line that comes from the second level, where that has it
+abbrev pub request : Desc → Around → ℕ → Request
+request d now line = record { line = line; from_memory = not (second_has d now.second line) }
+
 -- a line that the cache lacks, by the register that waits for it, if one does
-abbrev pub joined : ℕ → Option Miss → Line
-joined line (Some m) = Joins line m.due
-joined line None = Takes line
+abbrev pub joined : Desc → Around → ℕ → Option Miss → Line
+joined d now line (Some m) = Joins line m.due
+joined d now line None = Takes (request d now line)
 
 -- a line
 abbrev pub look_up : Desc → Around → ℕ → Line
 look_up d now line =
-    if has_line d now.cache line then Hits line else joined line (find (λ m. m.line == line) now.misses)
+    if has_line d now.cache line then Hits line else joined d now line (find (λ m. m.line == line) now.misses)
 
 -- a line, if it takes a register
-abbrev pub taken_by : Line → List ℕ
-taken_by (Takes line) = line ∷ []
-taken_by _ = []
+abbrev pub request_by : Line → List Request
+request_by (Takes r) = r ∷ []
+request_by _ = []
 
 -- the lines that take registers
-abbrev pub taken_lines : List Line → List ℕ
-taken_lines found = flat_map taken_by found
+abbrev pub requests : List Line → List Request
+requests found = flat_map request_by found
 
--- where there are too few registers for them, none is looked up
+-- the line that was looked up
+abbrev pub line_at : Line → ℕ
+line_at (Hits line) = line
+line_at (Joins line due) = line
+line_at (Takes r) = r.line
+
+-- the line behind the last of these
+abbrev pub line_behind : Desc → List Line → ℕ
+line_behind d [] = 0
+line_behind d (l ∷ []) = line_at l + d.cache_line
+line_behind d (l ∷ found) = line_behind d found
+
+-- the line behind a load's is looked up as well: the load takes a register, the line begins in memory, and a register is left
+abbrev pub prefetches : Desc → Around → List Line → Bool
+prefetches d now found =
+    d.cache_prefetch == 1
+    && nat_lt 0 (length (requests found))
+    && nat_lt (line_behind d found) (now.ram.base + length now.ram.bytes)
+    && nat_lt (length now.misses + length (requests found)) d.cache_mshrs
+
+-- it is prefetched, if it takes that register
+abbrev pub prefetched : Desc → Around → List Line → List Request
+prefetched d now found = if prefetches d now found then request_by (look_up d now (line_behind d found)) else []
+
+-- where there are too few registers for a load's lines, none is looked up
 abbrev pub unless_lacking : Desc → Around → List Line → Access
 unless_lacking d now found =
-    if nat_le (length now.misses + length (taken_lines found)) d.cache_mshrs then Looks found else Waits
+    if nat_le (length now.misses + length (requests found)) d.cache_mshrs then Looks found (prefetched d now found) else Waits
 
 -- the first that holds: a fault, wholly forwarded, or its lines
 abbrev pub access_at : Desc → Around → List Entry → ℕ → ℕ → Option Cause → Access
@@ -101,27 +136,29 @@ access d now before a n = access_at d now before a n (load_fault now.ram a n)
 
 -- ---- when it is done, and its events
 
--- the line that was looked up
-abbrev pub line_at : Line → ℕ
-line_at (Hits line) = line
-line_at (Joins line due) = line
-line_at (Takes line) = line
+-- where a line comes from
+abbrev pub source_of : Request → Look
+source_of r = if r.from_memory then look.Miss else look.Second
 
--- where it was found
+-- where a line was found
 abbrev pub look_at : Line → Look
 look_at (Hits line) = look.Hit
 look_at (Joins line due) = look.Join
-look_at (Takes line) = look.Miss
+look_at (Takes r) = source_of r
 
--- a register that takes a line in this cycle
-abbrev pub register : Desc → ℕ → ℕ → Miss
-register d cycle line = record { line = line; due = cycle + d.cache_miss_latency }
+-- how long a line takes
+abbrev pub latency_of : Desc → Request → ℕ
+latency_of d r = if r.from_memory then d.cache_miss_latency else d.cache_second_latency
+
+-- a register that a line takes in this cycle
+abbrev pub register : Desc → ℕ → Request → Miss
+register d cycle r = record { line = r.line; due = cycle + latency_of d r; from_memory = r.from_memory }
 
 -- the cycle in which a line is there
 abbrev pub due_of : Desc → Around → Line → ℕ
 due_of d now (Hits line) = now.cycle + d.cache_hit_latency
 due_of d now (Joins line due) = due
-due_of d now (Takes line) = (register d now.cycle line).due
+due_of d now (Takes r) = (register d now.cycle r).due
 
 -- the latest of these cycles
 abbrev pub latest : List ℕ → ℕ
@@ -133,18 +170,24 @@ latest (due ∷ dues) = max due (latest dues)
 abbrev pub due_by : Desc → Around → List Line → ℕ
 due_by d now found = latest (map (due_of d now) found)
 
--- an event for each line
-abbrev pub look_events : ℕ → List Line → List Event
-look_events serial found = map (λ l. event.Ld serial (line_at l) (look_at l)) found
+-- an event for each line, and for what is prefetched
+abbrev pub look_events : ℕ → List Line → List Request → List Event
+look_events serial found ahead =
+    map (λ l. event.Ld serial (line_at l) (look_at l)) found ++ map (λ r. event.Pf r.line (source_of r)) ahead
 
 -- ---- what it leaves
 
--- each line moves to the front of its set, where the cache has it
+-- each line of the load moves to the front of its set, where the cache has it
 abbrev pub cache_after : Access → Desc → List (List ℕ) → List (List ℕ)
-cache_after (Looks found) d cache = fold (touched d) cache (map line_at found)
+cache_after (Looks found ahead) d cache = fold (touched d) cache (map line_at found)
 cache_after _ d cache = cache
+
+-- each line that takes a register moves to the front of its set, where the second level has it
+abbrev pub second_after : Access → Desc → List (List ℕ) → List (List ℕ)
+second_after (Looks found ahead) d second = fold (second_touched d) second (map (λ r. r.line) (requests found ++ ahead))
+second_after _ d second = second
 
 -- each line that takes a register has one
 abbrev pub misses_after : Access → Desc → ℕ → List Miss → List Miss
-misses_after (Looks found) d cycle misses = misses ++ map (register d cycle) (taken_lines found)
+misses_after (Looks found ahead) d cycle misses = misses ++ map (register d cycle) (requests found ++ ahead)
 misses_after _ d cycle misses = misses

@@ -3,12 +3,14 @@ use Rattle.std.specs.Prelude.{ℕ, Bool, nat_le, List}
 use Rattle.rv_types.specs.Memory.{Ram}
 use Rattle.window_model.specs.State.{Machine, Miss}
 
--- the cycle, registers and memory as retired, the cache, the miss registers, and from which cycle on the divider is free
+-- the cycle, registers and memory as retired, both levels of the cache, the miss registers, and from which cycle on the
+-- divider is free
 pub record Around : Type 0 where
   pub cycle : ℕ
   pub regs : List ℕ
   pub ram : Ram
   pub cache : List (List ℕ)
+  pub second : List (List ℕ)
   pub misses : List Miss
   pub free_from : ℕ
 
@@ -19,6 +21,7 @@ around x = record {
   regs = x.regs;
   ram = x.ram;
   cache = x.cache;
+  second = x.second;
   misses = x.misses;
   free_from = x.divider.free_from;
 }

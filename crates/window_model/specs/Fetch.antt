@@ -1,5 +1,5 @@
 -- The last phase: items are fetched (docs/machine.md, "Fetch").
-use Rattle.std.specs.Prelude.{ℕ, zero, suc, ◌+◌, ◌==◌, nat_lt, nat_le, List, [], ◌∷◌, ◌++◌, length, slice_index, slice_index_or, Option, Some, None, if◌then◌else◌}
+use Rattle.std.specs.Prelude.{ℕ, zero, suc, Bool, false, ◌==◌, nat_lt, nat_le, List, [], ◌∷◌, ◌++◌, length, slice_index, slice_index_or, Option, Some, None, if◌then◌else◌}
 use Rattle.rv_types.specs.Word.{word_add}
 use Rattle.rv_types.specs.Isa.{relative}
 use Rattle.rv_types.specs.Decode.{decode}
@@ -15,6 +15,8 @@ use Rattle.window_model.specs.declared.Event.TheVariants as event
 use Rattle.window_model.specs.declared.Item.{Item}
 use Rattle.window_model.specs.State.{Machine, After, then_does, nothing, Target}
 use Rattle.window_model.specs.Resolve.{index}
+use Rattle.window_model.specs.History.{counter_index, mark_after, returns_to}
+use Rattle.window_model.specs.declared.Mark.{Mark}
 
 -- the instruction of a word; outside code an illegal one
 abbrev pub instr_at : Option ℕ → Instr
@@ -37,25 +39,46 @@ abbrev pub stored_target : ℕ → Option Target → ℕ
 stored_target pc None = word_add pc 4
 stored_target pc (Some t) = if t.pc == pc then t.target else word_add pc 4
 
--- the next pc that is predicted, none after a stop
-abbrev pub predicted : Kind → Desc → List ℕ → List (Option Target) → ℕ → Instr → Option ℕ
-predicted (Stop cause) d counters targets pc i = None
-predicted Jal d counters targets pc i = Some (target_of pc i)
-predicted Branch d counters targets pc i =
-    Some (if nat_le 2 (slice_index counters (index pc d.predictor_counters)) then target_of pc i else word_add pc 4)
-predicted Jalr d counters targets pc i = Some (stored_target pc (slice_index_or targets (index pc d.predictor_btb) None))
-predicted _ d counters targets pc i = Some (word_add pc 4)
+-- the direction that is predicted: taken only of a branch, where the counter that its history gives it is 2 or 3
+abbrev pub guess : Kind → Desc → List ℕ → Mark → ℕ → Bool
+guess Branch d counters m pc = nat_le 2 (slice_index counters (counter_index d m pc))
+guess _ d counters m pc = false
+
+-- the address to which a return goes, else this one
+abbrev pub unless_returns : Option ℕ → ℕ → ℕ
+unless_returns None target = target
+unless_returns (Some back) target = back
+
+-- the next pc that is predicted, none after a stop, of a branch that is predicted to go this way
+abbrev pub predicted : Kind → Desc → List (Option Target) → Mark → Bool → ℕ → Instr → Option ℕ
+predicted (Stop cause) d targets m way pc i = None
+predicted Jal d targets m way pc i = Some (target_of pc i)
+predicted Branch d targets m way pc i = Some (if way then target_of pc i else word_add pc 4)
+predicted Jalr d targets m way pc i =
+    Some (unless_returns (returns_to i m) (stored_target pc (slice_index_or targets (index pc d.predictor_btb) None)))
+predicted _ d targets m way pc i = Some (word_add pc 4)
 
 -- the item of a pc
 abbrev pub item_at : Desc → Code → Machine → ℕ → Item
 item_at d code x pc =
     let w = code pc in
-    record { pc = pc; instr = instr_at w; kind = kind_at w; predicted = predicted (kind_at w) d x.counters x.targets pc (instr_at w) }
+    record {
+      pc = pc;
+      instr = instr_at w;
+      kind = kind_at w;
+      predicted = predicted (kind_at w) d x.targets x.mark (guess (kind_at w) d x.counters x.mark pc) pc (instr_at w);
+      mark = x.mark;
+    }
 
--- the item goes to the end of the queue, and fetching goes on at its predicted next
+-- history and stack after an item, by the predicted direction where it is a branch
+abbrev pub guessed_mark : Desc → List ℕ → Item → Mark
+guessed_mark d counters item =
+    mark_after item.kind d item.pc item.instr (guess item.kind d counters item.mark item.pc) item.mark
+
+-- the item goes to the end of the queue, and fetching goes on at its predicted next, with history and stack as they are after it
 abbrev pub fetch_one : Desc → Item → Machine → After
 fetch_one d item x = record {
-  machine = record x { queue = x.queue ++ item ∷ []; fetch_pc = item.predicted };
+  machine = record x { queue = x.queue ++ item ∷ []; fetch_pc = item.predicted; mark = guessed_mark d x.counters item };
   events = event.Fet item.pc ∷ [];
 }
 

@@ -9,7 +9,7 @@ use Rattle.rv_types.specs.Memory.{Ram, load_fault, store_fault, range}
 use Rattle.rv_types.specs.Path.{unless_fault}
 use Rattle.rv_types.specs.declared.Cause.{Cause}
 use Rattle.rv_types.specs.declared.Kind.{Kind}
-use Rattle.rv_types.specs.declared.Kind.TheVariants.{Mul, Div, Load, Store}
+use Rattle.rv_types.specs.declared.Kind.TheVariants.{Mul, Div, Load}
 use Rattle.machine_desc.specs.declared.Desc.{Desc}
 use Rattle.machine_desc.specs.declared.SttModel.{SttModel}
 use Rattle.window_model.specs.declared.Entry.{Entry}
@@ -23,7 +23,7 @@ use Rattle.window_model.specs.Around.{Around, around, is_free}
 use Rattle.window_model.specs.Order.{Place, first, each, is_waiting, is_done, is_store, has_address, has_data, operand, all_known, ready, sources, base_of, others_of}
 use Rattle.window_model.specs.Taint.{any_tainted, address_tainted}
 use Rattle.window_model.specs.Retire.{op_of, width_of}
-use Rattle.window_model.specs.Access.{Access, Faults, Forwards, Looks, Waits, access, cache_after, covers, due_by, load_bytes, look_events, misses_after}
+use Rattle.window_model.specs.Access.{Access, Faults, Forwards, Looks, Waits, access, cache_after, covers, due_by, load_bytes, look_events, misses_after, second_after}
 
 -- ---- operands
 
@@ -180,7 +180,7 @@ value_loaded ram before e a = extend (op_of e.item.instr) (from_le (load_bytes r
 abbrev pub load_as : Access → Desc → Around → Entry → Effect → ℕ → Begun
 load_as (Faults cause) d now e f v = begins e (now.cycle + 1) (outcome f 0 (Some cause)) (event.LdFault e.serial ∷ [])
 load_as Forwards d now e f v = begins e (now.cycle + 1) (outcome f v None) (event.LdForward e.serial ∷ [])
-load_as (Looks found) d now e f v = begins e (due_by d now found) (outcome f v None) (look_events e.serial found)
+load_as (Looks found ahead) d now e f v = begins e (due_by d now found) (outcome f v None) (look_events e.serial found ahead)
 load_as Waits d now e f v = waits e
 
 -- the access of a load
@@ -269,7 +269,7 @@ abbrev pub after_load : Desc → Option Place → Machine → Machine
 after_load d None x = x
 after_load d (Some p) x =
     let a = access_of d (around x) p.before p.entry in
-    record x { cache = cache_after a d x.cache; misses = misses_after a d x.cycle x.misses }
+    record x { cache = cache_after a d x.cache; second = second_after a d x.second; misses = misses_after a d x.cycle x.misses }
 
 -- a division
 abbrev pub is_division : Kind → Bool

@@ -1,8 +1,10 @@
 pub mod Sets
+pub mod History
 pub mod State
 pub mod Order
 pub mod Serials
 pub mod Taint
+pub mod SecondLevel
 pub mod Fill
 pub mod Resolve
 pub mod Retire

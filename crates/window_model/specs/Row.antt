@@ -41,13 +41,14 @@ most_done = most_entries
 abbrev pub most_resolved : ℕ
 most_resolved = 3
 
--- of Retire: two for each of four entries
+-- of Retire: one for each of four entries, and two of the one store that retires a cycle; a call has one more, and is alone
 abbrev pub most_retired : ℕ
-most_retired = 8
+most_retired = 6
 
--- of Issue: four arithmetic ones, a multiplication, a division, a load, and a store's address and data
+-- of Issue: four arithmetic ones, a multiplication, a division, a store's address and data, and of one load its two lines and
+-- the one that is prefetched
 abbrev pub most_issued : ℕ
-most_issued = 9
+most_issued = 11
 
 -- of Rename, and of Fetch: as many as are fetched in a cycle
 abbrev pub most_fetched : ℕ

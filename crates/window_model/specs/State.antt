@@ -1,5 +1,5 @@
 -- The machine's state: one list of instructions in program order, and what they share (docs/machine.md, "State").
-use Rattle.std.specs.Prelude.{ℕ, ◌*◌, ◌/◌, List, [], ◌∷◌, ◌++◌, replicate, Option, Some, None}
+use Rattle.std.specs.Prelude.{ℕ, ◌+◌, ◌-◌, ◌*◌, ◌/◌, ◌==◌, List, [], ◌∷◌, ◌++◌, replicate, Option, Some, None, if◌then◌else◌}
 use Rattle.rv_types.specs.Memory.{Ram}
 use Rattle.rv_types.specs.Isa.{start}
 use Rattle.rv_types.specs.declared.End.{End}
@@ -8,6 +8,8 @@ use Rattle.window_model.specs.declared.Entry.{Entry}
 use Rattle.window_model.specs.declared.Item.{Item}
 use Rattle.window_model.specs.declared.Event.{Event}
 use Rattle.window_model.specs.Sets.{set_in}
+use Rattle.window_model.specs.History.{no_mark}
+use Rattle.window_model.specs.declared.Mark.{Mark}
 pub use Rattle.window_model.specs.declared.Miss.{Miss}
 pub use Rattle.window_model.specs.declared.Target.{Target}
 pub use Rattle.window_model.specs.declared.Divider.{Divider}
@@ -26,8 +28,11 @@ pub record Machine : Type 0 where
   pub fetch_pc : Option ℕ
   pub counters : List ℕ
   pub targets : List (Option Target)
-  -- per set a list of lines, most recent first
+  -- history and return stack, as the next item comes to be fetched
+  pub mark : Mark
+  -- of each level, per set a list of lines, most recent first
   pub cache : List (List ℕ)
+  pub second : List (List ℕ)
   -- in the order of taking
   pub misses : List Miss
   pub divider : Divider
@@ -62,7 +67,9 @@ opening d entry ram =
       fetch_pc = Some entry;
       counters = replicate d.predictor_counters 1;
       targets = replicate d.predictor_btb None;
+      mark = no_mark;
       cache = replicate d.cache_sets [];
+      second = replicate d.cache_second_sets [];
       misses = [];
       divider = record { free_from = 0; user = None };
       retired = 0;
@@ -74,9 +81,13 @@ opening d entry ram =
 abbrev pub line_of : Desc → ℕ → ℕ
 line_of d a = a / d.cache_line * d.cache_line
 
--- the lines of an access of n bytes: an aligned one stays within the line in which it begins
+-- one line, or two, the lower first
+abbrev pub one_or_two : ℕ → ℕ → List ℕ
+one_or_two low high = if low == high then low ∷ [] else low ∷ high ∷ []
+
+-- the lines of an access of n bytes: those of its first and of its last byte
 abbrev pub lines_of : Desc → ℕ → ℕ → List ℕ
-lines_of d a n = line_of d a ∷ []
+lines_of d a n = one_or_two (line_of d a) (line_of d (a + n - 1))
 
 -- the set that a line belongs to
 abbrev pub set_of : Desc → ℕ → ℕ

@@ -1,23 +1,44 @@
 //! Values to fill free places with.
-ghost use Rattle.std.specs.Prelude.{◌≡◌, None, false};
+ghost use Rattle.std.specs.Prelude.{◌≡◌, None, false, true};
 ghost use Rattle.rv_types.specs.Causes.{illegal};
 ghost use Rattle.rv_types.specs.declared.Instr.TheVariants as instr;
 ghost use Rattle.rv_types.specs.declared.Kind.TheVariants as kind;
 ghost use Rattle.window_model.specs.declared.Progress.TheVariants as state;
+ghost use Rattle.window_model.specs.History.{no_mark};
 
-use crate::{Entry, Item, Miss, Progress};
+use crate::{Entry, Item, Mark, Miss, Progress, RETURNS_MAX};
 use rv_types::{Cause, Instr, Kind};
+
+impl Default for Mark {
+    /// No branch yet, and an empty stack.
+    fn default() -> Self
+        ensures { result ≡ no_mark }
+    {
+        Mark {
+            history: 0,
+            depth: 0,
+            addresses: [0; RETURNS_MAX],
+        }
+    }
+}
 
 impl Default for Item {
     /// A stop at address 0.
     fn default() -> Self
-        ensures { result ≡ record { pc = 0; instr = instr.Illegal 0; kind = kind.Stop illegal; predicted = None } }
+        ensures { result ≡ record {
+          pc = 0;
+          instr = instr.Illegal 0;
+          kind = kind.Stop illegal;
+          predicted = None;
+          mark = no_mark;
+        } }
     {
         Item {
             pc: 0,
             instr: Instr::Illegal(0),
             kind: Kind::Stop(Cause::illegal()),
             predicted: None,
+            mark: Mark::default(),
         }
     }
 }
@@ -27,7 +48,7 @@ impl Default for Entry {
     fn default() -> Self
         ensures { result ≡ record {
           serial = 0;
-          item = record { pc = 0; instr = instr.Illegal 0; kind = kind.Stop illegal; predicted = None };
+          item = record { pc = 0; instr = instr.Illegal 0; kind = kind.Stop illegal; predicted = None; mark = no_mark };
           state = state.Done;
           outcome = None;
           resolved = false;
@@ -50,8 +71,12 @@ impl Default for Entry {
 impl Default for Miss {
     /// A register for line 0.
     fn default() -> Self
-        ensures { result ≡ record { line = 0; due = 0 } }
+        ensures { result ≡ record { line = 0; due = 0; from_memory = true } }
     {
-        Miss { line: 0, due: 0 }
+        Miss {
+            line: 0,
+            due: 0,
+            from_memory: true,
+        }
     }
 }

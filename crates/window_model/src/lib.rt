@@ -17,9 +17,24 @@ mod position;
 mod row;
 
 pub use clocked::Clocked;
-pub use line::line_of;
+pub use line::{line_of, lines_of};
 pub use position::position_of;
 pub use row::{ROW_MAX, Row, empty_row};
+
+/// The most addresses that a return stack may hold.
+pub const RETURNS_MAX: usize = 16;
+
+/// Global history and return stack (`docs/machine.md`, "History and return stack"). The stack is the first `depth` of the
+/// addresses, youngest first; the others are 0.
+#[derive(Clone, Copy, Debug, PartialEq, Eq)]
+pub struct Mark {
+    /// The directions of the last branches, of the youngest in the lowest bit.
+    pub history: u32,
+    /// How many addresses are on the stack.
+    pub depth: u32,
+    /// The addresses.
+    pub addresses: [u32; RETURNS_MAX],
+}
 
 /// A fetched instruction (`docs/machine.md`, "State").
 #[derive(Clone, Copy, Debug, PartialEq, Eq)]
@@ -32,6 +47,8 @@ pub struct Item {
     pub kind: Kind,
     /// The address from which fetching went on. Only a stop has none.
     pub predicted: Option<u32>,
+    /// History and stack before it.
+    pub mark: Mark,
 }
 
 /// How far an instruction in flight is.
@@ -90,15 +107,17 @@ pub enum Way {
     Jump,
 }
 
-/// What a load found in the cache.
+/// Where a load found a line, or what is prefetched is found.
 #[derive(Clone, Copy, Debug, PartialEq, Eq)]
 pub enum Look {
     /// Its line.
     Hit,
-    /// Not its line: a miss register was taken for it.
+    /// Not its line, and no level has it: a miss register was taken for it.
     Miss,
     /// Not its line, but a miss register that waits for it.
     Join,
+    /// Not its line, but the second level has it: a miss register was taken for it.
+    Second,
 }
 
 /// What happened in a cycle (`docs/machine.md`, "Events"). A line is named by its first address, an entry by its serial.
@@ -118,7 +137,7 @@ pub enum Event {
     Sq(u32),
     /// An entry retired.
     Ret(u64),
-    /// A store wrote memory; its line, and whether the cache had it.
+    /// A store wrote memory; a line of it, and whether the cache had it.
     St(u64, u32, bool),
     /// A call took effect and put out so many bytes.
     Call(u64, u32),
@@ -132,12 +151,14 @@ pub enum Event {
     Agu(u64),
     /// A store's data part issued.
     Std(u64),
-    /// A load issued; its line, and what it found.
+    /// A load issued; a line of it, and where that was found.
     Ld(u64, u32, Look),
     /// A load issued whose bytes all come from older stores.
     LdForward(u64),
     /// A load issued that faults.
     LdFault(u64),
+    /// The line behind a load's is prefetched; where it was found.
+    Pf(u32, Look),
     /// The item of this address was renamed, with this serial.
     Ren(u64, u32),
     /// An instruction was fetched from this address.
@@ -162,6 +183,8 @@ pub struct Miss {
     pub line: u32,
     /// The cycle in which the line enters the cache and the register is free again.
     pub due: u64,
+    /// Whether the line comes from memory, and not from the second level.
+    pub from_memory: bool,
 }
 
 /// An entry of the table of targets.

@@ -1,6 +1,6 @@
 -- What has to be computed so that the machine agrees with a run.
 use Rattle.std.proofs.Common.{◌≡◌, ℕ, IsTrue, List, Ok, None}
-use Rattle.std.specs.Prelude.{flat_map}
+use Rattle.std.specs.Prelude.{◌==◌, flat_map}
 use Rattle.rv_types.specs.Memory.{Ram, zeros}
 use Rattle.rv_types.specs.Word.{to_le}
 use Rattle.machine_desc.specs.Description.{Contents, description_of, contents}
@@ -18,7 +18,7 @@ file_of run = flat_map (to_le 4) run.image
 
 -- the memory of a description before the image is loaded
 abbrev pub memory_of : Contents → Ram
-memory_of c = record { base = number_at c 17; bytes = zeros (number_at c 18) }
+memory_of c = record { base = number_at c 17; bytes = zeros (number_at c 18); misaligned = number_at c 19 == 1 }
 
 module _ (run : Run) (c : Contents) (fits : IsTrue (all_hold (tests c.version (number_at c)))) where
   pub agrees : description_of run.description ≡ Ok (contents (described c fits)) → header_fault (file_of run) ≡ None → ram_fault (file_of run) (memory_of c) ≡ None →
@@ -28,6 +28,6 @@ module _ (run : Run) (c : Contents) (fits : IsTrue (all_hold (tests c.version (n
     desc = described c fits;
     described = read;
     image = image_in (file_of run) (memory_of c);
-    loaded = image_without (file_of run) (number_at c 17) (number_at c 18) headers segments;
+    loaded = image_without (file_of run) (number_at c 17) (number_at c 18) (number_at c 19 == 1) headers segments;
     traced = same;
   }

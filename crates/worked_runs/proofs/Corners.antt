@@ -16,6 +16,8 @@ use Rattle.window_model.specs.declared.Event.TheVariants.{Res, Bp, Ret, St}
 use Rattle.window_model.specs.declared.Item.{Item}
 use Rattle.window_model.specs.declared.Progress.TheVariants.{Waiting, Done}
 use Rattle.window_model.specs.declared.Way.TheVariants.{Taken, Jump}
+use Rattle.window_model.specs.Sets.{is_in, moved_up, entered}
+use Rattle.window_model.specs.History.{no_mark}
 use Rattle.window_model.specs.State.{Machine, opening}
 use Rattle.window_model.specs.Access.{covers, load_bytes, any_store_hidden}
 use Rattle.window_model.specs.Rename.{fits}
@@ -28,7 +30,7 @@ use Rattle.window_model.proofs.Worked.{memory}
 
 -- the item of a word at 0x10000, predicted to go on behind it
 abbrev item_of : ℕ → Item
-item_of w = record { pc = 0x10000; instr = decode w; kind = kind_of (decode w); predicted = Some 0x10004 }
+item_of w = record { pc = 0x10000; instr = decode w; kind = kind_of (decode w); predicted = Some 0x10004; mark = no_mark }
 
 -- an entry that waits
 abbrev waiting : ℕ → ℕ → Entry
@@ -140,7 +142,7 @@ second_store_faults = refl
 
 -- of two loads that may issue only the older one is tried: with no register free, neither issues
 full_registers : (issue example (record (with_window (waiting 0 0x00814303 ∷ waiting 1 0x00012283 ∷ [])) {
-  misses = record { line = 0x10010; due = 9 } ∷ record { line = 0x10020; due = 9 } ∷ [];
+  misses = record { line = 0x10010; due = 9; from_memory = true } ∷ record { line = 0x10020; due = 9; from_memory = true } ∷ [];
 })).events ≡ []
 unfolding decode memory
 full_registers = refl
@@ -191,7 +193,7 @@ waiting_store_covers_nothing : covers 0 (waiting 0 0x00512223) ≡ false
 unfolding decode
 waiting_store_covers_nothing = refl
 
-load_behind_a_waiting_store : load_bytes (record { base = 0; bytes = 17 ∷ 34 ∷ 51 ∷ 68 ∷ [] }) (waiting 0 0x00512223 ∷ []) 0 4
+load_behind_a_waiting_store : load_bytes (record { base = 0; bytes = 17 ∷ 34 ∷ 51 ∷ 68 ∷ []; misaligned = false }) (waiting 0 0x00512223 ∷ []) 0 4
     ≡ 17 ∷ 34 ∷ 51 ∷ 68 ∷ []
 unfolding decode
 load_behind_a_waiting_store = refl
@@ -210,6 +212,21 @@ second_source_is_not = refl
 
 sign_is_copied : value Sra 0x80000000 4 ≡ 0xf8000000
 sign_is_copied = refl
+
+-- three lines enter a set of two ways, in turn: the first of them goes
+abbrev two_of_three : List (List ℕ)
+two_of_three = entered 2 (entered 2 (entered 2 ([] ∷ []) 0 0) 0 16) 0 32
+
+oldest_line_goes : is_in two_of_three 0 0 ≡ false
+oldest_line_goes = refl
+
+-- one that is used stays, and the other goes
+used_line_stays : entered 2 (moved_up two_of_three 0 16) 0 48 ≡ (48 ∷ 16 ∷ []) ∷ []
+used_line_stays = refl
+
+-- where there is no set no line enters, and none is there
+no_set_no_line : entered 2 [] 0 16 ≡ []
+no_set_no_line = refl
 
 -- a segment of four bytes at 4, of which the file has one
 abbrev segment : SegmentText

@@ -1,12 +1,12 @@
 -- The description that has these numbers.
-use Rattle.std.proofs.Common.{ℕ, zero, suc, ◌+◌, ◌%◌, ◌^◌, Bool, true, false, IsTrue, List, [], ◌∷◌, get_or, refl, eqb-true}
-use Rattle.std.specs.Prelude.{◌&&◌, ◌==◌, nat_le}
+use Rattle.std.proofs.Common.{ℕ, zero, suc, ◌+◌, ◌*◌, ◌%◌, ◌^◌, Bool, true, false, IsTrue, List, [], ◌∷◌, get_or, refl, eqb-true}
+use Rattle.std.specs.Prelude.{◌&&◌, ◌||◌, ◌==◌, nat_le}
 use Rattle.std.specs.Int.{is_power_of_two}
 use borrow.Author.Tests.{leb-true}
 use Rattle.machine_desc.specs.declared.Desc.{Desc}
 use Rattle.machine_desc.specs.Description.{Contents}
-use Rattle.machine_desc.specs.Version.{most, newest}
-use Rattle.machine_desc.proofs.Powers.{power_from_test}
+use Rattle.machine_desc.specs.Version.{most, newest, comes_between}
+use Rattle.machine_desc.proofs.Powers.{power_from_test, zero_or_power_from_test}
 
 -- all of these hold
 abbrev pub all_hold : List Bool → Bool
@@ -27,7 +27,8 @@ holds [] k h = refl
 holds (b ∷ more) zero h = by_head b more h
 holds (b ∷ more) (suc k) h = holds more k (by_tail b more h)
 
--- what each key asks of its number in a version, in the order of the keys, and that the version is known
+-- what each key asks of its number in a version, in the order of the keys, that the version is known, and what keys that may be
+-- left out ask
 abbrev pub tests : ℕ → (ℕ → ℕ) → List Bool
 tests version n =
     (nat_le 1 (n 0)) ∷ (nat_le (n 0) 4) ∷
@@ -51,6 +52,14 @@ tests version n =
     (nat_le 4096 (n 18)) ∷ (nat_le (n 18) 16777216) ∷ (n 18 % 16 == 0) ∷
     (nat_le (n 17 + n 18) (2 ^ 32)) ∷
     (nat_le 1 version) ∷ (nat_le version newest) ∷
+    (nat_le (n 19) (most 0 1 version)) ∷ (nat_le (2 * n 19) (n 16)) ∷
+    (nat_le (n 20) (most 0 12 version)) ∷
+    (nat_le (n 21) (most 0 16 version)) ∷
+    (nat_le (n 22) (most 0 1024 version)) ∷ (n 22 == 0 || is_power_of_two (n 22)) ∷
+    (nat_le 1 (n 23)) ∷ (nat_le (n 23) (most 1 8 version)) ∷
+    (nat_le 2 (n 24)) ∷ (nat_le (n 24) (most 2 100 version)) ∷
+    (comes_between (n 22) (n 14) (n 24) (n 15)) ∷
+    (nat_le (n 25) (most 0 1 version)) ∷
     []
 
 -- the number of a key, by its place
@@ -75,14 +84,21 @@ described c h =
       units_mul_latency = n 8;
       predictor_counters = n 9;
       predictor_btb = n 10;
+      predictor_history = n 20;
+      predictor_returns = n 21;
       cache_sets = n 11;
       cache_ways = n 12;
       cache_line = n 13;
       cache_hit_latency = n 14;
       cache_miss_latency = n 15;
       cache_mshrs = n 16;
+      cache_second_sets = n 22;
+      cache_second_ways = n 23;
+      cache_second_latency = n 24;
+      cache_prefetch = n 25;
       ram_base = n 17;
       ram_size = n 18;
+      ram_misaligned = n 19;
       stt_model = c.model;
       some_version = leb-true _ _ (t 44);
       known_version = leb-true _ _ (t 45);
@@ -130,4 +146,16 @@ described c h =
       small_ram = leb-true _ _ (t 41);
       size_aligned = eqb-true _ _ (t 42);
       ram_ends = leb-true _ _ (t 43);
+      few_misaligned = leb-true _ _ (t 46);
+      two_lines = leb-true _ _ (t 47);
+      short_history = leb-true _ _ (t 48);
+      few_returns = leb-true _ _ (t 49);
+      few_second_sets = leb-true _ _ (t 50);
+      second_sets_power = zero_or_power_from_test _ (t 51);
+      some_second_ways = leb-true _ _ (t 52);
+      few_second_ways = leb-true _ _ (t 53);
+      some_second_latency = leb-true _ _ (t 54);
+      short_second_latency = leb-true _ _ (t 55);
+      second_between = t 56;
+      few_prefetches = leb-true _ _ (t 57);
     }

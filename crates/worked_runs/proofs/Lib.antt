@@ -6,3 +6,4 @@ pub mod Corners
 pub mod Described
 pub mod Agreed
 pub mod Agreeing
+pub mod Marks

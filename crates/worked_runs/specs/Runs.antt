@@ -1,15 +1,35 @@
 -- Made by tools/evaluate/write: change what it reads, in tools/evaluate/runs, and run it again.
 use Rattle.std.specs.Prelude.{List, [], ◌∷◌}
 use Rattle.worked_runs.specs.Agreement.{Run}
+use Rattle.worked_runs.specs.AcrossTwoLines.{across_two_lines}
+use Rattle.worked_runs.specs.BranchToTheNext.{branch_to_the_next}
+use Rattle.worked_runs.specs.ByteAtItsEndCovered.{byte_at_its_end_covered}
+use Rattle.worked_runs.specs.CoveredLineIsAccessed.{covered_line_is_accessed}
 use Rattle.worked_runs.specs.FaultingLoad.{faulting_load}
 use Rattle.worked_runs.specs.FaultingStore.{faulting_store}
+use Rattle.worked_runs.specs.ForwardedAcrossLines.{forwarded_across_lines}
+use Rattle.worked_runs.specs.FoundInSecond.{found_in_second}
+use Rattle.worked_runs.specs.FullStack.{full_stack}
 use Rattle.worked_runs.specs.HalfIssued.{half_issued}
 use Rattle.worked_runs.specs.HalfIssuedData.{half_issued_data}
 use Rattle.worked_runs.specs.HiddenBase.{hidden_base}
+use Rattle.worked_runs.specs.HistoryAsFetched.{history_as_fetched}
+use Rattle.worked_runs.specs.JoinedLineTakesNoRegister.{joined_line_takes_no_register}
+use Rattle.worked_runs.specs.JumpThatLinksElsewhere.{jump_that_links_elsewhere}
+use Rattle.worked_runs.specs.JumpsLeaveHistory.{jumps_leave_history}
 use Rattle.worked_runs.specs.LargeWindow.{large_window}
 use Rattle.worked_runs.specs.LateAddress.{late_address}
 use Rattle.worked_runs.specs.LateData.{late_data}
 use Rattle.worked_runs.specs.LateDataVersion1.{late_data_version_1}
+use Rattle.worked_runs.specs.LaterOfTwoLines.{later_of_two_lines}
+use Rattle.worked_runs.specs.LevelsDropApart.{levels_drop_apart}
+use Rattle.worked_runs.specs.LinkThroughX1.{link_through_x1}
+use Rattle.worked_runs.specs.LinkingJump.{linking_jump}
+use Rattle.worked_runs.specs.LoadReachesBehindMemory.{load_reaches_behind_memory}
+use Rattle.worked_runs.specs.LoopByHistory.{loop_by_history}
+use Rattle.worked_runs.specs.LowerLineComesLater.{lower_line_comes_later}
+use Rattle.worked_runs.specs.MemoryAndSecond.{memory_and_second}
+use Rattle.worked_runs.specs.MisalignedRefused.{misaligned_refused}
 use Rattle.worked_runs.specs.Mixed1.{mixed_1}
 use Rattle.worked_runs.specs.Mixed2.{mixed_2}
 use Rattle.worked_runs.specs.Mixed3.{mixed_3}
@@ -18,10 +38,39 @@ use Rattle.worked_runs.specs.Mixed5.{mixed_5}
 use Rattle.worked_runs.specs.Mixed6.{mixed_6}
 use Rattle.worked_runs.specs.Mixed7.{mixed_7}
 use Rattle.worked_runs.specs.Mixed8.{mixed_8}
+use Rattle.worked_runs.specs.MixedAnyAddress1.{mixed_any_address_1}
+use Rattle.worked_runs.specs.MixedAnyAddress2.{mixed_any_address_2}
+use Rattle.worked_runs.specs.MixedHistory1.{mixed_history_1}
+use Rattle.worked_runs.specs.MixedHistory2.{mixed_history_2}
+use Rattle.worked_runs.specs.MixedMemory1.{mixed_memory_1}
+use Rattle.worked_runs.specs.MixedMemory2.{mixed_memory_2}
+use Rattle.worked_runs.specs.MixedSecondLevel1.{mixed_second_level_1}
+use Rattle.worked_runs.specs.MixedSecondLevel2.{mixed_second_level_2}
+use Rattle.worked_runs.specs.MixedTogether1.{mixed_together_1}
+use Rattle.worked_runs.specs.MixedTogether2.{mixed_together_2}
+use Rattle.worked_runs.specs.NextLineFetched.{next_line_fetched}
+use Rattle.worked_runs.specs.NoPrefetchBehindMemory.{no_prefetch_behind_memory}
+use Rattle.worked_runs.specs.NoPrefetchForAHit.{no_prefetch_for_a_hit}
+use Rattle.worked_runs.specs.NoPrefetchForAJoin.{no_prefetch_for_a_join}
+use Rattle.worked_runs.specs.NoPrefetchOfAHeldLine.{no_prefetch_of_a_held_line}
+use Rattle.worked_runs.specs.NoPrefetchOfAddress0.{no_prefetch_of_address_0}
+use Rattle.worked_runs.specs.NoPrefetchOnItsWay.{no_prefetch_on_its_way}
+use Rattle.worked_runs.specs.NoPrefetchWithoutRegister.{no_prefetch_without_register}
 use Rattle.worked_runs.specs.OneByte.{one_byte}
 use Rattle.worked_runs.specs.OnePortEach.{one_port_each}
 use Rattle.worked_runs.specs.PartlyCovered.{partly_covered}
 use Rattle.worked_runs.specs.PartsAlone.{parts_alone}
+use Rattle.worked_runs.specs.PrefetchAtTheEndOfMemory.{prefetch_at_the_end_of_memory}
+use Rattle.worked_runs.specs.PrefetchBehindBothLines.{prefetch_behind_both_lines}
+use Rattle.worked_runs.specs.PrefetchBehindTheLowerLine.{prefetch_behind_the_lower_line}
+use Rattle.worked_runs.specs.PrefetchFromSecond.{prefetch_from_second}
+use Rattle.worked_runs.specs.RecentInSecond.{recent_in_second}
+use Rattle.worked_runs.specs.RegistersForBothLines.{registers_for_both_lines}
+use Rattle.worked_runs.specs.ReturnByAnotherRegister.{return_by_another_register}
+use Rattle.worked_runs.specs.ReturnByStack.{return_by_stack}
+use Rattle.worked_runs.specs.ReturnFromNoCall.{return_from_no_call}
+use Rattle.worked_runs.specs.ReturnThatLinks.{return_that_links}
+use Rattle.worked_runs.specs.ReturnWithoutStack.{return_without_stack}
 use Rattle.worked_runs.specs.Run01.{run_01}
 use Rattle.worked_runs.specs.Run02.{run_02}
 use Rattle.worked_runs.specs.Run03.{run_03}
@@ -60,28 +109,59 @@ use Rattle.worked_runs.specs.Run35.{run_35}
 use Rattle.worked_runs.specs.Run36.{run_36}
 use Rattle.worked_runs.specs.Run37.{run_37}
 use Rattle.worked_runs.specs.Run38.{run_38}
+use Rattle.worked_runs.specs.SecondFilledAtFill.{second_filled_at_fill}
+use Rattle.worked_runs.specs.SetsOfSecond.{sets_of_second}
+use Rattle.worked_runs.specs.ShortHistory.{short_history}
+use Rattle.worked_runs.specs.SquashByHistory.{squash_by_history}
+use Rattle.worked_runs.specs.StackBehindASquash.{stack_behind_a_squash}
 use Rattle.worked_runs.specs.StoreBehindLoad.{store_behind_load}
+use Rattle.worked_runs.specs.StoreMovesBothLines.{store_moves_both_lines}
+use Rattle.worked_runs.specs.StoreMovesTheLowerLine.{store_moves_the_lower_line}
+use Rattle.worked_runs.specs.StorePassesSecond.{store_passes_second}
+use Rattle.worked_runs.specs.StoreReachesBehindMemory.{store_reaches_behind_memory}
 use Rattle.worked_runs.specs.StoreWithoutDataShadows.{store_without_data_shadows}
 use Rattle.worked_runs.specs.TaintedAddress.{tainted_address}
 use Rattle.worked_runs.specs.TaintedAddressFaultingLoad.{tainted_address_faulting_load}
 use Rattle.worked_runs.specs.TaintedAddressFaultingStore.{tainted_address_faulting_store}
 use Rattle.worked_runs.specs.TaintedAddressHidden.{tainted_address_hidden}
 use Rattle.worked_runs.specs.TaintedData.{tainted_data}
+use Rattle.worked_runs.specs.WaitingLoadMovesNothing.{waiting_load_moves_nothing}
+use Rattle.worked_runs.specs.WrongReturnPops.{wrong_return_pops}
 use Rattle.worked_runs.specs.YoungerAddress.{younger_address}
 use Rattle.worked_runs.specs.YoungerStore.{younger_store}
 
 -- the runs of the independent models
 abbrev pub runs : List Run
 runs =
+    across_two_lines ∷
+    branch_to_the_next ∷
+    byte_at_its_end_covered ∷
+    covered_line_is_accessed ∷
     faulting_load ∷
     faulting_store ∷
+    forwarded_across_lines ∷
+    found_in_second ∷
+    full_stack ∷
     half_issued ∷
     half_issued_data ∷
     hidden_base ∷
+    history_as_fetched ∷
+    joined_line_takes_no_register ∷
+    jump_that_links_elsewhere ∷
+    jumps_leave_history ∷
     large_window ∷
     late_address ∷
     late_data ∷
     late_data_version_1 ∷
+    later_of_two_lines ∷
+    levels_drop_apart ∷
+    link_through_x1 ∷
+    linking_jump ∷
+    load_reaches_behind_memory ∷
+    loop_by_history ∷
+    lower_line_comes_later ∷
+    memory_and_second ∷
+    misaligned_refused ∷
     mixed_1 ∷
     mixed_2 ∷
     mixed_3 ∷
@@ -90,10 +170,39 @@ runs =
     mixed_6 ∷
     mixed_7 ∷
     mixed_8 ∷
+    mixed_any_address_1 ∷
+    mixed_any_address_2 ∷
+    mixed_history_1 ∷
+    mixed_history_2 ∷
+    mixed_memory_1 ∷
+    mixed_memory_2 ∷
+    mixed_second_level_1 ∷
+    mixed_second_level_2 ∷
+    mixed_together_1 ∷
+    mixed_together_2 ∷
+    next_line_fetched ∷
+    no_prefetch_behind_memory ∷
+    no_prefetch_for_a_hit ∷
+    no_prefetch_for_a_join ∷
+    no_prefetch_of_a_held_line ∷
+    no_prefetch_of_address_0 ∷
+    no_prefetch_on_its_way ∷
+    no_prefetch_without_register ∷
     one_byte ∷
     one_port_each ∷
     partly_covered ∷
     parts_alone ∷
+    prefetch_at_the_end_of_memory ∷
+    prefetch_behind_both_lines ∷
+    prefetch_behind_the_lower_line ∷
+    prefetch_from_second ∷
+    recent_in_second ∷
+    registers_for_both_lines ∷
+    return_by_another_register ∷
+    return_by_stack ∷
+    return_from_no_call ∷
+    return_that_links ∷
+    return_without_stack ∷
     run_01 ∷
     run_02 ∷
     run_03 ∷
@@ -132,13 +241,24 @@ runs =
     run_36 ∷
     run_37 ∷
     run_38 ∷
+    second_filled_at_fill ∷
+    sets_of_second ∷
+    short_history ∷
+    squash_by_history ∷
+    stack_behind_a_squash ∷
     store_behind_load ∷
+    store_moves_both_lines ∷
+    store_moves_the_lower_line ∷
+    store_passes_second ∷
+    store_reaches_behind_memory ∷
     store_without_data_shadows ∷
     tainted_address ∷
     tainted_address_faulting_load ∷
     tainted_address_faulting_store ∷
     tainted_address_hidden ∷
     tainted_data ∷
+    waiting_load_moves_nothing ∷
+    wrong_return_pops ∷
     younger_address ∷
     younger_store ∷
     []

@@ -1,12 +1,9 @@
-use Rattle.std.proofs.Common.{rules}
-use Rattle.machine_desc.specs.Table.{row}
-use Rattle.machine_desc.specs.Clean.{PassesAs}
-use Rattle.machine_desc.specs.Description.{key_fault}
-use Rattle.machine_desc.proofs.Fitting.{fits_from_test}
+use Rattle.std.proofs.Common.{sym, subst}
+use Rattle.toml.specs.View.{table_view}
+use Rattle.machine_desc.specs.Ranges.{MayBe}
+use Rattle.machine_desc.proofs.Passing.{fits}
 use Rattle.machine_desc.proofs.read.clean_number.Goals as goal
 
 pub returns-clause-fits : goal.returns-clause-fits
-unfolding key_fault
 returns-clause-fits c =
-    let passes : PassesAs (row c.args.version c.args.key).values c.number.result = search rules in
-    fits_from_test (row c.args.version c.args.key).values c.number.result passes
+    subst (MayBe c.args.version c.args.key) (sym c.number.ensures) (fits c.args.version (table_view c.args.document.now) c.args.key c.requires.clean)

@@ -1,24 +1,23 @@
 use Rattle.std.proofs.Common.{ap, sym, ◌∙◌}
 use Rattle.std.specs.List.{position}
-use Rattle.std.specs.Option.{option_map}
 use Rattle.window_model.specs.Fill.{is_due}
 use Rattle.mshr_file.proofs.Places.{found, freed, not_found, not_freed}
 use Rattle.mshr_file.proofs.registers.free_due.Goals as goal
 
-pub returns-in-Some-clause-line : goal.returns-in-Some-clause-line
-returns-in-Some-clause-line c =
+pub returns-in-Some-clause-found : goal.returns-in-Some-clause-found
+returns-in-Some-clause-found c =
     let place = c.in-Some.ensures ∙ ap (position (is_due c.args.cycle)) c.as_slice.ensures.value in
-    sym (ap (option_map (λ m. m.line)) (found (is_due c.args.cycle) _ _ _ place c.remove.ensures.value))
+    sym (found (is_due c.args.cycle) _ _ _ place c.remove.ensures.value)
 
 pub returns-in-Some-clause-freed : goal.returns-in-Some-clause-freed
 returns-in-Some-clause-freed c =
     let place = c.in-Some.ensures ∙ ap (position (is_due c.args.cycle)) c.as_slice.ensures.value in
     c.remove.ensures.items ∙ freed (is_due c.args.cycle) _ _ place
 
-pub returns-in-None-clause-line : goal.returns-in-None-clause-line
-returns-in-None-clause-line c =
+pub returns-in-None-clause-found : goal.returns-in-None-clause-found
+returns-in-None-clause-found c =
     let none = c.in-None.ensures ∙ ap (position (is_due c.args.cycle)) c.as_slice.ensures.value in
-    sym (ap (option_map (λ m. m.line)) (not_found (is_due c.args.cycle) _ none))
+    sym (not_found (is_due c.args.cycle) _ none)
 
 pub returns-in-None-clause-freed : goal.returns-in-None-clause-freed
 returns-in-None-clause-freed c =

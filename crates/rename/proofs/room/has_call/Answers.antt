@@ -1,9 +1,9 @@
-use Rattle.std.proofs.Common.{sym, ◌∙◌}
-use Rattle.rename.proofs.Fitting.{call_is_oldest, none_is_oldest}
+use Rattle.std.proofs.Common.{ap, sym, ◌∙◌}
+use Rattle.rename.proofs.Fitting.{call_is_oldest, none_unless_one}
 use Rattle.rename.proofs.room.has_call.Goals as goal
 
-pub returns-then-len-eq0 : goal.returns-then-len-eq0
-returns-then-len-eq0 c = none_is_oldest _ (sym c.len.ensures.len ∙ c.if-len-eq0.true)
+pub returns-then-len-ne1 : goal.returns-then-len-ne1
+returns-then-len-ne1 c = none_unless_one _ c.requires (λ one. c.if-len-ne1.true (c.len.ensures.len ∙ one))
 
 pub returns : goal.returns
-returns c = c.is_call.ensures ∙ call_is_oldest _ c.at.result c.requires c.at.ensures
+returns c = c.is_call.ensures ∙ call_is_oldest _ c.lend.result.now c.requires c.lend.ensures

@@ -1,7 +1,7 @@
 -- At each exit no turn is left, and each turn of the loop is one head more.
 use Rattle.std.proofs.Common.{ap, sym, ◌∙◌, Some, arith}
 use Rattle.machine_desc.specs.declared.Desc.{Desc}
-use Rattle.retire.proofs.Leaving.{Over, ready, retires_start, retires_more, head_inside, over_last, over_waits, over_traps, over_ends}
+use Rattle.retire.proofs.Leaving.{Over, ready, retires_start, retires_more, head_inside, over_last, over_waits, over_traps, over_ends, tell_room}
 use Rattle.retire.proofs.phase.retire.Given as given
 use Rattle.retire.proofs.phase.retire.Goals as goal
 
@@ -26,6 +26,10 @@ pub returns-in-Waits-clause-may_retire : goal.returns-in-Waits-clause-may_retire
 returns-in-Waits-clause-may_retire g c =
     (over_waits _ _ _ _ _ c.loop.invariant (ready _ _ c.requires.empty c.requires.call_alone c.requires.stores_fit) (sym c.turn_at.ensures.turn ∙ c.in-Waits.is)).left.may_retire
 
+pub returns-in-Waits-clause-few : goal.returns-in-Waits-clause-few
+returns-in-Waits-clause-few g c =
+    (over_waits _ _ _ _ _ c.loop.invariant (ready _ _ c.requires.empty c.requires.call_alone c.requires.stores_fit) (sym c.turn_at.ensures.turn ∙ c.in-Waits.is)).few
+
 -- ---- it traps
 
 pub returns-in-Traps-clause-state : goal.returns-in-Traps-clause-state
@@ -44,7 +48,16 @@ pub returns-in-Traps-clause-may_retire : goal.returns-in-Traps-clause-may_retire
 returns-in-Traps-clause-may_retire g c =
     (over_traps _ _ _ _ _ _ _ c.loop.invariant (ready _ _ c.requires.empty c.requires.call_alone c.requires.stores_fit) c.loop-test.true (sym c.turn_at.ensures.turn ∙ c.in-Traps.is)).left.may_retire
 
+pub returns-in-Traps-clause-few : goal.returns-in-Traps-clause-few
+returns-in-Traps-clause-few g c =
+    (over_traps _ _ _ _ _ _ _ c.loop.invariant (ready _ _ c.requires.empty c.requires.call_alone c.requires.stores_fit) c.loop-test.true (sym c.turn_at.ensures.turn ∙ c.in-Traps.is)).few
+
 -- ---- it retires
+
+pub tell-requires-clause-room : goal.tell-requires-clause-room
+tell-requires-clause-room g c =
+    tell_room _ _ _ _ _ c.lend-head.result.now _ c.loop.invariant (ready _ _ c.requires.empty c.requires.call_alone c.requires.stores_fit) c.loop-test.true
+    (record { turn = sym c.turn_at.ensures.turn ∙ c.in-Leaves.is; head = c.lend-head.ensures }) (c.commit-ended.ensures.told c.args.desc.now c.loop.tags) c.requires.room
 
 pub tell-requires-clause-sets : goal.tell-requires-clause-sets
 tell-requires-clause-sets g c = ap (λ (d : Desc). d.cache_sets) c.loop.invariant.left.desc ∙ c.requires.sets
@@ -53,7 +66,7 @@ pub tell-requires-clause-line : goal.tell-requires-clause-line
 tell-requires-clause-line g c = ap (λ (d : Desc). d.cache_line) c.loop.invariant.left.desc ∙ c.requires.line
 
 pub commit-ended-requires-clause-inside : goal.commit-ended-requires-clause-inside
-commit-ended-requires-clause-inside g c = head_inside _ _ _ _ c.loop.invariant.stores (record { turn = sym c.turn_at.ensures.turn ∙ c.in-Leaves.is; head = c.at-head.ensures })
+commit-ended-requires-clause-inside g c = head_inside _ _ _ _ c.loop.invariant.stores (record { turn = sym c.turn_at.ensures.turn ∙ c.in-Leaves.is; head = c.lend-head.ensures })
 
 -- and ends the run
 ends : (g : given.Over) (c : goal.In-Some g) → Over c.args.desc.now
@@ -61,7 +74,7 @@ ends : (g : given.Over) (c : goal.In-Some g) → Over c.args.desc.now
     (Some c.in-Some.end)
     (record { rob = c.take_out.new.rob; writes = g.R.RenameTaint.writes c.take_out.new.table; table_room = g.R.RenameTaint.room c.take_out.new.table; queues = c.take_out.new.lsq; tags = c.tell.new.tags; ram = c.commit-ended.new.ram; regs = c.commit-ended.new.regs; pc = c.commit-ended.new.pc; row = c.tell.new.row; piece = c.commit-ended.new.piece })
 ends g c =
-    over_ends _ _ _ _ _ _ c.at-head.result _ _ c.loop.invariant (ready _ _ c.requires.empty c.requires.call_alone c.requires.stores_fit) c.loop-test.true (record { turn = sym c.turn_at.ensures.turn ∙ c.in-Leaves.is; head = c.at-head.ensures })
+    over_ends _ _ _ _ _ _ c.lend-head.result.now _ _ c.loop.invariant (ready _ _ c.requires.empty c.requires.call_alone c.requires.stores_fit) c.loop-test.true (record { turn = sym c.turn_at.ensures.turn ∙ c.in-Leaves.is; head = c.lend-head.ensures })
     (record {
       rob = c.take_out.ensures.rob;
       table = c.take_out.ensures.table;
@@ -74,7 +87,6 @@ ends g c =
       piece = c.commit-ended.ensures.piece c.args.desc.now c.loop.tags;
       desc = c.tell.ensures.desc;
       shape = c.commit-ended.ensures.shape;
-      few = c.tell.ensures.few;
     })
     c.in-Some.is
 
@@ -86,6 +98,9 @@ returns-in-Some-clause-row g c = (ends g c).row
 
 pub returns-in-Some-clause-piece : goal.returns-in-Some-clause-piece
 returns-in-Some-clause-piece g c = (ends g c).piece
+
+pub returns-in-Some-clause-few : goal.returns-in-Some-clause-few
+returns-in-Some-clause-few g c = (ends g c).few
 
 pub returns-in-Some-clause-left : goal.returns-in-Some-clause-left
 returns-in-Some-clause-left g c = (ends g c).left.window
@@ -102,7 +117,7 @@ returns-in-Some-clause-lsq g c = (ends g c).left.queues
 -- and the run goes on
 pub loop-preserved : goal.loop-preserved
 loop-preserved g c =
-    retires_more _ _ _ _ _ _ c.at-head.result _ _ c.loop.invariant c.loop-test.true (record { turn = sym c.turn_at.ensures.turn ∙ c.in-Leaves.is; head = c.at-head.ensures })
+    retires_more _ _ _ _ _ _ c.lend-head.result.now _ _ c.loop.invariant c.loop-test.true (record { turn = sym c.turn_at.ensures.turn ∙ c.in-Leaves.is; head = c.lend-head.ensures })
     (record {
       rob = c.take_out.ensures.rob;
       table = c.take_out.ensures.table;
@@ -115,7 +130,6 @@ loop-preserved g c =
       piece = c.commit-ended.ensures.piece c.args.desc.now c.loop.tags;
       desc = c.tell.ensures.desc;
       shape = c.commit-ended.ensures.shape;
-      few = c.tell.ensures.few;
     })
     c.in_default.is
     c.has_stored-stored.ensures
@@ -124,3 +138,6 @@ loop-preserved g c =
 
 pub returns-clause-may_retire : goal.returns-clause-may_retire
 returns-clause-may_retire g c = (over_last _ _ _ _ _ c.loop.invariant (ready _ _ c.requires.empty c.requires.call_alone c.requires.stores_fit) (omega arith)).left.may_retire
+
+pub returns-clause-few : goal.returns-clause-few
+returns-clause-few g c = (over_last _ _ _ _ _ c.loop.invariant (ready _ _ c.requires.empty c.requires.call_alone c.requires.stores_fit) (omega arith)).few

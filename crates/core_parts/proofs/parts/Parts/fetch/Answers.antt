@@ -3,10 +3,10 @@ use Rattle.core_parts.proofs.Fetched.{fetch_whole, fetch_shown, fetch_row}
 use Rattle.core_parts.proofs.parts.Parts.fetch.Goals as goal
 
 pub invariant_of-self : goal.invariant_of-self
-invariant_of-self g c = fetch_whole (word_at c.self.inside.code) _ _ c.self.invariant c.fetch.ensures.machine c.fetch.ensures.desc
+invariant_of-self g c = fetch_whole (word_at c.self.inside.code) _ _ _ c.self.invariant c.fetch.ensures.machine c.fetch.ensures.desc c.fetch.ensures.history_desc
 
 pub returns-clause-machine : goal.returns-clause-machine
-returns-clause-machine g c = fetch_shown _ c.fetch.new.self _ c.self.invariant c.fetch.ensures.machine c.self.view_is
+returns-clause-machine g c = fetch_shown _ c.fetch.new.self c.fetch.new.history _ c.self.invariant c.fetch.ensures.machine c.self.view_is
 
 pub returns-clause-row : goal.returns-clause-row
 returns-clause-row g c = fetch_row _ _ _ _ c.self.invariant c.fetch.ensures.row c.self.view_is

@@ -4,15 +4,21 @@ use Rattle.fetch_unit.proofs.Fetching.{fetches_start, fetches_more, over_early}
 use Rattle.fetch_unit.proofs.unit.Fetch.fetch.Goals as goal
 
 pub loop-init : goal.loop-init
-loop-init c = fetches_start _ _ _ _
+loop-init c = fetches_start _ _ _ _ _
+
+pub item_at-item-requires : goal.item_at-item-requires
+item_at-item-requires c = record { one_description = c.requires.one_description ∙ sym c.requires.of_history ∙ sym c.loop.invariant.past_desc }
+
+pub guess-requires : goal.guess-requires
+guess-requires c = record { one_description = c.requires.one_description ∙ sym c.requires.of_history ∙ sym c.loop.invariant.past_desc }
 
 pub loop-preserved : goal.loop-preserved
 loop-preserved c =
-    fetches_more _ _ _ _ _ _ _ _ _ _ _ c.loop.invariant (let e = ap (λ (f : FetchUnit). f.desc.core_fetch_width) c.self.view_is in omega (arith, e, c.loop-test.true))
-    (sym c.next.ensures ∙ c.in-Some.is) c.requires.one_description c.item_at.ensures c.add.ensures c.push.ensures
+    fetches_more _ _ _ _ _ _ _ _ _ _ _ _ _ _ _ c.loop.invariant (let e = ap (λ (f : FetchUnit). f.desc.core_fetch_width) c.self.view_is in omega (arith, e, c.loop-test.true))
+    (sym c.next.ensures ∙ c.in-Some.is) c.requires.of_history c.item_at-item.ensures c.guess.ensures c.add.ensures c.follow.ensures c.push.ensures
 
 pub returns-in_default-clause-machine : goal.returns-in_default-clause-machine
-returns-in_default-clause-machine c = (over_early _ _ _ _ _ _ _ c.loop.invariant (sym c.next.ensures ∙ c.in_default.is)).machine
+returns-in_default-clause-machine c = (over_early _ _ _ _ _ _ _ _ _ c.loop.invariant (sym c.next.ensures ∙ c.in_default.is)).machine
 
 pub returns-in_default-clause-row : goal.returns-in_default-clause-row
-returns-in_default-clause-row c = (over_early _ _ _ _ _ _ _ c.loop.invariant (sym c.next.ensures ∙ c.in_default.is)).row
+returns-in_default-clause-row c = (over_early _ _ _ _ _ _ _ _ _ c.loop.invariant (sym c.next.ensures ∙ c.in_default.is)).row

@@ -1,106 +1,95 @@
-use Rattle.std.proofs.Common.{◌≡◌, ◌≤◌, ◌++◌, length, ap, sym, ◌∙◌, arith, refl, Some}
+use Rattle.std.proofs.Common.{◌≡◌, ◌+◌, ◌≤◌, length, ap, subst, sym, ◌∙◌, arith, refl, Some}
 use Rattle.std.specs.Option.{option_map}
-use Rattle.window_model.specs.Issue.{issue_entry}
-use Rattle.window_model.specs.Row.{Row}
+use Rattle.stations.specs.Stations.{MarksAble}
 use Rattle.issue.specs.Accesses.{as_access}
-use Rattle.window_model.specs.Order.{before_at}
-use Rattle.issue.specs.State.{around_of, here, parts_of, window_of}
-use Rattle.issue.proofs.Noting.{as_many_events, as_many_puts, only_both, row_is}
-use Rattle.issue.proofs.Asking.{not_able}
-use Rattle.issue.proofs.Testing.{able_is}
-use Rattle.issue.proofs.Waiting.{all_wait, at_end, at_next, goes_on, waits_at}
-use Rattle.issue.proofs.Walking.{decided_all, decided_more, keeps, left_on, walked_none, walked_past}
+use Rattle.issue.proofs.Skipping.{one_unable, unable_by}
+use Rattle.issue.proofs.Stepping.{WalksAll, left_here, walks_on, walks_out, walks_past}
+use Rattle.issue.proofs.Walking.{walked_none}
 use Rattle.issue.proofs.seen.Seen.decide.Goals as goal
 
 pub loop-station-init : goal.loop-station-init
 loop-station-init c =
-    let s = c.args.self.now in
     let nothing = c.requires.nothing in
     let none = ap length nothing.puts in
     let few = c.requires.few in
+    let events = c.requires.events in
     record {
-      walked = walked_none s c.args.ports.now _ _ _ nothing.puts (ap (option_map as_access) nothing.load) c.requires.left;
-      only = record { alus = refl; cycle = refl };
-      few = omega (arith, none, few);
-      room = omega (arith, few);
-      cycle = refl;
+      walks = record {
+        walked = walked_none c.args.self.now c.args.ports.now _ _ _ nothing.puts (ap (option_map as_access) nothing.load) c.requires.left;
+        only = record { alus = refl; cycle = refl };
+        few = omega (arith, none, few);
+        room = omega (arith, events);
+        cycle = refl;
+      };
+      marks = c.able_marks-marks.ensures;
     }
 
-pub loop-station-preserved-then-not-able : goal.loop-station-preserved-then-not-able
-loop-station-preserved-then-not-able c =
-    let s = c.args.self.now in
-    let t = c.loop-station.invariant in
-    let stands = c.requires.stands in
-    let len : c.len-station-end.result ≡ length s.stations.now.held = c.len-station-end.ensures.len in
+pub is_marked-requires-clause-marks : goal.is_marked-requires-clause-marks
+is_marked-requires-clause-marks c = c.loop-station.invariant.marks
+
+-- ---- one that may not issue
+
+pub loop-station-preserved-then-not-is_marked : goal.loop-station-preserved-then-not-is_marked
+loop-station-preserved-then-not-is_marked c =
+    let k = c.loop-station.station in
+    let len : c.len-station-end.result ≡ length c.args.self.now.stations.now.held = c.len-station-end.ensures.len in
     let in_range = c.loop-station-test.true in
-    let w = waits_at (parts_of stands.next stands.writes s) stands.parts c.loop-station.station (omega (arith, len, in_range)) in
-    let at = w.1 in
-    let is = able_is s w.0 at.entry stands at.is c.loop-station.station c.able.result at.waits (sym at.station) c.able.ensures in
-    let none = not_able s.desc.now (around_of s) (before_at (window_of s) w.0) at.entry at.waits (sym is ∙ c.if-not-able.true) in
     record {
-      walked = goes_on _ _ (window_of s) c.loop-station.station w.0 at.entry (keeps s c.loop-station.ports _ _ _ _ _ c.requires.stands) t.walked at.is at.waits at.station
-          (walked_past s c.loop-station.ports _ _ _ _ _ stands w.0 at.entry at.is none);
-      only = t.only;
-      few = t.few;
-      room = t.room;
-      cycle = t.cycle;
+      walks = walks_past c.args.self.now _ _ _ _ _ c.requires.stands k (k + 1) (omega arith) (omega (arith, len, in_range))
+          (one_unable c.args.self.now.stations.now.held k (c.is_marked.ensures ∙ ap Some c.if-not-is_marked.true)) c.loop-station.invariant.walks;
+      marks = λ i s low is. c.loop-station.invariant.marks i s (omega (arith, low)) is;
     }
+
+-- ---- one that has its turn
 
 pub place_at-place-requires-clause-able : goal.place_at-place-requires-clause-able
-place_at-place-requires-clause-able c = c.able.ensures ∙ ap Some c.if-not-able.false
+place_at-place-requires-clause-able c = c.is_marked.ensures ∙ ap Some c.if-not-is_marked.false
 
 pub decide_entry-requires-clause-left : goal.decide_entry-requires-clause-left
 decide_entry-requires-clause-left c =
-    let s = c.args.self.now in
-    let p = c.place_at-place.result in
-    let turn = c.place_at-place.ensures.turn in
-    let at = sym turn.station ∙ c.place_at-place.ensures.station in
-    (at_next _ (window_of s) c.loop-station.station p.position p.entry.now (keeps s c.loop-station.ports _ _ _ _ _ c.requires.stands) c.loop-station.invariant.walked turn.at turn.waits at).left
+    left_here c.args.self.now _ _ _ _ _ c.requires.stands c.loop-station.station c.place_at-place.result c.place_at-place.ensures.turn c.place_at-place.ensures.station c.loop-station.invariant.walks
 
 pub loop-station-preserved : goal.loop-station-preserved
-loop-station-preserved c =
-    let s = c.args.self.now in
-    let p = c.place_at-place.result in
-    let i = p.position in
-    let e = p.entry.now in
-    let turn = c.place_at-place.ensures.turn in
-    let at = sym turn.station ∙ c.place_at-place.ensures.station in
-    let t = c.loop-station.invariant in
-    let b = here issue_entry s p in
-    let events : c.decide_entry.new.row.events ≡ c.loop-station.row.events ++ b.events = ap (λ (r : Row). r.events) c.decide_entry.ensures.row_is in
-    let puts = as_many_puts c.loop-station.decided.puts.items c.decide_entry.new.decided.puts.items i p.station b c.decide_entry.ensures.puts in
-    let more = as_many_events c.loop-station.row.events c.decide_entry.new.row.events b events in
-    let fewer = c.decide_entry.ensures.fewer in
-    let few = t.few in
-    let room = t.room in
-    record {
-      walked = goes_on _ _ (window_of s) c.loop-station.station i e (keeps s c.loop-station.ports _ _ _ _ _ c.requires.stands) t.walked turn.at turn.waits at (λ walked. record {
-        decided = decided_more s i e c.requires.stands turn.at p.station _ _ _ _ _ _ _ _ _ _ turn.station c.decide_entry.ensures.puts events c.decide_entry.ensures.load
-            c.decide_entry.ensures.divider walked.decided;
-        left = left_on s i e c.requires.stands turn.at _ c.decide_entry.ensures.left;
-      });
-      only = only_both _ _ _ t.only c.decide_entry.ensures.only;
-      few = omega (arith, puts, fewer, few);
-      room = omega (arith, more, fewer, room);
-      cycle = ap (λ (r : Row). r.cycle) c.decide_entry.ensures.row_is ∙ t.cycle;
-    }
+loop-station-preserved c = record {
+  walks = walks_on c.args.self.now _ _ _ _ _ c.requires.stands c.loop-station.station c.place_at-place.result _ _ _ c.place_at-place.ensures.turn c.place_at-place.ensures.station c.decide_entry.ensures c.loop-station.invariant.walks;
+  marks = c.passed-marks.ensures.later;
+}
 
-pub returns : goal.returns
-returns c =
+-- ---- none is left
+
+out : (c : goal.Then-marks-eq0) → WalksAll c.args.self.now c.args.ports.now c.decide_entry.new.ports c.decide_entry.new.decided c.args.row.now c.decide_entry.new.row
+out c =
     let s = c.args.self.now in
-    let t = c.loop-station.invariant in
+    let k = c.loop-station.station in
+    let held = s.stations.now.held in
+    let len : c.len-station-end.result ≡ length held = c.len-station-end.ensures.len in
+    let in_range = c.loop-station-test.true in
     let stands = c.requires.stands in
-    let len : c.len-station-end.result ≡ length s.stations.now.held = c.len-station-end.ensures.len in
+    let none = subst (λ marks. MarksAble held (k + 1) marks) c.if-marks-eq0.true c.passed-marks.ensures.later in
+    let on = walks_on s _ _ _ _ _ stands k c.place_at-place.result _ _ _ c.place_at-place.ensures.turn c.place_at-place.ensures.station c.decide_entry.ensures c.loop-station.invariant.walks in
+    walks_out s _ _ _ _ _ stands (length held) refl
+    (walks_past s _ _ _ _ _ stands (k + 1) (length held) (omega (arith, len, in_range)) (omega arith) (λ j low high. unable_by held (k + 1) j none low high) on)
+
+pub returns-then-marks-eq0-clause-decides : goal.returns-then-marks-eq0-clause-decides
+returns-then-marks-eq0-clause-decides c = (out c).decides
+
+pub returns-then-marks-eq0-clause-puts : goal.returns-then-marks-eq0-clause-puts
+returns-then-marks-eq0-clause-puts c = (out c).puts
+
+pub returns-then-marks-eq0-clause-row : goal.returns-then-marks-eq0-clause-row
+returns-then-marks-eq0-clause-row c = (out c).row
+
+-- ---- all are passed
+
+at_last : (c : goal.After-loop-station) → WalksAll c.args.self.now c.args.ports.now c.loop-station.ports c.loop-station.decided c.args.row.now c.loop-station.row
+at_last c =
+    let len : c.len-station-end.result ≡ length c.args.self.now.stations.now.held = c.len-station-end.ensures.len in
     let end : c.len-station-end.result ≤ c.loop-station.station = c.loop-station-test.false in
     let up_to : c.loop-station.station ≤ c.len-station-end.result = c.loop-station.auto.station-end in
-    let room = t.room in
-    let many = all_wait (parts_of stands.next stands.writes s) stands.parts in
-    let walked = at_end _ (window_of s) c.loop-station.station (keeps s c.loop-station.ports _ _ _ _ _ c.requires.stands) t.walked (omega (arith, many, len, end, up_to)) in
-    let all = decided_all s (length (window_of s)) c.loop-station.decided _ _ _ _ (omega arith) walked.decided in
-    record {
-      decides = all.decides;
-      puts = all.puts_are;
-      row = row_is c.args.row.now c.loop-station.row _ t.cycle all.events_are;
-      only = t.only;
-      few = omega (arith, room);
-    }
+    walks_out c.args.self.now _ _ _ _ _ c.requires.stands c.loop-station.station (omega (arith, len, end, up_to)) c.loop-station.invariant.walks
+
+pub returns-clause-decides : goal.returns-clause-decides
+returns-clause-decides c = (at_last c).decides
+
+pub returns-clause-row : goal.returns-clause-row
+returns-clause-row c = (at_last c).row

@@ -1,10 +1,21 @@
-use Rattle.std.proofs.Common.{◌∙◌, ap, ap₂}
+use Rattle.std.proofs.Common.{◌∙◌, ap, ap₂, arith}
 use Rattle.rv_types.specs.Value.{extend, size_of}
 use Rattle.visibility.specs.Point.{is_hidden}
+use Rattle.window_model.proofs.Memory.{inside}
 use Rattle.issue.specs.Accesses.{found}
 use Rattle.issue.specs.State.{around_of}
 use Rattle.issue.proofs.Bytes.{forwarded_is, number_is}
 use Rattle.issue.proofs.seen.Seen.load_sound.Goals as goal
+
+pub find-requires-clause-within : goal.find-requires-clause-within
+find-requires-clause-within c =
+    let s = c.args.self.now in
+    let t = c.requires.turn.stands in
+    let within = (inside _ _ s.ram.now c.args.addr _ c.requires.sound).1 in
+    let bytes = c.bytes.ensures.value in
+    let end = t.memory in
+    let low = t.low in
+    omega (arith, within, bytes, end, low)
 
 pub returns-clause-access : goal.returns-clause-access
 returns-clause-access c =
@@ -12,7 +23,7 @@ returns-clause-access c =
     let t = c.requires.turn in
     let forwarded = forwarded_is s _ _ t.stands t.at c.args.addr _ _ _ (c.width_of-width.ensures ∙ ap size_of c.op-op.ensures) c.requires.lets
     c.merge-merged.ensures.covered (ap (is_hidden s.point.now.serial) c.merge-merged.ensures.root) in
-    c.find.ensures ∙ ap (λ b. found s.desc.now (around_of s) b c.args.addr) (c.is_forwarded.ensures ∙ forwarded)
+    c.find.ensures ∙ ap₂ (λ b n. found s.desc.now (around_of s) b c.args.addr n) (c.is_forwarded-forwarded.ensures ∙ forwarded) c.bytes.ensures.value
 
 pub returns-clause-value : goal.returns-clause-value
 returns-clause-value c =

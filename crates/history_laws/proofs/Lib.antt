@@ -1,0 +1,4 @@
+mod Leading
+mod Phases
+mod Leaving
+mod Runs

@@ -1,0 +1,13 @@
+//! What history and return stack are in every state: those of fetching only what is left.
+//!
+//! The law stands in `specs/Left.antt`, in the terms of `docs/machine.md`, "History and return stack".
+#![tactic(auto)]
+
+ghost use Rattle.history_laws.specs.Left.{FollowWhatIsLeft};
+
+/// In every state of a run history and stack are those of fetching only what is left: the instructions that have retired, those in
+/// flight, and the fetched items, in this order, each branch with its predicted direction, but with its true one where its
+/// resolution squashed. So what was dropped has left nothing in them.
+pub fn history_follows_what_is_left()
+    ensures left { FollowWhatIsLeft }
+{}

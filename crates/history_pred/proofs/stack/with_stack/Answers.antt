@@ -1,0 +1,10 @@
+use Rattle.std.proofs.Common.{◌≡◌, ap, ◌∙◌, ◌++◌, drop, length}
+use Rattle.std.specs.Prelude.{replicate}
+use Rattle.window_model.specs.declared.Mark.{Mark}
+use Rattle.history_pred.proofs.Placed.{placed}
+use Rattle.history_pred.proofs.stack.with_stack.Goals as goal
+
+pub returns : goal.returns
+returns c =
+    ap (λ places. record { history = c.args.mark.now.history; depth = length c.args.addresses.now; addresses = places })
+    (ap (λ front. front ++ drop (length c.args.addresses.now) (replicate 16 0)) c.copy_from_slice.ensures.after ∙ placed c.args.addresses.now c.requires)

@@ -1,0 +1,138 @@
+//! The present history and stack.
+ghost use Rattle.std.specs.Prelude.{◌≡◌, ◌<◌, ◌≤◌, ◌+◌, ◌*◌, ◌^◌, ◌%◌};
+ghost use Rattle.rv_types.specs.Value.{one_if};
+ghost use Rattle.window_model.specs.History.{counter_index, jumped, mark_after, no_mark};
+ghost use Rattle.window_model.specs.History.{popped, pushed, returns_to, shifted, stack, youngest};
+
+use crate::jump::{links, returns};
+use crate::stack::{popped, pushed, youngest};
+use machine_desc::Desc;
+use rv_types::{Instr, Kind};
+use std::marker::Model;
+use window_model::{Item, Mark};
+
+/// Global history and return stack, seen as the description that they are made for, and a mark: what they are as the next item
+/// comes to be fetched.
+#[derive(Drop)]
+pub struct History {
+    desc: Desc,
+    mark: Mark,
+}
+
+impl Model for History {
+    ghost use Rattle.history_pred.specs.Past.{Past, past_code};
+
+    ghost Value = { Past };
+
+    ghost coded = { past_code };
+
+    ghost view = { λ h. record { desc = h.desc; mark = h.mark } };
+}
+
+impl History {
+    /// No branch yet, and an empty stack.
+    pub fn new(desc: &Desc) -> History
+        ensures { result ≡ record { desc = desc.now; mark = no_mark } }
+    {
+        History {
+            desc: *desc,
+            mark: Mark::default(),
+        }
+    }
+
+    /// Where the counter of a branch stands that comes with this mark: its word's number, with the history over it.
+    pub fn index(&self, mark: &Mark, pc: u32) -> u32
+        ensures place { result ≡ counter_index self.now.desc mark.now pc }
+        ensures inside { result < self.now.desc.predictor_counters }
+    {
+        (pc / 4 ^ mark.history) % self.desc.predictor_counters
+    }
+
+    /// A branch goes this way: its direction enters the history, and the oldest leaves it.
+    #[tactic(auto, using(crate::proofs::Bounds::few_directions))]
+    pub fn shift(&mut self, taken: bool)
+        ensures { self.new ≡ record self.old { mark = shifted self.old.desc taken self.old.mark } }
+    {
+        self.mark.history = shifted(self.mark.history, self.desc.predictor_history, taken);
+    }
+
+    /// Pushes the address to which a call returns. Where the stack then has more than the description says, the oldest goes.
+    #[tactic(auto, using(crate::proofs::Bounds::few_returns))]
+    pub fn push(&mut self, addr: u32)
+        ensures { self.new ≡ record self.old { mark = pushed self.old.desc addr self.old.mark } }
+    {
+        self.mark = pushed(&self.mark, addr, self.desc.predictor_returns);
+    }
+
+    /// Takes the youngest address off the stack and answers it. None exactly where the stack is empty.
+    pub fn pop(&mut self) -> Option<u32>
+        ensures address { result ≡ youngest (stack self.old.mark) }
+        ensures left { self.new ≡ record self.old { mark = popped self.old.mark } }
+    {
+        let address = youngest(&self.mark);
+        self.mark = popped(&self.mark);
+        address
+    }
+
+    /// Lends the present history and stack.
+    pub fn mark(&self) -> &Mark
+        ensures { result.now ≡ self.now.mark }
+    {
+        &self.mark
+    }
+
+    /// History and stack are again as they were at this mark.
+    pub fn restore(&mut self, mark: &Mark)
+        ensures { self.new ≡ record self.old { mark = mark.now } }
+    {
+        self.mark = *mark;
+    }
+
+    /// Where an instruction is predicted to return to: the youngest address, where it is a return. None for any other
+    /// instruction, and where the stack is empty.
+    pub fn returns_to(&self, instr: &Instr) -> Option<u32>
+        ensures { result ≡ returns_to instr.now self.now.mark }
+    {
+        if returns(instr) {
+            youngest(&self.mark)
+        } else {
+            None
+        }
+    }
+
+    /// History and stack go on over an item: a branch, which goes this way, enters the history; a jump that links pushes, and a
+    /// return pops.
+    pub fn follow(&mut self, item: &Item, taken: bool)
+        ensures { self.new ≡ record self.old {
+          mark = mark_after item.now.kind self.old.desc item.now.pc item.now.instr taken self.old.mark;
+        } }
+    {
+        match item.kind {
+            Kind::Branch => self.shift(taken),
+            Kind::Jal => self.jump(item.pc, &item.instr),
+            Kind::Jalr => self.jump(item.pc, &item.instr),
+            _ => (),
+        }
+    }
+
+    // A jump that links pushes the address behind it, and a return pops.
+    fn jump(&mut self, pc: u32, instr: &Instr)
+        ensures { self.new ≡ record self.old { mark = jumped self.old.desc pc instr.now self.old.mark } }
+    {
+        if links(instr) {
+            self.push(pc.wrapping_add(4));
+            return;
+        }
+        if returns(instr) {
+            let _ = self.pop();
+        }
+    }
+}
+
+// A history of so many directions, after another direction.
+fn shifted(history: u32, directions: u32, taken: bool) -> u32
+    requires { directions ≤ 12 }
+    ensures { result ≡ (2 * history + one_if taken) % 2 ^ directions }
+{
+    ((2 * history as u64 + taken as u64) % (1u64 << directions)) as u32
+}

@@ -1,0 +1,150 @@
+//! What looking up the lines of an access comes to (`docs/machine.md`, "Loads", "Second level").
+use machine_desc::Desc;
+use window_model::Look;
+
+/// A line that takes a miss register.
+#[derive(Clone, Copy, Debug, PartialEq, Eq)]
+pub(crate) struct Request {
+    /// Its first address.
+    pub(crate) line: u32,
+    /// Whether it comes from memory, and not from the second level.
+    pub(crate) from_memory: bool,
+}
+
+impl Request {
+    ghost use Rattle.std.specs.Prelude.{◌≡◌, ◌<◌, ◌^◌};
+    ghost use Rattle.window_model.specs.Access.{register, source_of};
+    ghost use Rattle.issue.specs.Accesses.{as_request};
+
+    /// Where it comes from.
+    pub(crate) fn source(&self) -> Look
+        ensures { result ≡ source_of (as_request self.now) }
+    {
+        if self.from_memory {
+            return Look::Miss;
+        }
+        Look::Second
+    }
+
+    /// The cycle in which it comes, once it takes a miss register in this one.
+    pub(crate) fn due(&self, cycle: u64, desc: &Desc) -> u64
+        requires soon { cycle < 2 ^ 32 }
+        ensures { result ≡ (register desc.now cycle (as_request self.now)).due }
+    {
+        if self.from_memory {
+            return cycle + desc.cache_miss_latency as u64;
+        }
+        cycle + desc.cache_second_latency as u64
+    }
+}
+
+/// What looking up one line comes to.
+#[derive(Clone, Copy, Debug, PartialEq, Eq)]
+pub(crate) enum Line {
+    /// The cache has it.
+    Hits(u32),
+    /// A miss register waits for it, until this cycle.
+    Joins(u32, u64),
+    /// It takes a miss register.
+    Takes(Request),
+}
+
+impl Line {
+    ghost use Rattle.std.specs.Prelude.{◌≡◌, ◌≤◌, length};
+    ghost use Rattle.std.specs.Option.{option_map, option_to_list};
+    ghost use Rattle.window_model.specs.Access.{line_at, look_at, request_by};
+    ghost use Rattle.issue.specs.Accesses.{as_line, as_request};
+
+    /// The line, if it takes a miss register.
+    pub(crate) fn request(&self) -> Option<Request>
+        ensures { option_to_list (option_map as_request result) ≡ request_by (as_line self.now) }
+    {
+        match *self {
+            Line::Takes(request) => Some(request),
+            _ => None,
+        }
+    }
+
+    // How many miss registers it takes.
+    fn registers(&self) -> u32
+        ensures number { result ≡ length (request_by (as_line self.now)) }
+        ensures few { result ≤ 1 }
+    {
+        match self {
+            Line::Takes(_) => 1,
+            _ => 0,
+        }
+    }
+
+    /// Its first address.
+    pub(crate) fn line(&self) -> u32
+        ensures { result ≡ line_at (as_line self.now) }
+    {
+        match *self {
+            Line::Hits(line) => line,
+            Line::Joins(line, _) => line,
+            Line::Takes(request) => request.line,
+        }
+    }
+
+    /// Where it was found.
+    pub(crate) fn look(&self) -> Look
+        ensures { result ≡ look_at (as_line self.now) }
+    {
+        match self {
+            Line::Hits(_) => Look::Hit,
+            Line::Joins(_, _) => Look::Join,
+            Line::Takes(request) => request.source(),
+        }
+    }
+}
+
+/// The lines of an access.
+#[derive(Clone, Copy, Debug, PartialEq, Eq)]
+pub(crate) struct Lines {
+    /// That of its first byte.
+    pub(crate) lower: Line,
+    /// That of its last byte, where it is another one.
+    pub(crate) upper: Option<Line>,
+}
+
+impl Lines {
+    ghost use Rattle.std.specs.Prelude.{◌≡◌, ◌≤◌, length};
+    ghost use Rattle.std.specs.List.{flat_map};
+    ghost use Rattle.std.specs.Option.{option_map, option_to_list};
+    ghost use Rattle.window_model.specs.Access.{line_behind, request_by, requests};
+    ghost use Rattle.issue.specs.Accesses.{as_line, as_lines, as_request};
+
+    /// How many miss registers they take.
+    pub(crate) fn registers(&self) -> u32
+        ensures number { result ≡ length (requests (as_lines self.now)) }
+        ensures few { result ≤ 2 }
+    {
+        match &self.upper {
+            Some(upper) => self.lower.registers() + upper.registers(),
+            None => self.lower.registers(),
+        }
+    }
+
+    /// The upper one, if it takes a miss register.
+    pub(crate) fn upper_request(&self) -> Option<Request>
+        ensures { option_to_list (option_map as_request result)
+            ≡ flat_map request_by (option_to_list (option_map as_line self.now.upper)) }
+    {
+        match &self.upper {
+            Some(upper) => upper.request(),
+            None => None,
+        }
+    }
+
+    /// The line behind the last of them, which may lie past the address 2^32 - 1.
+    pub(crate) fn behind(&self, desc: &Desc) -> u64
+        ensures { result ≡ line_behind desc.now (as_lines self.now) }
+    {
+        let last = match &self.upper {
+            Some(upper) => upper.line(),
+            None => self.lower.line(),
+        };
+        last as u64 + desc.cache_line as u64
+    }
+}

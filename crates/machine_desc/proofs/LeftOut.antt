@@ -1,0 +1,62 @@
+-- The facts that pin the keys that may be left out: the ends of their ranges, which versions know them, and what they are then.
+use Rattle.std.proofs.Common.{◌≡◌, true, false, [], ◌∷◌, map, Some, None, refl}
+use Rattle.std.specs.Prelude.{pos, codes}
+use lib.Count.{ones}
+use Rattle.toml.specs.Data.{no_members}
+use Rattle.machine_desc.specs.declared.keys.Key.TheVariants.{RamMisaligned, PredictorHistory, PredictorReturns, CacheSecondSets, CacheSecondWays, CacheSecondLatency, CachePrefetch}
+use Rattle.machine_desc.specs.declared.keys.Section.TheVariants.{Cache, Ram}
+use Rattle.machine_desc.specs.declared.fault.DescFault.TheVariants.{Range, Shape as WrongShape}
+use Rattle.machine_desc.specs.Version.{comes_between}
+use Rattle.machine_desc.specs.Table.{optional_numbers, keys, is_known, some_key}
+use Rattle.machine_desc.specs.Description.{key_fault, number}
+use Rattle.machine_desc.proofs.Versions.{told}
+
+misaligned : (told 2 RamMisaligned 0 ≡ None) × (told 2 RamMisaligned 1 ≡ None) × (told 2 RamMisaligned 2 ≡ Some (Range RamMisaligned (pos 2)))
+misaligned = (refl, refl, refl)
+
+history : (told 2 PredictorHistory 0 ≡ None) × (told 2 PredictorHistory 12 ≡ None) × (told 2 PredictorHistory 13 ≡ Some (Range PredictorHistory (pos 13)))
+history = (refl, refl, refl)
+
+returns : (told 2 PredictorReturns 0 ≡ None) × (told 2 PredictorReturns 16 ≡ None) × (told 2 PredictorReturns 17 ≡ Some (Range PredictorReturns (pos 17)))
+returns = (refl, refl, refl)
+
+second_sets : (told 2 CacheSecondSets 0 ≡ None) × (told 2 CacheSecondSets 1 ≡ None) × (told 2 CacheSecondSets 3 ≡ Some (WrongShape CacheSecondSets))
+    × (told 2 CacheSecondSets 1024 ≡ None) × (told 2 CacheSecondSets 2048 ≡ Some (Range CacheSecondSets (pos 2048)))
+unfolding ones
+second_sets = (refl, refl, refl, refl, refl)
+
+second_ways : (told 2 CacheSecondWays 0 ≡ Some (Range CacheSecondWays (pos 0))) × (told 2 CacheSecondWays 1 ≡ None)
+    × (told 2 CacheSecondWays 8 ≡ None) × (told 2 CacheSecondWays 9 ≡ Some (Range CacheSecondWays (pos 9)))
+second_ways = (refl, refl, refl, refl)
+
+second_latency : (told 2 CacheSecondLatency 1 ≡ Some (Range CacheSecondLatency (pos 1))) × (told 2 CacheSecondLatency 2 ≡ None)
+    × (told 2 CacheSecondLatency 100 ≡ None) × (told 2 CacheSecondLatency 101 ≡ Some (Range CacheSecondLatency (pos 101)))
+second_latency = (refl, refl, refl, refl)
+
+prefetch : (told 2 CachePrefetch 0 ≡ None) × (told 2 CachePrefetch 1 ≡ None) × (told 2 CachePrefetch 2 ≡ Some (Range CachePrefetch (pos 2)))
+prefetch = (refl, refl, refl)
+
+-- ---- version 1 knows none of them, version 2 every key; no other table has a key of theirs
+
+unknown_in_1 : map (is_known 1) optional_numbers ≡ false ∷ false ∷ false ∷ false ∷ false ∷ false ∷ false ∷ []
+unknown_in_1 = refl
+
+known_in_2 : map (is_known 2) optional_numbers ≡ true ∷ true ∷ true ∷ true ∷ true ∷ true ∷ true ∷ []
+known_in_2 = refl
+
+by_table : (some_key 1 keys Ram (codes "misaligned") ≡ false) × (some_key 2 keys Ram (codes "misaligned") ≡ true)
+    × (some_key 2 keys Cache (codes "misaligned") ≡ false) × (some_key 1 keys Cache (codes "sets") ≡ true)
+by_table = (refl, refl, refl, refl)
+
+-- ---- left out they have no fault, and in both versions these numbers
+
+left_out : (map (number 1 no_members) optional_numbers ≡ 0 ∷ 0 ∷ 0 ∷ 0 ∷ 1 ∷ 2 ∷ 0 ∷ [])
+    × (map (number 2 no_members) optional_numbers ≡ 0 ∷ 0 ∷ 0 ∷ 0 ∷ 1 ∷ 2 ∷ 0 ∷ []) × (key_fault 2 no_members CacheSecondWays ≡ None)
+unfolding key_fault
+left_out = (refl, refl, refl)
+
+-- ---- a second level of 3 to 9 cycles comes between a hit of 2 and a miss of 10; where there is none nothing is asked
+
+between : (comes_between 4 2 2 10 ≡ false) × (comes_between 4 2 3 10 ≡ true) × (comes_between 4 2 9 10 ≡ true) × (comes_between 4 2 10 10 ≡ false)
+    × (comes_between 0 2 2 10 ≡ true)
+between = (refl, refl, refl, refl, refl)

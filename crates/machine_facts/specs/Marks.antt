@@ -1,0 +1,17 @@
+-- History and stack are as large as the description says, wherever they stand (docs/theorems.md, "What every state keeps").
+use Rattle.std.specs.Prelude.{◌<◌, ◌≤◌, ◌^◌}
+use Rattle.std.specs.List.{AllByRecursion as Each}
+use Rattle.machine_desc.specs.declared.Desc.{Desc}
+use Rattle.window_model.specs.declared.Mark.{Mark}
+use Rattle.window_model.specs.State.{Machine}
+
+-- the history has the directions of so many branches, and the stack at most so many addresses
+pub record FitsMark (d : Desc) (m : Mark) : Type 0 where
+  pub history : m.history < 2 ^ d.predictor_history
+  pub stack : m.depth ≤ d.predictor_returns
+
+-- so it is with those of the next item, and with those before each entry and each item
+pub record Marked (d : Desc) (x : Machine) : Type 0 where
+  pub next : FitsMark d x.mark
+  pub entries : Each (λ e. FitsMark d e.item.mark) x.window
+  pub items : Each (λ i. FitsMark d i.mark) x.queue

@@ -1,0 +1,75 @@
+-- Global history and return stack (docs/machine.md, "History and return stack").
+use Rattle.std.specs.Prelude.{ℕ, ◌+◌, ◌*◌, ◌/◌, ◌%◌, ◌^◌, Bool, false, ◌&&◌, ◌==◌, List, [], ◌∷◌, ◌++◌, length, take, drop, replicate, bit_xor, Option, Some, None, if◌then◌else◌}
+use Rattle.rv_types.specs.Word.{word_add}
+use Rattle.rv_types.specs.Value.{one_if}
+use Rattle.rv_types.specs.declared.Instr.{Instr}
+use Rattle.rv_types.specs.declared.Instr.TheVariants as instr
+use Rattle.rv_types.specs.declared.Kind.{Kind}
+use Rattle.rv_types.specs.declared.Kind.TheVariants.{Branch, Jalr, Jal}
+use Rattle.machine_desc.specs.declared.Desc.{Desc}
+use Rattle.window_model.specs.declared.Mark.{Mark}
+
+-- no branch yet, and an empty stack
+abbrev pub no_mark : Mark
+no_mark = record { history = 0; depth = 0; addresses = replicate 16 0 }
+
+-- ---- history
+
+-- where the counter of a branch stands that comes with this history
+abbrev pub counter_index : Desc → Mark → ℕ → ℕ
+counter_index d m pc = bit_xor (pc / 4) m.history % d.predictor_counters
+
+-- a direction enters the history as its lowest digit, and the oldest leaves it
+abbrev pub shifted : Desc → Bool → Mark → Mark
+shifted d way m = record m { history = (2 * m.history + one_if way) % 2 ^ d.predictor_history }
+
+-- ---- the stack
+
+-- the addresses on it, youngest first
+abbrev pub stack : Mark → List ℕ
+stack m = take m.depth m.addresses
+
+-- with these addresses on it, in the first of the 16 places
+abbrev pub with_stack : List ℕ → Mark → Mark
+with_stack addresses m = record m { depth = length addresses; addresses = take 16 (addresses ++ replicate 16 0) }
+
+-- an address is pushed; where there are then more than it holds, the oldest goes
+abbrev pub pushed : Desc → ℕ → Mark → Mark
+pushed d a m = with_stack (take d.predictor_returns (a ∷ stack m)) m
+
+-- the youngest address goes, if there is one
+abbrev pub popped : Mark → Mark
+popped m = with_stack (drop 1 (stack m)) m
+
+-- the youngest address, if there is one
+abbrev pub youngest : List ℕ → Option ℕ
+youngest [] = None
+youngest (a ∷ older) = Some a
+
+-- a jump that links by x1 pushes
+abbrev pub links : Instr → Bool
+links (instr.Jal rd imm) = rd.number == 1
+links (instr.Jalr rd rs1 imm) = rd.number == 1
+links _ = false
+
+-- a JALR that goes by x1 and doesn't link returns: it pops
+abbrev pub returns : Instr → Bool
+returns (instr.Jalr rd rs1 imm) = rd.number == 0 && rs1.number == 1
+returns _ = false
+
+-- the address to which a return is predicted to go: the youngest, if there is one
+abbrev pub returns_to : Instr → Mark → Option ℕ
+returns_to i m = if returns i then youngest (stack m) else None
+
+-- ---- what an item does to both
+
+-- the stack after a jump
+abbrev pub jumped : Desc → ℕ → Instr → Mark → Mark
+jumped d pc i m = if links i then pushed d (word_add pc 4) m else if returns i then popped m else m
+
+-- history and stack after an instruction, of a branch that goes this way
+abbrev pub mark_after : Kind → Desc → ℕ → Instr → Bool → Mark → Mark
+mark_after Branch d pc i way m = shifted d way m
+mark_after Jal d pc i way m = jumped d pc i m
+mark_after Jalr d pc i way m = jumped d pc i m
+mark_after _ d pc i way m = m
