@@ -12,30 +12,42 @@ sys.path.insert(0, os.path.dirname(os.path.dirname(os.path.abspath(__file__))))
 
 from verdict.hart import JUMP_MISALIGNED, Memory, stored_bytes, system_call
 from verdict.operation import SIZES, WORD, decode, division_time, effect, extend
-from view.description import SPECTRE
+from view.description import OPTIONAL, SPECTRE
 from view.instruction import BRANCH, CALL, DIVISION, JAL, JALR, LOAD, MULTIPLICATION, STOP, STORE
 
 WAITING, BUSY, DONE = "waiting", "busy", "done"
 ALU, MULTIPLIER, DIVIDER, ADDRESS, DATA, LOADS = "alu", "multiplier", "divider", "address", "data", "loads"
 PORTS = {MULTIPLICATION: MULTIPLIER, DIVISION: DIVIDER, LOAD: LOADS}
 CONTROL = (BRANCH, JALR)
+LINK = 1
 
 
 def read_numbers(text):
     """A description's values by the names of their keys, and its version."""
     tables = tomllib.loads(text)
-    values = {key: value for table in tables.values() if isinstance(table, dict) for key, value in table.items()}
+    values = {key: default for key, (_, default) in OPTIONAL.items()}
+    values |= {key: value for table in tables.values() if isinstance(table, dict) for key, value in table.items()}
     return SimpleNamespace(version=tables.get("version", 1), **values)
 
 
 class Item:
-    """A fetched instruction. `predicted` is the next address, None behind a stop."""
+    """A fetched instruction. `predicted` is the next address, None behind a stop. `mark` is history and return stack before it."""
 
-    def __init__(self, pc, word):
-        self.pc, self.operation = pc, decode(word)
+    def __init__(self, pc, word, mark):
+        self.pc, self.operation, self.mark = pc, decode(word), mark
         self.kind = self.operation.code.kind
         named = {"jal": 0, "illegal": 2, "ebreak": 3}
         self.cause = None if self.kind != STOP else 1 if word is None else named[self.operation.name]
+
+    @property
+    def links(self):
+        """It is a jump that writes its return address to x1."""
+        return self.kind in (JAL, JALR) and self.operation.code.destination == LINK
+
+    @property
+    def returns(self):
+        """It is a jump to what x1 says, and writes no register."""
+        return self.kind == JALR and self.operation.code.destination == 0 and self.operation.code.sources == (LINK,)
 
 
 class Entry:
@@ -74,13 +86,15 @@ class Machine:
 
     def __init__(self, numbers, image):
         self.d, self.code = numbers, image.words
-        self.memory = Memory(image.base, image.memory)
+        self.memory = Memory(image.base, image.memory, numbers.misaligned)
         self.registers = [0] * 32
         self.registers[2] = image.base + len(image.memory) - 16 & WORD
         self.now = self.retired = self.next_serial = 0
         self.window, self.queue, self.fetch_pc = [], [], image.entry
         self.counters, self.targets = [1] * numbers.counters, [None] * numbers.btb
+        self.history, self.stack = 0, ()
         self.cache, self.misses = [[] for _ in range(numbers.sets)], []
+        self.second = [[] for _ in range(numbers.second_sets)]
         self.free_from, self.user = 0, None
         self.end = None
 
@@ -111,17 +125,42 @@ class Machine:
 
     # ---- cache
 
-    def line(self, address):
-        return address - address % self.d.line
+    def lines(self, address, size):
+        """The lines in which the bytes of an access lie, the lower first."""
+        return sorted({end - end % self.d.line for end in (address, address + size - 1)})
 
     def set_of(self, line):
         return self.cache[line // self.d.line % self.d.sets]
 
-    def touch(self, line):
-        lines = self.set_of(line)
-        if line in lines:
-            lines.remove(line)
-            lines.insert(0, line)
+    def second_set_of(self, line):
+        """Its set in the second level; an empty one where there is no second level."""
+        return self.second[line // self.d.line % self.d.second_sets] if self.second else []
+
+    @staticmethod
+    def touch(lines, line):
+        """A line that the set has goes to its front. Answers whether it has it."""
+        if line not in lines:
+            return False
+        lines.remove(line)
+        lines.insert(0, line)
+        return True
+
+    @staticmethod
+    def enter(lines, line, ways):
+        """A line goes to the front of a set, whose last goes where there are too many."""
+        lines.insert(0, line)
+        del lines[ways:]
+
+    def due_of(self, line):
+        """When a miss register's line comes; None where no register has it."""
+        return next((miss.due for miss in self.misses if miss.line == line), None)
+
+    def take(self, line):
+        """A free miss register takes a line, from the second level or from memory. Answers when it comes, and how that is told."""
+        found = self.touch(self.second_set_of(line), line)
+        due = self.now + (self.d.second_latency if found else self.d.miss_latency)
+        self.misses.append(SimpleNamespace(line=line, due=due, from_memory=not found))
+        return due, "2" if found else "m"
 
     # ---- phases
 
@@ -134,12 +173,12 @@ class Machine:
 
     def fill(self):
         events = []
-        for line, due in list(self.misses):
-            if due == self.now:
-                self.misses.remove((line, due))
-                self.set_of(line).insert(0, line)
-                del self.set_of(line)[self.d.ways:]
-                events.append(f"fill:{line:08x}")
+        for miss in [miss for miss in self.misses if miss.due == self.now]:
+            self.misses.remove(miss)
+            self.enter(self.set_of(miss.line), miss.line, self.d.ways)
+            if miss.from_memory and self.second:
+                self.enter(self.second_set_of(miss.line), miss.line, self.d.second_ways)
+            events.append(f"fill:{miss.line:08x}")
         return events
 
     def complete(self):
@@ -159,7 +198,7 @@ class Machine:
         how = "J" if entry.kind == JALR else "T" if entry.value else "N"
         events = [f"res:{entry.serial}:{how}"]
         if entry.kind == BRANCH:
-            place = item.pc // 4 % self.d.counters
+            place = self.counter_of(item)
             self.counters[place] = min(self.counters[place] + 1, 3) if entry.value else max(self.counters[place] - 1, 0)
             events.append(f"bp:{place}:{self.counters[place]}")
         elif entry.fault is None:
@@ -178,6 +217,7 @@ class Machine:
             self.free_from, self.user = 0, None
         self.window, self.queue = self.window[:keep], []
         self.fetch_pc = None if entry.fault is not None else entry.next
+        self.history, self.stack = self.mark_behind(entry.item, taken=entry.value == 1)
         return dropped
 
     def retire(self):
@@ -199,7 +239,7 @@ class Machine:
                 self.registers[head.item.operation.code.destination] = head.value
             if head.kind == STORE:
                 stored = True
-                events.append(self.write(head))
+                events += self.write(head)
             if head.kind == CALL:
                 events.append(self.call(head))
             if self.end is not None:
@@ -208,10 +248,8 @@ class Machine:
 
     def write(self, store):
         self.memory.put(store.address, stored_bytes(store.stored, store.size))
-        line = self.line(store.address)
-        answer = "h" if line in self.set_of(line) else "m"
-        self.touch(line)
-        return f"st:{store.serial}:{line:08x}:{answer}"
+        lines = self.lines(store.address, store.size)
+        return [f"st:{store.serial}:{line:08x}:{'h' if self.touch(self.set_of(line), line) else 'm'}" for line in lines]
 
     def call(self, entry):
         call = system_call(self.registers, self.memory)
@@ -314,19 +352,29 @@ class Machine:
         values["value"] = extend(load.item.operation.name, data)
         if all(sources) and not any(tainted[store.serial][0] for store in before if store.kind == STORE):
             return [(load, values)], [f"ld:{serial}:f"]
-        line = self.line(address)
-        under_way = dict(self.misses)
-        if line in self.set_of(line):
-            values["due"], answer = self.now + self.d.hit_latency, "h"
-            self.touch(line)
-        elif line in under_way:
-            values["due"], answer = under_way[line], "j"
-        elif len(self.misses) >= self.d.mshrs:
+        lines = self.lines(address, load.size)
+        taken = [line for line in lines if line not in self.set_of(line) and self.due_of(line) is None]
+        if len(taken) > self.d.mshrs - len(self.misses):
             return [], []
-        else:
-            values["due"], answer = self.now + self.d.miss_latency, "m"
-            self.misses.append((line, values["due"]))
-        return [(load, values)], [f"ld:{serial}:{line:08x}:{answer}"]
+        found = [self.look(line) for line in lines]
+        values["due"] = max(due for due, _ in found)
+        events = [f"ld:{serial}:{line:08x}:{answer}" for line, (_, answer) in zip(lines, found)]
+        return [(load, values)], events + (self.prefetch(lines[-1] + self.d.line) if taken else [])
+
+    def look(self, line):
+        """When a load has this line, and how that is told."""
+        if self.touch(self.set_of(line), line):
+            return self.now + self.d.hit_latency, "h"
+        due = self.due_of(line)
+        return self.take(line) if due is None else (due, "j")
+
+    def prefetch(self, line):
+        """The line behind those of a load that took a register takes one too, where there is such a line and it is nowhere yet."""
+        behind = line >= self.memory.base + len(self.memory.data)
+        held = line in self.set_of(line) or self.due_of(line) is not None
+        if not self.d.prefetch or behind or held or len(self.misses) >= self.d.mshrs:
+            return []
+        return [f"pf:{line:08x}:{self.take(line)[1]}"]
 
     # ---- Rename and Fetch
 
@@ -352,18 +400,42 @@ class Machine:
     def fetch(self):
         events = []
         while self.fetch_pc is not None and len(events) < self.d.fetch_width and len(self.queue) < self.d.queue:
-            item = Item(self.fetch_pc, self.code.get(self.fetch_pc))
+            item = Item(self.fetch_pc, self.code.get(self.fetch_pc), (self.history, self.stack))
             item.predicted = self.fetch_pc = self.predict(item)
+            self.history, self.stack = self.mark_behind(item, self.is_taken(item))
             self.queue.append(item)
             events.append(f"fet:{item.pc:08x}")
         return events
+
+    def counter_of(self, branch):
+        """Where its counter stands, by its address and by the history before it."""
+        history, _ = branch.mark
+        return (branch.pc // 4 ^ history) % self.d.counters
+
+    def is_taken(self, branch):
+        """The direction that is predicted."""
+        return self.counters[self.counter_of(branch)] >= 2
+
+    def mark_behind(self, item, taken):
+        """History and return stack behind an item; `taken` says which way, where it is a branch."""
+        history, stack = item.mark
+        if item.kind == BRANCH:
+            history = (2 * history + taken) % 2 ** self.d.history
+        if item.links and self.d.returns:
+            stack = (*stack, item.pc + 4 & WORD)[-self.d.returns:]
+        if item.returns:
+            stack = stack[:-1]
+        return history, stack
 
     def predict(self, item):
         pc, behind = item.pc, item.pc + 4 & WORD
         if item.kind == STOP:
             return None
-        if item.kind == JAL or item.kind == BRANCH and self.counters[pc // 4 % self.d.counters] >= 2:
+        if item.kind == JAL or item.kind == BRANCH and self.is_taken(item):
             return pc + item.operation.imm & WORD
+        _, stack = item.mark
+        if item.returns and stack:
+            return stack[-1]
         stored = self.targets[pc // 4 % self.d.btb] if item.kind == JALR else None
         return stored[1] if stored and stored[0] == pc else behind
 

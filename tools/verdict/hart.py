@@ -34,17 +34,17 @@ class Step(NamedTuple):
 
 
 class Memory:
-    """Bytes from a base address on."""
+    """Bytes from a base address on. With `misaligned` an access may have any address."""
 
-    def __init__(self, base, data):
-        self.base, self.data = base, bytearray(data)
+    def __init__(self, base, data, misaligned=False):
+        self.base, self.data, self.misaligned = base, bytearray(data), misaligned
 
     def holds(self, address, size):
         return self.base <= address and address + size <= self.base + len(self.data)
 
     def fault(self, kind, address, size):
         """Why an access traps: misaligned, or else outside memory; none where it doesn't."""
-        if address % size:
+        if address % size and not self.misaligned:
             return LOAD_MISALIGNED if kind == LOAD else STORE_MISALIGNED
         if not self.holds(address, size):
             return LOAD_OUTSIDE if kind == LOAD else STORE_OUTSIDE
@@ -90,7 +90,7 @@ class Hart:
     model `spectre` (docs/machine.md, "Paths")."""
 
     def __init__(self, image, passing=False):
-        self.code, self.memory, self.passing = image.words, Memory(image.base, image.memory), passing
+        self.code, self.memory, self.passing = image.words, Memory(image.base, image.memory, image.misaligned), passing
         self.pc, self.registers, self.retired, self.end, self.out = image.entry, [0] * 32, 0, None, []
         self.registers[2] = image.base + len(image.memory) - 16 & WORD
 

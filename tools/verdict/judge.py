@@ -3,7 +3,7 @@ from view.description import read_description
 from view.trace import Trace
 
 from . import simulator
-from .loaded import Loaded
+from .loaded import load
 from .premises import premises
 from .report import Case
 from .telling import Telling
@@ -13,7 +13,7 @@ def case_of(program, description, one, two, cycles):
     """Two images under a description, by the names of their files, for so many cycles at most."""
     pair = simulator.compare(program, description, one, two, cycles)
     machine = read_description(description)
-    return judged(description, machine, Loaded(one, machine.base, machine.size), Loaded(two, machine.base, machine.size), pair)
+    return judged(description, machine, load(one, machine), load(two, machine), pair)
 
 
 def judged(description, machine, one, two, pair):

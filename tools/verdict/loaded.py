@@ -6,11 +6,11 @@ from view.image import Image
 
 
 class Loaded(Image):
-    """`memory` is the bytes from `base` on after loading."""
+    """`memory` is the bytes from `base` on after loading; `misaligned` says whether accesses to it may have any address."""
 
-    def __init__(self, name, base, size):
+    def __init__(self, name, base, size, misaligned=False):
         super().__init__(name)
-        self.name, self.base, self.memory = name, base, bytearray(size)
+        self.name, self.base, self.memory, self.misaligned = name, base, bytearray(size), bool(misaligned)
         with open(name, "rb") as file:
             elf = ELFFile(file)
             self.entry = elf["e_entry"]
@@ -30,3 +30,8 @@ class Loaded(Image):
         """An address with its symbol: `00010018 <victim+0x8>`."""
         symbol = self.symbol(address)
         return f"{address:08x} <{symbol}>" if symbol else f"{address:08x}"
+
+
+def load(name, machine):
+    """The image of a file in the memory of a description."""
+    return Loaded(name, machine.base, machine.size, machine.misaligned)

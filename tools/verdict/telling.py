@@ -8,6 +8,7 @@ of traces is telling where something was held on an operand made of the differin
 from typing import NamedTuple
 
 from view.instruction import BRANCH, CALL, DIVISION, JALR, LOAD, STORE
+from view.pipeline import lines_of
 from view.reasons import STORE_TAINT, TAINT, TAINTED_OUTCOME
 from view.replay import Replay
 
@@ -94,10 +95,10 @@ class Telling(Replay):
         kept = [item for item in hidden if item.code.kind == LOAD and self.reasons.behind_stores(item, taint=False)[0]]
         stores = {store.serial: store for store in self.pipeline.open_stores if self.hidden_source(store, 0)}
         loads = [item for item in self.pipeline.waiting if item.code.kind == LOAD]
-        for words in events:
-            item = self.pipeline.entry(words)
+        for step in self.steps(events):
+            item = self.pipeline.entry(step[0])
             if item.code.kind == LOAD:
-                self.load(item, words[-1] in "hmj")
+                self.load(item, bool(lines_of(step)))
             elif item.code.kind == DIVISION:
                 self.shows(item, any(self.marked(item)))
         super().issue(events)

@@ -6,7 +6,7 @@ is executed as it is renamed, and undone when it is dropped. The run checks itse
 directions of branches that are computed have to be those that the trace tells."""
 from view import Fault
 from view.instruction import CALL, DIVISION, JALR, LOAD, STORE
-from view.pipeline import Pipeline
+from view.pipeline import PREFETCH, Pipeline
 
 from .hart import JUMP_MISALIGNED, Memory, stored_bytes, system_call
 from .operation import SIZES, WORD, decode, division_time, effect, extend
@@ -33,10 +33,10 @@ class Valued(Pipeline):
 
     def __init__(self, image, description, marks):
         super().__init__(image, description)
-        self.memory, self.registers = Memory(image.base, image.memory), [0] * 32
+        self.memory, self.registers = Memory(image.base, image.memory, image.misaligned), [0] * 32
         self.registers[2] = image.base + len(image.memory) - 16 & WORD
         self.marked_bytes, self.marked_registers = dict.fromkeys(marks, True), [False] * 32
-        self.values = {}
+        self.values, self.to_write = {}, []
 
     # ---- Rename executes
 
@@ -97,12 +97,14 @@ class Valued(Pipeline):
             call = system_call(self.registers, self.memory)
             if call.exit is None:
                 self.registers[10], self.marked_registers[10] = call.answer, False
+        self.to_write = self.lines_of(self.values[item.serial]) if item.code.kind == STORE else []
         del self.values[item.serial]
 
-    def issue(self, item, words):
-        told, computed = words[2:], self.told_by_issue(item, words)
-        self.compare(item, f"tells {words[0]}:{':'.join(told)}", told == computed, ":".join(computed))
-        super().issue(item, words)
+    def issue(self, item, step):
+        told, computed = [words[2:] for words in step if words[0] != PREFETCH], self.told_by_issue(item, step)
+        texts = [" ".join(":".join(words) for words in events) for events in (told, computed)]
+        self.compare(item, f"tells {step[0][0]}:{texts[0]}", told == computed, texts[1])
+        super().issue(item, step)
 
     def shares(self, load, store):
         """Whether the two have a byte in common; where one faults it has none."""
@@ -110,17 +112,35 @@ class Valued(Pipeline):
         bytes_of = [range(value.effect.address, value.effect.address + value.size) for value in (one, two)]
         return one.fault is two.fault is None and bytes_of[0].start < bytes_of[1].stop and bytes_of[1].start < bytes_of[0].stop
 
-    def told_by_issue(self, item, words):
-        """What the event of its issue tells behind the serial: how a load finds its line is for others to say."""
+    def lines_of(self, value):
+        """The lines of an access, the lower first."""
+        ends = (value.effect.address, value.effect.address + value.size - 1)
+        return sorted({end - end % self.description.line for end in ends})
+
+    def may_take_two(self, load):
+        """Whether both of its lines lack in the cache and aren't on their way."""
+        lines = self.lines_of(self.values[load.serial])
+        return len(lines) == 2 and not any(self.cache.has(line) or line in self.misses for line in lines)
+
+    def told_by_issue(self, item, step):
+        """What the events of its issue tell behind the serial: how a load finds a line is for others to say."""
         value = self.values[item.serial]
         if item.code.kind == DIVISION:
-            return [str(division_time(value.operation.name, value.operands[0]))]
+            return [[str(division_time(value.operation.name, value.operands[0]))]]
         if item.code.kind != LOAD:
-            return []
+            return [[]]
         if value.fault is not None:
-            return ["x"]
-        address = value.effect.address
-        return ["f"] if words[-1] == "f" else [f"{address - address % self.description.line:08x}", words[-1]]
+            return [["x"]]
+        if step[0][-1] == "f":
+            return [["f"]]
+        found = [words[-1] for words in step if words[0] != PREFETCH] + [""]
+        return [[f"{line:08x}", how] for line, how in zip(self.lines_of(value), found)]
+
+    def write(self, item, line, answer):
+        """Each line of a store is one of those that it writes, in their order."""
+        super().write(item, line, answer)
+        right, place = self.to_write, len(item.written) - 1
+        self.compare(item, f"writes line {line:08x}", right[place:place + 1] == [line], " ".join(f"{line:08x}" for line in right))
 
     def complete(self, item):
         """A store that faults isn't safe, which the trace alone doesn't tell."""

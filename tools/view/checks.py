@@ -1,6 +1,9 @@
 """Whether what happens is what the machine's rules ask for: when lines come, when results are there, what loads find."""
 from .instruction import BRANCH, CALL, STORE
-from .pipeline import DATA_PART
+from .pipeline import DATA_PART, PREFETCH, lines_of
+
+# the letters of a line that takes a miss register
+TAKES = ("m", "2")
 
 
 class Checks:
@@ -12,7 +15,7 @@ class Checks:
 
     def fill(self, lines):
         """A line comes in the cycle that its miss was told, and only then."""
-        due = [line for line, cycle in self.pipeline.misses.items() if cycle == self.pipeline.cycle]
+        due = [line for line, miss in self.pipeline.misses.items() if miss.due == self.pipeline.cycle]
         if lines != due:
             self.tell(f"lines {names(lines)} come, {names(due)} are due")
 
@@ -32,8 +35,11 @@ class Checks:
 
     def retired(self, item):
         """A store tells what it finds in the cache, a call how much it puts out."""
-        if (item.store is None) == (item.code.kind == STORE) or (item.output is None) == (item.code.kind == CALL):
+        store = item.code.kind == STORE
+        if bool(item.written) != store or (item.output is None) == (item.code.kind == CALL):
             self.tell(f"entry {item.serial}, a {item.code.kind}, retires with the events of another kind")
+        if store:
+            self.lines(item, item.written)
 
     def end(self, end, retired):
         """The last line counts the cycles and what retired."""
@@ -45,19 +51,20 @@ class Checks:
         if item.issued is not None:
             self.due.setdefault(item.due, []).append(item)
 
-    def order(self, events):
+    def order(self, steps):
         """Entries issue oldest first, the address part of a store before its data part."""
-        places = [(int(words[1]), words[0] == DATA_PART) for words in events]
+        places = [(int(serial), name == DATA_PART) for (name, serial, *_), *_ in steps]
         if places != sorted(places):
-            self.tell(f"the events of Issue don't go from the oldest entry on: {' '.join(':'.join(words) for words in events)}")
+            told = " ".join(":".join(words) for step in steps for words in step)
+            self.tell(f"the events of Issue don't go from the oldest entry on: {told}")
 
-    def access(self, item, words):
-        """What a load finds: its line is in the cache, on its way, or neither, and then a register is free.
+    def access(self, item, step):
+        """What a load finds: each of its lines is in the cache, on its way, or neither, and then a register is free.
 
-        A load is wholly forwarded only where no older store has a tainted address. One that had no register in the cycle
-        before finds its line neither in the cache nor on its way.
+        A load is wholly forwarded only where no older store has a tainted address. One that had too few registers in the cycle
+        before finds as many lines neither in the cache nor on their way.
         """
-        answer, pipeline = words[-1], self.pipeline
+        answer, pipeline, lines = step[0][-1], self.pipeline, lines_of(step)
         if answer == "x" and item.sharers:
             self.tell(f"load {item.serial} faults, but waited for a store's data, and a load that faults has no bytes")
         if answer == "f":
@@ -65,13 +72,47 @@ class Checks:
             if hidden or not any(self.older_stores(item)):
                 self.tell(f"load {item.serial} is forwarded, but " + (f"store {hidden.serial} has a tainted address" if hidden
                                                                         else "no older store is in flight"))
-        if answer not in "mf" and item.lacking == pipeline.cycle - 1:
-            self.tell(f"load {item.serial}: `{answer}`, but in the cycle before it waited for a miss register")
-        if len(words) == 4:
-            line = int(words[2], 16)
-            found = "h" if pipeline.cache.has(line) else "j" if line in pipeline.misses else "m"
-            if found != answer or answer == "m" and len(pipeline.misses) >= pipeline.description.mshrs:
+        cycle, needed = item.lacking
+        taken = [line for line, answer in lines if answer in TAKES]
+        if answer != "f" and cycle == pipeline.cycle - 1 and len(taken) < needed:
+            told = " ".join(":".join(words) for words in step)
+            self.tell(f"load {item.serial}: `{told}`, but in the cycle before it waited for " + register_names(needed))
+        for line, answer in lines:
+            found = self.found(line)
+            if found != answer:
                 self.tell(f"load {item.serial}: `{answer}` for line {line:08x}, where `{found}` is right")
+        if len(pipeline.misses) + len(taken) > pipeline.description.mshrs:
+            self.tell(f"load {item.serial} takes {register_names(len(taken))}, and there are too few")
+        self.lines(item, lines)
+        self.prefetch(item, step, taken)
+
+    def found(self, line):
+        """How a load finds a line."""
+        if self.pipeline.cache.has(line):
+            return "h"
+        return "j" if line in self.pipeline.misses else "2" if self.pipeline.second.has(line) else "m"
+
+    def lines(self, item, lines):
+        """An access has one line; where it may have any address it may have two, the lower first."""
+        size = self.pipeline.description.line
+        behind = [line for line, _ in lines[1:]] == [line + size for line, _ in lines[:-1]]
+        if len(lines) > 1 + self.pipeline.description.misaligned or not behind or any(line % size for line, _ in lines):
+            self.tell(f"{item.code.kind} {item.serial} accesses the lines {names(line for line, _ in lines)}")
+
+    def prefetch(self, item, step, taken):
+        """The line behind a load's is prefetched where the load takes a register, the line begins in memory, it is neither in the cache
+        nor on its way, and a register is left."""
+        pipeline, description = self.pipeline, self.pipeline.description
+        told = [words for words in step if words[0] == PREFETCH]
+        expected = []
+        if description.prefetch and taken:
+            line = lines_of(step)[-1][0] + description.line
+            found, left = self.found(line), description.mshrs - len(pipeline.misses) - len(taken)
+            if line < description.base + description.size and found in TAKES and left > 0:
+                expected = [[PREFETCH, f"{line:08x}", found]]
+        if told != expected:
+            texts = [" ".join(":".join(words) for words in events) or "nothing" for events in (told, expected)]
+            self.tell(f"load {item.serial} prefetches {texts[0]}, where {texts[1]} is right")
 
     def older_stores(self, item):
         return [store for store in self.pipeline.window if store.code.kind == STORE and store.serial < item.serial]
@@ -90,6 +131,10 @@ class Checks:
     def squash(self, told, dropped):
         if told != dropped:
             self.tell(f"{told} entries and items are said to be dropped, {dropped} are")
+
+
+def register_names(number):
+    return "a miss register" if number == 1 else f"{number} miss registers"
 
 
 def names(lines):

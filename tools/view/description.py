@@ -15,6 +15,12 @@ KEYS = {
     "hit_latency": "cache", "miss_latency": "cache", "mshrs": "cache", "base": "ram", "size": "ram", "model": "stt",
 }
 
+# the keys that may be left out, in version 2 alone: their tables, and what they are where they are left out
+OPTIONAL = {
+    "misaligned": ("ram", 0), "history": ("predictor", 0), "returns": ("predictor", 0), "second_sets": ("cache", 0),
+    "second_ways": ("cache", 1), "second_latency": ("cache", 2), "prefetch": ("cache", 0),
+}
+
 
 class Description(NamedTuple):
     """The values of a description, by their keys' names."""
@@ -38,6 +44,13 @@ class Description(NamedTuple):
     base: int
     size: int
     model: str
+    misaligned: int
+    history: int
+    returns: int
+    second_sets: int
+    second_ways: int
+    second_latency: int
+    prefetch: int
 
 
 def read_description(name):
@@ -51,7 +64,8 @@ def read_description(name):
         raise Fault(f"{name}: no TOML text ({error})") from None
     try:
         values = {key: tables[table][key] for key, table in KEYS.items()}
-    except (KeyError, TypeError) as error:
+        values |= {key: tables.get(table, {}).get(key, default) for key, (table, default) in OPTIONAL.items()}
+    except (KeyError, TypeError, AttributeError) as error:
         raise Fault(f"{name}: the description has no {error}") from None
     if values["model"] not in (SPECTRE, FUTURISTIC):
         raise Fault(f"{name}: stt.model is neither {SPECTRE} nor {FUTURISTIC}")

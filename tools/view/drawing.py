@@ -8,7 +8,7 @@ from itertools import islice
 from .listing import tip
 from .reasons import (
     ADDRESS_PORT, BASE, DATA, DATA_PORT, DIVIDER, MISS_REGISTER, OLDER_STORE, OPERAND, PORT, STORE_ADDRESS, STORE_DATA, STORE_TAINT, TAINT,
-    TAINTED_OUTCOME)
+    TAINTED_OUTCOME, TWO_REGISTERS)
 from .spans import DONE, QUEUE, RENAMED, RETIRED, SQUASHED, TRAPPED, spans_of
 
 BEFORE, SPAN = 30, 80
@@ -34,6 +34,7 @@ STATES = {
     ADDRESS_PORT: ("p", "#f4c7dc", "#524", "store: waits for the address port"),
     DATA_PORT: ("p", "#eab0cc", "#524", "store: waits for the data port"),
     MISS_REGISTER: ("r", "#e9a3c9", "#413", "waits for a miss register"),
+    TWO_REGISTERS: ("r", "#d98fb8", "#413", "waits for two miss registers"),
     DIVIDER: ("v", "#cab2d6", "#324", "waits for the divider"),
     "alu": ("+", "#6fa8dc", "#123", "executes: simple, jump"),
     "mul": ("*", "#4f7fc4", "#fff", "executes: multiplication"),
@@ -42,6 +43,7 @@ STATES = {
     "hit": ("H", "#4daf4a", "#fff", "load: hit"),
     "miss": ("M", "#f08c2e", "#310", "load: miss"),
     "join": ("J", "#f6c445", "#310", "load: joins a miss"),
+    "second": ("2", "#c98b2e", "#310", "load: second level"),
     "forward": ("F", "#7fd3ee", "#023", "load: forwarded"),
     "fault": ("X", "#7a5230", "#fff", "load: faults"),
     DONE: ("d", "#d5e8d4", "#465", "done"),

@@ -8,6 +8,7 @@ from typing import NamedTuple
 
 ARITHMETIC, MULTIPLICATION, DIVISION = "arithmetic", "multiplication", "division"
 LOAD, STORE, BRANCH, JALR, JAL, CALL, STOP = "load", "store", "branch", "jalr", "jal", "call", "stop"
+LINK = 1
 
 
 class Instruction(NamedTuple):
@@ -21,6 +22,11 @@ class Instruction(NamedTuple):
     def is_control(self):
         """A branch or JALR: what is resolved."""
         return self.kind in (BRANCH, JALR)
+
+    @property
+    def is_return(self):
+        """A JALR to what x1 says, that writes no register."""
+        return self.kind == JALR and self.sources == (LINK,) and self.destination == 0
 
     @property
     def at_once(self):

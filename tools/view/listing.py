@@ -1,5 +1,5 @@
 """`list`: one line an instruction with all its times."""
-from .pipeline import NEVER
+from .pipeline import LOAD_UNITS, NEVER
 from .reasons import HELD
 from .why import cycles, held_by
 
@@ -29,11 +29,11 @@ def shown(number):
 def notes(item):
     """What the times don't tell: the access, the outcome, taint, and how it went."""
     if item.unit and item.code.kind == "load":
-        yield f"{item.unit}" + (f" {item.line:08x}" if item.line is not None else "")
+        yield ", ".join(f"{LOAD_UNITS[found]} {line:08x}" for line, found in item.lines) or item.unit
     if len(set(item.parts.values())) > 1 or item.parts and item.issued is None:
         yield ", ".join(f"{PART_NAMES[part]} {cycle}" for part, cycle in sorted(item.parts.items(), key=lambda part: part[1]))
-    if item.store:
-        yield f"writes {item.line:08x}, {'hit' if item.store == 'h' else 'miss'}"
+    for line, found in item.written:
+        yield f"writes {line:08x}, {LOAD_UNITS[found]}"
     if item.output is not None:
         yield f"puts out {item.output} bytes"
     if item.outcome:

@@ -1,15 +1,24 @@
 """The cache, the miss registers and the divider, as the events of a trace move them (docs/machine.md, "State")."""
+from typing import NamedTuple
+
+
+class Miss(NamedTuple):
+    """What a miss register waits for: the cycle in which its line comes, and whether it comes from memory."""
+
+    due: int
+    from_memory: bool
 
 
 class Cache:
-    """For each set its lines, the most recently used first."""
+    """A level of the cache: for each set its lines, the most recently used first."""
 
-    def __init__(self, description):
-        self.line, self.ways = description.line, description.ways
-        self.sets = [[] for _ in range(description.sets)]
+    def __init__(self, line, sets, ways):
+        self.line, self.ways = line, ways
+        self.sets = [[] for _ in range(sets)]
 
     def set_of(self, line):
-        return self.sets[line // self.line % len(self.sets)]
+        """The lines of its set; none where there are no sets."""
+        return self.sets[line // self.line % len(self.sets)] if self.sets else []
 
     def has(self, line):
         return line in self.set_of(line)
@@ -23,6 +32,8 @@ class Cache:
 
     def fill(self, line):
         """A line enters the front of its set; the line that then is one too many is dropped, and answered."""
+        if not self.sets:
+            return None
         lines = self.set_of(line)
         lines.insert(0, line)
         return lines.pop() if len(lines) > self.ways else None

@@ -18,7 +18,7 @@ def lines_of(replay, disassembler, first, last):
             issued = item.renamed if item.code.at_once else item.issued
             yield f"O3PipeView:issue:{tick(issued)}"
             yield f"O3PipeView:complete:{tick(done)}"
-            yield f"O3PipeView:retire:{tick(item.retired)}:store:{tick(item.retired if item.store else None)}"
+            yield f"O3PipeView:retire:{tick(item.retired)}:store:{tick(item.retired if item.written else None)}"
 
 
 def tick(cycle):

@@ -8,9 +8,10 @@ from collections import deque
 from . import Fault
 from .description import SPECTRE
 from .instruction import CALL, LOAD, STORE
-from .memory_side import Cache, Divider
+from .memory_side import Cache, Divider, Miss
 
 NEVER = 1 << 62
+PREFETCH = "pf"
 # the parts of a store, by the names of their events
 PARTS = ADDRESS_PART, DATA_PART = "agu", "std"
 
@@ -29,24 +30,25 @@ class Wait:
 class Item:
     """A fetched instruction. Its times are numbers of cycles, and None where it didn't come to that.
 
-    `unit` is how it issued: `alu`, `mul`, `div`, `agu`, or a load by its access: `hit`, `miss`, `join`, `forward`, `fault`.
-    A store has issued once both of its parts have: `parts` has the cycle of each, by the name of its event.
+    `unit` is how it issued: `alu`, `mul`, `div`, `agu`, or a load by its access: `hit`, `miss`, `join`, `second`, `forward`,
+    `fault`; where it has two lines, by the one that comes later. `lines` are those of a load and `written` those of a store, each with
+    the letter of how it was found. A store has issued once both of its parts have: `parts` has the cycle of each, by the name of its event.
     `roots` are, for each source, the youngest load from which the value flows, or None. `ready` is the first cycle in which
     it could have issued as far as its operands go. Of a load `sharers` are the stores of which one kept it for its data, and
-    `lacking` is the last cycle in which it surely lacked a miss register.
+    `lacking` is the last cycle in which it surely lacked miss registers, and how many of its lines then needed one.
     """
 
-    __slots__ = ("number", "pc", "code", "serial", "fetched", "renamed", "ready", "issued", "unit", "line", "due", "done",
-                 "resolved", "outcome", "mispredicted", "retired", "squashed", "trapped", "store", "output", "sources",
+    __slots__ = ("number", "pc", "code", "serial", "fetched", "renamed", "ready", "issued", "unit", "due", "done",
+                 "resolved", "outcome", "mispredicted", "retired", "squashed", "trapped", "lines", "written", "output", "sources",
                  "awaits", "consumers", "roots", "waits", "producers", "parts", "sharers", "lacking")
 
     def __init__(self, number, pc, code, cycle):
         self.number, self.pc, self.code, self.fetched = number, pc, code, cycle
-        self.serial = self.renamed = self.ready = self.issued = self.unit = self.line = self.due = self.done = None
-        self.resolved = self.outcome = self.retired = self.squashed = self.trapped = self.store = self.output = None
-        self.mispredicted = False
+        self.serial = self.renamed = self.ready = self.issued = self.unit = self.due = self.done = None
+        self.resolved = self.outcome = self.retired = self.squashed = self.trapped = self.output = None
+        self.mispredicted, self.lines, self.written = False, (), ()
         self.sources, self.roots, self.consumers, self.awaits = (), (), [], 0
-        self.waits, self.producers, self.parts, self.sharers, self.lacking = [], (), {}, (), None
+        self.waits, self.producers, self.parts, self.sharers, self.lacking = [], (), {}, (), (None, 0)
 
     @property
     def gone(self):
@@ -77,11 +79,11 @@ def youngest(items):
     return max((item for item in items if item is not None), key=lambda item: item.serial, default=None)
 
 
-LOAD_UNITS = {"h": "hit", "m": "miss", "j": "join", "f": "forward", "x": "fault"}
+LOAD_UNITS = {"h": "hit", "m": "miss", "j": "join", "2": "second", "f": "forward", "x": "fault"}
 
 
 class Pipeline:
-    """The machine's state, as far as a trace tells it.
+    """The machine's state, as far as a trace tells it. `misses` are the miss registers that are taken, by their lines.
 
     `waiting` are the entries that haven't issued, by age, `open_stores` the stores that aren't Done, and `shadows` the
     entries that keep younger ones from being visible: what stands behind the first of them isn't.
@@ -95,8 +97,10 @@ class Pipeline:
         self.controls = []
         self.writers = [None] * 32
         self.loads = self.stores = 0
-        self.cache, self.divider, self.misses = Cache(description), Divider(), {}
-        self.fills, self.last_squash = [], None
+        self.cache = Cache(description.line, description.sets, description.ways)
+        self.second = Cache(description.line, description.second_sets, description.second_ways)
+        self.divider, self.misses = Divider(), {}
+        self.fills, self.prefetches, self.last_squash = [], [], None
 
     @property
     def point(self):
@@ -117,8 +121,10 @@ class Pipeline:
     # ---- Fill and Complete
 
     def fill(self, line):
-        self.misses.pop(line, None)
+        miss = self.misses.pop(line, None)
         self.fills.append((self.cycle, line, self.cache.fill(line)))
+        if miss and miss.from_memory:
+            self.second.fill(line)
 
     def complete(self, item):
         item.done = self.cycle
@@ -174,20 +180,24 @@ class Pipeline:
         self.window.popleft()
         item.retired = self.cycle
         self.leave(item)
+        if item in self.open_stores:
+            self.open_stores.remove(item)
         if self.writers[item.code.destination] is item:
             self.writers[item.code.destination] = None
         if self.shadows and self.shadows[0] is item:
             self.shadows.pop(0)
 
     def write(self, item, line, answer):
-        item.line, item.store = line, answer
+        item.written += ((line, answer),)
         if answer == "h":
             self.cache.touch(line)
 
     # ---- Issue
 
-    def issue(self, item, words):
-        """The entry begins to execute; `due` is when it will be done."""
+    def issue(self, item, step):
+        """The entry begins to execute; `due` is when it will be done. A step is its events: one, but of a load one for each line, and
+        that of what is prefetched behind them."""
+        words = step[0]
         if item.issued is not None or item not in self.waiting or words[0] in item.parts:
             raise Fault(f"cycle {self.cycle}: `{':'.join(words)}` is of an entry that doesn't wait")
         if words[0] in PARTS:
@@ -196,7 +206,7 @@ class Pipeline:
         self.waiting.remove(item)
         item.issued, item.unit = self.cycle, words[0]
         if words[0] == "ld":
-            self.access(item, words)
+            self.access(item, step)
             return
         time = {"mul": self.description.mul_latency, "div": int(words[-1])}.get(words[0], 1)
         item.due = self.cycle + time
@@ -213,18 +223,37 @@ class Pipeline:
     def shares(self, load, store):
         """Whether the two have a byte in common, which a trace doesn't tell: None."""
 
-    def access(self, item, words):
-        """What a load found: its unit, its line if it has one, and when its value comes."""
-        item.unit = LOAD_UNITS[words[-1]]
-        item.line = int(words[2], 16) if len(words) == 4 else None
-        latency = {"hit": self.description.hit_latency, "miss": self.description.miss_latency}.get(item.unit, 1)
-        item.due = self.cycle + latency
-        if item.unit == "hit":
-            self.cache.touch(item.line)
-        elif item.unit == "join":
-            item.due = self.misses.get(item.line, item.due)
-        elif item.unit == "miss":
-            self.misses[item.line] = item.due
+    def may_take_two(self, load):
+        """Whether the load may have two lines; that of a single byte has one."""
+        return is_wide(self.image.words.get(load.pc))
+
+    def access(self, item, step):
+        """What a load found: its unit, its lines, and when its value comes."""
+        item.lines = lines_of(step)
+        dues = [self.look(line, answer) for line, answer in item.lines] or [self.cycle + 1]
+        item.due = max(dues)
+        item.unit = LOAD_UNITS[step[dues.index(item.due)][-1]]
+        if step[-1][0] == PREFETCH:
+            line, answer = int(step[-1][1], 16), step[-1][2]
+            self.take(line, answer)
+            self.prefetches.append((self.cycle, line, answer))
+
+    def look(self, line, answer):
+        """When a line is there that was found so."""
+        if answer == "h":
+            self.cache.touch(line)
+            return self.cycle + self.description.hit_latency
+        if answer == "j":
+            return self.misses[line].due if line in self.misses else self.cycle + 1
+        return self.take(line, answer)
+
+    def take(self, line, answer):
+        """A miss register takes a line, from the second level or from memory. Answers when it comes."""
+        from_memory = answer == "m"
+        self.second.touch(line)
+        due = self.cycle + (self.description.miss_latency if from_memory else self.description.second_latency)
+        self.misses[line] = Miss(due, from_memory)
+        return due
 
     # ---- Rename and Fetch
 
@@ -284,3 +313,13 @@ def root_of(writer):
     if writer is None:
         return None
     return writer if writer.code.kind == LOAD else youngest(writer.roots)
+
+
+def lines_of(step):
+    """The lines of a load, each with the letter of what it found; none where it faults or is forwarded."""
+    return tuple((int(words[2], 16), words[3]) for words in step if len(words) == 4)
+
+
+def is_wide(word):
+    """A load of a half-word or a word: its width stands in bits 12 and 13."""
+    return bool(word >> 12 & 3)

@@ -13,6 +13,8 @@ from .pipeline import PARTS
 # to issue
 OPERAND, TAINT, OLDER_STORE, PORT, MISS_REGISTER, DIVIDER = (
     "operand", "taint", "older store", "port", "miss register", "divider")
+# to issue where accesses may have any address: a load of two lines
+TWO_REGISTERS = "two miss registers"
 # to issue in version 2: a part of a store; a load
 BASE, DATA, ADDRESS_PORT, DATA_PORT = "base", "data", "address port", "data port"
 STORE_ADDRESS, STORE_DATA, STORE_TAINT = "older store's address", "older store's data", "older store's tainted address"
@@ -117,7 +119,7 @@ class Reasons:
     def keep(self, item, goes, reason, cause):
         """Takes the port of an entry that is tried, and keeps the reason of one that waits."""
         port = PORT_OF.get(item.code.kind, "arithmetic")
-        if reason is None or reason == MISS_REGISTER:
+        if reason in (None, MISS_REGISTER, TWO_REGISTERS):
             self.ports[port] -= 1
         if goes and reason is not None:
             self.tell(f"entry {item.serial} issues, but has to wait: {reason}")
@@ -130,7 +132,7 @@ class Reasons:
         """The reason why this entry can't issue, and the entry that it waits for; None and None where it can."""
         kind = item.code.kind
         if item.awaits:
-            return OPERAND, next(writer for writer in item.sources if writer is not None and writer.done is None)
+            return OPERAND, next((writer for writer in item.sources if writer is not None and writer.done is None), None)
         if kind in (LOAD, DIVISION):
             root = self.tainted_root(item)
             if root is not None:
@@ -168,20 +170,29 @@ class Reasons:
         return [store for store in self.pipeline.open_stores if store.serial < load.serial]
 
     def tried(self, load, goes):
-        """Why a load doesn't issue that no other rule keeps: it finds no miss register. Or, in version 2, an older store without data
-        covers a byte of it, which a trace tells by that alone: that is certain where a register is free, or a younger load goes.
+        """Why a load doesn't issue that no other rule keeps: it finds too few miss registers. Or, in version 2, an older store without
+        data covers a byte of it, which a trace tells by that alone: that is certain where its lines find registers, or a younger load
+        goes.
         """
         stores = [] if self.description.version == 1 else self.may_share(load)
-        full = len(self.pipeline.misses) >= self.description.mshrs
+        lacks = self.lacks(load)
         if goes:
             self.check_sharers(load, stores)
-        elif stores and (not full or load.serial < self.last_load):
+        elif stores and (not lacks or load.serial < self.last_load):
             load.sharers = stores
             return STORE_DATA, stores[-1]
-        elif full:
-            load.lacking = load.lacking if stores else self.pipeline.cycle
-            return MISS_REGISTER, None
+        elif lacks:
+            load.lacking = load.lacking if stores else (self.pipeline.cycle, lacks)
+            return (MISS_REGISTER if lacks == 1 else TWO_REGISTERS), None
         return None, None
+
+    def lacks(self, load):
+        """How many registers a load needs, as far as the trace tells it, where there are fewer; 0 where it can have enough.
+
+        Without any it needs one, and may need two; with one left a load needs two, and only where accesses may have any address.
+        """
+        left = self.description.mshrs - len(self.pipeline.misses)
+        return 1 if left <= 0 else 2 if left == 1 and self.description.misaligned and self.pipeline.may_take_two(load) else 0
 
     def may_share(self, load):
         """The older stores without data of which it isn't known whether they cover a byte of the load."""

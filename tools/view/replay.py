@@ -2,7 +2,7 @@
 from . import Fault
 from .checks import Checks
 from .front_end import FrontEnd
-from .pipeline import Pipeline
+from .pipeline import PREFETCH, Pipeline
 from .reasons import Reasons
 from .trace import COMPLETE, FETCH, FILL, ISSUE, RENAME, RESOLVE, RETIRE
 
@@ -115,21 +115,34 @@ class Replay:
         self.retired += len(retired)
 
     def issue(self, events):
-        told = {}
-        for words in events:
-            told.setdefault(int(words[1]), set()).add(words[0])
+        told, steps = {}, self.steps(events)
+        for (name, serial, *_), *_ in steps:
+            told.setdefault(int(serial), set()).add(name)
         self.reasons.issue(told)
-        self.checks.order(events)
-        for words in events:
-            item = self.pipeline.entry(words)
-            self.checks.unit(item, words[0])
-            if words[0] == "ld":
-                self.checks.access(item, words)
-        for words in events:
-            item = self.pipeline.entry(words)
-            self.pipeline.issue(item, words)
+        self.checks.order(steps)
+        for step in steps:
+            item = self.pipeline.entry(step[0])
+            self.checks.unit(item, step[0][0])
+            if step[0][0] == "ld":
+                self.checks.access(item, step)
+        for step in steps:
+            item = self.pipeline.entry(step[0])
+            self.pipeline.issue(item, step)
             self.checks.issued(item)
         self.reasons.explain_head()
+
+    def steps(self, events):
+        """The events of Issue, those of one load together: one for each of its lines, and that of what is prefetched behind them."""
+        steps = []
+        for words in events:
+            last = steps[-1][-1] if steps else [None, None]
+            if words[0] == PREFETCH and last[0] == "ld" or words[0] == "ld" and last[:2] == words[:2]:
+                steps[-1].append(words)
+            elif words[0] == PREFETCH:
+                raise Fault(f"cycle {self.pipeline.cycle}: `{':'.join(words)}` doesn't follow a load")
+            else:
+                steps.append([words])
+        return steps
 
     def rename(self, events):
         for words in events:

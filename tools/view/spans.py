@@ -1,12 +1,12 @@
 """What an instruction does in each cycle from its fetch until it is gone: the stages of pictures and of Konata's log."""
 from .reasons import (
     ADDRESS_PORT, BASE, DATA, DATA_PORT, DIVIDER, MISS_REGISTER, OLDER_STORE, OPERAND, PORT, STORE_ADDRESS, STORE_DATA, STORE_TAINT, TAINT,
-    TAINTED_OUTCOME)
+    TAINTED_OUTCOME, TWO_REGISTERS)
 
 QUEUE, RENAMED, DONE, RETIRED, SQUASHED, TRAPPED = "queue", "renamed", "done", "retired", "squashed", "trapped"
-WAITS = (OPERAND, TAINT, OLDER_STORE, PORT, MISS_REGISTER, DIVIDER, BASE, DATA, ADDRESS_PORT, DATA_PORT, STORE_ADDRESS, STORE_DATA,
+WAITS = (OPERAND, TAINT, OLDER_STORE, PORT, MISS_REGISTER, TWO_REGISTERS, DIVIDER, BASE, DATA, ADDRESS_PORT, DATA_PORT, STORE_ADDRESS, STORE_DATA,
          STORE_TAINT)
-UNITS = ("alu", "mul", "div", "agu", "hit", "miss", "join", "forward", "fault")
+UNITS = ("alu", "mul", "div", "agu", "hit", "miss", "join", "second", "forward", "fault")
 
 
 def spans_of(item, end):

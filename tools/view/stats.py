@@ -5,9 +5,10 @@ from .front_end import QUEUE_EMPTY
 from .instruction import BRANCH, JALR
 from .reasons import HELD
 
-LOAD_KINDS = (("hit", "loads: hit"), ("miss", "loads: miss"), ("join", "loads: join a miss"), ("forward", "loads: forwarded"),
-              ("fault", "loads: fault"))
+LOAD_KINDS = (("hit", "loads: hit"), ("miss", "loads: miss"), ("join", "loads: join a miss"), ("second", "loads: second level"),
+              ("forward", "loads: forwarded"), ("fault", "loads: fault"))
 OTHER_UNITS = (("agu", "stores issued"), ("alu", "simple, branches, jumps"), ("mul", "multiplications"), ("div", "divisions"))
+RETURN = "return"
 MOST = 10
 
 
@@ -18,7 +19,7 @@ class Counts:
         self.fetched = self.renamed = self.squashed = self.retired = 0
         self.units, self.wrong = Counter(), Counter()
         self.resolved, self.mispredicted = Counter(), Counter()
-        self.stores, self.output = Counter(), 0
+        self.stores, self.output, self.two_lines = Counter(), 0, 0
         self.held, self.held_cycles, self.held_dropped = Counter(), Counter(), Counter()
 
     def add(self, item):
@@ -32,8 +33,11 @@ class Counts:
         if item.resolved is not None:
             self.resolved[item.code.kind] += 1
             self.mispredicted[item.code.kind] += item.mispredicted
-        if item.store:
-            self.stores[item.store] += 1
+            self.resolved[RETURN] += item.code.is_return
+            self.mispredicted[RETURN] += item.code.is_return and item.mispredicted
+        self.two_lines += len(item.lines) > 1
+        if item.written:
+            self.stores[all(found == "h" for _, found in item.written)] += 1
         self.output += item.output or 0
         self.add_held(item)
 
@@ -57,7 +61,7 @@ def lines_of(replay, disassembler):
     """The lines of `stats`."""
     counts = count(replay.items())
     pipeline, reasons, end = replay.pipeline, replay.reasons, replay.trace.end
-    cycles = pipeline.cycle
+    cycles, description = pipeline.cycle, pipeline.description
     rows = [
         ("end", end.text if end else "none: the trace is cut"),
         ("cycles", cycles),
@@ -68,12 +72,19 @@ def lines_of(replay, disassembler):
         ("squashed", counts.squashed),
     ]
     rows += [(f"resolved: {name}", f"{counts.resolved[kind]}, mispredicted {counts.mispredicted[kind]}")
-             for name, kind in (("branches", BRANCH), ("JALRs", JALR))]
-    rows += [(name, executed(counts, unit)) for unit, name in LOAD_KINDS + OTHER_UNITS]
+             for name, kind in (("branches", BRANCH), ("JALRs", JALR), ("returns", RETURN))]
+    kinds = [kind for kind in LOAD_KINDS if kind[0] != "second" or description.second_sets]
+    rows += [(name, executed(counts, unit)) for unit, name in kinds]
+    rows += [("loads in two lines", counts.two_lines)] * description.misaligned
+    rows += [(name, executed(counts, unit)) for unit, name in OTHER_UNITS]
     rows += [
-        ("stores retired", f"{sum(counts.stores.values())}, to a line in the cache {counts.stores['h']}"),
+        ("stores retired", f"{sum(counts.stores.values())}, to a line in the cache {counts.stores[True]}"),
         ("bytes put out", counts.output),
         ("lines filled", f"{len(pipeline.fills)}, dropped for them {sum(drop is not None for _, _, drop in pipeline.fills)}"),
+    ]
+    second = sum(answer == "2" for _, _, answer in pipeline.prefetches)
+    rows += [("lines prefetched", f"{len(pipeline.prefetches)}, from the second level {second}")] * description.prefetch
+    rows += [
         ("held by taint", f"{sum(counts.held.values())} instructions, {sum(counts.held_cycles.values())} cycles; "
                           f"{sum(counts.held_dropped.values())} never went on"),
         ("unexplained", len(reasons.unexplained)),

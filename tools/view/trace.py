@@ -12,9 +12,11 @@ FILL, COMPLETE, RESOLVE, RETIRE, ISSUE, RENAME, FETCH = range(7)
 EVENTS = {
     "fill": (FILL, 2), "done": (COMPLETE, 2), "res": (RESOLVE, 3), "bp": (RESOLVE, 3), "bt": (RESOLVE, 3), "sq": (RESOLVE, 2),
     "ret": (RETIRE, 2), "st": (RETIRE, 4), "call": (RETIRE, 3), "alu": (ISSUE, 2), "mul": (ISSUE, 2), "div": (ISSUE, 3),
-    "agu": (ISSUE, 2), "std": (ISSUE, 2), "ld": (ISSUE, 4), "ren": (RENAME, 3), "fet": (FETCH, 2),
+    "agu": (ISSUE, 2), "std": (ISSUE, 2), "ld": (ISSUE, 4), "pf": (ISSUE, 3), "ren": (RENAME, 3), "fet": (FETCH, 2),
 }
 WITHOUT_LINE = ("f", "x")
+# how the line of a load, of a store, and one that is prefetched may be found
+FOUND = {"ld": ("h", "m", "j", "2"), "st": ("h", "m"), "pf": ("m", "2")}
 
 END = re.compile(r"end (exit \d+|trap [0-7] [0-9a-f]{8}|budget) retired (\d+) cycles (\d+)")
 
@@ -32,7 +34,8 @@ class Row(NamedTuple):
         for text in self.events:
             words = text.split(":")
             phase, length = EVENTS.get(words[0], (None, 0))
-            if len(words) != length and not (words[0] == "ld" and len(words) == 3 and words[2] in WITHOUT_LINE):
+            found = len(words) == length and words[-1] in FOUND.get(words[0], words)
+            if not found and not (words[0] == "ld" and len(words) == 3 and words[2] in WITHOUT_LINE):
                 raise Fault(f"cycle {self.cycle}: `{text}` is no event of a trace")
             phases[phase].append(words)
         return phases

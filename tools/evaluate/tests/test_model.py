@@ -1,6 +1,8 @@
-"""The model of tools/evaluate writes each run's trace, also of the runs that were written elsewhere, and each wrong rule of the parts of
-a store is seen by a run."""
+"""The model of tools/evaluate writes each run's trace, also of the runs that were written elsewhere, and each wrong rule of
+the parts of a store, of accesses at any address, of the second level and of the prefetch, of history and of the return
+stack is seen by a run."""
 import os
+import re
 import sys
 import types
 import unittest
@@ -11,7 +13,9 @@ RUNS = os.path.join(HERE, "runs")
 sys.dont_write_bytecode = True
 sys.path[:0] = [HERE, os.path.dirname(HERE)]
 import model
-from verdict.loaded import Loaded
+import wrong_memory
+import wrong_prediction
+from verdict.loaded import load
 
 ASKED = "store.data_due is None and (tainted[store.serial][0] or any(map(store.covers, bytes_of_it)))"
 WHOLE = "            if None not in (entry.address_due, entry.data_due):\n"
@@ -21,7 +25,7 @@ LEFT = "                if left[port]:\n                    left[port] -= 1\n"
 FROM = "(e for e in reversed(before) if e.covers(byte))"
 
 # wrong rules: a text of the model, what stands there then, and runs whose traces it changes
-WRONG = [
+PARTS = [
     ("a load passes a store of unknown address", "            if store.address_due is None:\n                return False\n", "",
      ["late_address", "younger_address", "tainted_address_hidden"]),
     ("a load passes a store without data that shares a byte", " or any(map(store.covers, bytes_of_it))", "", ["late_data", "one_byte"]),
@@ -75,6 +79,7 @@ WRONG = [
     ("the parts go apart in version 1", "            if self.d.version == 1:\n                return [ADDRESS, DATA]",
      "            if self.d.version == 0:\n                return [ADDRESS, DATA]", ["late_data_version_1"]),
 ]
+WRONG = PARTS + wrong_memory.WRONG + wrong_prediction.WRONG
 
 
 def content(*path):
@@ -95,7 +100,7 @@ def changed(old, new):
 def run(name, written_by=model):
     """The trace of a run's folder, and its status."""
     numbers = written_by.read_numbers(content(RUNS, name, "core.toml"))
-    image = Loaded(os.path.join(RUNS, name, "image.elf"), numbers.base, numbers.size)
+    image = load(os.path.join(RUNS, name, "image.elf"), numbers)
     lines, status = written_by.trace(numbers, image, int(content(RUNS, name, "cycles")))
     return "".join(line + "\n" for line in lines), status
 
@@ -112,6 +117,13 @@ class Model(unittest.TestCase):
             for name in names:
                 with self.subTest(what, name=name):
                     self.assertNotEqual(run(name, changed(old, new))[0], content(RUNS, name, "trace"))
+
+    def test_the_readme_lists_each_wrong_rule(self):
+        with open(os.path.join(RUNS, "README.md"), encoding="utf-8") as file:
+            rows = dict(re.findall(r"^\| (.+?)(?: \(in the model alone\))? \| (.+) \|$", file.read(), re.M))
+        for what, _, _, names in WRONG:
+            with self.subTest(what):
+                self.assertEqual(rows[what], ", ".join(f"`{name}`" for name in names))
 
 
 if __name__ == "__main__":

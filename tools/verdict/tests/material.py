@@ -14,7 +14,7 @@ sys.path.append(os.path.join(TOOLS, "view", "tests"))
 import support
 from programs import PROGRAMS
 from verdict import hart, simulator
-from verdict.loaded import Loaded
+from verdict.loaded import Loaded, load
 from view.description import read_description
 
 CODE, DATA = 0x00010000, 0x0001fff0
@@ -98,7 +98,7 @@ def isa_report(path, steps, description=None):
 def own_report(path, steps, description=None):
     """The report of the run by this tool."""
     machine = read_description(description) if description else None
-    image = Loaded(path, *((machine.base, machine.size) if machine else (ISA_BASE, ISA_SIZE)))
+    image = load(path, machine) if machine else Loaded(path, ISA_BASE, ISA_SIZE)
     run = hart.Hart(image)
     for _ in run.run(steps):
         pass

@@ -10,7 +10,7 @@ from generate.generated import add, addi, branch, div, immediate_form, jal, lw, 
 from material import CODE_FLAGS, DATA_FLAGS, needs_program, support
 from programs import EXIT, lbu
 from verdict import judge
-from verdict.loaded import Loaded
+from verdict.loaded import load
 from verdict.path import walk
 from view.description import read_description
 
@@ -47,7 +47,7 @@ class Noninterference(unittest.TestCase):
             machine, words, data = read_description(description), random_program(draw), draw.randbytes(SIZE)
             first = machine.base + machine.size - 16 - SIZE
             one = self.image(number, words, first, data)
-            loaded = walk(Loaded(one, machine.base, machine.size), machine.model, 100000).loads
+            loaded = walk(load(one, machine), machine.model, 100000).loads
             other = bytes(byte if first + at in loaded else byte ^ draw.randrange(1, 256) for at, byte in enumerate(data))
             case = judge.case_of(support.PROGRAM, description, one, self.image("other", words, first, other), CYCLES)
             with self.subTest(number=number):

@@ -3,7 +3,7 @@ import os
 import unittest
 
 from material import BOUND_0, CODE, CORE, DATA, RUNS, SECRET, gadget, program, support
-from verdict.loaded import Loaded
+from verdict.loaded import load
 from verdict.telling import Telling
 from view import Fault
 from view.description import read_description
@@ -73,12 +73,13 @@ class Worked(unittest.TestCase):
             self.assertEqual((found.reasons.unexplained, held(found), found.shown), ([], {}, {}))
 
 
-def stored(run, differing=None):
-    """What the trace of a stored run tells of these bytes, or of all."""
+def stored(run, differing=None, change=("", "")):
+    """What the trace of a stored run, or one with another text in it, tells of these bytes, or of all."""
     machine = read_description(os.path.join(run, "core.toml"))
-    image = Loaded(os.path.join(run, "image.elf"), machine.base, machine.size)
+    image = load(os.path.join(run, "image.elf"), machine)
     with open(os.path.join(run, "trace"), encoding="ascii") as trace:
-        return Telling(Trace(trace), image, machine, differing or range(machine.base, machine.base + machine.size))
+        lines = trace.read().replace(*change).splitlines(keepends=True)
+    return Telling(Trace(lines), image, machine, differing or range(machine.base, machine.base + machine.size))
 
 
 class StoredRuns(unittest.TestCase):
@@ -99,6 +100,13 @@ class StoredRuns(unittest.TestCase):
 
 class OtherTraces(unittest.TestCase):
     """A trace that isn't one of the image is told from one that is by what is computed."""
+
+    def test_one_line_of_two(self):
+        for name, old, message in [("later_of_two_lines", "ld:2:0001ffe0:h ", "0001ffe0:m 0001fff0: is computed"),
+                                   ("store_moves_both_lines", "st:6:0001ffe0:h ", "writes line 0001fff0, and 0001ffe0 0001fff0 is computed")]:
+            run = next(run for run in RUNS if os.path.basename(run) == name)
+            with self.subTest(name), self.assertRaisesRegex(Fault, message):
+                stored(run, change=(old, ""))
 
     def refused(self, run, old, new, message):
         with self.assertRaisesRegex(Fault, message):

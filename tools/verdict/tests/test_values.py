@@ -58,7 +58,7 @@ class Shadows(unittest.TestCase):
         """Under futuristic a Done store is safe where it doesn't fault; under spectre stores cast no shadow."""
         for store, model, safe in [(sw(5, 0, 0), FUTURISTIC, False), (sw(5, 0, 2), FUTURISTIC, True), (sw(5, 0, 0), SPECTRE, True)]:
             pipeline, (item,) = renamed([store], model)
-            pipeline.issue(item, ["agu", "0"])
+            pipeline.issue(item, [["agu", "0"]])
             pipeline.complete(item)
             self.assertEqual(pipeline.shadows, [] if safe else [item], (hex(store), model))
 

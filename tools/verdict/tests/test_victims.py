@@ -74,7 +74,7 @@ class Victims(unittest.TestCase):
         """Each victim's run on the instruction set is the simulator's."""
         for _, folder in self.each_compiler():
             paths = glob.glob(os.path.join(folder, "*.elf"))
-            self.assertEqual(len(paths), 19)
+            self.assertEqual(len(paths), 21)
             for path in paths:
                 words = path, 100000, support.example(DESCRIPTIONS[0])
                 self.assertEqual(material.own_report(*words), material.isa_report(*words), path)

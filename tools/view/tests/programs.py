@@ -59,4 +59,6 @@ PROGRAMS = {
     "breakpoint": [SLOW, EBREAK],
     "end of code": [SLOW],
     "endless jump": [jal(0, 0)],
+    "accesses across lines": [SLOW, lw(5, -2, 2), sw(5, -2, 2), lw(6, -1, 2), lbu(7, -3, 2), lw(7, -18, 2), lw(6, -35, 2), lw(5, -62, 2),
+                              sh(6, -17, 2), lw(5, -33, 2), *EXIT],
 }

@@ -11,8 +11,8 @@ sys.path.insert(0, os.path.join(ROOT, "tools"))
 
 from evaluate import model
 from generate.generated import image
-from verdict.loaded import Loaded
-from view.description import read_description
+from verdict.loaded import load
+from view.description import OPTIONAL, read_description
 from view.disassembly import KINDS, Disassembler
 from view.image import Image
 from view.replay import Replay
@@ -66,14 +66,17 @@ def description(name, model, version=1, **changes):
     with open(example("core.toml" if version == 1 else "core_version_2.toml"), encoding="utf-8") as file:
         text = file.read()
     for key, value in changes.items():
-        text = re.sub(rf"^{key} = \d+", f"{key} = {value}", text, flags=re.M)
+        table, _ = OPTIONAL.get(key, (None, None))
+        old, new = (rf"^\[{table}\]$", rf"[{table}]\n{key} = {value}") if table else (rf"^{key} = \d+", f"{key} = {value}")
+        text = re.sub(old, new, text, flags=re.M)
     return file_of(f"{name}_{model}_{version}.toml", text.replace('"spectre"', f'"{model}"').encode())
 
 
-def descriptions(version=1):
-    """The example description of a version, a small and a large one, each under both models."""
+def descriptions(version=1, **more):
+    """The example description of a version, a small and a large one, each under both models; with more keys where they are given."""
     changes = {"example": {}, "smallest": SMALLEST, "largest": LARGEST if version == 1 else LARGEST | LARGER}
-    return [description(name, model, version, **changes[name]) for name in changes for model in ("spectre", "futuristic")]
+    return [description("_".join([name, *more]), model, version, **changes[name] | more)
+            for name in changes for model in ("spectre", "futuristic")]
 
 
 def worked_trace(heading):
@@ -131,8 +134,15 @@ def modelled(description_file, image_file, cycles):
     """The trace that the model of tools/evaluate writes, as lines."""
     with open(description_file, encoding="utf-8") as file:
         numbers = model.read_numbers(file.read())
-    lines, _ = model.trace(numbers, Loaded(image_file, numbers.base, numbers.size), cycles)
+    lines, _ = model.trace(numbers, load(image_file, numbers), cycles)
     return [line + "\n" for line in lines]
+
+
+def stored(name):
+    """The lines of a stored run's trace, its image and its description."""
+    folder = os.path.join(ROOT, "tools", "evaluate", "runs", name)
+    with open(os.path.join(folder, "trace"), encoding="ascii") as lines:
+        return lines.readlines(), os.path.join(folder, "image.elf"), os.path.join(folder, "core.toml")
 
 
 def run_program(*words):

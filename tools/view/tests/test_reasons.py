@@ -1,5 +1,4 @@
 """Why instructions wait, on the worked traces of docs/machine.md: what is expected is what the text beside them says."""
-import os
 import unittest
 
 import support
@@ -70,7 +69,7 @@ class WorkedTraces(unittest.TestCase):
         run, entries, _ = support.replay(support.worked_trace("Forwarding"), image, support.example("core.toml"))
         self.assertEqual([entries[serial].unit for serial in (3, 5)], ["miss", "forward"])
         self.assertEqual(waits(entries[3]), [("4", "older store", 2)])
-        self.assertEqual((entries[2].store, entries[4].store), ("h", "h"))
+        self.assertEqual((entries[2].written, entries[4].written), (((0x0001fff0, "h"),), ((0x0001fff0, "h"),)))
         self.assertEqual(run.reasons.unexplained, [])
 
     def test_misses_of_a_wrong_path(self):
@@ -91,11 +90,6 @@ class WorkedTraces(unittest.TestCase):
 
 class StoresInParts(unittest.TestCase):
     """In version 2: the worked trace of a store whose data comes late, and stored runs of tools/evaluate."""
-
-    def stored(self, name):
-        folder = os.path.join(support.ROOT, "tools", "evaluate", "runs", name)
-        with open(os.path.join(folder, "trace"), encoding="ascii") as lines:
-            return support.replay(lines, os.path.join(folder, "image.elf"), os.path.join(folder, "core.toml"))
 
     def late(self, lines):
         image = support.image_of_words("late_data", PROGRAMS["store whose data comes late"])
@@ -119,16 +113,16 @@ class StoresInParts(unittest.TestCase):
 
     def test_a_tainted_address_without_data(self):
         """The store's address issues in 14 and is tainted until the branch is resolved, in 17; its data issues in 16."""
-        run, entries, _ = self.stored("tainted_address")
+        run, entries, _ = support.replay(*support.stored("tainted_address"))
         self.assertEqual(waits(entries[5]), [("5..13", "base", 4), ("14..15", "data", 1)])
         self.assertEqual(waits(entries[6]), [("6..14", "older store's address", 5), ("15..16", "older store's tainted address", 5)])
         self.assertEqual(run.reasons.unexplained, [])
 
     def test_ports_of_stores(self):
         """Two stores whose sources are all there: the second one's parts issue a cycle later."""
-        run, entries, _ = self.stored("one_port_each")
+        run, entries, _ = support.replay(*support.stored("one_port_each"))
         self.assertEqual(waits(entries[1]), [("3", "address port", None)])
-        run, entries, _ = self.stored("half_issued")
+        run, entries, _ = support.replay(*support.stored("half_issued"))
         self.assertEqual(waits(entries[2]), [("4..22", "data", 0), ("23", "data port", None)])
         self.assertEqual(run.reasons.unexplained, [])
 

@@ -14,6 +14,10 @@ from view.pipeline import Item
 
 GENERATED, BLOCKS, CYCLES = 20, 24, 3000
 RUNS = os.path.join(support.ROOT, "tools", "evaluate", "runs")
+IN_VERSION_2 = {"operand", "taint", "port", "miss register", "divider", "taint, to be resolved", "one resolved a cycle", "base", "data",
+                "address port", "data port", "older store's address", "older store's data", "older store's tainted address"}
+# stored runs in which each event matters
+STORED = ["registers_for_both_lines", "prefetch_from_second", "prefetch_behind_both_lines"]
 WORKED = [("Bounds check bypass", "bounds_check.elf", "core.toml"), ("Fault shadow", "fault_shadow.elf", "core.toml"),
           ("Store whose data comes late", None, "core_version_2.toml")]
 
@@ -79,51 +83,65 @@ class OverModels(unittest.TestCase):
         folders = sorted(name for name in os.listdir(RUNS) if os.path.isdir(os.path.join(RUNS, name)))
         self.assertGreater(len(folders), 30)
         for name in folders:
-            trace, image, description = (os.path.join(RUNS, name, file) for file in ("trace", "image.elf", "core.toml"))
-            with self.subTest(run=name), open(trace, encoding="ascii") as lines:
-                self.assertEqual(unexplained(lines, image, description), [])
+            with self.subTest(run=name):
+                self.assertEqual(unexplained(*support.stored(name)), [])
 
-
-    def test_small_programs_in_version_2(self):
-        """Nothing is unexplained in version 2 over what the model of tools/evaluate writes, and each reason comes up."""
+    def explained(self, generated, **keys):
+        """The reasons that come up over what the model of tools/evaluate writes in version 2; nothing is unexplained."""
         waits = set()
         images = [support.image_of_words(name, words) for name, words in PROGRAMS.items()]
-        images += [support.file_of(f"generated_{seed}.elf", generated_image(seed, BLOCKS // 4)) for seed in range(GENERATED)]
+        images += [support.file_of(f"generated_{seed}.elf", generated_image(seed, BLOCKS // 4)) for seed in range(generated)]
         for image in images:
-            for description in support.descriptions(version=2):
+            for description in support.descriptions(2, **keys):
                 lines = support.modelled(description, image, CYCLES)
                 run, _, items = support.replay(lines, image, description)
                 with self.subTest(image=os.path.basename(image), description=os.path.basename(description)):
                     self.assertEqual(run.reasons.unexplained, [])
                 waits |= {wait.reason for item in items for wait in item.waits}
-        self.assertEqual(waits, {"operand", "taint", "port", "miss register", "divider", "taint, to be resolved", "one resolved a cycle",
-                                 "base", "data", "address port", "data port", "older store's address", "older store's data",
-                                 "older store's tainted address"})
+        return waits
+
+    def test_small_programs_in_version_2(self):
+        self.assertEqual(self.explained(GENERATED), IN_VERSION_2)
+
+    def test_small_programs_with_history(self):
+        self.assertEqual(self.explained(0, history=3, returns=2), IN_VERSION_2)
+
+    def test_small_programs_with_two_levels(self):
+        keys = {"second_sets": 2, "second_ways": 2, "second_latency": 4, "prefetch": 1}
+        found = self.explained(0, misaligned=1, mshrs=3, hit_latency=2, miss_latency=20, **keys)
+        self.assertEqual(found, IN_VERSION_2 | {"two miss registers"})
+
+
+def runs():
+    """Worked traces and stored runs: a name, the lines, the image, the description."""
+    late = support.image_of_words("late_data", PROGRAMS["store whose data comes late"])
+    for heading, image, description in WORKED:
+        yield heading, support.worked_trace(heading), support.example(image) if image else late, support.example(description)
+    for name in STORED:
+        yield name, *support.stored(name)
 
 
 class EveryEventMatters(unittest.TestCase):
-    def noticed(self, lines, image, description):
-        program = "store whose data comes late"
-        path = support.example(image) if image else support.image_of_words("late_data", PROGRAMS[program])
+    def noticed(self, *files):
         try:
-            return unexplained(lines, path, support.example(description))
+            return unexplained(*files)
         except Fault:
             return True
 
     def test_an_event_that_is_missing_is_noticed(self):
-        for heading, *files in WORKED:
-            for number, event, lines in without_one_event(support.worked_trace(heading)):
-                with self.subTest(trace=heading, cycle=number, event=event):
+        for name, trace, *files in runs():
+            for number, event, lines in without_one_event(trace):
+                with self.subTest(trace=name, cycle=number, event=event):
                     self.assertTrue(self.noticed(lines, *files))
 
     def test_an_event_that_is_late_is_noticed(self):
-        for heading, *files in WORKED:
-            for number, event, lines in without_one_event(support.worked_trace(heading)):
+        for name, trace, *files in runs():
+            for number, event, lines in without_one_event(trace):
                 if lines[number].startswith("end"):
                     continue
                 first, *events = lines[number].split()
                 lines[number] = " ".join([first, event, *events]) + "\n"
-                with self.subTest(trace=heading, cycle=number, event=event):
+                with self.subTest(trace=name, cycle=number, event=event):
                     self.assertTrue(self.noticed(lines, *files))
 
 

@@ -1,0 +1,34 @@
+"""Random programs with accesses at any address come out as under qemu-riscv32."""
+import os
+import sys
+import unittest
+
+HERE = os.path.dirname(os.path.dirname(os.path.realpath(__file__)))
+
+sys.dont_write_bytecode = True
+sys.path.insert(0, HERE)
+import compare
+import generate
+
+MISSING = compare.missing()
+PROGRAMS = range(1, 7)
+
+
+class Unaligned(unittest.TestCase):
+    def test_a_number_makes_one_program(self):
+        self.assertEqual(generate.program(7), generate.program(7))
+        self.assertNotEqual(generate.program(7), generate.program(8))
+
+    def compared(self, program):
+        same, wrong, accesses = compare.compare(PROGRAMS, program)
+        self.assertEqual((same, wrong), (len(PROGRAMS), 0))
+        self.assertGreater(accesses, 50)
+
+    @unittest.skipIf(MISSING, f"no {', '.join(MISSING)}")
+    def test_own_instruction_set(self):
+        self.compared(None)
+
+    @unittest.skipIf(MISSING, f"no {', '.join(MISSING)}")
+    @unittest.skipUnless(compare.simulator(), "the program isn't built (crates/stt_cli/out/stt_cli, or STT_CLI)")
+    def test_the_simulator(self):
+        self.compared(compare.simulator())
