@@ -1,6 +1,8 @@
 //! The keys that may be left out: what version 2 takes, what they are where they are left out, and each fault.
 use crate::descriptions::{LARGE, expect, text};
 use machine_desc::{Desc, read_desc};
+use std::alloc::Global;
+use std::process::Abort;
 use std::test::Fail;
 
 // Their numbers, in the order of their keys.
@@ -46,9 +48,9 @@ fn each_stands_in_its_place(rt: HostRuntime) -> Result<(), Fail> {
     Ok(())
 }
 
-// What stands behind [ram], [predictor] and [cache] in the example, and what is told in version 1 and in version 2.
-const KEYS: [(&str, &str, &str, &str); 45] = [
-    // each at its ends and beyond them; the least is what it is where it is left out
+// What stands behind [ram], [predictor] and [cache] in the example, and what is told in version 1 and in version 2: each key at its
+// ends and beyond them. The least is what it is where it is left out.
+const ENDS: [(&str, &str, &str, &str); 24] = [
     ("[ram]", "misaligned = 0", "K2 ram.misaligned", "accepted"),
     ("[ram]", "misaligned = 1", "K2 ram.misaligned", "accepted"),
     (
@@ -173,6 +175,10 @@ const KEYS: [(&str, &str, &str, &str); 45] = [
         "K2 cache.prefetch",
         "K5 cache.prefetch 2",
     ),
+];
+
+// The same of kinds and shapes, of what is asked of several numbers, of names, and of the order of keys.
+const FAULTS: [(&str, &str, &str, &str); 21] = [
     // kinds and shapes
     (
         "[ram]",
@@ -306,17 +312,41 @@ const KEYS: [(&str, &str, &str, &str); 45] = [
     ),
 ];
 
+// Reading the example in this version, with a line added behind a table's, this is told.
+fn expect_with(
+    rt: &impl Abort,
+    alloc: Global,
+    version: u32,
+    added: (&str, &str),
+    wanted: &str,
+) -> Result<(), Fail> {
+    let (table, line) = added;
+    let mut changed = String::new(alloc);
+    changed.push_str(table)?;
+    changed.push_str("\n")?;
+    changed.push_str(line)?;
+    let rest = text(alloc, (table, changed.as_str()), ("", ""))?;
+    let mut whole = format!(in alloc; "version = {version}\n")?;
+    whole.push_str(rest.as_str())?;
+    expect(rt, alloc, whole.as_bytes(), wanted)
+}
+
 #[test]
-fn each_key_in_both_versions(rt: HostRuntime) -> Result<(), Fail> {
+fn each_range_in_both_versions(rt: HostRuntime) -> Result<(), Fail> {
     let alloc = rt.alloc();
-    for (table, added, in_1, in_2) in KEYS {
-        for (version, wanted) in [(1, in_1), (2, in_2)] {
-            let mut whole = format!(in alloc; "version = {version}\n")?;
-            let changed = format!(in alloc; "{table}\n{added}")?;
-            let rest = text(alloc, (table, changed.as_str()), ("", ""))?;
-            whole.push_str(rest.as_str())?;
-            expect(&rt, alloc, whole.as_bytes(), wanted)?;
-        }
+    for (table, added, in_1, in_2) in ENDS {
+        expect_with(&rt, alloc, 1, (table, added), in_1)?;
+        expect_with(&rt, alloc, 2, (table, added), in_2)?;
+    }
+    Ok(())
+}
+
+#[test]
+fn each_fault_in_both_versions(rt: HostRuntime) -> Result<(), Fail> {
+    let alloc = rt.alloc();
+    for (table, added, in_1, in_2) in FAULTS {
+        expect_with(&rt, alloc, 1, (table, added), in_1)?;
+        expect_with(&rt, alloc, 2, (table, added), in_2)?;
     }
     Ok(())
 }
