@@ -4,10 +4,10 @@ use machine_desc::{EXAMPLE, read_desc};
 use std::test::Fail;
 use window_model::Event;
 
-// The place of a branch's counter, and the next.
+// The place of a branch's counter, and another.
 const BRANCH: u32 = 1;
 
-const NEXT: u32 = 2;
+const OTHER: u32 = 0;
 
 // Two JALRs at one place.
 const JUMP: u32 = 0x1000c;
@@ -39,7 +39,7 @@ fn a_counter_moves_between_0_and_3(rt: HostRuntime) -> Result<(), Fail> {
         );
         assert_eq!(rt; predictor.direction(BRANCH), predicted);
     }
-    assert_eq!(rt; predictor.direction(NEXT), false);
+    assert_eq!(rt; predictor.direction(OTHER), false);
     Ok(())
 }
 
