@@ -168,8 +168,7 @@ fn what_is_resolved_is_passed_over(rt: HostRuntime) -> Result<(), Fail> {
 #[test]
 fn what_is_resolved_teaches_and_tells(rt: HostRuntime) -> Result<(), Fail> {
     let alloc = rt.alloc();
-    let mut predictor = Predictor::new(alloc, &desc(alloc)?)?;
-    let history = History::new(&desc(alloc)?);
+    let described = desc(alloc)?;
     let fault = Some(Cause::jump_misaligned());
     let (not_taken, taken) = (Way::NotTaken, Way::Taken);
     let rows = [
@@ -183,7 +182,7 @@ fn what_is_resolved_teaches_and_tells(rt: HostRuntime) -> Result<(), Fail> {
             done(branch(), 1, 0x10014, None),
             Resolution::Wrong(0x10014),
             taken,
-            Some(Event::Bp(1, 1)),
+            Some(Event::Bp(1, 2)),
         ),
         (
             done(branch(), 1, 0x10016, fault),
@@ -204,7 +203,10 @@ fn what_is_resolved_teaches_and_tells(rt: HostRuntime) -> Result<(), Fail> {
             None,
         ),
     ];
+    // Each by a predictor that has learnt nothing yet.
     for (entry, resolution, way, taught) in rows {
+        let mut predictor = Predictor::new(alloc, &described)?;
+        let history = History::new(&described);
         let mut row = empty_row();
         assert_eq!(rt;
             resolve(&entry, &history, &mut predictor, &mut row),
@@ -214,6 +216,11 @@ fn what_is_resolved_teaches_and_tells(rt: HostRuntime) -> Result<(), Fail> {
         assert_eq!(rt; row.events().get(1).copied(), taught);
         assert_eq!(rt; row.events().get(2).copied(), None);
     }
+    let mut predictor = Predictor::new(alloc, &described)?;
+    let history = History::new(&described);
+    let mut row = empty_row();
+    let went = done(jump(), 0x10008, 0x20000, None);
+    let _ = resolve(&went, &history, &mut predictor, &mut row);
     assert_eq!(rt; predictor.target(0x10004), Some(0x20000));
     Ok(())
 }
