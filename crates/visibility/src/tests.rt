@@ -64,6 +64,20 @@ fn load(state: Progress, fault: Option<Cause>) -> Entry
     entry(5, load, state, fault, false)
 }
 
+// The example, with this line for its model's.
+fn described(alloc: Global, model: &str) -> Result<Desc, Fail> {
+    let mut text = String::new(alloc);
+    for line in EXAMPLE.lines() {
+        if line == "model = \"spectre\"" {
+            text.push_str(model)?;
+        } else {
+            text.push_str(line)?;
+        }
+        text.push_str("\n")?;
+    }
+    Ok(read_desc(alloc, text.as_bytes())?)
+}
+
 // Whether the branch, the load behind it and what comes next are visible.
 fn seen(alloc: Global, desc: &Desc, branch: Entry, load: Entry) -> Result<[bool; 3], NoMemory>
     requires older { branch.serial ≡ 2 }
@@ -92,11 +106,16 @@ fn the_point_stands_at_what_keeps_younger_ones_hidden(rt: HostRuntime) -> Result
         (futuristic, true, done, fault, [true, true, false]),
         (futuristic, true, done, None, [true, true, true]),
     ];
-    let mut desc = read_desc(alloc, EXAMPLE.as_bytes())?;
+    let by_branches = described(alloc, "model = \"spectre\"")?;
+    let by_safety = described(alloc, "model = \"futuristic\"")?;
     for (model, resolved, state, fault, want) in rows {
-        desc.stt_model = model;
+        let desc = if model == SttModel::Spectre {
+            &by_branches
+        } else {
+            &by_safety
+        };
         assert_eq!(rt;
-            seen(alloc, &desc, branch(resolved), load(state, fault))?,
+            seen(alloc, desc, branch(resolved), load(state, fault))?,
             want,
             "{model:?} {state:?}"
         );
