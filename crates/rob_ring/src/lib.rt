@@ -7,10 +7,12 @@
 #![tactic(auto)]
 
 mod beside;
+mod issued;
 mod marks;
 mod ring;
 
 pub use beside::{Sources, sources_at};
+pub use issued::Issued;
 pub use ring::{Found, RobRing};
 
 #[cfg(test)]

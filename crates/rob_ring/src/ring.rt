@@ -5,8 +5,10 @@ ghost use Rattle.std.specs.List.{All};
 ghost use Rattle.window_model.specs.declared.Entry.{Entry};
 ghost use Rattle.window_model.specs.declared.Progress.TheVariants.{Done};
 ghost use Rattle.window_model.specs.Serials.{Rise, below};
+ghost use Rattle.rob_ring.specs.Issued.{as_resolved, with_issued};
 ghost use Rattle.rob_ring.specs.Ring.{Next, Ring, in_execution, is_busy, is_open, is_unsafe};
 
+use crate::issued::Issued;
 use crate::marks::{drop_mark, keep_marks, next_mark, put_mark};
 use circular_buffer::HeapCircularBuffer;
 use machine_desc::Desc;
@@ -119,15 +121,28 @@ impl RobRing {
         put_entry(&mut self.items, i, &entry);
     }
 
-    /// Puts an entry in the place of the one at a position that is open and safe as that is: whether it executes may change.
-    pub fn replace(&mut self, i: u32, entry: &Entry)
+    /// What Issue makes of the entry at a position is written in its place: whether it executes may change, and it is as safe as
+    /// it was.
+    pub fn issue(&mut self, i: u32, issued: &Issued)
         requires within { i < length self.old.entries }
         requires alike { (e : Entry) → slice_get self.old.entries i ≡ Some e
-            → (is_open entry.now ≡ is_open e) × (is_unsafe entry.now ≡ is_unsafe e) }
-        ensures { self.new ≡ record self.old { entries = slice_set self.old.entries i entry.now } }
+            → is_unsafe (with_issued issued.now e) ≡ is_unsafe e }
+        ensures { (e : Entry) → slice_get self.old.entries i ≡ Some e
+            → self.new ≡ record self.old { entries = slice_set self.old.entries i (with_issued issued.now e) } }
     {
-        put_mark(&mut self.busy, i, in_execution(entry.state));
-        put_entry(&mut self.items, i, entry);
+        put_mark(&mut self.busy, i, in_execution(issued.state));
+        issue_entry(&mut self.items, i, issued);
+    }
+
+    /// The entry at a position is marked as resolved.
+    pub fn resolve(&mut self, i: u32)
+        requires { i < length self.old.entries }
+        ensures { (e : Entry) → slice_get self.old.entries i ≡ Some e
+            → self.new ≡ record self.old { entries = slice_set self.old.entries i (as_resolved e) } }
+    {
+        put_mark(&mut self.unresolved, i, false);
+        let is_unsafe = resolve_entry(&mut self.items, i);
+        put_mark(&mut self.unsafes, i, is_unsafe);
     }
 
     /// The entry at a position becomes Done.
@@ -264,6 +279,34 @@ fn put_entry(items: &mut HeapCircularBuffer<Entry>, i: u32, entry: &Entry)
     if let Some(place) = items.get_mut(i as usize) {
         *place = *entry;
     }
+}
+
+// What Issue makes of the entry at a position is written in its place.
+fn issue_entry(items: &mut HeapCircularBuffer<Entry>, i: u32, issued: &Issued)
+    requires { i < length items.old.items }
+    ensures { (e : Entry) → slice_get items.old.items i ≡ Some e
+        → items.new ≡ record items.old { items = slice_set items.old.items i (with_issued issued.now e) } }
+{
+    if let Some(entry) = items.get_mut(i as usize) {
+        entry.state = issued.state;
+        entry.outcome = issued.outcome;
+        entry.addr_due = issued.addr_due;
+        entry.data_due = issued.data_due;
+    }
+}
+
+// The entry at a position is marked as resolved. Whether it may yet squash what comes after it.
+fn resolve_entry(items: &mut HeapCircularBuffer<Entry>, i: u32) -> bool
+    requires { i < length items.old.items }
+    ensures tells { (e : Entry) → slice_get items.old.items i ≡ Some e → result ≡ is_unsafe (as_resolved e) }
+    ensures wrote { (e : Entry) → slice_get items.old.items i ≡ Some e
+        → items.new ≡ record items.old { items = slice_set items.old.items i (as_resolved e) } }
+{
+    if let Some(entry) = items.get_mut(i as usize) {
+        entry.resolved = true;
+        return !entry.is_safe();
+    }
+    false
 }
 
 // The entry at a position becomes Done. Whether it may yet squash what comes after it.
