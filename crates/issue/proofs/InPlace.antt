@@ -1,19 +1,19 @@
 -- Parts that stand for the window go on to do so as the entries that have issued, or of which a part has, come in their places, the
 -- youngest first.
-use Rattle.std.proofs.Common.{◌≡◌, ℕ, zero, suc, ◌+◌, ◌-◌, ◌<◌, ◌≤◌, true, false, not, ◌&&◌, List, [], ◌∷◌, ◌++◌, length, Some, refl, ap, ap₂, sym, ◌∙◌, subst, arith, take, get_or, slice_get}
+use Rattle.std.proofs.Common.{◌≡◌, ℕ, zero, suc, ◌+◌, ◌-◌, ◌<◌, ◌≤◌, true, false, not, List, [], ◌∷◌, ◌++◌, length, Some, refl, ap, sym, ◌∙◌, subst, arith, take, get_or, slice_get}
 use Rattle.std.specs.Prelude.{slice_set}
 use Rattle.std.specs.List.{All, AllPairs}
 use Rattle.std.proofs.Math.Seq.{get_or-append_seam}
 use Rattle.std.proofs.lemmas.List.{get_or_append_left, length-append, take_all, take_more}
 use Rattle.std.proofs.lemmas.List.Elements.{All-head}
-use Rattle.std.proofs.lemmas.Option.{get_or_from_slice_get, slice_get_within}
+use Rattle.std.proofs.lemmas.Option.{slice_get_within}
 use Rattle.window_model.specs.declared.Entry.{Entry}
-use Rattle.window_model.specs.declared.Item.{Item}
-use Rattle.window_model.specs.Order.{is_control, is_waiting}
+use Rattle.window_model.specs.Order.{is_waiting}
 use Rattle.window_model.specs.Retire.{width_of}
 use Rattle.lsq.specs.Queues.{Queues}
 use Rattle.machine_desc.specs.declared.SttModel.TheVariants.{Futuristic}
-use Rattle.rob_ring.specs.Ring.{Ring, is_open, is_unsafe}
+use Rattle.rob_ring.specs.Issued.{with_issued}
+use Rattle.rob_ring.specs.Ring.{Ring, is_unsafe}
 use Rattle.stations.specs.Stations.{Station, Stations}
 use Rattle.core_parts.specs.Stands.{InFlight, Stands, table_and_stations}
 use Rattle.core_parts.proofs.Steps.{stands_issued}
@@ -23,7 +23,7 @@ use Rattle.parts_stand.proofs.Moving.{passes_issued}
 use Rattle.window_model.proofs.Serials.{all_at, all_left, all_right}
 use Rattle.issue.specs.declared.decide.Put.{Put}
 use Rattle.issue.specs.Puts.{ArePuts, IsPut, known_in, placed, width_for}
-use Rattle.issue.proofs.Turning.{placed_push}
+use Rattle.issue.proofs.Turning.{issues_here, placed_push}
 
 -- ---- what stands
 
@@ -35,14 +35,25 @@ Ties version entries held queues now held_now queues_now =
 
 -- an entry comes in its place, its station is freed or waits for what is left, and what has issued of it is known
 ties_more : (version : ℕ) (entries : List Entry) (held : List Station) (queues : Queues) (now : List Entry) (held_now : List Station) (queues_now : Queues) (put : Put) →
-    Ties version entries held queues now held_now queues_now → IsPut now put →
-    Ties version entries held queues (slice_set now put.position put.entry) (left_held version put.station put.entry held_now) (known_in queues_now put.entry)
+    Ties version entries held queues now held_now queues_now → (k : IsPut now put) →
+    Ties version entries held queues (slice_set now put.position (with_issued put.issued k.old)) (left_held version put.station (with_issued put.issued k.old) held_now) (known_in queues_now (with_issued put.issued k.old))
 ties_more version entries held queues now held_now queues_now put t k =
-    let P : ℕ → Type 0 = λ n. Ties version entries held queues (slice_set now put.position put.entry) (left_held version n put.entry held_now) (known_in queues_now put.entry) in
+    let new = with_issued put.issued k.old in
+    let P : ℕ → Type 0 = λ n. Ties version entries held queues (slice_set now put.position new) (left_held version n new held_now) (known_in queues_now new) in
     subst P (sym k.station)
-    (λ p s. stands_issued (record p { version = version; window = now; held = held_now; queues = queues_now }) put.position k.old put.entry (width_for (width_of put.entry)) (t p s) k.here k.waits k.issues k.stay)
+    (λ p s. stands_issued (record p { version = version; window = now; held = held_now; queues = queues_now }) put.position k.old new (width_for (width_of k.old)) (t p s) k.here k.waits k.issues k.stay)
 
 -- ---- the puts
+
+-- an entry that comes in a place stands there
+get_set : (es : List Entry) (i : ℕ) (e e2 : Entry) → slice_get es i ≡ Some e → slice_get (slice_set es i e2) i ≡ Some e2
+get_set [] i e e2 h = absurd (cc)
+get_set (x ∷ es) zero e e2 h = refl
+get_set (x ∷ es) (suc i) e e2 h = get_set es i e e2 h
+
+-- one entry alone does
+one_there : (es : List Entry) (i : ℕ) (a b : Entry) → slice_get es i ≡ Some a → slice_get es i ≡ Some b → a ≡ b
+one_there es i a b p q = let same : Some a ≡ Some b = sym p ∙ q in cc
 
 -- an entry in another place stays
 get_other : (es : List Entry) (i m : ℕ) (e : Entry) → i < m → slice_get (slice_set es m e) i ≡ slice_get es i
@@ -140,30 +151,47 @@ module _ (version : ℕ) (puts : List Put) (rob : Ring) (stations : Stations) (q
       subst (λ n. n < length s.held) (sym here.station)
       ((has_station (table_and_stations (record now.0 { version = version; window = r.entries; held = s.held; queues = q })) put.position here.old now.1.stand here.here here.waits).within)
 
-  -- the entry there waits, and so is unresolved: once it or a part of it has issued it is open and safe as it was
+  -- the entry there waits, and so is unresolved: once it or a part of it has issued it is safe as it was
   pub as_safe : (p : InFlight) × Stands (record p { version = version; window = rob.entries; held = stations.held; queues = queues }) → (e : Entry) → slice_get r.entries put.position ≡ Some e →
-      (is_open put.entry ≡ is_open e) × (is_unsafe put.entry ≡ is_unsafe e)
+      is_unsafe (with_issued put.issued e) ≡ is_unsafe e
   as_safe k e at =
-      subst (λ e. (is_open put.entry ≡ is_open e) × (is_unsafe put.entry ≡ is_unsafe e)) (sym (get_or_from_slice_get r.entries put.position here.old e here.here) ∙ get_or_from_slice_get r.entries put.position e e at) (
-        ap₂ (λ (i : Item) r. is_control i.kind && not r) here.issues.on.item here.issues.resolved,
-        ap not (passes_issued Futuristic here.old put.entry here.waits (unresolved (now_stands k).1.point.unresolved) here.issues),
-      )
+      subst (λ e. is_unsafe (with_issued put.issued e) ≡ is_unsafe e) (one_there r.entries put.position here.old e here.here at)
+      (ap not (passes_issued Futuristic here.old (with_issued put.issued here.old) here.waits (unresolved (now_stands k).1.point.unresolved) here.issues))
     where
       unresolved : All (λ e. is_waiting e.state ≡ true → e.resolved ≡ false) r.entries → here.old.resolved ≡ false
       unresolved all = all_at (λ e. is_waiting e.state ≡ true → e.resolved ≡ false) r.entries put.position here.old all here.here here.waits
 
-  pub places_more : (r2 : Ring) (s2 : Stations) (q2 : Queues) → r2 ≡ record r { entries = slice_set r.entries put.position put.entry } → s2 ≡ record s { held = left_held version put.station put.entry s.held } →
-      q2 ≡ known_in q put.entry → PlacesOn version puts rob stations queues rest r2 s2 q2
-  places_more r2 s2 q2 h k n =
-      subst (λ r2. PlacesOn version puts rob stations queues rest r2 s2 q2) (sym h)
-      (subst (λ s2. PlacesOn version puts rob stations queues rest (record r { entries = slice_set r.entries put.position put.entry }) s2 q2) (sym k)
-      (subst (λ q2. PlacesOn version puts rob stations queues rest (record r { entries = slice_set r.entries put.position put.entry }) (record s { held = left_held version put.station put.entry s.held }) q2) (sym n)
-      (record {
-        whole = sym (placed_push rest put r.entries) ∙ ap (λ ps. placed ps r.entries) (sym split) ∙ t.whole;
-        rest = still_left r.entries rest put put.entry are;
-        same_room = t.same_room;
-        same_places = t.same_places;
-        same_loads = t.same_loads;
-        same_stores = t.same_stores;
-        ties = ties_more version rob.entries stations.held queues r.entries s.held q put t.ties here;
-      })))
+  -- what it then is, and the window with it
+  abbrev new : Entry
+  new = with_issued put.issued here.old
+
+  abbrev with_new : List Entry
+  with_new = slice_set r.entries put.position new
+
+  module _ (r2 : Ring) (h : (e : Entry) → slice_get r.entries put.position ≡ Some e → r2 ≡ record r { entries = slice_set r.entries put.position (with_issued put.issued e) }) where
+    ring_is : r2 ≡ record r { entries = with_new }
+    ring_is = h here.old here.here
+
+    new_there : slice_get r2.entries put.position ≡ Some new
+    new_there = ap (λ (r : Ring). slice_get r.entries put.position) ring_is ∙ get_set r.entries put.position here.old new here.here
+
+    -- its place is still in the window
+    pub still_within : put.position < length r2.entries
+    still_within = slice_get_within r2.entries put.position new new_there
+
+    pub places_more : (e2 : Entry) (s2 : Stations) (q2 : Queues) → slice_get r2.entries put.position ≡ Some e2 → s2 ≡ record s { held = left_held version put.station e2 s.held } →
+        q2 ≡ known_in q e2 → PlacesOn version puts rob stations queues rest r2 s2 q2
+    places_more e2 s2 q2 at k n =
+        let is : e2 ≡ new = one_there r2.entries put.position e2 new at new_there in
+        subst (λ r2. PlacesOn version puts rob stations queues rest r2 s2 q2) (sym ring_is)
+        (subst (λ s2. PlacesOn version puts rob stations queues rest (record r { entries = with_new }) s2 q2) (sym (k ∙ ap (λ e. record s { held = left_held version put.station e s.held }) is))
+        (subst (λ q2. PlacesOn version puts rob stations queues rest (record r { entries = with_new }) (record s { held = left_held version put.station new s.held }) q2) (sym (n ∙ ap (known_in q) is))
+        (record {
+          whole = ap (placed rest) (sym (issues_here put r.entries here.old here.here)) ∙ sym (placed_push rest put r.entries) ∙ ap (λ ps. placed ps r.entries) (sym split) ∙ t.whole;
+          rest = still_left r.entries rest put new are;
+          same_room = t.same_room;
+          same_places = t.same_places;
+          same_loads = t.same_loads;
+          same_stores = t.same_stores;
+          ties = ties_more version rob.entries stations.held queues r.entries s.held q put t.ties here;
+        })))

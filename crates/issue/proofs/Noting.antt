@@ -5,6 +5,7 @@ use Rattle.window_model.specs.declared.Entry.{Entry}
 use Rattle.window_model.specs.declared.Event.{Event}
 use Rattle.window_model.specs.Issue.{Begun}
 use Rattle.window_model.specs.Row.{Row, with_events}
+use Rattle.rob_ring.specs.declared.issued.Issued.{Issued}
 use Rattle.unit_ports.specs.Ports.{Ports}
 use Rattle.issue.specs.declared.decide.Put.{Put}
 use Rattle.issue.specs.Ports.{OnlyPorts}
@@ -21,9 +22,9 @@ pub few_puts : (i station : ℕ) (b : Begun) → length (puts_of i station b) �
 few_puts i station b = puts_by_events i station b.entry b.events
 
 -- one at most
-one_put : (i station : ℕ) (after : Option Entry) → length (puts_by i station after) ≤ 1
+one_put : (i station : ℕ) (after : Option Issued) → length (puts_by i station after) ≤ 1
 one_put i station None = omega arith
-one_put i station (Some e) = omega arith
+one_put i station (Some o) = omega arith
 
 pub one_put_of : (i station : ℕ) (b : Begun) → length (puts_of i station b) ≤ 1
 one_put_of i station b = one_put i station (after_of b)

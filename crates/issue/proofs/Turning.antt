@@ -24,11 +24,12 @@ use Rattle.window_model.proofs.Booleans.{waiting_done}
 use Rattle.window_model.proofs.Issuing.{OneOrTwo, One, Two, by_load, by_prefetched, lines_are, may_parts}
 use Rattle.window_model.proofs.Together.{granted_together}
 use Rattle.unit_ports.specs.Ports.{port_for}
+use Rattle.rob_ring.specs.Issued.{issued_of, with_issued}
 use Rattle.queue_laws.specs.Window.{PartsGoOn}
 use Rattle.parts_stand.specs.Steps.{Issues, station_of}
 use Rattle.issue.specs.declared.decide.Put.{Put}
 use Rattle.issue.specs.Ports.{most_events_of}
-use Rattle.issue.specs.Puts.{ArePuts, IsPut, placed, width_for}
+use Rattle.issue.specs.Puts.{ArePuts, IsPut, issue_by, issue_in, placed, width_for}
 use Rattle.issue.specs.Turns.{after_by, begin_entry, puts_by, puts_of}
 use Rattle.issue.proofs.Advanced.{lacks_address, lacks_data, still_undone}
 use Rattle.issue.proofs.Asking.{AsksNone, InStep, fresh_address, fresh_data, granted_may, grants_none}
@@ -80,8 +81,10 @@ pub record Acts (e : Entry) (b : Begun) : Type 0 where
   pub more : List Event
   pub has : b.events ≡ event ∷ more
   pub waits : is_waiting e.state ≡ true
+  -- nothing else of it changes
+  pub rest : with_issued (issued_of b.entry) e ≡ b.entry
   pub issues : Issues e b.entry
-  pub stay : is_store e.item.kind ≡ true → PartsGoOn (width_for (width_of b.entry)) e b.entry
+  pub stay : is_store e.item.kind ≡ true → PartsGoOn (width_for (width_of e)) e b.entry
 
 abbrev pub Turns : Entry → Begun → Type 0
 Turns e b = (b ≡ waits e) ⊎ Acts e b
@@ -92,6 +95,7 @@ some_events e due o v more s w = inr (record {
   more = more;
   has = refl;
   waits = w;
+  rest = refl;
   issues = record { on = record { serial = refl; item = refl }; undone = refl; resolved = refl };
   stay = λ t. absurd (cc);
 })
@@ -121,6 +125,7 @@ parts_turns true true d now before e w v = inr (record {
   more = data_events d e;
   has = refl;
   waits = w refl;
+  rest = refl;
   issues = record { on = record { serial = refl; item = refl }; undone = refl; resolved = refl };
   stay = λ t. record { address = λ h. refl; stored = λ h. refl; outcome = λ h. refl; size = size_is (op_of e.item.instr) };
 })
@@ -129,6 +134,7 @@ parts_turns true false d now before e w v = inr (record {
   more = [];
   has = refl;
   waits = w refl;
+  rest = refl;
   issues = record {
     on = record { serial = refl; item = refl };
     undone = still_undone (Some (now.cycle + 1)) e.data_due e.state (waiting_done e.state (w refl));
@@ -141,6 +147,7 @@ parts_turns false true d now before e w v = inr (record {
   more = [];
   has = ap (λ one. if one then [] else event.Std e.serial ∷ []) (v refl refl);
   waits = w refl;
+  rest = refl;
   issues = record {
     on = record { serial = refl; item = refl };
     undone = still_undone e.addr_due (Some (now.cycle + 1)) e.state (waiting_done e.state (w refl));
@@ -220,7 +227,7 @@ few_parts false false d now before e = omega arith
 
 -- so what changes has a put
 pub parts_put : (a c : Bool) (d : Desc) (now : Around) (before : List Entry) (e : Entry) → (a || c) ≡ true → (a ≡ false → c ≡ true → (d.version == 1) ≡ false) →
-    after_by (parts_as a c d now before e).entry (parts_as a c d now before e).events ≡ Some (parts_as a c d now before e).entry
+    after_by (parts_as a c d now before e).entry (parts_as a c d now before e).events ≡ Some (issued_of (parts_as a c d now before e).entry)
 parts_put true c d now before e h v = refl
 parts_put false true d now before e h v = ap (λ one. after_by (parts_as false true d now before e).entry (if one then [] else event.Std e.serial ∷ [])) (v refl refl)
 parts_put false false d now before e h v = absurd (cc)
@@ -241,8 +248,15 @@ puts_more window i station e puts b h n (inl q) t =
     subst (PutsTo window (i + 1)) (sym (ap (λ b. puts ++ puts_of i station b) q ∙ append-nil puts))
     (record { puts_are = t.puts_are; older = later i puts t.older })
 puts_more window i station e puts b h n (inr a) t =
-    let p : Put = record { position = i; station = station; entry = b.entry } in
-    let put : IsPut window p = record { old = e; here = h; waits = a.waits; station = n; issues = a.issues; stay = a.stay } in
+    let p : Put = record { position = i; station = station; issued = issued_of b.entry } in
+    let put : IsPut window p = record {
+      old = e;
+      here = h;
+      waits = a.waits;
+      station = n;
+      issues = subst (Issues e) (sym a.rest) a.issues;
+      stay = λ s. subst (PartsGoOn (width_for (width_of e)) e) (sym a.rest) (a.stay s);
+    } in
     subst (λ events. PutsTo window (i + 1) (puts ++ puts_by i station (after_by b.entry events))) (sym a.has)
     (record {
       puts_are = record {
@@ -253,9 +267,21 @@ puts_more window i station e puts b h n (inr a) t =
     })
 
 -- the youngest is put in its place first
-pub placed_push : (puts : List Put) (p : Put) (window : List Entry) → placed (puts ++ p ∷ []) window ≡ placed puts (slice_set window p.position p.entry)
+pub placed_push : (puts : List Put) (p : Put) (window : List Entry) → placed (puts ++ p ∷ []) window ≡ placed puts (issue_in p window)
 placed_push [] p window = refl
-placed_push (q ∷ ps) p window = ap (λ window. slice_set window q.position q.entry) (placed_push ps p window)
+placed_push (q ∷ ps) p window = ap (issue_in q) (placed_push ps p window)
+
+-- it changes the entry that stands there
+pub issues_here : (p : Put) (window : List Entry) (e : Entry) → slice_get window p.position ≡ Some e → issue_in p window ≡ slice_set window p.position (with_issued p.issued e)
+issues_here p window e h = ap (issue_by p window) h
+
+-- behind so many
+here_between : (older : List Entry) (e : Entry) (younger : List Entry) (i : ℕ) → length older ≡ i → slice_get (older ++ e ∷ younger) i ≡ Some e
+here_between older e younger i l = subst (λ i. slice_get (older ++ e ∷ younger) i ≡ Some e) l (seam older)
+  where
+    seam : (older : List Entry) → slice_get (older ++ e ∷ younger) (length older) ≡ Some e
+    seam [] = refl
+    seam (x ∷ xs) = seam xs
 
 pub placed_more : (puts : List Put) (i station : ℕ) (e : Entry) (b : Begun) (older younger : List Entry) → length older ≡ i → Turns e b →
     placed (puts ++ puts_of i station b) (older ++ e ∷ younger) ≡ placed puts (older ++ b.entry ∷ younger)
@@ -264,5 +290,8 @@ placed_more puts i station e b older younger l (inl q) =
     subst P (sym q) (ap (λ ps. placed ps (older ++ e ∷ younger)) (append-nil puts))
 placed_more puts i station e b older younger l (inr a) =
     let P : List Event → Type 0 = λ events. placed (puts ++ puts_by i station (after_by b.entry events)) (older ++ e ∷ younger) ≡ placed puts (older ++ b.entry ∷ younger) in
-    let p : Put = record { position = i; station = station; entry = b.entry } in
-    subst P (sym a.has) (placed_push puts p (older ++ e ∷ younger) ∙ ap (placed puts) (set_at older e younger b.entry i l))
+    let p : Put = record { position = i; station = station; issued = issued_of b.entry } in
+    let there : issue_in p (older ++ e ∷ younger) ≡ older ++ b.entry ∷ younger =
+    issues_here p (older ++ e ∷ younger) e (here_between older e younger i l) ∙ set_at older e younger (with_issued (issued_of b.entry) e) i l
+    ∙ ap (λ r. older ++ r ∷ younger) a.rest in
+    subst P (sym a.has) (placed_push puts p (older ++ e ∷ younger) ∙ ap (placed puts) there)

@@ -1,12 +1,13 @@
 -- Entries that issue, or of which a part does, before they do in their places (docs/machine.md, "Issue"): every test is made on the
 -- window as it was before the phase.
-use Rattle.std.specs.Prelude.{◌≡◌, ℕ, ◌<◌, ◌==◌, true, List, [], ◌∷◌, Some, slice_get, slice_set, if◌then◌else◌}
+use Rattle.std.specs.Prelude.{◌≡◌, ℕ, ◌<◌, ◌==◌, true, List, [], ◌∷◌, Option, None, Some, slice_get, slice_set, if◌then◌else◌}
 use Rattle.std.specs.List.{All, AllPairs}
 use Rattle.rv_types.specs.declared.Width.{Width}
 use Rattle.rv_types.specs.declared.Width.TheVariants.{B, H, W}
 use Rattle.window_model.specs.declared.Entry.{Entry}
 use Rattle.window_model.specs.Order.{is_store, is_waiting}
 use Rattle.window_model.specs.Retire.{width_of}
+use Rattle.rob_ring.specs.Issued.{with_issued}
 use Rattle.lsq.specs.Queues.{Queues}
 use Rattle.queue_laws.specs.Window.{PartsGoOn, noted}
 use Rattle.parts_stand.specs.Steps.{Issues, station_of}
@@ -22,18 +23,27 @@ pub record IsPut (window : List Entry) (p : Put) : Type 0 where
   pub here : slice_get window p.position ≡ Some old
   pub waits : is_waiting old.state ≡ true
   pub station : p.station ≡ station_of p.position window
-  pub issues : Issues old p.entry
-  pub stay : is_store old.item.kind ≡ true → PartsGoOn (width_for (width_of p.entry)) old p.entry
+  pub issues : Issues old (with_issued p.issued old)
+  pub stay : is_store old.item.kind ≡ true → PartsGoOn (width_for (width_of old)) old (with_issued p.issued old)
 
 -- each is one, and they are named by age
 pub record ArePuts (window : List Entry) (puts : List Put) : Type 0 where
   pub each_put : All (IsPut window) puts
   pub by_age : AllPairs (λ p q. p.position < q.position) puts
 
--- all are in their places
+-- the window once this entry, if there is one, has issued at its position
+abbrev pub issue_by : Put → List Entry → Option Entry → List Entry
+issue_by p window None = window
+issue_by p window (Some e) = slice_set window p.position (with_issued p.issued e)
+
+-- once the one that stands there has
+abbrev pub issue_in : Put → List Entry → List Entry
+issue_in p window = issue_by p window (slice_get window p.position)
+
+-- all have issued in their places
 abbrev pub placed : List Put → List Entry → List Entry
 placed [] window = window
-placed (p ∷ ps) window = slice_set (placed ps window) p.position p.entry
+placed (p ∷ ps) window = issue_in p (placed ps window)
 
 -- what has issued of the entry is known to the queues, if it is a store
 abbrev pub known_in : Queues → Entry → Queues

@@ -14,6 +14,8 @@ use Rattle.window_model.specs.Around.{Around}
 use Rattle.window_model.specs.Issue.{Begun, access_of, begin_as, data_events, effect_of, if_granted, load_as, taken_for, value_loaded, with_address, with_data}
 use Rattle.window_model.specs.Retire.{width_of}
 use Rattle.window_model.specs.Row.{Row, with_events}
+use Rattle.rob_ring.specs.Issued.{issued_of}
+use Rattle.rob_ring.specs.declared.issued.Issued.{Issued}
 use Rattle.issue.specs.declared.decide.Put.{Put}
 use Rattle.issue.specs.declared.loads.Loaded.{Loaded}
 use Rattle.issue.specs.declared.seen.Place.{Place}
@@ -50,31 +52,31 @@ parts_by address stored s p =
     let b = data_by stored s a.entry (effect_here s p) in
     record { entry = b.entry; events = a.events ++ b.events }
 
--- this is the entry afterwards, changed or not, and the row has its events
-pub record Goes (b : Begun) (after : Entry) (old new : Row) : Type 0 where
-  pub entry : after ≡ b.entry
+-- this has then issued of the entry, changed or not, and the row has its events
+pub record Goes (b : Begun) (after : Issued) (old new : Row) : Type 0 where
+  pub issued : after ≡ issued_of b.entry
   pub row : new ≡ with_events old b.events
 
 -- what an entry in one piece comes to that is granted its port
 abbrev pub begin_entry : Desc → Around → List Entry → Entry → Begun
 begin_entry d now before e = begin_as e.item.kind d now before e
 
--- the entry afterwards; none where it stays as it is, which has no event
-abbrev pub after_by : Entry → List Event → Option Entry
+-- what has then issued of the entry; none where it stays as it is, which has no event
+abbrev pub after_by : Entry → List Event → Option Issued
 after_by e [] = None
-after_by e (event ∷ events) = Some e
+after_by e (event ∷ events) = Some (issued_of e)
 
-abbrev pub after_of : Begun → Option Entry
+abbrev pub after_of : Begun → Option Issued
 after_of b = after_by b.entry b.events
 
--- this is the entry afterwards, and the row has its events
-pub record Comes (b : Begun) (after : Option Entry) (old new : Row) : Type 0 where
-  pub entry : after ≡ after_of b
+-- this has then issued of the entry, and the row has its events
+pub record Comes (b : Begun) (after : Option Issued) (old new : Row) : Type 0 where
+  pub issued : after ≡ after_of b
   pub row : new ≡ with_events old b.events
 
 -- it is put in its place then
-abbrev pub puts_by : ℕ → ℕ → Option Entry → List Put
-puts_by i station after = option_to_list (option_map (λ e. record { position = i; station = station; entry = e }) after)
+abbrev pub puts_by : ℕ → ℕ → Option Issued → List Put
+puts_by i station after = option_to_list (option_map (λ o. record { position = i; station = station; issued = o }) after)
 
 abbrev pub puts_of : ℕ → ℕ → Begun → List Put
 puts_of i station b = puts_by i station (after_of b)

@@ -2,10 +2,12 @@
 ghost use Rattle.std.specs.Prelude.{◌≡◌, None, Some};
 ghost use Rattle.rv_effect.specs.Seen.{seen};
 ghost use Rattle.window_model.specs.Issue.{begun, fault_if, outcome};
+ghost use Rattle.rob_ring.specs.Issued.{issued_of};
 
 use crate::access::Access;
 use crate::loads::Loaded;
 use crate::seen::{Place, Seen};
+use rob_ring::Issued;
 use rv_alu::div_time;
 use rv_effect::{Effect, effect};
 use rv_types::{Cause, Kind};
@@ -35,16 +37,13 @@ fn fault_if(misaligned: bool) -> Option<Cause>
     None
 }
 
-/// The entry as it executes until this cycle.
-pub(crate) fn begun(entry: &Entry, due: u64, outcome: Outcome) -> Entry
-    ensures { result ≡ begun entry.now due outcome }
+/// What has issued of the entry as it executes until this cycle.
+pub(crate) fn begun(entry: &Entry, due: u64, outcome: Outcome) -> Issued
+    ensures { result ≡ issued_of (begun entry.now due outcome) }
 {
-    Entry {
-        serial: entry.serial,
-        item: entry.item,
+    Issued {
         state: Progress::Busy(due),
         outcome: Some(outcome),
-        resolved: entry.resolved,
         addr_due: entry.addr_due,
         data_due: entry.data_due,
     }
@@ -72,7 +71,7 @@ impl<'a> Seen<'a> {
         first: u32,
         ports: &mut Ports,
         row: &mut Row,
-    ) -> Entry
+    ) -> Issued
         requires effect { seen made.now ≡ effect_here self.now place.now }
         requires first { first ≡ first_of self.now place.now }
         requires room { HasRoom 1 row.old }
@@ -89,7 +88,7 @@ impl<'a> Seen<'a> {
     }
 
     // A multiplication.
-    fn begin_product(&self, place: &Place, made: &Effect, row: &mut Row) -> Entry
+    fn begin_product(&self, place: &Place, made: &Effect, row: &mut Row) -> Issued
         requires effect { seen made.now ≡ effect_here self.now place.now }
         requires room { HasRoom 1 row.old }
         ensures { Comes (here (begin_as kind.Mul) self.now place.now) (Some result) row.old row.new }
@@ -100,7 +99,7 @@ impl<'a> Seen<'a> {
     }
 
     // What takes one cycle of an arithmetic unit.
-    fn begin_simple(&self, place: &Place, made: &Effect, row: &mut Row) -> Entry
+    fn begin_simple(&self, place: &Place, made: &Effect, row: &mut Row) -> Issued
         requires effect { seen made.now ≡ effect_here self.now place.now }
         requires room { HasRoom 1 row.old }
         ensures { Comes (here (begin_as kind.Alu) self.now place.now) (Some result) row.old row.new }
@@ -110,15 +109,15 @@ impl<'a> Seen<'a> {
         begun(place.entry, self.cycle as u64 + 1, outcome)
     }
 
-    /// What becomes of the entry, which is no store, by its kind; None where it stays as it is. A load leaves what its access came to, a division
-    /// the divider. No port is taken.
+    /// What has then issued of the entry, which is no store, by its kind; None where it stays as it is. A load leaves what its
+    /// access came to, a division the divider. No port is taken.
     pub(crate) fn begin(
         &self,
         place: &Place,
         load: &mut Option<Access>,
         ports: &mut Ports,
         row: &mut Row,
-    ) -> Option<Entry>
+    ) -> Option<Issued>
         requires turn { HasTurn self.now place.now }
         requires whole { is_store place.now.entry.now.item.kind ≡ false }
         requires goes { is_load place.now.entry.now.item.kind ≡ true → here goes_behind self.now place.now ≡ true }

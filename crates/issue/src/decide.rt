@@ -3,9 +3,9 @@
 use crate::access::Access;
 use crate::seen::{Place, Seen};
 use arrayvec::ArrayVec;
-use rv_types::{Instr, Kind, Reg};
+use rob_ring::Issued;
 use unit_ports::Ports;
-use window_model::{Entry, Item, Progress, Row};
+use window_model::{Progress, Row};
 
 /// At most so many entries issue in a cycle, or a part of them: four arithmetic units, and one port of each other kind.
 pub(crate) const PUTS_MAX: usize = 9;
@@ -17,29 +17,21 @@ pub(crate) struct Put {
     pub(crate) position: u32,
     /// The position of its station, as the stations are before the phase. It is freed where the entry no longer waits.
     pub(crate) station: u32,
-    /// The entry afterwards.
-    pub(crate) entry: Entry,
+    /// What has then issued of it: all that changes.
+    pub(crate) issued: Issued,
 }
 
 impl Default for Put {
     /// To fill free places with: one whose bytes are all 0, so that all places are cleared at once.
     fn default() -> Self {
-        let instr = Instr::Lui {
-            rd: Reg { number: 0 },
-            imm: 0,
-        };
-        let item = Item {
-            instr,
-            kind: Kind::Alu,
-            ..Item::default()
-        };
         Put {
             position: 0,
             station: 0,
-            entry: Entry {
-                item,
+            issued: Issued {
                 state: Progress::Waiting,
-                ..Entry::default()
+                outcome: None,
+                addr_due: None,
+                data_due: None,
             },
         }
     }
@@ -69,17 +61,17 @@ impl Decided {
         }
     }
 
-    /// Notes what the entry is afterwards, if it changes.
-    pub(crate) fn note(&mut self, place: &Place, after: Option<Entry>)
+    /// Notes what has then issued of the entry, if it changes.
+    pub(crate) fn note(&mut self, place: &Place, after: Option<Issued>)
         requires few { length self.old.puts.items < most_begun }
         ensures puts { self.new.puts.items ≡ self.old.puts.items ++ puts_by place.now.position place.now.station after }
         ensures load { self.new.load ≡ self.old.load }
     {
-        if let Some(entry) = after {
+        if let Some(issued) = after {
             self.puts.push(Put {
                 position: place.position,
                 station: place.station,
-                entry,
+                issued,
             });
         }
     }

@@ -11,9 +11,10 @@ use crate::begin::{begun, outcome};
 use crate::lines::{Line, Lines, Request};
 use crate::seen::{Place, Seen};
 use lsq::Merged;
+use rob_ring::Issued;
 use rv_alu::extend;
 use rv_effect::Effect;
-use window_model::{Entry, Event, Row};
+use window_model::{Event, Row};
 
 /// What a load finds.
 #[derive(Clone, Copy, Debug, PartialEq, Eq)]
@@ -125,7 +126,7 @@ impl<'a> Seen<'a> {
         made: &Effect,
         found: &Loaded,
         row: &mut Row,
-    ) -> Option<Entry>
+    ) -> Option<Issued>
         requires room { HasRoom 3 row.old }
         ensures { Comes (loads self.now place.now made.now found.now) result row.old row.new }
     {

@@ -1,10 +1,12 @@
 //! The parts of a store (`docs/machine.md`, "Issue"): its address part and its data part, each at a port of its own.
 ghost use Rattle.std.specs.Prelude.{◌≡◌};
-ghost use Rattle.window_model.specs.Issue.{busy_until_both, if_both, so_far};
+ghost use Rattle.window_model.specs.Issue.{busy_until_both, so_far};
+ghost use Rattle.rob_ring.specs.Issued.{issued_of};
 ghost use Rattle.issue.specs.Ports.{has_issued};
 
 use crate::decide::Decided;
 use crate::seen::{Place, Seen};
+use rob_ring::Issued;
 use rv_effect::{Effect, effect};
 use stations::Part;
 use unit_ports::Ports;
@@ -36,11 +38,25 @@ fn busy_until_both(address: Option<u64>, stored: Option<u64>, state: Progress) -
     }
 }
 
-// The entry executes once it has both parts.
-fn if_both(entry: &mut Entry)
-    ensures { entry.new ≡ if_both entry.old }
+// What has issued of an entry.
+fn issued_of(entry: &Entry) -> Issued
+    ensures { result ≡ issued_of entry.now }
 {
-    entry.state = busy_until_both(entry.addr_due, entry.data_due, entry.state);
+    Issued {
+        state: entry.state,
+        outcome: entry.outcome,
+        addr_due: entry.addr_due,
+        data_due: entry.data_due,
+    }
+}
+
+// The entry executes once both its parts have issued.
+fn if_both(issued: &mut Issued)
+    ensures { issued.new ≡ record issued.old {
+      state = busy_until_both issued.old.addr_due issued.old.data_due issued.old.state;
+    } }
+{
+    issued.state = busy_until_both(issued.addr_due, issued.data_due, issued.state);
 }
 
 // Whether a part of a store has issued.
@@ -61,6 +77,7 @@ impl<'a> Seen<'a> {
     ghost use Rattle.window_model.specs.Issue.{AddressPort, DataPort, data_events, with_address, with_data};
     ghost use Rattle.window_model.specs.Order.{is_store};
     ghost use Rattle.window_model.specs.Row.{HasRoom, with_events};
+    ghost use Rattle.rob_ring.specs.Issued.{issued_of, with_issued};
     ghost use Rattle.unit_ports.specs.Laws.{if_asked};
     ghost use Rattle.unit_ports.specs.Ports.{Ports};
     ghost use Rattle.issue.specs.Decisions.{HadTurn, most_begun};
@@ -114,38 +131,40 @@ impl<'a> Seen<'a> {
     }
 
     // The address part issues, with its event in the row: with its address the store's fault is known.
-    fn issue_address(&self, entry: &mut Entry, made: &Effect, row: &mut Row)
+    fn issue_address(&self, entry: &Entry, issued: &mut Issued, made: &Effect, row: &mut Row)
         requires room { HasRoom 1 row.old }
-        ensures entry { entry.new ≡ with_address (around_of self.now) (seen made.now) entry.old }
-        ensures row { row.new ≡ with_events row.old (event.Agu entry.old.serial ∷ []) }
+        ensures issued { issued.new ≡ issued_of
+            (with_address (around_of self.now) (seen made.now) (with_issued issued.old entry.now)) }
+        ensures row { row.new ≡ with_events row.old (event.Agu entry.now.serial ∷ []) }
     {
         row.push(Event::Agu(entry.serial));
-        let mut outcome = so_far(&entry.outcome, made.next);
+        let mut outcome = so_far(&issued.outcome, made.next);
         outcome.addr = made.addr;
         outcome.fault = self.ram.store_fault(made.addr, entry.bytes());
-        entry.outcome = Some(outcome);
-        entry.addr_due = Some(self.cycle as u64 + 1);
-        if_both(entry);
+        issued.outcome = Some(outcome);
+        issued.addr_due = Some(self.cycle as u64 + 1);
+        if_both(issued);
     }
 
     // The data part issues, which has an event of its own in version 2 alone.
-    fn issue_data(&self, entry: &mut Entry, made: &Effect, row: &mut Row)
+    fn issue_data(&self, entry: &Entry, issued: &mut Issued, made: &Effect, row: &mut Row)
         requires room { HasRoom 1 row.old }
-        ensures entry { entry.new ≡ with_data (around_of self.now) (seen made.now) entry.old }
-        ensures row { row.new ≡ with_events row.old (data_events self.now.desc.now entry.old) }
+        ensures issued { issued.new ≡ issued_of
+            (with_data (around_of self.now) (seen made.now) (with_issued issued.old entry.now)) }
+        ensures row { row.new ≡ with_events row.old (data_events self.now.desc.now entry.now) }
     {
         if self.desc.version != 1 {
             row.push(Event::Std(entry.serial));
         }
-        let mut outcome = so_far(&entry.outcome, made.next);
+        let mut outcome = so_far(&issued.outcome, made.next);
         outcome.stored = made.stored;
-        entry.outcome = Some(outcome);
-        entry.data_due = Some(self.cycle as u64 + 1);
-        if_both(entry);
+        issued.outcome = Some(outcome);
+        issued.data_due = Some(self.cycle as u64 + 1);
+        if_both(issued);
     }
 
-    // The entry once those of its parts have issued that are granted their ports, the address first.
-    fn after_parts(&self, place: &Place, address: bool, stored: bool, row: &mut Row) -> Entry
+    // What has issued of the entry once those of its parts have that are granted their ports, the address first.
+    fn after_parts(&self, place: &Place, address: bool, stored: bool, row: &mut Row) -> Issued
         requires turn { HasTurn self.now place.now }
         requires room { HasRoom (one_if address + one_if stored) row.old }
         ensures { Goes (parts_by address stored self.now place.now) result row.old row.new }
@@ -153,14 +172,14 @@ impl<'a> Seen<'a> {
         let operands = self.operands(place);
         let item = &place.entry.item;
         let made = effect(item.pc, &item.instr, operands.first, operands.second);
-        let mut entry = *place.entry;
+        let mut issued = issued_of(place.entry);
         if address {
-            self.issue_address(&mut entry, &made, row);
+            self.issue_address(place.entry, &mut issued, &made, row);
         }
         if stored {
-            self.issue_data(&mut entry, &made, row);
+            self.issue_data(place.entry, &mut issued, &made, row);
         }
-        entry
+        issued
     }
 
     /// A store has its turn: each of its parts takes its port where it may issue, and issues where it is granted one.

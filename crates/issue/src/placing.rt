@@ -35,16 +35,17 @@ fn wants_of(version: u32, entry: &Entry) -> Wants
     Wants::Whole
 }
 
-// The station of an entry that is put in its place is freed, where it no longer waits; else it waits for what is left.
-fn settle(stations: &mut Stations, version: u32, put: &Put)
-    requires within { put.now.station < length stations.old.held }
+// The station of an entry that has issued, or of which a part has, is freed, where it no longer waits; else it waits for what is
+// left.
+fn settle(stations: &mut Stations, version: u32, station: u32, entry: &Entry)
+    requires within { station < length stations.old.held }
     ensures { stations.new ≡ record stations.old {
-      held = left_held version put.now.station put.now.entry stations.old.held;
+      held = left_held version station entry.now stations.old.held;
     } }
 {
-    match put.entry.state {
-        Progress::Waiting => stations.leave(put.station, wants_of(version, &put.entry)),
-        _ => stations.remove(put.station),
+    match entry.state {
+        Progress::Waiting => stations.leave(station, wants_of(version, entry)),
+        _ => stations.remove(station),
     }
 }
 
@@ -64,8 +65,8 @@ fn note(lsq: &mut Lsq, entry: &Entry)
     }
 }
 
-/// Each entry comes in its place, its station is freed or waits for what is left, and a store's parts that have issued are known to
-/// its queue. The youngest comes first, so that the others' stations stay where they are.
+/// Each entry issues in its place, its station is freed or waits for what is left, and a store's parts that have issued are known
+/// to its queue. The youngest comes first, so that the others' stations stay where they are.
 pub(crate) fn place(
     puts: &ArrayVec<Put, PUTS_MAX>,
     version: u32,
@@ -84,8 +85,9 @@ pub(crate) fn place(
 {
     for k in (0..puts.len()).rev() {
         let put = &puts[k];
-        rob.replace(put.position, &put.entry);
-        settle(stations, version, put);
-        note(lsq, &put.entry);
+        rob.issue(put.position, &put.issued);
+        let entry = rob.lend(put.position);
+        settle(stations, version, put.station, entry);
+        note(lsq, entry);
     }
 }

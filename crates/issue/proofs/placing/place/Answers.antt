@@ -1,16 +1,20 @@
-use Rattle.issue.proofs.InPlace.{as_safe, place_within, places_more, places_start, station_within}
+use Rattle.issue.proofs.InPlace.{as_safe, place_within, places_more, places_start, station_within, still_within}
 use Rattle.issue.proofs.placing.place.Goals as goal
 
 pub loop-k-init : goal.loop-k-init
 loop-k-init c = rw c.len-k.ensures.value (places_start _ _ _ _ _ c.requires.puts)
 
-pub replace-requires-clause-within : goal.replace-requires-clause-within
-replace-requires-clause-within c =
+pub issue-requires-clause-within : goal.issue-requires-clause-within
+issue-requires-clause-within c =
     place_within _ _ _ _ _ _ _ _ _ _ c.loop-k.invariant c.loop-k-test.true _ c.loop-k.auto.k c.len-k.ensures.value _ c.index-deref-k.is c.deref.ensures.0
 
-pub replace-requires-clause-alike : goal.replace-requires-clause-alike
-replace-requires-clause-alike c =
+pub issue-requires-clause-alike : goal.issue-requires-clause-alike
+issue-requires-clause-alike c =
     as_safe _ _ _ _ _ _ _ _ _ _ c.loop-k.invariant c.loop-k-test.true _ c.loop-k.auto.k c.len-k.ensures.value _ c.index-deref-k.is c.deref.ensures.0 c.requires.stands
+
+pub lend-entry-requires : goal.lend-entry-requires
+lend-entry-requires c =
+    still_within _ _ _ _ _ _ _ _ _ _ c.loop-k.invariant c.loop-k-test.true _ c.loop-k.auto.k c.len-k.ensures.value _ c.index-deref-k.is c.deref.ensures.0 _ c.issue.ensures
 
 pub settle-requires : goal.settle-requires
 settle-requires c = record {
@@ -22,4 +26,4 @@ settle-requires c = record {
 pub loop-k-preserved : goal.loop-k-preserved
 loop-k-preserved c =
     places_more _ _ _ _ _ _ _ _ _ _ c.loop-k.invariant c.loop-k-test.true _ c.loop-k.auto.k c.len-k.ensures.value _ c.index-deref-k.is c.deref.ensures.0
-    _ _ _ c.replace.ensures c.settle.ensures c.note.ensures
+    _ c.issue.ensures _ _ _ c.lend-entry.ensures c.settle.ensures c.note.ensures

@@ -1,4 +1,4 @@
-use Rattle.std.proofs.Common.{◌≡◌, ◌+◌, ◌≤◌, length, ap, subst, sym, ◌∙◌, arith, refl, Some}
+use Rattle.std.proofs.Common.{◌≡◌, ◌+◌, ◌≤◌, length, ap, subst, ◌∙◌, arith, refl, Some}
 use Rattle.std.specs.Option.{option_map}
 use Rattle.stations.specs.Stations.{MarksAble}
 use Rattle.issue.specs.Accesses.{as_access}

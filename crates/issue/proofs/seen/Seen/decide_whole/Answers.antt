@@ -71,7 +71,7 @@ returns c =
     let fewer = left.fewer in
     let events = left.events in
     record {
-      puts = c.note.ensures.puts ∙ ap (λ o. c.args.decided.now.puts.items ++ puts_by p.position p.station o) (comes.entry ∙ ap after_of (sym begins));
+      puts = c.note.ensures.puts ∙ ap (λ o. c.args.decided.now.puts.items ++ puts_by p.position p.station o) (comes.issued ∙ ap after_of (sym begins));
       row_is = comes.row ∙ ap (λ b. with_events c.args.row.now b.events) (sym begins);
       load = ap (option_map as_access) c.note.ensures.load ∙ c.begin-after.ensures.load
           ∙ ap (λ b. load_by b s p (option_map as_access c.args.decided.now.load)) (sym (load_where d now before e true granted));
