@@ -46,7 +46,7 @@ fn jump_target(predictor: &Predictor, history: &History, pc: u32, instr: &Instr)
 }
 
 // The direction that is predicted: taken only of a branch.
-pub(crate) fn guess(predictor: &Predictor, history: &History, pc: u32, kind: Kind) -> bool
+fn guess(predictor: &Predictor, history: &History, pc: u32, kind: Kind) -> bool
     requires one_description { predictor.now.desc ≡ history.now.desc }
     ensures { result ≡ guess kind history.now.desc predictor.now.counters history.now.mark pc }
 {
@@ -82,32 +82,44 @@ fn predicted(
     }
 }
 
-/// The item of an address. Outside code it is a stop.
+/// An item, and the direction that was guessed of it.
+#[derive(Clone, Copy)]
+pub(crate) struct Fetched {
+    pub(crate) item: Item,
+    pub(crate) taken: bool,
+}
+
+/// The item of an address, with the direction by which it is predicted. Outside code it is a stop.
 #[tactic(auto, using(crate::proofs::Items::item_there, crate::proofs::Items::nothing_there))]
-pub(crate) fn item_at(predictor: &Predictor, history: &History, code: &Code, pc: u32) -> Item
+pub(crate) fn fetched_at(predictor: &Predictor, history: &History, code: &Code, pc: u32) -> Fetched
     requires one_description { predictor.now.desc ≡ history.now.desc }
-    ensures { (x : Machine) → result ≡ item_at history.now.desc (word_at code.now)
+    ensures item { (x : Machine) → result.item ≡ item_at history.now.desc (word_at code.now)
         (predicting predictor.now history.now x) pc }
+    ensures taken { result.taken
+        ≡ guess result.item.kind history.now.desc predictor.now.counters history.now.mark pc }
 {
-    match code.instr(pc) {
-        Some(instr) => {
-            let kind = kind_of(&instr);
-            let taken = guess(predictor, history, pc, kind);
-            let predicted = predicted(predictor, history, taken, pc, &instr, kind);
-            Item {
+    let Some(instr) = code.instr(pc) else {
+        return Fetched {
+            item: Item {
                 pc,
-                instr,
-                kind,
-                predicted,
+                instr: Instr::Illegal(0),
+                kind: Kind::Stop(Cause::outside_code()),
+                predicted: None,
                 mark: *history.mark(),
-            }
-        }
-        None => Item {
+            },
+            taken: false,
+        };
+    };
+    let kind = kind_of(&instr);
+    let taken = guess(predictor, history, pc, kind);
+    Fetched {
+        item: Item {
             pc,
-            instr: Instr::Illegal(0),
-            kind: Kind::Stop(Cause::outside_code()),
-            predicted: None,
+            instr,
+            kind,
+            predicted: predicted(predictor, history, taken, pc, &instr, kind),
             mark: *history.mark(),
         },
+        taken,
     }
 }

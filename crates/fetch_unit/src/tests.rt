@@ -74,7 +74,9 @@ fn fetching_goes_on_at_the_predicted_next(rt: HostRuntime) -> Result<(), Fail> {
     let branch = Some((BRANCH, Kind::Branch, Some(JUMP)));
     assert_eq!(rt; told(fetch.front()), branch);
     assert_eq!(rt; told(fetch.take()), branch);
-    assert_eq!(rt; told(fetch.take()), Some((JUMP, Kind::Jal, Some(RETURN))));
+    let jump = Some((JUMP, Kind::Jal, Some(RETURN)));
+    assert_eq!(rt; told(fetch.oldest().copied()), jump);
+    fetch.drop_oldest();
     assert_eq!(rt;
         told(fetch.take()),
         Some((RETURN, Kind::Jalr, Some(OUTSIDE)))

@@ -1,11 +1,11 @@
 //! The queue and the fetch pc.
-ghost use Rattle.std.specs.Prelude.{◌≡◌, ◌<◌, ◌++◌, ◌∷◌, [], length, drop, slice_get, IfOk, Some};
+ghost use Rattle.std.specs.Prelude.{◌≡◌, ◌<◌, ◌++◌, ◌∷◌, [], length, drop, slice_get, option_copied, IfOk, Some};
 ghost use Rattle.elf_loader.specs.Code.{word_at};
 ghost use Rattle.window_model.specs.Row.{HasRoom, IsLonger, most_fetched, with_events};
 ghost use Rattle.window_model.specs.State.{Machine};
 ghost use Rattle.fetch_unit.specs.Unit.{with_unit, fetches, next_fetch};
 
-use crate::item::{guess, item_at};
+use crate::item::fetched_at;
 use circular_buffer::HeapCircularBuffer;
 use elf_loader::Code;
 use history_pred::History;
@@ -77,9 +77,9 @@ impl Fetch {
             let Some(pc) = self.next() else {
                 return;
             };
-            let item = item_at(predictor, history, code, pc);
-            history.follow(&item, guess(predictor, history, pc, item.kind));
-            self.add(item);
+            let fetched = fetched_at(predictor, history, code, pc);
+            history.follow(&fetched.item, fetched.taken);
+            self.add(&fetched.item);
             row.push(Event::Fet(pc));
         }
     }
@@ -96,19 +96,27 @@ impl Fetch {
     }
 
     // The item comes into the queue, which has room, and fetching goes on at its predicted next address.
-    fn add(&mut self, item: Item)
+    fn add(&mut self, item: &Item)
         requires room { length self.old.queue < self.old.desc.core_queue }
-        ensures { self.new ≡ record self.old { queue = self.old.queue ++ item ∷ []; fetch_pc = item.predicted } }
+        ensures { self.new
+            ≡ record self.old { queue = self.old.queue ++ item.now ∷ []; fetch_pc = item.now.predicted } }
     {
-        let _ = self.queue.try_push_back(item);
+        let _ = self.queue.try_push_back(*item);
         self.fetch_pc = item.predicted;
+    }
+
+    /// Lends the oldest item, None exactly where the queue is empty.
+    pub fn oldest(&self) -> Option<&Item>
+        ensures { option_copied result ≡ slice_get self.now.queue 0 }
+    {
+        self.queue.front()
     }
 
     /// The oldest item, None exactly where the queue is empty.
     pub fn front(&self) -> Option<Item>
         ensures { result ≡ slice_get self.now.queue 0 }
     {
-        self.queue.front().copied()
+        self.oldest().copied()
     }
 
     /// Takes the oldest item out of the queue and answers it. None exactly where the queue is empty; nothing changes then.
@@ -117,6 +125,13 @@ impl Fetch {
         ensures left { self.new ≡ record self.old { queue = drop 1 self.old.queue } }
     {
         self.queue.pop_front()
+    }
+
+    /// Drops the oldest item. Nothing changes where the queue is empty.
+    pub fn drop_oldest(&mut self)
+        ensures { self.new ≡ record self.old { queue = drop 1 self.old.queue } }
+    {
+        let _ = self.take();
     }
 
     /// Drops the whole queue, and lets fetching go on at this address, or nowhere. Answers how many items were dropped.

@@ -6,16 +6,13 @@ use Rattle.fetch_unit.proofs.unit.Fetch.fetch.Goals as goal
 pub loop-init : goal.loop-init
 loop-init c = fetches_start _ _ _ _ _
 
-pub item_at-item-requires : goal.item_at-item-requires
-item_at-item-requires c = record { one_description = c.requires.one_description ∙ sym c.requires.of_history ∙ sym c.loop.invariant.past_desc }
-
-pub guess-requires : goal.guess-requires
-guess-requires c = record { one_description = c.requires.one_description ∙ sym c.requires.of_history ∙ sym c.loop.invariant.past_desc }
+pub fetched_at-fetched-requires : goal.fetched_at-fetched-requires
+fetched_at-fetched-requires c = record { one_description = c.requires.one_description ∙ sym c.requires.of_history ∙ sym c.loop.invariant.past_desc }
 
 pub loop-preserved : goal.loop-preserved
 loop-preserved c =
     fetches_more _ _ _ _ _ _ _ _ _ _ _ _ _ _ _ c.loop.invariant (let e = ap (λ (f : FetchUnit). f.desc.core_fetch_width) c.self.view_is in omega (arith, e, c.loop-test.true))
-    (sym c.next.ensures ∙ c.in-Some.is) c.requires.of_history c.item_at-item.ensures c.guess.ensures c.add.ensures c.follow.ensures c.push.ensures
+    (sym c.next.ensures ∙ c.in-Some.is) c.requires.of_history c.fetched_at-fetched.ensures.item c.fetched_at-fetched.ensures.taken c.add.ensures c.follow.ensures c.push.ensures
 
 pub returns-in_default-clause-machine : goal.returns-in_default-clause-machine
 returns-in_default-clause-machine c = (over_early _ _ _ _ _ _ _ _ _ c.loop.invariant (sym c.next.ensures ∙ c.in_default.is)).machine
