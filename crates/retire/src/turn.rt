@@ -27,7 +27,7 @@ pub(crate) fn turn_at(rob: &RobRing, stored: bool) -> Turn
     if rob.len() == 0 {
         return Turn::Waits;
     }
-    turn_of(&rob.at(0), stored)
+    turn_of(rob.lend(0), stored)
 }
 
 // The turn of this head.
