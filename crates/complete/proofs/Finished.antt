@@ -8,6 +8,7 @@ use Rattle.machine_desc.proofs.Versions.{most_up_to}
 use Rattle.window_model.specs.declared.Entry.{Entry}
 use Rattle.window_model.specs.Fill.{completes}
 use Rattle.window_model.specs.Order.{is_waiting}
+use Rattle.window_model.proofs.Booleans.{some_of}
 use Rattle.machine_facts.proofs.Parts.{IsEntry}
 use Rattle.rob_ring.specs.Ring.{IsNext, Ring, is_busy}
 use Rattle.stations.specs.Stations.{Stations, struck}
@@ -53,11 +54,19 @@ module _ (h : Held) (v : Described) (i : ℕ) (e : Entry) (rob : Ring) (stations
     made = w.made;
   })
 
-  pub finish_shown : described (record h { rob = rob; stations = stations }) ≡ record v { machine = record (v.machine) { window = slice_set v.machine.window i (done e) } }
-  finish_shown = ap described are ∙ ap (λ (v : Described). record v { machine = record (v.machine) { window = slice_set v.machine.window i (done e) } }) s
+  one_shown : described (record h { rob = rob; stations = stations }) ≡ record v { machine = record (v.machine) { window = slice_set v.machine.window i (done e) } }
+  one_shown = ap described are ∙ ap (λ (v : Described). record v { machine = record (v.machine) { window = slice_set v.machine.window i (done e) } }) s
 
-  pub was_here : slice_get v.machine.window i ≡ Some e
+  was_here : slice_get v.machine.window i ≡ Some e
   was_here = subst (λ (v : Described). slice_get v.machine.window i ≡ Some e) s here
+
+  pub serial_shown : option_map (λ (e : Entry). e.serial) (slice_get v.machine.window i) ≡ Some e.serial
+  serial_shown = ap (option_map (λ (e : Entry). e.serial)) was_here
+
+  -- whichever entry is there in the machine's window is this one
+  pub finish_shown : (there : Entry) → slice_get v.machine.window i ≡ Some there →
+      described (record h { rob = rob; stations = stations }) ≡ record v { machine = record (v.machine) { window = slice_set v.machine.window i (done there) } }
+  finish_shown there at = one_shown ∙ ap (λ (e : Entry). record v { machine = record (v.machine) { window = slice_set v.machine.window i (done e) } }) (some_of e there (sym was_here ∙ at))
 
 -- what is told of the entry in the buffer is told of the machine's
 pub told_here : (h : Held) (v : Described) (i : ℕ) (b : Bool) → Whole h → described h ≡ v → option_map (completes h.cycle) (slice_get h.rob.entries i) ≡ Some b →

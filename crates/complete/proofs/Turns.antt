@@ -4,7 +4,7 @@ use Rattle.std.specs.Prelude.{if◌then◌else◌, map, slice_set}
 use Rattle.std.specs.List.{filter, fold}
 use Rattle.std.specs.Option.{option_map}
 use Rattle.std.specs.Slice.Scan.{HoldsNowhere, holds_at}
-use Rattle.std.proofs.lemmas.List.{append-nil, append_assoc, drop_all, length-append, length-map, take_all}
+use Rattle.std.proofs.lemmas.List.{append-nil, append_assoc, drop_all, length-append, length-map, length-set, take_all}
 use Rattle.window_model.specs.declared.Entry.{Entry}
 use Rattle.window_model.specs.declared.Event.{Event}
 use Rattle.window_model.specs.declared.Event.TheVariants as event
@@ -13,6 +13,7 @@ use Rattle.window_model.specs.declared.Progress.TheVariants.{Waiting, Busy, Done
 use Rattle.window_model.specs.Fill.{complete, completes, completes_at, completed}
 use Rattle.window_model.specs.Row.{Row}
 use Rattle.rob_ring.specs.Ring.{IsNext, in_execution, is_busy}
+use Rattle.window_model.proofs.Booleans.{some_of}
 use Rattle.rob_ring.proofs.Gaps.{to_end, to_next}
 use Rattle.parts_stand.proofs.Standing.{halves}
 use Rattle.core_parts.specs.Described.{Described}
@@ -107,7 +108,7 @@ module _ (s : Described) (row : Row) (i : ℕ) (now : Described) (row_now : Row)
   as_it_was e g = sym (get_mapped (completed s.machine.cycle) s.machine.window i) ∙ ap (λ ws. slice_get ws i) (sym entries_are) ∙ g
 
   -- the entry at the position is due, and becomes Done
-  pub completes_more : (e : Entry) (next : Described) (row_next : Row) → option_map (completes now.machine.cycle) (slice_get now.machine.window i) ≡ Some true → slice_get now.machine.window i ≡ Some e →
+  completes_more : (e : Entry) (next : Described) (row_next : Row) → option_map (completes now.machine.cycle) (slice_get now.machine.window i) ≡ Some true → slice_get now.machine.window i ≡ Some e →
       next ≡ record now { machine = record (now.machine) { window = slice_set now.machine.window i (done e) } } → row_next ≡ record row_now { events = row_now.events ++ event.Done e.serial ∷ [] } →
       CompletesOn s row (i + 1) next row_next
   completes_more e next row_next due g n r =
@@ -127,6 +128,22 @@ module _ (s : Described) (row : Row) (i : ℕ) (now : Described) (row_now : Row)
         same_cycle = ap (λ (r : Row). r.cycle) r ∙ c.same_cycle;
         few = omega (arith, more, longer, c.few);
       }
+
+  -- so it does where all that is said of it is its serial, and what becomes of whichever entry stands there
+  serial_by : (o : Option Entry) (n : ℕ) (next : Described) (row_next : Row) → slice_get now.machine.window i ≡ o → option_map (completes now.machine.cycle) o ≡ Some true → option_map (λ (e : Entry). e.serial) o ≡ Some n →
+      ((e : Entry) → slice_get now.machine.window i ≡ Some e → next ≡ record now { machine = record (now.machine) { window = slice_set now.machine.window i (done e) } }) →
+      row_next ≡ record row_now { events = row_now.events ++ event.Done n ∷ [] } → CompletesOn s row (i + 1) next row_next
+  serial_by None n next row_next at due serial m r = absurd (cc)
+  serial_by (Some e) n next row_next at due serial m r =
+      let is : n ≡ e.serial = sym (some_of e.serial n serial) in
+      completes_more e next row_next (ap (option_map (completes now.machine.cycle)) at ∙ due) at (m e at)
+      (r ∙ ap (λ n. record row_now { events = row_now.events ++ event.Done n ∷ [] }) is)
+
+  pub completes_serial : (n : ℕ) (next : Described) (row_next : Row) → option_map (completes now.machine.cycle) (slice_get now.machine.window i) ≡ Some true →
+      option_map (λ (e : Entry). e.serial) (slice_get now.machine.window i) ≡ Some n →
+      ((e : Entry) → slice_get now.machine.window i ≡ Some e → next ≡ record now { machine = record (now.machine) { window = slice_set now.machine.window i (done e) } }) →
+      row_next ≡ record row_now { events = row_now.events ++ event.Done n ∷ [] } → CompletesOn s row (i + 1) next row_next
+  completes_serial n next row_next due serial m r = serial_by (slice_get now.machine.window i) n next row_next refl due serial m r
 
   past_by : (o : Option Entry) → slice_get now.machine.window i ≡ o → option_map (completes now.machine.cycle) o ≡ Some false → CompletesOn s row (i + 1) now row_now
   past_by None g due = absurd (cc)
@@ -175,6 +192,17 @@ module _ (s : Described) (row : Row) (i : ℕ) (now : Described) (row_now : Row)
   row_over le =
       let none = ap (λ es. fold with_done row_now.events (finished s.machine.cycle es)) (sym (drop_all i s.machine.window le)) in
       ap₂ (λ n es. record { cycle = n; events = es }) c.same_cycle (none ∙ c.events ∙ events_all row.events (finished s.machine.cycle s.machine.window))
+
+-- ---- the window has as many entries as before
+
+many_by : (v next : Described) (i n : ℕ) (o : Option Entry) → slice_get v.machine.window i ≡ o → option_map (λ (e : Entry). e.serial) o ≡ Some n →
+    ((e : Entry) → slice_get v.machine.window i ≡ Some e → next ≡ record v { machine = record (v.machine) { window = slice_set v.machine.window i (done e) } }) → length next.machine.window ≡ length v.machine.window
+many_by v next i n None at serial m = absurd (cc)
+many_by v next i n (Some e) at serial m = ap (λ (v : Described). length v.machine.window) (m e at) ∙ length-set v.machine.window i (done e)
+
+pub many_then : (v next : Described) (i n : ℕ) → option_map (λ (e : Entry). e.serial) (slice_get v.machine.window i) ≡ Some n →
+    ((e : Entry) → slice_get v.machine.window i ≡ Some e → next ≡ record v { machine = record (v.machine) { window = slice_set v.machine.window i (done e) } }) → length next.machine.window ≡ length v.machine.window
+many_then v next i n serial m = many_by v next i n (slice_get v.machine.window i) refl serial m
 
 -- ---- from one that executes to the next
 

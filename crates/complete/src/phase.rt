@@ -1,6 +1,7 @@
 //! The phase: entry by entry, from the oldest on.
 ghost use Rattle.std.specs.Prelude.{◌≡◌, ◌<◌, false, length, Some, slice_get};
 ghost use Rattle.std.specs.Option.{option_map};
+ghost use Rattle.window_model.specs.declared.Entry.{Entry};
 ghost use Rattle.window_model.specs.Fill.{complete, completes, completes_at};
 ghost use Rattle.window_model.specs.Order.{is_waiting};
 ghost use Rattle.window_model.specs.Row.{HasRoom, IsLonger, most_done, with_events};
@@ -10,7 +11,7 @@ ghost use Rattle.complete.specs.Completed.{done_at};
 use core_parts::Parts;
 use rename_taint::RenameTaint;
 use rob_ring::RobRing;
-use window_model::{Entry, Event, Progress, Row};
+use window_model::{Event, Progress, Row};
 
 /// Phase Complete: each entry that is Busy until this cycle becomes Done, oldest first, with its event.
 pub fn complete<R: RenameTaint>(parts: &mut Parts<R>, row: &mut Row)
@@ -25,8 +26,8 @@ pub fn complete<R: RenameTaint>(parts: &mut Parts<R>, row: &mut Row)
         if !is_due_at(&parts.rob, i, parts.cycle as u64) {
             continue;
         }
-        let entry = finish(i, parts);
-        row.push(Event::Done(entry.serial));
+        let serial = finish(i, parts);
+        row.push(Event::Done(serial));
     }
 }
 
@@ -48,14 +49,15 @@ fn is_due(state: Progress, cycle: u64) -> bool
     }
 }
 
-// The entry at a position, which doesn't wait, becomes Done: no station awaits it any more. The answer is the entry as it was.
-fn finish<R: RenameTaint>(i: u32, parts: &mut Parts<R>) -> Entry
+// The entry at a position, which doesn't wait, becomes Done: no station awaits it any more. The answer is its serial.
+fn finish<R: RenameTaint>(i: u32, parts: &mut Parts<R>) -> u64
     requires { option_map (λ e. is_waiting e.state) (slice_get parts.old.machine.window i) ≡ Some false }
-    ensures entry { slice_get parts.old.machine.window i ≡ Some result }
-    ensures machine { parts.new ≡ with_window (done_at i result parts.old.machine.window) parts.old }
+    ensures serial { option_map (λ e. e.serial) (slice_get parts.old.machine.window i) ≡ Some result }
+    ensures machine { (e : Entry) → slice_get parts.old.machine.window i ≡ Some e
+        → parts.new ≡ with_window (done_at i e parts.old.machine.window) parts.old }
 {
-    let entry = parts.rob.at(i);
+    let serial = parts.rob.lend(i).serial;
     parts.rob.finish(i);
-    parts.stations.wake(entry.serial);
-    entry
+    parts.stations.wake(serial);
+    serial
 }
