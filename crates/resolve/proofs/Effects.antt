@@ -8,6 +8,7 @@ use Rattle.window_model.specs.declared.Event.TheVariants as event
 use Rattle.window_model.specs.Order.{Place, is_faulty}
 use Rattle.window_model.specs.Resolve.{is_next, keep, learn, next_of, resolve, resolve_at, squash, squashes, true_mark, with_predictor}
 use Rattle.window_model.specs.State.{Machine, After}
+use Rattle.rob_ring.specs.Issued.{as_resolved}
 use Rattle.rob_ring.specs.Ring.{below}
 use Rattle.window_model.specs.Serials.{Rise}
 use Rattle.window_model.proofs.Serials.{below_next as up_to, rise_with}
@@ -16,10 +17,6 @@ use Rattle.branch_resolve.specs.declared.effect.Resolution.TheVariants.{Right, W
 use Rattle.core_parts.specs.Dropped.{cut_after, younger_count}
 use Rattle.resolve.specs.Taken.{resolving, true_next}
 use Rattle.resolve.proofs.Picked.{Taken, taken, replaced}
-
--- marked as resolved
-abbrev pub resolved_one : Entry → Entry
-resolved_one e = record e { resolved = true }
 
 -- ---- how the prediction turned out
 
@@ -57,7 +54,7 @@ by_place d x o p b h q =
 
 -- the machine once the entry at a position is marked and has taught
 abbrev pub marked : Desc → ℕ → Entry → Machine → Machine
-marked d i e x = record x { window = slice_set x.window i (resolved_one e); counters = (learn d e x.counters x.targets).counters; targets = (learn d e x.counters x.targets).targets }
+marked d i e x = record x { window = slice_set x.window i (as_resolved e); counters = (learn d e x.counters x.targets).counters; targets = (learn d e x.counters x.targets).targets }
 
 -- and history and stack are those behind it
 abbrev pub recalled : Desc → ℕ → Entry → Machine → Machine
@@ -70,8 +67,8 @@ module _ (d : Desc) (x : Machine) (i : ℕ) (e : Entry) (picked : Some i ≡ res
   place : Place
   place = record { before = it.before; entry = e; younger = it.younger }
 
-  window_is : slice_set x.window i (resolved_one e) ≡ reverse it.before ++ resolved_one e ∷ it.younger
-  window_is = replaced d x.window i e (resolved_one e) it
+  window_is : slice_set x.window i (as_resolved e) ≡ reverse it.before ++ as_resolved e ∷ it.younger
+  window_is = replaced d x.window i e (as_resolved e) it
 
   -- ---- it was rightly predicted
 
@@ -85,17 +82,17 @@ module _ (d : Desc) (x : Machine) (i : ℕ) (e : Entry) (picked : Some i ≡ res
   -- ---- it was not
 
   module _ (wrong : resolution_of e ≡ Right → ⊥) (rises : Rise x.window) where
-    below_is : below (e.serial + 1) (slice_set x.window i (resolved_one e)) ≡ reverse it.before ++ resolved_one e ∷ []
+    below_is : below (e.serial + 1) (slice_set x.window i (as_resolved e)) ≡ reverse it.before ++ as_resolved e ∷ []
     below_is =
         ap (below (e.serial + 1)) window_is
-        ∙ up_to (reverse it.before) (resolved_one e) it.younger (rise_with (reverse it.before) it.younger e (resolved_one e) refl (subst Rise it.whole rises))
+        ∙ up_to (reverse it.before) (as_resolved e) it.younger (rise_with (reverse it.before) it.younger e (as_resolved e) refl (subst Rise it.whole rises))
 
-    gone : length (slice_set x.window i (resolved_one e)) - length (below (e.serial + 1) (slice_set x.window i (resolved_one e))) ≡ length it.younger
+    gone : length (slice_set x.window i (as_resolved e)) - length (below (e.serial + 1) (slice_set x.window i (as_resolved e))) ≡ length it.younger
     gone =
         let a = ap length window_is in
         let b = ap length below_is in
-        let c = length-append (reverse it.before) (resolved_one e ∷ it.younger) in
-        let c2 = length-append (reverse it.before) (resolved_one e ∷ []) in
+        let c = length-append (reverse it.before) (as_resolved e ∷ it.younger) in
+        let c2 = length-append (reverse it.before) (as_resolved e ∷ []) in
         omega (arith, a, b, c, c2)
 
     pub wrong_is : resolve d x
@@ -109,5 +106,5 @@ module _ (d : Desc) (x : Machine) (i : ℕ) (e : Entry) (picked : Some i ≡ res
         let end : Machine → ℕ → After = λ y n. record { machine = y; events = (learn d e x.counters x.targets).events ++ event.Sq (n + length x.queue) ∷ [] } in
         by_place d x _ place true it.is s.0
         ∙ ap (λ n. end (squash d place (with_predictor x (learn d e x.counters x.targets).counters (learn d e x.counters x.targets).targets)).machine n) (sym gone)
-        ∙ ap (λ w. end (record (cut_after e.serial (if is_faulty e then None else Some (next_of e.outcome)) (recalled d i e x)) { window = w }) (length (slice_set x.window i (resolved_one e)) - length (below (e.serial + 1) (slice_set x.window i (resolved_one e))))) (sym below_is)
-        ∙ ap (λ next. end (cut_after e.serial next (recalled d i e x)) (length (slice_set x.window i (resolved_one e)) - length (below (e.serial + 1) (slice_set x.window i (resolved_one e))))) (sym s.1)
+        ∙ ap (λ w. end (record (cut_after e.serial (if is_faulty e then None else Some (next_of e.outcome)) (recalled d i e x)) { window = w }) (length (slice_set x.window i (as_resolved e)) - length (below (e.serial + 1) (slice_set x.window i (as_resolved e))))) (sym below_is)
+        ∙ ap (λ next. end (cut_after e.serial next (recalled d i e x)) (length (slice_set x.window i (as_resolved e)) - length (below (e.serial + 1) (slice_set x.window i (as_resolved e))))) (sym s.1)

@@ -1,7 +1,8 @@
--- The parts once an entry is marked as resolved and has taught the predictor.
+-- The parts once an entry has taught the predictor and is marked as resolved.
 use Rattle.std.proofs.Common.{◌≡◌, ℕ, zero, suc, ◌<◌, ◌≤◌, List, [], ◌∷◌, ◌++◌, length, Option, Some, None, refl, ap, ap₂, sym, ◌∙◌, subst, slice_get}
 use Rattle.std.specs.Prelude.{slice_set}
 use Rattle.std.proofs.lemmas.List.{append-nil, append_assoc}
+use Rattle.std.proofs.lemmas.Option.{slice_get_within}
 use Rattle.std.specs.Option.{option_map}
 use Rattle.machine_desc.specs.declared.Desc.{Desc}
 use Rattle.window_model.specs.declared.Entry.{Entry}
@@ -11,7 +12,7 @@ use Rattle.window_model.specs.declared.Mark.{Mark}
 use Rattle.window_model.specs.Row.{Row}
 use Rattle.window_model.specs.declared.Event.TheVariants as event
 use Rattle.window_model.specs.State.{After, Machine}
-use Rattle.window_model.proofs.Booleans.{done_waits}
+use Rattle.window_model.proofs.Booleans.{done_waits, some_of}
 use Rattle.window_model.proofs.Counts.{evolves_thins}
 use Rattle.window_model.proofs.Places.{found}
 use Rattle.window_model.proofs.Resolving.{MayResolve, resolve_parts, resolved_goes}
@@ -19,6 +20,7 @@ use Rattle.machine_facts.specs.Sized.{Sized}
 use Rattle.machine_facts.proofs.Parts.{IsEntry, parts, whole}
 use Rattle.machine_facts.proofs.SizedPhases.{learns_in}
 use Rattle.machine_facts.proofs.SizedWindow.{thinner}
+use Rattle.rob_ring.specs.Issued.{as_resolved}
 use Rattle.rob_ring.specs.Ring.{Ring}
 use Rattle.predictor.specs.Tables.{Tables}
 use Rattle.history_pred.specs.Past.{Past}
@@ -34,7 +36,7 @@ use Rattle.core_parts.specs.Dropped.{StopsAt, cut_after, younger_count}
 use Rattle.core_parts.proofs.Sizes.{each_set, evolves_set}
 use Rattle.core_parts.proofs.Steps.{stands_resolved, stops_at}
 use Rattle.resolve.specs.Taken.{resolving, true_next}
-use Rattle.resolve.proofs.Effects.{marked, recalled, resolved_one, right_is, wrong_is}
+use Rattle.resolve.proofs.Effects.{marked, recalled, right_is, wrong_is}
 use Rattle.window_model.specs.Serials.{Rise}
 use Rattle.resolve.proofs.Picked.{Taken, picked, inside, taken}
 
@@ -77,8 +79,8 @@ sized_marked : (d : Desc) (x : Machine) (i : ℕ) (e : Entry) → slice_get x.wi
 sized_marked d x i e h s =
     let f = parts d x s in
     whole d (marked d i e x) (record {
-      window = thinner d x.window _ (evolves_thins x.window _ (evolves_set x.window i e (resolved_one e) h (resolved_goes e))) f.window;
-      entries = each_set (IsEntry d x.ram) x.window i e (resolved_one e) h
+      window = thinner d x.window _ (evolves_thins x.window _ (evolves_set x.window i e (as_resolved e) h (resolved_goes e))) f.window;
+      entries = each_set (IsEntry d x.ram) x.window i e (as_resolved e) h
           (λ k. record { kind = k.kind; memory = k.memory; outcome = k.outcome; parts = k.parts; together = k.together }) f.entries;
       queue = f.queue;
       predictor = learns_in d e.item.kind e x.counters x.targets f.predictor;
@@ -100,17 +102,17 @@ takes : (d : Desc) (w : List Entry) (i : ℕ) (e : Entry) (k : Taken d w i e) �
 takes d w i e k = resolve_parts d k.before e (found (may_resolve d) [] w (record { before = k.before; entry = e; younger = k.younger }) k.is).has
 
 module _ (h : Held) (v : Described) (i : ℕ) (e : Entry) (rob : Ring) (tables : Tables) (w : Whole h) (s : described h ≡ v) (p : Some i ≡ resolving v.desc v.machine.window) (here : slice_get h.rob.entries i ≡ Some e)
-    (marks : rob ≡ record (h.rob) { entries = slice_set h.rob.entries i (resolved_one e) }) (teaches : tables ≡ taught h.tables e) where
+    (marks : rob ≡ record (h.rob) { entries = slice_set h.rob.entries i (as_resolved e) }) (teaches : tables ≡ taught h.tables e) where
   there : slice_get v.machine.window i ≡ Some e
   there = subst (λ (v : Described). slice_get v.machine.window i ≡ Some e) s here
 
   may : MayResolve h.desc (taken h.desc h.rob.entries i e (subst (λ (v : Described). Some i ≡ resolving v.desc v.machine.window) (sym s) p) here).before e
   may = takes h.desc h.rob.entries i e (taken h.desc h.rob.entries i e (subst (λ (v : Described). Some i ≡ resolving v.desc v.machine.window) (sym s) p) here)
 
-  are : record h { rob = rob; tables = tables } ≡ record h { rob = record (h.rob) { entries = slice_set h.rob.entries i (resolved_one e) }; tables = taught h.tables e }
+  are : record h { rob = rob; tables = tables } ≡ record h { rob = record (h.rob) { entries = slice_set h.rob.entries i (as_resolved e) }; tables = taught h.tables e }
   are = ap₂ (λ (r : Ring) (t : Tables). record h { rob = r; tables = t }) marks teaches
 
-  machine_is : machine_of (record h { rob = record (h.rob) { entries = slice_set h.rob.entries i (resolved_one e) }; tables = taught h.tables e }) ≡ marked h.desc i e (machine_of h)
+  machine_is : machine_of (record h { rob = record (h.rob) { entries = slice_set h.rob.entries i (as_resolved e) }; tables = taught h.tables e }) ≡ marked h.desc i e (machine_of h)
   machine_is = ap (λ (s : Sizes). marked s.tables i e (machine_of h)) w.made
 
   pub marked_whole : Whole (record h { rob = rob; tables = tables })
@@ -129,6 +131,17 @@ module _ (h : Held) (v : Described) (i : ℕ) (e : Entry) (rob : Ring) (tables :
   -- the visibility point stops at it
   pub marked_stops : h.point.serial ≤ e.serial
   marked_stops = stops_at (in_flight h) i e w.stands here may.control may.fresh
+
+  -- what stands there then is the entry, marked
+  marked_here : slice_get rob.entries i ≡ Some (as_resolved e)
+  marked_here = ap (λ (r : Ring). slice_get r.entries i) marks ∙ set_here h.rob.entries i e (as_resolved e) here
+
+  pub still_inside : i < length rob.entries
+  still_inside = slice_get_within rob.entries i _ marked_here
+
+  -- what is behind it is behind the entry as it was
+  pub behind : (then : Entry) (past : Past) → slice_get rob.entries i ≡ Some then → past ≡ record (h.past) { mark = true_mark h.past.desc then } → past ≡ record (h.past) { mark = true_mark h.past.desc e }
+  behind then past at m = m ∙ ap (λ (e : Entry). record (h.past) { mark = true_mark h.past.desc e }) (some_of then (as_resolved e) (sym at ∙ marked_here))
 
   told_is : told h.tables e ≡ (learn v.desc e v.machine.counters v.machine.targets).events
   told_is =
@@ -200,8 +213,8 @@ module _ (h : Held) (v : Described) (i : ℕ) (e : Entry) (rob : Ring) (tables :
   pub marked_stops_at : StopsAt e.serial h.point rob.entries
   marked_stops_at = record {
     position = i;
-    entry = resolved_one e;
-    here = ap (λ (r : Ring). slice_get r.entries i) marks ∙ set_here h.rob.entries i e (resolved_one e) here;
+    entry = as_resolved e;
+    here = marked_here;
     is = refl;
     not_past = marked_stops;
   }

@@ -1,15 +1,14 @@
-//! The phase: an entry is picked, marked, and teaches; where it squashes, what is younger goes.
-ghost use Rattle.std.specs.Prelude.{◌≡◌, ◌<◌, length, Some, slice_get};
+//! The phase: an entry is picked, teaches, and is marked; where it squashes, what is younger goes.
+ghost use Rattle.std.specs.Prelude.{◌≡◌, Some};
 ghost use Rattle.visibility.specs.Point.{HasAdvanced};
 ghost use Rattle.window_model.specs.Resolve.{resolve, true_mark};
 ghost use Rattle.window_model.specs.Row.{HasRoom, IsLonger, most_resolved, with_events};
-ghost use Rattle.resolve.specs.Taken.{marked_at, resolving, true_next};
+ghost use Rattle.resolve.specs.Taken.{resolving, true_next};
 
 use branch_resolve::{Resolution, pick};
 use core_parts::Parts;
 use history_pred::History;
 use rename_taint::RenameTaint;
-use rob_ring::RobRing;
 use window_model::{Entry, Event, Row};
 
 /// Phase Resolve, once the visibility point has moved over the window: the oldest branch or JALR that may be resolved is marked
@@ -29,7 +28,7 @@ pub fn resolve<R: RenameTaint>(parts: &mut Parts<R>, row: &mut Row)
     resolve_at(position, parts, row);
 }
 
-// The entry at this position is resolved.
+// The entry at this position is resolved: it teaches, and is marked where it stands.
 fn resolve_at<R: RenameTaint>(position: u32, parts: &mut Parts<R>, row: &mut Row)
     requires picked { Some position ≡ resolving parts.old.desc parts.old.machine.window }
     requires room { HasRoom most_resolved row.old }
@@ -37,13 +36,15 @@ fn resolve_at<R: RenameTaint>(position: u32, parts: &mut Parts<R>, row: &mut Row
     ensures row { row.new ≡ with_events row.old (resolve parts.old.desc parts.old.machine).events }
     ensures few { IsLonger most_resolved row.old row.new }
 {
-    let entry = mark(&mut parts.rob, position);
-    let resolution = branch_resolve::resolve(&entry, &parts.history, &mut parts.predictor, row);
+    let entry = parts.rob.lend(position);
+    let serial = entry.serial;
+    let resolution = branch_resolve::resolve(entry, &parts.history, &mut parts.predictor, row);
+    parts.rob.resolve(position);
     if let Resolution::Right = resolution {
         return;
     }
-    go_back_behind(&entry, &mut parts.history);
-    let dropped = parts.drop_younger(entry.serial, true_next(resolution));
+    go_back_behind(parts.rob.lend(position), &mut parts.history);
+    let dropped = parts.drop_younger(serial, true_next(resolution));
     row.push(Event::Sq(dropped));
 }
 
@@ -54,23 +55,6 @@ fn go_back_behind(entry: &Entry, history: &mut History)
 {
     history.restore(&entry.item.mark);
     history.follow(&entry.item, entry.value() == 1);
-}
-
-// The entry at a position, as it was, is marked as resolved.
-fn mark(rob: &mut RobRing, position: u32) -> Entry
-    requires { position < length rob.old.entries }
-    ensures entry { slice_get rob.old.entries position ≡ Some result }
-    ensures marked { rob.new ≡ record rob.old { entries = marked_at position result rob.old.entries } }
-{
-    let entry = rob.at(position);
-    rob.set(
-        position,
-        Entry {
-            resolved: true,
-            ..entry
-        },
-    );
-    entry
 }
 
 // Where fetching goes on after an entry that was not rightly predicted: nowhere after a fault.
