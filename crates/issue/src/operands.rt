@@ -37,6 +37,7 @@ fn register_value(rob: &RobRing, regs: &[u32; REGISTERS], register: Reg, writer:
 }
 
 /// The value of a source whose writer has this serial, 0 where there is no source.
+#[inline(always)]
 pub(crate) fn source_value(
     rob: &RobRing,
     regs: &[u32; REGISTERS],
@@ -65,6 +66,7 @@ impl<'a> Seen<'a> {
     ghost use Rattle.issue.specs.State.{HasTurn};
 
     /// The values of the entry's sources.
+    #[inline(always)]
     pub(crate) fn operands(&self, place: &Place) -> Operands
         requires turn { HasTurn self.now place.now }
         ensures first { result.first ≡ first_of self.now place.now }

@@ -78,6 +78,7 @@ fn access(pc: u32, addr: u32, stored: u32) -> Effect
 
 /// The effect of an instruction at this pc whose first source holds `first` and whose second holds `second`; what it
 /// doesn't read isn't looked at. What may only trap, and a system call, compute 0 and go on.
+#[inline(always)]
 pub fn effect(pc: u32, instr: &Instr, first: u32, second: u32) -> Effect
     ensures { seen result ≡ effect pc instr.now first second }
 {

@@ -199,6 +199,7 @@ impl Stations {
     }
 
     /// Frees the place of the entry at a position.
+    #[inline(always)]
     pub fn remove(&mut self, i: u32)
         requires { i < length self.old.held }
         ensures { self.new ≡ record self.old { held = remove self.old.held i } }
