@@ -2,6 +2,7 @@
 use Rattle.std.proofs.Common.{◌≡◌, ◌≢◌, ℕ, ◌+◌, ◌<◌, ◌≤◌, Bool, true, false, not, ◌&&◌, ◌||◌, cond, List, [], ◌∷◌, length, Option, Some, None, refl, ap, ap₂, sym, ◌∙◌, subst, arith}
 use Rattle.std.specs.Prelude.{if◌then◌else◌, count_by, nat_lt, slice_get}
 use Rattle.std.specs.List.{list_any}
+use Rattle.std.specs.Option.{option_map}
 use Rattle.rv_types.specs.declared.Kind.{Kind}
 use Rattle.rv_types.specs.declared.Kind.TheVariants.{Load, Store}
 use Rattle.machine_desc.specs.declared.Desc.{Desc}
@@ -84,6 +85,16 @@ found_if false x item h = absurd (cc)
 pub fitting_is : (d : Desc) (w : List Entry) (o : Option Item) (item : Item) → fitting d w o ≡ Some item → (o ≡ Some item) × (fits d w item ≡ true)
 fitting_is d w None item h = absurd (cc)
 fitting_is d w (Some x) item h = let p = found_if (fits d w x) x item h in (ap Some p.0, subst (λ x. fits d w x ≡ true) p.0 p.1)
+
+-- the item whose address is told
+pub told : (o : Option Item) (pc : ℕ) → option_map (λ (i : Item). i.pc) o ≡ Some pc → (item : Item) × (o ≡ Some item) × (pc ≡ item.pc)
+told None pc h = absurd (cc)
+told (Some item) pc h = (item, refl, cc)
+
+-- there is no item where no address is told
+pub untold : (o : Option Item) → option_map (λ (i : Item). i.pc) o ≡ None → o ≡ None
+untold None h = refl
+untold (Some item) h = absurd (cc)
 
 -- ---- room for it
 

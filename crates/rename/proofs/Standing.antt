@@ -30,7 +30,7 @@ use Rattle.core_parts.specs.Steps.{queued}
 use Rattle.core_parts.proofs.Steps.{stands_renamed}
 use Rattle.rename.specs.Entering.{awaited_of_writer, with_station, with_write}
 use Rattle.rename.proofs.Awaiting.{awaits_are, writers_at}
-use Rattle.rename.specs.Fitting.{Counted, fitting, with_oldest}
+use Rattle.rename.specs.Fitting.{Counted, fitting, next_item, with_oldest}
 use Rattle.rename.proofs.Fitting.{fits_all, fitting_is, load_room, station_room, store_room}
 
 -- ---- what they tell of room
@@ -95,17 +95,17 @@ pub record Entered (e : Entry) (h : Held) (rob : Ring) (beside : Buffer Sources)
   pub fetched : fetch_unit ≡ record (h.fetch_unit) { queue = drop 1 h.fetch_unit.queue }
 
 -- what the phase makes of each part is that
-pub entered_by : (h : Held) (item : Item) (writers roots awaits : List (Option ℕ)) (rob : Ring) (beside : Buffer Sources) (writes : List Write) (room : ℕ) (stations : Stations) (q : Queues) (fetch_unit : FetchUnit) →
-    Whole h → fitting h.desc h.rob.entries (slice_get h.fetch_unit.queue 0) ≡ Some item → writers ≡ writers_at h.writes (renamed h.next_serial item) → roots ≡ roots_at h.writes (renamed h.next_serial item) →
-    awaits ≡ map (awaited_of_writer h.rob.entries) writers → ((i : Item) → slice_get h.fetch_unit.queue 0 ≡ Some i → rob ≡ record (h.rob) { entries = h.rob.entries ++ renamed h.next_serial i ∷ [] }) →
-    beside ≡ buffer (h.sources.items ++ record { roots = roots; writers = writers } ∷ []) h.sources.capacity → writes ≡ with_write (write_of (renamed h.next_serial item) roots) h.writes → room ≡ h.table_room →
-    (place : ℕ) × (stations ≡ with_station h.desc.version place awaits (renamed h.next_serial item) h.stations) → q ≡ queued item.kind h.next_serial (base_root roots) h.queues →
+pub entered_by : (h : Held) (item : Item) (s : Sources) (awaits : List (Option ℕ)) (rob : Ring) (beside : Buffer Sources) (writes : List Write) (room : ℕ) (stations : Stations) (q : Queues) (fetch_unit : FetchUnit) →
+    Whole h → s.writers ≡ writers_at h.writes (renamed h.next_serial item) → s.roots ≡ roots_at h.writes (renamed h.next_serial item) →
+    awaits ≡ map (awaited_of_writer h.rob.entries) s.writers → rob ≡ record (h.rob) { entries = h.rob.entries ++ renamed h.next_serial item ∷ [] } →
+    beside ≡ buffer (h.sources.items ++ s ∷ []) h.sources.capacity → writes ≡ with_write (write_of (renamed h.next_serial item) s.roots) h.writes → room ≡ h.table_room →
+    (place : ℕ) × (stations ≡ with_station h.desc.version place awaits (renamed h.next_serial item) h.stations) → q ≡ queued item.kind h.next_serial (base_root s.roots) h.queues →
     fetch_unit ≡ record (h.fetch_unit) { queue = drop 1 h.fetch_unit.queue } → Entered (renamed h.next_serial item) h rob beside writes room stations q fetch_unit
-entered_by h item writers roots awaits rob beside writes room stations q fetch_unit w fit are_writers are_roots are_awaits moved pushed written same placed added taken =
+entered_by h item s awaits rob beside writes room stations q fetch_unit w are_writers are_roots are_awaits come pushed written same placed added taken =
     let e = renamed h.next_serial item in
     let awaited = are_awaits ∙ ap (map (awaited_of_writer h.rob.entries)) are_writers ∙ awaits_are _ e w.stands.stand in
     record {
-      window = moved item (fitting_is h.desc h.rob.entries (slice_get h.fetch_unit.queue 0) item fit).0;
+      window = come;
       sources = pushed ∙ ap₂ (λ rs ws. buffer (h.sources.items ++ record { roots = rs; writers = ws } ∷ []) h.sources.capacity) are_roots are_writers;
       table = written ∙ ap (λ rs. with_write (write_of e rs) h.writes) are_roots;
       same_room = same;
@@ -157,6 +157,9 @@ entered_whole h item place w q =
       made = entered_sizes h place e ∙ w.made;
     }
 
+one_item : (o : Option Item) (a b : Item) → o ≡ Some a → o ≡ Some b → a ≡ b
+one_item o a b p q = cc
+
 module _ (h : Held) (item : Item) (rob : Ring) (beside : Buffer Sources) (writes : List Write) (room : ℕ) (stations : Stations) (q : Queues) (fetch_unit : FetchUnit) (next : ℕ) (w : Whole h)
     (g : Entered (renamed h.next_serial item) h rob beside writes room stations q fetch_unit) (n : next ≡ h.next_serial + 1) where
   are : record h { rob = rob; sources = beside; writes = writes; table_room = room; stations = stations; queues = q; fetch_unit = fetch_unit; next_serial = next } ≡ entered g.places.0 (renamed h.next_serial item) h
@@ -174,7 +177,10 @@ module _ (h : Held) (item : Item) (rob : Ring) (beside : Buffer Sources) (writes
       Whole (record h { rob = rob; sources = beside; writes = writes; table_room = room; stations = stations; queues = q; fetch_unit = fetch_unit; next_serial = next })
   enter_whole f = subst Whole (sym are) (entered_whole h item g.places.0 w f)
 
-  pub enter_shown : (v : Described) → described h ≡ v →
+  pub enter_shown : fitting h.desc h.rob.entries (slice_get h.fetch_unit.queue 0) ≡ Some item → (v : Described) → described h ≡ v → (i : Item) → next_item v.desc v.machine ≡ Some i →
       described (record h { rob = rob; sources = beside; writes = writes; table_room = room; stations = stations; queues = q; fetch_unit = fetch_unit; next_serial = next })
-      ≡ record v { machine = with_oldest v.desc item v.machine }
-  enter_shown v s = ap described are ∙ ap (λ (v : Described). record v { machine = with_oldest v.desc item v.machine }) s
+      ≡ record v { machine = with_oldest v.desc i v.machine }
+  enter_shown f v s i k =
+      let told : next_item h.desc (machine_of h) ≡ Some i = ap (λ (v : Described). next_item v.desc v.machine) s ∙ k in
+      ap described are ∙ ap (λ (v : Described). record v { machine = with_oldest v.desc item v.machine }) s
+      ∙ ap (λ i. record v { machine = with_oldest v.desc i v.machine }) (one_item _ item i f told)

@@ -1,5 +1,5 @@
 -- Which item fits, and how the parts tell it (docs/machine.md, "Rename").
-use Rattle.std.specs.Prelude.{◌≡◌, if◌then◌else◌, List, drop, length, Option, Some, None, count_by}
+use Rattle.std.specs.Prelude.{◌≡◌, if◌then◌else◌, List, drop, length, slice_get, Option, Some, None, count_by}
 use Rattle.machine_desc.specs.declared.Desc.{Desc}
 use Rattle.window_model.specs.declared.Entry.{Entry}
 use Rattle.window_model.specs.declared.Item.{Item}
@@ -14,6 +14,10 @@ use Rattle.queue_laws.specs.Window.{StandFor}
 abbrev pub fitting : Desc → List Entry → Option Item → Option Item
 fitting d window None = None
 fitting d window (Some item) = if fits d window item then Some item else None
+
+-- the oldest item that is fetched, if there is one and it can go into the window
+abbrev pub next_item : Desc → Machine → Option Item
+next_item d x = fitting d x.window (slice_get x.queue 0)
 
 -- the machine once this item, the oldest that is fetched, is in the window
 abbrev pub with_oldest : Desc → Item → Machine → Machine

@@ -14,14 +14,22 @@ use crate::room::is_at_once;
 use circular_buffer::HeapCircularBuffer;
 use lsq::Lsq;
 use rename_taint::{RenameTaint, root_written};
-use rob_ring::Sources;
+use rob_ring::{RobRing, Sources};
 use rv_types::{Kind, writes_of};
 use stations::{Stations, Wants};
 use window_model::{Entry, Item, Progress};
 
-/// The item as an entry.
-pub(crate) fn renamed(serial: u64, item: Item) -> Entry
-    ensures { result ≡ renamed serial item }
+/// The item comes into the window, which has room, as its youngest entry.
+pub(crate) fn add_entry(serial: u64, item: &Item, rob: &mut RobRing)
+    requires { length rob.old.entries < rob.old.room }
+    ensures { rob.new ≡ record rob.old { entries = rob.old.entries ++ renamed serial item.now ∷ [] } }
+{
+    rob.push(renamed(serial, item));
+}
+
+// The item as an entry.
+fn renamed(serial: u64, item: &Item) -> Entry
+    ensures { result ≡ renamed serial item.now }
 {
     let state = if is_at_once(item.kind) {
         Progress::Done
@@ -30,7 +38,7 @@ pub(crate) fn renamed(serial: u64, item: Item) -> Entry
     };
     Entry {
         serial,
-        item,
+        item: *item,
         state,
         outcome: None,
         resolved: false,

@@ -1,5 +1,6 @@
 -- The oldest item that fits comes in, and the parts stand for the window with its entry.
-use Rattle.std.proofs.Common.{refl, subst, sym, ◌∙◌}
+use Rattle.std.proofs.Common.{refl, ap, subst, sym, ◌∙◌}
+use Rattle.std.specs.Prelude.{option_copied}
 use Rattle.std.specs.List.{All}
 use Rattle.window_model.specs.Rename.{renamed}
 use Rattle.parts_stand.proofs.Answering.{holds_older}
@@ -13,7 +14,7 @@ next_fitting-requires-clause-counted g c = counted _ c.parts.invariant
 
 pub awaits_of-awaits-requires-clause-in_flight : goal.awaits_of-awaits-requires-clause-in_flight
 awaits_of-awaits-requires-clause-in_flight g c =
-    subst (All (HasPlace c.parts.inside.rob.entries)) (sym c.writers_of-writers.ensures) (writers_in_flight _ (renamed c.parts.inside.next_serial c.in-Some.item) c.parts.invariant.stands.stand)
+    subst (All (HasPlace c.parts.inside.rob.entries)) (sym c.sources_of-sources.ensures.writers) (writers_in_flight _ (renamed c.parts.inside.next_serial c.in-Some.item.now) c.parts.invariant.stands.stand)
 
 pub add_write-requires-clause-youngest : goal.add_write-requires-clause-youngest
 add_write-requires-clause-youngest g c = (holds_older _ c.parts.invariant.stands.stand).writes
@@ -22,35 +23,35 @@ pub add_station-requires-clause-youngest : goal.add_station-requires-clause-youn
 add_station-requires-clause-youngest g c = (holds_older _ c.parts.invariant.stands.stand).held
 
 pub add_write-requires-clause-room : goal.add_write-requires-clause-room
-add_write-requires-clause-room g c = (room_for _ c.in-Some.item c.parts.invariant (sym c.next_fitting.ensures ∙ c.in-Some.is)).write
+add_write-requires-clause-room g c = (room_for _ c.in-Some.item.now c.parts.invariant (sym c.next_fitting.ensures ∙ ap option_copied c.in-Some.is)).write
 
 pub add_station-requires-clause-room : goal.add_station-requires-clause-room
-add_station-requires-clause-room g c = (room_for _ c.in-Some.item c.parts.invariant (sym c.next_fitting.ensures ∙ c.in-Some.is)).station
+add_station-requires-clause-room g c = (room_for _ c.in-Some.item.now c.parts.invariant (sym c.next_fitting.ensures ∙ ap option_copied c.in-Some.is)).station
 
 pub add_access-requires-clause-load : goal.add_access-requires-clause-load
-add_access-requires-clause-load g c = (room_for _ c.in-Some.item c.parts.invariant (sym c.next_fitting.ensures ∙ c.in-Some.is)).load
+add_access-requires-clause-load g c = (room_for _ c.in-Some.item.now c.parts.invariant (sym c.next_fitting.ensures ∙ ap option_copied c.in-Some.is)).load
 
 pub add_access-requires-clause-store : goal.add_access-requires-clause-store
-add_access-requires-clause-store g c = (room_for _ c.in-Some.item c.parts.invariant (sym c.next_fitting.ensures ∙ c.in-Some.is)).store
+add_access-requires-clause-store g c = (room_for _ c.in-Some.item.now c.parts.invariant (sym c.next_fitting.ensures ∙ ap option_copied c.in-Some.is)).store
 
 pub push_within-requires : goal.push_within-requires
-push_within-requires g c = (room_for _ c.in-Some.item c.parts.invariant (sym c.next_fitting.ensures ∙ c.in-Some.is)).sources
+push_within-requires g c = (room_for _ c.in-Some.item.now c.parts.invariant (sym c.next_fitting.ensures ∙ ap option_copied c.in-Some.is)).sources
 
-pub move_next-requires : goal.move_next-requires
-move_next-requires g c = (room_for _ c.in-Some.item c.parts.invariant (sym c.next_fitting.ensures ∙ c.in-Some.is)).entry
+pub add_entry-requires : goal.add_entry-requires
+add_entry-requires g c = (room_for _ c.in-Some.item.now c.parts.invariant (sym c.next_fitting.ensures ∙ ap option_copied c.in-Some.is)).entry
 
 pub invariant_of-parts : goal.invariant_of-parts
 invariant_of-parts g c =
-    let fit = sym c.next_fitting.ensures ∙ c.in-Some.is in
-    enter_whole _ c.in-Some.item _ _ _ _ _ _ _ _ c.parts.invariant
-    (entered_by _ c.in-Some.item _ _ _ _ _ _ _ _ _ _ c.parts.invariant fit c.writers_of-writers.ensures c.roots_of-roots.ensures c.awaits_of-awaits.ensures
-    c.move_next.ensures.entered c.push_within.ensures c.add_write.ensures.table c.add_write.ensures.same_room c.add_station.ensures c.add_access.ensures c.move_next.ensures.taken)
+    let fit = sym c.next_fitting.ensures ∙ ap option_copied c.in-Some.is in
+    enter_whole _ c.in-Some.item.now _ _ _ _ _ _ _ _ c.parts.invariant
+    (entered_by _ c.in-Some.item.now _ _ _ _ _ _ _ _ _ c.parts.invariant c.sources_of-sources.ensures.writers c.sources_of-sources.ensures.roots c.awaits_of-awaits.ensures
+    c.add_entry.ensures c.push_within.ensures c.add_write.ensures.table c.add_write.ensures.same_room c.add_station.ensures c.add_access.ensures c.drop_oldest.ensures)
     refl fit
 
 pub returns-clause-entered : goal.returns-clause-entered
 returns-clause-entered g c =
-    let fit = sym c.next_fitting.ensures ∙ c.in-Some.is in
-    enter_shown _ c.in-Some.item _ _ _ _ _ _ _ _ c.parts.invariant
-    (entered_by _ c.in-Some.item _ _ _ _ _ _ _ _ _ _ c.parts.invariant fit c.writers_of-writers.ensures c.roots_of-roots.ensures c.awaits_of-awaits.ensures
-    c.move_next.ensures.entered c.push_within.ensures c.add_write.ensures.table c.add_write.ensures.same_room c.add_station.ensures c.add_access.ensures c.move_next.ensures.taken)
-    refl _ c.parts.view_is
+    let fit = sym c.next_fitting.ensures ∙ ap option_copied c.in-Some.is in
+    enter_shown _ c.in-Some.item.now _ _ _ _ _ _ _ _ c.parts.invariant
+    (entered_by _ c.in-Some.item.now _ _ _ _ _ _ _ _ _ c.parts.invariant c.sources_of-sources.ensures.writers c.sources_of-sources.ensures.roots c.awaits_of-awaits.ensures
+    c.add_entry.ensures c.push_within.ensures c.add_write.ensures.table c.add_write.ensures.same_room c.add_station.ensures c.add_access.ensures c.drop_oldest.ensures)
+    refl fit _ c.parts.view_is

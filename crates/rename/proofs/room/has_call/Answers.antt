@@ -1,4 +1,4 @@
-use Rattle.std.proofs.Common.{ap, sym, ◌∙◌}
+use Rattle.std.proofs.Common.{◌∙◌}
 use Rattle.rename.proofs.Fitting.{call_is_oldest, none_unless_one}
 use Rattle.rename.proofs.room.has_call.Goals as goal
 
