@@ -1,5 +1,5 @@
 //! Programs of four words in flight at once, and what each phase makes of them, worked out by `docs/machine.md`, "A cycle": under the
-//! example description with four words fetched a cycle. Those of Issue are of version 1; `stores.rt` has stores of version 2. Lines are those of x2, which is 0x1fff0, and before it.
+//! example description with four words fetched a cycle. Those of Issue are of version 1; of version 2 `stores.rt` has stores, and `lines.rt` lines. Lines are those of x2, which is 0x1fff0, and before it.
 use machine_desc::SttModel;
 use window_model::{Event, Look, Progress, Way};
 
@@ -31,8 +31,8 @@ pub const LINE: u32 = 0x0001_fff0;
 /// The line before it.
 pub const LINE_BEFORE: u32 = 0x0001_ffe0;
 
-// The line before that.
-const SECOND_BEFORE: u32 = 0x0001_ffd0;
+/// The line before that.
+pub const SECOND_BEFORE: u32 = 0x0001_ffd0;
 
 // div x5,x0,x2; mul x6,x2,x2; addi x7,x0,1; add x8,x5,x6
 const TWO_DUE: [u32; 4] = [0x0220_42b3, 0x0221_0333, 0x0010_0393, 0x0062_8433];

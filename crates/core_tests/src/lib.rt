@@ -15,6 +15,8 @@ mod images;
 #[cfg(test)]
 mod instructions;
 #[cfg(test)]
+mod lines;
+#[cfg(test)]
 mod pairs;
 #[cfg(test)]
 mod phases;

@@ -1,9 +1,10 @@
-//! The phases one by one over words in flight (`flights.rt`, `stores.rt`), over both tables of names.
+//! The phases one by one over words in flight (`flights.rt`, `stores.rt`, `lines.rt`), over both tables of names.
 ghost use Rattle.std.specs.Prelude.{◌≡◌, true};
 ghost use Rattle.std.specs.List.{AllByRecursion as Each};
 ghost use Rattle.machine_facts.specs.Timely.{WaitsOrDone};
 
 use crate::flights::{COMPLETING, Flight, ISSUING, Phase, RESOLVING};
+use crate::lines::{ANY_ADDRESS, NEXT_LINE, OVER_TWO_LINES, PREFETCHING, SECOND_LEVEL, TWO_LEVELS};
 use crate::stores::STORES;
 use complete::complete;
 use core_parts::{Parts, parts_of};
@@ -124,7 +125,17 @@ fn goes_as_worked<R: RenameTaint + Drop>(
     Ok(())
 }
 
-// They do over both tables, under the example description in this version.
+// They do over both tables, under this description.
+fn go_under(rt: &impl Abort, alloc: Global, text: &str, flights: &[Flight]) -> Result<(), Fail> {
+    let desc = read_desc(alloc, text.as_bytes())?;
+    for flight in flights {
+        goes_as_worked::<ByTable>(rt, alloc, &desc, flight)?;
+        goes_as_worked::<ByScan>(rt, alloc, &desc, flight)?;
+    }
+    Ok(())
+}
+
+// They do under the example description in this version.
 fn go_as_worked(
     rt: &impl Abort,
     alloc: Global,
@@ -132,12 +143,7 @@ fn go_as_worked(
     flights: &[Flight],
 ) -> Result<(), Fail> {
     let text = format!(in alloc; "version = {version}\n{EXAMPLE}")?;
-    let desc = read_desc(alloc, text.as_bytes())?;
-    for flight in flights {
-        goes_as_worked::<ByTable>(rt, alloc, &desc, flight)?;
-        goes_as_worked::<ByScan>(rt, alloc, &desc, flight)?;
-    }
-    Ok(())
+    go_under(rt, alloc, text.as_str(), flights)
 }
 
 #[test]
@@ -164,4 +170,19 @@ fn who_may_issues(rt: HostRuntime) -> Result<(), Fail> {
 #[test]
 fn a_store_issues_in_two_parts(rt: HostRuntime) -> Result<(), Fail> {
     go_as_worked(&rt, rt.alloc(), 2, &STORES)
+}
+
+#[test]
+fn an_access_has_two_lines(rt: HostRuntime) -> Result<(), Fail> {
+    go_under(&rt, rt.alloc(), ANY_ADDRESS, &OVER_TWO_LINES)
+}
+
+#[test]
+fn a_line_comes_from_the_second_level(rt: HostRuntime) -> Result<(), Fail> {
+    go_under(&rt, rt.alloc(), TWO_LEVELS, &SECOND_LEVEL)
+}
+
+#[test]
+fn the_next_line_is_prefetched(rt: HostRuntime) -> Result<(), Fail> {
+    go_under(&rt, rt.alloc(), NEXT_LINE, &PREFETCHING)
 }

@@ -11,6 +11,7 @@ mod evaluated;
 mod failing;
 mod hostile;
 mod images;
+mod lines;
 mod machine;
 mod pairs;
 mod stores;

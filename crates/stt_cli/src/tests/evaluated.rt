@@ -1,27 +1,34 @@
 //! Runs under descriptions of many kinds, with the traces that an independent model wrote (`tools/evaluate/runs/README.md`, which
 //! has these and more by the same names). `tools/evaluate/write --tests` makes a table of all.
 use super::{expect, run};
+use std::alloc::Global;
+use std::process::Abort;
 use std::test::Fail;
 
 /// A run, and what the command `trace` makes of it.
 #[derive(Clone, Copy)]
-struct Run {
-    name: &'static str,
-    description: &'static str,
-    image: &'static [u8],
-    cycles: &'static str,
-    status: u8,
-    trace: &'static str,
+pub struct Run {
+    pub name: &'static str,
+    pub description: &'static str,
+    pub image: &'static [u8],
+    pub cycles: &'static str,
+    pub status: u8,
+    pub trace: &'static str,
+}
+
+/// The program writes the trace that is told.
+pub fn goes_as_told(rt: &impl Abort, alloc: Global, told: Run) -> Result<(), Fail> {
+    let words = ["trace", "d.toml", "p.elf", "--cycles", told.cycles];
+    let left = run(alloc, &words, told.image, told.description.as_bytes())?;
+    assert_eq!(rt; left.status, told.status, "{}", told.name);
+    expect(rt, &left, told.status, told.trace.as_bytes(), "");
+    Ok(())
 }
 
 #[test]
 fn of_an_independent_model(rt: HostRuntime) -> Result<(), Fail> {
-    let alloc = rt.alloc();
-    for wanted in RUNS {
-        let words = ["trace", "d.toml", "p.elf", "--cycles", wanted.cycles];
-        let left = run(alloc, &words, wanted.image, wanted.description.as_bytes())?;
-        assert_eq!(rt; left.status, wanted.status, "{}", wanted.name);
-        expect(&rt, &left, wanted.status, wanted.trace.as_bytes(), "");
+    for told in RUNS {
+        goes_as_told(&rt, rt.alloc(), told)?;
     }
     Ok(())
 }
