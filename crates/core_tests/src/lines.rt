@@ -75,7 +75,7 @@ pub const OVER_TWO_LINES: [Flight; 4] = [
             (Progress::Busy(15), 0),
         ],
     },
-    // one register is too few for two lines that miss; with a line that comes later than the upper one the load is done
+    // one register is too few for two lines that miss; a load is due at the later of its lines, also where that is the lower
     Flight {
         model: SttModel::Spectre,
         words: &REGISTER_LACKS,
