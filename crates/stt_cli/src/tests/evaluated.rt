@@ -1,8 +1,6 @@
 //! Runs under descriptions of many kinds, with the traces that an independent model wrote (`tools/evaluate/runs/README.md`, which
 //! has these and more by the same names). `tools/evaluate/write --tests` makes a table of all.
 use super::{expect, run};
-use std::alloc::Global;
-use std::process::Abort;
 use std::test::Fail;
 
 /// A run, and what the command `trace` makes of it.
@@ -16,19 +14,14 @@ pub struct Run {
     pub trace: &'static str,
 }
 
-/// The program writes the trace that is told.
-pub fn goes_as_told(rt: &impl Abort, alloc: Global, told: Run) -> Result<(), Fail> {
-    let words = ["trace", "d.toml", "p.elf", "--cycles", told.cycles];
-    let left = run(alloc, &words, told.image, told.description.as_bytes())?;
-    assert_eq!(rt; left.status, told.status, "{}", told.name);
-    expect(rt, &left, told.status, told.trace.as_bytes(), "");
-    Ok(())
-}
-
 #[test]
 fn of_an_independent_model(rt: HostRuntime) -> Result<(), Fail> {
-    for told in RUNS {
-        goes_as_told(&rt, rt.alloc(), told)?;
+    let alloc = rt.alloc();
+    for wanted in RUNS {
+        let words = ["trace", "d.toml", "p.elf", "--cycles", wanted.cycles];
+        let left = run(alloc, &words, wanted.image, wanted.description.as_bytes())?;
+        assert_eq!(rt; left.status, wanted.status, "{}", wanted.name);
+        expect(&rt, &left, wanted.status, wanted.trace.as_bytes(), "");
     }
     Ok(())
 }

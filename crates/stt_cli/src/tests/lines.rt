@@ -1,12 +1,17 @@
 //! Runs with stores and loads over two lines, a second level of the cache and the prefetch, with the traces that an independent model wrote
 //! (`tools/evaluate/runs/README.md`, which has these and more by the same names).
-use super::evaluated::{Run, goes_as_told};
+use super::evaluated::Run;
+use super::{expect, run};
 use std::test::Fail;
 
 #[test]
 fn of_lines(rt: HostRuntime) -> Result<(), Fail> {
-    for told in RUNS {
-        goes_as_told(&rt, rt.alloc(), told)?;
+    let alloc = rt.alloc();
+    for wanted in RUNS {
+        let words = ["trace", "d.toml", "p.elf", "--cycles", wanted.cycles];
+        let left = run(alloc, &words, wanted.image, wanted.description.as_bytes())?;
+        assert_eq!(rt; left.status, wanted.status, "{}", wanted.name);
+        expect(&rt, &left, wanted.status, wanted.trace.as_bytes(), "");
     }
     Ok(())
 }
