@@ -34,6 +34,7 @@ every_desc d = record {
   ram_base = (omega arith, d.low_base, d.base_aligned);
   ram_size = ((d.some_ram, d.small_ram, d.size_aligned), d.ram_ends);
   misaligned = ((omega arith, d.few_misaligned, tt), d.two_lines);
+  depend = (omega arith, d.few_depend, d.depend_power);
   history = (omega arith, d.short_history, tt);
   returns = (omega arith, d.few_returns, tt);
   second_sets = (omega arith, d.few_second_sets, d.second_sets_power);
@@ -43,4 +44,6 @@ every_desc d = record {
     between d.cache_second_sets d.cache_hit_latency d.cache_second_latency d.cache_miss_latency _ _ _ refl refl refl d.second_between,
   );
   prefetch = (omega arith, d.few_prefetches, tt);
+  model = d.model_known;
+  defence = d.defence_known;
 }

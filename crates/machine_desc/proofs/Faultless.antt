@@ -3,7 +3,7 @@ use Rattle.std.proofs.Common.{◌≡◌, ◌+◌, ◌*◌, ◌^◌, ℕ, IsTrue,
 use Rattle.std.specs.List.{AllByRecursion as Each}
 use Rattle.toml.specs.Data.{Members}
 use Rattle.machine_desc.specs.declared.keys.Key.{Key}
-use Rattle.machine_desc.specs.declared.keys.Key.TheVariants.{CoreFetchWidth, CoreRetireWidth, CoreRob, CoreStations, CoreLoads, CoreStores, CoreQueue, UnitsAlus, UnitsMulLatency, PredictorCounters, PredictorBtb, CacheSets, CacheWays, CacheLine, CacheHitLatency, CacheMissLatency, CacheMshrs, RamBase, RamSize, SttModel, RamMisaligned, PredictorHistory, PredictorReturns, CacheSecondSets, CacheSecondWays, CacheSecondLatency, CachePrefetch}
+use Rattle.machine_desc.specs.declared.keys.Key.TheVariants.{CoreFetchWidth, CoreRetireWidth, CoreRob, CoreStations, CoreLoads, CoreStores, CoreQueue, UnitsAlus, UnitsMulLatency, PredictorCounters, PredictorBtb, CacheSets, CacheWays, CacheLine, CacheHitLatency, CacheMissLatency, CacheMshrs, RamBase, RamSize, SttModel, RamMisaligned, PredictorDepend, PredictorHistory, PredictorReturns, CacheSecondSets, CacheSecondWays, CacheSecondLatency, CachePrefetch, SttDefence}
 use Rattle.machine_desc.specs.declared.fault.DescFault.{DescFault}
 use Rattle.machine_desc.specs.Table.{keys}
 use Rattle.machine_desc.specs.Description.{first, checked, top_fault, sections_fault, key_fault, keys_fault, latency_fault, end_fault, registers_fault, second_fault, document_fault, number}
@@ -73,12 +73,14 @@ key_clean v document e RamBase = e.1.1.1.1.1.1.1.1.1.1.1.1.1.1.1.1.1.0
 key_clean v document e RamSize = e.1.1.1.1.1.1.1.1.1.1.1.1.1.1.1.1.1.1.0
 key_clean v document e SttModel = e.1.1.1.1.1.1.1.1.1.1.1.1.1.1.1.1.1.1.1.0
 key_clean v document e RamMisaligned = e.1.1.1.1.1.1.1.1.1.1.1.1.1.1.1.1.1.1.1.1.0
-key_clean v document e PredictorHistory = e.1.1.1.1.1.1.1.1.1.1.1.1.1.1.1.1.1.1.1.1.1.0
-key_clean v document e PredictorReturns = e.1.1.1.1.1.1.1.1.1.1.1.1.1.1.1.1.1.1.1.1.1.1.0
-key_clean v document e CacheSecondSets = e.1.1.1.1.1.1.1.1.1.1.1.1.1.1.1.1.1.1.1.1.1.1.1.0
-key_clean v document e CacheSecondWays = e.1.1.1.1.1.1.1.1.1.1.1.1.1.1.1.1.1.1.1.1.1.1.1.1.0
-key_clean v document e CacheSecondLatency = e.1.1.1.1.1.1.1.1.1.1.1.1.1.1.1.1.1.1.1.1.1.1.1.1.1.0
-key_clean v document e CachePrefetch = e.1.1.1.1.1.1.1.1.1.1.1.1.1.1.1.1.1.1.1.1.1.1.1.1.1.1.0
+key_clean v document e PredictorDepend = e.1.1.1.1.1.1.1.1.1.1.1.1.1.1.1.1.1.1.1.1.1.0
+key_clean v document e PredictorHistory = e.1.1.1.1.1.1.1.1.1.1.1.1.1.1.1.1.1.1.1.1.1.1.0
+key_clean v document e PredictorReturns = e.1.1.1.1.1.1.1.1.1.1.1.1.1.1.1.1.1.1.1.1.1.1.1.0
+key_clean v document e CacheSecondSets = e.1.1.1.1.1.1.1.1.1.1.1.1.1.1.1.1.1.1.1.1.1.1.1.1.0
+key_clean v document e CacheSecondWays = e.1.1.1.1.1.1.1.1.1.1.1.1.1.1.1.1.1.1.1.1.1.1.1.1.1.0
+key_clean v document e CacheSecondLatency = e.1.1.1.1.1.1.1.1.1.1.1.1.1.1.1.1.1.1.1.1.1.1.1.1.1.1.0
+key_clean v document e CachePrefetch = e.1.1.1.1.1.1.1.1.1.1.1.1.1.1.1.1.1.1.1.1.1.1.1.1.1.1.1.0
+key_clean v document e SttDefence = e.1.1.1.1.1.1.1.1.1.1.1.1.1.1.1.1.1.1.1.1.1.1.1.1.1.1.1.1.0
 
 pub is_clean : (v : ℕ) (document : Members) → document_fault v document ≡ None → IsClean v document
 is_clean v document h =

@@ -2,13 +2,14 @@
 use Rattle.std.proofs.Common.{◌≡◌, true, false, [], ◌∷◌, map, Some, None, refl}
 use Rattle.std.specs.Prelude.{pos, codes}
 use lib.Count.{ones}
-use Rattle.toml.specs.Data.{no_members}
-use Rattle.machine_desc.specs.declared.keys.Key.TheVariants.{RamMisaligned, PredictorHistory, PredictorReturns, CacheSecondSets, CacheSecondWays, CacheSecondLatency, CachePrefetch}
-use Rattle.machine_desc.specs.declared.keys.Section.TheVariants.{Cache, Ram}
-use Rattle.machine_desc.specs.declared.fault.DescFault.TheVariants.{Range, Shape as WrongShape}
+use Rattle.toml.specs.Data.{no_members, string}
+use Rattle.machine_desc.specs.declared.keys.Key.TheVariants.{RamMisaligned, PredictorHistory, PredictorReturns, CacheSecondSets, CacheSecondWays, CacheSecondLatency, CachePrefetch, SttModel as ModelKey, SttDefence as DefenceKey}
+use Rattle.machine_desc.specs.declared.keys.Section.TheVariants.{Cache, Ram, Predictor, Stt}
+use Rattle.machine_desc.specs.declared.fault.DescFault.TheVariants.{Kind, Range, Shape as WrongShape}
+use Rattle.machine_desc.specs.declared.fault.Subject.TheVariants.{Key as OfKey}
 use Rattle.machine_desc.specs.Version.{comes_between}
-use Rattle.machine_desc.specs.Table.{optional_numbers, keys, is_known, some_key}
-use Rattle.machine_desc.specs.Description.{key_fault, number}
+use Rattle.machine_desc.specs.Table.{row, optional_numbers, keys, is_known, some_key}
+use Rattle.machine_desc.specs.Description.{value_fault, key_fault, number}
 use Rattle.machine_desc.proofs.Versions.{told}
 
 misaligned : (told 2 RamMisaligned 0 ≡ None) × (told 2 RamMisaligned 1 ≡ None) × (told 2 RamMisaligned 2 ≡ Some (Range RamMisaligned (pos 2)))
@@ -36,22 +37,30 @@ second_latency = (refl, refl, refl, refl)
 prefetch : (told 2 CachePrefetch 0 ≡ None) × (told 2 CachePrefetch 1 ≡ None) × (told 2 CachePrefetch 2 ≡ Some (Range CachePrefetch (pos 2)))
 prefetch = (refl, refl, refl)
 
--- ---- version 1 knows none of them, version 2 every key; no other table has a key of theirs
+-- ---- version 1 knows none of them, version 2 every key but two; no other table has a key of theirs
 
-unknown_in_1 : map (is_known 1) optional_numbers ≡ false ∷ false ∷ false ∷ false ∷ false ∷ false ∷ false ∷ []
+unknown_in_1 : map (is_known 1) optional_numbers ≡ false ∷ false ∷ false ∷ false ∷ false ∷ false ∷ false ∷ false ∷ []
 unknown_in_1 = refl
 
-known_in_2 : map (is_known 2) optional_numbers ≡ true ∷ true ∷ true ∷ true ∷ true ∷ true ∷ true ∷ []
+known_in_2 : map (is_known 2) optional_numbers ≡ true ∷ false ∷ true ∷ true ∷ true ∷ true ∷ true ∷ true ∷ []
 known_in_2 = refl
 
 by_table : (some_key 1 keys Ram (codes "misaligned") ≡ false) × (some_key 2 keys Ram (codes "misaligned") ≡ true)
     × (some_key 2 keys Cache (codes "misaligned") ≡ false) × (some_key 1 keys Cache (codes "sets") ≡ true)
 by_table = (refl, refl, refl, refl)
 
+-- ---- no version knows these two so far, nor the third model
+
+withheld : (some_key 2 keys Predictor (codes "depend") ≡ false) × (some_key 2 keys Stt (codes "defence") ≡ false)
+    × (value_fault ModelKey (row 2 ModelKey).values (Some (string (codes "off"))) ≡ Some (Kind (OfKey ModelKey)))
+    × (key_fault 2 no_members DefenceKey ≡ None)
+unfolding key_fault
+withheld = (refl, refl, refl, refl)
+
 -- ---- left out they have no fault, and in both versions these numbers
 
-left_out : (map (number 1 no_members) optional_numbers ≡ 0 ∷ 0 ∷ 0 ∷ 0 ∷ 1 ∷ 2 ∷ 0 ∷ [])
-    × (map (number 2 no_members) optional_numbers ≡ 0 ∷ 0 ∷ 0 ∷ 0 ∷ 1 ∷ 2 ∷ 0 ∷ []) × (key_fault 2 no_members CacheSecondWays ≡ None)
+left_out : (map (number 1 no_members) optional_numbers ≡ 0 ∷ 0 ∷ 0 ∷ 0 ∷ 0 ∷ 1 ∷ 2 ∷ 0 ∷ [])
+    × (map (number 2 no_members) optional_numbers ≡ 0 ∷ 0 ∷ 0 ∷ 0 ∷ 0 ∷ 1 ∷ 2 ∷ 0 ∷ []) × (key_fault 2 no_members CacheSecondWays ≡ None)
 unfolding key_fault
 left_out = (refl, refl, refl)
 

@@ -6,6 +6,8 @@ pub mod Powers
 pub mod Fitting
 pub mod Passing
 pub mod LeftOut
+pub mod Named
+pub mod Withheld
 pub mod EveryDesc
 pub mod SameDesc
 pub mod SomeDesc

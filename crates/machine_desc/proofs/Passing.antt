@@ -4,10 +4,10 @@ use Rattle.std.specs.Prelude.{pos, negsuc, nat_le, ◌&&◌}
 use borrow.Author.Tests.{leb-true}
 use Rattle.toml.specs.Data.{Data, integer, Members}
 use Rattle.machine_desc.specs.declared.keys.Key.{Key}
-use Rattle.machine_desc.specs.declared.keys.Key.TheVariants.{RamMisaligned, PredictorHistory, PredictorReturns, CacheSecondSets, CacheSecondWays, CacheSecondLatency, CachePrefetch}
+use Rattle.machine_desc.specs.declared.keys.Key.TheVariants.{RamMisaligned, PredictorDepend, PredictorHistory, PredictorReturns, CacheSecondSets, CacheSecondWays, CacheSecondLatency, CachePrefetch}
 use Rattle.machine_desc.specs.declared.keys.Shape.{Shape}
 use Rattle.machine_desc.specs.declared.keys.Values.{Values}
-use Rattle.machine_desc.specs.declared.keys.Values.TheVariants.{Numbers, Optional, Models}
+use Rattle.machine_desc.specs.declared.keys.Values.TheVariants.{Numbers, Optional, Models, Defences}
 use Rattle.machine_desc.specs.declared.fault.DescFault.{DescFault}
 use Rattle.machine_desc.specs.Table.{row}
 use Rattle.machine_desc.specs.Description.{has_shape, value_at, number_in, number_or_least, number_or_zero, number_of, number, fault_of, value_fault, key_fault}
@@ -40,6 +40,7 @@ LeastPasses _ = Unit {0}
 
 least_passes : (version : ℕ) (key : Key) → LeastPasses (row version key).values
 least_passes v RamMisaligned = (lit≤ tt, first_within _ _ v (lit≤ tt), refl)
+least_passes v PredictorDepend = (lit≤ tt, first_within _ _ v (lit≤ tt), refl)
 least_passes v PredictorHistory = (lit≤ tt, first_within _ _ v (lit≤ tt), refl)
 least_passes v PredictorReturns = (lit≤ tt, first_within _ _ v (lit≤ tt), refl)
 least_passes v CacheSecondSets = (lit≤ tt, first_within _ _ v (lit≤ tt), refl)
@@ -56,7 +57,8 @@ or_passes key least most shape (Some value) g e = number_passes key least most s
 value_passes : (key : Key) (values : Values) (v : Option Data) → LeastPasses values → value_fault key values v ≡ None → PassesAs values (number_of key values v)
 value_passes key (Numbers least most shape) v g e = number_passes key least most shape v e
 value_passes key (Optional least most shape) v g e = or_passes key least most shape v g e
-value_passes key Models v g e = tt
+value_passes key (Models off) v g e = tt
+value_passes key (Defences hold) v g e = tt
 
 pub fits : (v : ℕ) (document : Members) (key : Key) → key_fault v document key ≡ None → MayBe v key (number v document key)
 unfolding key_fault

@@ -10,7 +10,7 @@ use Rattle.machine_desc.specs.declared.Desc.{Desc}
 use Rattle.machine_desc.specs.declared.fault.DescFault.{DescFault}
 use Rattle.machine_desc.specs.Description.{Contents, contents, description_of, Describes}
 use Rattle.machine_desc.specs.Power.{IsZeroOrPower, power_prop, zero_or_power_prop}
-use Rattle.machine_desc.specs.Version.{most, comes_between}
+use Rattle.machine_desc.specs.Version.{most, knows_model, knows_defence, comes_between}
 
 -- two proofs of one fact, at two descriptions along a path of the number that it is about
 up : (least : ℕ) {a b : ℕ} (p : a ≡ b) (u : least ≤ a) (v : least ≤ b) → PathP (λ i. least ≤ p i) u v
@@ -66,13 +66,15 @@ same_desc d e h =
     let ram_base : d.ram_base ≡ e.ram_base = ap (λ (c : Contents). slice_index c.numbers 17) h in
     let ram_size : d.ram_size ≡ e.ram_size = ap (λ (c : Contents). slice_index c.numbers 18) h in
     let ram_misaligned : d.ram_misaligned ≡ e.ram_misaligned = ap (λ (c : Contents). slice_index c.numbers 19) h in
-    let predictor_history : d.predictor_history ≡ e.predictor_history = ap (λ (c : Contents). slice_index c.numbers 20) h in
-    let predictor_returns : d.predictor_returns ≡ e.predictor_returns = ap (λ (c : Contents). slice_index c.numbers 21) h in
-    let cache_second_sets : d.cache_second_sets ≡ e.cache_second_sets = ap (λ (c : Contents). slice_index c.numbers 22) h in
-    let cache_second_ways : d.cache_second_ways ≡ e.cache_second_ways = ap (λ (c : Contents). slice_index c.numbers 23) h in
-    let cache_second_latency : d.cache_second_latency ≡ e.cache_second_latency = ap (λ (c : Contents). slice_index c.numbers 24) h in
-    let cache_prefetch : d.cache_prefetch ≡ e.cache_prefetch = ap (λ (c : Contents). slice_index c.numbers 25) h in
+    let predictor_depend : d.predictor_depend ≡ e.predictor_depend = ap (λ (c : Contents). slice_index c.numbers 20) h in
+    let predictor_history : d.predictor_history ≡ e.predictor_history = ap (λ (c : Contents). slice_index c.numbers 21) h in
+    let predictor_returns : d.predictor_returns ≡ e.predictor_returns = ap (λ (c : Contents). slice_index c.numbers 22) h in
+    let cache_second_sets : d.cache_second_sets ≡ e.cache_second_sets = ap (λ (c : Contents). slice_index c.numbers 23) h in
+    let cache_second_ways : d.cache_second_ways ≡ e.cache_second_ways = ap (λ (c : Contents). slice_index c.numbers 24) h in
+    let cache_second_latency : d.cache_second_latency ≡ e.cache_second_latency = ap (λ (c : Contents). slice_index c.numbers 25) h in
+    let cache_prefetch : d.cache_prefetch ≡ e.cache_prefetch = ap (λ (c : Contents). slice_index c.numbers 26) h in
     let stt_model : d.stt_model ≡ e.stt_model = ap (λ (c : Contents). c.model) h in
+    let stt_defence : d.stt_defence ≡ e.stt_defence = ap (λ (c : Contents). c.defence) h in
     λ i. record {
       version = version i;
       core_fetch_width = core_fetch_width i;
@@ -86,6 +88,7 @@ same_desc d e h =
       units_mul_latency = units_mul_latency i;
       predictor_counters = predictor_counters i;
       predictor_btb = predictor_btb i;
+      predictor_depend = predictor_depend i;
       predictor_history = predictor_history i;
       predictor_returns = predictor_returns i;
       cache_sets = cache_sets i;
@@ -102,6 +105,7 @@ same_desc d e h =
       ram_size = ram_size i;
       ram_misaligned = ram_misaligned i;
       stt_model = stt_model i;
+      stt_defence = stt_defence i;
       some_version = up _ version d.some_version e.some_version i;
       known_version = down _ version d.known_version e.known_version i;
       some_fetches = up _ core_fetch_width d.some_fetches e.some_fetches i;
@@ -149,6 +153,8 @@ same_desc d e h =
       size_aligned = aligned ram_size d.size_aligned e.size_aligned i;
       ram_ends = ends ram_base ram_size d.ram_ends e.ram_ends i;
       few_misaligned = by_version _ _ ram_misaligned version d.few_misaligned e.few_misaligned i;
+      few_depend = by_version _ _ predictor_depend version d.few_depend e.few_depend i;
+      depend_power = zero_or_power predictor_depend d.depend_power e.depend_power i;
       short_history = by_version _ _ predictor_history version d.short_history e.short_history i;
       few_returns = by_version _ _ predictor_returns version d.few_returns e.few_returns i;
       few_second_sets = by_version _ _ cache_second_sets version d.few_second_sets e.few_second_sets i;
@@ -162,6 +168,8 @@ same_desc d e h =
       second_between =
           tested (λ j. comes_between (cache_second_sets j) (cache_hit_latency j) (cache_second_latency j) (cache_miss_latency j))
           d.second_between e.second_between i;
+      model_known = tested (λ j. knows_model (version j) (stt_model j)) d.model_known e.model_known i;
+      defence_known = tested (λ j. knows_defence (version j) (stt_defence j)) d.defence_known e.defence_known i;
     }
 
 same_ok : (c c' : Contents) (r : Result Contents DescFault) → r ≡ Ok c → r ≡ Ok c' → c ≡ c'

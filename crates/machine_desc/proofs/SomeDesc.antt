@@ -1,26 +1,29 @@
 -- A text without a fault describes something: its numbers are all that is asked of a description.
-use Rattle.std.proofs.Common.{◌≡◌, ℕ, List, Option, Some, None, Result, Ok, Err, Bool, true, false, if◌then◌else◌, refl, ◌∙◌, map}
+use Rattle.std.proofs.Common.{◌≡◌, ℕ, IsTrue, List, Option, Some, None, Result, Ok, Err, Bool, true, false, if◌then◌else◌, refl, ◌∙◌, map}
 use Rattle.std.specs.Str.{is_utf8}
 use Rattle.toml.specs.Data.{Members}
 use Rattle.toml.specs.Parse.{parse_document}
 use Rattle.machine_desc.specs.declared.Desc.{Desc}
 use Rattle.machine_desc.specs.declared.SttModel.{SttModel}
+use Rattle.machine_desc.specs.declared.Defence.{Defence}
 use Rattle.machine_desc.specs.declared.keys.Key.{Key}
-use Rattle.machine_desc.specs.declared.keys.Key.TheVariants.{CoreFetchWidth, CoreRetireWidth, CoreRob, CoreStations, CoreLoads, CoreStores, CoreQueue, UnitsAlus, UnitsMulLatency, PredictorCounters, PredictorBtb, CacheSets, CacheWays, CacheLine, CacheHitLatency, CacheMissLatency, CacheMshrs, RamBase, RamSize, RamMisaligned, PredictorHistory, PredictorReturns, CacheSecondSets, CacheSecondWays, CacheSecondLatency, CachePrefetch}
+use Rattle.machine_desc.specs.declared.keys.Key.TheVariants.{CoreFetchWidth, CoreRetireWidth, CoreRob, CoreStations, CoreLoads, CoreStores, CoreQueue, UnitsAlus, UnitsMulLatency, PredictorCounters, PredictorBtb, CacheSets, CacheWays, CacheLine, CacheHitLatency, CacheMissLatency, CacheMshrs, RamBase, RamSize, RamMisaligned, PredictorDepend, PredictorHistory, PredictorReturns, CacheSecondSets, CacheSecondWays, CacheSecondLatency, CachePrefetch}
 use Rattle.machine_desc.specs.declared.fault.DescFault.{DescFault}
 use Rattle.machine_desc.specs.declared.fault.DescFault.TheVariants.{Syntax}
 use Rattle.machine_desc.specs.Table.{number_keys}
-use Rattle.machine_desc.specs.Description.{number, document_fault, version, model, Contents, contents, contents_or, contents_by, text_contents, description_of}
-use Rattle.machine_desc.specs.Version.{IsKnown}
+use Rattle.machine_desc.specs.Description.{number, document_fault, version, model, defence, Contents, contents, contents_or, contents_by, text_contents, description_of}
+use Rattle.machine_desc.specs.Version.{IsKnown, knows_model, knows_defence}
 use Rattle.machine_desc.specs.Clean.{IsClean}
 use Rattle.machine_desc.specs.Ranges.{MayBe}
 use Rattle.machine_desc.proofs.Passing.{fits}
 use Rattle.machine_desc.proofs.Faultless.{is_clean}
 use Rattle.machine_desc.proofs.Versions.{is_known}
+use Rattle.machine_desc.proofs.Named.{model_known, defence_known}
 
 -- the description of a document without fault
-desc_of : (v : ℕ) → IsKnown v → (document : Members) (m : SttModel) → IsClean v document → Desc
-desc_of v known document m clean =
+desc_of : (v : ℕ) → IsKnown v → (document : Members) (m : SttModel) (t : Defence) → IsTrue (knows_model v m) → IsTrue (knows_defence v t)
+    → IsClean v document → Desc
+desc_of v known document m t by_model by_defence clean =
     let f : (key : Key) → MayBe v key (number v document key) = λ key. fits v document key (clean.keys key) in
     record {
       version = v;
@@ -35,6 +38,7 @@ desc_of v known document m clean =
       units_mul_latency = number v document UnitsMulLatency;
       predictor_counters = number v document PredictorCounters;
       predictor_btb = number v document PredictorBtb;
+      predictor_depend = number v document PredictorDepend;
       predictor_history = number v document PredictorHistory;
       predictor_returns = number v document PredictorReturns;
       cache_sets = number v document CacheSets;
@@ -51,6 +55,7 @@ desc_of v known document m clean =
       ram_size = number v document RamSize;
       ram_misaligned = number v document RamMisaligned;
       stt_model = m;
+      stt_defence = t;
       some_version = known.0;
       known_version = known.1;
       some_fetches = (f CoreFetchWidth).0;
@@ -98,6 +103,8 @@ desc_of v known document m clean =
       size_aligned = (f RamSize).2;
       ram_ends = clean.ends;
       few_misaligned = (f RamMisaligned).1;
+      few_depend = (f PredictorDepend).1;
+      depend_power = (f PredictorDepend).2;
       short_history = (f PredictorHistory).1;
       few_returns = (f PredictorReturns).1;
       few_second_sets = (f CacheSecondSets).1;
@@ -109,24 +116,33 @@ desc_of v known document m clean =
       few_prefetches = (f CachePrefetch).1;
       two_lines = clean.registers;
       second_between = clean.second;
+      model_known = by_model;
+      defence_known = by_defence;
     }
 
 -- its contents are the document's
-contents_are : (v : ℕ) (known : IsKnown v) (document : Members) (m : SttModel) (clean : IsClean v document)
-    → contents (desc_of v known document m clean) ≡ record { version = v; numbers = map (number v document) number_keys; model = m }
+contents_are : (v : ℕ) (known : IsKnown v) (document : Members) (m : SttModel) (t : Defence) (by_model : IsTrue (knows_model v m))
+    (by_defence : IsTrue (knows_defence v t)) (clean : IsClean v document)
+    → contents (desc_of v known document m t by_model by_defence clean) ≡ record { version = v; numbers = map (number v document) number_keys; model = m; defence = t }
 unfolding desc_of
-contents_are v known document m clean = refl
+contents_are v known document m t by_model by_defence clean = refl
 
-by_fault : (v : ℕ) → IsKnown v → (document : Members) (c : Contents) (fault : Option DescFault) (m : Result SttModel DescFault) → document_fault v document ≡ fault
-    → contents_or fault v (map (number v document) number_keys) m ≡ Ok c → (d : Desc) × (contents d ≡ c)
-by_fault v known document c (Some e) m f h = absurd (cc)
-by_fault v known document c None (Err e) f h = absurd (cc)
-by_fault v known document c None (Ok m) f h =
-    (desc_of v known document m (is_clean v document f), contents_are v known document m (is_clean v document f) ∙ (cc))
+by_fault : (v : ℕ) → IsKnown v → (document : Members) (c : Contents) (fault : Option DescFault) (m : Result SttModel DescFault) (t : Result Defence DescFault)
+    → document_fault v document ≡ fault → model v document ≡ m → defence v document ≡ t
+    → contents_or fault v (map (number v document) number_keys) m t ≡ Ok c → (d : Desc) × (contents d ≡ c)
+by_fault v known document c (Some e) m t f p q h = absurd (cc)
+by_fault v known document c None (Err e) t f p q h = absurd (cc)
+by_fault v known document c None (Ok m) (Err e) f p q h = absurd (cc)
+by_fault v known document c None (Ok m) (Ok t) f p q h =
+    let by_model = model_known v document m p in
+    let by_defence = defence_known v document t q in
+    let clean = is_clean v document f in
+    (desc_of v known document m t by_model by_defence clean, contents_are v known document m t by_model by_defence clean ∙ (cc))
 
 by_version : (document : Members) (c : Contents) (v : Result ℕ DescFault) → version document ≡ v → contents_by v document ≡ Ok c → (d : Desc) × (contents d ≡ c)
 by_version document c (Err e) b h = absurd (cc)
-by_version document c (Ok v) b h = by_fault v (is_known document v b) document c (document_fault v document) (model document) refl h
+by_version document c (Ok v) b h =
+    by_fault v (is_known document v b) document c (document_fault v document) (model v document) (defence v document) refl refl refl h
 
 by_text : (c : Contents) (utf8 : Bool) (document : Option Members) → (if utf8 then text_contents document else Err Syntax) ≡ Ok c → (d : Desc) × (contents d ≡ c)
 by_text c false document h = absurd (cc)

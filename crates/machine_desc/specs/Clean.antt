@@ -4,7 +4,7 @@ use Rattle.toml.specs.Data.{Members}
 use Rattle.machine_desc.specs.declared.keys.Key.{Key}
 use Rattle.machine_desc.specs.declared.keys.Key.TheVariants.{CacheHitLatency, CacheMissLatency, CacheMshrs, CacheSecondSets, CacheSecondLatency, RamBase, RamSize, RamMisaligned}
 use Rattle.machine_desc.specs.declared.keys.Values.{Values}
-use Rattle.machine_desc.specs.declared.keys.Values.TheVariants.{Numbers, Optional, Models}
+use Rattle.machine_desc.specs.declared.keys.Values.TheVariants.{Numbers, Optional, Models, Defences}
 use Rattle.machine_desc.specs.declared.keys.Shape.{Shape}
 use Rattle.machine_desc.specs.declared.keys.Shape.TheVariants.{Any, PowerOfTwo, ZeroOrPowerOfTwo, MultipleOf16}
 use Rattle.std.specs.Int.{IsPowerOfTwo}
@@ -23,13 +23,15 @@ HasShape MultipleOf16 n = n % 16 ≡ 0
 abbrev pub Fits : Values → ℕ → Type 0
 Fits (Numbers least most shape) n = (least ≤ n) × (n ≤ most) × HasShape shape n
 Fits (Optional least most shape) n = (least ≤ n) × (n ≤ most) × HasShape shape n
-Fits Models n = Unit {0}
+Fits (Models off) n = Unit {0}
+Fits (Defences hold) n = Unit {0}
 
 -- the same, with the shape as a test
 abbrev pub PassesAs : Values → ℕ → Type 0
 PassesAs (Numbers least most shape) n = (least ≤ n) × (n ≤ most) × IsTrue (has_shape shape n)
 PassesAs (Optional least most shape) n = (least ≤ n) × (n ≤ most) × IsTrue (has_shape shape n)
-PassesAs Models n = Unit {0}
+PassesAs (Models off) n = Unit {0}
+PassesAs (Defences hold) n = Unit {0}
 
 -- in this version no key has a fault, a miss takes longer than a hit, RAM ends at or below 2^32, an access that may lie in two
 -- lines has two miss registers, and a line of the second level comes between a hit and a miss

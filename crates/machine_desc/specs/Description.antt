@@ -6,18 +6,20 @@ use Rattle.toml.specs.Data.{Data, table, string, integer, Members, no_members, m
 use Rattle.toml.specs.Parse.{parse_document}
 use Rattle.machine_desc.specs.declared.Desc.{Desc}
 use Rattle.machine_desc.specs.declared.SttModel.{SttModel}
-use Rattle.machine_desc.specs.declared.SttModel.TheVariants.{Spectre, Futuristic}
+use Rattle.machine_desc.specs.declared.SttModel.TheVariants.{Spectre, Futuristic, Off}
+use Rattle.machine_desc.specs.declared.Defence.{Defence}
+use Rattle.machine_desc.specs.declared.Defence.TheVariants.{Stt as SttDefence, Hold}
 use Rattle.machine_desc.specs.declared.keys.Section.{Section}
 use Rattle.machine_desc.specs.declared.keys.Key.{Key}
-use Rattle.machine_desc.specs.declared.keys.Key.TheVariants.{CacheHitLatency, CacheMissLatency, CacheMshrs, CacheSecondSets, CacheSecondLatency, RamBase, RamSize, RamMisaligned, SttModel as ModelKey}
+use Rattle.machine_desc.specs.declared.keys.Key.TheVariants.{CacheHitLatency, CacheMissLatency, CacheMshrs, CacheSecondSets, CacheSecondLatency, RamBase, RamSize, RamMisaligned, SttModel as ModelKey, SttDefence as DefenceKey}
 use Rattle.machine_desc.specs.declared.keys.Shape.{Shape}
 use Rattle.machine_desc.specs.declared.keys.Shape.TheVariants.{Any, PowerOfTwo, ZeroOrPowerOfTwo, MultipleOf16}
 use Rattle.machine_desc.specs.declared.keys.Values.{Values}
-use Rattle.machine_desc.specs.declared.keys.Values.TheVariants.{Numbers, Optional, Models}
+use Rattle.machine_desc.specs.declared.keys.Values.TheVariants.{Numbers, Optional, Models, Defences}
 use Rattle.machine_desc.specs.declared.fault.Subject.TheVariants.{Version as OfVersion, Table as OfTable, Key as OfKey}
 use Rattle.machine_desc.specs.declared.fault.DescFault.{DescFault}
 use Rattle.machine_desc.specs.declared.fault.DescFault.TheVariants.{Syntax, Unknown, Missing, Kind, Version, Range, Shape as WrongShape}
-use Rattle.machine_desc.specs.Version.{newest, comes_between}
+use Rattle.machine_desc.specs.Version.{newest, knows_off, knows_hold, comes_between}
 use Rattle.machine_desc.specs.Table.{row, section_of, name_of, section_name, version_name, sections, number_keys, keys, some_top, some_key}
 
 -- the first fault of these places, if there is one
@@ -104,17 +106,32 @@ abbrev pub number_or_least : Key → ℕ → ℕ → Shape → Option Data → R
 number_or_least key least most shape None = Ok least
 number_or_least key least most shape (Some value) = number_in key least most shape (Some value)
 
--- the model of a name
-abbrev pub model_named : Key → List ℕ → Result SttModel DescFault
-model_named key text =
+-- the model of a name; whether the third is one depends on the version
+abbrev pub model_named : Key → Bool → List ℕ → Result SttModel DescFault
+model_named key off text =
     if bytes_eq text (codes "spectre") then Ok Spectre
-    else (if bytes_eq text (codes "futuristic") then Ok Futuristic else Err (Kind (OfKey key)))
+    else if bytes_eq text (codes "futuristic") then Ok Futuristic
+    else if off && bytes_eq text (codes "off") then Ok Off
+    else Err (Kind (OfKey key))
 
 -- the model of a key: its value has to be there, and a text that names one
-abbrev pub model_in : Key → Option Data → Result SttModel DescFault
-model_in key None = Err (Missing key)
-model_in key (Some (string text)) = model_named key text
-model_in key (Some other) = Err (Kind (OfKey key))
+abbrev pub model_in : Key → Bool → Option Data → Result SttModel DescFault
+model_in key off None = Err (Missing key)
+model_in key off (Some (string text)) = model_named key off text
+model_in key off (Some other) = Err (Kind (OfKey key))
+
+-- the defence of a name; whether the second is one depends on the version
+abbrev pub defence_named : Key → Bool → List ℕ → Result Defence DescFault
+defence_named key hold text =
+    if bytes_eq text (codes "stt") then Ok SttDefence
+    else if hold && bytes_eq text (codes "hold") then Ok Hold
+    else Err (Kind (OfKey key))
+
+-- the defence of a key that may be left out: `stt` then, else a text that names one
+abbrev pub defence_in : Key → Bool → Option Data → Result Defence DescFault
+defence_in key hold None = Ok SttDefence
+defence_in key hold (Some (string text)) = defence_named key hold text
+defence_in key hold (Some other) = Err (Kind (OfKey key))
 
 -- why an answer is none
 abbrev pub fault_of : {T : Type 0} → Result T DescFault → Option DescFault
@@ -125,7 +142,8 @@ fault_of (Err fault) = Some fault
 abbrev pub value_fault : Key → Values → Option Data → Option DescFault
 value_fault key (Numbers least most shape) value = fault_of (number_in key least most shape value)
 value_fault key (Optional least most shape) value = fault_of (number_or_least key least most shape value)
-value_fault key Models value = fault_of (model_in key value)
+value_fault key (Models off) value = fault_of (model_in key off value)
+value_fault key (Defences hold) value = fault_of (defence_in key hold value)
 
 -- the fault of a key in a version
 unfoldable pub key_fault : ℕ → Members → Key → Option DescFault
@@ -144,15 +162,20 @@ number_or_zero (Err fault) = 0
 abbrev pub number_of : Key → Values → Option Data → ℕ
 number_of key (Numbers least most shape) value = number_or_zero (number_in key least most shape value)
 number_of key (Optional least most shape) value = number_or_zero (number_or_least key least most shape value)
-number_of key Models value = 0
+number_of key (Models off) value = 0
+number_of key (Defences hold) value = 0
 
 -- the number of a key, 0 where it has a fault
 abbrev pub number : ℕ → Members → Key → ℕ
 number version document key = number_of key (row version key).values (value_at document key)
 
 -- the model of a document
-abbrev pub model : Members → Result SttModel DescFault
-model document = model_in ModelKey (value_at document ModelKey)
+abbrev pub model : ℕ → Members → Result SttModel DescFault
+model version document = model_in ModelKey (knows_off version) (value_at document ModelKey)
+
+-- the defence of a document
+abbrev pub defence : ℕ → Members → Result Defence DescFault
+defence version document = defence_in DefenceKey (knows_hold version) (value_at document DefenceKey)
 
 -- a miss takes longer than a hit
 unfoldable pub latency_fault : ℕ → Members → Option DescFault
@@ -188,11 +211,12 @@ document_fault version document = first (
     registers_fault version document ∷
     second_fault version document ∷ [])
 
--- what a description holds: its version, its numbers in the order of their keys, and its model
+-- what a description holds: its version, its numbers in the order of their keys, its model and its defence
 pub record Contents : Type 0 where
   pub version : ℕ
   pub numbers : List ℕ
   pub model : SttModel
+  pub defence : Defence
 
 -- each number in its key's place
 abbrev pub contents : Desc → Contents
@@ -205,21 +229,25 @@ contents d = record {
       d.cache_sets ∷ d.cache_ways ∷ d.cache_line ∷ d.cache_hit_latency ∷ d.cache_miss_latency ∷ d.cache_mshrs ∷
       d.ram_base ∷ d.ram_size ∷
       d.ram_misaligned ∷
-      d.predictor_history ∷ d.predictor_returns ∷
+      d.predictor_depend ∷ d.predictor_history ∷ d.predictor_returns ∷
       d.cache_second_sets ∷ d.cache_second_ways ∷ d.cache_second_latency ∷ d.cache_prefetch ∷ [];
   model = d.stt_model;
+  defence = d.stt_defence;
 }
 
 -- the first fault, or else the contents
-abbrev pub contents_or : Option DescFault → ℕ → List ℕ → Result SttModel DescFault → Result Contents DescFault
-contents_or (Some fault) version numbers model = Err fault
-contents_or None version numbers (Err fault) = Err fault
-contents_or None version numbers (Ok model) = Ok (record { version = version; numbers = numbers; model = model })
+abbrev pub contents_or : Option DescFault → ℕ → List ℕ → Result SttModel DescFault → Result Defence DescFault → Result Contents DescFault
+contents_or (Some fault) version numbers model defence = Err fault
+contents_or None version numbers (Err fault) defence = Err fault
+contents_or None version numbers (Ok model) (Err fault) = Err fault
+contents_or None version numbers (Ok model) (Ok defence) =
+    Ok (record { version = version; numbers = numbers; model = model; defence = defence })
 
 -- the contents of a document by its version, or the first fault
 abbrev pub contents_by : Result ℕ DescFault → Members → Result Contents DescFault
 contents_by (Err fault) document = Err fault
-contents_by (Ok v) document = contents_or (document_fault v document) v (map (number v document) number_keys) (model document)
+contents_by (Ok v) document =
+    contents_or (document_fault v document) v (map (number v document) number_keys) (model v document) (defence v document)
 
 -- the contents of a document, or its first fault: the version is looked at before all else
 abbrev pub document_contents : Members → Result Contents DescFault

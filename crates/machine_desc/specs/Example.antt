@@ -2,6 +2,7 @@
 use Rattle.std.proofs.Common.{refl, inl, lit<, lit≤}
 use Rattle.machine_desc.specs.declared.Desc.{Desc}
 use Rattle.machine_desc.specs.declared.SttModel.TheVariants.{Spectre}
+use Rattle.machine_desc.specs.declared.Defence.TheVariants.{Stt}
 
 -- its numbers, and that each is what its key asks for
 abbrev pub example : Desc
@@ -18,6 +19,7 @@ example = record {
   units_mul_latency = 3;
   predictor_counters = 16;
   predictor_btb = 4;
+  predictor_depend = 0;
   predictor_history = 0;
   predictor_returns = 0;
   cache_sets = 2;
@@ -34,6 +36,7 @@ example = record {
   ram_size = 65536;
   ram_misaligned = 0;
   stt_model = Spectre;
+  stt_defence = Stt;
   some_version = lit≤ tt;
   known_version = lit≤ tt;
   some_fetches = lit≤ tt;
@@ -81,6 +84,8 @@ example = record {
   size_aligned = refl;
   ram_ends = lit≤ tt;
   few_misaligned = lit≤ tt;
+  few_depend = lit≤ tt;
+  depend_power = inl refl;
   short_history = lit≤ tt;
   few_returns = lit≤ tt;
   few_second_sets = lit≤ tt;
@@ -92,4 +97,6 @@ example = record {
   few_prefetches = lit≤ tt;
   two_lines = lit≤ tt;
   second_between = refl;
+  model_known = refl;
+  defence_known = refl;
 }

@@ -1,9 +1,9 @@
 -- What is asked of a description's numbers, and the longest time between two retirements.
-use Rattle.std.specs.Prelude.{◌≡◌, ◌⊎◌, ℕ, ◌+◌, ◌*◌, ◌^◌, ◌<◌, ◌≤◌}
+use Rattle.std.specs.Prelude.{◌≡◌, ◌⊎◌, ℕ, IsTrue, ◌+◌, ◌*◌, ◌^◌, ◌<◌, ◌≤◌}
 use Rattle.machine_desc.specs.declared.Desc.{Desc}
 use Rattle.machine_desc.specs.declared.keys.Key.{Key}
-use Rattle.machine_desc.specs.declared.keys.Key.TheVariants.{CoreFetchWidth, CoreRetireWidth, CoreRob, CoreStations, CoreLoads, CoreStores, CoreQueue, UnitsAlus, UnitsMulLatency, PredictorCounters, PredictorBtb, CacheSets, CacheWays, CacheLine, CacheHitLatency, CacheMissLatency, CacheMshrs, RamBase, RamSize, RamMisaligned, PredictorHistory, PredictorReturns, CacheSecondSets, CacheSecondWays, CacheSecondLatency, CachePrefetch}
-use Rattle.machine_desc.specs.Version.{IsKnown}
+use Rattle.machine_desc.specs.declared.keys.Key.TheVariants.{CoreFetchWidth, CoreRetireWidth, CoreRob, CoreStations, CoreLoads, CoreStores, CoreQueue, UnitsAlus, UnitsMulLatency, PredictorCounters, PredictorBtb, CacheSets, CacheWays, CacheLine, CacheHitLatency, CacheMissLatency, CacheMshrs, RamBase, RamSize, RamMisaligned, PredictorDepend, PredictorHistory, PredictorReturns, CacheSecondSets, CacheSecondWays, CacheSecondLatency, CachePrefetch}
+use Rattle.machine_desc.specs.Version.{IsKnown, knows_model, knows_defence}
 use Rattle.machine_desc.specs.Table.{row}
 use Rattle.machine_desc.specs.Clean.{Fits}
 
@@ -11,7 +11,7 @@ use Rattle.machine_desc.specs.Clean.{Fits}
 abbrev pub MayBe : ℕ → Key → ℕ → Type 0
 MayBe version key n = Fits (row version key).values n
 
--- the version is 1 or 2; every number is in its key's range and of its key's shape; a miss takes longer than a hit; RAM ends at or
+-- the version is 1 or 2; every number is in its key's range and of its key's shape; the version knows the model and the defence; a miss takes longer than a hit; RAM ends at or
 -- below 2^32; an access that may lie in two lines has two miss registers; a line of the second level, where there is one, comes later
 -- than a hit and sooner than from memory
 pub record IsDesc (d : Desc) : Type 0 where
@@ -36,6 +36,7 @@ pub record IsDesc (d : Desc) : Type 0 where
   pub ram_base : MayBe d.version RamBase d.ram_base
   pub ram_size : MayBe d.version RamSize d.ram_size × (d.ram_base + d.ram_size ≤ 2 ^ 32)
   pub misaligned : MayBe d.version RamMisaligned d.ram_misaligned × (2 * d.ram_misaligned ≤ d.cache_mshrs)
+  pub depend : MayBe d.version PredictorDepend d.predictor_depend
   pub history : MayBe d.version PredictorHistory d.predictor_history
   pub returns : MayBe d.version PredictorReturns d.predictor_returns
   pub second_sets : MayBe d.version CacheSecondSets d.cache_second_sets
@@ -43,6 +44,8 @@ pub record IsDesc (d : Desc) : Type 0 where
   pub second_latency : MayBe d.version CacheSecondLatency d.cache_second_latency
       × ((d.cache_second_sets ≡ 0) ⊎ (d.cache_hit_latency < d.cache_second_latency) × (d.cache_second_latency < d.cache_miss_latency))
   pub prefetch : MayBe d.version CachePrefetch d.cache_prefetch
+  pub model : IsTrue (knows_model d.version d.stt_model)
+  pub defence : IsTrue (knows_defence d.version d.stt_defence)
 
 -- within so many cycles one more instruction retires, or the run ends
 abbrev pub bound : Desc → ℕ

@@ -5,14 +5,14 @@ use Rattle.std.specs.Str.{bytes_eq}
 use Rattle.machine_desc.specs.declared.keys.Section.{Section}
 use Rattle.machine_desc.specs.declared.keys.Section.TheVariants.{Core, Units, Predictor, Cache, Ram, Stt}
 use Rattle.machine_desc.specs.declared.keys.Key.{Key}
-use Rattle.machine_desc.specs.declared.keys.Key.TheVariants.{CoreFetchWidth, CoreRetireWidth, CoreRob, CoreStations, CoreLoads, CoreStores, CoreQueue, UnitsAlus, UnitsMulLatency, PredictorCounters, PredictorBtb, CacheSets, CacheWays, CacheLine, CacheHitLatency, CacheMissLatency, CacheMshrs, RamBase, RamSize, SttModel, RamMisaligned, PredictorHistory, PredictorReturns, CacheSecondSets, CacheSecondWays, CacheSecondLatency, CachePrefetch}
+use Rattle.machine_desc.specs.declared.keys.Key.TheVariants.{CoreFetchWidth, CoreRetireWidth, CoreRob, CoreStations, CoreLoads, CoreStores, CoreQueue, UnitsAlus, UnitsMulLatency, PredictorCounters, PredictorBtb, CacheSets, CacheWays, CacheLine, CacheHitLatency, CacheMissLatency, CacheMshrs, RamBase, RamSize, SttModel, RamMisaligned, PredictorDepend, PredictorHistory, PredictorReturns, CacheSecondSets, CacheSecondWays, CacheSecondLatency, CachePrefetch, SttDefence}
 use Rattle.machine_desc.specs.declared.keys.Shape.{Shape}
 use Rattle.machine_desc.specs.declared.keys.Shape.TheVariants.{Any, PowerOfTwo, ZeroOrPowerOfTwo, MultipleOf16}
 use Rattle.machine_desc.specs.declared.keys.Values.{Values}
-use Rattle.machine_desc.specs.declared.keys.Values.TheVariants.{Numbers, Optional, Models}
+use Rattle.machine_desc.specs.declared.keys.Values.TheVariants.{Numbers, Optional, Models, Defences}
 use Rattle.machine_desc.specs.declared.fault.Subject.{Subject}
 use Rattle.machine_desc.specs.declared.fault.Subject.TheVariants.{Version as OfVersion, Table as OfTable, Key as OfKey}
-use Rattle.machine_desc.specs.Version.{most}
+use Rattle.machine_desc.specs.Version.{most, knows_off, knows_hold}
 
 -- where a key stands, and which values it may have
 pub record Row : Type 0 where
@@ -49,14 +49,16 @@ row v CacheMissLatency = whole Cache (codes "miss_latency") 2 200 Any
 row v CacheMshrs = whole Cache (codes "mshrs") 1 8 Any
 row v RamBase = whole Ram (codes "base") 0 4294963200 MultipleOf16
 row v RamSize = whole Ram (codes "size") 4096 16777216 MultipleOf16
-row v SttModel = record { section = Stt; name = codes "model"; values = Models }
+row v SttModel = record { section = Stt; name = codes "model"; values = Models (knows_off v) }
 row v RamMisaligned = optional Ram (codes "misaligned") 0 (most 0 1 v) Any
+row v PredictorDepend = optional Predictor (codes "depend") 0 (most 0 0 v) ZeroOrPowerOfTwo
 row v PredictorHistory = optional Predictor (codes "history") 0 (most 0 12 v) Any
 row v PredictorReturns = optional Predictor (codes "returns") 0 (most 0 16 v) Any
 row v CacheSecondSets = optional Cache (codes "second_sets") 0 (most 0 1024 v) ZeroOrPowerOfTwo
 row v CacheSecondWays = optional Cache (codes "second_ways") 1 (most 1 8 v) Any
 row v CacheSecondLatency = optional Cache (codes "second_latency") 2 (most 2 100 v) Any
 row v CachePrefetch = optional Cache (codes "prefetch") 0 (most 0 1 v) Any
+row v SttDefence = record { section = Stt; name = codes "defence"; values = Defences (knows_hold v) }
 
 -- where a key stands, which is the same in every version
 abbrev pub section_of : Key → Section
@@ -79,7 +81,7 @@ required_numbers =
 abbrev pub optional_numbers : List Key
 optional_numbers =
     RamMisaligned ∷
-    PredictorHistory ∷ PredictorReturns ∷
+    PredictorDepend ∷ PredictorHistory ∷ PredictorReturns ∷
     CacheSecondSets ∷ CacheSecondWays ∷ CacheSecondLatency ∷ CachePrefetch ∷ []
 
 -- the keys of numbers, in order
@@ -88,11 +90,12 @@ number_keys = required_numbers ++ optional_numbers
 
 -- all keys, in order
 abbrev pub keys : List Key
-keys = required_numbers ++ SttModel ∷ optional_numbers
+keys = required_numbers ++ SttModel ∷ optional_numbers ++ SttDefence ∷ []
 
--- a key that may be left out has a choice where more than its least is allowed; any other always has one
+-- a key that may be left out has a choice where more than its least is allowed, or a second defence; any other always has one
 abbrev pub has_choice : Values → Bool
 has_choice (Optional least most shape) = nat_lt least most
+has_choice (Defences hold) = hold
 has_choice _ = true
 
 -- a version knows the keys that have a choice in it: version 1 knows none that may be left out

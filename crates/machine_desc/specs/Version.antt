@@ -1,5 +1,9 @@
 -- The versions of a description (docs/formats.md, "Versions").
-use Rattle.std.specs.Prelude.{ℕ, Bool, ◌==◌, ◌≤◌, ◌&&◌, ◌||◌, nat_lt, if◌then◌else◌}
+use Rattle.std.specs.Prelude.{ℕ, Bool, true, false, ◌==◌, ◌≤◌, ◌&&◌, ◌||◌, nat_lt, if◌then◌else◌}
+use Rattle.machine_desc.specs.declared.SttModel.{SttModel}
+use Rattle.machine_desc.specs.declared.SttModel.TheVariants.{Off}
+use Rattle.machine_desc.specs.declared.Defence.{Defence}
+use Rattle.machine_desc.specs.declared.Defence.TheVariants.{Hold}
 
 -- the newest version that this program knows; it knows each one from 1 on
 abbrev pub newest : ℕ
@@ -12,6 +16,24 @@ IsKnown version = (1 ≤ version) × (version ≤ newest)
 -- a number by the version: the first one in version 1, the second in any later one
 abbrev pub most : ℕ → ℕ → ℕ → ℕ
 most in_1 in_2 version = if version == 1 then in_1 else in_2
+
+-- whether the model `off` may be named in a version: it may in none so far
+abbrev pub knows_off : ℕ → Bool
+knows_off version = false
+
+-- whether the defence `hold` may be: it may in none so far
+abbrev pub knows_hold : ℕ → Bool
+knows_hold version = false
+
+-- the version knows the model
+abbrev pub knows_model : ℕ → SttModel → Bool
+knows_model version Off = knows_off version
+knows_model version _ = true
+
+-- the version knows the defence
+abbrev pub knows_defence : ℕ → Defence → Bool
+knows_defence version Hold = knows_hold version
+knows_defence version _ = true
 
 -- where there is a second level, a line of it comes later than a hit and sooner than from memory
 abbrev pub comes_between : ℕ → ℕ → ℕ → ℕ → Bool

@@ -3,10 +3,10 @@ ghost use Rattle.std.specs.Prelude.{◌≡◌, pos, ◌≤ℤ◌, codes, ◌≤�
 ghost use Rattle.toml.specs.View.{table_view, view};
 ghost use Rattle.toml.specs.Data.{get_member};
 ghost use Rattle.machine_desc.specs.Table.{some_key, some_top, section_of, name_of};
-ghost use Rattle.machine_desc.specs.Description.{unknown, version_in, value_at, has_shape, whole_in, number_in, number_or_least, model_in, model_named};
+ghost use Rattle.machine_desc.specs.Description.{unknown, version_in, value_at, has_shape, whole_in, number_in, number_or_least, model_in, model_named, defence_in, defence_named};
 
 use crate::keys::{FIRST, NEWEST, Shape, some_key, some_top};
-use crate::{DescFault, Key, Section, SttModel, Subject};
+use crate::{Defence, DescFault, Key, Section, SttModel, Subject};
 use toml::{Table, Value};
 
 // The least name at the top that is neither the version's nor a table's.
@@ -140,25 +140,50 @@ pub fn number_or_least(
 }
 
 // The model of this name.
-fn model_named(key: Key, text: &str) -> Result<SttModel, DescFault>
-    ensures { result ≡ model_named key text.now }
+fn model_named(key: Key, off: bool, text: &str) -> Result<SttModel, DescFault>
+    ensures { result ≡ model_named key off text.now }
 {
     match text {
         "spectre" => Ok(SttModel::Spectre),
         "futuristic" => Ok(SttModel::Futuristic),
+        "off" if off => Ok(SttModel::Off),
         _ => Err(DescFault::Kind(Subject::Key(key))),
     }
 }
 
 // The model that a key names.
-pub fn model_in(key: Key, value: Option<&Value>) -> Result<SttModel, DescFault>
-    ensures { result ≡ model_in key (option_map (λ v. view v.now) value.entry) }
+pub fn model_in(key: Key, off: bool, value: Option<&Value>) -> Result<SttModel, DescFault>
+    ensures { result ≡ model_in key off (option_map (λ v. view v.now) value.entry) }
 {
     match value {
         None => Err(DescFault::Missing(key)),
         Some(value) => match value.as_str() {
             None => Err(DescFault::Kind(Subject::Key(key))),
-            Some(text) => model_named(key, text),
+            Some(text) => model_named(key, off, text),
+        },
+    }
+}
+
+// The defence of this name.
+fn defence_named(key: Key, hold: bool, text: &str) -> Result<Defence, DescFault>
+    ensures { result ≡ defence_named key hold text.now }
+{
+    match text {
+        "stt" => Ok(Defence::Stt),
+        "hold" if hold => Ok(Defence::Hold),
+        _ => Err(DescFault::Kind(Subject::Key(key))),
+    }
+}
+
+// The defence that a key names, which may be left out.
+pub fn defence_in(key: Key, hold: bool, value: Option<&Value>) -> Result<Defence, DescFault>
+    ensures { result ≡ defence_in key hold (option_map (λ v. view v.now) value.entry) }
+{
+    match value {
+        None => Ok(Defence::Stt),
+        Some(value) => match value.as_str() {
+            None => Err(DescFault::Kind(Subject::Key(key))),
+            Some(text) => defence_named(key, hold, text),
         },
     }
 }

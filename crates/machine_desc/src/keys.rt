@@ -6,7 +6,7 @@
 ghost use Rattle.std.specs.Prelude.{◌≡◌, ◌≤◌, ◌++◌, length, codes};
 ghost use Rattle.machine_desc.specs.Table.{section_name, row, section_of, name_of, key_text, has_choice, is_known};
 ghost use Rattle.machine_desc.specs.Table.{some_key, some_section, some_top, stands_at};
-ghost use Rattle.machine_desc.specs.Version.{most};
+ghost use Rattle.machine_desc.specs.Version.{most, knows_off, knows_hold};
 
 use crate::Name;
 use std::fmt;
@@ -46,12 +46,14 @@ pub enum Key {
     RamSize,
     SttModel,
     RamMisaligned,
+    PredictorDepend,
     PredictorHistory,
     PredictorReturns,
     CacheSecondSets,
     CacheSecondWays,
     CacheSecondLatency,
     CachePrefetch,
+    SttDefence,
 }
 
 /// What is asked of a number besides its range.
@@ -70,8 +72,10 @@ pub(crate) enum Values {
     Numbers { least: u32, most: u32, shape: Shape },
     /// The same, and the least of them where the key is left out.
     Optional { least: u32, most: u32, shape: Shape },
-    /// The texts that name a model.
-    Models,
+    /// The texts that name a model, and whether `off` is one.
+    Models { off: bool },
+    /// The texts that name a defence, and whether `hold` is one; `stt` where the key is left out.
+    Defences { hold: bool },
 }
 
 /// The newest version that is known: each one from 1 on is.
@@ -94,7 +98,7 @@ pub(crate) const SECTIONS: [Section; 6] = [
 ];
 
 /// The keys, in order.
-pub(crate) const KEYS: [Key; 27] = [
+pub(crate) const KEYS: [Key; 29] = [
     Key::CoreFetchWidth,
     Key::CoreRetireWidth,
     Key::CoreRob,
@@ -116,12 +120,14 @@ pub(crate) const KEYS: [Key; 27] = [
     Key::RamSize,
     Key::SttModel,
     Key::RamMisaligned,
+    Key::PredictorDepend,
     Key::PredictorHistory,
     Key::PredictorReturns,
     Key::CacheSecondSets,
     Key::CacheSecondWays,
     Key::CacheSecondLatency,
     Key::CachePrefetch,
+    Key::SttDefence,
 ];
 
 impl Section {
@@ -162,13 +168,28 @@ fn most(in_1: u32, in_2: u32, version: u32) -> u32
     if version == 1 { in_1 } else { in_2 }
 }
 
+// May the model `off` be named in a version? In none so far.
+pub(crate) fn knows_off(_version: u32) -> bool
+    ensures { result ≡ knows_off _version }
+{
+    false
+}
+
+// May the defence `hold` be? In none so far.
+pub(crate) fn knows_hold(_version: u32) -> bool
+    ensures { result ≡ knows_hold _version }
+{
+    false
+}
+
 // Is there a choice of values? A key that has to be there always has one.
 fn has_choice(values: Values) -> bool
     ensures { result ≡ has_choice values }
 {
     match values {
         Values::Optional { least, most, .. } => least < most,
-        Values::Numbers { .. } | Values::Models => true,
+        Values::Defences { hold } => hold,
+        Values::Numbers { .. } | Values::Models { .. } => true,
     }
 }
 
@@ -188,6 +209,7 @@ impl Key {
             Key::UnitsAlus | Key::UnitsMulLatency => Section::Units,
             Key::PredictorCounters
             | Key::PredictorBtb
+            | Key::PredictorDepend
             | Key::PredictorHistory
             | Key::PredictorReturns => Section::Predictor,
             Key::CacheSets
@@ -201,7 +223,7 @@ impl Key {
             | Key::CacheSecondLatency
             | Key::CachePrefetch => Section::Cache,
             Key::RamBase | Key::RamSize | Key::RamMisaligned => Section::Ram,
-            Key::SttModel => Section::Stt,
+            Key::SttModel | Key::SttDefence => Section::Stt,
         }
     }
 
@@ -232,12 +254,14 @@ impl Key {
             Key::RamSize => "size",
             Key::SttModel => "model",
             Key::RamMisaligned => "misaligned",
+            Key::PredictorDepend => "depend",
             Key::PredictorHistory => "history",
             Key::PredictorReturns => "returns",
             Key::CacheSecondSets => "second_sets",
             Key::CacheSecondWays => "second_ways",
             Key::CacheSecondLatency => "second_latency",
             Key::CachePrefetch => "prefetch",
+            Key::SttDefence => "defence",
         }
     }
 
@@ -265,14 +289,20 @@ impl Key {
             Key::CacheMshrs => numbers(1, 8, Shape::Any),
             Key::RamBase => numbers(0, 4_294_963_200, Shape::MultipleOf16),
             Key::RamSize => numbers(4096, 16_777_216, Shape::MultipleOf16),
-            Key::SttModel => Values::Models,
+            Key::SttModel => Values::Models {
+                off: knows_off(version),
+            },
             Key::RamMisaligned => optional(0, most(0, 1, version), Shape::Any),
+            Key::PredictorDepend => optional(0, most(0, 0, version), Shape::ZeroOrPowerOfTwo),
             Key::PredictorHistory => optional(0, most(0, 12, version), Shape::Any),
             Key::PredictorReturns => optional(0, most(0, 16, version), Shape::Any),
             Key::CacheSecondSets => optional(0, most(0, 1024, version), Shape::ZeroOrPowerOfTwo),
             Key::CacheSecondWays => optional(1, most(1, 8, version), Shape::Any),
             Key::CacheSecondLatency => optional(2, most(2, 100, version), Shape::Any),
             Key::CachePrefetch => optional(0, most(0, 1, version), Shape::Any),
+            Key::SttDefence => Values::Defences {
+                hold: knows_hold(version),
+            },
         }
     }
 

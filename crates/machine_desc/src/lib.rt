@@ -7,7 +7,7 @@
 ghost use Rattle.std.specs.Prelude.{◌≡◌, ◌+◌, ◌*◌, ◌%◌, ◌^◌, ◌<◌, ◌≤◌, IsTrue};
 ghost use Rattle.std.specs.Int.{IsPowerOfTwo};
 ghost use Rattle.machine_desc.specs.Power.{IsZeroOrPower, power_prop, zero_or_power_prop};
-ghost use Rattle.machine_desc.specs.Version.{most, comes_between};
+ghost use Rattle.machine_desc.specs.Version.{most, knows_model, knows_defence, comes_between};
 
 mod document;
 mod example;
@@ -33,10 +33,21 @@ pub enum SttModel {
     Spectre,
     /// Until no older instruction can squash the load any more.
     Futuristic,
+    /// Not at all: nothing is protected.
+    Off,
+}
+
+/// What becomes of a value that counts as a secret.
+#[derive(Clone, Copy, Debug, PartialEq, Eq)]
+pub enum Defence {
+    /// What could show it waits: addresses of loads, divisions, and branches and indirect jumps that take effect.
+    Stt,
+    /// It isn't used at all.
+    Hold,
 }
 
 /// A machine description of a known version: every number is in its key's range in that version and of its key's shape,
-/// a miss takes longer than a hit, RAM ends at or below 2^32, there are two miss registers where an access may lie in two
+/// the model and the defence are ones that the version knows, a miss takes longer than a hit, RAM ends at or below 2^32, there are two miss registers where an access may lie in two
 /// lines, and a line of the second level comes later than a hit and sooner than from memory. A number that its version
 /// doesn't know has the value that it has where it is left out.
 #[derive(Clone, Copy, Debug, PartialEq, Eq)]
@@ -65,6 +76,8 @@ pub struct Desc {
     pub predictor_counters: u32,
     /// Entries of the table of jump targets.
     pub predictor_btb: u32,
+    /// Bits that tell which loads wait for the addresses of older stores; with 0 every load waits.
+    pub predictor_depend: u32,
     /// Branches whose directions the global history keeps.
     pub predictor_history: u32,
     /// Addresses of the return stack; with 0 there is none.
@@ -97,6 +110,8 @@ pub struct Desc {
     pub ram_misaligned: u32,
     /// When taint ends.
     pub stt_model: SttModel,
+    /// What becomes of a tainted value.
+    pub stt_defence: Defence,
     pub ghost some_version: { 1 ≤ version },
     pub ghost known_version: { version ≤ 2 },
     pub ghost some_fetches: { 1 ≤ core_fetch_width },
@@ -144,6 +159,8 @@ pub struct Desc {
     pub ghost size_aligned: { ram_size % 16 ≡ 0 },
     pub ghost ram_ends: { ram_base + ram_size ≤ 2 ^ 32 },
     pub ghost few_misaligned: { ram_misaligned ≤ most 0 1 version },
+    pub ghost few_depend: { predictor_depend ≤ most 0 0 version },
+    pub ghost depend_power: { IsZeroOrPower predictor_depend } by { zero_or_power_prop predictor_depend },
     pub ghost short_history: { predictor_history ≤ most 0 12 version },
     pub ghost few_returns: { predictor_returns ≤ most 0 16 version },
     pub ghost few_second_sets: { cache_second_sets ≤ most 0 1024 version },
@@ -155,4 +172,6 @@ pub struct Desc {
     pub ghost few_prefetches: { cache_prefetch ≤ most 0 1 version },
     pub ghost two_lines: { 2 * ram_misaligned ≤ cache_mshrs },
     pub ghost second_between: { IsTrue (comes_between cache_second_sets cache_hit_latency cache_second_latency cache_miss_latency) },
+    pub ghost model_known: { IsTrue (knows_model version stt_model) },
+    pub ghost defence_known: { IsTrue (knows_defence version stt_defence) },
 }

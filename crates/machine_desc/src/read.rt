@@ -1,21 +1,21 @@
 //! Reads descriptions: looks for the faults in their order, and then takes the numbers.
 //!
 //! `specs/Description.antt` has the order; `docs/formats.md` tells it.
-ghost use Rattle.std.specs.Prelude.{◌≡◌, ◌≢◌, Ok, Err, IfOk, IfErr, MatchResult, Some, None, map};
+ghost use Rattle.std.specs.Prelude.{◌≡◌, ◌≢◌, IsTrue, Ok, Err, IfOk, IfErr, MatchResult, Some, None, map};
 ghost use Rattle.toml.specs.View.{table_view, view};
 ghost use Rattle.toml.specs.Data.{get_member};
 ghost use Rattle.machine_desc.specs.Table.{number_keys};
 ghost use Rattle.machine_desc.specs.Clean.{IsClean};
 ghost use Rattle.machine_desc.specs.Ranges.{MayBe};
-ghost use Rattle.machine_desc.specs.Version.{IsKnown, comes_between};
-ghost use Rattle.machine_desc.specs.Description.{checked, first, version, top_fault, name_fault, section_fault, sections_fault, key_fault, keys_fault, number, model, latency_fault, end_fault, registers_fault, second_fault, document_contents, document_fault, Contents, contents, description_of, Describes};
+ghost use Rattle.machine_desc.specs.Version.{IsKnown, knows_model, knows_defence, comes_between};
+ghost use Rattle.machine_desc.specs.Description.{checked, first, version, top_fault, name_fault, section_fault, sections_fault, key_fault, keys_fault, number, model, defence, latency_fault, end_fault, registers_fault, second_fault, document_contents, document_fault, Contents, contents, description_of, Describes};
 
 use crate::document::{
-    member_of, model_in, number_in, number_or_least, unknown_key, unknown_section, value_at,
-    version_in,
+    defence_in, member_of, model_in, number_in, number_or_least, unknown_key, unknown_section,
+    value_at, version_in,
 };
-use crate::keys::{KEYS, SECTIONS, VERSION_NAME, Values};
-use crate::{Desc, DescFault, Key, Name, Section, SttModel, Subject};
+use crate::keys::{KEYS, SECTIONS, VERSION_NAME, Values, knows_hold, knows_off};
+use crate::{Defence, Desc, DescFault, Key, Name, Section, SttModel, Subject};
 use std::alloc::Global;
 use toml::Table;
 
@@ -90,8 +90,11 @@ fn check_key(version: u32, document: &Table, key: Key) -> Result<(), DescFault>
         Values::Optional { least, most, shape } => {
             number_or_least(key, least, most, shape, value)?;
         }
-        Values::Models => {
-            model_in(key, value)?;
+        Values::Models { off } => {
+            model_in(key, off, value)?;
+        }
+        Values::Defences { hold } => {
+            defence_in(key, hold, value)?;
         }
     }
     Ok(())
@@ -125,7 +128,7 @@ fn number(version: u32, document: &Table, key: Key) -> u32
         Values::Optional { least, most, shape } => {
             number_or_least(key, least, most, shape, value_at(document, key)).unwrap_or(0)
         }
-        Values::Models => 0,
+        Values::Models { .. } | Values::Defences { .. } => 0,
     }
 }
 
@@ -218,13 +221,16 @@ fn clean_number(version: u32, document: &Table, key: Key) -> u32
 }
 
 // The description of a document of this version without fault.
-fn desc(version: u32, document: &Table, stt_model: SttModel) -> Desc
+fn desc(version: u32, document: &Table, stt_model: SttModel, stt_defence: Defence) -> Desc
     requires known { IsKnown version }
     requires clean { IsClean version (table_view document.now) }
+    requires model { IsTrue (knows_model version stt_model) }
+    requires defence { IsTrue (knows_defence version stt_defence) }
     ensures { contents result ≡ record {
       version = version;
       numbers = map (number version (table_view document.now)) number_keys;
       model = stt_model;
+      defence = stt_defence;
     } }
 {
     Desc {
@@ -249,7 +255,9 @@ fn desc(version: u32, document: &Table, stt_model: SttModel) -> Desc
         ram_base: clean_number(version, document, Key::RamBase),
         ram_size: clean_number(version, document, Key::RamSize),
         stt_model,
+        stt_defence,
         ram_misaligned: clean_number(version, document, Key::RamMisaligned),
+        predictor_depend: clean_number(version, document, Key::PredictorDepend),
         predictor_history: clean_number(version, document, Key::PredictorHistory),
         predictor_returns: clean_number(version, document, Key::PredictorReturns),
         cache_second_sets: clean_number(version, document, Key::CacheSecondSets),
@@ -260,10 +268,19 @@ fn desc(version: u32, document: &Table, stt_model: SttModel) -> Desc
 }
 
 // The model of a document.
-fn model(document: &Table) -> Result<SttModel, DescFault>
-    ensures { result ≡ model (table_view document.now) }
+fn model(version: u32, document: &Table) -> Result<SttModel, DescFault>
+    ensures { result ≡ model version (table_view document.now) }
 {
-    model_in(Key::SttModel, value_at(document, Key::SttModel))
+    let value = value_at(document, Key::SttModel);
+    model_in(Key::SttModel, knows_off(version), value)
+}
+
+// The defence of a document.
+fn defence(version: u32, document: &Table) -> Result<Defence, DescFault>
+    ensures { result ≡ defence version (table_view document.now) }
+{
+    let value = value_at(document, Key::SttDefence);
+    defence_in(Key::SttDefence, knows_hold(version), value)
 }
 
 // The description of a document, or its first fault.
@@ -273,8 +290,9 @@ fn read_document(document: &Table) -> Result<Desc, DescFault>
 {
     let version = version(document)?;
     check_document(version, document)?;
-    let stt_model = model(document)?;
-    Ok(desc(version, document, stt_model))
+    let stt_model = model(version, document)?;
+    let stt_defence = defence(version, document)?;
+    Ok(desc(version, document, stt_model, stt_defence))
 }
 
 /// Reads a description: the text's description, or its first fault. It takes at most 65,536 bytes by its caller's rule,

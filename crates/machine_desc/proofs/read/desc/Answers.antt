@@ -1,6 +1,12 @@
 use Rattle.std.proofs.Common.{refl}
 use Rattle.machine_desc.proofs.read.desc.Goals as goal
 
+pub invariant_of-result-clause-few_entries : goal.invariant_of-result-clause-few_entries
+invariant_of-result-clause-few_entries c = c.clean_number-3.ensures.fits.1
+
+pub invariant_of-result-clause-few_stations : goal.invariant_of-result-clause-few_stations
+invariant_of-result-clause-few_stations c = c.clean_number-4.ensures.fits.1
+
 pub invariant_of-result-clause-miss_above_hit : goal.invariant_of-result-clause-miss_above_hit
 invariant_of-result-clause-miss_above_hit c = rw (c.clean_number-15.ensures.number, c.clean_number-16.ensures.number) c.requires.clean.latencies
 
@@ -12,7 +18,7 @@ invariant_of-result-clause-two_lines c = rw (c.clean_number-20.ensures.number, c
 
 pub invariant_of-result-clause-second_between : goal.invariant_of-result-clause-second_between
 invariant_of-result-clause-second_between c =
-    rw (c.clean_number-23.ensures.number, c.clean_number-15.ensures.number, c.clean_number-25.ensures.number, c.clean_number-16.ensures.number)
+    rw (c.clean_number-24.ensures.number, c.clean_number-15.ensures.number, c.clean_number-26.ensures.number, c.clean_number-16.ensures.number)
     c.requires.clean.second
 
 pub returns : goal.returns
@@ -44,5 +50,6 @@ returns c =
       c.clean_number-24.ensures.number,
       c.clean_number-25.ensures.number,
       c.clean_number-26.ensures.number,
+      c.clean_number-27.ensures.number,
     )
     refl

@@ -1,0 +1,50 @@
+-- A model or defence that is read is one that the version knows.
+use Rattle.std.proofs.Common.{◌≡◌, ℕ, Bool, true, false, IsTrue, if◌then◌else◌, Option, Some, None, Ok, Err, refl}
+use Rattle.std.specs.Prelude.{◌&&◌, codes}
+use Rattle.std.specs.Str.{bytes_eq}
+use Rattle.toml.specs.Data.{Data, string, Members}
+use Rattle.machine_desc.specs.declared.SttModel.{SttModel}
+use Rattle.machine_desc.specs.declared.SttModel.TheVariants.{Spectre, Futuristic, Off}
+use Rattle.machine_desc.specs.declared.Defence.{Defence}
+use Rattle.machine_desc.specs.declared.Defence.TheVariants.{Stt, Hold}
+use Rattle.machine_desc.specs.declared.keys.Key.TheVariants.{SttModel as ModelKey, SttDefence as DefenceKey}
+use Rattle.machine_desc.specs.declared.fault.DescFault.{DescFault}
+use Rattle.machine_desc.specs.Version.{knows_off, knows_hold, knows_model, knows_defence}
+use Rattle.machine_desc.specs.Description.{model_in, model, defence_in, defence, value_at}
+
+-- the model of a name, whichever names are known
+named : (m : SttModel) (a b c off : Bool) (e : DescFault)
+    → (if a then Ok Spectre else if b then Ok Futuristic else if off && c then Ok Off else Err e) ≡ Ok m → (v : ℕ) → knows_off v ≡ off → IsTrue (knows_model v m)
+named Spectre a b c off e q v k = refl
+named Futuristic a b c off e q v k = refl
+named Off true b c off e q v k = absurd (cc)
+named Off false true c off e q v k = absurd (cc)
+named Off false false c true e q v k = k
+named Off false false c false e q v k = absurd (cc)
+
+model_by : (v : ℕ) (o : Option Data) (m : SttModel) → model_in ModelKey (knows_off v) o ≡ Ok m → IsTrue (knows_model v m)
+model_by v None m q = absurd (cc)
+model_by v (Some (string text)) m q =
+    named m (bytes_eq text (codes "spectre")) (bytes_eq text (codes "futuristic")) (bytes_eq text (codes "off")) (knows_off v) _ q v refl
+model_by v (Some _) m q = absurd (cc)
+
+pub model_known : (v : ℕ) (document : Members) (m : SttModel) → model v document ≡ Ok m → IsTrue (knows_model v m)
+model_known v document m q = model_by v (value_at document ModelKey) m q
+
+-- the defence of a name
+named_defence : (t : Defence) (a b hold : Bool) (e : DescFault)
+    → (if a then Ok Stt else if hold && b then Ok Hold else Err e) ≡ Ok t → (v : ℕ) → knows_hold v ≡ hold → IsTrue (knows_defence v t)
+named_defence Stt a b hold e q v k = refl
+named_defence Hold true b hold e q v k = absurd (cc)
+named_defence Hold false b true e q v k = k
+named_defence Hold false b false e q v k = absurd (cc)
+
+defence_by : (v : ℕ) (o : Option Data) (t : Defence) → defence_in DefenceKey (knows_hold v) o ≡ Ok t → IsTrue (knows_defence v t)
+defence_by v None Stt q = refl
+defence_by v None Hold q = absurd (cc)
+defence_by v (Some (string text)) t q =
+    named_defence t (bytes_eq text (codes "stt")) (bytes_eq text (codes "hold")) (knows_hold v) _ q v refl
+defence_by v (Some _) t q = absurd (cc)
+
+pub defence_known : (v : ℕ) (document : Members) (t : Defence) → defence v document ≡ Ok t → IsTrue (knows_defence v t)
+defence_known v document t q = defence_by v (value_at document DefenceKey) t q
