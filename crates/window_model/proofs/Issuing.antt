@@ -21,9 +21,10 @@ use Rattle.window_model.specs.declared.Outcome.{Outcome}
 use Rattle.window_model.specs.declared.Miss.{Miss}
 use Rattle.window_model.specs.Around.{Around}
 use Rattle.window_model.specs.Retire.{has_line, op_of, width_of}
-use Rattle.window_model.specs.Order.{Place, each_from, is_waiting, is_load, is_store, has_address, has_data, is_known, all_known, ready, sources, base_of, others_of}
+use Rattle.window_model.specs.Order.{Place, each_from, is_waiting, is_load, is_store, has_address, has_data, sources, base_of, others_of}
 use Rattle.window_model.specs.State.{Machine, line_of, lines_of}
 use Rattle.window_model.specs.Taint.{any_tainted, address_tainted}
+use Rattle.window_model.specs.Ready.{is_known, all_known, ready}
 use Rattle.window_model.specs.Access.{Access, Faults, Forwards, Looks, Waits, Line, Hits, Joins, Takes, Request, access_at, look_up, joined, request, request_by, requests, line_behind, prefetches, prefetched, unless_lacking, all_covered, any_store_hidden}
 use Rattle.window_model.specs.Issue.{Begun, Port, AluPort, AddressPort, DataPort, DivPort, LoadPort, issue_entry, issue_parts, issue_whole, may_issue, may_issue_as, goes_behind, is_whole, ready_part, part_may, begin_as, begun, busy_until_both, if_granted, data_events, with_address, with_data, load_as, access_of, effect_of, waits, is_division, is_granted, may_at, port_of, same_port, after_load}
 use Rattle.window_model.proofs.Booleans.{both, not_true}
@@ -33,13 +34,13 @@ use Rattle.window_model.proofs.Counts.{Goes, goes_same, goes_then, Evolves}
 
 pub record MayIssue (d : Desc) (now : Around) (b : List Entry) (e : Entry) : Type 0 where
   pub waits : is_waiting e.state ≡ true
-  pub ready : ready b e ≡ true
+  pub ready : ready d b e ≡ true
   pub kind : may_issue_as e.item.kind d now b e ≡ true
 
 pub may_parts : (d : Desc) (now : Around) (b : List Entry) (e : Entry) → may_issue d now b e ≡ true → MayIssue d now b e
 may_parts d now b e h =
-    let p = both (is_waiting e.state && ready b e) _ h in
-    let q = both (is_waiting e.state) (ready b e) p.0 in
+    let p = both (is_waiting e.state && ready d b e) _ h in
+    let q = both (is_waiting e.state) (ready d b e) p.0 in
     record { waits = q.0; ready = q.1; kind = p.1 }
 
 pub load_clean : (k : Kind) (d : Desc) (now : Around) (b : List Entry) (e : Entry) → may_issue_as k d now b e ≡ true → is_load k ≡ true → address_tainted d.stt_model b e ≡ false
@@ -102,25 +103,25 @@ asks_division d now b e h = let a = asks_whole d now DivPort b e refl h in (a.ma
 -- ---- a store's parts
 
 -- a store's part that may go: it hasn't, and its own source is there
-pub record MayGo (has : Bool) (own : List ℕ) (b : List Entry) : Type 0 where
+pub record MayGo (d : Desc) (has : Bool) (own : List ℕ) (b : List Entry) : Type 0 where
   pub fresh : has ≡ false
-  pub known : all_known b own ≡ true
+  pub known : all_known d b own ≡ true
 
-known_base : (b : List Entry) (rs : List ℕ) → all_known b rs ≡ true → all_known b (base_of rs) ≡ true
-known_base b [] h = refl
-known_base b (r ∷ rs) h = let q = (both (is_known b r) (all_known b rs) h).0 in rw q refl
+known_base : (d : Desc) (b : List Entry) (rs : List ℕ) → all_known d b rs ≡ true → all_known d b (base_of rs) ≡ true
+known_base d b [] h = refl
+known_base d b (r ∷ rs) h = let q = (both (is_known d b r) (all_known d b rs) h).0 in rw q refl
 
-known_others : (b : List Entry) (rs : List ℕ) → all_known b rs ≡ true → all_known b (others_of rs) ≡ true
-known_others b [] h = refl
-known_others b (r ∷ rs) h = (both (is_known b r) (all_known b rs) h).1
+known_others : (d : Desc) (b : List Entry) (rs : List ℕ) → all_known d b rs ≡ true → all_known d b (others_of rs) ≡ true
+known_others d b [] h = refl
+known_others d b (r ∷ rs) h = (both (is_known d b r) (all_known d b rs) h).1
 
-own_ready : (v : Bool) (own : List ℕ) (b : List Entry) (e : Entry) → (ready b e ≡ true → all_known b own ≡ true) → (if v then ready b e && is_whole e else all_known b own) ≡ true → all_known b own ≡ true
-own_ready true own b e f h = f (both (ready b e) _ h).0
-own_ready false own b e f h = h
+own_ready : (d : Desc) (v : Bool) (own : List ℕ) (b : List Entry) (e : Entry) → (ready d b e ≡ true → all_known d b own ≡ true) → (if v then ready d b e && is_whole e else all_known d b own) ≡ true → all_known d b own ≡ true
+own_ready d true own b e f h = f (both (ready d b e) _ h).0
+own_ready d false own b e f h = h
 
-go_of : (has : Bool) (d : Desc) (own : List ℕ) (b : List Entry) (e : Entry) → (ready b e ≡ true → all_known b own ≡ true) → (not has && ready_part d own b e) ≡ true → MayGo has own b
+go_of : (has : Bool) (d : Desc) (own : List ℕ) (b : List Entry) (e : Entry) → (ready d b e ≡ true → all_known d b own ≡ true) → (not has && ready_part d own b e) ≡ true → MayGo d has own b
 go_of has d own b e f h =
-    let p = both (not has) _ h in record { fresh = not_true has p.0; known = own_ready (d.version == 1) own b e f p.1 }
+    let p = both (not has) _ h in record { fresh = not_true has p.0; known = own_ready d (d.version == 1) own b e f p.1 }
 
 -- ---- what becomes of it
 
@@ -134,22 +135,22 @@ gone_parts now b address data_ e =
 -- an entry remains as it is, or begins
 pub data Comes (e r : Entry) : Type 0 where
   Remains : r ≡ e → Comes e r
-  Begins : (due : ℕ) (o : Outcome) → r ≡ begun e due o → Comes e r
+  Begins : (cycle due : ℕ) (o : Outcome) → r ≡ begun cycle e due o → Comes e r
 
 load_comes : (a : Access) (d : Desc) (now : Around) (e : Entry) (f : Effect) (v : ℕ) → Comes e (load_as a d now e f v).entry
-load_comes (Faults c) d now e f v = Begins _ _ refl
-load_comes Forwards d now e f v = Begins _ _ refl
-load_comes (Looks found ahead) d now e f v = Begins _ _ refl
+load_comes (Faults c) d now e f v = Begins _ _ _ refl
+load_comes Forwards d now e f v = Begins _ _ _ refl
+load_comes (Looks found ahead) d now e f v = Begins _ _ _ refl
 load_comes Waits d now e f v = Remains refl
 
 pub begin_comes : (k : Kind) (d : Desc) (now : Around) (b : List Entry) (e : Entry) → Comes e (begin_as k d now b e).entry
 begin_comes Load d now b e = load_comes (access_of d now b e) d now e _ _
-begin_comes _ d now b e = Begins _ _ refl
+begin_comes _ d now b e = Begins _ _ _ refl
 
 -- what holds of an entry that remains, of one that begins and of a store whose parts go holds of what Issue makes of it
 module _ (d : Desc) (now : Around) (b : List Entry) (e : Entry) (P : Entry → Type 0) (remains : P e)
     (begins : is_store e.item.kind ≡ false → MayIssue d now b e → P (begin_as e.item.kind d now b e).entry)
-    (parts : is_store e.item.kind ≡ true → (a c : Bool) → (a ≡ true → MayGo (has_address e) (base_of (sources e)) b) → (c ≡ true → MayGo (has_data e) (others_of (sources e)) b) → P (gone_parts now b a c e)) where
+    (parts : is_store e.item.kind ≡ true → (a c : Bool) → (a ≡ true → MayGo d (has_address e) (base_of (sources e)) b) → (c ≡ true → MayGo d (has_data e) (others_of (sources e)) b) → P (gone_parts now b a c e)) where
   granted_if : (a c : Bool) → P (gone_parts now b a c e) → P (if_granted c (with_data now (effect_of now.regs b e)) (data_events d e) (if_granted a (with_address now (effect_of now.regs b e)) (event.Agu e.serial ∷ []) e).entry).entry
   granted_if true true h = h
   granted_if true false h = h
@@ -160,8 +161,8 @@ module _ (d : Desc) (now : Around) (b : List Entry) (e : Entry) (P : Entry → T
   by_store s =
       granted_if (is_granted d now AddressPort b e) (is_granted d now DataPort b e)
       (parts s _ _
-      (λ g. go_of (has_address e) d (base_of (sources e)) b e (known_base b (sources e)) (may_go (is_store e.item.kind) s _ _ (both (may_at d now AddressPort b e) _ g).0))
-      (λ g. go_of (has_data e) d (others_of (sources e)) b e (known_others b (sources e)) (may_go (is_store e.item.kind) s _ _ (both (may_at d now DataPort b e) _ g).0)))
+      (λ g. go_of (has_address e) d (base_of (sources e)) b e (known_base d b (sources e)) (may_go (is_store e.item.kind) s _ _ (both (may_at d now AddressPort b e) _ g).0))
+      (λ g. go_of (has_data e) d (others_of (sources e)) b e (known_others d b (sources e)) (may_go (is_store e.item.kind) s _ _ (both (may_at d now DataPort b e) _ g).0)))
     where
       may_go : (s : Bool) → s ≡ true → (p m : Bool) → (if s then p else m) ≡ true → p ≡ true
       may_go true q p m h = h
@@ -185,7 +186,7 @@ module _ (d : Desc) (now : Around) (b : List Entry) (e : Entry) (P : Entry → T
 
 comes_goes : (e r : Entry) → Comes e r → Goes e r
 comes_goes e r (Remains q) = subst (Goes e) (sym q) (goes_same e)
-comes_goes e r (Begins due o q) = subst (Goes e) (sym q) (record { item = refl; serial = refl; waits = λ h. absurd (cc) })
+comes_goes e r (Begins cycle due o q) = subst (Goes e) (sym q) (record { item = refl; serial = refl; waits = λ h. absurd (cc) })
 
 pub begin_goes : (k : Kind) (d : Desc) (now : Around) (b : List Entry) (e : Entry) → Goes e (begin_as k d now b e).entry
 begin_goes k d now b e = comes_goes e _ (begin_comes k d now b e)

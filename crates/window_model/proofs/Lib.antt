@@ -15,8 +15,10 @@ pub mod Registers
 pub mod Issuing
 pub mod Resolving
 pub mod Placing
+pub mod Clearing
 pub mod Leaving
 pub mod Walks
 pub mod Quiet
 pub mod Telling
 pub mod Together
+pub mod Withheld

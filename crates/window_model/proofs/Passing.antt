@@ -1,48 +1,52 @@
--- What passes goes on to, as it becomes Done, begins or is resolved; and which entries don't pass.
+-- What passes goes on to, as it becomes Done, begins, is resolved or is cleared; and which entries don't pass.
 use Rattle.std.proofs.Common.{◌≡◌, ℕ, Bool, true, false, not, ◌&&◌, ◌||◌, None, refl, ap, ap₂, sym, ◌∙◌}
 use Rattle.std.specs.Prelude.{is_some}
 use Rattle.rv_types.specs.declared.Kind.{Kind}
 use Rattle.rv_types.specs.declared.Kind.TheVariants.{Load, Store, Branch, Jalr, Call, Stop}
 use Rattle.machine_desc.specs.declared.SttModel.{SttModel}
-use Rattle.machine_desc.specs.declared.SttModel.TheVariants.{Spectre, Futuristic}
+use Rattle.machine_desc.specs.declared.SttModel.TheVariants.{Spectre, Futuristic, Off}
 use Rattle.window_model.specs.declared.Entry.{Entry}
 use Rattle.window_model.specs.declared.Outcome.{Outcome}
 use Rattle.window_model.specs.declared.Progress.TheVariants.{Done}
 use Rattle.window_model.specs.Rename.{is_call}
 use Rattle.window_model.specs.Issue.{begun}
-use Rattle.window_model.specs.Order.{is_control, is_done, is_faulty, is_waiting}
+use Rattle.window_model.specs.Clear.{cleared_one}
+use Rattle.window_model.specs.Order.{is_control, is_done, is_faulty, is_store, is_waiting}
 use Rattle.window_model.specs.Retire.{may_leave, trap_as, trap_of}
-use Rattle.window_model.specs.Taint.{passes, safe_as, settled_as}
+use Rattle.window_model.specs.Taint.{passes, protects, safe_as, settled_as}
 use Rattle.window_model.proofs.Booleans.{both, waiting_done}
 
 -- ---- what passes still does
 
 done_as : (k : Kind) (e : Entry) → safe_as k e ≡ true → safe_as k (record e { state = Done }) ≡ true
 done_as Load e h = (both (is_done e.state) _ h).1
-done_as Store e h = (both (is_done e.state) _ h).1
+done_as Store e h = let p = both (is_done e.state && not (is_faulty e)) _ h in ap₂ (λ a c. a && c) (both (is_done e.state) _ p.0).1 p.1
 done_as _ e h = h
 
 -- once it is Done
 pub passes_done : (m : SttModel) (e : Entry) → passes m e ≡ true → passes m (record e { state = Done }) ≡ true
 passes_done Spectre e h = h
 passes_done Futuristic e h = done_as e.item.kind e h
+passes_done Off e h = refl
 
-begun_as : (k : Kind) (e : Entry) (due : ℕ) (o : Outcome) → is_done e.state ≡ false → e.resolved ≡ false → safe_as k (begun e due o) ≡ safe_as k e
-begun_as Load e due o d u = sym (ap (λ d. d && not (is_faulty e)) d)
-begun_as Store e due o d u = sym (ap (λ d. d && not (is_faulty e)) d)
-begun_as Branch e due o d u = ap (λ r. r && not (is_some o.fault)) u ∙ sym (ap (λ r. r && not (is_faulty e)) u)
-begun_as Jalr e due o d u = ap (λ r. r && not (is_some o.fault)) u ∙ sym (ap (λ r. r && not (is_faulty e)) u)
-begun_as _ e due o d u = refl
+begun_as : (k : Kind) (e : Entry) (cycle due : ℕ) (o : Outcome) → is_done e.state ≡ false → e.resolved ≡ false → safe_as k (begun cycle e due o) ≡ safe_as k e
+begun_as Load e cycle due o d u = sym (ap (λ d. d && not (is_faulty e)) d)
+begun_as Store e cycle due o d u = sym (ap (λ d. d && not (is_faulty e) && e.cleared) d)
+begun_as Branch e cycle due o d u = ap (λ r. r && not (is_some o.fault)) u ∙ sym (ap (λ r. r && not (is_faulty e)) u)
+begun_as Jalr e cycle due o d u = ap (λ r. r && not (is_some o.fault)) u ∙ sym (ap (λ r. r && not (is_faulty e)) u)
+begun_as _ e cycle due o d u = refl
 
 -- once it has issued; and what doesn't pass doesn't then
-pub passes_begun : (m : SttModel) (e : Entry) (due : ℕ) (o : Outcome) → is_waiting e.state ≡ true → e.resolved ≡ false → passes m (begun e due o) ≡ passes m e
-passes_begun Spectre e due o w u = refl
-passes_begun Futuristic e due o w u = begun_as e.item.kind e due o (waiting_done e.state w) u
+pub passes_begun : (m : SttModel) (e : Entry) (cycle due : ℕ) (o : Outcome) → is_waiting e.state ≡ true → e.resolved ≡ false → passes m (begun cycle e due o) ≡ passes m e
+passes_begun Spectre e cycle due o w u = refl
+passes_begun Futuristic e cycle due o w u = begun_as e.item.kind e cycle due o (waiting_done e.state w) u
+passes_begun Off e cycle due o w u = refl
 
-settled_resolved : (k : Kind) → settled_as k true ≡ true
-settled_resolved Branch = refl
-settled_resolved Jalr = refl
-settled_resolved _ = refl
+settled_resolved : (k : Kind) (r c : Bool) → settled_as k r c ≡ true → settled_as k true c ≡ true
+settled_resolved Branch r c h = refl
+settled_resolved Jalr r c h = refl
+settled_resolved Store r c h = h
+settled_resolved _ r c h = refl
 
 resolved_as : (k : Kind) (e : Entry) → safe_as k e ≡ true → safe_as k (record e { resolved = true }) ≡ true
 resolved_as Branch e h = (both e.resolved _ h).1
@@ -51,41 +55,86 @@ resolved_as _ e h = h
 
 -- once it is resolved
 pub passes_resolved : (m : SttModel) (e : Entry) → passes m e ≡ true → passes m (record e { resolved = true }) ≡ true
-passes_resolved Spectre e h = settled_resolved e.item.kind
+passes_resolved Spectre e h = settled_resolved e.item.kind e.resolved e.cleared h
 passes_resolved Futuristic e h = resolved_as e.item.kind e h
+passes_resolved Off e h = refl
+
+settled_cleared : (k : Kind) (r c : Bool) → settled_as k r c ≡ true → settled_as k r true ≡ true
+settled_cleared Branch r c h = h
+settled_cleared Jalr r c h = h
+settled_cleared Store r c h = refl
+settled_cleared _ r c h = refl
+
+cleared_as : (k : Kind) (e : Entry) → safe_as k e ≡ true → safe_as k (cleared_one e) ≡ true
+cleared_as Load e h = h
+cleared_as Store e h = ap (λ a. a && true) (both (is_done e.state && not (is_faulty e)) _ h).0
+cleared_as Branch e h = h
+cleared_as Jalr e h = h
+cleared_as Call e h = h
+cleared_as (Stop cause) e h = h
+cleared_as _ e h = refl
+
+-- once it is cleared
+pub passes_cleared : (m : SttModel) (e : Entry) → passes m e ≡ true → passes m (cleared_one e) ≡ true
+passes_cleared Spectre e h = settled_cleared e.item.kind e.resolved e.cleared h
+passes_cleared Futuristic e h = cleared_as e.item.kind e h
+passes_cleared Off e h = refl
 
 -- ---- what passes, and what doesn't
 
-left_settled : (k : Kind) (r : Bool) → (not (is_control k) || r) ≡ true → settled_as k r ≡ true
-left_settled Branch r h = h
-left_settled Jalr r h = h
-left_settled _ r h = refl
+left_settled : (k : Kind) (r c : Bool) → (not (is_control k) || r) ≡ true → (is_store k ≡ true → c ≡ true) → settled_as k r c ≡ true
+left_settled Branch r c h w = h
+left_settled Jalr r c h w = h
+left_settled Store r c h w = w refl
+left_settled _ r c h w = refl
 
-left_safe : (k : Kind) (e : Entry) → is_done e.state ≡ true → (not (is_control k) || e.resolved) ≡ true → trap_as k e ≡ None → is_call k ≡ false → safe_as k e ≡ true
-left_safe Load e d r t c = ap₂ (λ a f. a && not (is_some f)) d t
-left_safe Store e d r t c = ap₂ (λ a f. a && not (is_some f)) d t
-left_safe Branch e d r t c = ap₂ (λ a f. a && not (is_some f)) r t
-left_safe Jalr e d r t c = ap₂ (λ a f. a && not (is_some f)) r t
-left_safe Call e d r t c = absurd (cc)
-left_safe (Stop cause) e d r t c = absurd (cc)
-left_safe _ e d r t c = refl
+left_safe : (k : Kind) (e : Entry) → is_done e.state ≡ true → (not (is_control k) || e.resolved) ≡ true → trap_as k e ≡ None → is_call k ≡ false →
+    (is_store k ≡ true → e.cleared ≡ true) → safe_as k e ≡ true
+left_safe Load e d r t c w = ap₂ (λ a f. a && not (is_some f)) d t
+left_safe Store e d r t c w = ap₂ (λ a b. a && b) (ap₂ (λ a f. a && not (is_some f)) d t) (w refl)
+left_safe Branch e d r t c w = ap₂ (λ a f. a && not (is_some f)) r t
+left_safe Jalr e d r t c w = ap₂ (λ a f. a && not (is_some f)) r t
+left_safe Call e d r t c w = absurd (cc)
+left_safe (Stop cause) e d r t c w = absurd (cc)
+left_safe _ e d r t c w = refl
 
--- an entry that may leave without a trap passes, but for a call
-pub passes_leaving : (m : SttModel) (e : Entry) → may_leave e ≡ true → trap_of e ≡ None → is_call e.item.kind ≡ false → passes m e ≡ true
-passes_leaving Spectre e l t c = left_settled e.item.kind e.resolved (both (is_done e.state) _ l).1
-passes_leaving Futuristic e l t c = let b = both (is_done e.state) _ l in left_safe e.item.kind e b.0 b.1 t c
+-- an entry that may leave without a trap passes, but for a call, and a store once it is cleared
+pub passes_leaving : (m : SttModel) (e : Entry) → may_leave e ≡ true → trap_of e ≡ None → is_call e.item.kind ≡ false →
+    (is_store e.item.kind ≡ true → e.cleared ≡ true) → passes m e ≡ true
+passes_leaving Spectre e l t c w = left_settled e.item.kind e.resolved e.cleared (both (is_done e.state) _ l).1 w
+passes_leaving Futuristic e l t c w = let b = both (is_done e.state) _ l in left_safe e.item.kind e b.0 b.1 t c w
+passes_leaving Off e l t c w = refl
 
-unsettled_as : (k : Kind) (r : Bool) → is_control k ≡ true → r ≡ false → settled_as k r ≡ false
-unsettled_as Branch r c u = u
-unsettled_as Jalr r c u = u
-unsettled_as _ r c u = absurd (cc)
+unsettled_as : (k : Kind) (r c : Bool) → is_control k ≡ true → r ≡ false → settled_as k r c ≡ false
+unsettled_as Branch r c i u = u
+unsettled_as Jalr r c i u = u
+unsettled_as _ r c i u = absurd (cc)
 
 unsafe_as : (k : Kind) (e : Entry) → is_control k ≡ true → e.resolved ≡ false → safe_as k e ≡ false
 unsafe_as Branch e c u = ap (λ b. b && not (is_faulty e)) u
 unsafe_as Jalr e c u = ap (λ b. b && not (is_faulty e)) u
 unsafe_as _ e c u = absurd (cc)
 
--- a branch or JALR that is not resolved doesn't pass, whichever the model
-pub unresolved_fails : (m : SttModel) (e : Entry) → is_control e.item.kind ≡ true → e.resolved ≡ false → passes m e ≡ false
-unresolved_fails Spectre e c u = unsettled_as e.item.kind e.resolved c u
-unresolved_fails Futuristic e c u = unsafe_as e.item.kind e c u
+-- a branch or JALR that is not resolved doesn't pass, under each model that protects
+pub unresolved_fails : (m : SttModel) (e : Entry) → protects m ≡ true → is_control e.item.kind ≡ true → e.resolved ≡ false → passes m e ≡ false
+unresolved_fails Spectre e p c u = unsettled_as e.item.kind e.resolved e.cleared c u
+unresolved_fails Futuristic e p c u = unsafe_as e.item.kind e c u
+unresolved_fails Off e p c u = absurd (cc)
+
+uncleared_as : (k : Kind) (r c : Bool) → is_store k ≡ true → c ≡ false → settled_as k r c ≡ false
+uncleared_as Store r c s u = u
+uncleared_as _ r c s u = absurd (cc)
+
+hidden_as : (k : Kind) (e : Entry) → is_store k ≡ true → e.cleared ≡ false → safe_as k e ≡ false
+hidden_as Store e s u = ap (λ c. is_done e.state && not (is_faulty e) && c) u ∙ and_false (is_done e.state && not (is_faulty e))
+  where
+    and_false : (b : Bool) → (b && false) ≡ false
+    and_false true = refl
+    and_false false = refl
+hidden_as _ e s u = absurd (cc)
+
+-- nor does a store that isn't cleared
+pub uncleared_fails : (m : SttModel) (e : Entry) → protects m ≡ true → is_store e.item.kind ≡ true → e.cleared ≡ false → passes m e ≡ false
+uncleared_fails Spectre e p s u = uncleared_as e.item.kind e.resolved e.cleared s u
+uncleared_fails Futuristic e p s u = hidden_as e.item.kind e s u
+uncleared_fails Off e p s u = absurd (cc)

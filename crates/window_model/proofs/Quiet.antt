@@ -9,6 +9,7 @@ use Rattle.window_model.specs.State.{Machine, then_does, nothing}
 use Rattle.window_model.specs.Order.{first}
 use Rattle.window_model.specs.Fill.{fill, complete}
 use Rattle.window_model.specs.Resolve.{resolve}
+use Rattle.window_model.specs.Clear.{clear}
 use Rattle.window_model.specs.Retire.{hart_of, retire, unless_ended}
 use Rattle.window_model.specs.Around.{around}
 use Rattle.window_model.specs.Issue.{LoadPort, issue, may_at}
@@ -17,6 +18,7 @@ use Rattle.window_model.specs.Fetch.{fetch}
 use Rattle.window_model.specs.Cycle.{after_retire, before_retire, begins_cycle, cycle}
 use Rattle.window_model.proofs.Issuing.{by_after_load}
 use Rattle.window_model.proofs.Placing.{resolve_keep}
+use Rattle.window_model.proofs.Clearing.{clear_keep}
 use Rattle.window_model.proofs.Walks.{rename_keep, fetch_keep}
 
 pub record Quiet (x y : Machine) : Type 0 where
@@ -38,6 +40,11 @@ complete_quiet x = record { hart = refl; retired = refl; ended = refl }
 
 pub resolve_quiet : (d : Desc) (x : Machine) → Quiet x (resolve d x).machine
 resolve_quiet d x = resolve_keep d (Quiet x) (λ y p t q k. record { hart = k.hart; retired = k.retired; ended = k.ended }) (λ y p t q k. record { hart = k.hart; retired = k.retired; ended = k.ended }) x (quiet_same x)
+
+pub clear_quiet : (d : Desc) (x : Machine) → Quiet x (clear d x).machine
+clear_quiet d x =
+    clear_keep d (Quiet x) (λ y p t k. record { hart = k.hart; retired = k.retired; ended = k.ended })
+    (λ y p q t v k. record { hart = k.hart; retired = k.retired; ended = k.ended }) x (quiet_same x)
 
 pub issue_quiet : (d : Desc) (x : Machine) → Quiet x (issue d x).machine
 issue_quiet d x =
@@ -65,9 +72,12 @@ before_quiet d x =
     let x1 = begins_cycle x in
     let x2 = (fill d x1).machine in
     let x3 = (complete x2).machine in
+    let x4 = (resolve d x3).machine in
+    let x5 = (clear d x4).machine in
     let begun : Quiet x x1 = record { hart = refl; retired = refl; ended = refl } in
-    quiet_then x x1 (resolve d x3).machine begun
-    (quiet_then x1 x2 (resolve d x3).machine (fill_quiet d x1) (quiet_then x2 x3 (resolve d x3).machine (complete_quiet x2) (resolve_quiet d x3)))
+    quiet_then x x1 x5 begun
+    (quiet_then x1 x2 x5 (fill_quiet d x1)
+    (quiet_then x2 x3 x5 (complete_quiet x2) (quiet_then x3 x4 x5 (resolve_quiet d x3) (clear_quiet d x4))))
 
 behind : (d : Desc) (code : Code) (o : Option End) (x : Machine) → Quiet x (unless_ended o (nothing x) (then_does (issue d x) (λ y. then_does (rename d y) (fetch d code)))).machine
 behind d code (Some e) x = quiet_same x

@@ -15,6 +15,7 @@ use Rattle.window_model.specs.Retire.{Retired, retire, turns, head_leaves, call_
 use Rattle.window_model.specs.Rename.{CallAlone, calls, is_call}
 use Rattle.window_model.proofs.Calls.{CallDoes, call_does}
 use Rattle.window_model.proofs.Counts.{count, count_is}
+use Rattle.window_model.proofs.Leaving.{is_first}
 use Rattle.window_model.proofs.Walks.{retire_by}
 
 -- an access has at most two lines
@@ -116,7 +117,7 @@ without_calls d x =
     let t = head_tells e.item.kind d e rest x in
     let m = more (ap (count calls) t.window ∙ o.1) in
     let c = then_tells (head_leaves e.item.kind d e rest x).events (behind d n stored x e rest).events (told_by e.item.kind) (left_by n (stored || is_store e.item.kind)) t.events m in
-    let k = one_turn e.item.kind n stored o.0 w in
+    let k = one_turn e.item.kind n stored o.0 (is_first stored e w) in
     omega (arith, c, k))
     (λ n stored x e rest cause u q l t h. omega arith) x
 

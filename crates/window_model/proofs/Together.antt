@@ -7,7 +7,8 @@ use Rattle.rv_types.specs.declared.Kind.TheVariants.{Mul, Div, Load}
 use Rattle.machine_desc.specs.declared.Desc.{Desc}
 use Rattle.window_model.specs.declared.Entry.{Entry}
 use Rattle.window_model.specs.Around.{Around}
-use Rattle.window_model.specs.Order.{is_store, has_address, has_data, ready, sources, base_of, others_of, all_known}
+use Rattle.window_model.specs.Order.{is_store, has_address, has_data, sources, base_of, others_of}
+use Rattle.window_model.specs.Ready.{ready, all_known}
 use Rattle.window_model.specs.Issue.{AddressPort, DataPort, asking, is_granted, may_at, may_issue, part_may, port_of, same_port}
 
 -- nothing in one piece asks for a port of stores
@@ -44,7 +45,7 @@ module _ (d : Desc) (now : Around) (first : d.version ≡ 1) where
   ask_together b e = by_kind (is_store e.item.kind)
     where
       by_kind : (s : Bool) → (if s then part_may DataPort d b e else may_issue d now b e && same_port (port_of e.item.kind) DataPort) ≡ (if s then part_may AddressPort d b e else may_issue d now b e && same_port (port_of e.item.kind) AddressPort)
-      by_kind true = parts_ask (has_address e) (has_data e) (ready b e) d.version (all_known b (base_of (sources e))) (all_known b (others_of (sources e))) first
+      by_kind true = parts_ask (has_address e) (has_data e) (ready d b e) d.version (all_known d b (base_of (sources e))) (all_known d b (others_of (sources e))) first
       by_kind false = let n = no_store_port e.item.kind in asks_neither (may_issue d now b e) _ _ n.0 n.1
 
   asking_together : (b : List Entry) → asking d now DataPort b ≡ asking d now AddressPort b

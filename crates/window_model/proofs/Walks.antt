@@ -1,5 +1,5 @@
 -- Retire, Rename and Fetch step by step, a cycle phase by phase, and a run cycle by cycle: what each step keeps, the whole keeps.
-use Rattle.std.proofs.Common.{◌≡◌, ℕ, zero, suc, ◌+◌, Bool, true, false, ◌&&◌, ◌||◌, List, [], ◌∷◌, length, Option, Some, None, refl, subst}
+use Rattle.std.proofs.Common.{◌≡◌, ℕ, zero, suc, ◌+◌, Bool, true, false, ◌||◌, List, [], ◌∷◌, length, Option, Some, None, refl, subst}
 use Rattle.std.specs.Prelude.{if◌then◌else◌, nat_lt}
 use Rattle.rv_types.specs.Memory.{Code}
 use Rattle.rv_types.specs.Isa.{Step, Goes, Exits, Traps, call}
@@ -15,9 +15,10 @@ use Rattle.window_model.specs.State.{Machine, After, then_does, nothing}
 use Rattle.window_model.specs.Order.{is_store}
 use Rattle.window_model.specs.Fill.{fill, complete}
 use Rattle.window_model.specs.Resolve.{resolve}
+use Rattle.window_model.specs.Clear.{clear}
 use Rattle.window_model.specs.Issue.{issue}
 use Rattle.window_model.specs.Cycle.{cycle, after_retire, after_cycles}
-use Rattle.window_model.specs.Retire.{Retired, retire, turns, turn, head_turn, head_leaves, call_leaves, hart_of, then_retires, stays, unless_ended, may_leave, trap_of, ends_with}
+use Rattle.window_model.specs.Retire.{Retired, retire, turns, turn, head_turn, head_leaves, call_leaves, hart_of, then_retires, stays, unless_ended, may_leave, trap_of, store_waits, ends_with}
 use Rattle.window_model.specs.Rename.{rename, rename_up_to, rename_from, rename_one, fits}
 use Rattle.window_model.specs.Fetch.{fetch, fetch_up_to, fetch_from, fetch_one, item_at}
 
@@ -41,12 +42,12 @@ pub data Halts (n : ℕ) (stored : Bool) (x : Machine) : Type 0 where
   HasEnded : (e : End) → x.end ≡ Some e → Halts n stored x
   NoHead : x.window ≡ [] → Halts n stored x
   HeadStays : (e : Entry) (rest : List Entry) → x.window ≡ e ∷ rest → may_leave e ≡ false → Halts n stored x
-  StoreWaits : (e : Entry) (rest : List Entry) → x.window ≡ e ∷ rest → (stored && is_store e.item.kind) ≡ true → Halts n stored x
+  StoreWaits : (e : Entry) (rest : List Entry) → x.window ≡ e ∷ rest → store_waits stored e ≡ true → Halts n stored x
 
 -- what holds of no turn, of an end, and of a turn with what follows it holds of so many turns
 module _ (d : Desc) (Q : ℕ → Bool → Machine → Retired → Type 0)
     (stops : (n : ℕ) (stored : Bool) (x : Machine) → Halts n stored x → Q n stored x (stays x))
-    (leaves : (n : ℕ) (stored : Bool) (x : Machine) (e : Entry) (rest : List Entry) → x.end ≡ None → x.window ≡ e ∷ rest → may_leave e ≡ true → trap_of e ≡ None → (stored && is_store e.item.kind) ≡ false →
+    (leaves : (n : ℕ) (stored : Bool) (x : Machine) (e : Entry) (rest : List Entry) → x.end ≡ None → x.window ≡ e ∷ rest → may_leave e ≡ true → trap_of e ≡ None → store_waits stored e ≡ false →
     (let y = (head_leaves e.item.kind d e rest x).machine in let s = stored || is_store e.item.kind in Q n s y (turns d n s y)) → Q (suc n) stored x (then_retires (head_leaves e.item.kind d e rest x) (turns d n (stored || is_store e.item.kind))))
     (ends : (n : ℕ) (stored : Bool) (x : Machine) (e : Entry) (rest : List Entry) (cause : Cause) → x.end ≡ None → x.window ≡ e ∷ rest → may_leave e ≡ true → trap_of e ≡ Some cause → Q n stored x (ends_with cause e x)) where
   abbrev Follow : ℕ → Type 0
@@ -54,9 +55,9 @@ module _ (d : Desc) (Q : ℕ → Bool → Machine → Retired → Type 0)
 
   by_trap : (n : ℕ) (stored : Bool) (o : Option Cause) (x : Machine) (e : Entry) (rest : List Entry) → x.end ≡ None → x.window ≡ e ∷ rest → may_leave e ≡ true → trap_of e ≡ o → Follow n → Q (suc n) stored x (turn d stored o e rest x (turns d n))
   by_trap n stored (Some cause) x e rest u q l t m = ends (suc n) stored x e rest cause u q l t
-  by_trap n stored None x e rest u q l t m = waits_or (stored && is_store e.item.kind) refl
+  by_trap n stored None x e rest u q l t m = waits_or (store_waits stored e) refl
     where
-      waits_or : (b : Bool) → (stored && is_store e.item.kind) ≡ b → Q (suc n) stored x (if b then stays x else then_retires (head_leaves e.item.kind d e rest x) (turns d n (stored || is_store e.item.kind)))
+      waits_or : (b : Bool) → store_waits stored e ≡ b → Q (suc n) stored x (if b then stays x else then_retires (head_leaves e.item.kind d e rest x) (turns d n (stored || is_store e.item.kind)))
       waits_or true w = stops (suc n) stored x (StoreWaits e rest q w)
       waits_or false w = leaves n stored x e rest u q l t w (m (stored || is_store e.item.kind) (head_leaves e.item.kind d e rest x).machine)
 
@@ -159,13 +160,13 @@ module _ (d : Desc) (P : Machine → Type 0) where
     after_keep x h = behind_keep x.end x h
 
     -- and each from Resolve on
-    module _ (resolves : (x : Machine) → P x → P (resolve d x).machine) (retires : (x : Machine) → P x → P (retire d x).machine) where
+    module _ (resolves : (x : Machine) → P x → P (resolve d x).machine) (clears : (x : Machine) → P x → P (clear d x).machine) (retires : (x : Machine) → P x → P (retire d x).machine) where
       -- a cycle has where its state after Complete has it
       pub completed_keep : (x : Machine) → P (complete (fill d (record x { cycle = x.cycle + 1 })).machine).machine → P (cycle d code x).machine
       unfolding cycle
       completed_keep x h =
-          let y = (resolve d (complete (fill d (record x { cycle = x.cycle + 1 })).machine).machine).machine in
-          after_keep (retire d y).machine (retires y (resolves _ h))
+          let y = (clear d (resolve d (complete (fill d (record x { cycle = x.cycle + 1 })).machine).machine).machine).machine in
+          after_keep (retire d y).machine (retires y (clears _ (resolves _ h)))
 
       -- and a cycle keeps what the first phases keep, too
       pub cycle_keep : ((x : Machine) → P x → P (record x { cycle = x.cycle + 1 })) → ((x : Machine) → P x → P (fill d x).machine) → ((x : Machine) → P x → P (complete x).machine) → (x : Machine) → P x → P (cycle d code x).machine

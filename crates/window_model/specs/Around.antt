@@ -3,12 +3,13 @@ use Rattle.std.specs.Prelude.{ℕ, Bool, nat_le, List}
 use Rattle.rv_types.specs.Memory.{Ram}
 use Rattle.window_model.specs.State.{Machine, Miss}
 
--- the cycle, registers and memory as retired, both levels of the cache, the miss registers, and from which cycle on the
--- divider is free
+-- the cycle, registers and memory as retired, the bits of dependence, both levels of the cache, the miss registers, and from
+-- which cycle on the divider is free
 pub record Around : Type 0 where
   pub cycle : ℕ
   pub regs : List ℕ
   pub ram : Ram
+  pub dependence : List Bool
   pub cache : List (List ℕ)
   pub second : List (List ℕ)
   pub misses : List Miss
@@ -20,6 +21,7 @@ around x = record {
   cycle = x.cycle;
   regs = x.regs;
   ram = x.ram;
+  dependence = x.dependence;
   cache = x.cache;
   second = x.second;
   misses = x.misses;

@@ -7,6 +7,7 @@ use Rattle.machine_desc.specs.declared.Desc.{Desc}
 use Rattle.window_model.specs.State.{Machine, After, opening, then_does, nothing}
 use Rattle.window_model.specs.Fill.{fill, complete}
 use Rattle.window_model.specs.Resolve.{resolve}
+use Rattle.window_model.specs.Clear.{clear}
 use Rattle.window_model.specs.Retire.{retire, unless_ended}
 use Rattle.window_model.specs.Issue.{issue}
 use Rattle.window_model.specs.Row.{Row}
@@ -25,13 +26,13 @@ begins_cycle x = record x { cycle = x.cycle + 1 }
 
 -- the phases before Retire
 abbrev pub before_retire : Desc → Machine → After
-before_retire d x = then_does (fill d x) (λ y. then_does (complete y) (resolve d))
+before_retire d x = then_does (fill d x) (λ y. then_does (complete y) (λ z. then_does (resolve d z) (clear d)))
 
 -- the phases after it, unless the run has ended
 abbrev pub after_retire : Desc → Code → Machine → After
 after_retire d code x = unless_ended x.end (nothing x) (then_does (issue d x) (λ y. then_does (rename d y) (fetch d code)))
 
--- one cycle: the seven phases, each on what the one before left
+-- one cycle: the seven phases, each on what the one before left; Resolve has two parts, of which Clear is the second
 unfoldable pub cycle : Desc → Code → Machine → Cycled
 cycle d code x =
     let before = before_retire d (begins_cycle x) in

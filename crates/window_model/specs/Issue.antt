@@ -20,8 +20,10 @@ use Rattle.window_model.specs.declared.Progress.{Progress}
 use Rattle.window_model.specs.declared.Progress.TheVariants.{Busy}
 use Rattle.window_model.specs.State.{Machine, After, Divider}
 use Rattle.window_model.specs.Around.{Around, around, is_free}
-use Rattle.window_model.specs.Order.{Place, first, each, is_waiting, is_done, is_store, has_address, has_data, operand, all_known, ready, sources, base_of, others_of}
+use Rattle.window_model.specs.Order.{Place, first, each, is_waiting, is_done, is_store, has_address, has_data, operand, sources, base_of, others_of}
 use Rattle.window_model.specs.Taint.{any_tainted, address_tainted}
+use Rattle.window_model.specs.Ready.{all_known, ready}
+use Rattle.window_model.specs.Dependence.{passing, waits_for_stores}
 use Rattle.window_model.specs.Retire.{op_of, width_of}
 use Rattle.window_model.specs.Access.{Access, Faults, Forwards, Looks, Waits, access, cache_after, covers, due_by, load_bytes, look_events, misses_after, second_after}
 
@@ -57,21 +59,26 @@ abbrev pub bytes_of : Around → List Entry → Entry → List ℕ
 bytes_of now before e =
     let a = address_of now.regs before e in unless_fault (load_fault now.ram a (width_of e)) (range a (width_of e))
 
--- a store lets a younger load of these bytes go: its address is known; and its data is, or its address is untainted and it
--- covers none of them
-abbrev pub lets : SttModel → List ℕ → List Entry → Entry → Bool
-lets model bytes before e =
-    has_address e && (has_data e || not (address_tainted model before e) && not (list_any (λ a. covers a e) bytes))
+-- the load passes stores of unknown address
+abbrev pub passes_stores : Desc → Around → Entry → Bool
+passes_stores d now e = passing d && not (waits_for_stores d now.dependence e.item.pc)
+
+-- a store lets a younger load of these bytes go: its address is known, or the load passes it; and its data is known, or its address
+-- is untainted and it covers none of them
+abbrev pub lets : SttModel → Bool → List ℕ → List Entry → Entry → Bool
+lets model passes bytes before e =
+    (has_address e || passes) && (has_data e || not (address_tainted model before e) && not (list_any (λ a. covers a e) bytes))
 
 -- each older store lets it go
-abbrev pub stores_let : SttModel → List ℕ → List Entry → Bool
-stores_let model bytes [] = true
-stores_let model bytes (e ∷ before) = (not (is_store e.item.kind) || lets model bytes before e) && stores_let model bytes before
+abbrev pub stores_let : SttModel → Bool → List ℕ → List Entry → Bool
+stores_let model passes bytes [] = true
+stores_let model passes bytes (e ∷ before) =
+    (not (is_store e.item.kind) || lets model passes bytes before e) && stores_let model passes bytes before
 
 -- what a load asks of the older stores: in version 1 that they are Done
 abbrev pub goes_behind : Desc → Around → List Entry → Entry → Bool
 goes_behind d now before e =
-    if d.version == 1 then stores_done before else stores_let d.stt_model (bytes_of now before e) before
+    if d.version == 1 then stores_done before else stores_let d.stt_model (passes_stores d now e) (bytes_of now before e) before
 
 -- what loads and divisions ask for besides
 abbrev pub may_issue_as : Kind → Desc → Around → List Entry → Entry → Bool
@@ -82,7 +89,7 @@ may_issue_as _ d now before e = true
 -- an entry in one piece: waiting and ready; a load with an untainted base, and behind stores that let it go; a division with
 -- untainted operands, and a divider that is free
 abbrev pub may_issue : Desc → Around → List Entry → Entry → Bool
-may_issue d now before e = is_waiting e.state && ready before e && may_issue_as e.item.kind d now before e
+may_issue d now before e = is_waiting e.state && ready d before e && may_issue_as e.item.kind d now before e
 
 -- ---- ports
 
@@ -123,7 +130,7 @@ is_whole e = not (has_address e || has_data e)
 
 -- what a part of a store waits for: its own register; in version 1 both, and it goes with the other part
 abbrev pub ready_part : Desc → List ℕ → List Entry → Entry → Bool
-ready_part d own before e = if d.version == 1 then ready before e && is_whole e else all_known before own
+ready_part d own before e = if d.version == 1 then ready d before e && is_whole e else all_known d before own
 
 -- a part of a store may issue at its port: it hasn't issued, and is ready
 abbrev pub part_may : Port → Desc → List Entry → Entry → Bool
@@ -155,9 +162,9 @@ fault_if misaligned = if misaligned then Some jump_misaligned else None
 abbrev pub outcome : Effect → ℕ → Option Cause → Outcome
 outcome f v fault = record { value = v; next = f.next; addr = f.addr; stored = f.stored; fault = fault }
 
--- the entry executes until a cycle
-abbrev pub begun : Entry → ℕ → Outcome → Entry
-begun e due o = record e { state = Busy due; outcome = Some o }
+-- the entry executes from this cycle until another
+abbrev pub begun : ℕ → Entry → ℕ → Outcome → Entry
+begun cycle e due o = record e { state = Busy due; outcome = Some o; issued = Some cycle }
 
 -- the entry and its events
 pub record Begun : Type 0 where
@@ -165,8 +172,8 @@ pub record Begun : Type 0 where
   pub events : List Event
 
 -- it issues, with these events
-abbrev pub begins : Entry → ℕ → Outcome → List Event → Begun
-begins e due o events = record { entry = begun e due o; events = events }
+abbrev pub begins : Around → Entry → ℕ → Outcome → List Event → Begun
+begins now e due o events = record { entry = begun now.cycle e due o; events = events }
 
 -- it stays as it is
 abbrev pub waits : Entry → Begun
@@ -178,9 +185,9 @@ value_loaded ram before e a = extend (op_of e.item.instr) (from_le (load_bytes r
 
 -- a load by what its access comes to: when it is done, and its events
 abbrev pub load_as : Access → Desc → Around → Entry → Effect → ℕ → Begun
-load_as (Faults cause) d now e f v = begins e (now.cycle + 1) (outcome f 0 (Some cause)) (event.LdFault e.serial ∷ [])
-load_as Forwards d now e f v = begins e (now.cycle + 1) (outcome f v None) (event.LdForward e.serial ∷ [])
-load_as (Looks found ahead) d now e f v = begins e (due_by d now found) (outcome f v None) (look_events e.serial found ahead)
+load_as (Faults cause) d now e f v = begins now e (now.cycle + 1) (outcome f 0 (Some cause)) (event.LdFault e.serial ∷ [])
+load_as Forwards d now e f v = begins now e (now.cycle + 1) (outcome f v None) (event.LdForward e.serial ∷ [])
+load_as (Looks found ahead) d now e f v = begins now e (due_by d now found) (outcome f v None) (look_events e.serial found ahead)
 load_as Waits d now e f v = waits e
 
 -- the access of a load
@@ -198,14 +205,14 @@ begin_as Load d now before e =
     load_as (access_of d now before e) d now e f (value_loaded now.ram before e f.addr)
 begin_as Mul d now before e =
     let f = effect_of now.regs before e in
-    begins e (now.cycle + d.units_mul_latency) (outcome f f.value None) (event.Mul e.serial ∷ [])
+    begins now e (now.cycle + d.units_mul_latency) (outcome f f.value None) (event.Mul e.serial ∷ [])
 begin_as Div d now before e =
     let f = effect_of now.regs before e in
     let time = time_of now.regs before e in
-    begins e (now.cycle + time) (outcome f f.value None) (event.Div e.serial time ∷ [])
+    begins now e (now.cycle + time) (outcome f f.value None) (event.Div e.serial time ∷ [])
 begin_as _ d now before e =
     let f = effect_of now.regs before e in
-    begins e (now.cycle + 1) (outcome f f.value (fault_if f.misaligned)) (event.Alu e.serial ∷ [])
+    begins now e (now.cycle + 1) (outcome f f.value (fault_if f.misaligned)) (event.Alu e.serial ∷ [])
 
 -- in one piece: an entry that is granted its port begins, any other waits
 abbrev pub issue_whole : Desc → Around → List Entry → Entry → Begun

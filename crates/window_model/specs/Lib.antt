@@ -4,12 +4,15 @@ pub mod State
 pub mod Order
 pub mod Serials
 pub mod Taint
+pub mod Ready
 pub mod SecondLevel
 pub mod Fill
 pub mod Resolve
+pub mod Dependence
 pub mod Retire
 pub mod Around
 pub mod Access
+pub mod Clear
 pub mod Issue
 pub mod Rename
 pub mod Fetch

@@ -1,7 +1,7 @@
 -- Entries by age (docs/machine.md, "Entries", "Writers and roots"). `before` is always a list of the older entries,
 -- youngest first: what an entry looks back on.
 use Rattle.std.specs.Prelude.{ℕ, Bool, true, false, ◌==◌, List, [], ◌∷◌, take, reverse, Option, Some, None, if◌then◌else◌, is_some}
-use Rattle.std.specs.List.{find, list_all}
+use Rattle.std.specs.List.{find}
 use Rattle.rv_types.specs.Isa.{reg}
 use Rattle.rv_types.specs.Regs.{reads_of, writes_of}
 use Rattle.rv_types.specs.declared.Cause.{Cause}
@@ -127,16 +127,3 @@ from_writer (Some e) v = value_of e.outcome
 -- a register's value: the writer's, or the retired one
 abbrev pub operand : List ℕ → List Entry → ℕ → ℕ
 operand regs before r = from_writer (writer before r) (reg regs r)
-
--- the register's writer has its value, or there is none
-abbrev pub is_known : List Entry → ℕ → Bool
-is_known [] r = true
-is_known (e ∷ before) r = if writes r e then is_done e.state else is_known before r
-
--- the writer of each of these registers has its value, or there is none
-abbrev pub all_known : List Entry → List ℕ → Bool
-all_known before rs = list_all (is_known before) rs
-
--- so it is with each source
-abbrev pub ready : List Entry → Entry → Bool
-ready before e = all_known before (sources e)

@@ -10,6 +10,7 @@ use Rattle.window_model.specs.declared.Item.{Item}
 use Rattle.window_model.specs.declared.Progress.TheVariants.{Waiting, Done}
 use Rattle.window_model.specs.State.{Machine, After, then_does, nothing}
 use Rattle.window_model.specs.Order.{is_waiting, is_load, is_store}
+use Rattle.window_model.specs.Dependence.{starts_cleared}
 
 -- an ECALL
 abbrev pub is_call : Kind → Bool
@@ -50,22 +51,24 @@ fits d window item =
     && (at_once item.kind || nat_lt (count_by (λ e. is_waiting e.state) window) d.core_stations)
 
 -- the item as an entry
-abbrev pub renamed : ℕ → Item → Entry
-renamed serial item =
+abbrev pub renamed : Desc → ℕ → Item → Entry
+renamed d serial item =
     record {
       serial = serial;
       item = item;
       state = if at_once item.kind then Done else Waiting;
       outcome = None;
       resolved = false;
+      issued = None;
       addr_due = None;
       data_due = None;
+      cleared = starts_cleared d item.kind;
     }
 
 -- the item goes behind the youngest entry, with the next serial
 abbrev pub rename_one : Desc → Item → List Item → Machine → After
 rename_one d item rest x = record {
-  machine = record x { window = x.window ++ renamed x.next_serial item ∷ []; queue = rest; next_serial = x.next_serial + 1 };
+  machine = record x { window = x.window ++ renamed d x.next_serial item ∷ []; queue = rest; next_serial = x.next_serial + 1 };
   events = event.Ren x.next_serial item.pc ∷ [];
 }
 

@@ -146,11 +146,15 @@ then_retires r more = let s = more r.machine in record { machine = s.machine; ev
 abbrev pub ends_with : Cause → Entry → Machine → Retired
 ends_with cause e x = stays (record x { end = Some (Trap cause e.item.pc) })
 
--- a head that may leave traps, or waits as a second store, or retires and the next turn follows
+-- a store waits behind another one of the cycle, and until it is cleared
+abbrev pub store_waits : Bool → Entry → Bool
+store_waits stored e = is_store e.item.kind && (stored || not e.cleared)
+
+-- a head that may leave traps, or waits as a store, or retires and the next turn follows
 abbrev pub turn : Desc → Bool → Option Cause → Entry → List Entry → Machine → (Bool → Machine → Retired) → Retired
 turn d stored (Some cause) e rest x more = ends_with cause e x
 turn d stored None e rest x more =
-    if stored && is_store e.item.kind then stays x
+    if store_waits stored e then stays x
     else then_retires (head_leaves e.item.kind d e rest x) (more (stored || is_store e.item.kind))
 
 -- a turn, if there is a head and it may leave

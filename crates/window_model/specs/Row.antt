@@ -41,6 +41,10 @@ most_done = most_entries
 abbrev pub most_resolved : ℕ
 most_resolved = 3
 
+-- of Clear: a store that is cleared, a load that passed it wrongly, the load's bit, and a squash
+abbrev pub most_cleared : ℕ
+most_cleared = 4
+
 -- of Retire: one for each of four entries, and two of the one store that retires a cycle; a call has one more, and is alone
 abbrev pub most_retired : ℕ
 most_retired = 6
@@ -56,7 +60,7 @@ most_fetched = 4
 
 -- of the phases before Retire
 abbrev pub most_before_retire : ℕ
-most_before_retire = most_filled + most_done + most_resolved
+most_before_retire = most_filled + most_done + most_resolved + most_cleared
 
 -- of those after it: Issue, Rename and Fetch
 abbrev pub most_after_retire : ℕ

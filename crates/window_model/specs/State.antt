@@ -1,5 +1,5 @@
 -- The machine's state: one list of instructions in program order, and what they share (docs/machine.md, "State").
-use Rattle.std.specs.Prelude.{ℕ, ◌+◌, ◌-◌, ◌*◌, ◌/◌, ◌==◌, List, [], ◌∷◌, ◌++◌, replicate, Option, Some, None, if◌then◌else◌}
+use Rattle.std.specs.Prelude.{ℕ, ◌+◌, ◌-◌, ◌*◌, ◌/◌, ◌==◌, Bool, false, List, [], ◌∷◌, ◌++◌, replicate, Option, Some, None, if◌then◌else◌}
 use Rattle.rv_types.specs.Memory.{Ram}
 use Rattle.rv_types.specs.Isa.{start}
 use Rattle.rv_types.specs.declared.End.{End}
@@ -28,6 +28,8 @@ pub record Machine : Type 0 where
   pub fetch_pc : Option ℕ
   pub counters : List ℕ
   pub targets : List (Option Target)
+  -- the bits of dependence: a set one tells loads to wait for the addresses of older stores
+  pub dependence : List Bool
   -- history and return stack, as the next item comes to be fetched
   pub mark : Mark
   -- of each level, per set a list of lines, most recent first
@@ -53,7 +55,7 @@ nothing x = record { machine = x; events = [] }
 abbrev pub then_does : After → (Machine → After) → After
 then_does a more = let b = more a.machine in record { machine = b.machine; events = a.events ++ b.events }
 
--- the first state: the instruction set's start, counters at 1, and all else empty
+-- the first state: the instruction set's start, counters at 1, no bit set, and all else empty
 abbrev pub opening : Desc → ℕ → Ram → Machine
 opening d entry ram =
     let s = start entry ram in
@@ -67,6 +69,7 @@ opening d entry ram =
       fetch_pc = Some entry;
       counters = replicate d.predictor_counters 1;
       targets = replicate d.predictor_btb None;
+      dependence = replicate d.predictor_depend false;
       mark = no_mark;
       cache = replicate d.cache_sets [];
       second = replicate d.cache_second_sets [];

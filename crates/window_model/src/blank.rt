@@ -52,8 +52,10 @@ impl Default for Entry {
           state = state.Done;
           outcome = None;
           resolved = false;
+          issued = None;
           addr_due = None;
           data_due = None;
+          cleared = true;
         } }
     {
         Entry {
@@ -62,8 +64,10 @@ impl Default for Entry {
             state: Progress::Done,
             outcome: None,
             resolved: false,
+            issued: None,
             addr_due: None,
             data_due: None,
+            cleared: true,
         }
     }
 }

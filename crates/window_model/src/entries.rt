@@ -114,19 +114,21 @@ impl Entry {
         ensures { result ≡ safe self.now }
     {
         match self.item.kind {
-            Kind::Load | Kind::Store => self.is_done() && !self.is_faulty(),
+            Kind::Load => self.is_done() && !self.is_faulty(),
+            Kind::Store => self.is_done() && !self.is_faulty() && self.cleared,
             Kind::Branch | Kind::Jalr => self.resolved && !self.is_faulty(),
             Kind::Call | Kind::Stop(_) => false,
             _ => true,
         }
     }
 
-    /// Whether the entry is no branch or JALR, or is resolved.
+    /// Whether the entry, if it is a branch or JALR, is resolved, and if it is a store, is cleared.
     pub fn is_settled(&self) -> bool
         ensures { result ≡ settled self.now }
     {
         match self.item.kind {
             Kind::Branch | Kind::Jalr => self.resolved,
+            Kind::Store => self.cleared,
             _ => true,
         }
     }

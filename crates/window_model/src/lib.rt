@@ -90,10 +90,14 @@ pub struct Entry {
     pub outcome: Option<Outcome>,
     /// A branch or JALR that has taken effect.
     pub resolved: bool,
+    /// The cycle in which it issued. Of a store none is kept: each of its parts has its own.
+    pub issued: Option<u64>,
     /// The cycle from which on a store's address is known: there once its address part has issued.
     pub addr_due: Option<u64>,
     /// The cycle from which on a store's data is known: there once its data part has issued.
     pub data_due: Option<u64>,
+    /// No store, or one whose address no younger load has to be asked about any more.
+    pub cleared: bool,
 }
 
 /// How a branch or JALR went.
@@ -135,6 +139,12 @@ pub enum Event {
     Bt(u32, u32),
     /// So many entries and fetched items were dropped.
     Sq(u32),
+    /// A store was cleared.
+    Clr(u64),
+    /// A load had passed that store wrongly, and was dropped.
+    Vio(u64),
+    /// A bit of dependence now has this value.
+    Dp(u32, u8),
     /// An entry retired.
     Ret(u64),
     /// A store wrote memory; a line of it, and whether the cache had it.

@@ -1,0 +1,69 @@
+-- Clear at its place: the store there is marked, and what is younger stays, or goes from a load on.
+use Rattle.std.proofs.Common.{◌≡◌, Bool, true, false, not, ◌&&◌, List, [], ◌∷◌, ◌++◌, refl, ap, sym, ◌∙◌}
+use Rattle.std.specs.Prelude.{if◌then◌else◌, reverse}
+use Rattle.machine_desc.specs.declared.Desc.{Desc}
+use Rattle.window_model.specs.declared.Entry.{Entry}
+use Rattle.window_model.specs.State.{Machine, nothing}
+use Rattle.window_model.specs.Order.{Place, first, has_address, is_store}
+use Rattle.window_model.specs.Taint.{address_tainted}
+use Rattle.window_model.specs.Dependence.{passing}
+use Rattle.window_model.specs.Clear.{clear, clear_at, clear_with, cleared_one, clears, is_violated, may_clear, violated_by, violates}
+use Rattle.window_model.proofs.Booleans.{both, not_true}
+use Rattle.window_model.proofs.Counts.{Goes}
+use Rattle.window_model.proofs.Places.{Found, by_place, older_is}
+
+-- ---- what it is
+
+-- a store that isn't cleared, with a known, untainted address
+pub record MayClear (d : Desc) (b : List Entry) (e : Entry) : Type 0 where
+  pub store : is_store e.item.kind ≡ true
+  pub fresh : e.cleared ≡ false
+  pub known : has_address e ≡ true
+  pub clean : address_tainted d.stt_model b e ≡ false
+
+pub clear_parts : (d : Desc) (b : List Entry) (e : Entry) → may_clear d b e ≡ true → MayClear d b e
+clear_parts d b e h =
+    let p = both (is_store e.item.kind && not e.cleared && has_address e) _ h in
+    let q = both (is_store e.item.kind && not e.cleared) _ p.0 in
+    let r = both (is_store e.item.kind) _ q.0 in
+    record { store = r.0; fresh = not_true e.cleared r.1; known = q.1; clean = not_true _ p.1 }
+
+pub cleared_goes : (e : Entry) → Goes e (cleared_one e)
+cleared_goes e = record { item = refl; serial = refl; waits = λ h. h }
+
+-- ---- where it stands
+
+-- what Clear knows of the store that it takes, and of the window
+pub record Cleared (d : Desc) (x : Machine) (p : Place) : Type 0 where
+  pub passing : passing d ≡ true
+  pub window : x.window ≡ reverse p.before ++ p.entry ∷ p.younger
+  pub parts : MayClear d p.before p.entry
+
+-- and of the load that is violated
+pub record Violated (p q : Place) : Type 0 where
+  pub younger : p.younger ≡ reverse q.before ++ q.entry ∷ q.younger
+  pub has : is_violated p.entry q.entry ≡ true
+
+stands_at : (t : List Entry → Entry → Bool) (w : List Entry) (p : Place) → Found t [] w p → w ≡ reverse p.before ++ p.entry ∷ p.younger
+stands_at t w p f = f.all ∙ ap (λ o. o ++ p.entry ∷ p.younger) (sym (older_is t w p f))
+
+-- what is kept where a store is cleared alone, and where a load goes with it, Clear keeps
+module _ (d : Desc) (P : Machine → Type 0)
+    (stays : (x : Machine) (p : Place) → Cleared d x p → P x → P (clears p x).machine)
+    (cuts : (x : Machine) (p q : Place) → Cleared d x p → Violated p q → P x → P (violates d p q x).machine) where
+  by_violated : (x : Machine) (p : Place) → Cleared d x p → P x → P (clear_with d p (violated_by p) x).machine
+  by_violated x p t h =
+      by_place (λ between e. is_violated p.entry e) p.younger (λ o. P (clear_with d p o x).machine) (stays x p t h)
+      (λ q f. cuts x p q t (record { younger = stands_at (λ between e. is_violated p.entry e) p.younger q f; has = f.has }) h)
+
+  by_store : passing d ≡ true → (x : Machine) → P x → P (clear_at d (first (may_clear d) x.window) x).machine
+  by_store a x h =
+      by_place (may_clear d) x.window (λ o. P (clear_at d o x).machine) h
+      (λ p f. by_violated x p (record { passing = a; window = stands_at (may_clear d) x.window p f; parts = clear_parts d p.before p.entry f.has }) h)
+
+  pub clear_keep : (x : Machine) → P x → P (clear d x).machine
+  clear_keep x h = by_passing (passing d) refl
+    where
+      by_passing : (b : Bool) → passing d ≡ b → P (if b then clear_at d (first (may_clear d) x.window) x else nothing x).machine
+      by_passing true a = by_store a x h
+      by_passing false a = h

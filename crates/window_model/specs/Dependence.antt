@@ -1,0 +1,26 @@
+-- Which loads may pass stores of unknown address (docs/machine.md, "Clear").
+use Rattle.std.specs.Prelude.{ℕ, Bool, true, false, not, ◌&&◌, nat_lt, List, slice_set, slice_index_or}
+use Rattle.rv_types.specs.declared.Kind.{Kind}
+use Rattle.machine_desc.specs.declared.Desc.{Desc}
+use Rattle.window_model.specs.Order.{is_store}
+use Rattle.window_model.specs.Resolve.{index}
+
+-- there are bits of dependence: loads may pass stores of unknown address, unless a bit tells them to wait
+abbrev pub passing : Desc → Bool
+passing d = nat_lt 0 d.predictor_depend
+
+-- where the bit of a load at this address stands
+abbrev pub bit_index : Desc → ℕ → ℕ
+bit_index d pc = index pc d.predictor_depend
+
+-- the load's bit is set
+abbrev pub waits_for_stores : Desc → List Bool → ℕ → Bool
+waits_for_stores d dependence pc = slice_index_or dependence (bit_index d pc) false
+
+-- the bits once a load at this address has passed a store wrongly: its own is set for good
+abbrev pub bit_set : Desc → ℕ → List Bool → List Bool
+bit_set d pc dependence = slice_set dependence (bit_index d pc) true
+
+-- what an item is in the window from its first cycle on: cleared, unless it is a store that loads may pass
+abbrev pub starts_cleared : Desc → Kind → Bool
+starts_cleared d k = not (passing d && is_store k)
