@@ -190,7 +190,7 @@ parts_left past cycle w h = each_map (PartsDue past) (completed cycle) w (each_t
 -- what begins has the parts that it had
 begun_parts : (n : ℕ) (e r : Entry) → Comes e r → PartsDue n e → PartsDue n r
 begun_parts n e r (Remains q) h = subst (PartsDue n) (sym q) h
-begun_parts n e r (Begins due o q) h = subst (PartsDue n) (sym q) h
+begun_parts n e r (Begins cycle due o q) h = subst (PartsDue n) (sym q) h
 
 gone_parts_due : (now : Around) (b : List Entry) (e : Entry) (a c : Bool) → PartsDue now.cycle e → PartsDue now.cycle (gone_parts now b a c e)
 gone_parts_due now b e true true h = (omega arith, omega arith)
@@ -209,7 +209,7 @@ divider_soon x (Some p) h = let n = time_in x.regs p.before p.entry in omega (ar
 
 -- ---- what is renamed
 
-pub due_new : (d : Desc) (past cycle serial : ℕ) (i : Item) → IsDue d past cycle (renamed serial i)
+pub due_new : (d : Desc) (past cycle serial : ℕ) (i : Item) → IsDue d past cycle (renamed d serial i)
 due_new d past cycle serial i = by_kind (at_once i.kind)
   where
     by_kind : (b : Bool) → DueSoon past cycle (latency i.kind d) (if b then Done else Waiting)

@@ -8,6 +8,7 @@ use Rattle.machine_desc.proofs.Versions.{most_up_to}
 use Rattle.window_model.specs.State.{Machine, After, opening, then_does, nothing}
 use Rattle.window_model.specs.Fill.{fill, complete}
 use Rattle.window_model.specs.Resolve.{resolve}
+use Rattle.window_model.specs.Clear.{clear}
 use Rattle.window_model.specs.Retire.{retire, unless_ended}
 use Rattle.window_model.specs.Issue.{issue}
 use Rattle.window_model.specs.Rename.{rename}
@@ -20,24 +21,29 @@ use Rattle.window_model.proofs.Walks.{run_keep}
 use Rattle.machine_facts.specs.Sized.{Sized}
 use Rattle.machine_facts.specs.Timely.{Counted}
 use Rattle.machine_facts.proofs.Adds.{Adds, joined, fill_adds, complete_adds, resolve_adds, retire_turns, rename_renames, fetch_adds}
+use Rattle.machine_facts.proofs.ClearPhases.{clear_adds}
 use Rattle.machine_facts.proofs.Ports.{issue_adds}
 use Rattle.machine_facts.proofs.SizedRun.{sized_at_retire}
 
 -- ---- the phases before Retire, and those after it
 
-before_adds : (d : Desc) (x : Machine) → Adds (length x.misses + (length x.window + 3)) x (before_retire d x)
+before_adds : (d : Desc) (x : Machine) → Adds (length x.misses + (length x.window + 7)) x (before_retire d x)
 before_adds d x =
     let a = fill d x in
     let b = complete a.machine in
     let c = resolve d b.machine in
     let p = fill_adds d x in
     let q = complete_adds a.machine in
+    let e = clear d c.machine in
     let r = resolve_adds d b.machine in
+    let s = clear_adds d c.machine in
     record {
-      events = joined (length x.misses) (length x.window + 3) a.events (b.events ++ c.events) p.events (joined (length x.window) 3 b.events c.events q.events r.events);
-      cycle = r.cycle ∙ q.cycle ∙ p.cycle;
-      serials = r.serials ∙ q.serials ∙ p.serials;
-      retired = r.retired ∙ q.retired ∙ p.retired;
+      events =
+          joined (length x.misses) (length x.window + 7) a.events (b.events ++ (c.events ++ e.events)) p.events
+          (joined (length x.window) 7 b.events (c.events ++ e.events) q.events (joined 3 4 c.events e.events r.events s.events));
+      cycle = s.cycle ∙ r.cycle ∙ q.cycle ∙ p.cycle;
+      serials = s.serials ∙ r.serials ∙ q.serials ∙ p.serials;
+      retired = s.retired ∙ r.retired ∙ q.retired ∙ p.retired;
     }
 
 -- the phases after Retire, with as many events besides those of Rename
@@ -72,7 +78,7 @@ few_events d code x i s =
     let f = before_retire d x1 in
     let r = retire d f.machine in
     let k = after_retire d code r.machine in
-    let n = length x.misses + (length x.window + 3) in
+    let n = length x.misses + (length x.window + 7) in
     let few = retire_few d f.machine (sized_at_retire d x i s).call_alone in
     let w = joined n (d.core_retire_width + 2) f.events r.events (before_adds d x1).events few in
     let rob = most_up_to 64 192 d.version d.core_rob (lit≤ tt) i.rob.1 in
@@ -80,7 +86,7 @@ few_events d code x i s =
     small (length ((f.events ++ r.events) ++ k.events)) (length x.misses) (length x.window) d.core_retire_width d.units_alus d.core_fetch_width all
     (omega (arith, s.misses, i.mshrs.1)) (omega (arith, s.entries, rob)) i.retire_width.1 i.alus.1 i.fetch_width.1
   where
-    small : (n m w r u f : ℕ) → n ≤ m + (w + 3) + (r + 2) + (u + 7 + (f + f)) → m ≤ 8 → w ≤ 192 → r ≤ 4 → u ≤ 4 → f ≤ 4 → n ≤ most_events
+    small : (n m w r u f : ℕ) → n ≤ m + (w + 7) + (r + 2) + (u + 7 + (f + f)) → m ≤ 8 → w ≤ 192 → r ≤ 4 → u ≤ 4 → f ≤ 4 → n ≤ most_events
     small n m w r u f h a b c e g = omega arith
 
 pub cycle_number : (d : Desc) (code : Code) (x : Machine) → (cycle d code x).machine.cycle ≡ x.cycle + 1

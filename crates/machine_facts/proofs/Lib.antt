@@ -7,6 +7,7 @@ pub mod Marks
 pub mod SizedWindow
 pub mod SizedPhases
 pub mod SizedRetire
+pub mod ClearPhases
 pub mod SizedRun
 pub mod Serials
 pub mod Stores

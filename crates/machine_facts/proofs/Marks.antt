@@ -33,6 +33,7 @@ use Rattle.window_model.proofs.Lists.{each_join, each_left, each_right, each_pus
 use Rattle.window_model.proofs.Placing.{Taken, resolve_keep}
 use Rattle.window_model.proofs.Resolving.{resolved_one}
 use Rattle.window_model.proofs.Walks.{cycle_keep, fetch_keep, heads_keep, rename_keep, run_keep}
+use Rattle.machine_facts.proofs.ClearPhases.{marked_clear}
 use Rattle.machine_facts.specs.Marks.{FitsMark, Marked}
 
 -- ---- what an instruction makes of them
@@ -121,7 +122,7 @@ module _ (d : Desc) where
   marked_rename =
       rename_keep d (Marked d) (λ x i rest q f h.
       let items = subst (Each ItemFits) q h.items in
-      record { next = h.next; entries = each_push EntryFits x.window (renamed x.next_serial i) h.entries items.0; items = items.1 })
+      record { next = h.next; entries = each_push EntryFits x.window (renamed d x.next_serial i) h.entries items.0; items = items.1 })
 
   marked_fetch : (code : Code) (x : Machine) → Marked d x → Marked d (fetch d code x).machine
   marked_fetch code =
@@ -133,7 +134,7 @@ module _ (d : Desc) where
 
   pub marked_cycle : (code : Code) (x : Machine) → Marked d x → Marked d (cycle d code x).machine
   marked_cycle code x h =
-      cycle_keep d (Marked d) code marked_issue marked_rename (marked_fetch code) marked_resolve marked_retire
+      cycle_keep d (Marked d) code marked_issue marked_rename (marked_fetch code) marked_resolve (marked_clear d) marked_retire
       (λ x h. record { next = h.next; entries = h.entries; items = h.items }) (λ x h. record { next = h.next; entries = h.entries; items = h.items }) marked_complete x h
 
 pub marked_at : (d : Desc) (code : Code) (entry : ℕ) (ram : Ram) (k : ℕ) → IsDesc d → Marked d (at d code entry ram k)

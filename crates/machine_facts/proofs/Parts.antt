@@ -55,6 +55,7 @@ pub record Fits (d : Desc) (x : Machine) : Type 0 where
   pub cache : CacheFits d x.cache
   pub second : SecondFits d x.second
   pub misses : length x.misses ≤ d.cache_mshrs
+  pub dependence : length x.dependence ≡ d.predictor_depend
   pub registers : length x.regs ≡ 32
 
 each_entry : (d : Desc) (ram : Ram) (w : List Entry) → Each (λ (e : Entry). HasKind e.item) w → Each (FitsMemory ram) w → Each HasOutcome w → Each HasParts w → Each (Together d) w → Each (IsEntry d ram) w
@@ -70,6 +71,7 @@ parts d x s = record {
   cache = record { sets = s.sets; ways = s.ways };
   second = record { sets = s.second_sets; ways = s.second_ways };
   misses = s.misses;
+  dependence = s.dependence;
   registers = s.registers;
 }
 
@@ -88,6 +90,7 @@ whole d x f = record {
   second_sets = f.second.sets;
   second_ways = f.second.ways;
   misses = f.misses;
+  dependence = f.dependence;
   registers = f.registers;
   kinds = each_then (IsEntry d x.ram) (λ (e : Entry). HasKind e.item) (λ e h. h.kind) x.window f.entries;
   item_kinds = f.queue.item_kinds;

@@ -110,8 +110,8 @@ last_rest e rest q n t h =
 
 -- ---- what is renamed and fetched
 
-pub last_new : (serial : ℕ) (i : Item) → is_last (renamed serial i) ≡ is_stop i.kind
-last_new serial i = by (is_stop i.kind) (is_done (renamed serial i).state)
+pub last_new : (d : Desc) (serial : ℕ) (i : Item) → is_last (renamed d serial i) ≡ is_stop i.kind
+last_new d serial i = by (is_stop i.kind) (is_done (renamed d serial i).state)
   where
     by : (s t : Bool) → (s || t && false) ≡ s
     by true t = refl

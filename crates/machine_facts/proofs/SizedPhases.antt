@@ -52,6 +52,7 @@ sized_opening d entry ram i = whole d (opening d entry ram) (record {
   cache = record { sets = length-replicate d.cache_sets _; ways = each_replicate (λ (lines : List ℕ). length lines ≤ d.cache_ways) d.cache_sets [] (omega arith) };
   second = record { sets = length-replicate d.cache_second_sets _; ways = each_replicate (λ (lines : List ℕ). length lines ≤ d.cache_second_ways) d.cache_second_sets [] (omega arith) };
   misses = omega arith;
+  dependence = length-replicate d.predictor_depend _;
   registers = refl;
 })
 
@@ -60,7 +61,7 @@ sized_opening d entry ram i = whole d (opening d entry ram) (record {
 pub sized_begin : (d : Desc) (x : Machine) → IsDesc d → Sized d x → Sized d (record x { cycle = x.cycle + 1 })
 sized_begin d x i s =
     let f = parts d x s in
-    whole d (record x { cycle = x.cycle + 1 }) (record { window = f.window; entries = f.entries; queue = f.queue; predictor = f.predictor; cache = f.cache; second = f.second; misses = f.misses; registers = f.registers })
+    whole d (record x { cycle = x.cycle + 1 }) (record { window = f.window; entries = f.entries; queue = f.queue; predictor = f.predictor; cache = f.cache; second = f.second; misses = f.misses; dependence = f.dependence; registers = f.registers })
 
 pub sized_fill : (d : Desc) (x : Machine) → IsDesc d → Sized d x → Sized d (fill d x).machine
 sized_fill d x i s =
@@ -74,6 +75,7 @@ sized_fill d x i s =
       cache = filled_fits d (lines (filter (is_due x.cycle) x.misses)) x.cache f.cache;
       second = second_filled_fits d (lines (filter (λ (m : Miss). m.from_memory) (filter (is_due x.cycle) x.misses))) x.second f.second;
       misses = omega (arith, n, f.misses);
+      dependence = f.dependence;
       registers = f.registers;
     })
 
@@ -101,6 +103,7 @@ sized_complete d x i s =
       cache = f.cache;
       second = f.second;
       misses = f.misses;
+      dependence = f.dependence;
       registers = f.registers;
     })
 
@@ -141,6 +144,7 @@ module _ (d : Desc) where
       cache = f.cache;
       second = f.second;
       misses = f.misses;
+      dependence = f.dependence;
       registers = f.registers;
     })
 
@@ -153,6 +157,7 @@ module _ (d : Desc) where
       cache = f.cache;
       second = f.second;
       misses = f.misses;
+      dependence = f.dependence;
       registers = f.registers;
     })
 
@@ -197,7 +202,7 @@ after_same : (d : Desc) (x : Machine) (o : Option Place) (w : List Entry) (v : D
 after_same d x o w v f e g =
     let s = after_shares d x o (record { cache = g.cache; second = g.second; misses = g.misses }) in
     by_after_load d x (λ y. SharedFits d y.cache y.second y.misses → Sized d (record y { window = w; divider = v }))
-    (λ cache second misses s. whole d _ (record { window = f; entries = e; queue = g.queue; predictor = g.predictor; cache = s.cache; second = s.second; misses = s.misses; registers = g.registers })) o s
+    (λ cache second misses s. whole d _ (record { window = f; entries = e; queue = g.queue; predictor = g.predictor; cache = s.cache; second = s.second; misses = s.misses; dependence = g.dependence; registers = g.registers })) o s
 
 pub sized_issue : (d : Desc) (x : Machine) → IsDesc d → Sized d x → Sized d (issue d x).machine
 sized_issue d x i s =
@@ -212,7 +217,7 @@ store_waits : (k : Kind) → is_store k ≡ true → false ≡ not (is_waiting (
 store_waits Store h = refl
 store_waits _ h = absurd (cc)
 
-renamed_entry : (d : Desc) (ram : Ram) (i : Item) (serial : ℕ) → HasKind i → IsEntry d ram (renamed serial i)
+renamed_entry : (d : Desc) (ram : Ram) (i : Item) (serial : ℕ) → HasKind i → IsEntry d ram (renamed d serial i)
 renamed_entry d ram i serial h = record { kind = h; memory = λ s a. tt; outcome = λ s a. absurd (cc); parts = store_waits i.kind; together = λ v s. refl }
 
 -- an item that fits is renamed
@@ -223,12 +228,13 @@ rename_item d x i rest q r s =
     let items = subst (Each HasKind) q f.queue.item_kinds in
     whole d (rename_one d i rest x).machine (record {
       window = renamed_fits d x.window i x.next_serial r f.window;
-      entries = each_push (IsEntry d x.ram) x.window (renamed x.next_serial i) f.entries (renamed_entry d x.ram i x.next_serial items.0);
+      entries = each_push (IsEntry d x.ram) x.window (renamed d x.next_serial i) f.entries (renamed_entry d x.ram i x.next_serial items.0);
       queue = record { queue = omega (arith, n, f.queue.queue); item_kinds = items.1 };
       predictor = f.predictor;
       cache = f.cache;
       second = f.second;
       misses = f.misses;
+      dependence = f.dependence;
       registers = f.registers;
     })
 
@@ -258,6 +264,7 @@ fetch_item d code x pc q r s =
       cache = f.cache;
       second = f.second;
       misses = f.misses;
+      dependence = f.dependence;
       registers = f.registers;
     })
 

@@ -69,6 +69,7 @@ module _ (d : Desc) (ram : Ram) where
           cache = c;
           second = f.second;
           misses = f.misses;
+          dependence = f.dependence;
           registers = n ∙ f.registers;
         });
         shape = shape_then ram x.ram ram2 h.shape k;
@@ -97,7 +98,7 @@ module _ (d : Desc) (ram : Ram) where
   ends : (x : Machine) (end : End) → Lies d ram x → Lies d ram (record x { end = Some end })
   ends x end h =
       let f = parts d x h.sized in
-      record { sized = whole d _ (record { window = f.window; entries = f.entries; queue = f.queue; predictor = f.predictor; cache = f.cache; second = f.second; misses = f.misses; registers = f.registers }); shape = h.shape }
+      record { sized = whole d _ (record { window = f.window; entries = f.entries; queue = f.queue; predictor = f.predictor; cache = f.cache; second = f.second; misses = f.misses; dependence = f.dependence; registers = f.registers }); shape = h.shape }
 
   retire_lies : (x : Machine) → Lies d ram x → Lies d ram (retire d x).machine
   retire_lies = heads_keep d (Lies d ram) leaves ends

@@ -8,17 +8,19 @@ use Rattle.window_model.specs.State.{Machine, opening}
 use Rattle.window_model.specs.Cycle.{begins_cycle, cycle, at}
 use Rattle.window_model.proofs.Walks.{cycle_keep, run_keep}
 use Rattle.window_model.specs.Fill.{fill, complete}
+use Rattle.window_model.specs.Resolve.{resolve}
 use Rattle.window_model.specs.Retire.{retire}
 use Rattle.rv_types.specs.Isa.{Hart}
 use Rattle.window_model.proofs.Quiet.{at_retire, cycle_is, before_quiet, after_quiet}
 use Rattle.machine_facts.specs.Sized.{Sized}
 use Rattle.machine_facts.proofs.SizedPhases.{sized_opening, sized_begin, sized_fill, sized_complete, sized_resolve, sized_issue, sized_rename, sized_fetch}
+use Rattle.machine_facts.proofs.ClearPhases.{sized_clear}
 use Rattle.machine_facts.proofs.SizedRetire.{sized_retire, memory_stays_retire}
 use Rattle.window_model.proofs.Memory.{same_shape, shape_then}
 
 pub sized_cycle : (d : Desc) (code : Code) (x : Machine) → IsDesc d → Sized d x → Sized d (cycle d code x).machine
 sized_cycle d code x i s =
-    cycle_keep d (Sized d) code (λ x. sized_issue d x i) (λ x. sized_rename d x i) (λ x. sized_fetch d code x i) (λ x. sized_resolve d x i) (λ x. sized_retire d x i)
+    cycle_keep d (Sized d) code (λ x. sized_issue d x i) (λ x. sized_rename d x i) (λ x. sized_fetch d code x i) (λ x. sized_resolve d x i) (λ x. sized_clear d x i) (λ x. sized_retire d x i)
     (λ x. sized_begin d x i) (λ x. sized_fill d x i) (λ x. sized_complete d x i) x s
 
 pub sized_at : (d : Desc) (code : Code) (entry : ℕ) (ram : Ram) (k : ℕ) → IsDesc d → Sized d (at d code entry ram k)
@@ -30,7 +32,7 @@ sized_at_retire d x i s =
     let x1 = begins_cycle x in
     let x2 = (fill d x1).machine in
     let x3 = (complete x2).machine in
-    sized_resolve d x3 i (sized_complete d x2 i (sized_fill d x1 i (sized_begin d x i s)))
+    sized_clear d (resolve d x3).machine i (sized_resolve d x3 i (sized_complete d x2 i (sized_fill d x1 i (sized_begin d x i s))))
 
 -- ---- memory
 

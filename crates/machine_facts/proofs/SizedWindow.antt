@@ -54,9 +54,9 @@ station_room : (b r : Bool) (n m : ℕ) → (b || r) ≡ true → (r ≡ true �
 station_room true r n m h k s = omega arith
 station_room false r n m h k s = let l = k h in omega arith
 
-pub renamed_fits : (d : Desc) (w : List Entry) (i : Item) (serial : ℕ) → fits d w i ≡ true → WindowFits d w → WindowFits d (w ++ renamed serial i ∷ [])
+pub renamed_fits : (d : Desc) (w : List Entry) (i : Item) (serial : ℕ) → fits d w i ≡ true → WindowFits d w → WindowFits d (w ++ renamed d serial i ∷ [])
 renamed_fits d w i serial f h =
-    let new = renamed serial i in
+    let new = renamed d serial i in
     let f1 = both (nat_lt (length w) d.core_rob && not (list_any calls w) && fits_as i.kind d w) _ f in
     let f2 = both (nat_lt (length w) d.core_rob && not (list_any calls w)) _ f1.0 in
     let f3 = both (nat_lt (length w) d.core_rob) _ f2.0 in

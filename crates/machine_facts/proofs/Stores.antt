@@ -17,6 +17,7 @@ use Rattle.window_model.specs.Retire.{retire}
 use Rattle.window_model.proofs.Lists.{each_join, each_left, each_right, each_then, each_map}
 use Rattle.window_model.proofs.Placing.{place_keep}
 use Rattle.window_model.proofs.Walks.{retire_keep, head_drops}
+use Rattle.machine_facts.proofs.ClearPhases.{clear_settles}
 use Rattle.machine_facts.specs.Laws.{NoStoreIsBusy}
 use Rattle.machine_facts.specs.Timely.{DueSoon, IsDue, WaitsOrDone, is_busy, latency}
 
@@ -55,4 +56,4 @@ retire_settles d = retire_keep d (λ x. Each WaitsOrDone x.window) (head_drops (
 
 -- from what holds between two cycles to Issue
 pub none_busy : NoStoreIsBusy
-none_busy d x h = retire_settles d _ (resolve_settles d _ (completed_settles d x.cycle x.window h.dues))
+none_busy d x h = retire_settles d _ (clear_settles d _ (resolve_settles d _ (completed_settles d x.cycle x.window h.dues)))

@@ -213,15 +213,15 @@ timely_issue d x i z k h =
 
 rename_item : (d : Desc) (x : Machine) (j : Item) (rest : List Item) → x.queue ≡ j ∷ rest → fits d x.window j ≡ true → Timely d x → Timely d (rename_one d j rest x).machine
 rename_item d x j rest q f h = record {
-  serials = rises_push 0 x.next_serial x.window (renamed x.next_serial j) refl h.serials;
-  dues = each_push (IsDue d x.cycle x.cycle) x.window (renamed x.next_serial j) h.dues (due_new d x.cycle x.cycle x.next_serial j);
-  parts = each_push (PartsDue x.cycle) x.window (renamed x.next_serial j) h.parts (tt, tt);
+  serials = rises_push 0 x.next_serial x.window (renamed d x.next_serial j) refl h.serials;
+  dues = each_push (IsDue d x.cycle x.cycle) x.window (renamed d x.next_serial j) h.dues (due_new d x.cycle x.cycle x.next_serial j);
+  parts = each_push (PartsDue x.cycle) x.window (renamed d x.next_serial j) h.parts (tt, tt);
   misses = h.misses;
   lines = h.lines;
   divider = h.divider;
   fetches = λ n.
       let before : last_item_from (last_from (is_some x.end) x.window) (j ∷ rest) ≡ true = ap (last_item_from (last_from (is_some x.end) x.window)) (sym q) ∙ h.fetches n in
-      ap (λ b. last_item_from b rest) (last_push (is_some x.end) x.window (renamed x.next_serial j) ∙ last_new x.next_serial j) ∙ before;
+      ap (λ b. last_item_from b rest) (last_push (is_some x.end) x.window (renamed d x.next_serial j) ∙ last_new d x.next_serial j) ∙ before;
   zero = h.zero;
 }
 

@@ -10,6 +10,7 @@ use Rattle.window_model.proofs.Walks.{completed_keep, run_keep}
 use Rattle.machine_facts.specs.Sized.{Sized}
 use Rattle.machine_facts.specs.Timely.{Timely}
 use Rattle.machine_facts.proofs.SizedPhases.{sized_opening, sized_begin, sized_fill, sized_complete, sized_resolve, sized_issue, sized_rename, sized_fetch}
+use Rattle.machine_facts.proofs.ClearPhases.{sized_clear, timely_clear}
 use Rattle.machine_facts.proofs.SizedRetire.{sized_retire}
 use Rattle.machine_facts.proofs.SizedRun.{sized_cycle}
 use Rattle.machine_facts.proofs.TimelyPhases.{timely_opening, timely_begin, timely_fill, timely_complete, timely_resolve, timely_retire, timely_issue, timely_rename, timely_fetch}
@@ -27,6 +28,7 @@ timely_cycle d code x i s h =
     (λ x b. record { sized = sized_rename d x i b.sized; timely = timely_rename d x i b.timely })
     (λ x b. record { sized = sized_fetch d code x i b.sized; timely = timely_fetch d code x i b.timely })
     (λ x b. record { sized = sized_resolve d x i b.sized; timely = timely_resolve d x i b.timely })
+    (λ x b. record { sized = sized_clear d x i b.sized; timely = timely_clear d x i b.timely })
     (λ x b. record { sized = sized_retire d x i b.sized; timely = timely_retire d x i b.timely }) x
     (record { sized = sized_complete d (fill d x1).machine i (sized_fill d x1 i (sized_begin d x i s)); timely = timely_complete x.cycle d (fill d x1).machine i refl arrived })).timely
 

@@ -69,6 +69,7 @@ pub record Sized (d : Desc) (x : Machine) : Type 0 where
   pub queue : length x.queue ≤ d.core_queue
   pub counters : length x.counters ≡ d.predictor_counters
   pub targets : length x.targets ≡ d.predictor_btb
+  pub dependence : length x.dependence ≡ d.predictor_depend
   pub sets : length x.cache ≡ d.cache_sets
   pub ways : Each (λ lines. length lines ≤ d.cache_ways) x.cache
   pub second_sets : length x.second ≡ d.cache_second_sets

@@ -4,7 +4,7 @@ use Rattle.rv_types.specs.declared.Ending.{Ending}
 use Rattle.line_text.specs.Digits.{hex8}
 use Rattle.line_text.specs.EndLine.{end_line}
 use Rattle.window_model.specs.declared.Event.{Event}
-use Rattle.window_model.specs.declared.Event.TheVariants.{Fill, Done, Res, Bp, Bt, Sq, Ret, St, Call, Alu, Mul, Div, Agu, Std, Ld, LdForward, LdFault, Pf, Ren, Fet}
+use Rattle.window_model.specs.declared.Event.TheVariants.{Fill, Done, Res, Bp, Bt, Sq, Clr, Vio, Dp, Ret, St, Call, Alu, Mul, Div, Agu, Std, Ld, LdForward, LdFault, Pf, Ren, Fet}
 use Rattle.window_model.specs.declared.Way.{Way}
 use Rattle.window_model.specs.declared.Way.TheVariants.{Taken, NotTaken, Jump}
 use Rattle.window_model.specs.declared.Look.{Look}
@@ -46,6 +46,9 @@ event_text (Res serial way) = codes "res" ++ and_number serial ++ way_text way
 event_text (Bp index value) = codes "bp" ++ and_number index ++ and_number value
 event_text (Bt index target) = codes "bt" ++ and_number index ++ and_address target
 event_text (Sq count) = codes "sq" ++ and_number count
+event_text (Clr serial) = codes "clr" ++ and_number serial
+event_text (Vio serial) = codes "vio" ++ and_number serial
+event_text (Dp index value) = codes "dp" ++ and_number index ++ and_number value
 event_text (Ret serial) = codes "ret" ++ and_number serial
 event_text (St serial line found) = codes "st" ++ and_number serial ++ and_address line ++ found_text found
 event_text (Call serial count) = codes "call" ++ and_number serial ++ and_number count

@@ -104,14 +104,14 @@ fn add_of_count(line: &mut Line, name: &[u8], serial: u64, count: u32)
     add_number(line, count);
 }
 
-// A counter of the branch predictor: its name, its index and its value.
+// What a place of a table holds now: its name, its index and its value.
 #[inline(always)]
-fn add_counter(line: &mut Line, index: u32, value: u8)
-    requires { length line.old + (NAME + NUMBER + 1 + NUMBER) ≤ LINE_MAX }
-    ensures text { line.new ≡ line.old ++ (codes " bp:" ++ decimal index ++ and_number value) }
-    ensures short { length line.new ≤ length line.old + (NAME + NUMBER + 1 + NUMBER) }
+fn add_place(line: &mut Line, name: &[u8], index: u32, value: u8)
+    requires { length line.old + (length name.now + NUMBER + 1 + NUMBER) ≤ LINE_MAX }
+    ensures text { line.new ≡ line.old ++ (name.now ++ decimal index ++ and_number value) }
+    ensures short { length line.new ≤ length line.old + (length name.now + NUMBER + 1 + NUMBER) }
 {
-    add_count(line, b" bp:", index);
+    add_count(line, name, index);
     add_number(line, value as u32);
 }
 
@@ -197,9 +197,12 @@ pub fn add_event(line: &mut Line, event: Event)
         Event::Fill(addr) => add_at(line, b" fill:", addr),
         Event::Done(serial) => add_of(line, b" done:", serial),
         Event::Res(serial, way) => add_of_text(line, b" res:", serial, &way_text(way)),
-        Event::Bp(index, value) => add_counter(line, index, value),
+        Event::Bp(index, value) => add_place(line, b" bp:", index, value),
         Event::Bt(index, target) => add_target(line, index, target),
         Event::Sq(count) => add_count(line, b" sq:", count),
+        Event::Clr(serial) => add_of(line, b" clr:", serial),
+        Event::Vio(serial) => add_of(line, b" vio:", serial),
+        Event::Dp(index, value) => add_place(line, b" dp:", index, value),
         Event::Ret(serial) => add_of(line, b" ret:", serial),
         Event::St(serial, addr, found) => add_of_at_text(
             line,

@@ -7,7 +7,7 @@ use window_model::{Event, Look, Way, empty_row};
 #[test]
 fn events(rt: HostRuntime) -> Result<(), Fail> {
     let alloc = rt.alloc();
-    let rows: [(Event, &[u8]); 26] = [
+    let rows: [(Event, &[u8]); 29] = [
         (Event::Fill(0x0001_fff0), b"7 fill:0001fff0\n"),
         (Event::Done(0), b"7 done:0\n"),
         (Event::Res(2, Way::Taken), b"7 res:2:T\n"),
@@ -19,6 +19,9 @@ fn events(rt: HostRuntime) -> Result<(), Fail> {
             b"7 bt:4294967295:fedcba98\n",
         ),
         (Event::Sq(7), b"7 sq:7\n"),
+        (Event::Clr(2), b"7 clr:2\n"),
+        (Event::Vio(3), b"7 vio:3\n"),
+        (Event::Dp(1023, 1), b"7 dp:1023:1\n"),
         (Event::Ret(3), b"7 ret:3\n"),
         (Event::St(2, 0x0001_fff0, true), b"7 st:2:0001fff0:h\n"),
         (Event::St(2, 0x0001_fff0, false), b"7 st:2:0001fff0:m\n"),
