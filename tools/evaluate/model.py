@@ -1,4 +1,4 @@
-"""The machine of docs/machine.md in Python: both versions, both models, without proof and without haste.
+"""The machine of docs/machine.md in Python: both versions, each model and defence, without proof and without haste.
 
 It is a second answer to what a trace is: it was written from that page, keeps one list of instructions as the page does, and searches
 it anew where the page asks a question. What single instructions do it has from tools/verdict, and images from there too.
@@ -12,7 +12,7 @@ sys.path.insert(0, os.path.dirname(os.path.dirname(os.path.abspath(__file__))))
 
 from verdict.hart import JUMP_MISALIGNED, Memory, stored_bytes, system_call
 from verdict.operation import SIZES, WORD, decode, division_time, effect, extend
-from view.description import OPTIONAL, SPECTRE
+from view.description import FUTURISTIC, HOLD, OPTIONAL, SPECTRE
 from view.instruction import BRANCH, CALL, DIVISION, JAL, JALR, LOAD, MULTIPLICATION, STOP, STORE
 
 WAITING, BUSY, DONE = "waiting", "busy", "done"
@@ -51,15 +51,16 @@ class Item:
 
 
 class Entry:
-    """An item in flight. `writers` are those of its sources: entries, or None for retired registers."""
+    """An item in flight. `writers` are those of its sources: entries, or None for retired registers. `cleared` is whether it is
+    from the start."""
 
-    def __init__(self, serial, item, writers):
+    def __init__(self, serial, item, writers, cleared):
         self.serial, self.item, self.kind, self.writers = serial, item, item.kind, writers
         self.state, self.due = (DONE if self.kind in (CALL, STOP) else WAITING), None
         self.value = self.address = self.stored = 0
         self.next = self.fault = None
-        self.address_due = self.data_due = None
-        self.resolved = False
+        self.issued = self.address_due = self.data_due = None
+        self.resolved, self.cleared = False, cleared
 
     @property
     def size(self):
@@ -67,18 +68,23 @@ class Entry:
 
     @property
     def settled(self):
-        return self.kind not in CONTROL or self.resolved
+        return self.resolved if self.kind in CONTROL else self.cleared
 
     @property
     def safe(self):
         if self.kind in (LOAD, STORE):
-            return self.state == DONE and self.fault is None
+            return self.state == DONE and self.fault is None and self.cleared
         return self.kind not in (CALL, STOP) and self.settled and (self.kind not in CONTROL or self.fault is None)
 
     def covers(self, byte):
         """It is a store with a known address and no fault, and writes this byte."""
         known = self.kind == STORE and self.address_due is not None and self.fault is None
         return known and self.address <= byte < self.address + self.size
+
+    def violates(self, load):
+        """It is a load that issued before this store's address was known, and neither has a fault, and they share a byte."""
+        passed = load.kind == LOAD and load.issued is not None and load.issued < self.address_due
+        return passed and load.fault is None and any(map(self.covers, range(load.address, load.address + load.size)))
 
 
 class Machine:
@@ -93,6 +99,7 @@ class Machine:
         self.window, self.queue, self.fetch_pc = [], [], image.entry
         self.counters, self.targets = [1] * numbers.counters, [None] * numbers.btb
         self.history, self.stack = 0, ()
+        self.waits_for_stores = [False] * numbers.depend
         self.cache, self.misses = [[] for _ in range(numbers.sets)], []
         self.second = [[] for _ in range(numbers.second_sets)]
         self.free_from, self.user = 0, None
@@ -109,9 +116,21 @@ class Machine:
                 for register, writer in zip(entry.item.operation.code.sources, entry.writers)]
 
     def known(self, entry, sources):
-        """The writers of these of its sources are Done or gone."""
+        """The writers of these of its sources give their values, or are gone."""
         writers = [entry.writers[source] for source in sources]
-        return all(writer is None or writer not in self.window or writer.state == DONE for writer in writers)
+        return all(writer is None or writer not in self.window or self.gives(writer) for writer in writers)
+
+    def gives(self, writer):
+        """It is Done, and where loads are held back until they are visible, isn't held back."""
+        held = self.d.defence == HOLD and writer.kind == LOAD and not self.is_visible(writer)
+        return writer.state == DONE and not held
+
+    def passes(self, entry):
+        """It doesn't keep what is younger from being visible."""
+        return entry.settled if self.d.model == SPECTRE else entry.safe if self.d.model == FUTURISTIC else True
+
+    def is_visible(self, entry):
+        return all(map(self.passes, self.window[:self.window.index(entry)]))
 
     def hidden_roots(self):
         """For each entry whether each of its sources is tainted: by the loads from which it flows that aren't visible."""
@@ -120,7 +139,7 @@ class Machine:
             by_source = [roots[writer.serial] if writer in self.window else set() for writer in entry.writers]
             tainted[entry.serial] = [bool(source) for source in by_source]
             roots[entry.serial] = set().union(*by_source) | ({entry.serial} if entry.kind == LOAD and not visible else set())
-            visible = visible and (entry.settled if self.d.model == SPECTRE else entry.safe)
+            visible = visible and self.passes(entry)
         return tainted
 
     # ---- cache
@@ -166,7 +185,7 @@ class Machine:
 
     def cycle(self):
         self.now += 1
-        events = self.fill() + self.complete() + self.resolve() + self.retire()
+        events = self.fill() + self.complete() + self.resolve() + self.clear() + self.retire()
         if self.end is None:
             events += self.issue() + self.rename() + self.fetch()
         return events
@@ -211,26 +230,54 @@ class Machine:
 
     def squash(self, entry):
         """Drops what is younger than this entry, and answers how much that is."""
-        keep = self.window.index(entry) + 1
+        dropped = self.drop_from(self.window.index(entry) + 1)
+        self.fetch_pc = None if entry.fault is not None else entry.next
+        self.history, self.stack = self.mark_behind(entry.item, taken=entry.value == 1)
+        return dropped
+
+    def drop_from(self, keep):
+        """Drops the entries from this place on, and the queue; answers how much that is."""
         dropped = len(self.window) - keep + len(self.queue)
         if self.user in self.window[keep:]:
             self.free_from, self.user = 0, None
         self.window, self.queue = self.window[:keep], []
-        self.fetch_pc = None if entry.fault is not None else entry.next
-        self.history, self.stack = self.mark_behind(entry.item, taken=entry.value == 1)
         return dropped
+
+    def clear(self):
+        """Clears the oldest store that may be, and drops the oldest load that passed it wrongly, with what is younger."""
+        tainted = self.hidden_roots()
+        able = [entry for entry in self.window if entry.kind == STORE and not entry.cleared and entry.address_due is not None
+                and not tainted[entry.serial][0]]
+        if not able:
+            return []
+        store = able[0]
+        store.cleared = True
+        violated = [load for load in self.window[self.window.index(store):] if store.violates(load)]
+        if not violated:
+            return [f"clr:{store.serial}"]
+        load = violated[0]
+        place = self.bit_of(load)
+        self.waits_for_stores[place] = True
+        dropped = self.drop_from(self.window.index(load))
+        self.fetch_pc = load.item.pc
+        self.history, self.stack = load.item.mark
+        return [f"clr:{store.serial}", f"vio:{load.serial}", f"dp:{place}:1", f"sq:{dropped}"]
+
+    def bit_of(self, load):
+        """Where the bit stands that tells a load to wait for the addresses of older stores."""
+        return load.item.pc // 4 % self.d.depend
 
     def retire(self):
         events, stored = [], False
         for _ in range(self.d.retire_width):
             head = self.window[0] if self.window else None
-            if head is None or head.state != DONE or not head.settled:
+            if head is None or head.state != DONE or head.kind in CONTROL and not head.resolved:
                 break
             if head.kind == STOP or head.fault is not None:
                 cause = head.item.cause if head.kind == STOP else head.fault
                 self.end = f"trap {cause} {head.item.pc:08x}"
                 break
-            if head.kind == STORE and stored:
+            if head.kind == STORE and (stored or not head.cleared):
                 break
             self.window.pop(0)
             self.retired += 1
@@ -282,8 +329,9 @@ class Machine:
         if self.d.version == 1:
             return all(store.state == DONE for store in stores)
         bytes_of_it = self.bytes_of(load)
+        passes = self.d.depend and not self.waits_for_stores[self.bit_of(load)]
         for store in stores:
-            if store.address_due is None:
+            if store.address_due is None and not passes:
                 return False
             if store.data_due is None and (tainted[store.serial][0] or any(map(store.covers, bytes_of_it))):
                 return False
@@ -319,7 +367,8 @@ class Machine:
         """What an entry or part comes to, as changes of entries, and its events."""
         item = entry.item
         found = effect(item.operation, item.pc, *self.operands(entry))
-        values = {"state": BUSY, "due": self.now + 1, "value": found.value, "next": found.next, "address": found.address}
+        values = {"state": BUSY, "due": self.now + 1, "issued": self.now, "value": found.value, "next": found.next,
+                  "address": found.address}
         if port == ADDRESS:
             fault = self.memory.fault(STORE, found.address, entry.size)
             part = {"next": found.next, "address": found.address, "fault": fault, "address_due": self.now + 1}
@@ -383,7 +432,8 @@ class Machine:
         while self.queue and len(events) < self.d.fetch_width and self.fits(self.queue[0]):
             item = self.queue.pop(0)
             writers = [self.writer(register, self.window) for register in item.operation.code.sources]
-            self.window.append(Entry(self.next_serial, item, writers))
+            cleared = item.kind != STORE or not self.d.depend
+            self.window.append(Entry(self.next_serial, item, writers, cleared))
             events.append(f"ren:{self.next_serial}:{item.pc:08x}")
             self.next_serial += 1
         return events

@@ -2,6 +2,7 @@
 use Rattle.std.proofs.Common.{refl, [], ◌∷◌}
 use Rattle.std.specs.List.{AllByRecursion as Each}
 use Rattle.machine_desc.specs.declared.SttModel.TheVariants.{Futuristic, Spectre}
+use Rattle.machine_desc.specs.declared.Defence.TheVariants.{Stt}
 use lib.Count.{ones}
 use lib.Utf8.{encode}
 use Rattle.std.specs.Float.Numeral.{scan_numeral}
@@ -166,7 +167,7 @@ unfolding ones encode scan_numeral digits count_leading_zeros chars is_utf8 skip
     decode zeros description_of document_fault end_fault key_fault keys_fault latency_fault registers_fault
     second_fault sections_fault top_fault half has_magic word header_fault code_of ram_after ram_fault segment_at
     end_line cycle fetch rename retire event_text events_text row_text rows_text trace_text
-across_two_lines_agrees = agrees across_two_lines (record { version = 2; numbers = 2 ∷ 2 ∷ 16 ∷ 8 ∷ 4 ∷ 4 ∷ 8 ∷ 2 ∷ 3 ∷ 16 ∷ 4 ∷ 2 ∷ 2 ∷ 16 ∷ 2 ∷ 10 ∷ 2 ∷ 65536 ∷ 65536 ∷ 1 ∷ 0 ∷ 0 ∷ 0 ∷ 1 ∷ 2 ∷ 0 ∷ []; model = Spectre }) refl refl refl refl refl
+across_two_lines_agrees = agrees across_two_lines (record { version = 2; numbers = 2 ∷ 2 ∷ 16 ∷ 8 ∷ 4 ∷ 4 ∷ 8 ∷ 2 ∷ 3 ∷ 16 ∷ 4 ∷ 2 ∷ 2 ∷ 16 ∷ 2 ∷ 10 ∷ 2 ∷ 65536 ∷ 65536 ∷ 1 ∷ 0 ∷ 0 ∷ 0 ∷ 0 ∷ 1 ∷ 2 ∷ 0 ∷ []; model = Spectre; defence = Stt }) refl refl refl refl refl
 
 branch_to_the_next_agrees : Agrees branch_to_the_next
 unfolding ones encode scan_numeral digits count_leading_zeros chars is_utf8 skip_from skip_ws decimal_number number
@@ -175,7 +176,7 @@ unfolding ones encode scan_numeral digits count_leading_zeros chars is_utf8 skip
     decode zeros description_of document_fault end_fault key_fault keys_fault latency_fault registers_fault
     second_fault sections_fault top_fault half has_magic word header_fault code_of ram_after ram_fault segment_at
     end_line cycle fetch rename retire event_text events_text row_text rows_text trace_text
-branch_to_the_next_agrees = agrees branch_to_the_next (record { version = 2; numbers = 2 ∷ 2 ∷ 16 ∷ 8 ∷ 4 ∷ 4 ∷ 8 ∷ 2 ∷ 3 ∷ 16 ∷ 4 ∷ 2 ∷ 2 ∷ 16 ∷ 2 ∷ 10 ∷ 2 ∷ 65536 ∷ 65536 ∷ 0 ∷ 2 ∷ 0 ∷ 0 ∷ 1 ∷ 2 ∷ 0 ∷ []; model = Spectre }) refl refl refl refl refl
+branch_to_the_next_agrees = agrees branch_to_the_next (record { version = 2; numbers = 2 ∷ 2 ∷ 16 ∷ 8 ∷ 4 ∷ 4 ∷ 8 ∷ 2 ∷ 3 ∷ 16 ∷ 4 ∷ 2 ∷ 2 ∷ 16 ∷ 2 ∷ 10 ∷ 2 ∷ 65536 ∷ 65536 ∷ 0 ∷ 0 ∷ 2 ∷ 0 ∷ 0 ∷ 1 ∷ 2 ∷ 0 ∷ []; model = Spectre; defence = Stt }) refl refl refl refl refl
 
 byte_at_its_end_covered_agrees : Agrees byte_at_its_end_covered
 unfolding ones encode scan_numeral digits count_leading_zeros chars is_utf8 skip_from skip_ws decimal_number number
@@ -184,7 +185,7 @@ unfolding ones encode scan_numeral digits count_leading_zeros chars is_utf8 skip
     decode zeros description_of document_fault end_fault key_fault keys_fault latency_fault registers_fault
     second_fault sections_fault top_fault half has_magic word header_fault code_of ram_after ram_fault segment_at
     end_line cycle fetch rename retire event_text events_text row_text rows_text trace_text
-byte_at_its_end_covered_agrees = agrees byte_at_its_end_covered (record { version = 2; numbers = 2 ∷ 2 ∷ 16 ∷ 8 ∷ 4 ∷ 4 ∷ 8 ∷ 2 ∷ 3 ∷ 16 ∷ 4 ∷ 2 ∷ 2 ∷ 16 ∷ 2 ∷ 10 ∷ 2 ∷ 65536 ∷ 65536 ∷ 1 ∷ 0 ∷ 0 ∷ 0 ∷ 1 ∷ 2 ∷ 0 ∷ []; model = Spectre }) refl refl refl refl refl
+byte_at_its_end_covered_agrees = agrees byte_at_its_end_covered (record { version = 2; numbers = 2 ∷ 2 ∷ 16 ∷ 8 ∷ 4 ∷ 4 ∷ 8 ∷ 2 ∷ 3 ∷ 16 ∷ 4 ∷ 2 ∷ 2 ∷ 16 ∷ 2 ∷ 10 ∷ 2 ∷ 65536 ∷ 65536 ∷ 1 ∷ 0 ∷ 0 ∷ 0 ∷ 0 ∷ 1 ∷ 2 ∷ 0 ∷ []; model = Spectre; defence = Stt }) refl refl refl refl refl
 
 covered_line_is_accessed_agrees : Agrees covered_line_is_accessed
 unfolding ones encode scan_numeral digits count_leading_zeros chars is_utf8 skip_from skip_ws decimal_number number
@@ -193,7 +194,7 @@ unfolding ones encode scan_numeral digits count_leading_zeros chars is_utf8 skip
     decode zeros description_of document_fault end_fault key_fault keys_fault latency_fault registers_fault
     second_fault sections_fault top_fault half has_magic word header_fault code_of ram_after ram_fault segment_at
     end_line cycle fetch rename retire event_text events_text row_text rows_text trace_text
-covered_line_is_accessed_agrees = agrees covered_line_is_accessed (record { version = 2; numbers = 2 ∷ 2 ∷ 16 ∷ 8 ∷ 4 ∷ 4 ∷ 8 ∷ 2 ∷ 3 ∷ 16 ∷ 4 ∷ 2 ∷ 2 ∷ 16 ∷ 2 ∷ 10 ∷ 2 ∷ 65536 ∷ 65536 ∷ 1 ∷ 0 ∷ 0 ∷ 0 ∷ 1 ∷ 2 ∷ 0 ∷ []; model = Spectre }) refl refl refl refl refl
+covered_line_is_accessed_agrees = agrees covered_line_is_accessed (record { version = 2; numbers = 2 ∷ 2 ∷ 16 ∷ 8 ∷ 4 ∷ 4 ∷ 8 ∷ 2 ∷ 3 ∷ 16 ∷ 4 ∷ 2 ∷ 2 ∷ 16 ∷ 2 ∷ 10 ∷ 2 ∷ 65536 ∷ 65536 ∷ 1 ∷ 0 ∷ 0 ∷ 0 ∷ 0 ∷ 1 ∷ 2 ∷ 0 ∷ []; model = Spectre; defence = Stt }) refl refl refl refl refl
 
 faulting_load_agrees : Agrees faulting_load
 unfolding ones encode scan_numeral digits count_leading_zeros chars is_utf8 skip_from skip_ws decimal_number number
@@ -202,7 +203,7 @@ unfolding ones encode scan_numeral digits count_leading_zeros chars is_utf8 skip
     decode zeros description_of document_fault end_fault key_fault keys_fault latency_fault registers_fault
     second_fault sections_fault top_fault half has_magic word header_fault code_of ram_after ram_fault segment_at
     end_line cycle fetch rename retire event_text events_text row_text rows_text trace_text
-faulting_load_agrees = agrees faulting_load (record { version = 2; numbers = 2 ∷ 2 ∷ 16 ∷ 8 ∷ 4 ∷ 4 ∷ 8 ∷ 2 ∷ 3 ∷ 16 ∷ 4 ∷ 2 ∷ 2 ∷ 16 ∷ 2 ∷ 10 ∷ 2 ∷ 65536 ∷ 65536 ∷ 0 ∷ 0 ∷ 0 ∷ 0 ∷ 1 ∷ 2 ∷ 0 ∷ []; model = Spectre }) refl refl refl refl refl
+faulting_load_agrees = agrees faulting_load (record { version = 2; numbers = 2 ∷ 2 ∷ 16 ∷ 8 ∷ 4 ∷ 4 ∷ 8 ∷ 2 ∷ 3 ∷ 16 ∷ 4 ∷ 2 ∷ 2 ∷ 16 ∷ 2 ∷ 10 ∷ 2 ∷ 65536 ∷ 65536 ∷ 0 ∷ 0 ∷ 0 ∷ 0 ∷ 0 ∷ 1 ∷ 2 ∷ 0 ∷ []; model = Spectre; defence = Stt }) refl refl refl refl refl
 
 faulting_store_agrees : Agrees faulting_store
 unfolding ones encode scan_numeral digits count_leading_zeros chars is_utf8 skip_from skip_ws decimal_number number
@@ -211,7 +212,7 @@ unfolding ones encode scan_numeral digits count_leading_zeros chars is_utf8 skip
     decode zeros description_of document_fault end_fault key_fault keys_fault latency_fault registers_fault
     second_fault sections_fault top_fault half has_magic word header_fault code_of ram_after ram_fault segment_at
     end_line cycle fetch rename retire event_text events_text row_text rows_text trace_text
-faulting_store_agrees = agrees faulting_store (record { version = 2; numbers = 2 ∷ 2 ∷ 16 ∷ 8 ∷ 4 ∷ 4 ∷ 8 ∷ 2 ∷ 3 ∷ 16 ∷ 4 ∷ 2 ∷ 2 ∷ 16 ∷ 2 ∷ 10 ∷ 2 ∷ 65536 ∷ 65536 ∷ 0 ∷ 0 ∷ 0 ∷ 0 ∷ 1 ∷ 2 ∷ 0 ∷ []; model = Spectre }) refl refl refl refl refl
+faulting_store_agrees = agrees faulting_store (record { version = 2; numbers = 2 ∷ 2 ∷ 16 ∷ 8 ∷ 4 ∷ 4 ∷ 8 ∷ 2 ∷ 3 ∷ 16 ∷ 4 ∷ 2 ∷ 2 ∷ 16 ∷ 2 ∷ 10 ∷ 2 ∷ 65536 ∷ 65536 ∷ 0 ∷ 0 ∷ 0 ∷ 0 ∷ 0 ∷ 1 ∷ 2 ∷ 0 ∷ []; model = Spectre; defence = Stt }) refl refl refl refl refl
 
 forwarded_across_lines_agrees : Agrees forwarded_across_lines
 unfolding ones encode scan_numeral digits count_leading_zeros chars is_utf8 skip_from skip_ws decimal_number number
@@ -220,7 +221,7 @@ unfolding ones encode scan_numeral digits count_leading_zeros chars is_utf8 skip
     decode zeros description_of document_fault end_fault key_fault keys_fault latency_fault registers_fault
     second_fault sections_fault top_fault half has_magic word header_fault code_of ram_after ram_fault segment_at
     end_line cycle fetch rename retire event_text events_text row_text rows_text trace_text
-forwarded_across_lines_agrees = agrees forwarded_across_lines (record { version = 2; numbers = 2 ∷ 2 ∷ 16 ∷ 8 ∷ 4 ∷ 4 ∷ 8 ∷ 2 ∷ 3 ∷ 16 ∷ 4 ∷ 2 ∷ 2 ∷ 16 ∷ 2 ∷ 10 ∷ 2 ∷ 65536 ∷ 65536 ∷ 1 ∷ 0 ∷ 0 ∷ 0 ∷ 1 ∷ 2 ∷ 0 ∷ []; model = Spectre }) refl refl refl refl refl
+forwarded_across_lines_agrees = agrees forwarded_across_lines (record { version = 2; numbers = 2 ∷ 2 ∷ 16 ∷ 8 ∷ 4 ∷ 4 ∷ 8 ∷ 2 ∷ 3 ∷ 16 ∷ 4 ∷ 2 ∷ 2 ∷ 16 ∷ 2 ∷ 10 ∷ 2 ∷ 65536 ∷ 65536 ∷ 1 ∷ 0 ∷ 0 ∷ 0 ∷ 0 ∷ 1 ∷ 2 ∷ 0 ∷ []; model = Spectre; defence = Stt }) refl refl refl refl refl
 
 found_in_second_agrees : Agrees found_in_second
 unfolding ones encode scan_numeral digits count_leading_zeros chars is_utf8 skip_from skip_ws decimal_number number
@@ -229,7 +230,7 @@ unfolding ones encode scan_numeral digits count_leading_zeros chars is_utf8 skip
     decode zeros description_of document_fault end_fault key_fault keys_fault latency_fault registers_fault
     second_fault sections_fault top_fault half has_magic word header_fault code_of ram_after ram_fault segment_at
     end_line cycle fetch rename retire event_text events_text row_text rows_text trace_text
-found_in_second_agrees = agrees found_in_second (record { version = 2; numbers = 2 ∷ 2 ∷ 16 ∷ 8 ∷ 4 ∷ 4 ∷ 8 ∷ 2 ∷ 3 ∷ 16 ∷ 4 ∷ 1 ∷ 1 ∷ 16 ∷ 2 ∷ 10 ∷ 2 ∷ 65536 ∷ 65536 ∷ 0 ∷ 0 ∷ 0 ∷ 1 ∷ 2 ∷ 5 ∷ 0 ∷ []; model = Spectre }) refl refl refl refl refl
+found_in_second_agrees = agrees found_in_second (record { version = 2; numbers = 2 ∷ 2 ∷ 16 ∷ 8 ∷ 4 ∷ 4 ∷ 8 ∷ 2 ∷ 3 ∷ 16 ∷ 4 ∷ 1 ∷ 1 ∷ 16 ∷ 2 ∷ 10 ∷ 2 ∷ 65536 ∷ 65536 ∷ 0 ∷ 0 ∷ 0 ∷ 0 ∷ 1 ∷ 2 ∷ 5 ∷ 0 ∷ []; model = Spectre; defence = Stt }) refl refl refl refl refl
 
 full_stack_agrees : Agrees full_stack
 unfolding ones encode scan_numeral digits count_leading_zeros chars is_utf8 skip_from skip_ws decimal_number number
@@ -238,7 +239,7 @@ unfolding ones encode scan_numeral digits count_leading_zeros chars is_utf8 skip
     decode zeros description_of document_fault end_fault key_fault keys_fault latency_fault registers_fault
     second_fault sections_fault top_fault half has_magic word header_fault code_of ram_after ram_fault segment_at
     end_line cycle fetch rename retire event_text events_text row_text rows_text trace_text
-full_stack_agrees = agrees full_stack (record { version = 2; numbers = 2 ∷ 2 ∷ 16 ∷ 8 ∷ 4 ∷ 4 ∷ 8 ∷ 2 ∷ 3 ∷ 16 ∷ 4 ∷ 2 ∷ 2 ∷ 16 ∷ 2 ∷ 10 ∷ 2 ∷ 65536 ∷ 65536 ∷ 0 ∷ 0 ∷ 2 ∷ 0 ∷ 1 ∷ 2 ∷ 0 ∷ []; model = Spectre }) refl refl refl refl refl
+full_stack_agrees = agrees full_stack (record { version = 2; numbers = 2 ∷ 2 ∷ 16 ∷ 8 ∷ 4 ∷ 4 ∷ 8 ∷ 2 ∷ 3 ∷ 16 ∷ 4 ∷ 2 ∷ 2 ∷ 16 ∷ 2 ∷ 10 ∷ 2 ∷ 65536 ∷ 65536 ∷ 0 ∷ 0 ∷ 0 ∷ 2 ∷ 0 ∷ 1 ∷ 2 ∷ 0 ∷ []; model = Spectre; defence = Stt }) refl refl refl refl refl
 
 half_issued_agrees : Agrees half_issued
 unfolding ones encode scan_numeral digits count_leading_zeros chars is_utf8 skip_from skip_ws decimal_number number
@@ -247,7 +248,7 @@ unfolding ones encode scan_numeral digits count_leading_zeros chars is_utf8 skip
     decode zeros description_of document_fault end_fault key_fault keys_fault latency_fault registers_fault
     second_fault sections_fault top_fault half has_magic word header_fault code_of ram_after ram_fault segment_at
     end_line cycle fetch rename retire event_text events_text row_text rows_text trace_text
-half_issued_agrees = agrees half_issued (record { version = 2; numbers = 2 ∷ 2 ∷ 16 ∷ 2 ∷ 4 ∷ 4 ∷ 8 ∷ 2 ∷ 3 ∷ 16 ∷ 4 ∷ 2 ∷ 2 ∷ 16 ∷ 2 ∷ 10 ∷ 2 ∷ 65536 ∷ 65536 ∷ 0 ∷ 0 ∷ 0 ∷ 0 ∷ 1 ∷ 2 ∷ 0 ∷ []; model = Spectre }) refl refl refl refl refl
+half_issued_agrees = agrees half_issued (record { version = 2; numbers = 2 ∷ 2 ∷ 16 ∷ 2 ∷ 4 ∷ 4 ∷ 8 ∷ 2 ∷ 3 ∷ 16 ∷ 4 ∷ 2 ∷ 2 ∷ 16 ∷ 2 ∷ 10 ∷ 2 ∷ 65536 ∷ 65536 ∷ 0 ∷ 0 ∷ 0 ∷ 0 ∷ 0 ∷ 1 ∷ 2 ∷ 0 ∷ []; model = Spectre; defence = Stt }) refl refl refl refl refl
 
 half_issued_data_agrees : Agrees half_issued_data
 unfolding ones encode scan_numeral digits count_leading_zeros chars is_utf8 skip_from skip_ws decimal_number number
@@ -256,7 +257,7 @@ unfolding ones encode scan_numeral digits count_leading_zeros chars is_utf8 skip
     decode zeros description_of document_fault end_fault key_fault keys_fault latency_fault registers_fault
     second_fault sections_fault top_fault half has_magic word header_fault code_of ram_after ram_fault segment_at
     end_line cycle fetch rename retire event_text events_text row_text rows_text trace_text
-half_issued_data_agrees = agrees half_issued_data (record { version = 2; numbers = 2 ∷ 2 ∷ 16 ∷ 3 ∷ 4 ∷ 4 ∷ 8 ∷ 2 ∷ 3 ∷ 16 ∷ 4 ∷ 2 ∷ 2 ∷ 16 ∷ 2 ∷ 10 ∷ 2 ∷ 65536 ∷ 65536 ∷ 0 ∷ 0 ∷ 0 ∷ 0 ∷ 1 ∷ 2 ∷ 0 ∷ []; model = Spectre }) refl refl refl refl refl
+half_issued_data_agrees = agrees half_issued_data (record { version = 2; numbers = 2 ∷ 2 ∷ 16 ∷ 3 ∷ 4 ∷ 4 ∷ 8 ∷ 2 ∷ 3 ∷ 16 ∷ 4 ∷ 2 ∷ 2 ∷ 16 ∷ 2 ∷ 10 ∷ 2 ∷ 65536 ∷ 65536 ∷ 0 ∷ 0 ∷ 0 ∷ 0 ∷ 0 ∷ 1 ∷ 2 ∷ 0 ∷ []; model = Spectre; defence = Stt }) refl refl refl refl refl
 
 hidden_base_agrees : Agrees hidden_base
 unfolding ones encode scan_numeral digits count_leading_zeros chars is_utf8 skip_from skip_ws decimal_number number
@@ -265,7 +266,7 @@ unfolding ones encode scan_numeral digits count_leading_zeros chars is_utf8 skip
     decode zeros description_of document_fault end_fault key_fault keys_fault latency_fault registers_fault
     second_fault sections_fault top_fault half has_magic word header_fault code_of ram_after ram_fault segment_at
     end_line cycle fetch rename retire event_text events_text row_text rows_text trace_text
-hidden_base_agrees = agrees hidden_base (record { version = 2; numbers = 2 ∷ 2 ∷ 16 ∷ 8 ∷ 4 ∷ 4 ∷ 8 ∷ 2 ∷ 3 ∷ 16 ∷ 4 ∷ 2 ∷ 2 ∷ 16 ∷ 2 ∷ 10 ∷ 2 ∷ 65536 ∷ 65536 ∷ 0 ∷ 0 ∷ 0 ∷ 0 ∷ 1 ∷ 2 ∷ 0 ∷ []; model = Spectre }) refl refl refl refl refl
+hidden_base_agrees = agrees hidden_base (record { version = 2; numbers = 2 ∷ 2 ∷ 16 ∷ 8 ∷ 4 ∷ 4 ∷ 8 ∷ 2 ∷ 3 ∷ 16 ∷ 4 ∷ 2 ∷ 2 ∷ 16 ∷ 2 ∷ 10 ∷ 2 ∷ 65536 ∷ 65536 ∷ 0 ∷ 0 ∷ 0 ∷ 0 ∷ 0 ∷ 1 ∷ 2 ∷ 0 ∷ []; model = Spectre; defence = Stt }) refl refl refl refl refl
 
 history_as_fetched_agrees : Agrees history_as_fetched
 unfolding ones encode scan_numeral digits count_leading_zeros chars is_utf8 skip_from skip_ws decimal_number number
@@ -274,7 +275,7 @@ unfolding ones encode scan_numeral digits count_leading_zeros chars is_utf8 skip
     decode zeros description_of document_fault end_fault key_fault keys_fault latency_fault registers_fault
     second_fault sections_fault top_fault half has_magic word header_fault code_of ram_after ram_fault segment_at
     end_line cycle fetch rename retire event_text events_text row_text rows_text trace_text
-history_as_fetched_agrees = agrees history_as_fetched (record { version = 2; numbers = 2 ∷ 2 ∷ 16 ∷ 8 ∷ 4 ∷ 4 ∷ 8 ∷ 2 ∷ 3 ∷ 16 ∷ 4 ∷ 2 ∷ 2 ∷ 16 ∷ 2 ∷ 10 ∷ 2 ∷ 65536 ∷ 65536 ∷ 0 ∷ 3 ∷ 0 ∷ 0 ∷ 1 ∷ 2 ∷ 0 ∷ []; model = Spectre }) refl refl refl refl refl
+history_as_fetched_agrees = agrees history_as_fetched (record { version = 2; numbers = 2 ∷ 2 ∷ 16 ∷ 8 ∷ 4 ∷ 4 ∷ 8 ∷ 2 ∷ 3 ∷ 16 ∷ 4 ∷ 2 ∷ 2 ∷ 16 ∷ 2 ∷ 10 ∷ 2 ∷ 65536 ∷ 65536 ∷ 0 ∷ 0 ∷ 3 ∷ 0 ∷ 0 ∷ 1 ∷ 2 ∷ 0 ∷ []; model = Spectre; defence = Stt }) refl refl refl refl refl
 
 joined_line_takes_no_register_agrees : Agrees joined_line_takes_no_register
 unfolding ones encode scan_numeral digits count_leading_zeros chars is_utf8 skip_from skip_ws decimal_number number
@@ -283,7 +284,7 @@ unfolding ones encode scan_numeral digits count_leading_zeros chars is_utf8 skip
     decode zeros description_of document_fault end_fault key_fault keys_fault latency_fault registers_fault
     second_fault sections_fault top_fault half has_magic word header_fault code_of ram_after ram_fault segment_at
     end_line cycle fetch rename retire event_text events_text row_text rows_text trace_text
-joined_line_takes_no_register_agrees = agrees joined_line_takes_no_register (record { version = 2; numbers = 2 ∷ 2 ∷ 16 ∷ 8 ∷ 4 ∷ 4 ∷ 8 ∷ 2 ∷ 3 ∷ 16 ∷ 4 ∷ 2 ∷ 2 ∷ 16 ∷ 2 ∷ 10 ∷ 2 ∷ 65536 ∷ 65536 ∷ 1 ∷ 0 ∷ 0 ∷ 0 ∷ 1 ∷ 2 ∷ 0 ∷ []; model = Spectre }) refl refl refl refl refl
+joined_line_takes_no_register_agrees = agrees joined_line_takes_no_register (record { version = 2; numbers = 2 ∷ 2 ∷ 16 ∷ 8 ∷ 4 ∷ 4 ∷ 8 ∷ 2 ∷ 3 ∷ 16 ∷ 4 ∷ 2 ∷ 2 ∷ 16 ∷ 2 ∷ 10 ∷ 2 ∷ 65536 ∷ 65536 ∷ 1 ∷ 0 ∷ 0 ∷ 0 ∷ 0 ∷ 1 ∷ 2 ∷ 0 ∷ []; model = Spectre; defence = Stt }) refl refl refl refl refl
 
 jump_that_links_elsewhere_agrees : Agrees jump_that_links_elsewhere
 unfolding ones encode scan_numeral digits count_leading_zeros chars is_utf8 skip_from skip_ws decimal_number number
@@ -292,7 +293,7 @@ unfolding ones encode scan_numeral digits count_leading_zeros chars is_utf8 skip
     decode zeros description_of document_fault end_fault key_fault keys_fault latency_fault registers_fault
     second_fault sections_fault top_fault half has_magic word header_fault code_of ram_after ram_fault segment_at
     end_line cycle fetch rename retire event_text events_text row_text rows_text trace_text
-jump_that_links_elsewhere_agrees = agrees jump_that_links_elsewhere (record { version = 2; numbers = 2 ∷ 2 ∷ 16 ∷ 8 ∷ 4 ∷ 4 ∷ 8 ∷ 2 ∷ 3 ∷ 16 ∷ 4 ∷ 2 ∷ 2 ∷ 16 ∷ 2 ∷ 10 ∷ 2 ∷ 65536 ∷ 65536 ∷ 0 ∷ 0 ∷ 4 ∷ 0 ∷ 1 ∷ 2 ∷ 0 ∷ []; model = Spectre }) refl refl refl refl refl
+jump_that_links_elsewhere_agrees = agrees jump_that_links_elsewhere (record { version = 2; numbers = 2 ∷ 2 ∷ 16 ∷ 8 ∷ 4 ∷ 4 ∷ 8 ∷ 2 ∷ 3 ∷ 16 ∷ 4 ∷ 2 ∷ 2 ∷ 16 ∷ 2 ∷ 10 ∷ 2 ∷ 65536 ∷ 65536 ∷ 0 ∷ 0 ∷ 0 ∷ 4 ∷ 0 ∷ 1 ∷ 2 ∷ 0 ∷ []; model = Spectre; defence = Stt }) refl refl refl refl refl
 
 jumps_leave_history_agrees : Agrees jumps_leave_history
 unfolding ones encode scan_numeral digits count_leading_zeros chars is_utf8 skip_from skip_ws decimal_number number
@@ -301,7 +302,7 @@ unfolding ones encode scan_numeral digits count_leading_zeros chars is_utf8 skip
     decode zeros description_of document_fault end_fault key_fault keys_fault latency_fault registers_fault
     second_fault sections_fault top_fault half has_magic word header_fault code_of ram_after ram_fault segment_at
     end_line cycle fetch rename retire event_text events_text row_text rows_text trace_text
-jumps_leave_history_agrees = agrees jumps_leave_history (record { version = 2; numbers = 2 ∷ 2 ∷ 16 ∷ 8 ∷ 4 ∷ 4 ∷ 8 ∷ 2 ∷ 3 ∷ 16 ∷ 4 ∷ 2 ∷ 2 ∷ 16 ∷ 2 ∷ 10 ∷ 2 ∷ 65536 ∷ 65536 ∷ 0 ∷ 2 ∷ 0 ∷ 0 ∷ 1 ∷ 2 ∷ 0 ∷ []; model = Spectre }) refl refl refl refl refl
+jumps_leave_history_agrees = agrees jumps_leave_history (record { version = 2; numbers = 2 ∷ 2 ∷ 16 ∷ 8 ∷ 4 ∷ 4 ∷ 8 ∷ 2 ∷ 3 ∷ 16 ∷ 4 ∷ 2 ∷ 2 ∷ 16 ∷ 2 ∷ 10 ∷ 2 ∷ 65536 ∷ 65536 ∷ 0 ∷ 0 ∷ 2 ∷ 0 ∷ 0 ∷ 1 ∷ 2 ∷ 0 ∷ []; model = Spectre; defence = Stt }) refl refl refl refl refl
 
 large_window_agrees : Agrees large_window
 unfolding ones encode scan_numeral digits count_leading_zeros chars is_utf8 skip_from skip_ws decimal_number number
@@ -310,7 +311,7 @@ unfolding ones encode scan_numeral digits count_leading_zeros chars is_utf8 skip
     decode zeros description_of document_fault end_fault key_fault keys_fault latency_fault registers_fault
     second_fault sections_fault top_fault half has_magic word header_fault code_of ram_after ram_fault segment_at
     end_line cycle fetch rename retire event_text events_text row_text rows_text trace_text
-large_window_agrees = agrees large_window (record { version = 2; numbers = 4 ∷ 4 ∷ 192 ∷ 96 ∷ 64 ∷ 48 ∷ 32 ∷ 4 ∷ 3 ∷ 16 ∷ 4 ∷ 2 ∷ 2 ∷ 16 ∷ 2 ∷ 4 ∷ 2 ∷ 65536 ∷ 65536 ∷ 0 ∷ 0 ∷ 0 ∷ 0 ∷ 1 ∷ 2 ∷ 0 ∷ []; model = Spectre }) refl refl refl refl refl
+large_window_agrees = agrees large_window (record { version = 2; numbers = 4 ∷ 4 ∷ 192 ∷ 96 ∷ 64 ∷ 48 ∷ 32 ∷ 4 ∷ 3 ∷ 16 ∷ 4 ∷ 2 ∷ 2 ∷ 16 ∷ 2 ∷ 4 ∷ 2 ∷ 65536 ∷ 65536 ∷ 0 ∷ 0 ∷ 0 ∷ 0 ∷ 0 ∷ 1 ∷ 2 ∷ 0 ∷ []; model = Spectre; defence = Stt }) refl refl refl refl refl
 
 late_address_agrees : Agrees late_address
 unfolding ones encode scan_numeral digits count_leading_zeros chars is_utf8 skip_from skip_ws decimal_number number
@@ -319,7 +320,7 @@ unfolding ones encode scan_numeral digits count_leading_zeros chars is_utf8 skip
     decode zeros description_of document_fault end_fault key_fault keys_fault latency_fault registers_fault
     second_fault sections_fault top_fault half has_magic word header_fault code_of ram_after ram_fault segment_at
     end_line cycle fetch rename retire event_text events_text row_text rows_text trace_text
-late_address_agrees = agrees late_address (record { version = 2; numbers = 2 ∷ 2 ∷ 16 ∷ 8 ∷ 4 ∷ 4 ∷ 8 ∷ 2 ∷ 3 ∷ 16 ∷ 4 ∷ 2 ∷ 2 ∷ 16 ∷ 2 ∷ 10 ∷ 2 ∷ 65536 ∷ 65536 ∷ 0 ∷ 0 ∷ 0 ∷ 0 ∷ 1 ∷ 2 ∷ 0 ∷ []; model = Spectre }) refl refl refl refl refl
+late_address_agrees = agrees late_address (record { version = 2; numbers = 2 ∷ 2 ∷ 16 ∷ 8 ∷ 4 ∷ 4 ∷ 8 ∷ 2 ∷ 3 ∷ 16 ∷ 4 ∷ 2 ∷ 2 ∷ 16 ∷ 2 ∷ 10 ∷ 2 ∷ 65536 ∷ 65536 ∷ 0 ∷ 0 ∷ 0 ∷ 0 ∷ 0 ∷ 1 ∷ 2 ∷ 0 ∷ []; model = Spectre; defence = Stt }) refl refl refl refl refl
 
 late_data_agrees : Agrees late_data
 unfolding ones encode scan_numeral digits count_leading_zeros chars is_utf8 skip_from skip_ws decimal_number number
@@ -328,7 +329,7 @@ unfolding ones encode scan_numeral digits count_leading_zeros chars is_utf8 skip
     decode zeros description_of document_fault end_fault key_fault keys_fault latency_fault registers_fault
     second_fault sections_fault top_fault half has_magic word header_fault code_of ram_after ram_fault segment_at
     end_line cycle fetch rename retire event_text events_text row_text rows_text trace_text
-late_data_agrees = agrees late_data (record { version = 2; numbers = 2 ∷ 2 ∷ 16 ∷ 8 ∷ 4 ∷ 4 ∷ 8 ∷ 2 ∷ 3 ∷ 16 ∷ 4 ∷ 2 ∷ 2 ∷ 16 ∷ 2 ∷ 10 ∷ 2 ∷ 65536 ∷ 65536 ∷ 0 ∷ 0 ∷ 0 ∷ 0 ∷ 1 ∷ 2 ∷ 0 ∷ []; model = Spectre }) refl refl refl refl refl
+late_data_agrees = agrees late_data (record { version = 2; numbers = 2 ∷ 2 ∷ 16 ∷ 8 ∷ 4 ∷ 4 ∷ 8 ∷ 2 ∷ 3 ∷ 16 ∷ 4 ∷ 2 ∷ 2 ∷ 16 ∷ 2 ∷ 10 ∷ 2 ∷ 65536 ∷ 65536 ∷ 0 ∷ 0 ∷ 0 ∷ 0 ∷ 0 ∷ 1 ∷ 2 ∷ 0 ∷ []; model = Spectre; defence = Stt }) refl refl refl refl refl
 
 late_data_version_1_agrees : Agrees late_data_version_1
 unfolding ones encode scan_numeral digits count_leading_zeros chars is_utf8 skip_from skip_ws decimal_number number
@@ -337,7 +338,7 @@ unfolding ones encode scan_numeral digits count_leading_zeros chars is_utf8 skip
     decode zeros description_of document_fault end_fault key_fault keys_fault latency_fault registers_fault
     second_fault sections_fault top_fault half has_magic word header_fault code_of ram_after ram_fault segment_at
     end_line cycle fetch rename retire event_text events_text row_text rows_text trace_text
-late_data_version_1_agrees = agrees late_data_version_1 (record { version = 1; numbers = 2 ∷ 2 ∷ 16 ∷ 8 ∷ 4 ∷ 4 ∷ 8 ∷ 2 ∷ 3 ∷ 16 ∷ 4 ∷ 2 ∷ 2 ∷ 16 ∷ 2 ∷ 10 ∷ 2 ∷ 65536 ∷ 65536 ∷ 0 ∷ 0 ∷ 0 ∷ 0 ∷ 1 ∷ 2 ∷ 0 ∷ []; model = Spectre }) refl refl refl refl refl
+late_data_version_1_agrees = agrees late_data_version_1 (record { version = 1; numbers = 2 ∷ 2 ∷ 16 ∷ 8 ∷ 4 ∷ 4 ∷ 8 ∷ 2 ∷ 3 ∷ 16 ∷ 4 ∷ 2 ∷ 2 ∷ 16 ∷ 2 ∷ 10 ∷ 2 ∷ 65536 ∷ 65536 ∷ 0 ∷ 0 ∷ 0 ∷ 0 ∷ 0 ∷ 1 ∷ 2 ∷ 0 ∷ []; model = Spectre; defence = Stt }) refl refl refl refl refl
 
 later_of_two_lines_agrees : Agrees later_of_two_lines
 unfolding ones encode scan_numeral digits count_leading_zeros chars is_utf8 skip_from skip_ws decimal_number number
@@ -346,7 +347,7 @@ unfolding ones encode scan_numeral digits count_leading_zeros chars is_utf8 skip
     decode zeros description_of document_fault end_fault key_fault keys_fault latency_fault registers_fault
     second_fault sections_fault top_fault half has_magic word header_fault code_of ram_after ram_fault segment_at
     end_line cycle fetch rename retire event_text events_text row_text rows_text trace_text
-later_of_two_lines_agrees = agrees later_of_two_lines (record { version = 2; numbers = 2 ∷ 2 ∷ 16 ∷ 8 ∷ 4 ∷ 4 ∷ 8 ∷ 2 ∷ 3 ∷ 16 ∷ 4 ∷ 2 ∷ 2 ∷ 16 ∷ 2 ∷ 10 ∷ 2 ∷ 65536 ∷ 65536 ∷ 1 ∷ 0 ∷ 0 ∷ 0 ∷ 1 ∷ 2 ∷ 0 ∷ []; model = Spectre }) refl refl refl refl refl
+later_of_two_lines_agrees = agrees later_of_two_lines (record { version = 2; numbers = 2 ∷ 2 ∷ 16 ∷ 8 ∷ 4 ∷ 4 ∷ 8 ∷ 2 ∷ 3 ∷ 16 ∷ 4 ∷ 2 ∷ 2 ∷ 16 ∷ 2 ∷ 10 ∷ 2 ∷ 65536 ∷ 65536 ∷ 1 ∷ 0 ∷ 0 ∷ 0 ∷ 0 ∷ 1 ∷ 2 ∷ 0 ∷ []; model = Spectre; defence = Stt }) refl refl refl refl refl
 
 levels_drop_apart_agrees : Agrees levels_drop_apart
 unfolding ones encode scan_numeral digits count_leading_zeros chars is_utf8 skip_from skip_ws decimal_number number
@@ -355,7 +356,7 @@ unfolding ones encode scan_numeral digits count_leading_zeros chars is_utf8 skip
     decode zeros description_of document_fault end_fault key_fault keys_fault latency_fault registers_fault
     second_fault sections_fault top_fault half has_magic word header_fault code_of ram_after ram_fault segment_at
     end_line cycle fetch rename retire event_text events_text row_text rows_text trace_text
-levels_drop_apart_agrees = agrees levels_drop_apart (record { version = 2; numbers = 2 ∷ 2 ∷ 16 ∷ 8 ∷ 4 ∷ 4 ∷ 8 ∷ 2 ∷ 3 ∷ 16 ∷ 4 ∷ 1 ∷ 2 ∷ 16 ∷ 2 ∷ 10 ∷ 2 ∷ 65536 ∷ 65536 ∷ 0 ∷ 0 ∷ 0 ∷ 1 ∷ 1 ∷ 5 ∷ 0 ∷ []; model = Spectre }) refl refl refl refl refl
+levels_drop_apart_agrees = agrees levels_drop_apart (record { version = 2; numbers = 2 ∷ 2 ∷ 16 ∷ 8 ∷ 4 ∷ 4 ∷ 8 ∷ 2 ∷ 3 ∷ 16 ∷ 4 ∷ 1 ∷ 2 ∷ 16 ∷ 2 ∷ 10 ∷ 2 ∷ 65536 ∷ 65536 ∷ 0 ∷ 0 ∷ 0 ∷ 0 ∷ 1 ∷ 1 ∷ 5 ∷ 0 ∷ []; model = Spectre; defence = Stt }) refl refl refl refl refl
 
 link_through_x1_agrees : Agrees link_through_x1
 unfolding ones encode scan_numeral digits count_leading_zeros chars is_utf8 skip_from skip_ws decimal_number number
@@ -364,7 +365,7 @@ unfolding ones encode scan_numeral digits count_leading_zeros chars is_utf8 skip
     decode zeros description_of document_fault end_fault key_fault keys_fault latency_fault registers_fault
     second_fault sections_fault top_fault half has_magic word header_fault code_of ram_after ram_fault segment_at
     end_line cycle fetch rename retire event_text events_text row_text rows_text trace_text
-link_through_x1_agrees = agrees link_through_x1 (record { version = 2; numbers = 2 ∷ 2 ∷ 16 ∷ 8 ∷ 4 ∷ 4 ∷ 8 ∷ 2 ∷ 3 ∷ 16 ∷ 4 ∷ 2 ∷ 2 ∷ 16 ∷ 2 ∷ 10 ∷ 2 ∷ 65536 ∷ 65536 ∷ 0 ∷ 0 ∷ 4 ∷ 0 ∷ 1 ∷ 2 ∷ 0 ∷ []; model = Spectre }) refl refl refl refl refl
+link_through_x1_agrees = agrees link_through_x1 (record { version = 2; numbers = 2 ∷ 2 ∷ 16 ∷ 8 ∷ 4 ∷ 4 ∷ 8 ∷ 2 ∷ 3 ∷ 16 ∷ 4 ∷ 2 ∷ 2 ∷ 16 ∷ 2 ∷ 10 ∷ 2 ∷ 65536 ∷ 65536 ∷ 0 ∷ 0 ∷ 0 ∷ 4 ∷ 0 ∷ 1 ∷ 2 ∷ 0 ∷ []; model = Spectre; defence = Stt }) refl refl refl refl refl
 
 linking_jump_agrees : Agrees linking_jump
 unfolding ones encode scan_numeral digits count_leading_zeros chars is_utf8 skip_from skip_ws decimal_number number
@@ -373,7 +374,7 @@ unfolding ones encode scan_numeral digits count_leading_zeros chars is_utf8 skip
     decode zeros description_of document_fault end_fault key_fault keys_fault latency_fault registers_fault
     second_fault sections_fault top_fault half has_magic word header_fault code_of ram_after ram_fault segment_at
     end_line cycle fetch rename retire event_text events_text row_text rows_text trace_text
-linking_jump_agrees = agrees linking_jump (record { version = 2; numbers = 2 ∷ 2 ∷ 16 ∷ 8 ∷ 4 ∷ 4 ∷ 8 ∷ 2 ∷ 3 ∷ 16 ∷ 4 ∷ 2 ∷ 2 ∷ 16 ∷ 2 ∷ 10 ∷ 2 ∷ 65536 ∷ 65536 ∷ 0 ∷ 0 ∷ 4 ∷ 0 ∷ 1 ∷ 2 ∷ 0 ∷ []; model = Spectre }) refl refl refl refl refl
+linking_jump_agrees = agrees linking_jump (record { version = 2; numbers = 2 ∷ 2 ∷ 16 ∷ 8 ∷ 4 ∷ 4 ∷ 8 ∷ 2 ∷ 3 ∷ 16 ∷ 4 ∷ 2 ∷ 2 ∷ 16 ∷ 2 ∷ 10 ∷ 2 ∷ 65536 ∷ 65536 ∷ 0 ∷ 0 ∷ 0 ∷ 4 ∷ 0 ∷ 1 ∷ 2 ∷ 0 ∷ []; model = Spectre; defence = Stt }) refl refl refl refl refl
 
 load_reaches_behind_memory_agrees : Agrees load_reaches_behind_memory
 unfolding ones encode scan_numeral digits count_leading_zeros chars is_utf8 skip_from skip_ws decimal_number number
@@ -382,7 +383,7 @@ unfolding ones encode scan_numeral digits count_leading_zeros chars is_utf8 skip
     decode zeros description_of document_fault end_fault key_fault keys_fault latency_fault registers_fault
     second_fault sections_fault top_fault half has_magic word header_fault code_of ram_after ram_fault segment_at
     end_line cycle fetch rename retire event_text events_text row_text rows_text trace_text
-load_reaches_behind_memory_agrees = agrees load_reaches_behind_memory (record { version = 2; numbers = 2 ∷ 2 ∷ 16 ∷ 8 ∷ 4 ∷ 4 ∷ 8 ∷ 2 ∷ 3 ∷ 16 ∷ 4 ∷ 2 ∷ 2 ∷ 16 ∷ 2 ∷ 10 ∷ 2 ∷ 65536 ∷ 65536 ∷ 1 ∷ 0 ∷ 0 ∷ 0 ∷ 1 ∷ 2 ∷ 0 ∷ []; model = Spectre }) refl refl refl refl refl
+load_reaches_behind_memory_agrees = agrees load_reaches_behind_memory (record { version = 2; numbers = 2 ∷ 2 ∷ 16 ∷ 8 ∷ 4 ∷ 4 ∷ 8 ∷ 2 ∷ 3 ∷ 16 ∷ 4 ∷ 2 ∷ 2 ∷ 16 ∷ 2 ∷ 10 ∷ 2 ∷ 65536 ∷ 65536 ∷ 1 ∷ 0 ∷ 0 ∷ 0 ∷ 0 ∷ 1 ∷ 2 ∷ 0 ∷ []; model = Spectre; defence = Stt }) refl refl refl refl refl
 
 loop_by_history_agrees : Agrees loop_by_history
 unfolding ones encode scan_numeral digits count_leading_zeros chars is_utf8 skip_from skip_ws decimal_number number
@@ -391,7 +392,7 @@ unfolding ones encode scan_numeral digits count_leading_zeros chars is_utf8 skip
     decode zeros description_of document_fault end_fault key_fault keys_fault latency_fault registers_fault
     second_fault sections_fault top_fault half has_magic word header_fault code_of ram_after ram_fault segment_at
     end_line cycle fetch rename retire event_text events_text row_text rows_text trace_text
-loop_by_history_agrees = agrees loop_by_history (record { version = 2; numbers = 2 ∷ 2 ∷ 16 ∷ 8 ∷ 4 ∷ 4 ∷ 8 ∷ 2 ∷ 3 ∷ 16 ∷ 4 ∷ 2 ∷ 2 ∷ 16 ∷ 2 ∷ 10 ∷ 2 ∷ 65536 ∷ 65536 ∷ 0 ∷ 2 ∷ 0 ∷ 0 ∷ 1 ∷ 2 ∷ 0 ∷ []; model = Spectre }) refl refl refl refl refl
+loop_by_history_agrees = agrees loop_by_history (record { version = 2; numbers = 2 ∷ 2 ∷ 16 ∷ 8 ∷ 4 ∷ 4 ∷ 8 ∷ 2 ∷ 3 ∷ 16 ∷ 4 ∷ 2 ∷ 2 ∷ 16 ∷ 2 ∷ 10 ∷ 2 ∷ 65536 ∷ 65536 ∷ 0 ∷ 0 ∷ 2 ∷ 0 ∷ 0 ∷ 1 ∷ 2 ∷ 0 ∷ []; model = Spectre; defence = Stt }) refl refl refl refl refl
 
 lower_line_comes_later_agrees : Agrees lower_line_comes_later
 unfolding ones encode scan_numeral digits count_leading_zeros chars is_utf8 skip_from skip_ws decimal_number number
@@ -400,7 +401,7 @@ unfolding ones encode scan_numeral digits count_leading_zeros chars is_utf8 skip
     decode zeros description_of document_fault end_fault key_fault keys_fault latency_fault registers_fault
     second_fault sections_fault top_fault half has_magic word header_fault code_of ram_after ram_fault segment_at
     end_line cycle fetch rename retire event_text events_text row_text rows_text trace_text
-lower_line_comes_later_agrees = agrees lower_line_comes_later (record { version = 2; numbers = 2 ∷ 2 ∷ 16 ∷ 8 ∷ 4 ∷ 4 ∷ 8 ∷ 2 ∷ 3 ∷ 16 ∷ 4 ∷ 2 ∷ 2 ∷ 16 ∷ 2 ∷ 10 ∷ 2 ∷ 65536 ∷ 65536 ∷ 1 ∷ 0 ∷ 0 ∷ 0 ∷ 1 ∷ 2 ∷ 0 ∷ []; model = Spectre }) refl refl refl refl refl
+lower_line_comes_later_agrees = agrees lower_line_comes_later (record { version = 2; numbers = 2 ∷ 2 ∷ 16 ∷ 8 ∷ 4 ∷ 4 ∷ 8 ∷ 2 ∷ 3 ∷ 16 ∷ 4 ∷ 2 ∷ 2 ∷ 16 ∷ 2 ∷ 10 ∷ 2 ∷ 65536 ∷ 65536 ∷ 1 ∷ 0 ∷ 0 ∷ 0 ∷ 0 ∷ 1 ∷ 2 ∷ 0 ∷ []; model = Spectre; defence = Stt }) refl refl refl refl refl
 
 memory_and_second_agrees : Agrees memory_and_second
 unfolding ones encode scan_numeral digits count_leading_zeros chars is_utf8 skip_from skip_ws decimal_number number
@@ -409,7 +410,7 @@ unfolding ones encode scan_numeral digits count_leading_zeros chars is_utf8 skip
     decode zeros description_of document_fault end_fault key_fault keys_fault latency_fault registers_fault
     second_fault sections_fault top_fault half has_magic word header_fault code_of ram_after ram_fault segment_at
     end_line cycle fetch rename retire event_text events_text row_text rows_text trace_text
-memory_and_second_agrees = agrees memory_and_second (record { version = 2; numbers = 2 ∷ 2 ∷ 16 ∷ 8 ∷ 4 ∷ 4 ∷ 8 ∷ 2 ∷ 3 ∷ 16 ∷ 4 ∷ 1 ∷ 1 ∷ 16 ∷ 2 ∷ 10 ∷ 2 ∷ 65536 ∷ 65536 ∷ 1 ∷ 0 ∷ 0 ∷ 1 ∷ 2 ∷ 5 ∷ 0 ∷ []; model = Spectre }) refl refl refl refl refl
+memory_and_second_agrees = agrees memory_and_second (record { version = 2; numbers = 2 ∷ 2 ∷ 16 ∷ 8 ∷ 4 ∷ 4 ∷ 8 ∷ 2 ∷ 3 ∷ 16 ∷ 4 ∷ 1 ∷ 1 ∷ 16 ∷ 2 ∷ 10 ∷ 2 ∷ 65536 ∷ 65536 ∷ 1 ∷ 0 ∷ 0 ∷ 0 ∷ 1 ∷ 2 ∷ 5 ∷ 0 ∷ []; model = Spectre; defence = Stt }) refl refl refl refl refl
 
 misaligned_refused_agrees : Agrees misaligned_refused
 unfolding ones encode scan_numeral digits count_leading_zeros chars is_utf8 skip_from skip_ws decimal_number number
@@ -418,7 +419,7 @@ unfolding ones encode scan_numeral digits count_leading_zeros chars is_utf8 skip
     decode zeros description_of document_fault end_fault key_fault keys_fault latency_fault registers_fault
     second_fault sections_fault top_fault half has_magic word header_fault code_of ram_after ram_fault segment_at
     end_line cycle fetch rename retire event_text events_text row_text rows_text trace_text
-misaligned_refused_agrees = agrees misaligned_refused (record { version = 2; numbers = 2 ∷ 2 ∷ 16 ∷ 8 ∷ 4 ∷ 4 ∷ 8 ∷ 2 ∷ 3 ∷ 16 ∷ 4 ∷ 2 ∷ 2 ∷ 16 ∷ 2 ∷ 10 ∷ 2 ∷ 65536 ∷ 65536 ∷ 0 ∷ 0 ∷ 0 ∷ 0 ∷ 1 ∷ 2 ∷ 0 ∷ []; model = Spectre }) refl refl refl refl refl
+misaligned_refused_agrees = agrees misaligned_refused (record { version = 2; numbers = 2 ∷ 2 ∷ 16 ∷ 8 ∷ 4 ∷ 4 ∷ 8 ∷ 2 ∷ 3 ∷ 16 ∷ 4 ∷ 2 ∷ 2 ∷ 16 ∷ 2 ∷ 10 ∷ 2 ∷ 65536 ∷ 65536 ∷ 0 ∷ 0 ∷ 0 ∷ 0 ∷ 0 ∷ 1 ∷ 2 ∷ 0 ∷ []; model = Spectre; defence = Stt }) refl refl refl refl refl
 
 mixed_1_agrees : Agrees mixed_1
 unfolding ones encode scan_numeral digits count_leading_zeros chars is_utf8 skip_from skip_ws decimal_number number
@@ -427,7 +428,7 @@ unfolding ones encode scan_numeral digits count_leading_zeros chars is_utf8 skip
     decode zeros description_of document_fault end_fault key_fault keys_fault latency_fault registers_fault
     second_fault sections_fault top_fault half has_magic word header_fault code_of ram_after ram_fault segment_at
     end_line cycle fetch rename retire event_text events_text row_text rows_text trace_text
-mixed_1_agrees = agrees mixed_1 (record { version = 2; numbers = 2 ∷ 1 ∷ 192 ∷ 96 ∷ 17 ∷ 17 ∷ 32 ∷ 2 ∷ 1 ∷ 2 ∷ 4 ∷ 1 ∷ 2 ∷ 8 ∷ 3 ∷ 11 ∷ 1 ∷ 65536 ∷ 65536 ∷ 0 ∷ 0 ∷ 0 ∷ 0 ∷ 1 ∷ 2 ∷ 0 ∷ []; model = Spectre }) refl refl refl refl refl
+mixed_1_agrees = agrees mixed_1 (record { version = 2; numbers = 2 ∷ 1 ∷ 192 ∷ 96 ∷ 17 ∷ 17 ∷ 32 ∷ 2 ∷ 1 ∷ 2 ∷ 4 ∷ 1 ∷ 2 ∷ 8 ∷ 3 ∷ 11 ∷ 1 ∷ 65536 ∷ 65536 ∷ 0 ∷ 0 ∷ 0 ∷ 0 ∷ 0 ∷ 1 ∷ 2 ∷ 0 ∷ []; model = Spectre; defence = Stt }) refl refl refl refl refl
 
 mixed_2_agrees : Agrees mixed_2
 unfolding ones encode scan_numeral digits count_leading_zeros chars is_utf8 skip_from skip_ws decimal_number number
@@ -436,7 +437,7 @@ unfolding ones encode scan_numeral digits count_leading_zeros chars is_utf8 skip
     decode zeros description_of document_fault end_fault key_fault keys_fault latency_fault registers_fault
     second_fault sections_fault top_fault half has_magic word header_fault code_of ram_after ram_fault segment_at
     end_line cycle fetch rename retire event_text events_text row_text rows_text trace_text
-mixed_2_agrees = agrees mixed_2 (record { version = 2; numbers = 4 ∷ 4 ∷ 192 ∷ 64 ∷ 17 ∷ 48 ∷ 17 ∷ 1 ∷ 3 ∷ 16 ∷ 1 ∷ 4 ∷ 1 ∷ 32 ∷ 2 ∷ 5 ∷ 8 ∷ 65536 ∷ 65536 ∷ 0 ∷ 0 ∷ 0 ∷ 0 ∷ 1 ∷ 2 ∷ 0 ∷ []; model = Spectre }) refl refl refl refl refl
+mixed_2_agrees = agrees mixed_2 (record { version = 2; numbers = 4 ∷ 4 ∷ 192 ∷ 64 ∷ 17 ∷ 48 ∷ 17 ∷ 1 ∷ 3 ∷ 16 ∷ 1 ∷ 4 ∷ 1 ∷ 32 ∷ 2 ∷ 5 ∷ 8 ∷ 65536 ∷ 65536 ∷ 0 ∷ 0 ∷ 0 ∷ 0 ∷ 0 ∷ 1 ∷ 2 ∷ 0 ∷ []; model = Spectre; defence = Stt }) refl refl refl refl refl
 
 mixed_3_agrees : Agrees mixed_3
 unfolding ones encode scan_numeral digits count_leading_zeros chars is_utf8 skip_from skip_ws decimal_number number
@@ -445,7 +446,7 @@ unfolding ones encode scan_numeral digits count_leading_zeros chars is_utf8 skip
     decode zeros description_of document_fault end_fault key_fault keys_fault latency_fault registers_fault
     second_fault sections_fault top_fault half has_magic word header_fault code_of ram_after ram_fault segment_at
     end_line cycle fetch rename retire event_text events_text row_text rows_text trace_text
-mixed_3_agrees = agrees mixed_3 (record { version = 2; numbers = 1 ∷ 4 ∷ 192 ∷ 34 ∷ 64 ∷ 17 ∷ 17 ∷ 4 ∷ 8 ∷ 2 ∷ 1 ∷ 1 ∷ 2 ∷ 32 ∷ 3 ∷ 4 ∷ 2 ∷ 65536 ∷ 65536 ∷ 0 ∷ 0 ∷ 0 ∷ 0 ∷ 1 ∷ 2 ∷ 0 ∷ []; model = Futuristic }) refl refl refl refl refl
+mixed_3_agrees = agrees mixed_3 (record { version = 2; numbers = 1 ∷ 4 ∷ 192 ∷ 34 ∷ 64 ∷ 17 ∷ 17 ∷ 4 ∷ 8 ∷ 2 ∷ 1 ∷ 1 ∷ 2 ∷ 32 ∷ 3 ∷ 4 ∷ 2 ∷ 65536 ∷ 65536 ∷ 0 ∷ 0 ∷ 0 ∷ 0 ∷ 0 ∷ 1 ∷ 2 ∷ 0 ∷ []; model = Futuristic; defence = Stt }) refl refl refl refl refl
 
 mixed_4_agrees : Agrees mixed_4
 unfolding ones encode scan_numeral digits count_leading_zeros chars is_utf8 skip_from skip_ws decimal_number number
@@ -454,7 +455,7 @@ unfolding ones encode scan_numeral digits count_leading_zeros chars is_utf8 skip
     decode zeros description_of document_fault end_fault key_fault keys_fault latency_fault registers_fault
     second_fault sections_fault top_fault half has_magic word header_fault code_of ram_after ram_fault segment_at
     end_line cycle fetch rename retire event_text events_text row_text rows_text trace_text
-mixed_4_agrees = agrees mixed_4 (record { version = 2; numbers = 4 ∷ 2 ∷ 128 ∷ 64 ∷ 64 ∷ 17 ∷ 32 ∷ 1 ∷ 3 ∷ 2 ∷ 4 ∷ 2 ∷ 2 ∷ 4 ∷ 3 ∷ 6 ∷ 3 ∷ 65536 ∷ 65536 ∷ 0 ∷ 0 ∷ 0 ∷ 0 ∷ 1 ∷ 2 ∷ 0 ∷ []; model = Futuristic }) refl refl refl refl refl
+mixed_4_agrees = agrees mixed_4 (record { version = 2; numbers = 4 ∷ 2 ∷ 128 ∷ 64 ∷ 64 ∷ 17 ∷ 32 ∷ 1 ∷ 3 ∷ 2 ∷ 4 ∷ 2 ∷ 2 ∷ 4 ∷ 3 ∷ 6 ∷ 3 ∷ 65536 ∷ 65536 ∷ 0 ∷ 0 ∷ 0 ∷ 0 ∷ 0 ∷ 1 ∷ 2 ∷ 0 ∷ []; model = Futuristic; defence = Stt }) refl refl refl refl refl
 
 mixed_5_agrees : Agrees mixed_5
 unfolding ones encode scan_numeral digits count_leading_zeros chars is_utf8 skip_from skip_ws decimal_number number
@@ -463,7 +464,7 @@ unfolding ones encode scan_numeral digits count_leading_zeros chars is_utf8 skip
     decode zeros description_of document_fault end_fault key_fault keys_fault latency_fault registers_fault
     second_fault sections_fault top_fault half has_magic word header_fault code_of ram_after ram_fault segment_at
     end_line cycle fetch rename retire event_text events_text row_text rows_text trace_text
-mixed_5_agrees = agrees mixed_5 (record { version = 2; numbers = 1 ∷ 1 ∷ 4 ∷ 2 ∷ 1 ∷ 2 ∷ 2 ∷ 2 ∷ 1 ∷ 2 ∷ 4 ∷ 2 ∷ 3 ∷ 16 ∷ 1 ∷ 9 ∷ 1 ∷ 65536 ∷ 65536 ∷ 0 ∷ 0 ∷ 0 ∷ 0 ∷ 1 ∷ 2 ∷ 0 ∷ []; model = Futuristic }) refl refl refl refl refl
+mixed_5_agrees = agrees mixed_5 (record { version = 2; numbers = 1 ∷ 1 ∷ 4 ∷ 2 ∷ 1 ∷ 2 ∷ 2 ∷ 2 ∷ 1 ∷ 2 ∷ 4 ∷ 2 ∷ 3 ∷ 16 ∷ 1 ∷ 9 ∷ 1 ∷ 65536 ∷ 65536 ∷ 0 ∷ 0 ∷ 0 ∷ 0 ∷ 0 ∷ 1 ∷ 2 ∷ 0 ∷ []; model = Futuristic; defence = Stt }) refl refl refl refl refl
 
 mixed_6_agrees : Agrees mixed_6
 unfolding ones encode scan_numeral digits count_leading_zeros chars is_utf8 skip_from skip_ws decimal_number number
@@ -472,7 +473,7 @@ unfolding ones encode scan_numeral digits count_leading_zeros chars is_utf8 skip
     decode zeros description_of document_fault end_fault key_fault keys_fault latency_fault registers_fault
     second_fault sections_fault top_fault half has_magic word header_fault code_of ram_after ram_fault segment_at
     end_line cycle fetch rename retire event_text events_text row_text rows_text trace_text
-mixed_6_agrees = agrees mixed_6 (record { version = 2; numbers = 1 ∷ 2 ∷ 16 ∷ 3 ∷ 2 ∷ 4 ∷ 8 ∷ 1 ∷ 8 ∷ 16 ∷ 4 ∷ 1 ∷ 1 ∷ 32 ∷ 2 ∷ 17 ∷ 3 ∷ 65536 ∷ 65536 ∷ 0 ∷ 0 ∷ 0 ∷ 0 ∷ 1 ∷ 2 ∷ 0 ∷ []; model = Spectre }) refl refl refl refl refl
+mixed_6_agrees = agrees mixed_6 (record { version = 2; numbers = 1 ∷ 2 ∷ 16 ∷ 3 ∷ 2 ∷ 4 ∷ 8 ∷ 1 ∷ 8 ∷ 16 ∷ 4 ∷ 1 ∷ 1 ∷ 32 ∷ 2 ∷ 17 ∷ 3 ∷ 65536 ∷ 65536 ∷ 0 ∷ 0 ∷ 0 ∷ 0 ∷ 0 ∷ 1 ∷ 2 ∷ 0 ∷ []; model = Spectre; defence = Stt }) refl refl refl refl refl
 
 mixed_7_agrees : Agrees mixed_7
 unfolding ones encode scan_numeral digits count_leading_zeros chars is_utf8 skip_from skip_ws decimal_number number
@@ -481,7 +482,7 @@ unfolding ones encode scan_numeral digits count_leading_zeros chars is_utf8 skip
     decode zeros description_of document_fault end_fault key_fault keys_fault latency_fault registers_fault
     second_fault sections_fault top_fault half has_magic word header_fault code_of ram_after ram_fault segment_at
     end_line cycle fetch rename retire event_text events_text row_text rows_text trace_text
-mixed_7_agrees = agrees mixed_7 (record { version = 2; numbers = 1 ∷ 4 ∷ 70 ∷ 96 ∷ 64 ∷ 17 ∷ 32 ∷ 4 ∷ 1 ∷ 16 ∷ 4 ∷ 4 ∷ 2 ∷ 32 ∷ 1 ∷ 9 ∷ 3 ∷ 65536 ∷ 65536 ∷ 0 ∷ 0 ∷ 0 ∷ 0 ∷ 1 ∷ 2 ∷ 0 ∷ []; model = Spectre }) refl refl refl refl refl
+mixed_7_agrees = agrees mixed_7 (record { version = 2; numbers = 1 ∷ 4 ∷ 70 ∷ 96 ∷ 64 ∷ 17 ∷ 32 ∷ 4 ∷ 1 ∷ 16 ∷ 4 ∷ 4 ∷ 2 ∷ 32 ∷ 1 ∷ 9 ∷ 3 ∷ 65536 ∷ 65536 ∷ 0 ∷ 0 ∷ 0 ∷ 0 ∷ 0 ∷ 1 ∷ 2 ∷ 0 ∷ []; model = Spectre; defence = Stt }) refl refl refl refl refl
 
 mixed_8_agrees : Agrees mixed_8
 unfolding ones encode scan_numeral digits count_leading_zeros chars is_utf8 skip_from skip_ws decimal_number number
@@ -490,7 +491,7 @@ unfolding ones encode scan_numeral digits count_leading_zeros chars is_utf8 skip
     decode zeros description_of document_fault end_fault key_fault keys_fault latency_fault registers_fault
     second_fault sections_fault top_fault half has_magic word header_fault code_of ram_after ram_fault segment_at
     end_line cycle fetch rename retire event_text events_text row_text rows_text trace_text
-mixed_8_agrees = agrees mixed_8 (record { version = 2; numbers = 1 ∷ 1 ∷ 16 ∷ 8 ∷ 4 ∷ 2 ∷ 1 ∷ 4 ∷ 3 ∷ 16 ∷ 1 ∷ 2 ∷ 2 ∷ 4 ∷ 3 ∷ 6 ∷ 2 ∷ 65536 ∷ 65536 ∷ 0 ∷ 0 ∷ 0 ∷ 0 ∷ 1 ∷ 2 ∷ 0 ∷ []; model = Futuristic }) refl refl refl refl refl
+mixed_8_agrees = agrees mixed_8 (record { version = 2; numbers = 1 ∷ 1 ∷ 16 ∷ 8 ∷ 4 ∷ 2 ∷ 1 ∷ 4 ∷ 3 ∷ 16 ∷ 1 ∷ 2 ∷ 2 ∷ 4 ∷ 3 ∷ 6 ∷ 2 ∷ 65536 ∷ 65536 ∷ 0 ∷ 0 ∷ 0 ∷ 0 ∷ 0 ∷ 1 ∷ 2 ∷ 0 ∷ []; model = Futuristic; defence = Stt }) refl refl refl refl refl
 
 mixed_any_address_1_agrees : Agrees mixed_any_address_1
 unfolding ones encode scan_numeral digits count_leading_zeros chars is_utf8 skip_from skip_ws decimal_number number
@@ -499,7 +500,7 @@ unfolding ones encode scan_numeral digits count_leading_zeros chars is_utf8 skip
     decode zeros description_of document_fault end_fault key_fault keys_fault latency_fault registers_fault
     second_fault sections_fault top_fault half has_magic word header_fault code_of ram_after ram_fault segment_at
     end_line cycle fetch rename retire event_text events_text row_text rows_text trace_text
-mixed_any_address_1_agrees = agrees mixed_any_address_1 (record { version = 2; numbers = 1 ∷ 1 ∷ 12 ∷ 2 ∷ 4 ∷ 1 ∷ 8 ∷ 3 ∷ 4 ∷ 16 ∷ 4 ∷ 2 ∷ 1 ∷ 4 ∷ 3 ∷ 13 ∷ 3 ∷ 65536 ∷ 65536 ∷ 1 ∷ 0 ∷ 0 ∷ 0 ∷ 1 ∷ 2 ∷ 0 ∷ []; model = Futuristic }) refl refl refl refl refl
+mixed_any_address_1_agrees = agrees mixed_any_address_1 (record { version = 2; numbers = 1 ∷ 1 ∷ 12 ∷ 2 ∷ 4 ∷ 1 ∷ 8 ∷ 3 ∷ 4 ∷ 16 ∷ 4 ∷ 2 ∷ 1 ∷ 4 ∷ 3 ∷ 13 ∷ 3 ∷ 65536 ∷ 65536 ∷ 1 ∷ 0 ∷ 0 ∷ 0 ∷ 0 ∷ 1 ∷ 2 ∷ 0 ∷ []; model = Futuristic; defence = Stt }) refl refl refl refl refl
 
 mixed_any_address_2_agrees : Agrees mixed_any_address_2
 unfolding ones encode scan_numeral digits count_leading_zeros chars is_utf8 skip_from skip_ws decimal_number number
@@ -508,7 +509,7 @@ unfolding ones encode scan_numeral digits count_leading_zeros chars is_utf8 skip
     decode zeros description_of document_fault end_fault key_fault keys_fault latency_fault registers_fault
     second_fault sections_fault top_fault half has_magic word header_fault code_of ram_after ram_fault segment_at
     end_line cycle fetch rename retire event_text events_text row_text rows_text trace_text
-mixed_any_address_2_agrees = agrees mixed_any_address_2 (record { version = 2; numbers = 4 ∷ 2 ∷ 4 ∷ 8 ∷ 4 ∷ 2 ∷ 8 ∷ 1 ∷ 1 ∷ 2 ∷ 4 ∷ 4 ∷ 2 ∷ 4 ∷ 1 ∷ 11 ∷ 2 ∷ 65536 ∷ 65536 ∷ 1 ∷ 0 ∷ 0 ∷ 0 ∷ 1 ∷ 2 ∷ 0 ∷ []; model = Spectre }) refl refl refl refl refl
+mixed_any_address_2_agrees = agrees mixed_any_address_2 (record { version = 2; numbers = 4 ∷ 2 ∷ 4 ∷ 8 ∷ 4 ∷ 2 ∷ 8 ∷ 1 ∷ 1 ∷ 2 ∷ 4 ∷ 4 ∷ 2 ∷ 4 ∷ 1 ∷ 11 ∷ 2 ∷ 65536 ∷ 65536 ∷ 1 ∷ 0 ∷ 0 ∷ 0 ∷ 0 ∷ 1 ∷ 2 ∷ 0 ∷ []; model = Spectre; defence = Stt }) refl refl refl refl refl
 
 mixed_history_1_agrees : Agrees mixed_history_1
 unfolding ones encode scan_numeral digits count_leading_zeros chars is_utf8 skip_from skip_ws decimal_number number
@@ -517,7 +518,7 @@ unfolding ones encode scan_numeral digits count_leading_zeros chars is_utf8 skip
     decode zeros description_of document_fault end_fault key_fault keys_fault latency_fault registers_fault
     second_fault sections_fault top_fault half has_magic word header_fault code_of ram_after ram_fault segment_at
     end_line cycle fetch rename retire event_text events_text row_text rows_text trace_text
-mixed_history_1_agrees = agrees mixed_history_1 (record { version = 2; numbers = 3 ∷ 4 ∷ 32 ∷ 4 ∷ 8 ∷ 1 ∷ 1 ∷ 1 ∷ 3 ∷ 16 ∷ 1 ∷ 2 ∷ 2 ∷ 16 ∷ 3 ∷ 7 ∷ 2 ∷ 65536 ∷ 65536 ∷ 0 ∷ 3 ∷ 4 ∷ 0 ∷ 1 ∷ 2 ∷ 0 ∷ []; model = Spectre }) refl refl refl refl refl
+mixed_history_1_agrees = agrees mixed_history_1 (record { version = 2; numbers = 3 ∷ 4 ∷ 32 ∷ 4 ∷ 8 ∷ 1 ∷ 1 ∷ 1 ∷ 3 ∷ 16 ∷ 1 ∷ 2 ∷ 2 ∷ 16 ∷ 3 ∷ 7 ∷ 2 ∷ 65536 ∷ 65536 ∷ 0 ∷ 0 ∷ 3 ∷ 4 ∷ 0 ∷ 1 ∷ 2 ∷ 0 ∷ []; model = Spectre; defence = Stt }) refl refl refl refl refl
 
 mixed_history_2_agrees : Agrees mixed_history_2
 unfolding ones encode scan_numeral digits count_leading_zeros chars is_utf8 skip_from skip_ws decimal_number number
@@ -526,7 +527,7 @@ unfolding ones encode scan_numeral digits count_leading_zeros chars is_utf8 skip
     decode zeros description_of document_fault end_fault key_fault keys_fault latency_fault registers_fault
     second_fault sections_fault top_fault half has_magic word header_fault code_of ram_after ram_fault segment_at
     end_line cycle fetch rename retire event_text events_text row_text rows_text trace_text
-mixed_history_2_agrees = agrees mixed_history_2 (record { version = 2; numbers = 4 ∷ 4 ∷ 6 ∷ 2 ∷ 4 ∷ 4 ∷ 4 ∷ 3 ∷ 2 ∷ 4 ∷ 1 ∷ 2 ∷ 1 ∷ 16 ∷ 3 ∷ 6 ∷ 2 ∷ 65536 ∷ 65536 ∷ 0 ∷ 1 ∷ 1 ∷ 0 ∷ 1 ∷ 2 ∷ 0 ∷ []; model = Futuristic }) refl refl refl refl refl
+mixed_history_2_agrees = agrees mixed_history_2 (record { version = 2; numbers = 4 ∷ 4 ∷ 6 ∷ 2 ∷ 4 ∷ 4 ∷ 4 ∷ 3 ∷ 2 ∷ 4 ∷ 1 ∷ 2 ∷ 1 ∷ 16 ∷ 3 ∷ 6 ∷ 2 ∷ 65536 ∷ 65536 ∷ 0 ∷ 0 ∷ 1 ∷ 1 ∷ 0 ∷ 1 ∷ 2 ∷ 0 ∷ []; model = Futuristic; defence = Stt }) refl refl refl refl refl
 
 mixed_memory_1_agrees : Agrees mixed_memory_1
 unfolding ones encode scan_numeral digits count_leading_zeros chars is_utf8 skip_from skip_ws decimal_number number
@@ -535,7 +536,7 @@ unfolding ones encode scan_numeral digits count_leading_zeros chars is_utf8 skip
     decode zeros description_of document_fault end_fault key_fault keys_fault latency_fault registers_fault
     second_fault sections_fault top_fault half has_magic word header_fault code_of ram_after ram_fault segment_at
     end_line cycle fetch rename retire event_text events_text row_text rows_text trace_text
-mixed_memory_1_agrees = agrees mixed_memory_1 (record { version = 2; numbers = 2 ∷ 4 ∷ 4 ∷ 16 ∷ 8 ∷ 4 ∷ 4 ∷ 1 ∷ 1 ∷ 16 ∷ 2 ∷ 1 ∷ 1 ∷ 16 ∷ 3 ∷ 7 ∷ 2 ∷ 65536 ∷ 65536 ∷ 1 ∷ 0 ∷ 0 ∷ 2 ∷ 2 ∷ 6 ∷ 1 ∷ []; model = Spectre }) refl refl refl refl refl
+mixed_memory_1_agrees = agrees mixed_memory_1 (record { version = 2; numbers = 2 ∷ 4 ∷ 4 ∷ 16 ∷ 8 ∷ 4 ∷ 4 ∷ 1 ∷ 1 ∷ 16 ∷ 2 ∷ 1 ∷ 1 ∷ 16 ∷ 3 ∷ 7 ∷ 2 ∷ 65536 ∷ 65536 ∷ 1 ∷ 0 ∷ 0 ∷ 0 ∷ 2 ∷ 2 ∷ 6 ∷ 1 ∷ []; model = Spectre; defence = Stt }) refl refl refl refl refl
 
 mixed_memory_2_agrees : Agrees mixed_memory_2
 unfolding ones encode scan_numeral digits count_leading_zeros chars is_utf8 skip_from skip_ws decimal_number number
@@ -544,7 +545,7 @@ unfolding ones encode scan_numeral digits count_leading_zeros chars is_utf8 skip
     decode zeros description_of document_fault end_fault key_fault keys_fault latency_fault registers_fault
     second_fault sections_fault top_fault half has_magic word header_fault code_of ram_after ram_fault segment_at
     end_line cycle fetch rename retire event_text events_text row_text rows_text trace_text
-mixed_memory_2_agrees = agrees mixed_memory_2 (record { version = 2; numbers = 3 ∷ 2 ∷ 12 ∷ 8 ∷ 1 ∷ 4 ∷ 1 ∷ 2 ∷ 2 ∷ 4 ∷ 4 ∷ 1 ∷ 1 ∷ 8 ∷ 2 ∷ 9 ∷ 2 ∷ 65536 ∷ 65536 ∷ 1 ∷ 0 ∷ 0 ∷ 4 ∷ 4 ∷ 6 ∷ 1 ∷ []; model = Futuristic }) refl refl refl refl refl
+mixed_memory_2_agrees = agrees mixed_memory_2 (record { version = 2; numbers = 3 ∷ 2 ∷ 12 ∷ 8 ∷ 1 ∷ 4 ∷ 1 ∷ 2 ∷ 2 ∷ 4 ∷ 4 ∷ 1 ∷ 1 ∷ 8 ∷ 2 ∷ 9 ∷ 2 ∷ 65536 ∷ 65536 ∷ 1 ∷ 0 ∷ 0 ∷ 0 ∷ 4 ∷ 4 ∷ 6 ∷ 1 ∷ []; model = Futuristic; defence = Stt }) refl refl refl refl refl
 
 mixed_second_level_1_agrees : Agrees mixed_second_level_1
 unfolding ones encode scan_numeral digits count_leading_zeros chars is_utf8 skip_from skip_ws decimal_number number
@@ -553,7 +554,7 @@ unfolding ones encode scan_numeral digits count_leading_zeros chars is_utf8 skip
     decode zeros description_of document_fault end_fault key_fault keys_fault latency_fault registers_fault
     second_fault sections_fault top_fault half has_magic word header_fault code_of ram_after ram_fault segment_at
     end_line cycle fetch rename retire event_text events_text row_text rows_text trace_text
-mixed_second_level_1_agrees = agrees mixed_second_level_1 (record { version = 2; numbers = 4 ∷ 4 ∷ 6 ∷ 8 ∷ 4 ∷ 1 ∷ 4 ∷ 2 ∷ 4 ∷ 16 ∷ 1 ∷ 1 ∷ 1 ∷ 16 ∷ 2 ∷ 14 ∷ 4 ∷ 65536 ∷ 65536 ∷ 0 ∷ 0 ∷ 0 ∷ 4 ∷ 4 ∷ 9 ∷ 1 ∷ []; model = Spectre }) refl refl refl refl refl
+mixed_second_level_1_agrees = agrees mixed_second_level_1 (record { version = 2; numbers = 4 ∷ 4 ∷ 6 ∷ 8 ∷ 4 ∷ 1 ∷ 4 ∷ 2 ∷ 4 ∷ 16 ∷ 1 ∷ 1 ∷ 1 ∷ 16 ∷ 2 ∷ 14 ∷ 4 ∷ 65536 ∷ 65536 ∷ 0 ∷ 0 ∷ 0 ∷ 0 ∷ 4 ∷ 4 ∷ 9 ∷ 1 ∷ []; model = Spectre; defence = Stt }) refl refl refl refl refl
 
 mixed_second_level_2_agrees : Agrees mixed_second_level_2
 unfolding ones encode scan_numeral digits count_leading_zeros chars is_utf8 skip_from skip_ws decimal_number number
@@ -562,7 +563,7 @@ unfolding ones encode scan_numeral digits count_leading_zeros chars is_utf8 skip
     decode zeros description_of document_fault end_fault key_fault keys_fault latency_fault registers_fault
     second_fault sections_fault top_fault half has_magic word header_fault code_of ram_after ram_fault segment_at
     end_line cycle fetch rename retire event_text events_text row_text rows_text trace_text
-mixed_second_level_2_agrees = agrees mixed_second_level_2 (record { version = 2; numbers = 1 ∷ 1 ∷ 32 ∷ 8 ∷ 4 ∷ 1 ∷ 1 ∷ 2 ∷ 4 ∷ 16 ∷ 4 ∷ 1 ∷ 1 ∷ 4 ∷ 1 ∷ 13 ∷ 2 ∷ 65536 ∷ 65536 ∷ 0 ∷ 0 ∷ 0 ∷ 2 ∷ 2 ∷ 2 ∷ 1 ∷ []; model = Futuristic }) refl refl refl refl refl
+mixed_second_level_2_agrees = agrees mixed_second_level_2 (record { version = 2; numbers = 1 ∷ 1 ∷ 32 ∷ 8 ∷ 4 ∷ 1 ∷ 1 ∷ 2 ∷ 4 ∷ 16 ∷ 4 ∷ 1 ∷ 1 ∷ 4 ∷ 1 ∷ 13 ∷ 2 ∷ 65536 ∷ 65536 ∷ 0 ∷ 0 ∷ 0 ∷ 0 ∷ 2 ∷ 2 ∷ 2 ∷ 1 ∷ []; model = Futuristic; defence = Stt }) refl refl refl refl refl
 
 mixed_together_1_agrees : Agrees mixed_together_1
 unfolding ones encode scan_numeral digits count_leading_zeros chars is_utf8 skip_from skip_ws decimal_number number
@@ -571,7 +572,7 @@ unfolding ones encode scan_numeral digits count_leading_zeros chars is_utf8 skip
     decode zeros description_of document_fault end_fault key_fault keys_fault latency_fault registers_fault
     second_fault sections_fault top_fault half has_magic word header_fault code_of ram_after ram_fault segment_at
     end_line cycle fetch rename retire event_text events_text row_text rows_text trace_text
-mixed_together_1_agrees = agrees mixed_together_1 (record { version = 2; numbers = 4 ∷ 2 ∷ 6 ∷ 16 ∷ 4 ∷ 4 ∷ 8 ∷ 1 ∷ 4 ∷ 16 ∷ 2 ∷ 4 ∷ 1 ∷ 8 ∷ 2 ∷ 14 ∷ 2 ∷ 65536 ∷ 65536 ∷ 1 ∷ 6 ∷ 1 ∷ 1 ∷ 4 ∷ 7 ∷ 1 ∷ []; model = Spectre }) refl refl refl refl refl
+mixed_together_1_agrees = agrees mixed_together_1 (record { version = 2; numbers = 4 ∷ 2 ∷ 6 ∷ 16 ∷ 4 ∷ 4 ∷ 8 ∷ 1 ∷ 4 ∷ 16 ∷ 2 ∷ 4 ∷ 1 ∷ 8 ∷ 2 ∷ 14 ∷ 2 ∷ 65536 ∷ 65536 ∷ 1 ∷ 0 ∷ 6 ∷ 1 ∷ 1 ∷ 4 ∷ 7 ∷ 1 ∷ []; model = Spectre; defence = Stt }) refl refl refl refl refl
 
 mixed_together_2_agrees : Agrees mixed_together_2
 unfolding ones encode scan_numeral digits count_leading_zeros chars is_utf8 skip_from skip_ws decimal_number number
@@ -580,7 +581,7 @@ unfolding ones encode scan_numeral digits count_leading_zeros chars is_utf8 skip
     decode zeros description_of document_fault end_fault key_fault keys_fault latency_fault registers_fault
     second_fault sections_fault top_fault half has_magic word header_fault code_of ram_after ram_fault segment_at
     end_line cycle fetch rename retire event_text events_text row_text rows_text trace_text
-mixed_together_2_agrees = agrees mixed_together_2 (record { version = 2; numbers = 4 ∷ 3 ∷ 16 ∷ 8 ∷ 2 ∷ 4 ∷ 1 ∷ 2 ∷ 1 ∷ 8 ∷ 4 ∷ 1 ∷ 3 ∷ 8 ∷ 3 ∷ 12 ∷ 2 ∷ 65536 ∷ 65536 ∷ 1 ∷ 1 ∷ 3 ∷ 2 ∷ 3 ∷ 7 ∷ 1 ∷ []; model = Futuristic }) refl refl refl refl refl
+mixed_together_2_agrees = agrees mixed_together_2 (record { version = 2; numbers = 4 ∷ 3 ∷ 16 ∷ 8 ∷ 2 ∷ 4 ∷ 1 ∷ 2 ∷ 1 ∷ 8 ∷ 4 ∷ 1 ∷ 3 ∷ 8 ∷ 3 ∷ 12 ∷ 2 ∷ 65536 ∷ 65536 ∷ 1 ∷ 0 ∷ 1 ∷ 3 ∷ 2 ∷ 3 ∷ 7 ∷ 1 ∷ []; model = Futuristic; defence = Stt }) refl refl refl refl refl
 
 next_line_fetched_agrees : Agrees next_line_fetched
 unfolding ones encode scan_numeral digits count_leading_zeros chars is_utf8 skip_from skip_ws decimal_number number
@@ -589,7 +590,7 @@ unfolding ones encode scan_numeral digits count_leading_zeros chars is_utf8 skip
     decode zeros description_of document_fault end_fault key_fault keys_fault latency_fault registers_fault
     second_fault sections_fault top_fault half has_magic word header_fault code_of ram_after ram_fault segment_at
     end_line cycle fetch rename retire event_text events_text row_text rows_text trace_text
-next_line_fetched_agrees = agrees next_line_fetched (record { version = 2; numbers = 2 ∷ 2 ∷ 16 ∷ 8 ∷ 4 ∷ 4 ∷ 8 ∷ 2 ∷ 3 ∷ 16 ∷ 4 ∷ 2 ∷ 2 ∷ 16 ∷ 2 ∷ 10 ∷ 2 ∷ 65536 ∷ 65536 ∷ 0 ∷ 0 ∷ 0 ∷ 2 ∷ 2 ∷ 5 ∷ 1 ∷ []; model = Spectre }) refl refl refl refl refl
+next_line_fetched_agrees = agrees next_line_fetched (record { version = 2; numbers = 2 ∷ 2 ∷ 16 ∷ 8 ∷ 4 ∷ 4 ∷ 8 ∷ 2 ∷ 3 ∷ 16 ∷ 4 ∷ 2 ∷ 2 ∷ 16 ∷ 2 ∷ 10 ∷ 2 ∷ 65536 ∷ 65536 ∷ 0 ∷ 0 ∷ 0 ∷ 0 ∷ 2 ∷ 2 ∷ 5 ∷ 1 ∷ []; model = Spectre; defence = Stt }) refl refl refl refl refl
 
 no_prefetch_behind_memory_agrees : Agrees no_prefetch_behind_memory
 unfolding ones encode scan_numeral digits count_leading_zeros chars is_utf8 skip_from skip_ws decimal_number number
@@ -598,7 +599,7 @@ unfolding ones encode scan_numeral digits count_leading_zeros chars is_utf8 skip
     decode zeros description_of document_fault end_fault key_fault keys_fault latency_fault registers_fault
     second_fault sections_fault top_fault half has_magic word header_fault code_of ram_after ram_fault segment_at
     end_line cycle fetch rename retire event_text events_text row_text rows_text trace_text
-no_prefetch_behind_memory_agrees = agrees no_prefetch_behind_memory (record { version = 2; numbers = 2 ∷ 2 ∷ 16 ∷ 8 ∷ 4 ∷ 4 ∷ 8 ∷ 2 ∷ 3 ∷ 16 ∷ 4 ∷ 2 ∷ 2 ∷ 16 ∷ 2 ∷ 10 ∷ 2 ∷ 65536 ∷ 65536 ∷ 0 ∷ 0 ∷ 0 ∷ 0 ∷ 1 ∷ 2 ∷ 1 ∷ []; model = Spectre }) refl refl refl refl refl
+no_prefetch_behind_memory_agrees = agrees no_prefetch_behind_memory (record { version = 2; numbers = 2 ∷ 2 ∷ 16 ∷ 8 ∷ 4 ∷ 4 ∷ 8 ∷ 2 ∷ 3 ∷ 16 ∷ 4 ∷ 2 ∷ 2 ∷ 16 ∷ 2 ∷ 10 ∷ 2 ∷ 65536 ∷ 65536 ∷ 0 ∷ 0 ∷ 0 ∷ 0 ∷ 0 ∷ 1 ∷ 2 ∷ 1 ∷ []; model = Spectre; defence = Stt }) refl refl refl refl refl
 
 no_prefetch_for_a_hit_agrees : Agrees no_prefetch_for_a_hit
 unfolding ones encode scan_numeral digits count_leading_zeros chars is_utf8 skip_from skip_ws decimal_number number
@@ -607,7 +608,7 @@ unfolding ones encode scan_numeral digits count_leading_zeros chars is_utf8 skip
     decode zeros description_of document_fault end_fault key_fault keys_fault latency_fault registers_fault
     second_fault sections_fault top_fault half has_magic word header_fault code_of ram_after ram_fault segment_at
     end_line cycle fetch rename retire event_text events_text row_text rows_text trace_text
-no_prefetch_for_a_hit_agrees = agrees no_prefetch_for_a_hit (record { version = 2; numbers = 2 ∷ 2 ∷ 16 ∷ 8 ∷ 4 ∷ 4 ∷ 8 ∷ 2 ∷ 3 ∷ 16 ∷ 4 ∷ 2 ∷ 2 ∷ 16 ∷ 2 ∷ 10 ∷ 1 ∷ 65536 ∷ 65536 ∷ 0 ∷ 0 ∷ 0 ∷ 0 ∷ 1 ∷ 2 ∷ 1 ∷ []; model = Spectre }) refl refl refl refl refl
+no_prefetch_for_a_hit_agrees = agrees no_prefetch_for_a_hit (record { version = 2; numbers = 2 ∷ 2 ∷ 16 ∷ 8 ∷ 4 ∷ 4 ∷ 8 ∷ 2 ∷ 3 ∷ 16 ∷ 4 ∷ 2 ∷ 2 ∷ 16 ∷ 2 ∷ 10 ∷ 1 ∷ 65536 ∷ 65536 ∷ 0 ∷ 0 ∷ 0 ∷ 0 ∷ 0 ∷ 1 ∷ 2 ∷ 1 ∷ []; model = Spectre; defence = Stt }) refl refl refl refl refl
 
 no_prefetch_for_a_join_agrees : Agrees no_prefetch_for_a_join
 unfolding ones encode scan_numeral digits count_leading_zeros chars is_utf8 skip_from skip_ws decimal_number number
@@ -616,7 +617,7 @@ unfolding ones encode scan_numeral digits count_leading_zeros chars is_utf8 skip
     decode zeros description_of document_fault end_fault key_fault keys_fault latency_fault registers_fault
     second_fault sections_fault top_fault half has_magic word header_fault code_of ram_after ram_fault segment_at
     end_line cycle fetch rename retire event_text events_text row_text rows_text trace_text
-no_prefetch_for_a_join_agrees = agrees no_prefetch_for_a_join (record { version = 2; numbers = 2 ∷ 2 ∷ 16 ∷ 8 ∷ 4 ∷ 4 ∷ 8 ∷ 2 ∷ 3 ∷ 16 ∷ 4 ∷ 2 ∷ 2 ∷ 16 ∷ 2 ∷ 10 ∷ 2 ∷ 65536 ∷ 65536 ∷ 0 ∷ 0 ∷ 0 ∷ 0 ∷ 1 ∷ 2 ∷ 1 ∷ []; model = Spectre }) refl refl refl refl refl
+no_prefetch_for_a_join_agrees = agrees no_prefetch_for_a_join (record { version = 2; numbers = 2 ∷ 2 ∷ 16 ∷ 8 ∷ 4 ∷ 4 ∷ 8 ∷ 2 ∷ 3 ∷ 16 ∷ 4 ∷ 2 ∷ 2 ∷ 16 ∷ 2 ∷ 10 ∷ 2 ∷ 65536 ∷ 65536 ∷ 0 ∷ 0 ∷ 0 ∷ 0 ∷ 0 ∷ 1 ∷ 2 ∷ 1 ∷ []; model = Spectre; defence = Stt }) refl refl refl refl refl
 
 no_prefetch_of_a_held_line_agrees : Agrees no_prefetch_of_a_held_line
 unfolding ones encode scan_numeral digits count_leading_zeros chars is_utf8 skip_from skip_ws decimal_number number
@@ -625,7 +626,7 @@ unfolding ones encode scan_numeral digits count_leading_zeros chars is_utf8 skip
     decode zeros description_of document_fault end_fault key_fault keys_fault latency_fault registers_fault
     second_fault sections_fault top_fault half has_magic word header_fault code_of ram_after ram_fault segment_at
     end_line cycle fetch rename retire event_text events_text row_text rows_text trace_text
-no_prefetch_of_a_held_line_agrees = agrees no_prefetch_of_a_held_line (record { version = 2; numbers = 2 ∷ 2 ∷ 16 ∷ 8 ∷ 4 ∷ 4 ∷ 8 ∷ 2 ∷ 3 ∷ 16 ∷ 4 ∷ 2 ∷ 2 ∷ 16 ∷ 2 ∷ 10 ∷ 4 ∷ 65536 ∷ 65536 ∷ 0 ∷ 0 ∷ 0 ∷ 0 ∷ 1 ∷ 2 ∷ 1 ∷ []; model = Spectre }) refl refl refl refl refl
+no_prefetch_of_a_held_line_agrees = agrees no_prefetch_of_a_held_line (record { version = 2; numbers = 2 ∷ 2 ∷ 16 ∷ 8 ∷ 4 ∷ 4 ∷ 8 ∷ 2 ∷ 3 ∷ 16 ∷ 4 ∷ 2 ∷ 2 ∷ 16 ∷ 2 ∷ 10 ∷ 4 ∷ 65536 ∷ 65536 ∷ 0 ∷ 0 ∷ 0 ∷ 0 ∷ 0 ∷ 1 ∷ 2 ∷ 1 ∷ []; model = Spectre; defence = Stt }) refl refl refl refl refl
 
 no_prefetch_of_address_0_agrees : Agrees no_prefetch_of_address_0
 unfolding ones encode scan_numeral digits count_leading_zeros chars is_utf8 skip_from skip_ws decimal_number number
@@ -634,7 +635,7 @@ unfolding ones encode scan_numeral digits count_leading_zeros chars is_utf8 skip
     decode zeros description_of document_fault end_fault key_fault keys_fault latency_fault registers_fault
     second_fault sections_fault top_fault half has_magic word header_fault code_of ram_after ram_fault segment_at
     end_line cycle fetch rename retire event_text events_text row_text rows_text trace_text
-no_prefetch_of_address_0_agrees = agrees no_prefetch_of_address_0 (record { version = 2; numbers = 2 ∷ 2 ∷ 16 ∷ 8 ∷ 4 ∷ 4 ∷ 8 ∷ 2 ∷ 3 ∷ 16 ∷ 4 ∷ 2 ∷ 2 ∷ 16 ∷ 2 ∷ 10 ∷ 2 ∷ 4294963200 ∷ 4096 ∷ 0 ∷ 0 ∷ 0 ∷ 0 ∷ 1 ∷ 2 ∷ 1 ∷ []; model = Spectre }) refl refl refl refl refl
+no_prefetch_of_address_0_agrees = agrees no_prefetch_of_address_0 (record { version = 2; numbers = 2 ∷ 2 ∷ 16 ∷ 8 ∷ 4 ∷ 4 ∷ 8 ∷ 2 ∷ 3 ∷ 16 ∷ 4 ∷ 2 ∷ 2 ∷ 16 ∷ 2 ∷ 10 ∷ 2 ∷ 4294963200 ∷ 4096 ∷ 0 ∷ 0 ∷ 0 ∷ 0 ∷ 0 ∷ 1 ∷ 2 ∷ 1 ∷ []; model = Spectre; defence = Stt }) refl refl refl refl refl
 
 no_prefetch_on_its_way_agrees : Agrees no_prefetch_on_its_way
 unfolding ones encode scan_numeral digits count_leading_zeros chars is_utf8 skip_from skip_ws decimal_number number
@@ -643,7 +644,7 @@ unfolding ones encode scan_numeral digits count_leading_zeros chars is_utf8 skip
     decode zeros description_of document_fault end_fault key_fault keys_fault latency_fault registers_fault
     second_fault sections_fault top_fault half has_magic word header_fault code_of ram_after ram_fault segment_at
     end_line cycle fetch rename retire event_text events_text row_text rows_text trace_text
-no_prefetch_on_its_way_agrees = agrees no_prefetch_on_its_way (record { version = 2; numbers = 2 ∷ 2 ∷ 16 ∷ 8 ∷ 4 ∷ 4 ∷ 8 ∷ 2 ∷ 3 ∷ 16 ∷ 4 ∷ 2 ∷ 2 ∷ 16 ∷ 2 ∷ 10 ∷ 4 ∷ 65536 ∷ 65536 ∷ 0 ∷ 0 ∷ 0 ∷ 0 ∷ 1 ∷ 2 ∷ 1 ∷ []; model = Spectre }) refl refl refl refl refl
+no_prefetch_on_its_way_agrees = agrees no_prefetch_on_its_way (record { version = 2; numbers = 2 ∷ 2 ∷ 16 ∷ 8 ∷ 4 ∷ 4 ∷ 8 ∷ 2 ∷ 3 ∷ 16 ∷ 4 ∷ 2 ∷ 2 ∷ 16 ∷ 2 ∷ 10 ∷ 4 ∷ 65536 ∷ 65536 ∷ 0 ∷ 0 ∷ 0 ∷ 0 ∷ 0 ∷ 1 ∷ 2 ∷ 1 ∷ []; model = Spectre; defence = Stt }) refl refl refl refl refl
 
 no_prefetch_without_register_agrees : Agrees no_prefetch_without_register
 unfolding ones encode scan_numeral digits count_leading_zeros chars is_utf8 skip_from skip_ws decimal_number number
@@ -652,7 +653,7 @@ unfolding ones encode scan_numeral digits count_leading_zeros chars is_utf8 skip
     decode zeros description_of document_fault end_fault key_fault keys_fault latency_fault registers_fault
     second_fault sections_fault top_fault half has_magic word header_fault code_of ram_after ram_fault segment_at
     end_line cycle fetch rename retire event_text events_text row_text rows_text trace_text
-no_prefetch_without_register_agrees = agrees no_prefetch_without_register (record { version = 2; numbers = 2 ∷ 2 ∷ 16 ∷ 8 ∷ 4 ∷ 4 ∷ 8 ∷ 2 ∷ 3 ∷ 16 ∷ 4 ∷ 2 ∷ 2 ∷ 16 ∷ 2 ∷ 10 ∷ 2 ∷ 65536 ∷ 65536 ∷ 1 ∷ 0 ∷ 0 ∷ 0 ∷ 1 ∷ 2 ∷ 1 ∷ []; model = Spectre }) refl refl refl refl refl
+no_prefetch_without_register_agrees = agrees no_prefetch_without_register (record { version = 2; numbers = 2 ∷ 2 ∷ 16 ∷ 8 ∷ 4 ∷ 4 ∷ 8 ∷ 2 ∷ 3 ∷ 16 ∷ 4 ∷ 2 ∷ 2 ∷ 16 ∷ 2 ∷ 10 ∷ 2 ∷ 65536 ∷ 65536 ∷ 1 ∷ 0 ∷ 0 ∷ 0 ∷ 0 ∷ 1 ∷ 2 ∷ 1 ∷ []; model = Spectre; defence = Stt }) refl refl refl refl refl
 
 one_byte_agrees : Agrees one_byte
 unfolding ones encode scan_numeral digits count_leading_zeros chars is_utf8 skip_from skip_ws decimal_number number
@@ -661,7 +662,7 @@ unfolding ones encode scan_numeral digits count_leading_zeros chars is_utf8 skip
     decode zeros description_of document_fault end_fault key_fault keys_fault latency_fault registers_fault
     second_fault sections_fault top_fault half has_magic word header_fault code_of ram_after ram_fault segment_at
     end_line cycle fetch rename retire event_text events_text row_text rows_text trace_text
-one_byte_agrees = agrees one_byte (record { version = 2; numbers = 2 ∷ 2 ∷ 16 ∷ 8 ∷ 4 ∷ 4 ∷ 8 ∷ 2 ∷ 3 ∷ 16 ∷ 4 ∷ 2 ∷ 2 ∷ 16 ∷ 2 ∷ 10 ∷ 2 ∷ 65536 ∷ 65536 ∷ 0 ∷ 0 ∷ 0 ∷ 0 ∷ 1 ∷ 2 ∷ 0 ∷ []; model = Spectre }) refl refl refl refl refl
+one_byte_agrees = agrees one_byte (record { version = 2; numbers = 2 ∷ 2 ∷ 16 ∷ 8 ∷ 4 ∷ 4 ∷ 8 ∷ 2 ∷ 3 ∷ 16 ∷ 4 ∷ 2 ∷ 2 ∷ 16 ∷ 2 ∷ 10 ∷ 2 ∷ 65536 ∷ 65536 ∷ 0 ∷ 0 ∷ 0 ∷ 0 ∷ 0 ∷ 1 ∷ 2 ∷ 0 ∷ []; model = Spectre; defence = Stt }) refl refl refl refl refl
 
 one_port_each_agrees : Agrees one_port_each
 unfolding ones encode scan_numeral digits count_leading_zeros chars is_utf8 skip_from skip_ws decimal_number number
@@ -670,7 +671,7 @@ unfolding ones encode scan_numeral digits count_leading_zeros chars is_utf8 skip
     decode zeros description_of document_fault end_fault key_fault keys_fault latency_fault registers_fault
     second_fault sections_fault top_fault half has_magic word header_fault code_of ram_after ram_fault segment_at
     end_line cycle fetch rename retire event_text events_text row_text rows_text trace_text
-one_port_each_agrees = agrees one_port_each (record { version = 2; numbers = 2 ∷ 2 ∷ 16 ∷ 8 ∷ 4 ∷ 4 ∷ 8 ∷ 2 ∷ 3 ∷ 16 ∷ 4 ∷ 2 ∷ 2 ∷ 16 ∷ 2 ∷ 10 ∷ 2 ∷ 65536 ∷ 65536 ∷ 0 ∷ 0 ∷ 0 ∷ 0 ∷ 1 ∷ 2 ∷ 0 ∷ []; model = Spectre }) refl refl refl refl refl
+one_port_each_agrees = agrees one_port_each (record { version = 2; numbers = 2 ∷ 2 ∷ 16 ∷ 8 ∷ 4 ∷ 4 ∷ 8 ∷ 2 ∷ 3 ∷ 16 ∷ 4 ∷ 2 ∷ 2 ∷ 16 ∷ 2 ∷ 10 ∷ 2 ∷ 65536 ∷ 65536 ∷ 0 ∷ 0 ∷ 0 ∷ 0 ∷ 0 ∷ 1 ∷ 2 ∷ 0 ∷ []; model = Spectre; defence = Stt }) refl refl refl refl refl
 
 partly_covered_agrees : Agrees partly_covered
 unfolding ones encode scan_numeral digits count_leading_zeros chars is_utf8 skip_from skip_ws decimal_number number
@@ -679,7 +680,7 @@ unfolding ones encode scan_numeral digits count_leading_zeros chars is_utf8 skip
     decode zeros description_of document_fault end_fault key_fault keys_fault latency_fault registers_fault
     second_fault sections_fault top_fault half has_magic word header_fault code_of ram_after ram_fault segment_at
     end_line cycle fetch rename retire event_text events_text row_text rows_text trace_text
-partly_covered_agrees = agrees partly_covered (record { version = 2; numbers = 2 ∷ 2 ∷ 16 ∷ 8 ∷ 4 ∷ 4 ∷ 8 ∷ 2 ∷ 3 ∷ 16 ∷ 4 ∷ 2 ∷ 2 ∷ 16 ∷ 2 ∷ 10 ∷ 2 ∷ 65536 ∷ 65536 ∷ 0 ∷ 0 ∷ 0 ∷ 0 ∷ 1 ∷ 2 ∷ 0 ∷ []; model = Spectre }) refl refl refl refl refl
+partly_covered_agrees = agrees partly_covered (record { version = 2; numbers = 2 ∷ 2 ∷ 16 ∷ 8 ∷ 4 ∷ 4 ∷ 8 ∷ 2 ∷ 3 ∷ 16 ∷ 4 ∷ 2 ∷ 2 ∷ 16 ∷ 2 ∷ 10 ∷ 2 ∷ 65536 ∷ 65536 ∷ 0 ∷ 0 ∷ 0 ∷ 0 ∷ 0 ∷ 1 ∷ 2 ∷ 0 ∷ []; model = Spectre; defence = Stt }) refl refl refl refl refl
 
 parts_alone_agrees : Agrees parts_alone
 unfolding ones encode scan_numeral digits count_leading_zeros chars is_utf8 skip_from skip_ws decimal_number number
@@ -688,7 +689,7 @@ unfolding ones encode scan_numeral digits count_leading_zeros chars is_utf8 skip
     decode zeros description_of document_fault end_fault key_fault keys_fault latency_fault registers_fault
     second_fault sections_fault top_fault half has_magic word header_fault code_of ram_after ram_fault segment_at
     end_line cycle fetch rename retire event_text events_text row_text rows_text trace_text
-parts_alone_agrees = agrees parts_alone (record { version = 2; numbers = 2 ∷ 2 ∷ 16 ∷ 8 ∷ 4 ∷ 4 ∷ 8 ∷ 2 ∷ 3 ∷ 16 ∷ 4 ∷ 2 ∷ 2 ∷ 16 ∷ 2 ∷ 10 ∷ 2 ∷ 65536 ∷ 65536 ∷ 0 ∷ 0 ∷ 0 ∷ 0 ∷ 1 ∷ 2 ∷ 0 ∷ []; model = Spectre }) refl refl refl refl refl
+parts_alone_agrees = agrees parts_alone (record { version = 2; numbers = 2 ∷ 2 ∷ 16 ∷ 8 ∷ 4 ∷ 4 ∷ 8 ∷ 2 ∷ 3 ∷ 16 ∷ 4 ∷ 2 ∷ 2 ∷ 16 ∷ 2 ∷ 10 ∷ 2 ∷ 65536 ∷ 65536 ∷ 0 ∷ 0 ∷ 0 ∷ 0 ∷ 0 ∷ 1 ∷ 2 ∷ 0 ∷ []; model = Spectre; defence = Stt }) refl refl refl refl refl
 
 prefetch_at_the_end_of_memory_agrees : Agrees prefetch_at_the_end_of_memory
 unfolding ones encode scan_numeral digits count_leading_zeros chars is_utf8 skip_from skip_ws decimal_number number
@@ -697,7 +698,7 @@ unfolding ones encode scan_numeral digits count_leading_zeros chars is_utf8 skip
     decode zeros description_of document_fault end_fault key_fault keys_fault latency_fault registers_fault
     second_fault sections_fault top_fault half has_magic word header_fault code_of ram_after ram_fault segment_at
     end_line cycle fetch rename retire event_text events_text row_text rows_text trace_text
-prefetch_at_the_end_of_memory_agrees = agrees prefetch_at_the_end_of_memory (record { version = 2; numbers = 2 ∷ 2 ∷ 16 ∷ 8 ∷ 4 ∷ 4 ∷ 8 ∷ 2 ∷ 3 ∷ 16 ∷ 4 ∷ 2 ∷ 2 ∷ 64 ∷ 2 ∷ 10 ∷ 2 ∷ 65536 ∷ 65552 ∷ 0 ∷ 0 ∷ 0 ∷ 0 ∷ 1 ∷ 2 ∷ 1 ∷ []; model = Spectre }) refl refl refl refl refl
+prefetch_at_the_end_of_memory_agrees = agrees prefetch_at_the_end_of_memory (record { version = 2; numbers = 2 ∷ 2 ∷ 16 ∷ 8 ∷ 4 ∷ 4 ∷ 8 ∷ 2 ∷ 3 ∷ 16 ∷ 4 ∷ 2 ∷ 2 ∷ 64 ∷ 2 ∷ 10 ∷ 2 ∷ 65536 ∷ 65552 ∷ 0 ∷ 0 ∷ 0 ∷ 0 ∷ 0 ∷ 1 ∷ 2 ∷ 1 ∷ []; model = Spectre; defence = Stt }) refl refl refl refl refl
 
 prefetch_behind_both_lines_agrees : Agrees prefetch_behind_both_lines
 unfolding ones encode scan_numeral digits count_leading_zeros chars is_utf8 skip_from skip_ws decimal_number number
@@ -706,7 +707,7 @@ unfolding ones encode scan_numeral digits count_leading_zeros chars is_utf8 skip
     decode zeros description_of document_fault end_fault key_fault keys_fault latency_fault registers_fault
     second_fault sections_fault top_fault half has_magic word header_fault code_of ram_after ram_fault segment_at
     end_line cycle fetch rename retire event_text events_text row_text rows_text trace_text
-prefetch_behind_both_lines_agrees = agrees prefetch_behind_both_lines (record { version = 2; numbers = 2 ∷ 2 ∷ 16 ∷ 8 ∷ 4 ∷ 4 ∷ 8 ∷ 2 ∷ 3 ∷ 16 ∷ 4 ∷ 2 ∷ 2 ∷ 16 ∷ 2 ∷ 10 ∷ 4 ∷ 65536 ∷ 65536 ∷ 1 ∷ 0 ∷ 0 ∷ 0 ∷ 1 ∷ 2 ∷ 1 ∷ []; model = Spectre }) refl refl refl refl refl
+prefetch_behind_both_lines_agrees = agrees prefetch_behind_both_lines (record { version = 2; numbers = 2 ∷ 2 ∷ 16 ∷ 8 ∷ 4 ∷ 4 ∷ 8 ∷ 2 ∷ 3 ∷ 16 ∷ 4 ∷ 2 ∷ 2 ∷ 16 ∷ 2 ∷ 10 ∷ 4 ∷ 65536 ∷ 65536 ∷ 1 ∷ 0 ∷ 0 ∷ 0 ∷ 0 ∷ 1 ∷ 2 ∷ 1 ∷ []; model = Spectre; defence = Stt }) refl refl refl refl refl
 
 prefetch_behind_the_lower_line_agrees : Agrees prefetch_behind_the_lower_line
 unfolding ones encode scan_numeral digits count_leading_zeros chars is_utf8 skip_from skip_ws decimal_number number
@@ -715,7 +716,7 @@ unfolding ones encode scan_numeral digits count_leading_zeros chars is_utf8 skip
     decode zeros description_of document_fault end_fault key_fault keys_fault latency_fault registers_fault
     second_fault sections_fault top_fault half has_magic word header_fault code_of ram_after ram_fault segment_at
     end_line cycle fetch rename retire event_text events_text row_text rows_text trace_text
-prefetch_behind_the_lower_line_agrees = agrees prefetch_behind_the_lower_line (record { version = 2; numbers = 2 ∷ 2 ∷ 16 ∷ 8 ∷ 4 ∷ 4 ∷ 8 ∷ 2 ∷ 3 ∷ 16 ∷ 4 ∷ 2 ∷ 1 ∷ 16 ∷ 2 ∷ 10 ∷ 2 ∷ 65536 ∷ 65536 ∷ 1 ∷ 0 ∷ 0 ∷ 0 ∷ 1 ∷ 2 ∷ 1 ∷ []; model = Spectre }) refl refl refl refl refl
+prefetch_behind_the_lower_line_agrees = agrees prefetch_behind_the_lower_line (record { version = 2; numbers = 2 ∷ 2 ∷ 16 ∷ 8 ∷ 4 ∷ 4 ∷ 8 ∷ 2 ∷ 3 ∷ 16 ∷ 4 ∷ 2 ∷ 1 ∷ 16 ∷ 2 ∷ 10 ∷ 2 ∷ 65536 ∷ 65536 ∷ 1 ∷ 0 ∷ 0 ∷ 0 ∷ 0 ∷ 1 ∷ 2 ∷ 1 ∷ []; model = Spectre; defence = Stt }) refl refl refl refl refl
 
 prefetch_from_second_agrees : Agrees prefetch_from_second
 unfolding ones encode scan_numeral digits count_leading_zeros chars is_utf8 skip_from skip_ws decimal_number number
@@ -724,7 +725,7 @@ unfolding ones encode scan_numeral digits count_leading_zeros chars is_utf8 skip
     decode zeros description_of document_fault end_fault key_fault keys_fault latency_fault registers_fault
     second_fault sections_fault top_fault half has_magic word header_fault code_of ram_after ram_fault segment_at
     end_line cycle fetch rename retire event_text events_text row_text rows_text trace_text
-prefetch_from_second_agrees = agrees prefetch_from_second (record { version = 2; numbers = 2 ∷ 2 ∷ 16 ∷ 8 ∷ 4 ∷ 4 ∷ 8 ∷ 2 ∷ 3 ∷ 16 ∷ 4 ∷ 1 ∷ 1 ∷ 16 ∷ 2 ∷ 10 ∷ 2 ∷ 65536 ∷ 65536 ∷ 0 ∷ 0 ∷ 0 ∷ 1 ∷ 4 ∷ 5 ∷ 1 ∷ []; model = Spectre }) refl refl refl refl refl
+prefetch_from_second_agrees = agrees prefetch_from_second (record { version = 2; numbers = 2 ∷ 2 ∷ 16 ∷ 8 ∷ 4 ∷ 4 ∷ 8 ∷ 2 ∷ 3 ∷ 16 ∷ 4 ∷ 1 ∷ 1 ∷ 16 ∷ 2 ∷ 10 ∷ 2 ∷ 65536 ∷ 65536 ∷ 0 ∷ 0 ∷ 0 ∷ 0 ∷ 1 ∷ 4 ∷ 5 ∷ 1 ∷ []; model = Spectre; defence = Stt }) refl refl refl refl refl
 
 recent_in_second_agrees : Agrees recent_in_second
 unfolding ones encode scan_numeral digits count_leading_zeros chars is_utf8 skip_from skip_ws decimal_number number
@@ -733,7 +734,7 @@ unfolding ones encode scan_numeral digits count_leading_zeros chars is_utf8 skip
     decode zeros description_of document_fault end_fault key_fault keys_fault latency_fault registers_fault
     second_fault sections_fault top_fault half has_magic word header_fault code_of ram_after ram_fault segment_at
     end_line cycle fetch rename retire event_text events_text row_text rows_text trace_text
-recent_in_second_agrees = agrees recent_in_second (record { version = 2; numbers = 2 ∷ 2 ∷ 16 ∷ 8 ∷ 4 ∷ 4 ∷ 8 ∷ 2 ∷ 3 ∷ 16 ∷ 4 ∷ 1 ∷ 1 ∷ 16 ∷ 2 ∷ 10 ∷ 2 ∷ 65536 ∷ 65536 ∷ 0 ∷ 0 ∷ 0 ∷ 1 ∷ 2 ∷ 5 ∷ 0 ∷ []; model = Spectre }) refl refl refl refl refl
+recent_in_second_agrees = agrees recent_in_second (record { version = 2; numbers = 2 ∷ 2 ∷ 16 ∷ 8 ∷ 4 ∷ 4 ∷ 8 ∷ 2 ∷ 3 ∷ 16 ∷ 4 ∷ 1 ∷ 1 ∷ 16 ∷ 2 ∷ 10 ∷ 2 ∷ 65536 ∷ 65536 ∷ 0 ∷ 0 ∷ 0 ∷ 0 ∷ 1 ∷ 2 ∷ 5 ∷ 0 ∷ []; model = Spectre; defence = Stt }) refl refl refl refl refl
 
 registers_for_both_lines_agrees : Agrees registers_for_both_lines
 unfolding ones encode scan_numeral digits count_leading_zeros chars is_utf8 skip_from skip_ws decimal_number number
@@ -742,7 +743,7 @@ unfolding ones encode scan_numeral digits count_leading_zeros chars is_utf8 skip
     decode zeros description_of document_fault end_fault key_fault keys_fault latency_fault registers_fault
     second_fault sections_fault top_fault half has_magic word header_fault code_of ram_after ram_fault segment_at
     end_line cycle fetch rename retire event_text events_text row_text rows_text trace_text
-registers_for_both_lines_agrees = agrees registers_for_both_lines (record { version = 2; numbers = 2 ∷ 2 ∷ 16 ∷ 8 ∷ 4 ∷ 4 ∷ 8 ∷ 2 ∷ 3 ∷ 16 ∷ 4 ∷ 2 ∷ 2 ∷ 16 ∷ 2 ∷ 10 ∷ 2 ∷ 65536 ∷ 65536 ∷ 1 ∷ 0 ∷ 0 ∷ 0 ∷ 1 ∷ 2 ∷ 0 ∷ []; model = Spectre }) refl refl refl refl refl
+registers_for_both_lines_agrees = agrees registers_for_both_lines (record { version = 2; numbers = 2 ∷ 2 ∷ 16 ∷ 8 ∷ 4 ∷ 4 ∷ 8 ∷ 2 ∷ 3 ∷ 16 ∷ 4 ∷ 2 ∷ 2 ∷ 16 ∷ 2 ∷ 10 ∷ 2 ∷ 65536 ∷ 65536 ∷ 1 ∷ 0 ∷ 0 ∷ 0 ∷ 0 ∷ 1 ∷ 2 ∷ 0 ∷ []; model = Spectre; defence = Stt }) refl refl refl refl refl
 
 return_by_another_register_agrees : Agrees return_by_another_register
 unfolding ones encode scan_numeral digits count_leading_zeros chars is_utf8 skip_from skip_ws decimal_number number
@@ -751,7 +752,7 @@ unfolding ones encode scan_numeral digits count_leading_zeros chars is_utf8 skip
     decode zeros description_of document_fault end_fault key_fault keys_fault latency_fault registers_fault
     second_fault sections_fault top_fault half has_magic word header_fault code_of ram_after ram_fault segment_at
     end_line cycle fetch rename retire event_text events_text row_text rows_text trace_text
-return_by_another_register_agrees = agrees return_by_another_register (record { version = 2; numbers = 2 ∷ 2 ∷ 16 ∷ 8 ∷ 4 ∷ 4 ∷ 8 ∷ 2 ∷ 3 ∷ 16 ∷ 4 ∷ 2 ∷ 2 ∷ 16 ∷ 2 ∷ 10 ∷ 2 ∷ 65536 ∷ 65536 ∷ 0 ∷ 0 ∷ 4 ∷ 0 ∷ 1 ∷ 2 ∷ 0 ∷ []; model = Spectre }) refl refl refl refl refl
+return_by_another_register_agrees = agrees return_by_another_register (record { version = 2; numbers = 2 ∷ 2 ∷ 16 ∷ 8 ∷ 4 ∷ 4 ∷ 8 ∷ 2 ∷ 3 ∷ 16 ∷ 4 ∷ 2 ∷ 2 ∷ 16 ∷ 2 ∷ 10 ∷ 2 ∷ 65536 ∷ 65536 ∷ 0 ∷ 0 ∷ 0 ∷ 4 ∷ 0 ∷ 1 ∷ 2 ∷ 0 ∷ []; model = Spectre; defence = Stt }) refl refl refl refl refl
 
 return_by_stack_agrees : Agrees return_by_stack
 unfolding ones encode scan_numeral digits count_leading_zeros chars is_utf8 skip_from skip_ws decimal_number number
@@ -760,7 +761,7 @@ unfolding ones encode scan_numeral digits count_leading_zeros chars is_utf8 skip
     decode zeros description_of document_fault end_fault key_fault keys_fault latency_fault registers_fault
     second_fault sections_fault top_fault half has_magic word header_fault code_of ram_after ram_fault segment_at
     end_line cycle fetch rename retire event_text events_text row_text rows_text trace_text
-return_by_stack_agrees = agrees return_by_stack (record { version = 2; numbers = 2 ∷ 2 ∷ 16 ∷ 8 ∷ 4 ∷ 4 ∷ 8 ∷ 2 ∷ 3 ∷ 16 ∷ 4 ∷ 2 ∷ 2 ∷ 16 ∷ 2 ∷ 10 ∷ 2 ∷ 65536 ∷ 65536 ∷ 0 ∷ 0 ∷ 4 ∷ 0 ∷ 1 ∷ 2 ∷ 0 ∷ []; model = Spectre }) refl refl refl refl refl
+return_by_stack_agrees = agrees return_by_stack (record { version = 2; numbers = 2 ∷ 2 ∷ 16 ∷ 8 ∷ 4 ∷ 4 ∷ 8 ∷ 2 ∷ 3 ∷ 16 ∷ 4 ∷ 2 ∷ 2 ∷ 16 ∷ 2 ∷ 10 ∷ 2 ∷ 65536 ∷ 65536 ∷ 0 ∷ 0 ∷ 0 ∷ 4 ∷ 0 ∷ 1 ∷ 2 ∷ 0 ∷ []; model = Spectre; defence = Stt }) refl refl refl refl refl
 
 return_from_no_call_agrees : Agrees return_from_no_call
 unfolding ones encode scan_numeral digits count_leading_zeros chars is_utf8 skip_from skip_ws decimal_number number
@@ -769,7 +770,7 @@ unfolding ones encode scan_numeral digits count_leading_zeros chars is_utf8 skip
     decode zeros description_of document_fault end_fault key_fault keys_fault latency_fault registers_fault
     second_fault sections_fault top_fault half has_magic word header_fault code_of ram_after ram_fault segment_at
     end_line cycle fetch rename retire event_text events_text row_text rows_text trace_text
-return_from_no_call_agrees = agrees return_from_no_call (record { version = 2; numbers = 2 ∷ 2 ∷ 16 ∷ 8 ∷ 4 ∷ 4 ∷ 8 ∷ 2 ∷ 3 ∷ 16 ∷ 4 ∷ 2 ∷ 2 ∷ 16 ∷ 2 ∷ 10 ∷ 2 ∷ 65536 ∷ 65536 ∷ 0 ∷ 0 ∷ 4 ∷ 0 ∷ 1 ∷ 2 ∷ 0 ∷ []; model = Spectre }) refl refl refl refl refl
+return_from_no_call_agrees = agrees return_from_no_call (record { version = 2; numbers = 2 ∷ 2 ∷ 16 ∷ 8 ∷ 4 ∷ 4 ∷ 8 ∷ 2 ∷ 3 ∷ 16 ∷ 4 ∷ 2 ∷ 2 ∷ 16 ∷ 2 ∷ 10 ∷ 2 ∷ 65536 ∷ 65536 ∷ 0 ∷ 0 ∷ 0 ∷ 4 ∷ 0 ∷ 1 ∷ 2 ∷ 0 ∷ []; model = Spectre; defence = Stt }) refl refl refl refl refl
 
 return_that_links_agrees : Agrees return_that_links
 unfolding ones encode scan_numeral digits count_leading_zeros chars is_utf8 skip_from skip_ws decimal_number number
@@ -778,7 +779,7 @@ unfolding ones encode scan_numeral digits count_leading_zeros chars is_utf8 skip
     decode zeros description_of document_fault end_fault key_fault keys_fault latency_fault registers_fault
     second_fault sections_fault top_fault half has_magic word header_fault code_of ram_after ram_fault segment_at
     end_line cycle fetch rename retire event_text events_text row_text rows_text trace_text
-return_that_links_agrees = agrees return_that_links (record { version = 2; numbers = 2 ∷ 2 ∷ 16 ∷ 8 ∷ 4 ∷ 4 ∷ 8 ∷ 2 ∷ 3 ∷ 16 ∷ 4 ∷ 2 ∷ 2 ∷ 16 ∷ 2 ∷ 10 ∷ 2 ∷ 65536 ∷ 65536 ∷ 0 ∷ 0 ∷ 4 ∷ 0 ∷ 1 ∷ 2 ∷ 0 ∷ []; model = Spectre }) refl refl refl refl refl
+return_that_links_agrees = agrees return_that_links (record { version = 2; numbers = 2 ∷ 2 ∷ 16 ∷ 8 ∷ 4 ∷ 4 ∷ 8 ∷ 2 ∷ 3 ∷ 16 ∷ 4 ∷ 2 ∷ 2 ∷ 16 ∷ 2 ∷ 10 ∷ 2 ∷ 65536 ∷ 65536 ∷ 0 ∷ 0 ∷ 0 ∷ 4 ∷ 0 ∷ 1 ∷ 2 ∷ 0 ∷ []; model = Spectre; defence = Stt }) refl refl refl refl refl
 
 return_without_stack_agrees : Agrees return_without_stack
 unfolding ones encode scan_numeral digits count_leading_zeros chars is_utf8 skip_from skip_ws decimal_number number
@@ -787,7 +788,7 @@ unfolding ones encode scan_numeral digits count_leading_zeros chars is_utf8 skip
     decode zeros description_of document_fault end_fault key_fault keys_fault latency_fault registers_fault
     second_fault sections_fault top_fault half has_magic word header_fault code_of ram_after ram_fault segment_at
     end_line cycle fetch rename retire event_text events_text row_text rows_text trace_text
-return_without_stack_agrees = agrees return_without_stack (record { version = 2; numbers = 2 ∷ 2 ∷ 16 ∷ 8 ∷ 4 ∷ 4 ∷ 8 ∷ 2 ∷ 3 ∷ 16 ∷ 4 ∷ 2 ∷ 2 ∷ 16 ∷ 2 ∷ 10 ∷ 2 ∷ 65536 ∷ 65536 ∷ 0 ∷ 0 ∷ 0 ∷ 0 ∷ 1 ∷ 2 ∷ 0 ∷ []; model = Spectre }) refl refl refl refl refl
+return_without_stack_agrees = agrees return_without_stack (record { version = 2; numbers = 2 ∷ 2 ∷ 16 ∷ 8 ∷ 4 ∷ 4 ∷ 8 ∷ 2 ∷ 3 ∷ 16 ∷ 4 ∷ 2 ∷ 2 ∷ 16 ∷ 2 ∷ 10 ∷ 2 ∷ 65536 ∷ 65536 ∷ 0 ∷ 0 ∷ 0 ∷ 0 ∷ 0 ∷ 1 ∷ 2 ∷ 0 ∷ []; model = Spectre; defence = Stt }) refl refl refl refl refl
 
 run_01_agrees : Agrees run_01
 unfolding ones encode scan_numeral digits count_leading_zeros chars is_utf8 skip_from skip_ws decimal_number number
@@ -796,7 +797,7 @@ unfolding ones encode scan_numeral digits count_leading_zeros chars is_utf8 skip
     decode zeros description_of document_fault end_fault key_fault keys_fault latency_fault registers_fault
     second_fault sections_fault top_fault half has_magic word header_fault code_of ram_after ram_fault segment_at
     end_line cycle fetch rename retire event_text events_text row_text rows_text trace_text
-run_01_agrees = agrees run_01 (record { version = 1; numbers = 4 ∷ 4 ∷ 46 ∷ 15 ∷ 5 ∷ 16 ∷ 16 ∷ 2 ∷ 1 ∷ 4 ∷ 2 ∷ 4 ∷ 1 ∷ 16 ∷ 3 ∷ 6 ∷ 7 ∷ 65536 ∷ 4096 ∷ 0 ∷ 0 ∷ 0 ∷ 0 ∷ 1 ∷ 2 ∷ 0 ∷ []; model = Futuristic }) refl refl refl refl refl
+run_01_agrees = agrees run_01 (record { version = 1; numbers = 4 ∷ 4 ∷ 46 ∷ 15 ∷ 5 ∷ 16 ∷ 16 ∷ 2 ∷ 1 ∷ 4 ∷ 2 ∷ 4 ∷ 1 ∷ 16 ∷ 3 ∷ 6 ∷ 7 ∷ 65536 ∷ 4096 ∷ 0 ∷ 0 ∷ 0 ∷ 0 ∷ 0 ∷ 1 ∷ 2 ∷ 0 ∷ []; model = Futuristic; defence = Stt }) refl refl refl refl refl
 
 run_02_agrees : Agrees run_02
 unfolding ones encode scan_numeral digits count_leading_zeros chars is_utf8 skip_from skip_ws decimal_number number
@@ -805,7 +806,7 @@ unfolding ones encode scan_numeral digits count_leading_zeros chars is_utf8 skip
     decode zeros description_of document_fault end_fault key_fault keys_fault latency_fault registers_fault
     second_fault sections_fault top_fault half has_magic word header_fault code_of ram_after ram_fault segment_at
     end_line cycle fetch rename retire event_text events_text row_text rows_text trace_text
-run_02_agrees = agrees run_02 (record { version = 1; numbers = 2 ∷ 4 ∷ 17 ∷ 32 ∷ 16 ∷ 16 ∷ 7 ∷ 1 ∷ 5 ∷ 8 ∷ 8 ∷ 2 ∷ 8 ∷ 16 ∷ 2 ∷ 11 ∷ 8 ∷ 0 ∷ 4096 ∷ 0 ∷ 0 ∷ 0 ∷ 0 ∷ 1 ∷ 2 ∷ 0 ∷ []; model = Futuristic }) refl refl refl refl refl
+run_02_agrees = agrees run_02 (record { version = 1; numbers = 2 ∷ 4 ∷ 17 ∷ 32 ∷ 16 ∷ 16 ∷ 7 ∷ 1 ∷ 5 ∷ 8 ∷ 8 ∷ 2 ∷ 8 ∷ 16 ∷ 2 ∷ 11 ∷ 8 ∷ 0 ∷ 4096 ∷ 0 ∷ 0 ∷ 0 ∷ 0 ∷ 0 ∷ 1 ∷ 2 ∷ 0 ∷ []; model = Futuristic; defence = Stt }) refl refl refl refl refl
 
 run_03_agrees : Agrees run_03
 unfolding ones encode scan_numeral digits count_leading_zeros chars is_utf8 skip_from skip_ws decimal_number number
@@ -814,7 +815,7 @@ unfolding ones encode scan_numeral digits count_leading_zeros chars is_utf8 skip
     decode zeros description_of document_fault end_fault key_fault keys_fault latency_fault registers_fault
     second_fault sections_fault top_fault half has_magic word header_fault code_of ram_after ram_fault segment_at
     end_line cycle fetch rename retire event_text events_text row_text rows_text trace_text
-run_03_agrees = agrees run_03 (record { version = 1; numbers = 3 ∷ 2 ∷ 14 ∷ 10 ∷ 1 ∷ 7 ∷ 3 ∷ 1 ∷ 4 ∷ 16 ∷ 4 ∷ 2 ∷ 8 ∷ 64 ∷ 8 ∷ 15 ∷ 3 ∷ 65536 ∷ 4096 ∷ 0 ∷ 0 ∷ 0 ∷ 0 ∷ 1 ∷ 2 ∷ 0 ∷ []; model = Futuristic }) refl refl refl refl refl
+run_03_agrees = agrees run_03 (record { version = 1; numbers = 3 ∷ 2 ∷ 14 ∷ 10 ∷ 1 ∷ 7 ∷ 3 ∷ 1 ∷ 4 ∷ 16 ∷ 4 ∷ 2 ∷ 8 ∷ 64 ∷ 8 ∷ 15 ∷ 3 ∷ 65536 ∷ 4096 ∷ 0 ∷ 0 ∷ 0 ∷ 0 ∷ 0 ∷ 1 ∷ 2 ∷ 0 ∷ []; model = Futuristic; defence = Stt }) refl refl refl refl refl
 
 run_04_agrees : Agrees run_04
 unfolding ones encode scan_numeral digits count_leading_zeros chars is_utf8 skip_from skip_ws decimal_number number
@@ -823,7 +824,7 @@ unfolding ones encode scan_numeral digits count_leading_zeros chars is_utf8 skip
     decode zeros description_of document_fault end_fault key_fault keys_fault latency_fault registers_fault
     second_fault sections_fault top_fault half has_magic word header_fault code_of ram_after ram_fault segment_at
     end_line cycle fetch rename retire event_text events_text row_text rows_text trace_text
-run_04_agrees = agrees run_04 (record { version = 1; numbers = 1 ∷ 2 ∷ 15 ∷ 2 ∷ 6 ∷ 14 ∷ 16 ∷ 4 ∷ 1 ∷ 4 ∷ 2 ∷ 1 ∷ 2 ∷ 4 ∷ 3 ∷ 6 ∷ 1 ∷ 19584 ∷ 4896 ∷ 0 ∷ 0 ∷ 0 ∷ 0 ∷ 1 ∷ 2 ∷ 0 ∷ []; model = Futuristic }) refl refl refl refl refl
+run_04_agrees = agrees run_04 (record { version = 1; numbers = 1 ∷ 2 ∷ 15 ∷ 2 ∷ 6 ∷ 14 ∷ 16 ∷ 4 ∷ 1 ∷ 4 ∷ 2 ∷ 1 ∷ 2 ∷ 4 ∷ 3 ∷ 6 ∷ 1 ∷ 19584 ∷ 4896 ∷ 0 ∷ 0 ∷ 0 ∷ 0 ∷ 0 ∷ 1 ∷ 2 ∷ 0 ∷ []; model = Futuristic; defence = Stt }) refl refl refl refl refl
 
 run_05_agrees : Agrees run_05
 unfolding ones encode scan_numeral digits count_leading_zeros chars is_utf8 skip_from skip_ws decimal_number number
@@ -832,7 +833,7 @@ unfolding ones encode scan_numeral digits count_leading_zeros chars is_utf8 skip
     decode zeros description_of document_fault end_fault key_fault keys_fault latency_fault registers_fault
     second_fault sections_fault top_fault half has_magic word header_fault code_of ram_after ram_fault segment_at
     end_line cycle fetch rename retire event_text events_text row_text rows_text trace_text
-run_05_agrees = agrees run_05 (record { version = 1; numbers = 1 ∷ 1 ∷ 48 ∷ 12 ∷ 3 ∷ 5 ∷ 16 ∷ 1 ∷ 2 ∷ 16 ∷ 64 ∷ 1 ∷ 5 ∷ 4 ∷ 3 ∷ 24 ∷ 4 ∷ 65536 ∷ 4096 ∷ 0 ∷ 0 ∷ 0 ∷ 0 ∷ 1 ∷ 2 ∷ 0 ∷ []; model = Spectre }) refl refl refl refl refl
+run_05_agrees = agrees run_05 (record { version = 1; numbers = 1 ∷ 1 ∷ 48 ∷ 12 ∷ 3 ∷ 5 ∷ 16 ∷ 1 ∷ 2 ∷ 16 ∷ 64 ∷ 1 ∷ 5 ∷ 4 ∷ 3 ∷ 24 ∷ 4 ∷ 65536 ∷ 4096 ∷ 0 ∷ 0 ∷ 0 ∷ 0 ∷ 0 ∷ 1 ∷ 2 ∷ 0 ∷ []; model = Spectre; defence = Stt }) refl refl refl refl refl
 
 run_06_agrees : Agrees run_06
 unfolding ones encode scan_numeral digits count_leading_zeros chars is_utf8 skip_from skip_ws decimal_number number
@@ -841,7 +842,7 @@ unfolding ones encode scan_numeral digits count_leading_zeros chars is_utf8 skip
     decode zeros description_of document_fault end_fault key_fault keys_fault latency_fault registers_fault
     second_fault sections_fault top_fault half has_magic word header_fault code_of ram_after ram_fault segment_at
     end_line cycle fetch rename retire event_text events_text row_text rows_text trace_text
-run_06_agrees = agrees run_06 (record { version = 1; numbers = 4 ∷ 1 ∷ 17 ∷ 14 ∷ 6 ∷ 4 ∷ 7 ∷ 3 ∷ 3 ∷ 4 ∷ 64 ∷ 2 ∷ 1 ∷ 16 ∷ 8 ∷ 9 ∷ 1 ∷ 24304 ∷ 5888 ∷ 0 ∷ 0 ∷ 0 ∷ 0 ∷ 1 ∷ 2 ∷ 0 ∷ []; model = Spectre }) refl refl refl refl refl
+run_06_agrees = agrees run_06 (record { version = 1; numbers = 4 ∷ 1 ∷ 17 ∷ 14 ∷ 6 ∷ 4 ∷ 7 ∷ 3 ∷ 3 ∷ 4 ∷ 64 ∷ 2 ∷ 1 ∷ 16 ∷ 8 ∷ 9 ∷ 1 ∷ 24304 ∷ 5888 ∷ 0 ∷ 0 ∷ 0 ∷ 0 ∷ 0 ∷ 1 ∷ 2 ∷ 0 ∷ []; model = Spectre; defence = Stt }) refl refl refl refl refl
 
 run_07_agrees : Agrees run_07
 unfolding ones encode scan_numeral digits count_leading_zeros chars is_utf8 skip_from skip_ws decimal_number number
@@ -850,7 +851,7 @@ unfolding ones encode scan_numeral digits count_leading_zeros chars is_utf8 skip
     decode zeros description_of document_fault end_fault key_fault keys_fault latency_fault registers_fault
     second_fault sections_fault top_fault half has_magic word header_fault code_of ram_after ram_fault segment_at
     end_line cycle fetch rename retire event_text events_text row_text rows_text trace_text
-run_07_agrees = agrees run_07 (record { version = 1; numbers = 2 ∷ 2 ∷ 4 ∷ 2 ∷ 1 ∷ 12 ∷ 1 ∷ 4 ∷ 1 ∷ 8 ∷ 2 ∷ 4 ∷ 8 ∷ 16 ∷ 2 ∷ 18 ∷ 7 ∷ 65536 ∷ 65536 ∷ 0 ∷ 0 ∷ 0 ∷ 0 ∷ 1 ∷ 2 ∷ 0 ∷ []; model = Futuristic }) refl refl refl refl refl
+run_07_agrees = agrees run_07 (record { version = 1; numbers = 2 ∷ 2 ∷ 4 ∷ 2 ∷ 1 ∷ 12 ∷ 1 ∷ 4 ∷ 1 ∷ 8 ∷ 2 ∷ 4 ∷ 8 ∷ 16 ∷ 2 ∷ 18 ∷ 7 ∷ 65536 ∷ 65536 ∷ 0 ∷ 0 ∷ 0 ∷ 0 ∷ 0 ∷ 1 ∷ 2 ∷ 0 ∷ []; model = Futuristic; defence = Stt }) refl refl refl refl refl
 
 run_08_agrees : Agrees run_08
 unfolding ones encode scan_numeral digits count_leading_zeros chars is_utf8 skip_from skip_ws decimal_number number
@@ -859,7 +860,7 @@ unfolding ones encode scan_numeral digits count_leading_zeros chars is_utf8 skip
     decode zeros description_of document_fault end_fault key_fault keys_fault latency_fault registers_fault
     second_fault sections_fault top_fault half has_magic word header_fault code_of ram_after ram_fault segment_at
     end_line cycle fetch rename retire event_text events_text row_text rows_text trace_text
-run_08_agrees = agrees run_08 (record { version = 1; numbers = 1 ∷ 1 ∷ 64 ∷ 6 ∷ 3 ∷ 13 ∷ 7 ∷ 4 ∷ 1 ∷ 16 ∷ 1 ∷ 4 ∷ 1 ∷ 8 ∷ 1 ∷ 200 ∷ 2 ∷ 65536 ∷ 65536 ∷ 0 ∷ 0 ∷ 0 ∷ 0 ∷ 1 ∷ 2 ∷ 0 ∷ []; model = Futuristic }) refl refl refl refl refl
+run_08_agrees = agrees run_08 (record { version = 1; numbers = 1 ∷ 1 ∷ 64 ∷ 6 ∷ 3 ∷ 13 ∷ 7 ∷ 4 ∷ 1 ∷ 16 ∷ 1 ∷ 4 ∷ 1 ∷ 8 ∷ 1 ∷ 200 ∷ 2 ∷ 65536 ∷ 65536 ∷ 0 ∷ 0 ∷ 0 ∷ 0 ∷ 0 ∷ 1 ∷ 2 ∷ 0 ∷ []; model = Futuristic; defence = Stt }) refl refl refl refl refl
 
 run_09_agrees : Agrees run_09
 unfolding ones encode scan_numeral digits count_leading_zeros chars is_utf8 skip_from skip_ws decimal_number number
@@ -868,7 +869,7 @@ unfolding ones encode scan_numeral digits count_leading_zeros chars is_utf8 skip
     decode zeros description_of document_fault end_fault key_fault keys_fault latency_fault registers_fault
     second_fault sections_fault top_fault half has_magic word header_fault code_of ram_after ram_fault segment_at
     end_line cycle fetch rename retire event_text events_text row_text rows_text trace_text
-run_09_agrees = agrees run_09 (record { version = 1; numbers = 2 ∷ 1 ∷ 18 ∷ 2 ∷ 4 ∷ 9 ∷ 5 ∷ 2 ∷ 2 ∷ 8 ∷ 4 ∷ 1 ∷ 7 ∷ 8 ∷ 2 ∷ 3 ∷ 4 ∷ 65536 ∷ 65536 ∷ 0 ∷ 0 ∷ 0 ∷ 0 ∷ 1 ∷ 2 ∷ 0 ∷ []; model = Futuristic }) refl refl refl refl refl
+run_09_agrees = agrees run_09 (record { version = 1; numbers = 2 ∷ 1 ∷ 18 ∷ 2 ∷ 4 ∷ 9 ∷ 5 ∷ 2 ∷ 2 ∷ 8 ∷ 4 ∷ 1 ∷ 7 ∷ 8 ∷ 2 ∷ 3 ∷ 4 ∷ 65536 ∷ 65536 ∷ 0 ∷ 0 ∷ 0 ∷ 0 ∷ 0 ∷ 1 ∷ 2 ∷ 0 ∷ []; model = Futuristic; defence = Stt }) refl refl refl refl refl
 
 run_10_agrees : Agrees run_10
 unfolding ones encode scan_numeral digits count_leading_zeros chars is_utf8 skip_from skip_ws decimal_number number
@@ -877,7 +878,7 @@ unfolding ones encode scan_numeral digits count_leading_zeros chars is_utf8 skip
     decode zeros description_of document_fault end_fault key_fault keys_fault latency_fault registers_fault
     second_fault sections_fault top_fault half has_magic word header_fault code_of ram_after ram_fault segment_at
     end_line cycle fetch rename retire event_text events_text row_text rows_text trace_text
-run_10_agrees = agrees run_10 (record { version = 1; numbers = 1 ∷ 2 ∷ 20 ∷ 12 ∷ 14 ∷ 16 ∷ 4 ∷ 1 ∷ 4 ∷ 1024 ∷ 64 ∷ 1 ∷ 5 ∷ 4 ∷ 2 ∷ 19 ∷ 2 ∷ 65536 ∷ 4096 ∷ 0 ∷ 0 ∷ 0 ∷ 0 ∷ 1 ∷ 2 ∷ 0 ∷ []; model = Futuristic }) refl refl refl refl refl
+run_10_agrees = agrees run_10 (record { version = 1; numbers = 1 ∷ 2 ∷ 20 ∷ 12 ∷ 14 ∷ 16 ∷ 4 ∷ 1 ∷ 4 ∷ 1024 ∷ 64 ∷ 1 ∷ 5 ∷ 4 ∷ 2 ∷ 19 ∷ 2 ∷ 65536 ∷ 4096 ∷ 0 ∷ 0 ∷ 0 ∷ 0 ∷ 0 ∷ 1 ∷ 2 ∷ 0 ∷ []; model = Futuristic; defence = Stt }) refl refl refl refl refl
 
 run_11_agrees : Agrees run_11
 unfolding ones encode scan_numeral digits count_leading_zeros chars is_utf8 skip_from skip_ws decimal_number number
@@ -886,7 +887,7 @@ unfolding ones encode scan_numeral digits count_leading_zeros chars is_utf8 skip
     decode zeros description_of document_fault end_fault key_fault keys_fault latency_fault registers_fault
     second_fault sections_fault top_fault half has_magic word header_fault code_of ram_after ram_fault segment_at
     end_line cycle fetch rename retire event_text events_text row_text rows_text trace_text
-run_11_agrees = agrees run_11 (record { version = 1; numbers = 2 ∷ 4 ∷ 42 ∷ 25 ∷ 2 ∷ 4 ∷ 2 ∷ 4 ∷ 3 ∷ 4 ∷ 8 ∷ 1 ∷ 1 ∷ 8 ∷ 2 ∷ 3 ∷ 5 ∷ 65536 ∷ 65536 ∷ 0 ∷ 0 ∷ 0 ∷ 0 ∷ 1 ∷ 2 ∷ 0 ∷ []; model = Futuristic }) refl refl refl refl refl
+run_11_agrees = agrees run_11 (record { version = 1; numbers = 2 ∷ 4 ∷ 42 ∷ 25 ∷ 2 ∷ 4 ∷ 2 ∷ 4 ∷ 3 ∷ 4 ∷ 8 ∷ 1 ∷ 1 ∷ 8 ∷ 2 ∷ 3 ∷ 5 ∷ 65536 ∷ 65536 ∷ 0 ∷ 0 ∷ 0 ∷ 0 ∷ 0 ∷ 1 ∷ 2 ∷ 0 ∷ []; model = Futuristic; defence = Stt }) refl refl refl refl refl
 
 run_12_agrees : Agrees run_12
 unfolding ones encode scan_numeral digits count_leading_zeros chars is_utf8 skip_from skip_ws decimal_number number
@@ -895,7 +896,7 @@ unfolding ones encode scan_numeral digits count_leading_zeros chars is_utf8 skip
     decode zeros description_of document_fault end_fault key_fault keys_fault latency_fault registers_fault
     second_fault sections_fault top_fault half has_magic word header_fault code_of ram_after ram_fault segment_at
     end_line cycle fetch rename retire event_text events_text row_text rows_text trace_text
-run_12_agrees = agrees run_12 (record { version = 1; numbers = 3 ∷ 2 ∷ 64 ∷ 19 ∷ 4 ∷ 4 ∷ 3 ∷ 2 ∷ 2 ∷ 16 ∷ 8 ∷ 8 ∷ 2 ∷ 16 ∷ 5 ∷ 53 ∷ 8 ∷ 0 ∷ 4096 ∷ 0 ∷ 0 ∷ 0 ∷ 0 ∷ 1 ∷ 2 ∷ 0 ∷ []; model = Spectre }) refl refl refl refl refl
+run_12_agrees = agrees run_12 (record { version = 1; numbers = 3 ∷ 2 ∷ 64 ∷ 19 ∷ 4 ∷ 4 ∷ 3 ∷ 2 ∷ 2 ∷ 16 ∷ 8 ∷ 8 ∷ 2 ∷ 16 ∷ 5 ∷ 53 ∷ 8 ∷ 0 ∷ 4096 ∷ 0 ∷ 0 ∷ 0 ∷ 0 ∷ 0 ∷ 1 ∷ 2 ∷ 0 ∷ []; model = Spectre; defence = Stt }) refl refl refl refl refl
 
 run_13_agrees : Agrees run_13
 unfolding ones encode scan_numeral digits count_leading_zeros chars is_utf8 skip_from skip_ws decimal_number number
@@ -904,7 +905,7 @@ unfolding ones encode scan_numeral digits count_leading_zeros chars is_utf8 skip
     decode zeros description_of document_fault end_fault key_fault keys_fault latency_fault registers_fault
     second_fault sections_fault top_fault half has_magic word header_fault code_of ram_after ram_fault segment_at
     end_line cycle fetch rename retire event_text events_text row_text rows_text trace_text
-run_13_agrees = agrees run_13 (record { version = 1; numbers = 2 ∷ 4 ∷ 62 ∷ 27 ∷ 4 ∷ 3 ∷ 8 ∷ 1 ∷ 1 ∷ 4 ∷ 2 ∷ 1 ∷ 1 ∷ 16 ∷ 3 ∷ 14 ∷ 8 ∷ 65536 ∷ 4096 ∷ 0 ∷ 0 ∷ 0 ∷ 0 ∷ 1 ∷ 2 ∷ 0 ∷ []; model = Futuristic }) refl refl refl refl refl
+run_13_agrees = agrees run_13 (record { version = 1; numbers = 2 ∷ 4 ∷ 62 ∷ 27 ∷ 4 ∷ 3 ∷ 8 ∷ 1 ∷ 1 ∷ 4 ∷ 2 ∷ 1 ∷ 1 ∷ 16 ∷ 3 ∷ 14 ∷ 8 ∷ 65536 ∷ 4096 ∷ 0 ∷ 0 ∷ 0 ∷ 0 ∷ 0 ∷ 1 ∷ 2 ∷ 0 ∷ []; model = Futuristic; defence = Stt }) refl refl refl refl refl
 
 run_14_agrees : Agrees run_14
 unfolding ones encode scan_numeral digits count_leading_zeros chars is_utf8 skip_from skip_ws decimal_number number
@@ -913,7 +914,7 @@ unfolding ones encode scan_numeral digits count_leading_zeros chars is_utf8 skip
     decode zeros description_of document_fault end_fault key_fault keys_fault latency_fault registers_fault
     second_fault sections_fault top_fault half has_magic word header_fault code_of ram_after ram_fault segment_at
     end_line cycle fetch rename retire event_text events_text row_text rows_text trace_text
-run_14_agrees = agrees run_14 (record { version = 1; numbers = 4 ∷ 1 ∷ 12 ∷ 2 ∷ 5 ∷ 6 ∷ 3 ∷ 1 ∷ 2 ∷ 2 ∷ 4 ∷ 4 ∷ 5 ∷ 4 ∷ 2 ∷ 3 ∷ 3 ∷ 65536 ∷ 4096 ∷ 0 ∷ 0 ∷ 0 ∷ 0 ∷ 1 ∷ 2 ∷ 0 ∷ []; model = Futuristic }) refl refl refl refl refl
+run_14_agrees = agrees run_14 (record { version = 1; numbers = 4 ∷ 1 ∷ 12 ∷ 2 ∷ 5 ∷ 6 ∷ 3 ∷ 1 ∷ 2 ∷ 2 ∷ 4 ∷ 4 ∷ 5 ∷ 4 ∷ 2 ∷ 3 ∷ 3 ∷ 65536 ∷ 4096 ∷ 0 ∷ 0 ∷ 0 ∷ 0 ∷ 0 ∷ 1 ∷ 2 ∷ 0 ∷ []; model = Futuristic; defence = Stt }) refl refl refl refl refl
 
 run_15_agrees : Agrees run_15
 unfolding ones encode scan_numeral digits count_leading_zeros chars is_utf8 skip_from skip_ws decimal_number number
@@ -922,7 +923,7 @@ unfolding ones encode scan_numeral digits count_leading_zeros chars is_utf8 skip
     decode zeros description_of document_fault end_fault key_fault keys_fault latency_fault registers_fault
     second_fault sections_fault top_fault half has_magic word header_fault code_of ram_after ram_fault segment_at
     end_line cycle fetch rename retire event_text events_text row_text rows_text trace_text
-run_15_agrees = agrees run_15 (record { version = 1; numbers = 2 ∷ 1 ∷ 19 ∷ 9 ∷ 11 ∷ 1 ∷ 1 ∷ 2 ∷ 3 ∷ 128 ∷ 2 ∷ 1 ∷ 2 ∷ 16 ∷ 1 ∷ 6 ∷ 2 ∷ 65536 ∷ 4096 ∷ 0 ∷ 0 ∷ 0 ∷ 0 ∷ 1 ∷ 2 ∷ 0 ∷ []; model = Futuristic }) refl refl refl refl refl
+run_15_agrees = agrees run_15 (record { version = 1; numbers = 2 ∷ 1 ∷ 19 ∷ 9 ∷ 11 ∷ 1 ∷ 1 ∷ 2 ∷ 3 ∷ 128 ∷ 2 ∷ 1 ∷ 2 ∷ 16 ∷ 1 ∷ 6 ∷ 2 ∷ 65536 ∷ 4096 ∷ 0 ∷ 0 ∷ 0 ∷ 0 ∷ 0 ∷ 1 ∷ 2 ∷ 0 ∷ []; model = Futuristic; defence = Stt }) refl refl refl refl refl
 
 run_16_agrees : Agrees run_16
 unfolding ones encode scan_numeral digits count_leading_zeros chars is_utf8 skip_from skip_ws decimal_number number
@@ -931,7 +932,7 @@ unfolding ones encode scan_numeral digits count_leading_zeros chars is_utf8 skip
     decode zeros description_of document_fault end_fault key_fault keys_fault latency_fault registers_fault
     second_fault sections_fault top_fault half has_magic word header_fault code_of ram_after ram_fault segment_at
     end_line cycle fetch rename retire event_text events_text row_text rows_text trace_text
-run_16_agrees = agrees run_16 (record { version = 1; numbers = 2 ∷ 2 ∷ 36 ∷ 11 ∷ 16 ∷ 16 ∷ 8 ∷ 4 ∷ 1 ∷ 8 ∷ 2 ∷ 1 ∷ 1 ∷ 8 ∷ 3 ∷ 4 ∷ 4 ∷ 0 ∷ 4096 ∷ 0 ∷ 0 ∷ 0 ∷ 0 ∷ 1 ∷ 2 ∷ 0 ∷ []; model = Futuristic }) refl refl refl refl refl
+run_16_agrees = agrees run_16 (record { version = 1; numbers = 2 ∷ 2 ∷ 36 ∷ 11 ∷ 16 ∷ 16 ∷ 8 ∷ 4 ∷ 1 ∷ 8 ∷ 2 ∷ 1 ∷ 1 ∷ 8 ∷ 3 ∷ 4 ∷ 4 ∷ 0 ∷ 4096 ∷ 0 ∷ 0 ∷ 0 ∷ 0 ∷ 0 ∷ 1 ∷ 2 ∷ 0 ∷ []; model = Futuristic; defence = Stt }) refl refl refl refl refl
 
 run_17_agrees : Agrees run_17
 unfolding ones encode scan_numeral digits count_leading_zeros chars is_utf8 skip_from skip_ws decimal_number number
@@ -940,7 +941,7 @@ unfolding ones encode scan_numeral digits count_leading_zeros chars is_utf8 skip
     decode zeros description_of document_fault end_fault key_fault keys_fault latency_fault registers_fault
     second_fault sections_fault top_fault half has_magic word header_fault code_of ram_after ram_fault segment_at
     end_line cycle fetch rename retire event_text events_text row_text rows_text trace_text
-run_17_agrees = agrees run_17 (record { version = 1; numbers = 1 ∷ 1 ∷ 63 ∷ 14 ∷ 6 ∷ 16 ∷ 6 ∷ 1 ∷ 2 ∷ 16 ∷ 4 ∷ 1 ∷ 2 ∷ 4 ∷ 6 ∷ 7 ∷ 4 ∷ 65536 ∷ 4096 ∷ 0 ∷ 0 ∷ 0 ∷ 0 ∷ 1 ∷ 2 ∷ 0 ∷ []; model = Futuristic }) refl refl refl refl refl
+run_17_agrees = agrees run_17 (record { version = 1; numbers = 1 ∷ 1 ∷ 63 ∷ 14 ∷ 6 ∷ 16 ∷ 6 ∷ 1 ∷ 2 ∷ 16 ∷ 4 ∷ 1 ∷ 2 ∷ 4 ∷ 6 ∷ 7 ∷ 4 ∷ 65536 ∷ 4096 ∷ 0 ∷ 0 ∷ 0 ∷ 0 ∷ 0 ∷ 1 ∷ 2 ∷ 0 ∷ []; model = Futuristic; defence = Stt }) refl refl refl refl refl
 
 run_18_agrees : Agrees run_18
 unfolding ones encode scan_numeral digits count_leading_zeros chars is_utf8 skip_from skip_ws decimal_number number
@@ -949,7 +950,7 @@ unfolding ones encode scan_numeral digits count_leading_zeros chars is_utf8 skip
     decode zeros description_of document_fault end_fault key_fault keys_fault latency_fault registers_fault
     second_fault sections_fault top_fault half has_magic word header_fault code_of ram_after ram_fault segment_at
     end_line cycle fetch rename retire event_text events_text row_text rows_text trace_text
-run_18_agrees = agrees run_18 (record { version = 1; numbers = 2 ∷ 3 ∷ 23 ∷ 21 ∷ 4 ∷ 1 ∷ 10 ∷ 4 ∷ 7 ∷ 4 ∷ 8 ∷ 64 ∷ 1 ∷ 8 ∷ 1 ∷ 13 ∷ 8 ∷ 65536 ∷ 4096 ∷ 0 ∷ 0 ∷ 0 ∷ 0 ∷ 1 ∷ 2 ∷ 0 ∷ []; model = Spectre }) refl refl refl refl refl
+run_18_agrees = agrees run_18 (record { version = 1; numbers = 2 ∷ 3 ∷ 23 ∷ 21 ∷ 4 ∷ 1 ∷ 10 ∷ 4 ∷ 7 ∷ 4 ∷ 8 ∷ 64 ∷ 1 ∷ 8 ∷ 1 ∷ 13 ∷ 8 ∷ 65536 ∷ 4096 ∷ 0 ∷ 0 ∷ 0 ∷ 0 ∷ 0 ∷ 1 ∷ 2 ∷ 0 ∷ []; model = Spectre; defence = Stt }) refl refl refl refl refl
 
 run_19_agrees : Agrees run_19
 unfolding ones encode scan_numeral digits count_leading_zeros chars is_utf8 skip_from skip_ws decimal_number number
@@ -958,7 +959,7 @@ unfolding ones encode scan_numeral digits count_leading_zeros chars is_utf8 skip
     decode zeros description_of document_fault end_fault key_fault keys_fault latency_fault registers_fault
     second_fault sections_fault top_fault half has_magic word header_fault code_of ram_after ram_fault segment_at
     end_line cycle fetch rename retire event_text events_text row_text rows_text trace_text
-run_19_agrees = agrees run_19 (record { version = 1; numbers = 4 ∷ 4 ∷ 15 ∷ 32 ∷ 2 ∷ 5 ∷ 8 ∷ 3 ∷ 2 ∷ 2 ∷ 4 ∷ 1 ∷ 1 ∷ 16 ∷ 3 ∷ 9 ∷ 3 ∷ 65536 ∷ 4096 ∷ 0 ∷ 0 ∷ 0 ∷ 0 ∷ 1 ∷ 2 ∷ 0 ∷ []; model = Futuristic }) refl refl refl refl refl
+run_19_agrees = agrees run_19 (record { version = 1; numbers = 4 ∷ 4 ∷ 15 ∷ 32 ∷ 2 ∷ 5 ∷ 8 ∷ 3 ∷ 2 ∷ 2 ∷ 4 ∷ 1 ∷ 1 ∷ 16 ∷ 3 ∷ 9 ∷ 3 ∷ 65536 ∷ 4096 ∷ 0 ∷ 0 ∷ 0 ∷ 0 ∷ 0 ∷ 1 ∷ 2 ∷ 0 ∷ []; model = Futuristic; defence = Stt }) refl refl refl refl refl
 
 run_20_agrees : Agrees run_20
 unfolding ones encode scan_numeral digits count_leading_zeros chars is_utf8 skip_from skip_ws decimal_number number
@@ -967,7 +968,7 @@ unfolding ones encode scan_numeral digits count_leading_zeros chars is_utf8 skip
     decode zeros description_of document_fault end_fault key_fault keys_fault latency_fault registers_fault
     second_fault sections_fault top_fault half has_magic word header_fault code_of ram_after ram_fault segment_at
     end_line cycle fetch rename retire event_text events_text row_text rows_text trace_text
-run_20_agrees = agrees run_20 (record { version = 1; numbers = 3 ∷ 2 ∷ 12 ∷ 32 ∷ 2 ∷ 13 ∷ 6 ∷ 1 ∷ 3 ∷ 4 ∷ 2 ∷ 1 ∷ 8 ∷ 16 ∷ 2 ∷ 23 ∷ 8 ∷ 65536 ∷ 4096 ∷ 0 ∷ 0 ∷ 0 ∷ 0 ∷ 1 ∷ 2 ∷ 0 ∷ []; model = Spectre }) refl refl refl refl refl
+run_20_agrees = agrees run_20 (record { version = 1; numbers = 3 ∷ 2 ∷ 12 ∷ 32 ∷ 2 ∷ 13 ∷ 6 ∷ 1 ∷ 3 ∷ 4 ∷ 2 ∷ 1 ∷ 8 ∷ 16 ∷ 2 ∷ 23 ∷ 8 ∷ 65536 ∷ 4096 ∷ 0 ∷ 0 ∷ 0 ∷ 0 ∷ 0 ∷ 1 ∷ 2 ∷ 0 ∷ []; model = Spectre; defence = Stt }) refl refl refl refl refl
 
 run_21_agrees : Agrees run_21
 unfolding ones encode scan_numeral digits count_leading_zeros chars is_utf8 skip_from skip_ws decimal_number number
@@ -976,7 +977,7 @@ unfolding ones encode scan_numeral digits count_leading_zeros chars is_utf8 skip
     decode zeros description_of document_fault end_fault key_fault keys_fault latency_fault registers_fault
     second_fault sections_fault top_fault half has_magic word header_fault code_of ram_after ram_fault segment_at
     end_line cycle fetch rename retire event_text events_text row_text rows_text trace_text
-run_21_agrees = agrees run_21 (record { version = 1; numbers = 4 ∷ 4 ∷ 18 ∷ 32 ∷ 7 ∷ 4 ∷ 7 ∷ 1 ∷ 8 ∷ 2 ∷ 4 ∷ 2 ∷ 1 ∷ 8 ∷ 3 ∷ 20 ∷ 3 ∷ 65536 ∷ 4096 ∷ 0 ∷ 0 ∷ 0 ∷ 0 ∷ 1 ∷ 2 ∷ 0 ∷ []; model = Futuristic }) refl refl refl refl refl
+run_21_agrees = agrees run_21 (record { version = 1; numbers = 4 ∷ 4 ∷ 18 ∷ 32 ∷ 7 ∷ 4 ∷ 7 ∷ 1 ∷ 8 ∷ 2 ∷ 4 ∷ 2 ∷ 1 ∷ 8 ∷ 3 ∷ 20 ∷ 3 ∷ 65536 ∷ 4096 ∷ 0 ∷ 0 ∷ 0 ∷ 0 ∷ 0 ∷ 1 ∷ 2 ∷ 0 ∷ []; model = Futuristic; defence = Stt }) refl refl refl refl refl
 
 run_22_agrees : Agrees run_22
 unfolding ones encode scan_numeral digits count_leading_zeros chars is_utf8 skip_from skip_ws decimal_number number
@@ -985,7 +986,7 @@ unfolding ones encode scan_numeral digits count_leading_zeros chars is_utf8 skip
     decode zeros description_of document_fault end_fault key_fault keys_fault latency_fault registers_fault
     second_fault sections_fault top_fault half has_magic word header_fault code_of ram_after ram_fault segment_at
     end_line cycle fetch rename retire event_text events_text row_text rows_text trace_text
-run_22_agrees = agrees run_22 (record { version = 1; numbers = 4 ∷ 2 ∷ 60 ∷ 10 ∷ 1 ∷ 4 ∷ 16 ∷ 1 ∷ 3 ∷ 8 ∷ 1 ∷ 1 ∷ 1 ∷ 16 ∷ 8 ∷ 9 ∷ 3 ∷ 65536 ∷ 65536 ∷ 0 ∷ 0 ∷ 0 ∷ 0 ∷ 1 ∷ 2 ∷ 0 ∷ []; model = Spectre }) refl refl refl refl refl
+run_22_agrees = agrees run_22 (record { version = 1; numbers = 4 ∷ 2 ∷ 60 ∷ 10 ∷ 1 ∷ 4 ∷ 16 ∷ 1 ∷ 3 ∷ 8 ∷ 1 ∷ 1 ∷ 1 ∷ 16 ∷ 8 ∷ 9 ∷ 3 ∷ 65536 ∷ 65536 ∷ 0 ∷ 0 ∷ 0 ∷ 0 ∷ 0 ∷ 1 ∷ 2 ∷ 0 ∷ []; model = Spectre; defence = Stt }) refl refl refl refl refl
 
 run_23_agrees : Agrees run_23
 unfolding ones encode scan_numeral digits count_leading_zeros chars is_utf8 skip_from skip_ws decimal_number number
@@ -994,7 +995,7 @@ unfolding ones encode scan_numeral digits count_leading_zeros chars is_utf8 skip
     decode zeros description_of document_fault end_fault key_fault keys_fault latency_fault registers_fault
     second_fault sections_fault top_fault half has_magic word header_fault code_of ram_after ram_fault segment_at
     end_line cycle fetch rename retire event_text events_text row_text rows_text trace_text
-run_23_agrees = agrees run_23 (record { version = 1; numbers = 4 ∷ 2 ∷ 33 ∷ 5 ∷ 10 ∷ 12 ∷ 5 ∷ 4 ∷ 2 ∷ 16 ∷ 2 ∷ 256 ∷ 1 ∷ 16 ∷ 3 ∷ 4 ∷ 8 ∷ 4294963200 ∷ 4096 ∷ 0 ∷ 0 ∷ 0 ∷ 0 ∷ 1 ∷ 2 ∷ 0 ∷ []; model = Spectre }) refl refl refl refl refl
+run_23_agrees = agrees run_23 (record { version = 1; numbers = 4 ∷ 2 ∷ 33 ∷ 5 ∷ 10 ∷ 12 ∷ 5 ∷ 4 ∷ 2 ∷ 16 ∷ 2 ∷ 256 ∷ 1 ∷ 16 ∷ 3 ∷ 4 ∷ 8 ∷ 4294963200 ∷ 4096 ∷ 0 ∷ 0 ∷ 0 ∷ 0 ∷ 0 ∷ 1 ∷ 2 ∷ 0 ∷ []; model = Spectre; defence = Stt }) refl refl refl refl refl
 
 run_24_agrees : Agrees run_24
 unfolding ones encode scan_numeral digits count_leading_zeros chars is_utf8 skip_from skip_ws decimal_number number
@@ -1003,7 +1004,7 @@ unfolding ones encode scan_numeral digits count_leading_zeros chars is_utf8 skip
     decode zeros description_of document_fault end_fault key_fault keys_fault latency_fault registers_fault
     second_fault sections_fault top_fault half has_magic word header_fault code_of ram_after ram_fault segment_at
     end_line cycle fetch rename retire event_text events_text row_text rows_text trace_text
-run_24_agrees = agrees run_24 (record { version = 1; numbers = 4 ∷ 1 ∷ 12 ∷ 25 ∷ 6 ∷ 12 ∷ 8 ∷ 3 ∷ 3 ∷ 4 ∷ 256 ∷ 1 ∷ 1 ∷ 4 ∷ 3 ∷ 4 ∷ 2 ∷ 4294963200 ∷ 4096 ∷ 0 ∷ 0 ∷ 0 ∷ 0 ∷ 1 ∷ 2 ∷ 0 ∷ []; model = Futuristic }) refl refl refl refl refl
+run_24_agrees = agrees run_24 (record { version = 1; numbers = 4 ∷ 1 ∷ 12 ∷ 25 ∷ 6 ∷ 12 ∷ 8 ∷ 3 ∷ 3 ∷ 4 ∷ 256 ∷ 1 ∷ 1 ∷ 4 ∷ 3 ∷ 4 ∷ 2 ∷ 4294963200 ∷ 4096 ∷ 0 ∷ 0 ∷ 0 ∷ 0 ∷ 0 ∷ 1 ∷ 2 ∷ 0 ∷ []; model = Futuristic; defence = Stt }) refl refl refl refl refl
 
 run_25_agrees : Agrees run_25
 unfolding ones encode scan_numeral digits count_leading_zeros chars is_utf8 skip_from skip_ws decimal_number number
@@ -1012,7 +1013,7 @@ unfolding ones encode scan_numeral digits count_leading_zeros chars is_utf8 skip
     decode zeros description_of document_fault end_fault key_fault keys_fault latency_fault registers_fault
     second_fault sections_fault top_fault half has_magic word header_fault code_of ram_after ram_fault segment_at
     end_line cycle fetch rename retire event_text events_text row_text rows_text trace_text
-run_25_agrees = agrees run_25 (record { version = 1; numbers = 4 ∷ 1 ∷ 8 ∷ 6 ∷ 8 ∷ 3 ∷ 4 ∷ 1 ∷ 2 ∷ 8 ∷ 4 ∷ 1 ∷ 1 ∷ 8 ∷ 4 ∷ 16 ∷ 8 ∷ 0 ∷ 4096 ∷ 0 ∷ 0 ∷ 0 ∷ 0 ∷ 1 ∷ 2 ∷ 0 ∷ []; model = Futuristic }) refl refl refl refl refl
+run_25_agrees = agrees run_25 (record { version = 1; numbers = 4 ∷ 1 ∷ 8 ∷ 6 ∷ 8 ∷ 3 ∷ 4 ∷ 1 ∷ 2 ∷ 8 ∷ 4 ∷ 1 ∷ 1 ∷ 8 ∷ 4 ∷ 16 ∷ 8 ∷ 0 ∷ 4096 ∷ 0 ∷ 0 ∷ 0 ∷ 0 ∷ 0 ∷ 1 ∷ 2 ∷ 0 ∷ []; model = Futuristic; defence = Stt }) refl refl refl refl refl
 
 run_26_agrees : Agrees run_26
 unfolding ones encode scan_numeral digits count_leading_zeros chars is_utf8 skip_from skip_ws decimal_number number
@@ -1021,7 +1022,7 @@ unfolding ones encode scan_numeral digits count_leading_zeros chars is_utf8 skip
     decode zeros description_of document_fault end_fault key_fault keys_fault latency_fault registers_fault
     second_fault sections_fault top_fault half has_magic word header_fault code_of ram_after ram_fault segment_at
     end_line cycle fetch rename retire event_text events_text row_text rows_text trace_text
-run_26_agrees = agrees run_26 (record { version = 1; numbers = 2 ∷ 3 ∷ 23 ∷ 26 ∷ 2 ∷ 1 ∷ 7 ∷ 1 ∷ 4 ∷ 8 ∷ 8 ∷ 1 ∷ 8 ∷ 16 ∷ 8 ∷ 9 ∷ 4 ∷ 65536 ∷ 4096 ∷ 0 ∷ 0 ∷ 0 ∷ 0 ∷ 1 ∷ 2 ∷ 0 ∷ []; model = Spectre }) refl refl refl refl refl
+run_26_agrees = agrees run_26 (record { version = 1; numbers = 2 ∷ 3 ∷ 23 ∷ 26 ∷ 2 ∷ 1 ∷ 7 ∷ 1 ∷ 4 ∷ 8 ∷ 8 ∷ 1 ∷ 8 ∷ 16 ∷ 8 ∷ 9 ∷ 4 ∷ 65536 ∷ 4096 ∷ 0 ∷ 0 ∷ 0 ∷ 0 ∷ 0 ∷ 1 ∷ 2 ∷ 0 ∷ []; model = Spectre; defence = Stt }) refl refl refl refl refl
 
 run_27_agrees : Agrees run_27
 unfolding ones encode scan_numeral digits count_leading_zeros chars is_utf8 skip_from skip_ws decimal_number number
@@ -1030,7 +1031,7 @@ unfolding ones encode scan_numeral digits count_leading_zeros chars is_utf8 skip
     decode zeros description_of document_fault end_fault key_fault keys_fault latency_fault registers_fault
     second_fault sections_fault top_fault half has_magic word header_fault code_of ram_after ram_fault segment_at
     end_line cycle fetch rename retire event_text events_text row_text rows_text trace_text
-run_27_agrees = agrees run_27 (record { version = 1; numbers = 2 ∷ 3 ∷ 21 ∷ 32 ∷ 4 ∷ 5 ∷ 3 ∷ 2 ∷ 5 ∷ 2 ∷ 16 ∷ 4 ∷ 1 ∷ 4 ∷ 1 ∷ 110 ∷ 5 ∷ 65536 ∷ 4096 ∷ 0 ∷ 0 ∷ 0 ∷ 0 ∷ 1 ∷ 2 ∷ 0 ∷ []; model = Spectre }) refl refl refl refl refl
+run_27_agrees = agrees run_27 (record { version = 1; numbers = 2 ∷ 3 ∷ 21 ∷ 32 ∷ 4 ∷ 5 ∷ 3 ∷ 2 ∷ 5 ∷ 2 ∷ 16 ∷ 4 ∷ 1 ∷ 4 ∷ 1 ∷ 110 ∷ 5 ∷ 65536 ∷ 4096 ∷ 0 ∷ 0 ∷ 0 ∷ 0 ∷ 0 ∷ 1 ∷ 2 ∷ 0 ∷ []; model = Spectre; defence = Stt }) refl refl refl refl refl
 
 run_28_agrees : Agrees run_28
 unfolding ones encode scan_numeral digits count_leading_zeros chars is_utf8 skip_from skip_ws decimal_number number
@@ -1039,7 +1040,7 @@ unfolding ones encode scan_numeral digits count_leading_zeros chars is_utf8 skip
     decode zeros description_of document_fault end_fault key_fault keys_fault latency_fault registers_fault
     second_fault sections_fault top_fault half has_magic word header_fault code_of ram_after ram_fault segment_at
     end_line cycle fetch rename retire event_text events_text row_text rows_text trace_text
-run_28_agrees = agrees run_28 (record { version = 1; numbers = 2 ∷ 2 ∷ 15 ∷ 14 ∷ 1 ∷ 5 ∷ 16 ∷ 3 ∷ 3 ∷ 8 ∷ 4 ∷ 2 ∷ 2 ∷ 32 ∷ 3 ∷ 13 ∷ 4 ∷ 65536 ∷ 65536 ∷ 0 ∷ 0 ∷ 0 ∷ 0 ∷ 1 ∷ 2 ∷ 0 ∷ []; model = Futuristic }) refl refl refl refl refl
+run_28_agrees = agrees run_28 (record { version = 1; numbers = 2 ∷ 2 ∷ 15 ∷ 14 ∷ 1 ∷ 5 ∷ 16 ∷ 3 ∷ 3 ∷ 8 ∷ 4 ∷ 2 ∷ 2 ∷ 32 ∷ 3 ∷ 13 ∷ 4 ∷ 65536 ∷ 65536 ∷ 0 ∷ 0 ∷ 0 ∷ 0 ∷ 0 ∷ 1 ∷ 2 ∷ 0 ∷ []; model = Futuristic; defence = Stt }) refl refl refl refl refl
 
 run_29_agrees : Agrees run_29
 unfolding ones encode scan_numeral digits count_leading_zeros chars is_utf8 skip_from skip_ws decimal_number number
@@ -1048,7 +1049,7 @@ unfolding ones encode scan_numeral digits count_leading_zeros chars is_utf8 skip
     decode zeros description_of document_fault end_fault key_fault keys_fault latency_fault registers_fault
     second_fault sections_fault top_fault half has_magic word header_fault code_of ram_after ram_fault segment_at
     end_line cycle fetch rename retire event_text events_text row_text rows_text trace_text
-run_29_agrees = agrees run_29 (record { version = 1; numbers = 3 ∷ 1 ∷ 49 ∷ 2 ∷ 1 ∷ 13 ∷ 5 ∷ 1 ∷ 8 ∷ 4 ∷ 32 ∷ 1 ∷ 7 ∷ 8 ∷ 8 ∷ 9 ∷ 2 ∷ 65536 ∷ 4096 ∷ 0 ∷ 0 ∷ 0 ∷ 0 ∷ 1 ∷ 2 ∷ 0 ∷ []; model = Futuristic }) refl refl refl refl refl
+run_29_agrees = agrees run_29 (record { version = 1; numbers = 3 ∷ 1 ∷ 49 ∷ 2 ∷ 1 ∷ 13 ∷ 5 ∷ 1 ∷ 8 ∷ 4 ∷ 32 ∷ 1 ∷ 7 ∷ 8 ∷ 8 ∷ 9 ∷ 2 ∷ 65536 ∷ 4096 ∷ 0 ∷ 0 ∷ 0 ∷ 0 ∷ 0 ∷ 1 ∷ 2 ∷ 0 ∷ []; model = Futuristic; defence = Stt }) refl refl refl refl refl
 
 run_30_agrees : Agrees run_30
 unfolding ones encode scan_numeral digits count_leading_zeros chars is_utf8 skip_from skip_ws decimal_number number
@@ -1057,7 +1058,7 @@ unfolding ones encode scan_numeral digits count_leading_zeros chars is_utf8 skip
     decode zeros description_of document_fault end_fault key_fault keys_fault latency_fault registers_fault
     second_fault sections_fault top_fault half has_magic word header_fault code_of ram_after ram_fault segment_at
     end_line cycle fetch rename retire event_text events_text row_text rows_text trace_text
-run_30_agrees = agrees run_30 (record { version = 1; numbers = 4 ∷ 4 ∷ 12 ∷ 32 ∷ 5 ∷ 6 ∷ 1 ∷ 2 ∷ 1 ∷ 2 ∷ 2 ∷ 1 ∷ 2 ∷ 16 ∷ 2 ∷ 3 ∷ 3 ∷ 0 ∷ 4096 ∷ 0 ∷ 0 ∷ 0 ∷ 0 ∷ 1 ∷ 2 ∷ 0 ∷ []; model = Spectre }) refl refl refl refl refl
+run_30_agrees = agrees run_30 (record { version = 1; numbers = 4 ∷ 4 ∷ 12 ∷ 32 ∷ 5 ∷ 6 ∷ 1 ∷ 2 ∷ 1 ∷ 2 ∷ 2 ∷ 1 ∷ 2 ∷ 16 ∷ 2 ∷ 3 ∷ 3 ∷ 0 ∷ 4096 ∷ 0 ∷ 0 ∷ 0 ∷ 0 ∷ 0 ∷ 1 ∷ 2 ∷ 0 ∷ []; model = Spectre; defence = Stt }) refl refl refl refl refl
 
 run_31_agrees : Agrees run_31
 unfolding ones encode scan_numeral digits count_leading_zeros chars is_utf8 skip_from skip_ws decimal_number number
@@ -1066,7 +1067,7 @@ unfolding ones encode scan_numeral digits count_leading_zeros chars is_utf8 skip
     decode zeros description_of document_fault end_fault key_fault keys_fault latency_fault registers_fault
     second_fault sections_fault top_fault half has_magic word header_fault code_of ram_after ram_fault segment_at
     end_line cycle fetch rename retire event_text events_text row_text rows_text trace_text
-run_31_agrees = agrees run_31 (record { version = 1; numbers = 1 ∷ 2 ∷ 53 ∷ 10 ∷ 3 ∷ 5 ∷ 2 ∷ 3 ∷ 1 ∷ 4 ∷ 8 ∷ 1 ∷ 2 ∷ 16 ∷ 1 ∷ 14 ∷ 3 ∷ 65536 ∷ 4096 ∷ 0 ∷ 0 ∷ 0 ∷ 0 ∷ 1 ∷ 2 ∷ 0 ∷ []; model = Spectre }) refl refl refl refl refl
+run_31_agrees = agrees run_31 (record { version = 1; numbers = 1 ∷ 2 ∷ 53 ∷ 10 ∷ 3 ∷ 5 ∷ 2 ∷ 3 ∷ 1 ∷ 4 ∷ 8 ∷ 1 ∷ 2 ∷ 16 ∷ 1 ∷ 14 ∷ 3 ∷ 65536 ∷ 4096 ∷ 0 ∷ 0 ∷ 0 ∷ 0 ∷ 0 ∷ 1 ∷ 2 ∷ 0 ∷ []; model = Spectre; defence = Stt }) refl refl refl refl refl
 
 run_32_agrees : Agrees run_32
 unfolding ones encode scan_numeral digits count_leading_zeros chars is_utf8 skip_from skip_ws decimal_number number
@@ -1075,7 +1076,7 @@ unfolding ones encode scan_numeral digits count_leading_zeros chars is_utf8 skip
     decode zeros description_of document_fault end_fault key_fault keys_fault latency_fault registers_fault
     second_fault sections_fault top_fault half has_magic word header_fault code_of ram_after ram_fault segment_at
     end_line cycle fetch rename retire event_text events_text row_text rows_text trace_text
-run_32_agrees = agrees run_32 (record { version = 1; numbers = 2 ∷ 2 ∷ 16 ∷ 32 ∷ 1 ∷ 10 ∷ 2 ∷ 1 ∷ 2 ∷ 2 ∷ 8 ∷ 1 ∷ 2 ∷ 16 ∷ 3 ∷ 18 ∷ 3 ∷ 4294963200 ∷ 4096 ∷ 0 ∷ 0 ∷ 0 ∷ 0 ∷ 1 ∷ 2 ∷ 0 ∷ []; model = Spectre }) refl refl refl refl refl
+run_32_agrees = agrees run_32 (record { version = 1; numbers = 2 ∷ 2 ∷ 16 ∷ 32 ∷ 1 ∷ 10 ∷ 2 ∷ 1 ∷ 2 ∷ 2 ∷ 8 ∷ 1 ∷ 2 ∷ 16 ∷ 3 ∷ 18 ∷ 3 ∷ 4294963200 ∷ 4096 ∷ 0 ∷ 0 ∷ 0 ∷ 0 ∷ 0 ∷ 1 ∷ 2 ∷ 0 ∷ []; model = Spectre; defence = Stt }) refl refl refl refl refl
 
 run_33_agrees : Agrees run_33
 unfolding ones encode scan_numeral digits count_leading_zeros chars is_utf8 skip_from skip_ws decimal_number number
@@ -1084,7 +1085,7 @@ unfolding ones encode scan_numeral digits count_leading_zeros chars is_utf8 skip
     decode zeros description_of document_fault end_fault key_fault keys_fault latency_fault registers_fault
     second_fault sections_fault top_fault half has_magic word header_fault code_of ram_after ram_fault segment_at
     end_line cycle fetch rename retire event_text events_text row_text rows_text trace_text
-run_33_agrees = agrees run_33 (record { version = 1; numbers = 2 ∷ 3 ∷ 32 ∷ 4 ∷ 8 ∷ 11 ∷ 4 ∷ 3 ∷ 2 ∷ 8 ∷ 2 ∷ 4 ∷ 3 ∷ 8 ∷ 3 ∷ 4 ∷ 3 ∷ 79728 ∷ 4400 ∷ 0 ∷ 0 ∷ 0 ∷ 0 ∷ 1 ∷ 2 ∷ 0 ∷ []; model = Futuristic }) refl refl refl refl refl
+run_33_agrees = agrees run_33 (record { version = 1; numbers = 2 ∷ 3 ∷ 32 ∷ 4 ∷ 8 ∷ 11 ∷ 4 ∷ 3 ∷ 2 ∷ 8 ∷ 2 ∷ 4 ∷ 3 ∷ 8 ∷ 3 ∷ 4 ∷ 3 ∷ 79728 ∷ 4400 ∷ 0 ∷ 0 ∷ 0 ∷ 0 ∷ 0 ∷ 1 ∷ 2 ∷ 0 ∷ []; model = Futuristic; defence = Stt }) refl refl refl refl refl
 
 run_34_agrees : Agrees run_34
 unfolding ones encode scan_numeral digits count_leading_zeros chars is_utf8 skip_from skip_ws decimal_number number
@@ -1093,7 +1094,7 @@ unfolding ones encode scan_numeral digits count_leading_zeros chars is_utf8 skip
     decode zeros description_of document_fault end_fault key_fault keys_fault latency_fault registers_fault
     second_fault sections_fault top_fault half has_magic word header_fault code_of ram_after ram_fault segment_at
     end_line cycle fetch rename retire event_text events_text row_text rows_text trace_text
-run_34_agrees = agrees run_34 (record { version = 1; numbers = 2 ∷ 3 ∷ 18 ∷ 16 ∷ 1 ∷ 1 ∷ 1 ∷ 1 ∷ 4 ∷ 8 ∷ 1 ∷ 1 ∷ 5 ∷ 32 ∷ 5 ∷ 6 ∷ 8 ∷ 0 ∷ 4096 ∷ 0 ∷ 0 ∷ 0 ∷ 0 ∷ 1 ∷ 2 ∷ 0 ∷ []; model = Spectre }) refl refl refl refl refl
+run_34_agrees = agrees run_34 (record { version = 1; numbers = 2 ∷ 3 ∷ 18 ∷ 16 ∷ 1 ∷ 1 ∷ 1 ∷ 1 ∷ 4 ∷ 8 ∷ 1 ∷ 1 ∷ 5 ∷ 32 ∷ 5 ∷ 6 ∷ 8 ∷ 0 ∷ 4096 ∷ 0 ∷ 0 ∷ 0 ∷ 0 ∷ 0 ∷ 1 ∷ 2 ∷ 0 ∷ []; model = Spectre; defence = Stt }) refl refl refl refl refl
 
 run_35_agrees : Agrees run_35
 unfolding ones encode scan_numeral digits count_leading_zeros chars is_utf8 skip_from skip_ws decimal_number number
@@ -1102,7 +1103,7 @@ unfolding ones encode scan_numeral digits count_leading_zeros chars is_utf8 skip
     decode zeros description_of document_fault end_fault key_fault keys_fault latency_fault registers_fault
     second_fault sections_fault top_fault half has_magic word header_fault code_of ram_after ram_fault segment_at
     end_line cycle fetch rename retire event_text events_text row_text rows_text trace_text
-run_35_agrees = agrees run_35 (record { version = 1; numbers = 4 ∷ 4 ∷ 64 ∷ 6 ∷ 1 ∷ 8 ∷ 1 ∷ 1 ∷ 3 ∷ 64 ∷ 1 ∷ 2 ∷ 2 ∷ 16 ∷ 3 ∷ 9 ∷ 3 ∷ 65536 ∷ 4096 ∷ 0 ∷ 0 ∷ 0 ∷ 0 ∷ 1 ∷ 2 ∷ 0 ∷ []; model = Spectre }) refl refl refl refl refl
+run_35_agrees = agrees run_35 (record { version = 1; numbers = 4 ∷ 4 ∷ 64 ∷ 6 ∷ 1 ∷ 8 ∷ 1 ∷ 1 ∷ 3 ∷ 64 ∷ 1 ∷ 2 ∷ 2 ∷ 16 ∷ 3 ∷ 9 ∷ 3 ∷ 65536 ∷ 4096 ∷ 0 ∷ 0 ∷ 0 ∷ 0 ∷ 0 ∷ 1 ∷ 2 ∷ 0 ∷ []; model = Spectre; defence = Stt }) refl refl refl refl refl
 
 run_36_agrees : Agrees run_36
 unfolding ones encode scan_numeral digits count_leading_zeros chars is_utf8 skip_from skip_ws decimal_number number
@@ -1111,7 +1112,7 @@ unfolding ones encode scan_numeral digits count_leading_zeros chars is_utf8 skip
     decode zeros description_of document_fault end_fault key_fault keys_fault latency_fault registers_fault
     second_fault sections_fault top_fault half has_magic word header_fault code_of ram_after ram_fault segment_at
     end_line cycle fetch rename retire event_text events_text row_text rows_text trace_text
-run_36_agrees = agrees run_36 (record { version = 1; numbers = 2 ∷ 2 ∷ 7 ∷ 14 ∷ 4 ∷ 16 ∷ 10 ∷ 3 ∷ 2 ∷ 64 ∷ 8 ∷ 1 ∷ 2 ∷ 4 ∷ 6 ∷ 32 ∷ 1 ∷ 65536 ∷ 4096 ∷ 0 ∷ 0 ∷ 0 ∷ 0 ∷ 1 ∷ 2 ∷ 0 ∷ []; model = Futuristic }) refl refl refl refl refl
+run_36_agrees = agrees run_36 (record { version = 1; numbers = 2 ∷ 2 ∷ 7 ∷ 14 ∷ 4 ∷ 16 ∷ 10 ∷ 3 ∷ 2 ∷ 64 ∷ 8 ∷ 1 ∷ 2 ∷ 4 ∷ 6 ∷ 32 ∷ 1 ∷ 65536 ∷ 4096 ∷ 0 ∷ 0 ∷ 0 ∷ 0 ∷ 0 ∷ 1 ∷ 2 ∷ 0 ∷ []; model = Futuristic; defence = Stt }) refl refl refl refl refl
 
 run_37_agrees : Agrees run_37
 unfolding ones encode scan_numeral digits count_leading_zeros chars is_utf8 skip_from skip_ws decimal_number number
@@ -1120,7 +1121,7 @@ unfolding ones encode scan_numeral digits count_leading_zeros chars is_utf8 skip
     decode zeros description_of document_fault end_fault key_fault keys_fault latency_fault registers_fault
     second_fault sections_fault top_fault half has_magic word header_fault code_of ram_after ram_fault segment_at
     end_line cycle fetch rename retire event_text events_text row_text rows_text trace_text
-run_37_agrees = agrees run_37 (record { version = 1; numbers = 4 ∷ 4 ∷ 21 ∷ 22 ∷ 3 ∷ 1 ∷ 6 ∷ 2 ∷ 4 ∷ 4 ∷ 1 ∷ 2 ∷ 3 ∷ 32 ∷ 2 ∷ 96 ∷ 1 ∷ 36320 ∷ 7936 ∷ 0 ∷ 0 ∷ 0 ∷ 0 ∷ 1 ∷ 2 ∷ 0 ∷ []; model = Futuristic }) refl refl refl refl refl
+run_37_agrees = agrees run_37 (record { version = 1; numbers = 4 ∷ 4 ∷ 21 ∷ 22 ∷ 3 ∷ 1 ∷ 6 ∷ 2 ∷ 4 ∷ 4 ∷ 1 ∷ 2 ∷ 3 ∷ 32 ∷ 2 ∷ 96 ∷ 1 ∷ 36320 ∷ 7936 ∷ 0 ∷ 0 ∷ 0 ∷ 0 ∷ 0 ∷ 1 ∷ 2 ∷ 0 ∷ []; model = Futuristic; defence = Stt }) refl refl refl refl refl
 
 run_38_agrees : Agrees run_38
 unfolding ones encode scan_numeral digits count_leading_zeros chars is_utf8 skip_from skip_ws decimal_number number
@@ -1129,7 +1130,7 @@ unfolding ones encode scan_numeral digits count_leading_zeros chars is_utf8 skip
     decode zeros description_of document_fault end_fault key_fault keys_fault latency_fault registers_fault
     second_fault sections_fault top_fault half has_magic word header_fault code_of ram_after ram_fault segment_at
     end_line cycle fetch rename retire event_text events_text row_text rows_text trace_text
-run_38_agrees = agrees run_38 (record { version = 1; numbers = 2 ∷ 1 ∷ 15 ∷ 8 ∷ 16 ∷ 2 ∷ 2 ∷ 1 ∷ 1 ∷ 4 ∷ 8 ∷ 2 ∷ 1 ∷ 8 ∷ 1 ∷ 35 ∷ 3 ∷ 0 ∷ 4096 ∷ 0 ∷ 0 ∷ 0 ∷ 0 ∷ 1 ∷ 2 ∷ 0 ∷ []; model = Futuristic }) refl refl refl refl refl
+run_38_agrees = agrees run_38 (record { version = 1; numbers = 2 ∷ 1 ∷ 15 ∷ 8 ∷ 16 ∷ 2 ∷ 2 ∷ 1 ∷ 1 ∷ 4 ∷ 8 ∷ 2 ∷ 1 ∷ 8 ∷ 1 ∷ 35 ∷ 3 ∷ 0 ∷ 4096 ∷ 0 ∷ 0 ∷ 0 ∷ 0 ∷ 0 ∷ 1 ∷ 2 ∷ 0 ∷ []; model = Futuristic; defence = Stt }) refl refl refl refl refl
 
 second_filled_at_fill_agrees : Agrees second_filled_at_fill
 unfolding ones encode scan_numeral digits count_leading_zeros chars is_utf8 skip_from skip_ws decimal_number number
@@ -1138,7 +1139,7 @@ unfolding ones encode scan_numeral digits count_leading_zeros chars is_utf8 skip
     decode zeros description_of document_fault end_fault key_fault keys_fault latency_fault registers_fault
     second_fault sections_fault top_fault half has_magic word header_fault code_of ram_after ram_fault segment_at
     end_line cycle fetch rename retire event_text events_text row_text rows_text trace_text
-second_filled_at_fill_agrees = agrees second_filled_at_fill (record { version = 2; numbers = 2 ∷ 2 ∷ 16 ∷ 8 ∷ 4 ∷ 4 ∷ 8 ∷ 2 ∷ 3 ∷ 16 ∷ 4 ∷ 1 ∷ 1 ∷ 16 ∷ 2 ∷ 10 ∷ 2 ∷ 65536 ∷ 65536 ∷ 0 ∷ 0 ∷ 0 ∷ 1 ∷ 2 ∷ 5 ∷ 0 ∷ []; model = Spectre }) refl refl refl refl refl
+second_filled_at_fill_agrees = agrees second_filled_at_fill (record { version = 2; numbers = 2 ∷ 2 ∷ 16 ∷ 8 ∷ 4 ∷ 4 ∷ 8 ∷ 2 ∷ 3 ∷ 16 ∷ 4 ∷ 1 ∷ 1 ∷ 16 ∷ 2 ∷ 10 ∷ 2 ∷ 65536 ∷ 65536 ∷ 0 ∷ 0 ∷ 0 ∷ 0 ∷ 1 ∷ 2 ∷ 5 ∷ 0 ∷ []; model = Spectre; defence = Stt }) refl refl refl refl refl
 
 sets_of_second_agrees : Agrees sets_of_second
 unfolding ones encode scan_numeral digits count_leading_zeros chars is_utf8 skip_from skip_ws decimal_number number
@@ -1147,7 +1148,7 @@ unfolding ones encode scan_numeral digits count_leading_zeros chars is_utf8 skip
     decode zeros description_of document_fault end_fault key_fault keys_fault latency_fault registers_fault
     second_fault sections_fault top_fault half has_magic word header_fault code_of ram_after ram_fault segment_at
     end_line cycle fetch rename retire event_text events_text row_text rows_text trace_text
-sets_of_second_agrees = agrees sets_of_second (record { version = 2; numbers = 2 ∷ 2 ∷ 16 ∷ 8 ∷ 4 ∷ 4 ∷ 8 ∷ 2 ∷ 3 ∷ 16 ∷ 4 ∷ 1 ∷ 1 ∷ 16 ∷ 2 ∷ 10 ∷ 2 ∷ 65536 ∷ 65536 ∷ 0 ∷ 0 ∷ 0 ∷ 2 ∷ 1 ∷ 5 ∷ 0 ∷ []; model = Spectre }) refl refl refl refl refl
+sets_of_second_agrees = agrees sets_of_second (record { version = 2; numbers = 2 ∷ 2 ∷ 16 ∷ 8 ∷ 4 ∷ 4 ∷ 8 ∷ 2 ∷ 3 ∷ 16 ∷ 4 ∷ 1 ∷ 1 ∷ 16 ∷ 2 ∷ 10 ∷ 2 ∷ 65536 ∷ 65536 ∷ 0 ∷ 0 ∷ 0 ∷ 0 ∷ 2 ∷ 1 ∷ 5 ∷ 0 ∷ []; model = Spectre; defence = Stt }) refl refl refl refl refl
 
 short_history_agrees : Agrees short_history
 unfolding ones encode scan_numeral digits count_leading_zeros chars is_utf8 skip_from skip_ws decimal_number number
@@ -1156,7 +1157,7 @@ unfolding ones encode scan_numeral digits count_leading_zeros chars is_utf8 skip
     decode zeros description_of document_fault end_fault key_fault keys_fault latency_fault registers_fault
     second_fault sections_fault top_fault half has_magic word header_fault code_of ram_after ram_fault segment_at
     end_line cycle fetch rename retire event_text events_text row_text rows_text trace_text
-short_history_agrees = agrees short_history (record { version = 2; numbers = 2 ∷ 2 ∷ 16 ∷ 8 ∷ 4 ∷ 4 ∷ 8 ∷ 2 ∷ 3 ∷ 16 ∷ 4 ∷ 2 ∷ 2 ∷ 16 ∷ 2 ∷ 10 ∷ 2 ∷ 65536 ∷ 65536 ∷ 0 ∷ 1 ∷ 0 ∷ 0 ∷ 1 ∷ 2 ∷ 0 ∷ []; model = Spectre }) refl refl refl refl refl
+short_history_agrees = agrees short_history (record { version = 2; numbers = 2 ∷ 2 ∷ 16 ∷ 8 ∷ 4 ∷ 4 ∷ 8 ∷ 2 ∷ 3 ∷ 16 ∷ 4 ∷ 2 ∷ 2 ∷ 16 ∷ 2 ∷ 10 ∷ 2 ∷ 65536 ∷ 65536 ∷ 0 ∷ 0 ∷ 1 ∷ 0 ∷ 0 ∷ 1 ∷ 2 ∷ 0 ∷ []; model = Spectre; defence = Stt }) refl refl refl refl refl
 
 squash_by_history_agrees : Agrees squash_by_history
 unfolding ones encode scan_numeral digits count_leading_zeros chars is_utf8 skip_from skip_ws decimal_number number
@@ -1165,7 +1166,7 @@ unfolding ones encode scan_numeral digits count_leading_zeros chars is_utf8 skip
     decode zeros description_of document_fault end_fault key_fault keys_fault latency_fault registers_fault
     second_fault sections_fault top_fault half has_magic word header_fault code_of ram_after ram_fault segment_at
     end_line cycle fetch rename retire event_text events_text row_text rows_text trace_text
-squash_by_history_agrees = agrees squash_by_history (record { version = 2; numbers = 2 ∷ 2 ∷ 16 ∷ 8 ∷ 4 ∷ 4 ∷ 8 ∷ 2 ∷ 3 ∷ 16 ∷ 4 ∷ 2 ∷ 2 ∷ 16 ∷ 2 ∷ 10 ∷ 2 ∷ 65536 ∷ 65536 ∷ 0 ∷ 2 ∷ 0 ∷ 0 ∷ 1 ∷ 2 ∷ 0 ∷ []; model = Spectre }) refl refl refl refl refl
+squash_by_history_agrees = agrees squash_by_history (record { version = 2; numbers = 2 ∷ 2 ∷ 16 ∷ 8 ∷ 4 ∷ 4 ∷ 8 ∷ 2 ∷ 3 ∷ 16 ∷ 4 ∷ 2 ∷ 2 ∷ 16 ∷ 2 ∷ 10 ∷ 2 ∷ 65536 ∷ 65536 ∷ 0 ∷ 0 ∷ 2 ∷ 0 ∷ 0 ∷ 1 ∷ 2 ∷ 0 ∷ []; model = Spectre; defence = Stt }) refl refl refl refl refl
 
 stack_behind_a_squash_agrees : Agrees stack_behind_a_squash
 unfolding ones encode scan_numeral digits count_leading_zeros chars is_utf8 skip_from skip_ws decimal_number number
@@ -1174,7 +1175,7 @@ unfolding ones encode scan_numeral digits count_leading_zeros chars is_utf8 skip
     decode zeros description_of document_fault end_fault key_fault keys_fault latency_fault registers_fault
     second_fault sections_fault top_fault half has_magic word header_fault code_of ram_after ram_fault segment_at
     end_line cycle fetch rename retire event_text events_text row_text rows_text trace_text
-stack_behind_a_squash_agrees = agrees stack_behind_a_squash (record { version = 2; numbers = 2 ∷ 2 ∷ 16 ∷ 8 ∷ 4 ∷ 4 ∷ 8 ∷ 2 ∷ 3 ∷ 16 ∷ 4 ∷ 2 ∷ 2 ∷ 16 ∷ 2 ∷ 10 ∷ 2 ∷ 65536 ∷ 65536 ∷ 0 ∷ 0 ∷ 4 ∷ 0 ∷ 1 ∷ 2 ∷ 0 ∷ []; model = Spectre }) refl refl refl refl refl
+stack_behind_a_squash_agrees = agrees stack_behind_a_squash (record { version = 2; numbers = 2 ∷ 2 ∷ 16 ∷ 8 ∷ 4 ∷ 4 ∷ 8 ∷ 2 ∷ 3 ∷ 16 ∷ 4 ∷ 2 ∷ 2 ∷ 16 ∷ 2 ∷ 10 ∷ 2 ∷ 65536 ∷ 65536 ∷ 0 ∷ 0 ∷ 0 ∷ 4 ∷ 0 ∷ 1 ∷ 2 ∷ 0 ∷ []; model = Spectre; defence = Stt }) refl refl refl refl refl
 
 store_behind_load_agrees : Agrees store_behind_load
 unfolding ones encode scan_numeral digits count_leading_zeros chars is_utf8 skip_from skip_ws decimal_number number
@@ -1183,7 +1184,7 @@ unfolding ones encode scan_numeral digits count_leading_zeros chars is_utf8 skip
     decode zeros description_of document_fault end_fault key_fault keys_fault latency_fault registers_fault
     second_fault sections_fault top_fault half has_magic word header_fault code_of ram_after ram_fault segment_at
     end_line cycle fetch rename retire event_text events_text row_text rows_text trace_text
-store_behind_load_agrees = agrees store_behind_load (record { version = 2; numbers = 2 ∷ 2 ∷ 16 ∷ 8 ∷ 4 ∷ 4 ∷ 8 ∷ 2 ∷ 3 ∷ 16 ∷ 4 ∷ 2 ∷ 2 ∷ 16 ∷ 2 ∷ 10 ∷ 2 ∷ 65536 ∷ 65536 ∷ 0 ∷ 0 ∷ 0 ∷ 0 ∷ 1 ∷ 2 ∷ 0 ∷ []; model = Spectre }) refl refl refl refl refl
+store_behind_load_agrees = agrees store_behind_load (record { version = 2; numbers = 2 ∷ 2 ∷ 16 ∷ 8 ∷ 4 ∷ 4 ∷ 8 ∷ 2 ∷ 3 ∷ 16 ∷ 4 ∷ 2 ∷ 2 ∷ 16 ∷ 2 ∷ 10 ∷ 2 ∷ 65536 ∷ 65536 ∷ 0 ∷ 0 ∷ 0 ∷ 0 ∷ 0 ∷ 1 ∷ 2 ∷ 0 ∷ []; model = Spectre; defence = Stt }) refl refl refl refl refl
 
 store_moves_both_lines_agrees : Agrees store_moves_both_lines
 unfolding ones encode scan_numeral digits count_leading_zeros chars is_utf8 skip_from skip_ws decimal_number number
@@ -1192,7 +1193,7 @@ unfolding ones encode scan_numeral digits count_leading_zeros chars is_utf8 skip
     decode zeros description_of document_fault end_fault key_fault keys_fault latency_fault registers_fault
     second_fault sections_fault top_fault half has_magic word header_fault code_of ram_after ram_fault segment_at
     end_line cycle fetch rename retire event_text events_text row_text rows_text trace_text
-store_moves_both_lines_agrees = agrees store_moves_both_lines (record { version = 2; numbers = 2 ∷ 2 ∷ 16 ∷ 8 ∷ 4 ∷ 4 ∷ 8 ∷ 2 ∷ 3 ∷ 16 ∷ 4 ∷ 1 ∷ 3 ∷ 16 ∷ 2 ∷ 10 ∷ 2 ∷ 65536 ∷ 65536 ∷ 1 ∷ 0 ∷ 0 ∷ 0 ∷ 1 ∷ 2 ∷ 0 ∷ []; model = Spectre }) refl refl refl refl refl
+store_moves_both_lines_agrees = agrees store_moves_both_lines (record { version = 2; numbers = 2 ∷ 2 ∷ 16 ∷ 8 ∷ 4 ∷ 4 ∷ 8 ∷ 2 ∷ 3 ∷ 16 ∷ 4 ∷ 1 ∷ 3 ∷ 16 ∷ 2 ∷ 10 ∷ 2 ∷ 65536 ∷ 65536 ∷ 1 ∷ 0 ∷ 0 ∷ 0 ∷ 0 ∷ 1 ∷ 2 ∷ 0 ∷ []; model = Spectre; defence = Stt }) refl refl refl refl refl
 
 store_moves_the_lower_line_agrees : Agrees store_moves_the_lower_line
 unfolding ones encode scan_numeral digits count_leading_zeros chars is_utf8 skip_from skip_ws decimal_number number
@@ -1201,7 +1202,7 @@ unfolding ones encode scan_numeral digits count_leading_zeros chars is_utf8 skip
     decode zeros description_of document_fault end_fault key_fault keys_fault latency_fault registers_fault
     second_fault sections_fault top_fault half has_magic word header_fault code_of ram_after ram_fault segment_at
     end_line cycle fetch rename retire event_text events_text row_text rows_text trace_text
-store_moves_the_lower_line_agrees = agrees store_moves_the_lower_line (record { version = 2; numbers = 2 ∷ 2 ∷ 16 ∷ 8 ∷ 4 ∷ 4 ∷ 8 ∷ 2 ∷ 3 ∷ 16 ∷ 4 ∷ 1 ∷ 3 ∷ 16 ∷ 2 ∷ 10 ∷ 2 ∷ 65536 ∷ 65536 ∷ 1 ∷ 0 ∷ 0 ∷ 0 ∷ 1 ∷ 2 ∷ 0 ∷ []; model = Spectre }) refl refl refl refl refl
+store_moves_the_lower_line_agrees = agrees store_moves_the_lower_line (record { version = 2; numbers = 2 ∷ 2 ∷ 16 ∷ 8 ∷ 4 ∷ 4 ∷ 8 ∷ 2 ∷ 3 ∷ 16 ∷ 4 ∷ 1 ∷ 3 ∷ 16 ∷ 2 ∷ 10 ∷ 2 ∷ 65536 ∷ 65536 ∷ 1 ∷ 0 ∷ 0 ∷ 0 ∷ 0 ∷ 1 ∷ 2 ∷ 0 ∷ []; model = Spectre; defence = Stt }) refl refl refl refl refl
 
 store_passes_second_agrees : Agrees store_passes_second
 unfolding ones encode scan_numeral digits count_leading_zeros chars is_utf8 skip_from skip_ws decimal_number number
@@ -1210,7 +1211,7 @@ unfolding ones encode scan_numeral digits count_leading_zeros chars is_utf8 skip
     decode zeros description_of document_fault end_fault key_fault keys_fault latency_fault registers_fault
     second_fault sections_fault top_fault half has_magic word header_fault code_of ram_after ram_fault segment_at
     end_line cycle fetch rename retire event_text events_text row_text rows_text trace_text
-store_passes_second_agrees = agrees store_passes_second (record { version = 2; numbers = 2 ∷ 2 ∷ 16 ∷ 8 ∷ 4 ∷ 4 ∷ 8 ∷ 2 ∷ 3 ∷ 16 ∷ 4 ∷ 1 ∷ 1 ∷ 16 ∷ 2 ∷ 10 ∷ 2 ∷ 65536 ∷ 65536 ∷ 0 ∷ 0 ∷ 0 ∷ 1 ∷ 2 ∷ 5 ∷ 0 ∷ []; model = Spectre }) refl refl refl refl refl
+store_passes_second_agrees = agrees store_passes_second (record { version = 2; numbers = 2 ∷ 2 ∷ 16 ∷ 8 ∷ 4 ∷ 4 ∷ 8 ∷ 2 ∷ 3 ∷ 16 ∷ 4 ∷ 1 ∷ 1 ∷ 16 ∷ 2 ∷ 10 ∷ 2 ∷ 65536 ∷ 65536 ∷ 0 ∷ 0 ∷ 0 ∷ 0 ∷ 1 ∷ 2 ∷ 5 ∷ 0 ∷ []; model = Spectre; defence = Stt }) refl refl refl refl refl
 
 store_reaches_behind_memory_agrees : Agrees store_reaches_behind_memory
 unfolding ones encode scan_numeral digits count_leading_zeros chars is_utf8 skip_from skip_ws decimal_number number
@@ -1219,7 +1220,7 @@ unfolding ones encode scan_numeral digits count_leading_zeros chars is_utf8 skip
     decode zeros description_of document_fault end_fault key_fault keys_fault latency_fault registers_fault
     second_fault sections_fault top_fault half has_magic word header_fault code_of ram_after ram_fault segment_at
     end_line cycle fetch rename retire event_text events_text row_text rows_text trace_text
-store_reaches_behind_memory_agrees = agrees store_reaches_behind_memory (record { version = 2; numbers = 2 ∷ 2 ∷ 16 ∷ 8 ∷ 4 ∷ 4 ∷ 8 ∷ 2 ∷ 3 ∷ 16 ∷ 4 ∷ 2 ∷ 2 ∷ 16 ∷ 2 ∷ 10 ∷ 2 ∷ 65536 ∷ 65536 ∷ 1 ∷ 0 ∷ 0 ∷ 0 ∷ 1 ∷ 2 ∷ 0 ∷ []; model = Spectre }) refl refl refl refl refl
+store_reaches_behind_memory_agrees = agrees store_reaches_behind_memory (record { version = 2; numbers = 2 ∷ 2 ∷ 16 ∷ 8 ∷ 4 ∷ 4 ∷ 8 ∷ 2 ∷ 3 ∷ 16 ∷ 4 ∷ 2 ∷ 2 ∷ 16 ∷ 2 ∷ 10 ∷ 2 ∷ 65536 ∷ 65536 ∷ 1 ∷ 0 ∷ 0 ∷ 0 ∷ 0 ∷ 1 ∷ 2 ∷ 0 ∷ []; model = Spectre; defence = Stt }) refl refl refl refl refl
 
 store_without_data_shadows_agrees : Agrees store_without_data_shadows
 unfolding ones encode scan_numeral digits count_leading_zeros chars is_utf8 skip_from skip_ws decimal_number number
@@ -1228,7 +1229,7 @@ unfolding ones encode scan_numeral digits count_leading_zeros chars is_utf8 skip
     decode zeros description_of document_fault end_fault key_fault keys_fault latency_fault registers_fault
     second_fault sections_fault top_fault half has_magic word header_fault code_of ram_after ram_fault segment_at
     end_line cycle fetch rename retire event_text events_text row_text rows_text trace_text
-store_without_data_shadows_agrees = agrees store_without_data_shadows (record { version = 2; numbers = 2 ∷ 2 ∷ 16 ∷ 8 ∷ 4 ∷ 4 ∷ 8 ∷ 2 ∷ 3 ∷ 16 ∷ 4 ∷ 2 ∷ 2 ∷ 16 ∷ 2 ∷ 10 ∷ 2 ∷ 65536 ∷ 65536 ∷ 0 ∷ 0 ∷ 0 ∷ 0 ∷ 1 ∷ 2 ∷ 0 ∷ []; model = Futuristic }) refl refl refl refl refl
+store_without_data_shadows_agrees = agrees store_without_data_shadows (record { version = 2; numbers = 2 ∷ 2 ∷ 16 ∷ 8 ∷ 4 ∷ 4 ∷ 8 ∷ 2 ∷ 3 ∷ 16 ∷ 4 ∷ 2 ∷ 2 ∷ 16 ∷ 2 ∷ 10 ∷ 2 ∷ 65536 ∷ 65536 ∷ 0 ∷ 0 ∷ 0 ∷ 0 ∷ 0 ∷ 1 ∷ 2 ∷ 0 ∷ []; model = Futuristic; defence = Stt }) refl refl refl refl refl
 
 tainted_address_agrees : Agrees tainted_address
 unfolding ones encode scan_numeral digits count_leading_zeros chars is_utf8 skip_from skip_ws decimal_number number
@@ -1237,7 +1238,7 @@ unfolding ones encode scan_numeral digits count_leading_zeros chars is_utf8 skip
     decode zeros description_of document_fault end_fault key_fault keys_fault latency_fault registers_fault
     second_fault sections_fault top_fault half has_magic word header_fault code_of ram_after ram_fault segment_at
     end_line cycle fetch rename retire event_text events_text row_text rows_text trace_text
-tainted_address_agrees = agrees tainted_address (record { version = 2; numbers = 2 ∷ 2 ∷ 16 ∷ 8 ∷ 4 ∷ 4 ∷ 8 ∷ 2 ∷ 3 ∷ 16 ∷ 4 ∷ 2 ∷ 2 ∷ 16 ∷ 2 ∷ 10 ∷ 2 ∷ 65536 ∷ 65536 ∷ 0 ∷ 0 ∷ 0 ∷ 0 ∷ 1 ∷ 2 ∷ 0 ∷ []; model = Spectre }) refl refl refl refl refl
+tainted_address_agrees = agrees tainted_address (record { version = 2; numbers = 2 ∷ 2 ∷ 16 ∷ 8 ∷ 4 ∷ 4 ∷ 8 ∷ 2 ∷ 3 ∷ 16 ∷ 4 ∷ 2 ∷ 2 ∷ 16 ∷ 2 ∷ 10 ∷ 2 ∷ 65536 ∷ 65536 ∷ 0 ∷ 0 ∷ 0 ∷ 0 ∷ 0 ∷ 1 ∷ 2 ∷ 0 ∷ []; model = Spectre; defence = Stt }) refl refl refl refl refl
 
 tainted_address_faulting_load_agrees : Agrees tainted_address_faulting_load
 unfolding ones encode scan_numeral digits count_leading_zeros chars is_utf8 skip_from skip_ws decimal_number number
@@ -1246,7 +1247,7 @@ unfolding ones encode scan_numeral digits count_leading_zeros chars is_utf8 skip
     decode zeros description_of document_fault end_fault key_fault keys_fault latency_fault registers_fault
     second_fault sections_fault top_fault half has_magic word header_fault code_of ram_after ram_fault segment_at
     end_line cycle fetch rename retire event_text events_text row_text rows_text trace_text
-tainted_address_faulting_load_agrees = agrees tainted_address_faulting_load (record { version = 2; numbers = 2 ∷ 2 ∷ 16 ∷ 8 ∷ 4 ∷ 4 ∷ 8 ∷ 2 ∷ 3 ∷ 16 ∷ 4 ∷ 2 ∷ 2 ∷ 16 ∷ 2 ∷ 10 ∷ 2 ∷ 65536 ∷ 65536 ∷ 0 ∷ 0 ∷ 0 ∷ 0 ∷ 1 ∷ 2 ∷ 0 ∷ []; model = Spectre }) refl refl refl refl refl
+tainted_address_faulting_load_agrees = agrees tainted_address_faulting_load (record { version = 2; numbers = 2 ∷ 2 ∷ 16 ∷ 8 ∷ 4 ∷ 4 ∷ 8 ∷ 2 ∷ 3 ∷ 16 ∷ 4 ∷ 2 ∷ 2 ∷ 16 ∷ 2 ∷ 10 ∷ 2 ∷ 65536 ∷ 65536 ∷ 0 ∷ 0 ∷ 0 ∷ 0 ∷ 0 ∷ 1 ∷ 2 ∷ 0 ∷ []; model = Spectre; defence = Stt }) refl refl refl refl refl
 
 tainted_address_faulting_store_agrees : Agrees tainted_address_faulting_store
 unfolding ones encode scan_numeral digits count_leading_zeros chars is_utf8 skip_from skip_ws decimal_number number
@@ -1255,7 +1256,7 @@ unfolding ones encode scan_numeral digits count_leading_zeros chars is_utf8 skip
     decode zeros description_of document_fault end_fault key_fault keys_fault latency_fault registers_fault
     second_fault sections_fault top_fault half has_magic word header_fault code_of ram_after ram_fault segment_at
     end_line cycle fetch rename retire event_text events_text row_text rows_text trace_text
-tainted_address_faulting_store_agrees = agrees tainted_address_faulting_store (record { version = 2; numbers = 2 ∷ 2 ∷ 16 ∷ 8 ∷ 4 ∷ 4 ∷ 8 ∷ 2 ∷ 3 ∷ 16 ∷ 4 ∷ 2 ∷ 2 ∷ 16 ∷ 2 ∷ 10 ∷ 2 ∷ 65536 ∷ 65536 ∷ 0 ∷ 0 ∷ 0 ∷ 0 ∷ 1 ∷ 2 ∷ 0 ∷ []; model = Spectre }) refl refl refl refl refl
+tainted_address_faulting_store_agrees = agrees tainted_address_faulting_store (record { version = 2; numbers = 2 ∷ 2 ∷ 16 ∷ 8 ∷ 4 ∷ 4 ∷ 8 ∷ 2 ∷ 3 ∷ 16 ∷ 4 ∷ 2 ∷ 2 ∷ 16 ∷ 2 ∷ 10 ∷ 2 ∷ 65536 ∷ 65536 ∷ 0 ∷ 0 ∷ 0 ∷ 0 ∷ 0 ∷ 1 ∷ 2 ∷ 0 ∷ []; model = Spectre; defence = Stt }) refl refl refl refl refl
 
 tainted_address_hidden_agrees : Agrees tainted_address_hidden
 unfolding ones encode scan_numeral digits count_leading_zeros chars is_utf8 skip_from skip_ws decimal_number number
@@ -1264,7 +1265,7 @@ unfolding ones encode scan_numeral digits count_leading_zeros chars is_utf8 skip
     decode zeros description_of document_fault end_fault key_fault keys_fault latency_fault registers_fault
     second_fault sections_fault top_fault half has_magic word header_fault code_of ram_after ram_fault segment_at
     end_line cycle fetch rename retire event_text events_text row_text rows_text trace_text
-tainted_address_hidden_agrees = agrees tainted_address_hidden (record { version = 2; numbers = 2 ∷ 2 ∷ 16 ∷ 8 ∷ 4 ∷ 4 ∷ 8 ∷ 2 ∷ 3 ∷ 16 ∷ 4 ∷ 2 ∷ 2 ∷ 16 ∷ 2 ∷ 10 ∷ 2 ∷ 65536 ∷ 65536 ∷ 0 ∷ 0 ∷ 0 ∷ 0 ∷ 1 ∷ 2 ∷ 0 ∷ []; model = Spectre }) refl refl refl refl refl
+tainted_address_hidden_agrees = agrees tainted_address_hidden (record { version = 2; numbers = 2 ∷ 2 ∷ 16 ∷ 8 ∷ 4 ∷ 4 ∷ 8 ∷ 2 ∷ 3 ∷ 16 ∷ 4 ∷ 2 ∷ 2 ∷ 16 ∷ 2 ∷ 10 ∷ 2 ∷ 65536 ∷ 65536 ∷ 0 ∷ 0 ∷ 0 ∷ 0 ∷ 0 ∷ 1 ∷ 2 ∷ 0 ∷ []; model = Spectre; defence = Stt }) refl refl refl refl refl
 
 tainted_data_agrees : Agrees tainted_data
 unfolding ones encode scan_numeral digits count_leading_zeros chars is_utf8 skip_from skip_ws decimal_number number
@@ -1273,7 +1274,7 @@ unfolding ones encode scan_numeral digits count_leading_zeros chars is_utf8 skip
     decode zeros description_of document_fault end_fault key_fault keys_fault latency_fault registers_fault
     second_fault sections_fault top_fault half has_magic word header_fault code_of ram_after ram_fault segment_at
     end_line cycle fetch rename retire event_text events_text row_text rows_text trace_text
-tainted_data_agrees = agrees tainted_data (record { version = 2; numbers = 2 ∷ 2 ∷ 16 ∷ 8 ∷ 4 ∷ 4 ∷ 8 ∷ 2 ∷ 3 ∷ 16 ∷ 4 ∷ 2 ∷ 2 ∷ 16 ∷ 2 ∷ 10 ∷ 2 ∷ 65536 ∷ 65536 ∷ 0 ∷ 0 ∷ 0 ∷ 0 ∷ 1 ∷ 2 ∷ 0 ∷ []; model = Spectre }) refl refl refl refl refl
+tainted_data_agrees = agrees tainted_data (record { version = 2; numbers = 2 ∷ 2 ∷ 16 ∷ 8 ∷ 4 ∷ 4 ∷ 8 ∷ 2 ∷ 3 ∷ 16 ∷ 4 ∷ 2 ∷ 2 ∷ 16 ∷ 2 ∷ 10 ∷ 2 ∷ 65536 ∷ 65536 ∷ 0 ∷ 0 ∷ 0 ∷ 0 ∷ 0 ∷ 1 ∷ 2 ∷ 0 ∷ []; model = Spectre; defence = Stt }) refl refl refl refl refl
 
 waiting_load_moves_nothing_agrees : Agrees waiting_load_moves_nothing
 unfolding ones encode scan_numeral digits count_leading_zeros chars is_utf8 skip_from skip_ws decimal_number number
@@ -1282,7 +1283,7 @@ unfolding ones encode scan_numeral digits count_leading_zeros chars is_utf8 skip
     decode zeros description_of document_fault end_fault key_fault keys_fault latency_fault registers_fault
     second_fault sections_fault top_fault half has_magic word header_fault code_of ram_after ram_fault segment_at
     end_line cycle fetch rename retire event_text events_text row_text rows_text trace_text
-waiting_load_moves_nothing_agrees = agrees waiting_load_moves_nothing (record { version = 2; numbers = 2 ∷ 2 ∷ 16 ∷ 8 ∷ 4 ∷ 4 ∷ 8 ∷ 2 ∷ 3 ∷ 16 ∷ 4 ∷ 1 ∷ 2 ∷ 16 ∷ 2 ∷ 10 ∷ 2 ∷ 65536 ∷ 65536 ∷ 1 ∷ 0 ∷ 0 ∷ 0 ∷ 1 ∷ 2 ∷ 0 ∷ []; model = Spectre }) refl refl refl refl refl
+waiting_load_moves_nothing_agrees = agrees waiting_load_moves_nothing (record { version = 2; numbers = 2 ∷ 2 ∷ 16 ∷ 8 ∷ 4 ∷ 4 ∷ 8 ∷ 2 ∷ 3 ∷ 16 ∷ 4 ∷ 1 ∷ 2 ∷ 16 ∷ 2 ∷ 10 ∷ 2 ∷ 65536 ∷ 65536 ∷ 1 ∷ 0 ∷ 0 ∷ 0 ∷ 0 ∷ 1 ∷ 2 ∷ 0 ∷ []; model = Spectre; defence = Stt }) refl refl refl refl refl
 
 wrong_return_pops_agrees : Agrees wrong_return_pops
 unfolding ones encode scan_numeral digits count_leading_zeros chars is_utf8 skip_from skip_ws decimal_number number
@@ -1291,7 +1292,7 @@ unfolding ones encode scan_numeral digits count_leading_zeros chars is_utf8 skip
     decode zeros description_of document_fault end_fault key_fault keys_fault latency_fault registers_fault
     second_fault sections_fault top_fault half has_magic word header_fault code_of ram_after ram_fault segment_at
     end_line cycle fetch rename retire event_text events_text row_text rows_text trace_text
-wrong_return_pops_agrees = agrees wrong_return_pops (record { version = 2; numbers = 2 ∷ 2 ∷ 16 ∷ 8 ∷ 4 ∷ 4 ∷ 8 ∷ 2 ∷ 3 ∷ 16 ∷ 4 ∷ 2 ∷ 2 ∷ 16 ∷ 2 ∷ 10 ∷ 2 ∷ 65536 ∷ 65536 ∷ 0 ∷ 0 ∷ 4 ∷ 0 ∷ 1 ∷ 2 ∷ 0 ∷ []; model = Spectre }) refl refl refl refl refl
+wrong_return_pops_agrees = agrees wrong_return_pops (record { version = 2; numbers = 2 ∷ 2 ∷ 16 ∷ 8 ∷ 4 ∷ 4 ∷ 8 ∷ 2 ∷ 3 ∷ 16 ∷ 4 ∷ 2 ∷ 2 ∷ 16 ∷ 2 ∷ 10 ∷ 2 ∷ 65536 ∷ 65536 ∷ 0 ∷ 0 ∷ 0 ∷ 4 ∷ 0 ∷ 1 ∷ 2 ∷ 0 ∷ []; model = Spectre; defence = Stt }) refl refl refl refl refl
 
 younger_address_agrees : Agrees younger_address
 unfolding ones encode scan_numeral digits count_leading_zeros chars is_utf8 skip_from skip_ws decimal_number number
@@ -1300,7 +1301,7 @@ unfolding ones encode scan_numeral digits count_leading_zeros chars is_utf8 skip
     decode zeros description_of document_fault end_fault key_fault keys_fault latency_fault registers_fault
     second_fault sections_fault top_fault half has_magic word header_fault code_of ram_after ram_fault segment_at
     end_line cycle fetch rename retire event_text events_text row_text rows_text trace_text
-younger_address_agrees = agrees younger_address (record { version = 2; numbers = 2 ∷ 2 ∷ 16 ∷ 8 ∷ 4 ∷ 4 ∷ 8 ∷ 2 ∷ 3 ∷ 16 ∷ 4 ∷ 2 ∷ 2 ∷ 16 ∷ 2 ∷ 10 ∷ 2 ∷ 65536 ∷ 65536 ∷ 0 ∷ 0 ∷ 0 ∷ 0 ∷ 1 ∷ 2 ∷ 0 ∷ []; model = Spectre }) refl refl refl refl refl
+younger_address_agrees = agrees younger_address (record { version = 2; numbers = 2 ∷ 2 ∷ 16 ∷ 8 ∷ 4 ∷ 4 ∷ 8 ∷ 2 ∷ 3 ∷ 16 ∷ 4 ∷ 2 ∷ 2 ∷ 16 ∷ 2 ∷ 10 ∷ 2 ∷ 65536 ∷ 65536 ∷ 0 ∷ 0 ∷ 0 ∷ 0 ∷ 0 ∷ 1 ∷ 2 ∷ 0 ∷ []; model = Spectre; defence = Stt }) refl refl refl refl refl
 
 younger_store_agrees : Agrees younger_store
 unfolding ones encode scan_numeral digits count_leading_zeros chars is_utf8 skip_from skip_ws decimal_number number
@@ -1309,7 +1310,7 @@ unfolding ones encode scan_numeral digits count_leading_zeros chars is_utf8 skip
     decode zeros description_of document_fault end_fault key_fault keys_fault latency_fault registers_fault
     second_fault sections_fault top_fault half has_magic word header_fault code_of ram_after ram_fault segment_at
     end_line cycle fetch rename retire event_text events_text row_text rows_text trace_text
-younger_store_agrees = agrees younger_store (record { version = 2; numbers = 2 ∷ 2 ∷ 16 ∷ 8 ∷ 2 ∷ 4 ∷ 8 ∷ 2 ∷ 3 ∷ 16 ∷ 4 ∷ 2 ∷ 2 ∷ 16 ∷ 2 ∷ 10 ∷ 2 ∷ 65536 ∷ 65536 ∷ 0 ∷ 0 ∷ 0 ∷ 0 ∷ 1 ∷ 2 ∷ 0 ∷ []; model = Spectre }) refl refl refl refl refl
+younger_store_agrees = agrees younger_store (record { version = 2; numbers = 2 ∷ 2 ∷ 16 ∷ 8 ∷ 2 ∷ 4 ∷ 8 ∷ 2 ∷ 3 ∷ 16 ∷ 4 ∷ 2 ∷ 2 ∷ 16 ∷ 2 ∷ 10 ∷ 2 ∷ 65536 ∷ 65536 ∷ 0 ∷ 0 ∷ 0 ∷ 0 ∷ 0 ∷ 1 ∷ 2 ∷ 0 ∷ []; model = Spectre; defence = Stt }) refl refl refl refl refl
 
 pub each_agrees : Each Agrees runs
 each_agrees = (across_two_lines_agrees, (branch_to_the_next_agrees, (byte_at_its_end_covered_agrees, (covered_line_is_accessed_agrees, (faulting_load_agrees, (faulting_store_agrees, (forwarded_across_lines_agrees, (found_in_second_agrees, (full_stack_agrees, (half_issued_agrees, (half_issued_data_agrees, (hidden_base_agrees, (history_as_fetched_agrees, (joined_line_takes_no_register_agrees, (jump_that_links_elsewhere_agrees, (jumps_leave_history_agrees, (large_window_agrees, (late_address_agrees, (late_data_agrees, (late_data_version_1_agrees, (later_of_two_lines_agrees, (levels_drop_apart_agrees, (link_through_x1_agrees, (linking_jump_agrees, (load_reaches_behind_memory_agrees, (loop_by_history_agrees, (lower_line_comes_later_agrees, (memory_and_second_agrees, (misaligned_refused_agrees, (mixed_1_agrees, (mixed_2_agrees, (mixed_3_agrees, (mixed_4_agrees, (mixed_5_agrees, (mixed_6_agrees, (mixed_7_agrees, (mixed_8_agrees, (mixed_any_address_1_agrees, (mixed_any_address_2_agrees, (mixed_history_1_agrees, (mixed_history_2_agrees, (mixed_memory_1_agrees, (mixed_memory_2_agrees, (mixed_second_level_1_agrees, (mixed_second_level_2_agrees, (mixed_together_1_agrees, (mixed_together_2_agrees, (next_line_fetched_agrees, (no_prefetch_behind_memory_agrees, (no_prefetch_for_a_hit_agrees, (no_prefetch_for_a_join_agrees, (no_prefetch_of_a_held_line_agrees, (no_prefetch_of_address_0_agrees, (no_prefetch_on_its_way_agrees, (no_prefetch_without_register_agrees, (one_byte_agrees, (one_port_each_agrees, (partly_covered_agrees, (parts_alone_agrees, (prefetch_at_the_end_of_memory_agrees, (prefetch_behind_both_lines_agrees, (prefetch_behind_the_lower_line_agrees, (prefetch_from_second_agrees, (recent_in_second_agrees, (registers_for_both_lines_agrees, (return_by_another_register_agrees, (return_by_stack_agrees, (return_from_no_call_agrees, (return_that_links_agrees, (return_without_stack_agrees, (run_01_agrees, (run_02_agrees, (run_03_agrees, (run_04_agrees, (run_05_agrees, (run_06_agrees, (run_07_agrees, (run_08_agrees, (run_09_agrees, (run_10_agrees, (run_11_agrees, (run_12_agrees, (run_13_agrees, (run_14_agrees, (run_15_agrees, (run_16_agrees, (run_17_agrees, (run_18_agrees, (run_19_agrees, (run_20_agrees, (run_21_agrees, (run_22_agrees, (run_23_agrees, (run_24_agrees, (run_25_agrees, (run_26_agrees, (run_27_agrees, (run_28_agrees, (run_29_agrees, (run_30_agrees, (run_31_agrees, (run_32_agrees, (run_33_agrees, (run_34_agrees, (run_35_agrees, (run_36_agrees, (run_37_agrees, (run_38_agrees, (second_filled_at_fill_agrees, (sets_of_second_agrees, (short_history_agrees, (squash_by_history_agrees, (stack_behind_a_squash_agrees, (store_behind_load_agrees, (store_moves_both_lines_agrees, (store_moves_the_lower_line_agrees, (store_passes_second_agrees, (store_reaches_behind_memory_agrees, (store_without_data_shadows_agrees, (tainted_address_agrees, (tainted_address_faulting_load_agrees, (tainted_address_faulting_store_agrees, (tainted_address_hidden_agrees, (tainted_data_agrees, (waiting_load_moves_nothing_agrees, (wrong_return_pops_agrees, (younger_address_agrees, (younger_store_agrees, tt))))))))))))))))))))))))))))))))))))))))))))))))))))))))))))))))))))))))))))))))))))))))))))))))))))))))))))))))))))))))))))))))

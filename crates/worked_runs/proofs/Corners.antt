@@ -40,8 +40,10 @@ waiting serial w = record {
   state = Waiting;
   outcome = None;
   resolved = false;
+  issued = None;
   addr_due = None;
   data_due = None;
+  cleared = true;
 }
 
 -- an entry that is done, with an address and a fault
@@ -52,8 +54,10 @@ done_at serial w a fault = record {
   state = Done;
   outcome = Some (record { value = 1; next = 0x10004; addr = a; stored = 0; fault = fault });
   resolved = false;
+  issued = Some 0;
   addr_due = Some 1;
   data_due = Some 1;
+  cleared = true;
 }
 
 -- bgeu x0,x5,+16, not resolved

@@ -1,11 +1,11 @@
 -- The description that has these numbers.
-use Rattle.std.proofs.Common.{ℕ, zero, suc, ◌+◌, ◌*◌, ◌%◌, ◌^◌, Bool, true, false, IsTrue, List, [], ◌∷◌, get_or, refl, eqb-true}
+use Rattle.std.proofs.Common.{ℕ, zero, suc, ◌+◌, ◌*◌, ◌%◌, ◌^◌, Bool, true, false, IsTrue, List, [], ◌∷◌, ◌++◌, get_or, refl, eqb-true}
 use Rattle.std.specs.Prelude.{◌&&◌, ◌||◌, ◌==◌, nat_le}
 use Rattle.std.specs.Int.{is_power_of_two}
 use borrow.Author.Tests.{leb-true}
 use Rattle.machine_desc.specs.declared.Desc.{Desc}
 use Rattle.machine_desc.specs.Description.{Contents}
-use Rattle.machine_desc.specs.Version.{most, newest, comes_between}
+use Rattle.machine_desc.specs.Version.{most, newest, knows_model, knows_defence, comes_between}
 use Rattle.machine_desc.proofs.Powers.{power_from_test, zero_or_power_from_test}
 
 -- all of these hold
@@ -53,24 +53,29 @@ tests version n =
     (nat_le (n 17 + n 18) (2 ^ 32)) ∷
     (nat_le 1 version) ∷ (nat_le version newest) ∷
     (nat_le (n 19) (most 0 1 version)) ∷ (nat_le (2 * n 19) (n 16)) ∷
-    (nat_le (n 20) (most 0 12 version)) ∷
-    (nat_le (n 21) (most 0 16 version)) ∷
-    (nat_le (n 22) (most 0 1024 version)) ∷ (n 22 == 0 || is_power_of_two (n 22)) ∷
-    (nat_le 1 (n 23)) ∷ (nat_le (n 23) (most 1 8 version)) ∷
-    (nat_le 2 (n 24)) ∷ (nat_le (n 24) (most 2 100 version)) ∷
-    (comes_between (n 22) (n 14) (n 24) (n 15)) ∷
-    (nat_le (n 25) (most 0 1 version)) ∷
+    (nat_le (n 20) (most 0 0 version)) ∷ (n 20 == 0 || is_power_of_two (n 20)) ∷
+    (nat_le (n 21) (most 0 12 version)) ∷
+    (nat_le (n 22) (most 0 16 version)) ∷
+    (nat_le (n 23) (most 0 1024 version)) ∷ (n 23 == 0 || is_power_of_two (n 23)) ∷
+    (nat_le 1 (n 24)) ∷ (nat_le (n 24) (most 1 8 version)) ∷
+    (nat_le 2 (n 25)) ∷ (nat_le (n 25) (most 2 100 version)) ∷
+    (comes_between (n 23) (n 14) (n 25) (n 15)) ∷
+    (nat_le (n 26) (most 0 1 version)) ∷
     []
 
 -- the number of a key, by its place
 abbrev pub number_at : Contents → ℕ → ℕ
 number_at c k = get_or c.numbers k 0
 
+-- what the keys ask of these contents, and that the version knows the model and the defence
+abbrev pub all_tests : Contents → List Bool
+all_tests c = tests c.version (number_at c) ++ knows_model c.version c.model ∷ knows_defence c.version c.defence ∷ []
+
 -- the description of these contents
-abbrev pub described : (c : Contents) → IsTrue (all_hold (tests c.version (number_at c))) → Desc
+abbrev pub described : (c : Contents) → IsTrue (all_hold (all_tests c)) → Desc
 described c h =
     let n : ℕ → ℕ = number_at c in
-    let t : (k : ℕ) → IsTrue (get_or (tests c.version n) k true) = λ k. holds (tests c.version n) k h in
+    let t : (k : ℕ) → IsTrue (get_or (all_tests c) k true) = λ k. holds (all_tests c) k h in
     record {
       version = c.version;
       core_fetch_width = n 0;
@@ -84,22 +89,24 @@ described c h =
       units_mul_latency = n 8;
       predictor_counters = n 9;
       predictor_btb = n 10;
-      predictor_history = n 20;
-      predictor_returns = n 21;
+      predictor_depend = n 20;
+      predictor_history = n 21;
+      predictor_returns = n 22;
       cache_sets = n 11;
       cache_ways = n 12;
       cache_line = n 13;
       cache_hit_latency = n 14;
       cache_miss_latency = n 15;
       cache_mshrs = n 16;
-      cache_second_sets = n 22;
-      cache_second_ways = n 23;
-      cache_second_latency = n 24;
-      cache_prefetch = n 25;
+      cache_second_sets = n 23;
+      cache_second_ways = n 24;
+      cache_second_latency = n 25;
+      cache_prefetch = n 26;
       ram_base = n 17;
       ram_size = n 18;
       ram_misaligned = n 19;
       stt_model = c.model;
+      stt_defence = c.defence;
       some_version = leb-true _ _ (t 44);
       known_version = leb-true _ _ (t 45);
       some_fetches = leb-true _ _ (t 0);
@@ -148,14 +155,18 @@ described c h =
       ram_ends = leb-true _ _ (t 43);
       few_misaligned = leb-true _ _ (t 46);
       two_lines = leb-true _ _ (t 47);
-      short_history = leb-true _ _ (t 48);
-      few_returns = leb-true _ _ (t 49);
-      few_second_sets = leb-true _ _ (t 50);
-      second_sets_power = zero_or_power_from_test _ (t 51);
-      some_second_ways = leb-true _ _ (t 52);
-      few_second_ways = leb-true _ _ (t 53);
-      some_second_latency = leb-true _ _ (t 54);
-      short_second_latency = leb-true _ _ (t 55);
-      second_between = t 56;
-      few_prefetches = leb-true _ _ (t 57);
+      few_depend = leb-true _ _ (t 48);
+      depend_power = zero_or_power_from_test _ (t 49);
+      short_history = leb-true _ _ (t 50);
+      few_returns = leb-true _ _ (t 51);
+      few_second_sets = leb-true _ _ (t 52);
+      second_sets_power = zero_or_power_from_test _ (t 53);
+      some_second_ways = leb-true _ _ (t 54);
+      few_second_ways = leb-true _ _ (t 55);
+      some_second_latency = leb-true _ _ (t 56);
+      short_second_latency = leb-true _ _ (t 57);
+      second_between = t 58;
+      few_prefetches = leb-true _ _ (t 59);
+      model_known = t 60;
+      defence_known = t 61;
     }

@@ -7,3 +7,7 @@ pub mod Described
 pub mod Agreed
 pub mod Agreeing
 pub mod Marks
+pub mod Version2
+pub mod PassedStores
+pub mod Unprotected
+pub mod Held

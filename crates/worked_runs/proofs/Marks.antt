@@ -29,12 +29,15 @@ remembering history returns few_directions few_addresses = record example {
   few_stores = lit≤ tt;
   short_queue = lit≤ tt;
   few_misaligned = lit≤ tt;
+  few_depend = lit≤ tt;
   short_history = few_directions;
   few_returns = few_addresses;
   few_second_sets = lit≤ tt;
   few_second_ways = lit≤ tt;
   short_second_latency = lit≤ tt;
   few_prefetches = lit≤ tt;
+  model_known = refl;
+  defence_known = refl;
 }
 
 -- jal x1,+12; addi x17,x0,93; ecall; jalr x0,0(x1)

@@ -26,7 +26,7 @@ FROM = "(e for e in reversed(before) if e.covers(byte))"
 
 # wrong rules: a text of the model, what stands there then, and runs whose traces it changes
 PARTS = [
-    ("a load passes a store of unknown address", "            if store.address_due is None:\n                return False\n", "",
+    ("a load passes a store of unknown address", "            if store.address_due is None and not passes:\n                return False\n", "",
      ["late_address", "younger_address", "tainted_address_hidden"]),
     ("a load passes a store without data that shares a byte", " or any(map(store.covers, bytes_of_it))", "", ["late_data", "one_byte"]),
     ("the first byte alone is looked at", "any(map(store.covers, bytes_of_it))", "any(map(store.covers, bytes_of_it[:1]))", ["one_byte"]),
