@@ -9,6 +9,8 @@ pub struct Issued {
     pub state: Progress,
     /// What it comes to.
     pub outcome: Option<Outcome>,
+    /// The cycle in which it issued, where it did in one piece.
+    pub issued: Option<u64>,
     /// The cycle from which on a store's address is known.
     pub addr_due: Option<u64>,
     /// The cycle from which on a store's data is known.

@@ -290,6 +290,7 @@ fn issue_entry(items: &mut HeapCircularBuffer<Entry>, i: u32, issued: &Issued)
     if let Some(entry) = items.get_mut(i as usize) {
         entry.state = issued.state;
         entry.outcome = issued.outcome;
+        entry.issued = issued.issued;
         entry.addr_due = issued.addr_due;
         entry.data_due = issued.data_due;
     }
