@@ -7,7 +7,8 @@ from typing import NamedTuple
 
 from . import Fault
 
-SPECTRE, FUTURISTIC = "spectre", "futuristic"
+SPECTRE, FUTURISTIC, OFF = "spectre", "futuristic", "off"
+STT, HOLD = "stt", "hold"
 
 KEYS = {
     "fetch_width": "core", "retire_width": "core", "rob": "core", "stations": "core", "loads": "core", "stores": "core",
@@ -17,8 +18,9 @@ KEYS = {
 
 # the keys that may be left out, in version 2 alone: their tables, and what they are where they are left out
 OPTIONAL = {
-    "misaligned": ("ram", 0), "history": ("predictor", 0), "returns": ("predictor", 0), "second_sets": ("cache", 0),
-    "second_ways": ("cache", 1), "second_latency": ("cache", 2), "prefetch": ("cache", 0),
+    "misaligned": ("ram", 0), "depend": ("predictor", 0), "history": ("predictor", 0), "returns": ("predictor", 0),
+    "second_sets": ("cache", 0), "second_ways": ("cache", 1), "second_latency": ("cache", 2), "prefetch": ("cache", 0),
+    "defence": ("stt", STT),
 }
 
 
@@ -45,12 +47,14 @@ class Description(NamedTuple):
     size: int
     model: str
     misaligned: int
+    depend: int
     history: int
     returns: int
     second_sets: int
     second_ways: int
     second_latency: int
     prefetch: int
+    defence: str
 
 
 def read_description(name):
