@@ -38,12 +38,13 @@ fn fault_if(misaligned: bool) -> Option<Cause>
 }
 
 /// What has issued of the entry as it executes until this cycle.
-pub(crate) fn begun(entry: &Entry, due: u64, outcome: Outcome) -> Issued
-    ensures { result ≡ issued_of (begun entry.now due outcome) }
+pub(crate) fn begun(cycle: u32, entry: &Entry, due: u64, outcome: Outcome) -> Issued
+    ensures { result ≡ issued_of (begun cycle entry.now due outcome) }
 {
     Issued {
         state: Progress::Busy(due),
         outcome: Some(outcome),
+        issued: Some(cycle as u64),
         addr_due: entry.addr_due,
         data_due: entry.data_due,
     }
@@ -84,7 +85,7 @@ impl<'a> Seen<'a> {
         let due = self.cycle as u64 + time as u64;
         ports.divide(due, place.entry.serial);
         row.push(Event::Div(place.entry.serial, time));
-        begun(place.entry, due, outcome(made, made.value, None))
+        begun(self.cycle, place.entry, due, outcome(made, made.value, None))
     }
 
     // A multiplication.
@@ -95,7 +96,7 @@ impl<'a> Seen<'a> {
     {
         row.push(Event::Mul(place.entry.serial));
         let due = self.cycle as u64 + self.desc.units_mul_latency as u64;
-        begun(place.entry, due, outcome(made, made.value, None))
+        begun(self.cycle, place.entry, due, outcome(made, made.value, None))
     }
 
     // What takes one cycle of an arithmetic unit.
@@ -106,7 +107,7 @@ impl<'a> Seen<'a> {
     {
         row.push(Event::Alu(place.entry.serial));
         let outcome = outcome(made, made.value, fault_if(made.misaligned));
-        begun(place.entry, self.cycle as u64 + 1, outcome)
+        begun(self.cycle, place.entry, self.cycle as u64 + 1, outcome)
     }
 
     /// What has then issued of the entry, which is no store, by its kind; None where it stays as it is. A load leaves what its

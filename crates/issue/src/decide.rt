@@ -30,6 +30,7 @@ impl Default for Put {
             issued: Issued {
                 state: Progress::Waiting,
                 outcome: None,
+                issued: None,
                 addr_due: None,
                 data_due: None,
             },

@@ -135,16 +135,16 @@ impl<'a> Seen<'a> {
         match found.access {
             Access::Faults(cause) => {
                 row.push(Event::LdFault(serial));
-                Some(begun(place.entry, soon, outcome(made, 0, Some(cause))))
+                Some(begun(self.cycle, place.entry, soon, outcome(made, 0, Some(cause))))
             }
             Access::Forwards => {
                 row.push(Event::LdForward(serial));
-                Some(begun(place.entry, soon, outcome(made, found.value, None)))
+                Some(begun(self.cycle, place.entry, soon, outcome(made, found.value, None)))
             }
             Access::Looks(lines, ahead) => {
                 tell_lines(serial, &lines, ahead, row);
                 let value = outcome(made, found.value, None);
-                Some(begun(place.entry, self.due_by(&lines), value))
+                Some(begun(self.cycle, place.entry, self.due_by(&lines), value))
             }
             Access::Waits => None,
         }

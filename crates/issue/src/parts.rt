@@ -45,6 +45,7 @@ fn issued_of(entry: &Entry) -> Issued
     Issued {
         state: entry.state,
         outcome: entry.outcome,
+        issued: entry.issued,
         addr_due: entry.addr_due,
         data_due: entry.data_due,
     }

@@ -50,7 +50,7 @@ fn ends_path(model: SttModel, stepped: Stepped, passed: Option<Cause>) -> bool
 {
     match stepped {
         Stepped::Next => match model {
-            SttModel::Spectre => false,
+            SttModel::Spectre | SttModel::Off => false,
             SttModel::Futuristic => passed.is_some(),
         },
         Stepped::Exit(_) | Stepped::Trap(_) => true,

@@ -41,7 +41,9 @@ fn renamed(serial: u64, item: &Item) -> Entry
         item: *item,
         state,
         outcome: None,
+        issued: None,
         resolved: false,
+        cleared: true,
         addr_due: None,
         data_due: None,
     }

@@ -86,6 +86,7 @@ fn next_stop(model: SttModel, rob: &RobRing) -> Option<u32>
     match model {
         SttModel::Spectre => rob.next_open(0),
         SttModel::Futuristic => rob.next_unsafe(0),
+        SttModel::Off => None,
     }
 }
 
