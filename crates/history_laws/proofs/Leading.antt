@@ -21,7 +21,7 @@ leads_push d from to (e ∷ w) q i way h m g = (h.0, (h.1.0, h.1.1, leads_push d
 
 -- ---- the oldest item is renamed
 
-pub leads_rename : (d : Desc) (from to : Mark) (w : List Entry) (i : Item) (rest : List Item) (serial : _) → Leads d from w (i ∷ rest) to → Leads d from (w ++ renamed serial i ∷ []) rest to
+pub leads_rename : (d : Desc) (from to : Mark) (w : List Entry) (i : Item) (rest : List Item) (serial : _) → Leads d from w (i ∷ rest) to → Leads d from (w ++ renamed d serial i ∷ []) rest to
 leads_rename d from to [] i rest serial h = h
 leads_rename d from to (e ∷ w) i rest serial h = (h.0, (h.1.0, h.1.1, leads_rename d (after_item d e.item h.1.0) to w i rest serial h.1.2))
 
@@ -56,6 +56,12 @@ leads_on d from to (e ∷ w) (e2 ∷ w2) q v h =
 pub leads_behind : (d : Desc) (from to : Mark) (front w w2 : List Entry) (q : List Item) → AllZip GoesOn w w2 → Leads d from (front ++ w) q to → Leads d from (front ++ w2) q to
 leads_behind d from to [] w w2 q v h = leads_on d from to w w2 q v h
 leads_behind d from to (e ∷ front) w w2 q v h = (h.0, (h.1.0, h.1.1, leads_behind d (after_item d e.item h.1.0) to front w w2 q v h.1.2))
+
+-- ---- an entry and all behind it go: what is left leads to that entry's mark
+
+pub leads_stop : (d : Desc) (from to : Mark) (front ys : List Entry) (e : Entry) (q : List Item) → Leads d from (front ++ e ∷ ys) q to → Leads d from front [] e.item.mark
+leads_stop d from to [] ys e q h = h.0
+leads_stop d from to (f ∷ front) ys e q h = (h.0, (h.1.0, h.1.1, leads_stop d (after_item d f.item h.1.0) to front ys e q h.1.2))
 
 -- ---- all behind an entry go
 

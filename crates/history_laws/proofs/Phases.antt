@@ -14,19 +14,21 @@ use Rattle.window_model.specs.Order.{Place, each_from, first, is_control, is_sto
 use Rattle.window_model.specs.Around.{Around, around}
 use Rattle.window_model.specs.Fill.{fill, complete, completed, completes}
 use Rattle.window_model.specs.Resolve.{resolve, squash, keep, squashes}
+use Rattle.window_model.specs.Clear.{clear, cleared_one, clears, violates}
 use Rattle.window_model.specs.Issue.{Begun, LoadPort, begun, issue, issue_entry, may_at}
 use Rattle.window_model.specs.Rename.{rename, rename_one, renamed, fits}
 use Rattle.window_model.specs.Fetch.{fetch, fetch_one, guess, item_at, kind_at, predicted}
 use Rattle.window_model.specs.History.{no_mark}
 use Rattle.window_model.specs.State.{Machine}
 use Rattle.window_model.proofs.Booleans.{done_waits}
+use Rattle.window_model.proofs.Clearing.{Cleared, Violated, clear_keep}
 use Rattle.window_model.proofs.Issuing.{Comes, Remains, Begins, begin_comes, by_after_load, by_issue, gone_parts}
 use Rattle.window_model.proofs.Lists.{each_push, each_join, each_left, each_right}
 use Rattle.window_model.proofs.Placing.{Taken, resolve_keep, taught}
 use Rattle.window_model.proofs.Resolving.{resolved_one}
 use Rattle.window_model.proofs.Walks.{rename_keep, fetch_keep}
 use Rattle.history_laws.specs.Left.{CountsBy, GuessedBy, Leads, after_item, has_squashed}
-use Rattle.history_laws.proofs.Leading.{GoesOn, goes_same, fresh_goes, leads_push, leads_rename, leads_behind, leads_cut}
+use Rattle.history_laws.proofs.Leading.{GoesOn, goes_same, fresh_goes, leads_push, leads_rename, leads_behind, leads_cut, leads_stop}
 
 -- ---- what is kept
 
@@ -139,6 +141,52 @@ module _ (d : Desc) (gone : List Entry) (x : Machine) (p : Place) (t : Taken d x
 pub left_resolve : (d : Desc) (gone : List Entry) (x : Machine) → Left d gone x → Left d gone (resolve d x).machine
 left_resolve d gone = resolve_keep d (Left d gone) (λ x p t q h. squashed d gone x p t h q) (λ x p t q h. kept d gone x p t h q)
 
+-- ---- Clear
+
+-- a store counts as it did once it is cleared
+cleared_counts : (e : Entry) (b way : Bool) → CountsBy b e way → CountsBy b (cleared_one e) way
+cleared_counts e true way h = h
+cleared_counts e false way h = h
+
+module _ (d : Desc) (gone : List Entry) (x : Machine) (p : Place) (t : Cleared d x p) (h : Left d gone x) where
+  abbrev front : List Entry
+  front = gone ++ reverse p.before
+
+  marked : Leads d no_mark (front ++ cleared_one p.entry ∷ p.younger) x.queue x.mark
+  marked =
+      leads_behind d no_mark x.mark front (p.entry ∷ p.younger) (cleared_one p.entry ∷ p.younger) x.queue
+      (record { item = refl; counts = cleared_counts p.entry (has_squashed p.entry) }, zip_same p.younger)
+      (subst (λ w. Leads d no_mark w x.queue x.mark) (sym (append_assoc gone (reverse p.before) (p.entry ∷ p.younger)))
+      (subst (λ w. Leads d no_mark (gone ++ w) x.queue x.mark) t.window h.leads))
+
+  fresh_here : (zs : List Entry) → (Each Fresh p.younger → Each Fresh zs) → Each Fresh (reverse p.before ++ cleared_one p.entry ∷ zs)
+  fresh_here zs f =
+      let all = subst (Each Fresh) t.window h.fresh in
+      let behind = each_right Fresh (reverse p.before) _ all in
+      each_join Fresh (reverse p.before) _ (each_left Fresh (reverse p.before) _ all) (record { waits = behind.0.waits; store = behind.0.store }, f behind.1)
+
+  cleared : Left d gone (clears p x).machine
+  cleared = record {
+    leads = subst (λ w. Leads d no_mark w x.queue x.mark) (append_assoc gone (reverse p.before) (cleared_one p.entry ∷ p.younger)) marked;
+    fresh = fresh_here p.younger (λ k. k);
+  }
+
+  -- what is left in front of the violated load leads to the load's mark
+  stopped : (q : Place) → Violated p q → Leads d no_mark (front ++ cleared_one p.entry ∷ reverse q.before) [] q.entry.item.mark
+  stopped q u =
+      leads_stop d no_mark x.mark (front ++ cleared_one p.entry ∷ reverse q.before) q.younger q.entry x.queue
+      (subst (λ w. Leads d no_mark w x.queue x.mark) (sym (append_assoc front (cleared_one p.entry ∷ reverse q.before) (q.entry ∷ q.younger)))
+      (subst (λ w. Leads d no_mark (front ++ cleared_one p.entry ∷ w) x.queue x.mark) u.younger marked))
+
+  violated : (q : Place) → Violated p q → Left d gone (violates d p q x).machine
+  violated q u = record {
+    leads = subst (λ w. Leads d no_mark w [] q.entry.item.mark) (append_assoc gone (reverse p.before) (cleared_one p.entry ∷ reverse q.before)) (stopped q u);
+    fresh = fresh_here (reverse q.before) (λ k. each_left Fresh (reverse q.before) _ (subst (Each Fresh) u.younger k));
+  }
+
+pub left_clear : (d : Desc) (gone : List Entry) (x : Machine) → Left d gone x → Left d gone (clear d x).machine
+left_clear d gone = clear_keep d (Left d gone) (λ x p t h. cleared d gone x p t h) (λ x p q t u h. violated d gone x p t h q u)
+
 -- ---- Issue
 
 -- an entry goes on, and stays as it is where it is resolved
@@ -148,7 +196,7 @@ pub record Issues (e e2 : Entry) : Type 0 where
 
 begins_on : (e r : Entry) → Comes e r → Fresh e → e.resolved ≡ false → Issues e r
 begins_on e r (Remains q) f n = subst (Issues e) (sym q) (record { on = goes_same e; fresh = f })
-begins_on e r (Begins due o q) f n = subst (Issues e) (sym q) (record { on = fresh_goes e (begun e due o) refl n n; fresh = record { waits = λ h. n; store = λ h. n } })
+begins_on e r (Begins cycle due o q) f n = subst (Issues e) (sym q) (record { on = fresh_goes e (begun cycle e due o) refl n n; fresh = record { waits = λ h. n; store = λ h. n } })
 
 parts_on : (now : Around) (b : List Entry) (e : Entry) (a c : Bool) → e.resolved ≡ false → Issues e (gone_parts now b a c e)
 parts_on now b e true true n = record { on = fresh_goes e _ refl n n; fresh = record { waits = λ h. n; store = λ h. n } }
@@ -183,9 +231,9 @@ left_rename d gone = rename_keep d (Left d gone) one
     one : (x : Machine) (i : Item) (rest : List Item) → x.queue ≡ i ∷ rest → fits d x.window i ≡ true → Left d gone x → Left d gone (rename_one d i rest x).machine
     one x i rest q f h = record {
       leads =
-          subst (λ w. Leads d no_mark w rest x.mark) (append_assoc gone x.window (renamed x.next_serial i ∷ []))
+          subst (λ w. Leads d no_mark w rest x.mark) (append_assoc gone x.window (renamed d x.next_serial i ∷ []))
           (leads_rename d no_mark x.mark (gone ++ x.window) i rest x.next_serial (subst (λ q. Leads d no_mark (gone ++ x.window) q x.mark) q h.leads));
-      fresh = each_push Fresh x.window (renamed x.next_serial i) h.fresh (record { waits = λ w. refl; store = λ s. refl });
+      fresh = each_push Fresh x.window (renamed d x.next_serial i) h.fresh (record { waits = λ w. refl; store = λ s. refl });
     }
 
 -- an item is predicted by its guess

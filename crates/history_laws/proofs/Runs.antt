@@ -9,11 +9,12 @@ use Rattle.window_model.specs.Cycle.{after_cycles, at, cycle}
 use Rattle.window_model.specs.Retire.{unless_ended}
 use Rattle.window_model.specs.State.{Machine, opening}
 use Rattle.window_model.specs.Fill.{complete, fill}
+use Rattle.window_model.specs.Resolve.{resolve}
 use Rattle.window_model.proofs.Quiet.{at_retire, cycle_is}
 use Rattle.window_model.proofs.Walks.{after_keep}
 use Rattle.window_model.specs.History.{no_mark}
 use Rattle.history_laws.specs.Left.{Leads, retired_in, retiring}
-use Rattle.history_laws.proofs.Phases.{Left, left_begin, left_complete, left_fetch, left_fill, left_issue, left_rename, left_resolve}
+use Rattle.history_laws.proofs.Phases.{Left, left_begin, left_clear, left_complete, left_fetch, left_fill, left_issue, left_rename, left_resolve}
 use Rattle.history_laws.proofs.Leaving.{left_retire}
 
 pub left_cycle : (d : Desc) (code : Code) (gone : List Entry) (x : Machine) → Left d gone x → Left d (gone ++ retiring d x) (cycle d code x).machine
@@ -21,8 +22,9 @@ left_cycle d code gone x h =
     let x1 = record x { cycle = x.cycle + 1 } in
     let x2 = (fill d x1).machine in
     let x3 = (complete x2).machine in
+    let x4 = (resolve d x3).machine in
     let all = gone ++ retiring d x in
-    let before : Left d gone (at_retire d x) = left_resolve d gone x3 (left_complete d gone x2 (left_fill d gone x1 (left_begin d gone x h))) in
+    let before : Left d gone (at_retire d x) = left_clear d gone x4 (left_resolve d gone x3 (left_complete d gone x2 (left_fill d gone x1 (left_begin d gone x h)))) in
     subst (Left d all) (sym (cycle_is d code x))
     (after_keep d (Left d all) code (left_issue d all) (left_rename d all) (left_fetch d code all) _ (left_retire d gone (at_retire d x) before))
 
