@@ -17,7 +17,7 @@ use Rattle.window_model.proofs.Counts.{Evolves, evolves_same, evolves_thins, goe
 use Rattle.window_model.proofs.Lists.{each_join, each_left, each_right}
 use Rattle.machine_facts.specs.Marks.{FitsMark, Marked}
 use Rattle.machine_facts.specs.Sized.{Sized}
-use Rattle.machine_facts.specs.Timely.{IsDue, PartsDue, Rises, Timely, WaitsOrDone, last_from, last_item_from, longest_division}
+use Rattle.machine_facts.specs.Timely.{IsDue, PartsDue, Rises, StaysCleared, Timely, WaitsOrDone, last_from, last_item_from, longest_division}
 use Rattle.machine_facts.proofs.Adds.{Adds}
 use Rattle.machine_facts.proofs.Parts.{Fits, IsEntry, WindowFits, parts, whole}
 use Rattle.machine_facts.proofs.Reasons.{last_join}
@@ -105,6 +105,7 @@ module _ (d : Desc) (x : Machine) (h : Timely d x) (p : Place) (t : Cleared d x 
     serials = serials p.younger (evolves_same p.younger);
     dues = each_cleared (IsDue d x.cycle x.cycle) d x p t (λ k. k) h.dues p.younger (λ k. k);
     parts = each_cleared (PartsDue x.cycle) d x p t (λ k. k) h.parts p.younger (λ k. k);
+    cleared = each_cleared (StaysCleared d) d x p t (λ k s. refl) h.cleared p.younger (λ k. k);
     misses = h.misses;
     lines = h.lines;
     divider = h.divider;
@@ -122,6 +123,7 @@ module _ (d : Desc) (x : Machine) (h : Timely d x) (p : Place) (t : Cleared d x 
     serials = serials (reverse q.before) (evolves_between p q u);
     dues = each_cleared (IsDue d x.cycle x.cycle) d x p t (λ k. k) h.dues (reverse q.before) (each_between (IsDue d x.cycle x.cycle) p q u);
     parts = each_cleared (PartsDue x.cycle) d x p t (λ k. k) h.parts (reverse q.before) (each_between (PartsDue x.cycle) p q u);
+    cleared = each_cleared (StaysCleared d) d x p t (λ k s. refl) h.cleared (reverse q.before) (each_between (StaysCleared d) p q u);
     misses = h.misses;
     lines = h.lines;
     divider = freed_in (is_from q.entry.serial x.divider.user) x.divider (x.cycle + longest_division) h.divider;

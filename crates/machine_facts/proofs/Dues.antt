@@ -24,7 +24,7 @@ use Rattle.window_model.specs.Rename.{renamed, at_once}
 use Rattle.window_model.proofs.Lists.{each_then, each_map, each_join, each_filter, OfSome, find_each}
 use Rattle.window_model.proofs.Issuing.{Comes, Remains, Begins, by_issue, begin_comes, begin_goes, gone_parts, OneOrTwo, One, Two, by_line, by_load, lines_are, looked}
 use Rattle.machine_facts.proofs.Requests.{AllFresh, all_fresh}
-use Rattle.machine_facts.specs.Timely.{IsSoon, DueSoon, IsDue, PartDue, PartsDue, IsPending, Apart, latency, longest_division}
+use Rattle.machine_facts.specs.Timely.{IsSoon, DueSoon, IsDue, PartDue, PartsDue, IsPending, StaysCleared, Apart, latency, longest_division}
 
 -- ---- the cycle goes on
 
@@ -202,6 +202,34 @@ pub parts_issued : (d : Desc) (now : Around) (b es : List Entry) → Each (Parts
 parts_issued d now b [] h = tt
 parts_issued d now b (e ∷ es) h =
     (by_issue d now b e (PartsDue now.cycle) h.0 (λ s m. begun_parts now.cycle e _ (begin_comes e.item.kind d now b e) h.0) (λ s a c g k. gone_parts_due now b e a c h.0), parts_issued d now (e ∷ b) es h.1)
+
+-- ---- what starts cleared is cleared
+
+completed_cleared : (d : Desc) (cycle : ℕ) (e : Entry) → StaysCleared d e → StaysCleared d (completed cycle e)
+completed_cleared d cycle e h = by_due (completes cycle e)
+  where
+    by_due : (b : Bool) → StaysCleared d (if b then record e { state = Done } else e)
+    by_due true = h
+    by_due false = h
+
+pub cleared_left : (d : Desc) (cycle : ℕ) (w : List Entry) → Each (StaysCleared d) w → Each (StaysCleared d) (map (completed cycle) w)
+cleared_left d cycle w h = each_map (StaysCleared d) (completed cycle) w (each_then (StaysCleared d) (λ e. StaysCleared d (completed cycle e)) (completed_cleared d cycle) w h)
+
+-- what issues is cleared where it was
+begun_cleared : (d : Desc) (e r : Entry) → Comes e r → StaysCleared d e → StaysCleared d r
+begun_cleared d e r (Remains q) h = subst (StaysCleared d) (sym q) h
+begun_cleared d e r (Begins cycle due o q) h = subst (StaysCleared d) (sym q) h
+
+gone_cleared : (d : Desc) (now : Around) (b : List Entry) (e : Entry) (a c : Bool) → StaysCleared d e → StaysCleared d (gone_parts now b a c e)
+gone_cleared d now b e true true h = h
+gone_cleared d now b e true false h = h
+gone_cleared d now b e false true h = h
+gone_cleared d now b e false false h = h
+
+pub cleared_issued : (d : Desc) (now : Around) (b es : List Entry) → Each (StaysCleared d) es → Each (StaysCleared d) (map (λ (t : Begun). t.entry) (each_from (issue_entry d now) b es))
+cleared_issued d now b [] h = tt
+cleared_issued d now b (e ∷ es) h =
+    (by_issue d now b e (StaysCleared d) h.0 (λ s m. begun_cleared d e _ (begin_comes e.item.kind d now b e) h.0) (λ s a c g k. gone_cleared d now b e a c h.0), cleared_issued d now (e ∷ b) es h.1)
 
 pub divider_soon : (x : Machine) (o : Option Place) → x.divider.free_from ≤ x.cycle + longest_division → (divider_after x o).free_from ≤ x.cycle + longest_division
 divider_soon x None h = h

@@ -1,7 +1,7 @@
 -- What a load asks of the older stores is one test in both versions: in version 1 a store has both its parts or none, and no load
 -- passes one.
-use Rattle.std.proofs.Common.{◌≡◌, ℕ, Bool, true, false, not, ◌&&◌, ◌||◌, List, [], ◌∷◌, refl, ap, ap₂, sym, ◌∙◌, eqb-true}
-use Rattle.std.specs.Prelude.{if◌then◌else◌, ◌==◌}
+use Rattle.std.proofs.Common.{◌≡◌, ◌≤◌, ℕ, zero, suc, Bool, true, false, not, ◌&&◌, ◌||◌, List, [], ◌∷◌, refl, ap, ap₂, sym, ◌∙◌, arith, eqb-true}
+use Rattle.std.specs.Prelude.{if◌then◌else◌, nat_lt, ◌==◌}
 use Rattle.std.specs.List.{AllByRecursion as Each, list_any}
 use Rattle.machine_desc.specs.declared.Desc.{Desc}
 use Rattle.window_model.specs.declared.Entry.{Entry}
@@ -9,12 +9,31 @@ use Rattle.window_model.specs.declared.Progress.{Progress}
 use Rattle.window_model.specs.declared.Progress.TheVariants.{Waiting, Busy, Done}
 use Rattle.window_model.specs.Access.{covers}
 use Rattle.window_model.specs.Around.{Around}
+use Rattle.window_model.specs.Dependence.{passing, waits_for_stores}
 use Rattle.window_model.specs.Issue.{bytes_of, goes_behind, lets, passes_stores, stores_done, stores_let}
 use Rattle.window_model.specs.Order.{has_address, has_data, is_done, is_store, is_waiting}
 use Rattle.window_model.specs.Taint.{address_tainted}
-use Rattle.window_model.proofs.Withheld.{passes_none}
 use Rattle.machine_facts.specs.Sized.{HasParts, Together}
 use Rattle.machine_facts.specs.Timely.{WaitsOrDone, is_busy}
+
+-- ---- version 1 has no bits of dependence
+
+no_bits : (b : Bool) (n more : ℕ) → b ≡ true → n ≤ (if b then 0 else more) → n ≡ 0
+no_bits true n more q h = omega (arith, h)
+no_bits false n more q h = absurd (cc)
+
+no_bit : (n : ℕ) → n ≡ 0 → nat_lt 0 n ≡ false
+no_bit zero h = refl
+no_bit (suc n) h = absurd (cc)
+
+-- so no load passes a store there
+pub not_passing : (d : Desc) → (d.version == 1) ≡ true → passing d ≡ false
+not_passing d one = no_bit d.predictor_depend (no_bits (d.version == 1) d.predictor_depend _ one d.few_depend)
+
+pub passes_none : (d : Desc) (now : Around) (e : Entry) → (d.version == 1) ≡ true → passes_stores d now e ≡ false
+passes_none d now e one = ap (λ p. p && not (waits_for_stores d now.dependence e.item.pc)) (not_passing d one)
+
+-- ---- what a load asks of the older stores
 
 -- a store is Done where its parts are there, if both are or none
 done_by : (a c rest : Bool) (s : Progress) → (a && c) ≡ not (is_waiting s) → a ≡ c → is_busy s ≡ false → is_done s ≡ ((a || false) && (c || rest))
@@ -46,5 +65,5 @@ goes_as_let d now before e p t w = by_version (d.version == 1) refl
         (if one then stores_done before else stores_let d.stt_model (passes_stores d now e) (bytes_of now before e) before) ≡ stores_let d.stt_model (passes_stores d now e) (bytes_of now before e) before
     by_version true q =
         let one : d.version ≡ 1 = eqb-true _ _ q in
-        done_as_let d (bytes_of now before e) before one p t w ∙ ap (λ a. stores_let d.stt_model a (bytes_of now before e) before) (sym (passes_none d now e))
+        done_as_let d (bytes_of now before e) before one p t w ∙ ap (λ a. stores_let d.stt_model a (bytes_of now before e) before) (sym (passes_none d now e q))
     by_version false q = refl

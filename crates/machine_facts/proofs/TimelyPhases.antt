@@ -26,9 +26,9 @@ use Rattle.window_model.proofs.Registers.{read_other, writes_not_zero}
 use Rattle.window_model.proofs.Counts.{Evolves, evolves_same, map_evolves, place_evolves, completed_goes}
 use Rattle.window_model.proofs.Walks.{heads_keep, rename_keep, fetch_keep}
 use Rattle.machine_facts.specs.Sized.{HasParts}
-use Rattle.machine_facts.specs.Timely.{Rises, IsDue, PartsDue, longest_division, last_from, last_item_from, TimelyFrom, Timely}
+use Rattle.machine_facts.specs.Timely.{Rises, IsDue, PartsDue, StaysCleared, longest_division, last_from, last_item_from, TimelyFrom, Timely}
 use Rattle.machine_facts.proofs.Serials.{rises_from, rises_on, rises_push}
-use Rattle.machine_facts.proofs.Dues.{dues_later, misses_later, misses_left, dues_left, dues_issued, parts_later, parts_left, parts_issued, divider_soon, due_new, apart_filter, MissesSoon, taken_soon}
+use Rattle.machine_facts.proofs.Dues.{dues_later, misses_later, misses_left, dues_left, dues_issued, parts_later, parts_left, parts_issued, cleared_left, cleared_issued, divider_soon, due_new, apart_filter, MissesSoon, taken_soon}
 use Rattle.machine_facts.proofs.Reasons.{last_map, items_more, last_more, last_join, last_push, last_item_push, last_completed, last_issued, last_rest, last_new, stop_predicts}
 use Rattle.window_model.proofs.Resolving.{resolved_one, resolved_goes}
 use Rattle.window_model.proofs.Leaving.{gone, head_by}
@@ -37,7 +37,7 @@ use Rattle.window_model.proofs.Issuing.{by_after_load, issue_evolves}
 -- ---- the first state, and the next cycle
 
 pub timely_opening : (d : Desc) (entry : ℕ) (ram : Ram) → IsDesc d → Timely d (opening d entry ram)
-timely_opening d entry ram i = record { serials = omega arith; dues = tt; parts = tt; misses = tt; lines = tt; divider = omega arith; fetches = λ h. absurd (cc); zero = refl }
+timely_opening d entry ram i = record { serials = omega arith; dues = tt; parts = tt; cleared = tt; misses = tt; lines = tt; divider = omega arith; fetches = λ h. absurd (cc); zero = refl }
 
 -- the number rises, and what was due later than the last cycle still is
 pub timely_begin : (d : Desc) (x : Machine) → IsDesc d → Timely d x → TimelyFrom x.cycle x.cycle d (record x { cycle = x.cycle + 1 })
@@ -45,6 +45,7 @@ timely_begin d x i h = record {
   serials = h.serials;
   dues = dues_later d x.cycle x.cycle x.window h.dues;
   parts = parts_later x.cycle x.window h.parts;
+  cleared = h.cleared;
   misses = misses_later d x.cycle x.cycle x.misses h.misses;
   lines = h.lines;
   divider = omega (arith, h.divider);
@@ -59,6 +60,7 @@ timely_fill past_misses past d x i q h = record {
   serials = h.serials;
   dues = h.dues;
   parts = h.parts;
+  cleared = h.cleared;
   misses = misses_left d past_misses x.cycle x.misses q h.misses;
   lines = apart_filter (λ m. not (is_due x.cycle m)) x.misses h.lines;
   divider = h.divider;
@@ -71,6 +73,7 @@ timely_complete past d x i q h = record {
   serials = rises_on 0 x.next_serial x.window _ (map_evolves (completed x.cycle) (completed_goes x.cycle) x.window) h.serials;
   dues = dues_left d past x.cycle x.window q h.dues;
   parts = parts_left x.cycle x.cycle x.window h.parts;
+  cleared = cleared_left d x.cycle x.window h.cleared;
   misses = h.misses;
   lines = h.lines;
   divider = h.divider;
@@ -114,11 +117,15 @@ module _ (d : Desc) where
     parts : (zs : List Entry) → (Each (PartsDue x.cycle) p.younger → Each (PartsDue x.cycle) zs) → Each (PartsDue x.cycle) (Marked zs)
     parts = marked (PartsDue x.cycle) (λ k. k) h.parts
 
+    cleared : (zs : List Entry) → (Each (StaysCleared d) p.younger → Each (StaysCleared d) zs) → Each (StaysCleared d) (Marked zs)
+    cleared = marked (StaysCleared d) (λ k. k) h.cleared
+
     squashed : Timely d (squash d p (taught d p x)).machine
     squashed = record {
       serials = serials [] tt;
       dues = dues [] (λ k. tt);
       parts = parts [] (λ k. tt);
+      cleared = cleared [] (λ k. tt);
       misses = h.misses;
       lines = h.lines;
       divider = freed_in (is_from (p.entry.serial + 1) x.divider.user) x.divider (x.cycle + longest_division) h.divider;
@@ -133,6 +140,7 @@ module _ (d : Desc) where
       serials = serials p.younger (evolves_same p.younger);
       dues = dues p.younger (λ k. k);
       parts = parts p.younger (λ k. k);
+      cleared = cleared p.younger (λ k. k);
       misses = h.misses;
       lines = h.lines;
       divider = h.divider;
@@ -157,6 +165,7 @@ module _ (d : Desc) where
     serials = rises_from (suc e.serial) 0 x.next_serial rest (omega arith) (subst (λ w. Rises 0 w x.next_serial) w h.serials).1;
     dues = (subst (Each (IsDue d x.cycle x.cycle)) w h.dues).1;
     parts = (subst (Each (PartsDue x.cycle)) w h.parts).1;
+    cleared = (subst (Each (StaysCleared d)) w h.cleared).1;
     misses = h.misses;
     lines = h.lines;
     divider = h.divider;
@@ -175,6 +184,7 @@ module _ (d : Desc) where
     serials = h.serials;
     dues = h.dues;
     parts = h.parts;
+    cleared = h.cleared;
     misses = h.misses;
     lines = h.lines;
     divider = h.divider;
@@ -191,12 +201,12 @@ after_soon : (d : Desc) (x : Machine) (o : Option Place) → IsDesc d → length
 after_soon d x None i z h = record { misses = h.misses; lines = h.lines }
 after_soon d x (Some p) i z h = taken_soon d (around x) i z (record { misses = h.misses; lines = h.lines }) p.before p.entry
 
-issue_done : (d : Desc) (x : Machine) (o : Option Place) (w : List Entry) (v : Divider) → IsDesc d → length x.second ≡ d.cache_second_sets → Rises 0 w x.next_serial → Each (IsDue d x.cycle x.cycle) w → Each (PartsDue x.cycle) w → v.free_from ≤ x.cycle + longest_division →
+issue_done : (d : Desc) (x : Machine) (o : Option Place) (w : List Entry) (v : Divider) → IsDesc d → length x.second ≡ d.cache_second_sets → Rises 0 w x.next_serial → Each (IsDue d x.cycle x.cycle) w → Each (PartsDue x.cycle) w → Each (StaysCleared d) w → v.free_from ≤ x.cycle + longest_division →
     (x.fetch_pc ≡ None → last_item_from (last_from (is_some x.end) w) x.queue ≡ true) → Timely d x → Timely d (record (after_load d o x) { window = w; divider = v })
-issue_done d x o w v i z r u p f n h =
+issue_done d x o w v i z r u p k f n h =
     let soon = after_soon d x o i z h in
     by_after_load d x (λ y. MissesSoon d x.cycle y.misses → Timely d (record y { window = w; divider = v }))
-    (λ c l m s. record { serials = r; dues = u; parts = p; misses = s.misses; lines = s.lines; divider = f; fetches = n; zero = h.zero }) o soon
+    (λ c l m s. record { serials = r; dues = u; parts = p; cleared = k; misses = s.misses; lines = s.lines; divider = f; fetches = n; zero = h.zero }) o soon
 
 -- a store that lacks a part waits: so no fault that is known is lost
 pub timely_issue : (d : Desc) (x : Machine) → IsDesc d → length x.second ≡ d.cache_second_sets → Each HasParts x.window → Timely d x → Timely d (issue d x).machine
@@ -206,6 +216,7 @@ timely_issue d x i z k h =
     (rises_on 0 x.next_serial x.window _ (issue_evolves d now [] x.window) h.serials)
     (dues_issued d now i z h.misses [] x.window h.parts h.dues)
     (parts_issued d now [] x.window h.parts)
+    (cleared_issued d now [] x.window h.cleared)
     (divider_soon x (first (may_at d now DivPort) x.window) h.divider)
     (λ n. items_more _ _ (last_issued d now [] (is_some x.end) (is_some x.end) (λ h. h) x.window k) x.queue (h.fetches n)) h
 
@@ -216,6 +227,7 @@ rename_item d x j rest q f h = record {
   serials = rises_push 0 x.next_serial x.window (renamed d x.next_serial j) refl h.serials;
   dues = each_push (IsDue d x.cycle x.cycle) x.window (renamed d x.next_serial j) h.dues (due_new d x.cycle x.cycle x.next_serial j);
   parts = each_push (PartsDue x.cycle) x.window (renamed d x.next_serial j) h.parts (tt, tt);
+  cleared = each_push (StaysCleared d) x.window (renamed d x.next_serial j) h.cleared (λ s. s);
   misses = h.misses;
   lines = h.lines;
   divider = h.divider;
@@ -233,6 +245,7 @@ fetch_item d code x pc q r h = record {
   serials = h.serials;
   dues = h.dues;
   parts = h.parts;
+  cleared = h.cleared;
   misses = h.misses;
   lines = h.lines;
   divider = h.divider;

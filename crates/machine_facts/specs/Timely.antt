@@ -1,4 +1,5 @@
--- What every state keeps of times: serials rise, all that is under way ends soon, and fetching stops only for a reason
+-- What every state keeps of times: serials rise, all that is under way ends soon, no store waits to be cleared where no load
+-- passes one, and fetching stops only for a reason
 -- (docs/theorems.md, "What every state keeps").
 use Rattle.std.specs.Prelude.{◌≡◌, ◌≢◌, ℕ, suc, ◌+◌, ◌*◌, ◌<◌, ◌≤◌, Bool, true, false, ◌&&◌, ◌||◌, List, [], ◌∷◌, Option, Some, None, is_some}
 use Rattle.std.specs.List.{AllByRecursion as Each}
@@ -14,6 +15,7 @@ use Rattle.window_model.specs.declared.Progress.TheVariants.{Busy}
 use Rattle.window_model.specs.State.{Machine}
 use Rattle.window_model.specs.Order.{is_done, is_faulty, is_store}
 use Rattle.window_model.specs.Rename.{is_stop}
+use Rattle.window_model.specs.Dependence.{starts_cleared}
 
 -- serials rise from one on, and all stay below another
 abbrev pub Rises : ℕ → List Entry → ℕ → Type 0
@@ -62,6 +64,10 @@ PartDue cycle (Some due) = due ≤ cycle + 1
 abbrev pub PartsDue : ℕ → Entry → Type 0
 PartsDue cycle e = PartDue cycle e.addr_due × PartDue cycle e.data_due
 
+-- what starts cleared is cleared: all but stores that loads may pass
+abbrev pub StaysCleared : Desc → Entry → Type 0
+StaysCleared d e = starts_cleared d e.item.kind ≡ true → e.cleared ≡ true
+
 -- a miss register is freed within the latency of a miss
 abbrev pub IsPending : Desc → ℕ → ℕ → Miss → Type 0
 IsPending d past cycle m = IsSoon past cycle d.cache_miss_latency m.due
@@ -94,6 +100,7 @@ pub record TimelyFrom (past_misses past : ℕ) (d : Desc) (x : Machine) : Type 0
   pub serials : Rises 0 x.window x.next_serial
   pub dues : Each (IsDue d past x.cycle) x.window
   pub parts : Each (PartsDue x.cycle) x.window
+  pub cleared : Each (StaysCleared d) x.window
   pub misses : Each (IsPending d past_misses x.cycle) x.misses
   pub lines : Apart x.misses
   pub divider : x.divider.free_from ≤ x.cycle + longest_division
