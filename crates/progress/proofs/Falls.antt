@@ -1,6 +1,7 @@
 -- In a cycle in which nothing retires and the run doesn't end the measure falls.
 use Rattle.std.proofs.Common.{◌≡◌, ℕ, ◌+◌, ◌-◌, ◌≤◌, ◌<◌, Bool, true, false, List, [], ◌∷◌, ◌++◌, Option, Some, None, refl, ap, sym, ◌∙◌, subst, arith}
 use Rattle.std.specs.Prelude.{if◌then◌else◌}
+use Rattle.std.specs.List.{AllByRecursion as Each}
 use Rattle.rv_types.specs.Isa.{Hart}
 use Rattle.rv_types.specs.Memory.{Code}
 use Rattle.rv_types.specs.declared.Kind.{Kind}
@@ -14,22 +15,21 @@ use Rattle.window_model.specs.declared.Progress.TheVariants.{Waiting, Done}
 use Rattle.window_model.specs.State.{Machine}
 use Rattle.window_model.specs.Order.{is_done}
 use Rattle.window_model.specs.Fill.{completed, completes}
-use Rattle.window_model.specs.Retire.{may_leave}
 use Rattle.window_model.specs.Issue.{issue}
 use Rattle.window_model.specs.Rename.{rename, at_once, rename_one}
 use Rattle.window_model.specs.Fetch.{fetch, item_at}
 use Rattle.window_model.specs.Cycle.{cycle}
 use Rattle.window_model.proofs.Quiet.{at_retire, before_quiet}
-use Rattle.machine_facts.specs.Sized.{Sized}
-use Rattle.machine_facts.specs.Timely.{Timely}
+use Rattle.machine_facts.specs.Sized.{Sized, HasParts}
+use Rattle.machine_facts.specs.Timely.{Timely, StaysCleared}
 use Rattle.progress.specs.Laws.{Allows}
 use Rattle.progress.specs.Measure.{takes, until_renamed, time_left, measure}
 use Rattle.progress.proofs.Bounds.{waiting_at_most, miss_takes_time}
 use Rattle.progress.proofs.RenameFetch.{Appends, appends_then, rename_appends, rename_none, rename_first, fetch_fetches, fetch_some}
-use Rattle.progress.proofs.Oldest.{resolve_oldest, resolve_resolves}
-use Rattle.progress.proofs.Stops.{Stuck}
+use Rattle.progress.proofs.Stops.{Stuck, may_go}
+use Rattle.progress.proofs.Oldest.{resolve_oldest, resolve_resolves, clear_empty, clear_goes, clear_resolves}
 use Rattle.progress.proofs.IssueOldest.{needs, Began, Served, oldest_nearer}
-use Rattle.progress.proofs.Idle.{Idle, idle, before_resolve, after_fetch, timely_at_retire}
+use Rattle.progress.proofs.Idle.{Idle, idle, before_clear, before_resolve, after_fetch, sized_before_clear, timely_at_retire, timely_before_clear}
 use Rattle.machine_facts.proofs.SizedRun.{sized_at_retire}
 
 -- the measure falls from x, whose window and queue the lemmas below take apart
@@ -55,10 +55,11 @@ shorter d y j r w q =
 nothing_there : (d : Desc) (code : Code) (o : Option ℕ) (x : Machine) → FallsAt d code (record x { window = []; queue = []; fetch_pc = o })
 nothing_there d code None x i l s t h = let f = t.fetches refl in let e = h.end in absurd (cc)
 nothing_there d code (Some pc) x i l s t h =
-    let b = at_retire d (record x { window = []; queue = []; fetch_pc = Some pc }) in
+    let b = before_clear d (record x { window = []; queue = []; fetch_pc = Some pc }) in
     let f = fetch_some d code pc b i in
     let y = (fetch d code b).machine in
-    subst (λ (m : Machine). measure d (fetch d code m).machine < bound d) (sym (rename_none d b)) (shorter d y (item_at d code b pc) f.queue.0 f.window f.queue.1)
+    subst (λ (m : Machine). measure d (after_fetch d code m) < bound d) (sym (clear_empty d b))
+    (subst (λ (m : Machine). measure d (fetch d code m).machine < bound d) (sym (rename_none d b)) (shorter d y (item_at d code b pc) f.queue.0 f.window f.queue.1))
 
 -- ---- no entry: the first item is renamed
 
@@ -69,17 +70,17 @@ new_takes false k d c ms f h = h
 item_there : (d : Desc) (code : Code) (j : Item) (rest : List Item) (x : Machine) → FallsAt d code (record x { window = []; queue = j ∷ rest })
 item_there d code j rest x i l s t h =
     let x0 : Machine = record x { window = []; queue = j ∷ rest } in
-    let b = at_retire d x0 in
+    let b = before_clear d x0 in
     let r = (rename_one d j rest b).machine in
     let z = (rename d b).machine in
     let y = (fetch d code z).machine in
     let p = appends_then r z y (rename_first d i j rest b) (fetch_fetches d code z).appends in
-    let u = timely_at_retire d x0 i t in
+    let u = timely_before_clear d x0 i t in
     let l = new_takes (at_once j.kind) j.kind d b.cycle b.misses b.divider.free_from (waiting_at_most d b.cycle b.misses b.divider.free_from j.kind (miss_takes_time d i) u.misses u.divider) in
     let m : measure d y ≡ takes (if at_once j.kind then Done else Waiting) j.kind d b.cycle b.misses b.divider.free_from = measure_appended d r y p in
-    omega arith
+    subst (λ (m : Machine). measure d (after_fetch d code m) < bound d - 1) (sym (clear_empty d b)) (omega arith)
 
--- ---- an oldest entry, which may not leave
+-- ---- an oldest entry, which may not go
 
 not_done : (b : Bool) → (b ≡ true → true ≡ false) → b ≡ false
 not_done false h = refl
@@ -97,15 +98,18 @@ entry_there d code e es x i l s t h =
     let x0 : Machine = record x { window = e ∷ es } in
     let a = before_resolve d x0 in
     let c = x.cycle + 1 in
-    let o = resolve_oldest d (completed c e) _ a in
+    let r = resolve_oldest d (completed c e) _ a in
+    let parts : HasParts r.entry = (subst (Each HasParts) r.shape (sized_before_clear d x0 i s).parts).0 in
+    let cleared : StaysCleared d r.entry = (subst (Each (StaysCleared d)) r.shape (timely_before_clear d x0 i t).cleared).0 in
+    let o = clear_goes d (completed c e) (before_clear d x0) r parts cleared in
     let b = at_retire d x0 in
     let b2 : Machine = record b { window = o.entry ∷ o.rest } in
     let same : b ≡ b2 = ap (λ w. let m : Machine = record b { window = w } in m) o.shape in
     let u : Timely d b2 = subst (Timely d) same (timely_at_retire d x0 i t) in
-    let stuck : may_leave o.entry ≡ false = subst Stuck o.shape h.stuck in
-    let waits : is_done (completed c e).state ≡ false = not_done (is_done (completed c e).state) (λ p. sym (o.leaves p) ∙ stuck) in
+    let stuck : may_go o.entry ≡ false = subst Stuck o.shape h.stuck in
+    let waits : is_done (completed c e).state ≡ false = not_done (is_done (completed c e).state) (λ p. sym (o.goes p) ∙ stuck) in
     let spare : completed c e ≡ e = spared (completes c e) e waits in
-    let f = resolve_resolves d a in
+    let f = clear_resolves d a (before_clear d x0) (resolve_resolves d a) in
     let began : Began d x0 b2 = record { cycle = f.cycle; misses = f.misses; divider = f.divider } in
     let sizes : Sized d b2 = subst (Sized d) same (sized_at_retire d x0 i s) in
     let served : Served d b2 = record { allows = λ m. l (ap (λ (s : Hart). s.ram.misaligned) (sym (before_quiet d x0).hart) ∙ m); second = sizes.second_sets } in

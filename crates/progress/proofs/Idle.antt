@@ -6,13 +6,17 @@ use Rattle.machine_desc.specs.declared.Desc.{Desc}
 use Rattle.machine_desc.specs.Ranges.{IsDesc}
 use Rattle.window_model.specs.State.{Machine, then_does, nothing}
 use Rattle.window_model.specs.Fill.{fill, complete}
+use Rattle.window_model.specs.Resolve.{resolve}
 use Rattle.window_model.specs.Retire.{retire, unless_ended}
 use Rattle.window_model.specs.Issue.{issue}
 use Rattle.window_model.specs.Rename.{rename}
 use Rattle.window_model.specs.Fetch.{fetch}
 use Rattle.window_model.specs.Cycle.{cycle, after_retire}
 use Rattle.window_model.proofs.Quiet.{Quiet, quiet_then, at_retire, cycle_is, before_quiet, after_quiet, issue_quiet, rename_quiet, fetch_quiet}
+use Rattle.machine_facts.specs.Sized.{Sized}
 use Rattle.machine_facts.specs.Timely.{Timely}
+use Rattle.machine_facts.proofs.SizedPhases.{sized_begin, sized_fill, sized_complete, sized_resolve}
+use Rattle.machine_facts.proofs.ClearPhases.{timely_clear}
 use Rattle.machine_facts.proofs.TimelyPhases.{timely_begin, timely_fill, timely_complete, timely_resolve}
 use Rattle.progress.proofs.Stops.{Stuck, retire_turned}
 
@@ -23,11 +27,23 @@ before_resolve d x = (complete (fill d (record x { cycle = x.cycle + 1 })).machi
 abbrev pub after_fetch : Desc → Code → Machine → Machine
 after_fetch d code x = (fetch d code (rename d (issue d x).machine).machine).machine
 
--- what is under way before Retire ends in a later cycle
-pub timely_at_retire : (d : Desc) (x : Machine) → IsDesc d → Timely d x → Timely d (at_retire d x)
-timely_at_retire d x i h =
+-- and the one between Resolve's two parts
+abbrev pub before_clear : Desc → Machine → Machine
+before_clear d x = (resolve d (before_resolve d x)).machine
+
+-- what is under way there ends in a later cycle
+pub timely_before_clear : (d : Desc) (x : Machine) → IsDesc d → Timely d x → Timely d (before_clear d x)
+timely_before_clear d x i h =
     let x1 : Machine = record x { cycle = x.cycle + 1 } in
     timely_resolve d (before_resolve d x) i (timely_complete x.cycle d (fill d x1).machine i refl (timely_fill x.cycle x.cycle d x1 i refl (timely_begin d x i h)))
+
+pub timely_at_retire : (d : Desc) (x : Machine) → IsDesc d → Timely d x → Timely d (at_retire d x)
+timely_at_retire d x i h = timely_clear d (before_clear d x) i (timely_before_clear d x i h)
+
+pub sized_before_clear : (d : Desc) (x : Machine) → IsDesc d → Sized d x → Sized d (before_clear d x)
+sized_before_clear d x i s =
+    let x1 : Machine = record x { cycle = x.cycle + 1 } in
+    sized_resolve d (before_resolve d x) i (sized_complete d (fill d x1).machine i (sized_fill d x1 i (sized_begin d x i s)))
 
 -- what has retired stays so
 pub cycle_retires : (d : Desc) (code : Code) (x : Machine) → x.retired ≤ (cycle d code x).machine.retired

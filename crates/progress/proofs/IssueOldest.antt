@@ -20,8 +20,9 @@ use Rattle.window_model.specs.declared.Miss.{Miss}
 use Rattle.window_model.specs.declared.Progress.{Progress}
 use Rattle.window_model.specs.declared.Progress.TheVariants.{Waiting, Busy, Done}
 use Rattle.window_model.specs.State.{Machine, lines_of}
-use Rattle.window_model.specs.Order.{Place, first, first_from, is_waiting, is_done, is_store, has_address, has_data, ready, all_known, sources, base_of, others_of}
+use Rattle.window_model.specs.Order.{Place, first, first_from, is_waiting, is_done, is_store, has_address, has_data, sources, base_of, others_of}
 use Rattle.window_model.specs.Taint.{any_tainted}
+use Rattle.window_model.specs.Ready.{ready, all_known}
 use Rattle.window_model.specs.Fill.{is_due}
 use Rattle.window_model.specs.Around.{Around, around, is_free}
 use Rattle.window_model.specs.Access.{Access, Faults, Forwards, Looks, Waits, Line, access_at, all_covered, any_store_hidden, look_up, misses_after, prefetched, requests, unless_lacking}
@@ -62,7 +63,7 @@ headed x e es = record x { window = e ∷ es }
 -- an oldest entry in one piece that may issue has a port
 granted : (k : Kind) (d : Desc) (now : Around) (e : Entry) → is_store k ≡ false → may_issue_as k d now [] (made Waiting k e) ≡ true → 1 ≤ ports d (port_of k) → is_granted d now (port_of k) [] (made Waiting k e) ≡ true
 granted k d now e s m p =
-    both_true (may_own d now [] (made Waiting k e) s ∙ both_true (oldest_ready (made Waiting k e)) m) (is_below 0 (ports d (port_of k)) (omega arith))
+    both_true (may_own d now [] (made Waiting k e) s ∙ both_true (oldest_ready d (made Waiting k e)) m) (is_below 0 (ports d (port_of k)) (omega arith))
 
 -- so has each part of an oldest store that hasn't issued, in version 1 where the other hasn't either
 part_ready : (v r w k : Bool) → r ≡ true → (v ≡ true → w ≡ true) → k ≡ true → (if v then r && w else k) ≡ true
@@ -77,14 +78,14 @@ neither false true p q = absurd (cc)
 address_granted : (d : Desc) (now : Around) (e : Entry) → Together d (made Waiting Store e) → has_address e ≡ false → is_granted d now AddressPort [] (made Waiting Store e) ≡ true
 address_granted d now e t h =
     let a = made Waiting Store e in
-    both_true (both_true (ap not h) (part_ready (d.version == 1) (ready [] a) (is_whole a) (all_known [] (base_of (sources a))) (oldest_ready a)
-    (λ v. neither (has_address e) (has_data e) h (t (eqb-true _ _ v) refl)) (oldest_known (base_of (sources a))))) refl
+    both_true (both_true (ap not h) (part_ready (d.version == 1) (ready d [] a) (is_whole a) (all_known d [] (base_of (sources a))) (oldest_ready d a)
+    (λ v. neither (has_address e) (has_data e) h (t (eqb-true _ _ v) refl)) (oldest_known d (base_of (sources a))))) refl
 
 data_granted : (d : Desc) (now : Around) (e : Entry) → Together d (made Waiting Store e) → has_data e ≡ false → is_granted d now DataPort [] (made Waiting Store e) ≡ true
 data_granted d now e t h =
     let a = made Waiting Store e in
-    both_true (both_true (ap not h) (part_ready (d.version == 1) (ready [] a) (is_whole a) (all_known [] (others_of (sources a))) (oldest_ready a)
-    (λ v. let q = t (eqb-true _ _ v) refl in neither (has_address e) (has_data e) (q ∙ h) q) (oldest_known (others_of (sources a))))) refl
+    both_true (both_true (ap not h) (part_ready (d.version == 1) (ready d [] a) (is_whole a) (all_known d [] (others_of (sources a))) (oldest_ready d a)
+    (λ v. let q = t (eqb-true _ _ v) refl in neither (has_address e) (has_data e) (q ∙ h) q) (oldest_known d (others_of (sources a))))) refl
 
 -- a load may issue, and a division where the divider is free
 load_may : (d : Desc) (now : Around) (e : Entry) → may_issue_as Load d now [] (made Waiting Load e) ≡ true
@@ -171,8 +172,8 @@ none_and : (m s : Bool) → s ≡ false → (m && s) ≡ false
 none_and true s h = h
 none_and false s h = refl
 
-busy_divider : (k : Kind) (d : Desc) (now : Around) (before : List Entry) (e : Entry) → is_free now ≡ false → ((is_waiting e.state && ready before e && may_issue_as k d now before e) && same_port (port_of k) DivPort) ≡ false
-busy_divider Div d now before e f = by (is_waiting e.state) (ready before e) (not (any_tainted d.stt_model before e)) (is_free now) f
+busy_divider : (k : Kind) (d : Desc) (now : Around) (before : List Entry) (e : Entry) → is_free now ≡ false → ((is_waiting e.state && ready d before e && may_issue_as k d now before e) && same_port (port_of k) DivPort) ≡ false
+busy_divider Div d now before e f = by (is_waiting e.state) (ready d before e) (not (any_tainted d.stt_model before e)) (is_free now) f
   where
     by : (w r t n : Bool) → n ≡ false → ((w && r && (t && n)) && true) ≡ false
     by true true true n f = ap (λ b. b && true) f
@@ -299,7 +300,7 @@ waiting_nearer Load d x0 x e es p t r i s o =
     let may = load_may d now e in
     let f = effect_of x.regs [] a in
     let m : y.misses ≡ misses_after (access_of d now [] a) d x.cycle x.misses =
-    misses_of_tried (may_at d now LoadPort [] a) (record { before = []; entry = a; younger = es }) (first_from (may_at d now LoadPort) (a ∷ []) es) d x2 (both_true (both_true (oldest_ready a) may) refl) in
+    misses_of_tried (may_at d now LoadPort [] a) (record { before = []; entry = a; younger = es }) (first_from (may_at d now LoadPort) (a ∷ []) es) d x2 (both_true (both_true (oldest_ready d a) may) refl) in
     needs_then (is_granted d now LoadPort [] a) (begin_as Load d now [] a) (waits a) d y.cycle y.misses y.divider.free_from _ (granted Load d now e refl may (omega arith))
     (load_nearer (access_of d now [] a) d x0 x2 e f (value_loaded x.ram [] a f.addr) y.cycle y.misses y.divider.free_from i s o (looks_soon d now i r.second s.misses [] a) (waits_for_some d now i r.allows [] a) (issue_adds d x2).cycle m)
 waiting_nearer Div d x0 x e es p t r i s o = division_nearer d x0 x e es (is_free (around x)) refl p t r i s o

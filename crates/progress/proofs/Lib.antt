@@ -1,7 +1,7 @@
 pub mod Bounds
 pub mod RenameFetch
-pub mod Oldest
 pub mod Stops
+pub mod Oldest
 pub mod OneLine
 pub mod IssueOldest
 pub mod Idle

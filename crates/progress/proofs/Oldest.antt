@@ -1,19 +1,29 @@
--- The oldest entry: it looks back on nothing, and Resolve leaves it, free to leave where it is done.
-use Rattle.std.proofs.Common.{◌≡◌, ℕ, ◌+◌, ◌≤◌, Bool, true, false, not, ◌&&◌, ◌||◌, List, [], ◌∷◌, ◌++◌, Option, Some, None, refl, ap, ◌∙◌, arith}
+-- The oldest entry: it looks back on nothing, and Resolve and Clear leave it, free to go where it is done.
+use Rattle.std.proofs.Common.{◌≡◌, ℕ, ◌+◌, ◌≤◌, Bool, true, false, not, ◌&&◌, ◌||◌, List, [], ◌∷◌, ◌++◌, Option, Some, None, refl, ap, sym, ◌∙◌, arith}
 use Rattle.std.specs.Prelude.{if◌then◌else◌, reverse}
+use Rattle.std.specs.Cmp.Derive.{both_true}
 use Rattle.std.specs.List.{list_all}
 use Rattle.std.proofs.lemmas.List.{reverse-reverse}
 use Rattle.machine_desc.specs.declared.Desc.{Desc}
 use Rattle.window_model.specs.declared.Entry.{Entry}
 use Rattle.window_model.specs.declared.Divider.{Divider}
-use Rattle.window_model.specs.State.{Machine}
-use Rattle.window_model.specs.Order.{Place, first_from, is_done, is_control, is_known, all_known, base_of, ready, sources}
+use Rattle.window_model.specs.declared.Item.{Item}
+use Rattle.window_model.specs.State.{Machine, nothing}
+use Rattle.window_model.specs.Order.{Place, first, first_from, is_done, is_control, is_store, has_address, has_data, base_of, sources}
 use Rattle.window_model.specs.Taint.{any_tainted, address_tainted, tainted}
+use Rattle.window_model.specs.Ready.{is_known, all_known, ready}
 use Rattle.window_model.specs.Resolve.{resolve, resolve_at, may_resolve, learn, squash, keep, squashes, is_from, with_predictor}
+use Rattle.window_model.specs.Dependence.{passing}
+use Rattle.window_model.specs.Clear.{clear, clear_at, clear_with, cleared_one, may_clear, violated_by}
 use Rattle.window_model.specs.Retire.{may_leave}
+use Rattle.window_model.proofs.Booleans.{both, done_waits}
+use Rattle.window_model.proofs.Clearing.{clear_keep}
 use Rattle.window_model.proofs.Places.{found}
 use Rattle.window_model.proofs.Placing.{resolve_keep}
 use Rattle.window_model.proofs.Taints.{none_any}
+use Rattle.machine_facts.specs.Sized.{HasParts}
+use Rattle.machine_facts.specs.Timely.{StaysCleared}
+use Rattle.progress.proofs.Stops.{may_go}
 
 -- ---- nothing is before it
 
@@ -22,11 +32,11 @@ all_of f [] h = refl
 all_of f (r ∷ rs) h = ap (λ b. b && list_all f rs) (h r) ∙ all_of f rs h
 
 -- so its operands are known, and none is tainted
-pub oldest_known : (rs : List ℕ) → all_known [] rs ≡ true
-oldest_known rs = all_of (is_known []) rs (λ r. refl)
+pub oldest_known : (d : Desc) (rs : List ℕ) → all_known d [] rs ≡ true
+oldest_known d rs = all_of (is_known d []) rs (λ r. refl)
 
-pub oldest_ready : (e : Entry) → ready [] e ≡ true
-oldest_ready e = oldest_known (sources e)
+pub oldest_ready : (d : Desc) (e : Entry) → ready d [] e ≡ true
+oldest_ready d e = oldest_known d (sources e)
 
 pub oldest_untainted : (d : Desc) (e : Entry) → any_tainted d.stt_model [] e ≡ false
 oldest_untainted d e = none_any (tainted d.stt_model []) (sources e) (λ r. refl)
@@ -100,7 +110,124 @@ module _ (d : Desc) (h : Entry) (younger : List Entry) (x : Machine) where
   pub resolve_oldest : StaysOldest h (resolve d (record x { window = h ∷ younger })).machine.window
   resolve_oldest = by_may (may_resolve d [] h) refl
 
--- what else Resolve leaves; the divider is free no later
+-- ---- Clear
+
+-- the oldest entry stays the oldest, but that a store of known address is cleared
+pub record GetsCleared (h : Entry) (w : List Entry) : Type 0 where
+  pub entry : Entry
+  pub rest : List Entry
+  pub shape : w ≡ entry ∷ rest
+  pub state : entry.state ≡ h.state
+  pub item : entry.item ≡ h.item
+  pub resolved : entry.resolved ≡ h.resolved
+  pub cleared : is_store h.item.kind ≡ true → has_address h ≡ true → entry.cleared ≡ true
+
+-- after a store is cleared, it and the older entries are still there
+window_with : (d : Desc) (p : Place) (o : Option Place) (x : Machine) → (r : List Entry) × ((clear_with d p o x).machine.window ≡ reverse p.before ++ cleared_one p.entry ∷ r)
+window_with d p None x = (p.younger, refl)
+window_with d p (Some q) x = (reverse q.before, refl)
+
+-- an oldest store that may not be cleared is cleared, or its address isn't known
+not_now : (s c a t : Bool) → (s && not c && a && not t) ≡ false → t ≡ false → s ≡ true → a ≡ true → c ≡ true
+not_now true true true false h n p q = refl
+not_now true false true false h n p q = absurd (cc)
+not_now s c a true h n p q = absurd (cc)
+not_now false c a t h n p q = absurd (cc)
+not_now s c false t h n p q = absurd (cc)
+
+-- where no load passes a store each is cleared from the start
+from_start : (p s : Bool) → p ≡ false → not (p && s) ≡ true
+from_start false s h = refl
+from_start true s h = absurd (cc)
+
+module _ (d : Desc) (h : Entry) (younger : List Entry) (x : Machine) where
+  abbrev whole : Machine
+  whole = record x { window = h ∷ younger }
+
+  as_it_is : (is_store h.item.kind ≡ true → has_address h ≡ true → h.cleared ≡ true) → GetsCleared h (h ∷ younger)
+  as_it_is c = record { entry = h; rest = younger; shape = refl; state = refl; item = refl; resolved = refl; cleared = c }
+
+  -- a younger store is cleared, or none
+  clears_behind : (o : Option Place) → may_clear d [] h ≡ false → first_from (may_clear d) (h ∷ []) younger ≡ o → GetsCleared h (clear_at d o whole).machine.window
+  clears_behind None n q = as_it_is (not_now (is_store h.item.kind) h.cleared (has_address h) (address_tainted d.stt_model [] h) n (oldest_address d h))
+  clears_behind (Some p) n q =
+      let f = found (may_clear d) (h ∷ []) younger p q in
+      let a = window_with d p (violated_by p) whole in
+      let older : reverse p.before ≡ h ∷ f.older = ap reverse f.back ∙ reverse-reverse (h ∷ f.older) in
+      record {
+        entry = h;
+        rest = f.older ++ cleared_one p.entry ∷ a.0;
+        shape = a.1 ∙ ap (λ v. v ++ cleared_one p.entry ∷ a.0) older;
+        state = refl;
+        item = refl;
+        resolved = refl;
+        cleared = not_now (is_store h.item.kind) h.cleared (has_address h) (address_tainted d.stt_model [] h) n (oldest_address d h);
+      }
+
+  clears_first : (b : Bool) → may_clear d [] h ≡ b → GetsCleared h (clear_at d (if b then Some (record { before = []; entry = h; younger = younger }) else first_from (may_clear d) (h ∷ []) younger) whole).machine.window
+  clears_first false n = clears_behind (first_from (may_clear d) (h ∷ []) younger) n refl
+  clears_first true n =
+      let p : Place = record { before = []; entry = h; younger = younger } in
+      let a = window_with d p (violated_by p) whole in
+      record { entry = cleared_one h; rest = a.0; shape = a.1; state = refl; item = refl; resolved = refl; cleared = λ s k. refl }
+
+  clear_oldest : StaysCleared d h → GetsCleared h (clear d whole).machine.window
+  clear_oldest s = by_passing (passing d) refl
+    where
+      by_passing : (b : Bool) → passing d ≡ b → GetsCleared h (if b then clear_at d (first (may_clear d) (h ∷ younger)) whole else nothing whole).machine.window
+      by_passing true q = clears_first (may_clear d [] h) refl
+      by_passing false q = as_it_is (λ k a. s (from_start (passing d) (is_store h.item.kind) q))
+
+-- ---- both
+
+-- the oldest entry stays the oldest, and may go if it is done
+pub record GoesOldest (h : Entry) (w : List Entry) : Type 0 where
+  pub entry : Entry
+  pub rest : List Entry
+  pub shape : w ≡ entry ∷ rest
+  pub state : entry.state ≡ h.state
+  pub item : entry.item ≡ h.item
+  pub goes : is_done h.state ≡ true → may_go entry ≡ true
+
+-- a store that is cleared doesn't wait as the first of a cycle
+no_wait : (s c : Bool) → (s ≡ true → c ≡ true) → not (s && (false || not c)) ≡ true
+no_wait true true h = refl
+no_wait true false h = absurd (let q = h refl in cc)
+no_wait false c h = refl
+
+leaves_as : (e h : Entry) → e.state ≡ h.state → e.item ≡ h.item → e.resolved ≡ h.resolved → may_leave h ≡ true → may_leave e ≡ true
+leaves_as e h s i r l =
+    ap (λ t. is_done t && (not (is_control e.item.kind) || e.resolved)) s
+    ∙ ap (λ (j : Item). is_done h.state && (not (is_control j.kind) || e.resolved)) i
+    ∙ ap (λ b. is_done h.state && (not (is_control h.item.kind) || b)) r
+    ∙ l
+
+pub clear_goes : (d : Desc) (h : Entry) (y : Machine) (o : StaysOldest h y.window) → HasParts o.entry → StaysCleared d o.entry → GoesOldest h (clear d y).machine.window
+clear_goes d h y o p s =
+    let same : y ≡ record y { window = o.entry ∷ o.rest } = ap (λ w. let m : Machine = record y { window = w } in m) o.shape in
+    let g = clear_oldest d o.entry o.rest y s in
+    record {
+      entry = g.entry;
+      rest = g.rest;
+      shape = ap (λ (m : Machine). (clear d m).machine.window) same ∙ g.shape;
+      state = g.state ∙ o.state;
+      item = g.item ∙ o.item;
+      goes = λ q.
+          let done : is_done o.entry.state ≡ true = ap is_done o.state ∙ q in
+          let known : is_store o.entry.item.kind ≡ true → has_address o.entry ≡ true = λ k. (both (has_address o.entry) (has_data o.entry) (p k ∙ ap not (done_waits o.entry.state done))).0 in
+          let wait : is_store g.entry.item.kind ≡ true → g.entry.cleared ≡ true = λ k. let j : is_store o.entry.item.kind ≡ true = sym (ap (λ (i : Item). is_store i.kind) g.item) ∙ k in g.cleared j (known j) in
+          both_true (leaves_as g.entry o.entry g.state g.item g.resolved (o.leaves q)) (no_wait (is_store g.entry.item.kind) g.entry.cleared wait);
+    }
+
+-- where there is no entry there is nothing to clear
+pub clear_empty : (d : Desc) (x : Machine) → (clear d (record x { window = [] })).machine ≡ record x { window = [] }
+clear_empty d x = by_passing (passing d)
+  where
+    by_passing : (b : Bool) → (if b then nothing (record x { window = [] }) else nothing (record x { window = [] })).machine ≡ record x { window = [] }
+    by_passing true = refl
+    by_passing false = refl
+
+-- ---- what else they leave; the divider is free no later
 pub record Resolves (x y : Machine) : Type 0 where
   pub cycle : y.cycle ≡ x.cycle
   pub misses : y.misses ≡ x.misses
@@ -116,3 +243,8 @@ resolve_resolves d x =
     (λ y p t q k. record { cycle = k.cycle; misses = k.misses; divider = let f = freed_no_later y.divider (is_from (p.entry.serial + 1) y.divider.user) in omega (arith, f, k.divider) })
     (λ y p t q k. record { cycle = k.cycle; misses = k.misses; divider = k.divider })
     x (record { cycle = refl; misses = refl; divider = omega arith })
+
+pub clear_resolves : (d : Desc) (x y : Machine) → Resolves x y → Resolves x (clear d y).machine
+clear_resolves d x =
+    clear_keep d (Resolves x) (λ y p t k. record { cycle = k.cycle; misses = k.misses; divider = k.divider })
+    (λ y p q t v k. record { cycle = k.cycle; misses = k.misses; divider = let f = freed_no_later y.divider (is_from q.entry.serial y.divider.user) in omega (arith, f, k.divider) })

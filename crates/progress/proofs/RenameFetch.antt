@@ -38,7 +38,7 @@ appends_then x y z p q = record {
 
 module _ (d : Desc) where
   one_renamed : (i : Item) (rest : List Item) (x : Machine) → Appends x (rename_one d i rest x).machine
-  one_renamed i rest x = record { cycle = refl; misses = refl; divider = refl; window = (renamed x.next_serial i ∷ [], refl) }
+  one_renamed i rest x = record { cycle = refl; misses = refl; divider = refl; window = (renamed d x.next_serial i ∷ [], refl) }
 
   -- any number of items, as few as come behind a first one
   renamed_up_to : (n : ℕ) (x : Machine) → Appends x (rename_up_to d n x).machine
