@@ -1,4 +1,4 @@
--- Fill, Complete and Resolve where nothing happens in them.
+-- Fill, Complete, Resolve and Clear where nothing happens in them.
 use Rattle.std.proofs.Common.{◌≡◌, ℕ, ◌<◌, Bool, true, false, not, List, [], ◌∷◌, Option, Some, None, refl, ap, ◌∙◌, arith}
 use Rattle.std.proofs.lemmas.Bool.Decides.{nat_tests}
 use Rattle.std.specs.Prelude.{if◌then◌else◌, ◌==◌, map}
@@ -18,8 +18,10 @@ use Rattle.window_model.specs.Order.{Place, first, is_faulty}
 use Rattle.window_model.specs.Fill.{fill, is_due, lines, with_line, complete, completed, completes, completes_at}
 use Rattle.window_model.specs.SecondLevel.{second_with_line}
 use Rattle.window_model.specs.Resolve.{resolve, resolve_at, may_resolve, learn, learn_as, learn_target, next_of}
+use Rattle.window_model.specs.Dependence.{passing}
+use Rattle.window_model.specs.Clear.{clear, clear_at, clear_with, may_clear, violated_by}
 use Rattle.window_model.proofs.Lists.{each_then}
-use Rattle.quiet_cycles.specs.Still.{NotDueBefore, NotDoneBefore}
+use Rattle.quiet_cycles.specs.Still.{NotDueBefore, NotDoneBefore, at_cycle}
 use Rattle.quiet_cycles.proofs.Nothing.{both_empty, map_empty, Lacks, none_left, none_kept, all_kept}
 
 -- ---- fill
@@ -100,3 +102,23 @@ none_resolves d x h = none_resolved d (first (may_resolve d) x.window) x h
 
 pub resolve_nothing : (d : Desc) (x : Machine) → first (may_resolve d) x.window ≡ None → resolve d x ≡ nothing x
 resolve_nothing d x h = ap (λ o. resolve_at d o x) h
+
+-- ---- clear
+
+-- a store that is cleared has an event
+clear_tells : (d : Desc) (p : Place) (o : Option Place) (x : Machine) → (clear_with d p o x).events ≡ [] → ⊥
+clear_tells d p None x h = cc
+clear_tells d p (Some q) x h = cc
+
+-- so where no event is, none is cleared, in any cycle
+none_cleared : (d : Desc) (c : ℕ) (o : Option Place) (x : Machine) → (clear_at d o x).events ≡ [] → clear_at d o (at_cycle c x) ≡ nothing (at_cycle c x)
+none_cleared d c None x h = refl
+none_cleared d c (Some p) x h = absurd (clear_tells d p (violated_by p) x h)
+
+pub clear_nothing : (d : Desc) (c : ℕ) (x : Machine) → (clear d x).events ≡ [] → clear d (at_cycle c x) ≡ nothing (at_cycle c x)
+clear_nothing d c x = by_passing (passing d)
+  where
+    by_passing : (b : Bool) → (if b then clear_at d (first (may_clear d) x.window) x else nothing x).events ≡ [] →
+        (if b then clear_at d (first (may_clear d) x.window) (at_cycle c x) else nothing (at_cycle c x)) ≡ nothing (at_cycle c x)
+    by_passing true h = none_cleared d c (first (may_clear d) x.window) x h
+    by_passing false h = refl

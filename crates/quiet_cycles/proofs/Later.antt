@@ -14,8 +14,9 @@ use Rattle.window_model.specs.declared.Event.{Event}
 use Rattle.window_model.specs.declared.Event.TheVariants as event
 use Rattle.window_model.specs.Around.{Around, around, is_free}
 use Rattle.window_model.specs.State.{Machine}
-use Rattle.window_model.specs.Order.{is_store, is_waiting, ready}
+use Rattle.window_model.specs.Order.{is_store, is_waiting}
 use Rattle.window_model.specs.Taint.{any_tainted}
+use Rattle.window_model.specs.Ready.{ready}
 use Rattle.window_model.specs.Retire.{width_of}
 use Rattle.window_model.specs.Access.{Access, Faults, access_at}
 use Rattle.window_model.specs.Issue.{Port, AddressPort, DataPort, port_of, ports, part_may, same_port, asking, is_granted, may_at, may_issue_as, data_events, if_granted, with_address, with_data, issue_entry, issue_parts, issue_whole, begin_as, load_as, access_of, effect_of, value_loaded, waits}
@@ -80,7 +81,7 @@ module _ (d : Desc) (x : Machine) (c : ℕ) where
     same_kind_may _ before e = refl
 
     same_may : (port : Port) (before : List Entry) (e : Entry) → may_at d later port before e ≡ may_at d now port before e
-    same_may port before e = ap (λ m. if is_store e.item.kind then part_may port d before e else (is_waiting e.state && ready before e && m) && same_port (port_of e.item.kind) port) (same_kind_may e.item.kind before e)
+    same_may port before e = ap (λ m. if is_store e.item.kind then part_may port d before e else (is_waiting e.state && ready d before e && m) && same_port (port_of e.item.kind) port) (same_kind_may e.item.kind before e)
 
     same_asking : (port : Port) (before : List Entry) → asking d later port before ≡ asking d now port before
     same_asking port [] = refl

@@ -10,6 +10,7 @@ use Rattle.window_model.specs.Around.{around}
 use Rattle.window_model.specs.Order.{first}
 use Rattle.window_model.specs.Fill.{fill, complete}
 use Rattle.window_model.specs.Resolve.{resolve, may_resolve}
+use Rattle.window_model.specs.Clear.{clear}
 use Rattle.window_model.specs.Retire.{Retired, retire, stays, unless_ended}
 use Rattle.window_model.specs.Issue.{issue}
 use Rattle.window_model.specs.Rename.{rename}
@@ -18,7 +19,7 @@ use Rattle.window_model.specs.Cycle.{Cycled, after_retire, before_retire, cycle}
 use Rattle.window_model.proofs.Quiet.{after_quiet}
 use Rattle.quiet_cycles.specs.Still.{NothingDueBefore, Still, at_cycle}
 use Rattle.quiet_cycles.proofs.Nothing.{both_empty, nothing_first, nothing_then}
-use Rattle.quiet_cycles.proofs.Early.{NoLine, no_line, fill_nothing, no_line_later, NoneDone, none_done, complete_nothing, none_done_later, none_resolves, resolve_nothing}
+use Rattle.quiet_cycles.proofs.Early.{NoLine, no_line, fill_nothing, no_line_later, NoneDone, none_done, complete_nothing, none_done_later, none_resolves, resolve_nothing, clear_nothing}
 use Rattle.quiet_cycles.proofs.Turns.{retire_nothing}
 use Rattle.quiet_cycles.proofs.RenameFetch.{rename_nothing, fetch_nothing}
 use Rattle.quiet_cycles.proofs.Waiting.{NoneBegins, none_begins, issue_nothing}
@@ -32,21 +33,31 @@ pub record SilentAfter (d : Desc) (code : Code) (x : Machine) : Type 0 where
   pub renames : (c : ℕ) → rename d (at_cycle c x) ≡ nothing (at_cycle c x)
   pub fetches : (c : ℕ) → fetch d code (at_cycle c x) ≡ nothing (at_cycle c x)
 
--- nothing comes, is Done or resolved, and whatever the cycle nothing retires; nor does more happen, unless the run has ended
+-- nothing comes, is Done or resolved, and whatever the cycle nothing is cleared or retires; nor does more happen, unless the run
+-- has ended
 pub record Silent (d : Desc) (code : Code) (x : Machine) : Type 0 where
   pub lines : NoLine x.cycle x.misses
   pub dones : NoneDone x.cycle x.window
   pub resolves : first (may_resolve d) x.window ≡ None
+  pub clears : (c : ℕ) → clear d (at_cycle c x) ≡ nothing (at_cycle c x)
   pub retires : (c : ℕ) → retire d (at_cycle c x) ≡ stays (at_cycle c x)
   pub goes_on : x.end ≡ None → SilentAfter d code x
 
 module _ (d : Desc) (code : Code) where
   -- ---- from the facts to the cycle
 
+  -- the phases from Resolve to Retire, and those from Complete on
+  abbrev from_resolve : Machine → After
+  from_resolve z = then_does (resolve d z) (clear d)
+
+  abbrev from_complete : Machine → After
+  from_complete y = then_does (complete y) from_resolve
+
   before_nothing : (x : Machine) → Silent d code x → before_retire d x ≡ nothing x
   before_nothing x s =
-      nothing_then x (fill d x) (λ y. then_does (complete y) (resolve d)) (fill_nothing d x s.lines)
-      (nothing_then x (complete x) (resolve d) (complete_nothing x s.dones) (resolve_nothing d x s.resolves))
+      nothing_then x (fill d x) from_complete (fill_nothing d x s.lines)
+      (nothing_then x (complete x) from_resolve (complete_nothing x s.dones)
+      (nothing_then x (resolve d x) (clear d) (resolve_nothing d x s.resolves) (s.clears x.cycle)))
 
   by_end : (o : Option End) (x : Machine) → x.end ≡ o → Silent d code x → unless_ended o (nothing x) (then_does (issue d x) (λ y. then_does (rename d y) (fetch d code))) ≡ nothing x
   by_end (Some e) x q s = refl
@@ -93,12 +104,14 @@ module _ (d : Desc) (code : Code) where
   silent_by : (x : Machine) → (before_retire d x).events ≡ [] → (retire d (before_retire d x).machine).events ≡ [] → (after_retire d code (retire d (before_retire d x).machine).machine).events ≡ [] →
       (after_retire d code (retire d (before_retire d x).machine).machine).machine.end ≡ x.end → Silent d code x
   silent_by x h k l m =
-      let f = nothing_first x (fill d x) (λ y. then_does (complete y) (resolve d)) h (λ e. fill_nothing d x (no_line d x e)) in
-      let g = nothing_first x (complete x) (resolve d) f.1 (λ e. complete_nothing x (none_done x e)) in
-      let r = none_resolves d x g.1 in
+      let f = nothing_first x (fill d x) from_complete h (λ e. fill_nothing d x (no_line d x e)) in
+      let g = nothing_first x (complete x) from_resolve f.1 (λ e. complete_nothing x (none_done x e)) in
+      let v = nothing_first x (resolve d x) (clear d) g.1 (λ e. resolve_nothing d x (none_resolves d x e)) in
+      let r = none_resolves d x v.0 in
       let n : before_retire d x ≡ nothing x =
-      nothing_then x (fill d x) (λ y. then_does (complete y) (resolve d)) (fill_nothing d x (no_line d x f.0))
-      (nothing_then x (complete x) (resolve d) (complete_nothing x (none_done x g.0)) (resolve_nothing d x r)) in
+      nothing_then x (fill d x) from_complete (fill_nothing d x (no_line d x f.0))
+      (nothing_then x (complete x) from_resolve (complete_nothing x (none_done x g.0))
+      (nothing_then x (resolve d x) (clear d) (resolve_nothing d x r) (clear_nothing d x.cycle x v.1))) in
       let k2 : (retire d x).events ≡ [] = subst (λ (a : After). (retire d a.machine).events ≡ []) n k in
       let l2 : (after_retire d code (retire d x).machine).events ≡ [] = subst (λ (a : After). (after_retire d code (retire d a.machine).machine).events ≡ []) n l in
       let m2 : (after_retire d code (retire d x).machine).machine.end ≡ x.end = subst (λ (a : After). (after_retire d code (retire d a.machine).machine).machine.end ≡ x.end) n m in
@@ -109,6 +122,7 @@ module _ (d : Desc) (code : Code) where
         lines = no_line d x f.0;
         dones = none_done x g.0;
         resolves = r;
+        clears = λ c. clear_nothing d c x v.1;
         retires = λ c. retire_nothing d c x k2 e;
         goes_on = after_silent x l3;
       }
@@ -130,6 +144,7 @@ module _ (d : Desc) (code : Code) where
     lines = no_line_later n x.cycle c x.misses (recursion_from_All _ x.misses due.lines) l m;
     dones = none_done_later n x.cycle c x.window (recursion_from_All _ x.window due.entries) l m;
     resolves = s.resolves;
+    clears = s.clears;
     retires = s.retires;
     goes_on = λ q. let b = s.goes_on q in record {
       begins = none_begins_later d x c (free_as_before n x.cycle c x.divider.free_from due.divider l m) b.begins;

@@ -9,7 +9,8 @@ use Rattle.rv_types.specs.declared.Kind.TheVariants.{Store, Call}
 use Rattle.machine_desc.specs.declared.Desc.{Desc}
 use Rattle.window_model.specs.declared.Entry.{Entry}
 use Rattle.window_model.specs.State.{Machine}
-use Rattle.window_model.specs.Retire.{hart_of, stays, may_leave, trap_of, head_leaves, call_leaves, unless_ended, turn, head_turn, turns, retire}
+use Rattle.window_model.specs.Order.{is_store}
+use Rattle.window_model.specs.Retire.{hart_of, stays, may_leave, trap_of, head_leaves, call_leaves, store_waits, then_retires, unless_ended, turn, head_turn, turns, retire}
 use Rattle.window_model.proofs.Calls.{CallDoes, call_does}
 use Rattle.window_model.proofs.Walks.{retire_by}
 use Rattle.quiet_cycles.specs.Still.{at_cycle}
@@ -31,7 +32,12 @@ module _ (d : Desc) (c : ℕ) where
   by_trap : (n : ℕ) (o : Option Cause) (e : Entry) (rest : List Entry) (x : Machine) → x.end ≡ None → (turn d false o e rest x (turns d n)).events ≡ [] → (turn d false o e rest x (turns d n)).machine.end ≡ x.end →
       turn d false o e rest (at_cycle c x) (turns d n) ≡ stays (at_cycle c x)
   by_trap n (Some cause) e rest x u h k = absurd (cc)
-  by_trap n None e rest x u h k = absurd (head_has_event e.item.kind d e rest x (both_empty (head_leaves e.item.kind d e rest x).events _ h).0)
+  by_trap n None e rest x u h k = waits_or (store_waits false e) h
+    where
+      waits_or : (b : Bool) → (if b then stays x else then_retires (head_leaves e.item.kind d e rest x) (turns d n (is_store e.item.kind))).events ≡ [] →
+          (if b then stays (at_cycle c x) else then_retires (head_leaves e.item.kind d e rest (at_cycle c x)) (turns d n (is_store e.item.kind))) ≡ stays (at_cycle c x)
+      waits_or true h = refl
+      waits_or false h = absurd (head_has_event e.item.kind d e rest x (both_empty (head_leaves e.item.kind d e rest x).events _ h).0)
 
   by_leave : (n : ℕ) (b : Bool) (e : Entry) (rest : List Entry) (x : Machine) → x.end ≡ None → let r = (if b then turn d false (trap_of e) e rest x (turns d n) else stays x) in
       r.events ≡ [] → r.machine.end ≡ x.end → (if b then turn d false (trap_of e) e rest (at_cycle c x) (turns d n) else stays (at_cycle c x)) ≡ stays (at_cycle c x)
