@@ -27,10 +27,10 @@ no_bit zero h = refl
 no_bit (suc n) h = absurd (cc)
 
 -- so no load passes a store there
-pub not_passing : (d : Desc) → (d.version == 1) ≡ true → passing d ≡ false
-not_passing d one = no_bit d.predictor_depend (no_bits (d.version == 1) d.predictor_depend _ one d.few_depend)
+pub not_passing : (d : Desc) → d.version ≡ 1 → passing d ≡ false
+not_passing d one = no_bit d.predictor_depend (no_bits (d.version == 1) d.predictor_depend _ (ap (λ v. v == 1) one) d.few_depend)
 
-pub passes_none : (d : Desc) (now : Around) (e : Entry) → (d.version == 1) ≡ true → passes_stores d now e ≡ false
+pub passes_none : (d : Desc) (now : Around) (e : Entry) → d.version ≡ 1 → passes_stores d now e ≡ false
 passes_none d now e one = ap (λ p. p && not (waits_for_stores d now.dependence e.item.pc)) (not_passing d one)
 
 -- ---- what a load asks of the older stores
@@ -65,5 +65,5 @@ goes_as_let d now before e p t w = by_version (d.version == 1) refl
         (if one then stores_done before else stores_let d.stt_model (passes_stores d now e) (bytes_of now before e) before) ≡ stores_let d.stt_model (passes_stores d now e) (bytes_of now before e) before
     by_version true q =
         let one : d.version ≡ 1 = eqb-true _ _ q in
-        done_as_let d (bytes_of now before e) before one p t w ∙ ap (λ a. stores_let d.stt_model a (bytes_of now before e) before) (sym (passes_none d now e q))
+        done_as_let d (bytes_of now before e) before one p t w ∙ ap (λ a. stores_let d.stt_model a (bytes_of now before e) before) (sym (passes_none d now e one))
     by_version false q = refl
