@@ -17,7 +17,8 @@ use Rattle.window_model.specs.Retire.{addr_of, stored_of, width_of}
 use Rattle.window_model.specs.Access.{reaches, covers, byte_of, byte_from}
 use Rattle.committed_state.specs.Replay.{Bank, bank, bank_after, replayed, replayed_as, Replayed, ram_after, stored_unless}
 use Rattle.committed_state.specs.Computed.{ComesTo, as_known, as_known_by, bytes_found, known_of}
-use Rattle.committed_state.specs.Consistent.{FitsParts, Stands, is_issued, shares, stands_before}
+use Rattle.window_model.specs.Clear.{shares}
+use Rattle.committed_state.specs.Consistent.{FitsParts, Stands, is_issued, stands_before}
 use Rattle.window_model.proofs.Booleans.{both}
 use Rattle.window_model.specs.Shape.{SameShape}
 use Rattle.window_model.proofs.Memory.{length_to_le, inside, read_before, read_within, read_after, same_shape, shape_then, store_keeps}

@@ -19,7 +19,7 @@ use Rattle.rv_types.specs.declared.Op.TheVariants as op
 use Rattle.window_model.specs.declared.Entry.{Entry}
 use Rattle.window_model.specs.declared.Outcome.{Outcome}
 use Rattle.window_model.specs.Fetch.{instr_at, kind_at}
-use Rattle.window_model.specs.Order.{is_known, is_load, is_store, sources, operand, base_of, others_of, has_address, has_data}
+use Rattle.window_model.specs.Order.{is_load, is_store, sources, operand, base_of, others_of, has_address, has_data}
 use Rattle.window_model.specs.Access.{byte_of}
 use Rattle.window_model.specs.Retire.{width_in}
 use Rattle.window_model.specs.Issue.{address_of, effect_of, first_operand, second_operand, outcome}
@@ -27,7 +27,7 @@ use Rattle.window_model.specs.Shape.{SameShape}
 use Rattle.window_model.proofs.Booleans.{both}
 use Rattle.window_model.proofs.Memory.{same_fault}
 use Rattle.committed_state.specs.Computed.{Bank, as_known_by, bytes_found, bytes_over, computed, finds, known_of, loaded_or, outcome_as}
-use Rattle.committed_state.specs.Consistent.{HasOperands, IsItem, is_issued}
+use Rattle.committed_state.specs.Consistent.{HasOperands, IsItem, executed, is_issued}
 use Rattle.committed_state.specs.Replay.{effect_on}
 
 -- ---- outcomes
@@ -173,7 +173,7 @@ effect_alone s e = by_sources (sources e)
 -- ---- what an entry computes, as far as it is known, stays where its known operands and a load's bytes do
 
 module _ (code : Code) (s s2 : Bank) (b b2 : List Entry) (e : Entry) (item : IsItem code e.item) (p : SameShape s.ram s2.ram)
-    (same : (r : ℕ) → r < 32 → is_known b r ≡ true → operand s2.regs b2 r ≡ operand s.regs b r)
+    (same : (r : ℕ) → r < 32 → executed b r ≡ true → operand s2.regs b2 r ≡ operand s.regs b r)
     (bytes2 : ℕ → List ℕ) (bytes : is_load e.item.kind ≡ true → load_fault s.ram (effect_of s.regs b e).addr (width_in e.item.instr) ≡ None → bytes2 (effect_of s.regs b e).addr ≡ bytes_over s b e (effect_of s.regs b e).addr)
     (issued : is_issued e ≡ true) where
   abbrev F : Effect
@@ -183,7 +183,7 @@ module _ (code : Code) (s s2 : Bank) (b b2 : List Entry) (e : Entry) (item : IsI
   F2 = effect_of s2.regs b2 e
 
   abbrev t : ℕ → Bool
-  t r = is_known b r
+  t r = executed b r
 
   -- an entry in one piece
   whole : (k : Kind) → e.item.kind ≡ k → list_all t (sources e) ≡ true → outcome_as k s2.ram e.item.instr F2 (bytes2 F2.addr) ≡ outcome_as k s.ram e.item.instr F (bytes_over s b e F.addr)

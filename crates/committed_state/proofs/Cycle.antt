@@ -3,13 +3,15 @@ use Rattle.std.proofs.Common.{◌≡◌, ℕ, ◌+◌, List, [], None, ap, sym, 
 use Rattle.rv_types.specs.Memory.{Code}
 use Rattle.rv_types.specs.Isa.{Run, isa, with_piece}
 use Rattle.machine_desc.specs.declared.Desc.{Desc}
-use Rattle.window_model.specs.State.{Machine}
+use Rattle.window_model.specs.State.{After, Machine}
 use Rattle.window_model.specs.Fill.{fill, complete}
+use Rattle.window_model.specs.Resolve.{resolve}
 use Rattle.window_model.specs.Retire.{retire, hart_of}
 use Rattle.window_model.specs.Cycle.{cycle, after_retire}
 use Rattle.window_model.specs.Committed.{Aligned, TrapsNext, exit_of}
 use Rattle.window_model.proofs.Quiet.{Quiet, at_retire, before_quiet, after_quiet}
 use Rattle.window_model.proofs.Walks.{after_keep}
+use Rattle.window_model.proofs.Withheld.{clears_none}
 use Rattle.committed_state.specs.Consistent.{Consistent}
 use Rattle.committed_state.specs.Laws.{CycleCommits, CycleKeeps}
 use Rattle.committed_state.proofs.Steps.{Leads, as_retired}
@@ -35,7 +37,9 @@ module _ (code : Code) (d : Desc) where
   pub consistent_before : (x : Machine) → Consistent d code x → Consistent d code (at_retire d x)
   consistent_before x h =
       let x1 : Machine = record x { cycle = x.cycle + 1 } in
-      consistent_resolve code d (complete (fill d x1).machine).machine (consistent_complete code d (fill d x1).machine (consistent_fill code d x1 h))
+      let y = (resolve d (complete (fill d x1).machine).machine).machine in
+      subst (λ (a : After). Consistent d code a.machine) (sym (clears_none d y))
+      (consistent_resolve code d (complete (fill d x1).machine).machine (consistent_complete code d (fill d x1).machine (consistent_fill code d x1 h)))
 
   pub consistent_after : (x : Machine) → Consistent d code x → Consistent d code (after_retire d code x).machine
   consistent_after = after_keep d (Consistent d code) code (consistent_issue code d) (consistent_rename code d) (consistent_fetch code d)

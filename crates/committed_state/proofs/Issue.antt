@@ -12,7 +12,8 @@ use Rattle.window_model.specs.declared.Outcome.{Outcome}
 use Rattle.window_model.specs.declared.Progress.{Progress}
 use Rattle.window_model.specs.declared.Progress.TheVariants.{Waiting, Busy, Done}
 use Rattle.window_model.specs.State.{Machine}
-use Rattle.window_model.specs.Order.{is_waiting, is_done, is_load, is_store, has_address, has_data, ready, sources, first}
+use Rattle.window_model.specs.Order.{is_waiting, is_done, is_load, is_store, has_address, has_data, sources, first}
+use Rattle.window_model.specs.Ready.{ready}
 use Rattle.window_model.specs.Retire.{op_of, width_of, hart_of}
 use Rattle.window_model.specs.Access.{access_at}
 use Rattle.window_model.specs.Around.{Around, around}
@@ -26,14 +27,15 @@ use Rattle.committed_state.proofs.Letting.{stands_behind}
 use Rattle.committed_state.proofs.Parts.{bank_of, parts_so, same_link}
 use Rattle.committed_state.proofs.Onward.{Moves, load_out, moves_same}
 use Rattle.committed_state.proofs.Kept.{Kept, each_holds}
+use Rattle.committed_state.proofs.Operands.{all_known_executed}
 use Rattle.window_model.specs.declared.Divider.{Divider}
 use Rattle.window_model.proofs.EntryByEntry.{map_each}
 use Rattle.window_model.proofs.Issuing.{MayIssue, by_after_load, by_issue, by_served, load_behind, some_bytes}
 
--- an entry stays as it is, or begins with this outcome
-data Comes (e : Entry) (o : Outcome) (r : Entry) : Type 0 where
-  Remains : r ≡ e → Comes e o r
-  Begins : (due : ℕ) → r ≡ begun e due o → Comes e o r
+-- an entry stays as it is, or begins in this cycle with this outcome
+data Comes (cycle : ℕ) (e : Entry) (o : Outcome) (r : Entry) : Type 0 where
+  Remains : r ≡ e → Comes cycle e o r
+  Begins : (due : ℕ) → r ≡ begun cycle e due o → Comes cycle e o r
 
 -- ---- what an entry gets is what it computes
 
@@ -41,12 +43,12 @@ module _ (d : Desc) (now : Around) (e : Entry) (f : Effect) (bytes : List ℕ) w
   abbrev Value : ℕ
   Value = loaded_or None e.item.instr bytes
 
-  load_comes : (b : List Entry) (a n : ℕ) (c : Option Cause) → 0 < n → Comes e (outcome f (loaded_or c e.item.instr bytes) c) (load_as (access_at d now b a n c) d now e f Value).entry
+  load_comes : (b : List Entry) (a n : ℕ) (c : Option Cause) → 0 < n → Comes now.cycle e (outcome f (loaded_or c e.item.instr bytes) c) (load_as (access_at d now b a n c) d now e f Value).entry
   load_comes b a n (Some c) some = Begins _ refl
   load_comes b a n None some =
-      by_served d now (λ a. Comes e (outcome f Value None) (load_as a d now e f Value).entry) (Begins _ refl) (λ a n some room. Begins _ refl) (λ a n some full. Remains refl) b a n some
+      by_served d now (λ a. Comes now.cycle e (outcome f Value None) (load_as a d now e f Value).entry) (Begins _ refl) (λ a n some room. Begins _ refl) (λ a n some full. Remains refl) b a n some
 
-comes : (d : Desc) (x : Machine) (b : List Entry) (e : Entry) (k : Kind) → is_store k ≡ false → let f = effect_of x.regs b e in Comes e (outcome_as k x.ram e.item.instr f (bytes_over (bank_of x) b e f.addr)) (begin_as k d (around x) b e).entry
+comes : (d : Desc) (x : Machine) (b : List Entry) (e : Entry) (k : Kind) → is_store k ≡ false → let f = effect_of x.regs b e in Comes x.cycle e (outcome_as k x.ram e.item.instr f (bytes_over (bank_of x) b e f.addr)) (begin_as k d (around x) b e).entry
 comes d x b e Load n = let f = effect_of x.regs b e in load_comes d (around x) e f (bytes_over (bank_of x) b e f.addr) b f.addr (width_of e) (load_fault x.ram f.addr (width_of e)) (some_bytes (op_of e.item.instr))
 comes d x b e Store n = absurd (cc)
 comes d x b e _ n = Begins _ refl
@@ -64,9 +66,9 @@ whole_parts : (k : Kind) (a c i i2 : Bool) → is_store k ≡ false → FitsPart
 whole_parts Store a c i i2 n p = absurd (cc)
 whole_parts _ a c i i2 n p = (p.0, p.1, p)
 
-whole_operands : (k : Kind) (a c i : Bool) (b : List Entry) (e : Entry) → is_store k ≡ false → ready b e ≡ true → HasOperands k a c i b (sources e)
-whole_operands Store a c i b e n r = absurd (cc)
-whole_operands _ a c i b e n r = λ h. r
+whole_operands : (k : Kind) (a c i : Bool) (d : Desc) (b : List Entry) (e : Entry) → is_store k ≡ false → ready d b e ≡ true → HasOperands k a c i b (sources e)
+whole_operands Store a c i d b e n r = absurd (cc)
+whole_operands _ a c i d b e n r = λ h. all_known_executed d b (sources e) r
 
 module _ (code : Code) (d : Desc) (x : Machine) (b : List Entry) (e : Entry) (h : Behind (Stands code (bank_of x)) b) (st : Stands code (bank_of x) b e) where
   waits_so : (t : Progress) → is_waiting t ≡ true → FitsState t e → (e.resolved ≡ false) × (at_once e.item.kind ≡ false) × (is_done t ≡ true → ⊥)
@@ -83,7 +85,7 @@ module _ (code : Code) (d : Desc) (x : Machine) (b : List Entry) (e : Entry) (h 
       stands_behind code (bank_of x) l d (around x) b e item (o.0 ∙ ad) (o.1 ∙ ap (λ a. load_fault x.ram a (width_of e)) ad) h (load_behind e.item.kind d (around x) b e m z)
 
   -- an entry in one piece that begins stands
-  begun_so : is_store e.item.kind ≡ false → MayIssue d (around x) b e → (r : Entry) → Comes e (computed (bank_of x) b e) r → Kept code (bank_of x) b e r
+  begun_so : is_store e.item.kind ≡ false → MayIssue d (around x) b e → (r : Entry) → Comes x.cycle e (computed (bank_of x) b e) r → Kept code (bank_of x) b e r
   begun_so n m r (Remains q) = subst (λ r. Kept code (bank_of x) b e r) (sym q) (record { stands = st; moves = moves_same e; link = refl })
   begun_so n m r (Begins due q) =
       let k = e.item.kind in
@@ -91,14 +93,14 @@ module _ (code : Code) (d : Desc) (x : Machine) (b : List Entry) (e : Entry) (h 
       let c = has_data e in
       let t = waits_so e.state m.waits st.state in
       let p = whole_parts k a c (is_issued e) true n st.parts in
-      let r2 = begun e due (computed (bank_of x) b e) in
+      let r2 = begun x.cycle e due (computed (bank_of x) b e) in
       let known : ComesTo r2.outcome (as_known e (computed (bank_of x) b e)) = sym (whole_known k a c (computed (bank_of x) b e) n) in
       let made : Stands code (bank_of x) b r2 = record {
         item = st.item;
         parts = p.2;
         state = (whole_issued k a c true n, t.0, t.1);
         computed = known;
-        operands = whole_operands k a c true b e n m.ready;
+        operands = whole_operands k a c true d b e n m.ready;
         stores = λ i z. stores_so r2 refl known refl z m.kind;
         through = st.through;
         alone = st.alone;
@@ -118,7 +120,7 @@ issued d x b e = (issue_entry d (around x) b e).entry
 issue_one : (code : Code) (d : Desc) (x : Machine) (b : List Entry) (e : Entry) → Behind (Stands code (bank_of x)) b → Stands code (bank_of x) b e → Kept code (bank_of x) b e (issued d x b e)
 issue_one code d x b e h st = by_issue d (around x) b e (Kept code (bank_of x) b e) (record { stands = st; moves = moves_same e; link = refl })
     (λ n m. begun_so code d x b e h st n m _ (comes d x b e e.item.kind n))
-    (λ t a c ga gc. parts_so code x b e (store_kind e.item.kind t) st a c ga gc)
+    (λ t a c ga gc. parts_so d code x b e (store_kind e.item.kind t) st a c ga gc)
 
 pub consistent_issue : (code : Code) (d : Desc) (x : Machine) → Consistent d code x → Consistent d code (issue d x).machine
 consistent_issue code d x h =

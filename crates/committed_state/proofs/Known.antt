@@ -14,13 +14,13 @@ use Rattle.window_model.specs.declared.Progress.TheVariants.{Waiting, Busy, Done
 use Rattle.window_model.specs.Along.{Behind}
 use Rattle.window_model.specs.Rename.{at_once}
 use Rattle.window_model.specs.Issue.{effect_of}
-use Rattle.window_model.specs.Order.{is_control, writes, writer, is_known, is_done, is_store, has_address, has_data}
+use Rattle.window_model.specs.Order.{is_control, writes, writer, is_done, is_store, has_address, has_data}
 use Rattle.window_model.specs.Retire.{hart_of, width_in}
 use Rattle.window_model.proofs.Booleans.{both}
 use Rattle.window_model.proofs.EntryByEntry.{behind_of}
 use Rattle.window_model.proofs.Memory.{inside}
 use Rattle.committed_state.specs.Computed.{Bank, ComesTo, as_known, as_known_by, computed, outcome_as}
-use Rattle.committed_state.specs.Consistent.{Stands, FitsParts, FitsState, all_issued, all_issued_by, bank_in, goes_through, is_issued}
+use Rattle.committed_state.specs.Consistent.{Stands, FitsParts, FitsState, all_issued, all_issued_by, bank_in, executed, goes_through, is_issued}
 use Rattle.committed_state.specs.Laws.{IssuedIsReplayed}
 use Rattle.committed_state.specs.Replay.{Replayed, bank, replayed}
 use Rattle.committed_state.proofs.Bytes.{keeps_bank, load_bytes_are, store_issued}
@@ -59,11 +59,11 @@ value_if : (w k : Bool) (e : Entry) (o : Option Entry) → (is_done e.state ≡ 
 value_if true k e o p q t = p t
 value_if false k e o p q t = q t
 
-pub has_value : (code : Code) (s : Bank) (b : List Entry) (r : ℕ) → Behind (Stands code s) b → list_all goes_through b ≡ true → is_known b r ≡ true → HasValue (writer b r)
+pub has_value : (code : Code) (s : Bank) (b : List Entry) (r : ℕ) → Behind (Stands code s) b → list_all goes_through b ≡ true → executed b r ≡ true → HasValue (writer b r)
 has_value code s [] r h t k = tt
 has_value code s (e ∷ b) r h t k =
     let ts = both _ _ t in
-    value_if (writes r e) (is_known b r) e (find (writes r) b) (done_issued code s b e h.0 ts.0) (has_value code s b r h.1 ts.1) k
+    value_if (writes r e) (executed b r) e (find (writes r) b) (done_issued code s b e h.0 ts.0) (has_value code s b r h.1 ts.1) k
 
 -- ---- the replay
 

@@ -12,12 +12,13 @@ use Rattle.window_model.specs.declared.Entry.{Entry}
 use Rattle.window_model.specs.declared.Item.{Item}
 use Rattle.window_model.specs.declared.Outcome.{Outcome}
 use Rattle.window_model.specs.declared.Progress.TheVariants.{Waiting}
-use Rattle.window_model.specs.Order.{writes, writer, from_writer, value_of, is_known, is_done, is_load, is_store, is_faulty, has_address, has_data, fault_of, sources, base_of, others_of}
+use Rattle.window_model.specs.Order.{writes, writer, from_writer, value_of, is_done, is_load, is_store, is_faulty, has_address, has_data, fault_of, sources, base_of, others_of}
 use Rattle.window_model.specs.Access.{reaches, covers, byte_of, byte_from}
 use Rattle.window_model.specs.Issue.{effect_of}
 use Rattle.window_model.specs.Retire.{addr_of, stored_of, width_in, width_of}
 use Rattle.committed_state.specs.Computed.{Bank, ComesTo, as_known, as_known_by, bytes_over, computed, outcome_as}
-use Rattle.committed_state.specs.Consistent.{HasOperands, Stands, goes_through, is_issued, shares, stands_before}
+use Rattle.window_model.specs.Clear.{shares}
+use Rattle.committed_state.specs.Consistent.{HasOperands, Stands, executed, goes_through, is_issued, stands_before}
 use Rattle.committed_state.proofs.Computed.{alike, bytes_same}
 use Rattle.window_model.proofs.Booleans.{both, both_then, or_true}
 use Rattle.window_model.proofs.Memory.{same_shape}
@@ -54,7 +55,7 @@ moves_then e e1 e2 p q = record {
 
 -- an entry of which only the instruction is looked at
 abbrev pub of_item : Item → Entry
-of_item i = record { serial = 0; item = i; state = Waiting; outcome = None; resolved = false; addr_due = None; data_due = None }
+of_item i = record { serial = 0; item = i; state = Waiting; outcome = None; resolved = false; issued = None; addr_due = None; data_due = None; cleared = false }
 
 -- ---- a load that has issued, and an older entry that goes on
 
@@ -203,10 +204,10 @@ writer_if false false k k2 e e2 o o2 v h p q t = q t
 writer_if true false k k2 e e2 o o2 v h p q t = absurd (cc)
 writer_if false true k k2 e e2 o o2 v h p q t = absurd (cc)
 
-writer_onward : (b b2 : List Entry) (r v : ℕ) → Onward b b2 → is_known b r ≡ true → (is_known b2 r ≡ true) × (from_writer (writer b2 r) v ≡ from_writer (writer b r) v)
+writer_onward : (b b2 : List Entry) (r v : ℕ) → Onward b b2 → executed b r ≡ true → (executed b2 r ≡ true) × (from_writer (writer b2 r) v ≡ from_writer (writer b r) v)
 writer_onward [] [] r v h k = (refl, refl)
 writer_onward (e ∷ b) (e2 ∷ b2) r v h k =
-    writer_if (writes r e) (writes r e2) (is_known b r) (is_known b2 r) e e2 (find (writes r) b) (find (writes r) b2) v (ap (λ i. writes r (of_item i)) h.0.item) h.0.done (writer_onward b b2 r v h.1) k
+    writer_if (writes r e) (writes r e2) (executed b r) (executed b2 r) e e2 (find (writes r) b) (find (writes r) b2) v (ap (λ i. writes r (of_item i)) h.0.item) h.0.done (writer_onward b b2 r v h.1) k
 writer_onward [] (e2 ∷ b2) r v h k = absurd h
 writer_onward (e ∷ b) [] r v h k = absurd h
 
@@ -216,7 +217,7 @@ all_onward f g [] h k = refl
 all_onward f g (r ∷ rs) h k = both_then (f r) (g r) _ _ (h r) (all_onward f g rs h) k
 
 -- operands that are known over these entries are known over those
-pub operands_then : (k : Kind) (a c i : Bool) (b b2 : List Entry) (rs : List ℕ) → ((r : ℕ) → is_known b r ≡ true → is_known b2 r ≡ true) → HasOperands k a c i b rs → HasOperands k a c i b2 rs
+pub operands_then : (k : Kind) (a c i : Bool) (b b2 : List Entry) (rs : List ℕ) → ((r : ℕ) → executed b r ≡ true → executed b2 r ≡ true) → HasOperands k a c i b rs → HasOperands k a c i b2 rs
 operands_then Store a c i b b2 rs h o = (λ k. all_onward _ _ (base_of rs) h (o.0 k), λ k. all_onward _ _ (others_of rs) h (o.1 k))
 operands_then _ a c i b b2 rs h o = λ k. all_onward _ _ rs h (o k)
 

@@ -5,6 +5,7 @@ use Rattle.rv_types.specs.Memory.{Code}
 use Rattle.rv_types.specs.Isa.{Effect}
 use Rattle.rv_types.specs.declared.Kind.{Kind}
 use Rattle.rv_types.specs.declared.Kind.TheVariants.{Store}
+use Rattle.machine_desc.specs.declared.Desc.{Desc}
 use Rattle.window_model.specs.declared.Entry.{Entry}
 use Rattle.window_model.specs.declared.Item.{Item}
 use Rattle.window_model.specs.declared.Outcome.{Outcome}
@@ -13,16 +14,17 @@ use Rattle.window_model.specs.declared.Progress.TheVariants.{Waiting, Busy, Done
 use Rattle.window_model.specs.State.{Machine}
 use Rattle.window_model.specs.Around.{around}
 use Rattle.window_model.specs.Issue.{busy_until_both, effect_of, so_far, with_address, with_data}
-use Rattle.window_model.specs.Order.{all_known, base_of, has_address, has_data, is_done, is_load, others_of, sources}
+use Rattle.window_model.specs.Order.{base_of, has_address, has_data, is_done, is_load, others_of, sources}
 use Rattle.window_model.specs.Rename.{at_once}
 use Rattle.window_model.specs.Retire.{hart_of, stored_of}
 use Rattle.window_model.proofs.Booleans.{or_true}
 use Rattle.window_model.proofs.Issuing.{MayGo, gone_parts}
 use Rattle.committed_state.specs.Computed.{Bank, ComesTo, as_known_by, bytes_over, computed, known_of, outcome_as}
-use Rattle.committed_state.specs.Consistent.{FitsParts, FitsState, HasOperands, Stands, all_issued, all_issued_by, bank_in, is_issued}
+use Rattle.committed_state.specs.Consistent.{FitsParts, FitsState, HasOperands, Stands, all_executed, all_issued, all_issued_by, bank_in, is_issued}
 use Rattle.committed_state.specs.Links.{Link, true_next}
 use Rattle.committed_state.proofs.Kept.{Kept}
 use Rattle.committed_state.proofs.Onward.{Moves, located, moves_same, moves_then}
+use Rattle.committed_state.proofs.Operands.{all_known_executed}
 
 -- registers and memory of a machine
 abbrev pub bank_of : Machine → Bank
@@ -65,7 +67,7 @@ and_no true false h = refl
 and_no false false h = refl
 and_no a true h = absurd (cc)
 
-module _ (code : Code) (x : Machine) (b : List Entry) (e : Entry) (q : e.item.kind ≡ Store) (st : Stands code (bank_of x) b e) where
+module _ (d : Desc) (code : Code) (x : Machine) (b : List Entry) (e : Entry) (q : e.item.kind ≡ Store) (st : Stands code (bank_of x) b e) where
   abbrev F : Effect
   F = effect_of x.regs b e
 
@@ -90,11 +92,11 @@ module _ (code : Code) (x : Machine) (b : List Entry) (e : Entry) (q : e.item.ki
   before = so_far_is e.outcome O (has_address e) (has_data e) has_outcome refl
       (subst (λ k. ComesTo e.outcome (as_known_by k (has_address e) (has_data e) (outcome_as k x.ram e.item.instr F (bytes_over (bank_of x) b e F.addr)))) q st.computed)
 
-  own : (has_address e ≡ true → all_known b (base_of (sources e)) ≡ true) × (has_data e ≡ true → all_known b (others_of (sources e)) ≡ true)
+  own : (has_address e ≡ true → all_executed b (base_of (sources e)) ≡ true) × (has_data e ≡ true → all_executed b (others_of (sources e)) ≡ true)
   own = subst (λ k. HasOperands k (has_address e) (has_data e) (is_issued e) b (sources e)) q st.operands
 
   -- the address
-  address_so : MayGo (has_address e) (base_of (sources e)) b → Kept code (bank_of x) b e (with_address (around x) F e)
+  address_so : MayGo d (has_address e) (base_of (sources e)) b → Kept code (bank_of x) b e (with_address (around x) F e)
   address_so g =
       let r = with_address (around x) F e in
       let w = still_waits e.state e st.state (store_all e.item.kind (has_address e) (has_data e) (is_issued e) q ∙ ap (λ a. a && has_data e) g.fresh) once in
@@ -104,7 +106,7 @@ module _ (code : Code) (x : Machine) (b : List Entry) (e : Entry) (q : e.item.ki
         parts = subst (λ k. FitsParts k true (has_data e) true) (sym q) refl;
         state = subst (λ t. FitsState (busy_until_both (Some (x.cycle + 1)) e.data_due t) r) (sym w.0) (fits_busy (Some (x.cycle + 1)) e.data_due r (store_all e.item.kind true (has_data e) true q) w.1 once);
         computed = known_as true (has_data e) r.outcome out;
-        operands = subst (λ k. HasOperands k true (has_data e) true b (sources e)) (sym q) (λ z. g.known, own.1);
+        operands = subst (λ k. HasOperands k true (has_data e) true b (sources e)) (sym q) (λ z. all_known_executed d b (base_of (sources e)) g.known, own.1);
         stores = λ i l. absurd (let n = no_load in cc);
         through = st.through;
         alone = st.alone;
@@ -120,7 +122,7 @@ module _ (code : Code) (x : Machine) (b : List Entry) (e : Entry) (q : e.item.ki
           by_outcome None i = absurd (let z = or_true (has_address e) (has_data e) h in cc)
 
   -- the data
-  data_so : MayGo (has_data e) (others_of (sources e)) b → Kept code (bank_of x) b e (with_data (around x) F e)
+  data_so : MayGo d (has_data e) (others_of (sources e)) b → Kept code (bank_of x) b e (with_data (around x) F e)
   data_so g =
       let r = with_data (around x) F e in
       let w = still_waits e.state e st.state (store_all e.item.kind (has_address e) (has_data e) (is_issued e) q ∙ and_no (has_address e) (has_data e) g.fresh) once in
@@ -130,7 +132,7 @@ module _ (code : Code) (x : Machine) (b : List Entry) (e : Entry) (q : e.item.ki
         parts = subst (λ k. FitsParts k (has_address e) true true) (sym q) (sym (or_true (has_address e) true refl));
         state = subst (λ t. FitsState (busy_until_both e.addr_due (Some (x.cycle + 1)) t) r) (sym w.0) (fits_busy e.addr_due (Some (x.cycle + 1)) r (store_all e.item.kind (has_address e) true true q) w.1 once);
         computed = known_as (has_address e) true r.outcome out;
-        operands = subst (λ k. HasOperands k (has_address e) true true b (sources e)) (sym q) (own.0, λ z. g.known);
+        operands = subst (λ k. HasOperands k (has_address e) true true b (sources e)) (sym q) (own.0, λ z. all_known_executed d b (others_of (sources e)) g.known);
         stores = λ i l. absurd (let n = no_load in cc);
         through = st.through;
         alone = st.alone;
@@ -146,7 +148,7 @@ module _ (code : Code) (x : Machine) (b : List Entry) (e : Entry) (q : e.item.ki
           by_outcome None i = absurd (let z = ap (λ a. a || has_data e) h in cc)
 
 -- both, one or none
-module _ (code : Code) (x : Machine) (b : List Entry) where
+module _ (d : Desc) (code : Code) (x : Machine) (b : List Entry) where
   abbrev Goes : Entry → Entry → Type 0
   Goes = Kept code (bank_of x) b
 
@@ -154,11 +156,11 @@ module _ (code : Code) (x : Machine) (b : List Entry) where
   kept_then e e1 e2 p q = record { stands = q.stands; moves = moves_then e e1 e2 p.moves q.moves; link = q.link ∙ p.link }
 
   -- a store whose parts go stands
-  pub parts_so : (e : Entry) → e.item.kind ≡ Store → Stands code (bank_of x) b e → (a c : Bool) → (a ≡ true → MayGo (has_address e) (base_of (sources e)) b) → (c ≡ true → MayGo (has_data e) (others_of (sources e)) b) → Goes e (gone_parts (around x) b a c e)
+  pub parts_so : (e : Entry) → e.item.kind ≡ Store → Stands code (bank_of x) b e → (a c : Bool) → (a ≡ true → MayGo d (has_address e) (base_of (sources e)) b) → (c ≡ true → MayGo d (has_data e) (others_of (sources e)) b) → Goes e (gone_parts (around x) b a c e)
   parts_so e q st false false ga gc = record { stands = st; moves = moves_same e; link = refl }
-  parts_so e q st true false ga gc = address_so code x b e q st (ga refl)
-  parts_so e q st false true ga gc = data_so code x b e q st (gc refl)
+  parts_so e q st true false ga gc = address_so d code x b e q st (ga refl)
+  parts_so e q st false true ga gc = data_so d code x b e q st (gc refl)
   parts_so e q st true true ga gc =
-      let p = address_so code x b e q st (ga refl) in
+      let p = address_so d code x b e q st (ga refl) in
       let r = with_address (around x) (effect_of x.regs b e) e in
-      kept_then e r (with_data (around x) (effect_of x.regs b e) r) p (data_so code x b r q p.stands (gc refl))
+      kept_then e r (with_data (around x) (effect_of x.regs b e) r) p (data_so d code x b r q p.stands (gc refl))

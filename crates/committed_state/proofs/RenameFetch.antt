@@ -30,9 +30,9 @@ use Rattle.window_model.proofs.Lists.{each_push}
 
 -- ---- one entry more
 
-same_links : (w : List Entry) (rest : List Item) (i : Item) (serial : ℕ) → links (w ++ renamed serial i ∷ []) rest ≡ links w (i ∷ rest)
-same_links [] rest i serial = refl
-same_links (e ∷ w) rest i serial = ap (λ ls. entry_link e ∷ ls) (same_links w rest i serial)
+same_links : (d : Desc) (w : List Entry) (rest : List Item) (i : Item) (serial : ℕ) → links (w ++ renamed d serial i ∷ []) rest ≡ links w (i ∷ rest)
+same_links d [] rest i serial = refl
+same_links d (e ∷ w) rest i serial = ap (λ ls. entry_link e ∷ ls) (same_links d w rest i serial)
 
 -- what is followed by something is no stop
 has_next : (from to : Option ℕ) (w : List Entry) (i : Item) (rest : List Item) → Chain from (links w (i ∷ rest)) to → is_some from ≡ true
@@ -78,9 +78,9 @@ not_issued : (k : Kind) → all_issued_by k false false false ≡ false
 not_issued Store = refl
 not_issued _ = refl
 
-fits_new : (c : Bool) (serial : ℕ) (i : Item) → at_once i.kind ≡ c → FitsState (if c then Done else Waiting) (renamed serial i)
-fits_new true serial i h = (not_issued i.kind ∙ sym (ap not h), λ r. absurd (cc))
-fits_new false serial i h = (not_issued i.kind, refl, h)
+fits_new : (d : Desc) (c : Bool) (serial : ℕ) (i : Item) → at_once i.kind ≡ c → FitsState (if c then Done else Waiting) (renamed d serial i)
+fits_new d true serial i h = (not_issued i.kind ∙ sym (ap not h), λ r. absurd (cc))
+fits_new d false serial i h = (not_issued i.kind, refl, h)
 
 parts_new : (k : Kind) → FitsParts k false false false
 parts_new Store = refl
@@ -91,15 +91,15 @@ operands_new Store b rs = (λ h. absurd (cc), λ h. absurd (cc))
 operands_new _ b rs = λ h. absurd (cc)
 
 module _ (code : Code) (d : Desc) where
-  rename_holds : (s : Hart) (w : List Entry) (i : Item) (rest : List Item) (fetch_pc : Option ℕ) (serial : ℕ) → fits d w i ≡ true → Holds code s w (i ∷ rest) fetch_pc → Holds code s (w ++ renamed serial i ∷ []) rest fetch_pc
+  rename_holds : (s : Hart) (w : List Entry) (i : Item) (rest : List Item) (fetch_pc : Option ℕ) (serial : ℕ) → fits d w i ≡ true → Holds code s w (i ∷ rest) fetch_pc → Holds code s (w ++ renamed d serial i ∷ []) rest fetch_pc
   rename_holds s w i rest fetch_pc serial f h =
       let f1 = both (nat_lt (length w) d.core_rob && not (list_any (λ e. is_call e.item.kind) w) && fits_as i.kind d w) _ f in
       let f2 = both (nat_lt (length w) d.core_rob && not (list_any (λ e. is_call e.item.kind) w)) _ f1.0 in
       let f3 = both (nat_lt (length w) d.core_rob) _ f2.0 in
-      let now : Stands code (bank_in s) (reverse w) (renamed serial i) = record {
+      let now : Stands code (bank_in s) (reverse w) (renamed d serial i) = record {
         item = h.items.0;
         parts = parts_new i.kind;
-        state = fits_new (at_once i.kind) serial i refl;
+        state = fits_new d (at_once i.kind) serial i refl;
         computed = tt;
         operands = operands_new i.kind (reverse w) (sources (of_item i));
         stores = λ q l. absurd (cc);
@@ -107,9 +107,9 @@ module _ (code : Code) (d : Desc) where
         alone = alone_as i.kind d w f2.1;
       } in
       record {
-        entries = along_push (Stands code (bank_in s)) [] w (renamed serial i) h.entries now;
+        entries = along_push (Stands code (bank_in s)) [] w (renamed d serial i) h.entries now;
         items = h.items.1;
-        chain = subst (λ ls. Chain (Some s.pc) ls fetch_pc) (sym (same_links w rest i serial)) h.chain;
+        chain = subst (λ ls. Chain (Some s.pc) ls fetch_pc) (sym (same_links d w rest i serial)) h.chain;
         registers = h.registers;
       }
 

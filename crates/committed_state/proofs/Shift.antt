@@ -10,7 +10,7 @@ use Rattle.rv_types.specs.declared.Kind.TheVariants.{Store}
 use Rattle.window_model.specs.declared.Entry.{Entry}
 use Rattle.window_model.specs.Access.{covers, byte_of}
 use Rattle.window_model.specs.Along.{Along}
-use Rattle.window_model.specs.Order.{writes, operand, from_writer, is_known, is_done, is_store, has_address, has_data, sources}
+use Rattle.window_model.specs.Order.{writes, operand, from_writer, is_done, is_store, has_address, has_data, sources}
 use Rattle.window_model.proofs.Booleans.{both_then}
 use Rattle.window_model.proofs.EntryByEntry.{along_drops}
 use Rattle.window_model.proofs.Memory.{inside}
@@ -18,7 +18,7 @@ use Rattle.window_model.proofs.Registers.{read_same, read_other}
 use Rattle.window_model.specs.Issue.{effect_of}
 use Rattle.window_model.specs.Retire.{width_in}
 use Rattle.committed_state.specs.Computed.{Bank, ComesTo, as_known, as_known_by, bytes_over, computed, known_of}
-use Rattle.committed_state.specs.Consistent.{Stands, goes_through, is_issued, stands_before}
+use Rattle.committed_state.specs.Consistent.{Stands, executed, goes_through, is_issued, stands_before}
 use Rattle.committed_state.specs.Replay.{bank_after, replayed}
 use Rattle.committed_state.proofs.Bytes.{keeps_bank, one_byte}
 use Rattle.committed_state.proofs.Computed.{alike, bytes_same}
@@ -30,9 +30,9 @@ known_if true d k k2 h t = t
 known_if false d k k2 h t = h t
 
 -- a writer that is known stays so without the oldest
-known_shift : (b : List Entry) (head : Entry) (r : ℕ) → is_known (b ++ head ∷ []) r ≡ true → is_known b r ≡ true
+known_shift : (b : List Entry) (head : Entry) (r : ℕ) → executed (b ++ head ∷ []) r ≡ true → executed b r ≡ true
 known_shift [] head r h = refl
-known_shift (e ∷ b) head r h = known_if (writes r e) (is_done e.state) (is_known (b ++ head ∷ []) r) (is_known b r) (known_shift b head r) h
+known_shift (e ∷ b) head r h = known_if (writes r e) (is_done e.state) (executed (b ++ head ∷ []) r) (executed b r) (known_shift b head r) h
 
 -- without the oldest
 pub all_but : (p : Entry → Bool) (b : List Entry) (head : Entry) → list_all p (b ++ head ∷ []) ≡ true → list_all p b ≡ true

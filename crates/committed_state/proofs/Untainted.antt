@@ -1,5 +1,5 @@
 -- What each phase makes of an entry stays guarded.
-use Rattle.std.proofs.Common.{◌≡◌, ℕ, ◌+◌, Bool, true, false, ◌&&◌, List, [], ◌∷◌, ◌++◌, Option, Some, None, refl, ap, sym, ◌∙◌, subst}
+use Rattle.std.proofs.Common.{◌≡◌, ℕ, ◌+◌, Bool, true, false, not, ◌&&◌, List, [], ◌∷◌, ◌++◌, Option, Some, None, refl, ap, sym, ◌∙◌, subst}
 use Rattle.std.specs.Prelude.{if◌then◌else◌, is_some}
 use Rattle.rv_types.specs.Isa.{Effect}
 use Rattle.rv_types.specs.declared.Kind.{Kind}
@@ -8,11 +8,11 @@ use Rattle.machine_desc.specs.declared.Desc.{Desc}
 use Rattle.window_model.specs.declared.Entry.{Entry}
 use Rattle.window_model.specs.declared.Item.{Item}
 use Rattle.machine_desc.specs.declared.SttModel.{SttModel}
-use Rattle.machine_desc.specs.declared.SttModel.TheVariants.{Spectre, Futuristic}
+use Rattle.machine_desc.specs.declared.SttModel.TheVariants.{Spectre, Futuristic, Off}
 use Rattle.window_model.specs.declared.Progress.{Progress}
 use Rattle.window_model.specs.declared.Progress.TheVariants.{Waiting, Done}
 use Rattle.window_model.specs.Around.{Around}
-use Rattle.window_model.specs.Order.{base_of, has_address, has_data, is_done, is_load, is_store, is_waiting, sources}
+use Rattle.window_model.specs.Order.{base_of, has_address, has_data, is_done, is_faulty, is_load, is_store, is_waiting, sources}
 use Rattle.window_model.specs.Taint.{passes, safe_as, settled_as, tainted, any_tainted, address_tainted}
 use Rattle.window_model.specs.Fill.{completed, completes, completes_at}
 use Rattle.window_model.specs.Issue.{issue_entry, begun, busy_until_both, effect_of, is_division, with_address, with_data}
@@ -20,7 +20,8 @@ use Rattle.window_model.specs.Rename.{at_once, renamed}
 use Rattle.window_model.specs.Cycle.{cycle}
 use Rattle.window_model.specs.Along.{Along}
 use Rattle.window_model.proofs.Booleans.{both, done_waits, waiting_done}
-use Rattle.window_model.proofs.Passing.{passes_begun, passes_done, passes_resolved}
+use Rattle.window_model.specs.Clear.{cleared_one}
+use Rattle.window_model.proofs.Passing.{passes_begun, passes_cleared, passes_done, passes_resolved}
 use Rattle.committed_state.specs.Guarded.{IsGuarded, AllGuarded}
 use Rattle.committed_state.proofs.Clears.{Clears, AllClear, clears_same, any_not, clean_then, clean_rest}
 use Rattle.window_model.proofs.EntryByEntry.{along_push, along_drops, place_on}
@@ -49,8 +50,8 @@ module _ (model : SttModel) where
   guarded_drops e rest h = along_drops G G e (rest_on e) [] rest h.1
 
   -- one comes
-  pub guarded_new : (b w : List Entry) (serial : ℕ) (i : Item) → Along G b w → Along G b (w ++ renamed serial i ∷ [])
-  guarded_new b w serial i k = along_push G b w (renamed serial i) k (record { load = λ q l. absurd (cc); division = λ q l. absurd (cc); fresh = λ q. refl; whole = λ q t. absurd (store_waits i.kind t q) })
+  pub guarded_new : (d : Desc) (b w : List Entry) (serial : ℕ) (i : Item) → Along G b w → Along G b (w ++ renamed d serial i ∷ [])
+  guarded_new d b w serial i k = along_push G b w (renamed d serial i) k (record { load = λ q l. absurd (cc); division = λ q l. absurd (cc); fresh = λ q. refl; whole = λ q t. absurd (store_waits i.kind t q) })
     where
       store_waits : (k : Kind) → is_store k ≡ true → is_waiting (if at_once k then Done else Waiting) ≡ false → ⊥
       store_waits Store t q = absurd (cc)
@@ -75,14 +76,14 @@ module _ (model : SttModel) where
   -- an entry that begins had what it asks for, and is no longer waiting
   begins : (d : Desc) (now : Around) (b : List Entry) (e r : Entry) → d.stt_model ≡ model → G b e → is_store e.item.kind ≡ false → MayIssue d now b e → Comes e r → G b r × Clears e r
   begins d now b e r q h n m (Remains s) = subst (λ r. G b r × Clears e r) (sym s) (h, clears_same e)
-  begins d now b e r q h n m (Begins due o s) =
-      let g : G b (begun e due o) = record {
+  begins d now b e r q h n m (Begins cycle due o s) =
+      let g : G b (begun cycle e due o) = record {
         load = λ i l. subst (λ t. address_tainted t b e ≡ false) q (load_clean e.item.kind d now b e m.kind l);
         division = λ i l. subst (λ t. any_tainted t b e ≡ false) q (division_clean e.item.kind d now b e m.kind l);
         fresh = λ z. absurd (cc);
         whole = λ w t. absurd (cc);
       } in
-      let c : Clears e (begun e due o) = record { item = refl; still = λ t p. passes_begun t e due o m.waits (h.fresh m.waits) ∙ p } in
+      let c : Clears e (begun cycle e due o) = record { item = refl; still = λ t p. passes_begun t e cycle due o m.waits (h.fresh m.waits) ∙ p } in
       subst (λ r. G b r × Clears e r) (sym s) (g, c)
 
   -- a store's part goes: it waits until both have
@@ -106,16 +107,17 @@ module _ (model : SttModel) where
   no_division _ t l = absurd (cc)
 
   safe_done : (k : Kind) (e : Entry) → is_store k ≡ true → safe_as k e ≡ true → is_done e.state ≡ true
-  safe_done Store e t h = (both (is_done e.state) _ h).0
+  safe_done Store e t h = (both (is_done e.state) _ (both (is_done e.state && not (is_faulty e)) _ h).0).0
   safe_done _ e t h = absurd (cc)
 
   -- what lacks a part isn't Done, so it passes as it did
-  part_clears : (b : List Entry) (e r : Entry) → is_store e.item.kind ≡ true → G b e → (has_address e && has_data e) ≡ false → r.item ≡ e.item → r.resolved ≡ e.resolved → Clears e r
-  part_clears b e r t h n item same = record { item = item; still = still }
+  part_clears : (b : List Entry) (e r : Entry) → is_store e.item.kind ≡ true → G b e → (has_address e && has_data e) ≡ false → r.item ≡ e.item → r.resolved ≡ e.resolved → r.cleared ≡ e.cleared → Clears e r
+  part_clears b e r t h n item same marked = record { item = item; still = still }
     where
       still : (m : SttModel) → passes m e ≡ true → passes m r ≡ true
-      still Spectre p = ap (λ i. settled_as i.kind r.resolved) item ∙ ap (settled_as e.item.kind) same ∙ p
+      still Spectre p = ap (λ i. settled_as i.kind r.resolved r.cleared) item ∙ ap (λ u. settled_as e.item.kind u r.cleared) same ∙ ap (settled_as e.item.kind e.resolved) marked ∙ p
       still Futuristic p = absurd (let w = h.whole (done_waits e.state (safe_done e.item.kind e t p)) t in cc)
+      still Off p = refl
 
   and_no : (a c : Bool) → c ≡ false → (a && c) ≡ false
   and_no true c h = h
@@ -131,7 +133,7 @@ module _ (model : SttModel) where
           fresh = λ w. h.fresh (waits_or due e.data_due e.state w);
           whole = λ w q. whole_or due e.data_due e.state (λ z. (both (has_address e) _ (h.whole z t)).1) w;
         },
-        part_clears b e (with_address now f e) t h (ap (λ a. a && has_data e) n) refl refl,
+        part_clears b e (with_address now f e) t h (ap (λ a. a && has_data e) n) refl refl refl,
       )
 
   -- the data part
@@ -144,7 +146,7 @@ module _ (model : SttModel) where
           fresh = λ w. h.fresh (waits_or e.addr_due due e.state w);
           whole = λ w q. whole_or e.addr_due due e.state (λ z. ap (λ a. a && true) (both (has_address e) _ (h.whole z t)).0) w;
         },
-        part_clears b e (with_data now f e) t h (and_no (has_address e) (has_data e) n) refl refl,
+        part_clears b e (with_data now f e) t h (and_no (has_address e) (has_data e) n) refl refl refl,
       )
 
   clears_then : (e e1 e2 : Entry) → Clears e e1 → Clears e1 e2 → Clears e e2
@@ -176,3 +178,10 @@ module _ (model : SttModel) where
   resolved_on older ys e d k =
       let c : Clears e (resolved_one e) = record { item = refl; still = λ m. passes_resolved m e } in
       place_on G Clears clears_same guarded_on e (resolved_one e) c (λ b h. guarded_resolved b e d h) [] older ys k
+
+  -- ---- clear
+
+  pub cleared_on : (older ys : List Entry) (e : Entry) → Along G [] (older ++ e ∷ ys) → Along G [] (older ++ cleared_one e ∷ ys)
+  cleared_on older ys e k =
+      let c : Clears e (cleared_one e) = record { item = refl; still = λ m. passes_cleared m e } in
+      place_on G Clears clears_same guarded_on e (cleared_one e) c (λ b h. record { load = h.load; division = h.division; fresh = h.fresh; whole = h.whole }) [] older ys k

@@ -1,9 +1,9 @@
 -- What holds of the retired state and of what is in flight, in every state of a run
 -- (docs/theorems.md, "Committed state").
-use Rattle.std.specs.Prelude.{◌≡◌, ℕ, Bool, true, false, not, ◌&&◌, ◌||◌, List, [], ◌∷◌, length, Option, Some, None, is_some}
-use Rattle.std.specs.List.{list_all, list_any, AllByRecursion as Each}
+use Rattle.std.specs.Prelude.{◌≡◌, ℕ, Bool, true, false, not, ◌&&◌, ◌||◌, List, [], ◌∷◌, length, Option, Some, None, if◌then◌else◌, is_some}
+use Rattle.std.specs.List.{list_all, AllByRecursion as Each}
 use Rattle.rv_types.specs.Word.{word_add}
-use Rattle.rv_types.specs.Memory.{Code, range}
+use Rattle.rv_types.specs.Memory.{Code}
 use Rattle.rv_types.specs.Isa.{Hart}
 use Rattle.rv_types.specs.declared.Kind.{Kind}
 use Rattle.rv_types.specs.declared.Kind.TheVariants.{Store, Branch, Jalr, Jal, Stop}
@@ -13,9 +13,9 @@ use Rattle.window_model.specs.declared.Item.{Item}
 use Rattle.window_model.specs.declared.Progress.{Progress}
 use Rattle.window_model.specs.declared.Progress.TheVariants.{Waiting, Busy, Done}
 use Rattle.window_model.specs.State.{Machine}
-use Rattle.window_model.specs.Order.{is_load, is_store, is_control, is_faulty, has_address, has_data, sources, all_known, base_of, others_of}
-use Rattle.window_model.specs.Retire.{hart_of, addr_of, width_of}
-use Rattle.window_model.specs.Access.{covers}
+use Rattle.window_model.specs.Order.{is_done, is_load, is_store, is_control, is_faulty, has_address, has_data, sources, writes, base_of, others_of}
+use Rattle.window_model.specs.Retire.{hart_of}
+use Rattle.window_model.specs.Clear.{shares}
 use Rattle.window_model.specs.Rename.{at_once, is_call, is_stop}
 use Rattle.window_model.specs.Fetch.{instr_at, kind_at, target_of}
 use Rattle.committed_state.specs.Computed.{Bank, ComesTo, as_known, computed}
@@ -64,15 +64,20 @@ FitsState Done e = (all_issued e ≡ not (at_once e.item.kind)) × (e.resolved �
 abbrev pub goes_through : Entry → Bool
 goes_through e = not (at_once e.item.kind)
 
--- the operands were known as it issued, of a store's parts each its own
+-- the register's writer has executed, or there is none
+abbrev pub executed : List Entry → ℕ → Bool
+executed [] r = true
+executed (e ∷ before) r = if writes r e then is_done e.state else executed before r
+
+-- and so has the writer of each of these registers
+abbrev pub all_executed : List Entry → List ℕ → Bool
+all_executed before rs = list_all (executed before) rs
+
+-- the operands were there as it issued, of a store's parts each its own
 abbrev pub HasOperands : Kind → Bool → Bool → Bool → List Entry → List ℕ → Type 0
 HasOperands Store address datum issued before rs =
-    (address ≡ true → all_known before (base_of rs) ≡ true) × (datum ≡ true → all_known before (others_of rs) ≡ true)
-HasOperands _ address datum issued before rs = issued ≡ true → all_known before rs ≡ true
-
--- the store covers a byte of a load that has issued without fault
-abbrev pub shares : Entry → Entry → Bool
-shares store load = not (is_faulty load) && list_any (λ a. covers a store) (range (addr_of load.outcome) (width_of load))
+    (address ≡ true → all_executed before (base_of rs) ≡ true) × (datum ≡ true → all_executed before (others_of rs) ≡ true)
+HasOperands _ address datum issued before rs = issued ≡ true → all_executed before rs ≡ true
 
 -- how an older store stands before a load that has issued: its address is known; and its data is, or they share no byte
 abbrev pub stands_before : Entry → Entry → Bool
@@ -86,7 +91,7 @@ pub record Stands (code : Code) (s : Bank) (before : List Entry) (e : Entry) : T
   pub state : FitsState e.state e
   -- its outcome is what Issue makes of its operands, as far as it is known
   pub computed : ComesTo e.outcome (as_known e (computed s before e))
-  -- it was issued with its operands known, and a load behind stores that let it go
+  -- it was issued with its operands there, and a load behind stores that let it go
   pub operands : HasOperands e.item.kind (has_address e) (has_data e) (is_issued e) before (sources e)
   pub stores : is_issued e ≡ true → is_load e.item.kind ≡ true → list_all (stands_before e) before ≡ true
   -- nothing follows a stop or a call, and a call follows nothing
