@@ -1,14 +1,15 @@
 -- Of two runs that go on together the outcomes that may be looked at are equal.
-use Rattle.std.proofs.Common.{◌≡◌, ℕ, ◌≤◌, length, map, reverse, ap, sym, ◌∙◌, arith}
+use Rattle.std.proofs.Common.{◌≡◌, ℕ, ◌≤◌, length, map, reverse, ap, arith}
 use Rattle.std.proofs.lemmas.List.{length-reverse}
 use Rattle.window_model.specs.State.{Machine}
 use Rattle.window_model.specs.Retire.{hart_of}
 use Rattle.window_model.specs.Path.{path}
+use Rattle.window_model.proofs.Withheld.{is_protected}
 use Rattle.noninterference.specs.Alike.{without_outcome}
 use Rattle.noninterference.specs.InStep.{InStep}
 use Rattle.noninterference.specs.Laws.{TogetherAgree}
 use Rattle.noninterference.proofs.OneRun.{whole_window}
-use Rattle.noninterference.proofs.Places.{map_reverse}
+use Rattle.noninterference.proofs.Places.{reverse_alike}
 use Rattle.noninterference.proofs.SameReads.{same_window}
 
 pub together_agree : TogetherAgree
@@ -16,5 +17,5 @@ together_agree d code total x x2 aligned lt t =
     let upto : (k : ℕ) → k ≤ d.core_rob → InStep (path d.stt_model) code k (hart_of x) (hart_of x2) = λ k le. t.in_step k (omega (arith, le, lt)) in
     let w : map without_outcome x.window ≡ map without_outcome x2.window = ap (λ (m : Machine). m.window) t.alike in
     let len : length (reverse x.window) ≤ d.core_rob = (let q = length-reverse x.window in let g = t.facts.fits in omega (arith, q, g)) in
-    same_window d.stt_model code aligned x x2 d.core_rob t.facts.consistent.registers t.facts2.consistent.registers upto
-    (reverse x.window) (reverse x2.window) len (whole_window d code x t.facts) (whole_window d code x2 t.facts2) (map_reverse x.window ∙ ap reverse w ∙ sym (map_reverse x2.window))
+    same_window d.stt_model (is_protected d) code aligned x x2 d.core_rob t.facts.consistent.registers t.facts2.consistent.registers upto
+    (reverse x.window) (reverse x2.window) len (whole_window d code x t.facts) (whole_window d code x2 t.facts2) (reverse_alike x.window x2.window w)

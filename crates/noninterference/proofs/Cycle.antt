@@ -7,6 +7,7 @@ use Rattle.window_model.specs.declared.Event.{Event}
 use Rattle.window_model.specs.State.{Machine, After, then_does, nothing}
 use Rattle.window_model.specs.Fill.{fill, complete}
 use Rattle.window_model.specs.Resolve.{resolve}
+use Rattle.window_model.specs.Clear.{clear}
 use Rattle.window_model.specs.Retire.{retire, unless_ended, hart_of}
 use Rattle.window_model.specs.Issue.{issue}
 use Rattle.window_model.specs.Rename.{rename}
@@ -15,15 +16,16 @@ use Rattle.window_model.specs.Row.{Row}
 use Rattle.window_model.specs.Cycle.{before_retire, begins_cycle, cycle}
 use Rattle.window_model.specs.Committed.{Aligned}
 use Rattle.window_model.specs.Path.{path}
-use Rattle.window_model.proofs.Quiet.{Quiet, before_quiet, after_quiet, fill_quiet, complete_quiet, resolve_quiet, issue_quiet, rename_quiet, fetch_quiet}
+use Rattle.window_model.proofs.Quiet.{Quiet, before_quiet, after_quiet, fill_quiet, complete_quiet, resolve_quiet, clear_quiet, issue_quiet, rename_quiet, fetch_quiet}
 use Rattle.committed_state.proofs.Retire.{retire_commits}
 use Rattle.noninterference.specs.Alike.{Alike, TellsNothing}
 use Rattle.noninterference.specs.InStep.{InStep, InStepUpTo}
 use Rattle.noninterference.specs.Together.{OwnFacts, Together, CyclesAlike}
 use Rattle.noninterference.specs.Laws.{CycleTellsNothing}
-use Rattle.noninterference.proofs.Facts.{facts_begin, facts_fill, facts_complete, facts_resolve, facts_retire, facts_issue, facts_rename, facts_fetch}
+use Rattle.noninterference.proofs.Facts.{facts_begin, facts_fill, facts_complete, facts_resolve, facts_clear, facts_retire, facts_issue, facts_rename, facts_fetch}
 use Rattle.noninterference.proofs.Complete.{fill_tells_nothing, complete_tells_nothing}
 use Rattle.noninterference.proofs.Resolve.{resolve_tells_nothing}
+use Rattle.noninterference.proofs.Clear.{clear_tells_nothing}
 use Rattle.noninterference.proofs.Retire.{retire_tells_nothing}
 use Rattle.noninterference.proofs.Issue.{issue_tells_nothing}
 use Rattle.noninterference.proofs.RenameFetch.{rename_tells_nothing, fetch_tells_nothing}
@@ -78,10 +80,16 @@ module _ (d : Desc) (code : Code) (total : ℕ) (aligned : Aligned code) where
       let z = (complete y).machine in
       let z2 = (complete y2).machine in
       let t3 = resolve_tells_nothing d z z2 p2.alike (together_agree d code total z z2 aligned le p2) in
+      let p3 = phase (resolve d) (facts_resolve d code) (resolve_quiet d) z z2 p2 t3 in
+      let w = (resolve d z).machine in
+      let w2 = (resolve d z2).machine in
+      let still = (resolve_quiet d z).retired in
+      let t4 = clear_tells_nothing d w w2 p3.alike (together_agree d code total w w2 aligned (omega (arith, le, still)) p3) in
       let e1 = same_events (fill d (begun x)) (fill d (begun x2)) t1 in
       let e2 = same_events (complete y) (complete y2) t2 in
       let e3 = same_events (resolve d z) (resolve d z2) t3 in
-      (phase (resolve d) (facts_resolve d code) (resolve_quiet d) z z2 p2 t3, cc)
+      let e4 = same_events (clear d w) (clear d w2) t4 in
+      (phase (clear d) (facts_clear d code) (clear_quiet d) w w2 p3 t4, cc)
 
   -- ---- those after it
 
@@ -146,7 +154,7 @@ module _ (d : Desc) (code : Code) (total : ℕ) (aligned : Aligned code) where
       record { alike = b.alike; row = row_of x.cycle x2.cycle _ _ _ _ _ _ cy e1 e2 e3; together = b.together }
     where
       before_facts : (x : Machine) → OwnFacts d code x → OwnFacts d code (before x).machine
-      before_facts x f = facts_resolve d code _ (facts_complete d code _ (facts_fill d code _ (facts_begin d code x f)))
+      before_facts x f = facts_clear d code _ (facts_resolve d code _ (facts_complete d code _ (facts_fill d code _ (facts_begin d code x f))))
 
 pub cycle_tells_nothing : CycleTellsNothing
 cycle_tells_nothing d code total x x2 aligned n p le = cycle_alike d code total aligned x x2 n p le

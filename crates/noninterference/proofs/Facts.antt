@@ -1,15 +1,16 @@
 -- Each phase keeps what a run keeps for itself.
-use Rattle.std.proofs.Common.{◌≡◌, ℕ, ◌+◌, ◌≤◌, true, not, ◌&&◌, List, [], ◌∷◌, ◌++◌, length, map, None, arith, length-append}
+use Rattle.std.proofs.Common.{◌≡◌, ℕ, ◌+◌, ◌≤◌, true, not, ◌&&◌, List, [], ◌∷◌, ◌++◌, length, map, None, arith, length-append, subst, sym}
 use Rattle.std.specs.Prelude.{nat_lt, reverse}
 use Rattle.std.specs.List.{list_any}
 use Rattle.rv_types.specs.Memory.{Code, Ram}
 use Rattle.machine_desc.specs.declared.Desc.{Desc}
 use Rattle.window_model.specs.declared.Entry.{Entry}
 use Rattle.window_model.specs.declared.Item.{Item}
-use Rattle.window_model.specs.State.{Machine, opening}
+use Rattle.window_model.specs.State.{After, Machine, opening}
 use Rattle.window_model.specs.Around.{around}
 use Rattle.window_model.specs.Fill.{fill, complete, completed}
 use Rattle.window_model.specs.Resolve.{resolve}
+use Rattle.window_model.specs.Clear.{clear}
 use Rattle.window_model.specs.Retire.{retire}
 use Rattle.window_model.specs.Issue.{issue}
 use Rattle.window_model.specs.Rename.{rename, renamed, fits, fits_as, is_call}
@@ -21,6 +22,7 @@ use Rattle.window_model.proofs.Placing.{place_keep}
 use Rattle.window_model.proofs.Resolving.{resolved_goes, resolved_one}
 use Rattle.window_model.proofs.Walks.{head_drops, retire_keep, rename_keep, fetch_keep}
 use Rattle.window_model.proofs.Issuing.{issue_evolves}
+use Rattle.window_model.proofs.Withheld.{clears_none}
 use Rattle.committed_state.proofs.Complete.{consistent_fill, consistent_complete}
 use Rattle.committed_state.proofs.Resolve.{consistent_resolve}
 use Rattle.committed_state.proofs.Retire.{consistent_retire}
@@ -56,13 +58,13 @@ module _ (d : Desc) where
   retire_room : (x : Machine) → HasRoom x → HasRoom (retire d x).machine
   retire_room = retire_keep d HasRoom (head_drops Room (λ e rest h. omega arith) d) (λ x end h. h)
 
-  push_room : (w : List Entry) (i : Item) (serial : ℕ) → fits d w i ≡ true → Room (w ++ renamed serial i ∷ [])
+  push_room : (w : List Entry) (i : Item) (serial : ℕ) → fits d w i ≡ true → Room (w ++ renamed d serial i ∷ [])
   push_room w i serial f =
       let a = both (nat_lt (length w) d.core_rob && not (list_any (λ e. is_call e.item.kind) w) && fits_as i.kind d w) _ f in
       let b = both (nat_lt (length w) d.core_rob && not (list_any (λ e. is_call e.item.kind) w)) _ a.0 in
       let c = both (nat_lt (length w) d.core_rob) _ b.0 in
       let lt = below (length w) d.core_rob c.0 in
-      let n = length-append w (renamed serial i ∷ []) in
+      let n = length-append w (renamed d serial i ∷ []) in
       omega arith
 
   rename_room : (x : Machine) → HasRoom x → HasRoom (rename d x).machine
@@ -88,6 +90,9 @@ module _ (d : Desc) (code : Code) where
 
   pub facts_resolve : (x : Machine) → OwnFacts d code x → OwnFacts d code (resolve d x).machine
   facts_resolve x f = record { consistent = consistent_resolve code d x f.consistent; guarded = guarded_resolve d x f.guarded; fits = resolve_room d x f.fits }
+
+  pub facts_clear : (x : Machine) → OwnFacts d code x → OwnFacts d code (clear d x).machine
+  facts_clear x f = subst (λ (a : After). OwnFacts d code a.machine) (sym (clears_none d x)) f
 
   pub facts_retire : Aligned code → (x : Machine) → x.end ≡ None → OwnFacts d code x → OwnFacts d code (retire d x).machine
   facts_retire aligned x n f = record { consistent = consistent_retire code aligned d x f.consistent n; guarded = guarded_retire d x f.guarded; fits = retire_room d x f.fits }

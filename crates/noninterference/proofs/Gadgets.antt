@@ -10,7 +10,7 @@ use Rattle.rv_types.specs.Isa.{Hart, isa_step, start}
 use Rattle.rv_types.specs.Path.{pass_step, reads}
 use Rattle.machine_desc.specs.declared.Desc.{Desc}
 use Rattle.machine_desc.specs.declared.SttModel.{SttModel}
-use Rattle.machine_desc.specs.declared.SttModel.TheVariants.{Spectre, Futuristic}
+use Rattle.machine_desc.specs.declared.SttModel.TheVariants.{Spectre, Futuristic, Off}
 use Rattle.window_model.specs.Cycle.{trace}
 use Rattle.window_model.specs.Committed.{Aligned}
 use Rattle.window_model.specs.Path.{path}
@@ -77,26 +77,31 @@ bypass_loads : (model : SttModel) (steps : ℕ) → loads model bounds_check (si
 unfolding memory code_of decode isa_step pass_step
 bypass_loads Spectre steps = refl
 bypass_loads Futuristic steps = refl
+bypass_loads Off steps = refl
 
 store_loads : (model : SttModel) (steps : ℕ) → loads model store (six_more steps) ≡ bound
 unfolding memory code_of decode isa_step pass_step
 store_loads Spectre steps = refl
 store_loads Futuristic steps = refl
+store_loads Off steps = refl
 
 branch_loads : (model : SttModel) (steps : ℕ) → loads model branch (six_more steps) ≡ bound
 unfolding memory code_of decode isa_step pass_step
 branch_loads Spectre steps = refl
 branch_loads Futuristic steps = refl
+branch_loads Off steps = refl
 
 divisor_loads : (model : SttModel) (steps : ℕ) → loads model divisor (six_more steps) ≡ bound
 unfolding memory code_of decode isa_step pass_step
 divisor_loads Spectre steps = refl
 divisor_loads Futuristic steps = refl
+divisor_loads Off steps = refl
 
 injection_loads : (model : SttModel) (steps : ℕ) → loads model injection (six_more steps) ≡ bound
 unfolding memory code_of decode isa_step pass_step
 injection_loads Spectre steps = refl
 injection_loads Futuristic steps = refl
+injection_loads Off steps = refl
 
 -- the futuristic path ends at the fault
 fault_loads_none : (steps : ℕ) → loads Futuristic fault (six_more steps) ≡ []

@@ -40,11 +40,12 @@ abbrev begun_without : Begun → Begun
 begun_without b = record b { entry = without_outcome b.entry }
 
 -- an entry that begins, whatever its outcome
-abbrev beginning : Entry → ℕ → List Event → Begun
-beginning t n vs = record { entry = record t { state = Busy n; outcome = None }; events = vs }
+abbrev beginning : Entry → ℕ → ℕ → List Event → Begun
+beginning t cycle due vs = record { entry = record t { state = Busy due; outcome = None; issued = Some cycle }; events = vs }
 
-same_begins : (e e2 : Entry) (due due2 : ℕ) (vs vs2 : List Event) → without_outcome e ≡ without_outcome e2 → due ≡ due2 → vs ≡ vs2 → beginning (without_outcome e) due vs ≡ beginning (without_outcome e2) due2 vs2
-same_begins e e2 due due2 vs vs2 h q g = ap (λ t. beginning t due vs) h ∙ ap (λ n. beginning (without_outcome e2) n vs) q ∙ ap (beginning (without_outcome e2) due2) g
+same_begins : (e e2 : Entry) (cycle cycle2 due due2 : ℕ) (vs vs2 : List Event) → without_outcome e ≡ without_outcome e2 → cycle ≡ cycle2 → due ≡ due2 → vs ≡ vs2 → beginning (without_outcome e) cycle due vs ≡ beginning (without_outcome e2) cycle2 due2 vs2
+same_begins e e2 cycle cycle2 due due2 vs vs2 h c q g =
+    ap (λ t. beginning t cycle due vs) h ∙ ap (λ n. beginning (without_outcome e2) n due vs) c ∙ ap (λ n. beginning (without_outcome e2) cycle2 n vs) q ∙ ap (beginning (without_outcome e2) cycle2 due2) g
 
 same_waits : (e e2 : Entry) → without_outcome e ≡ without_outcome e2 → begun_without (waits e) ≡ begun_without (waits e2)
 same_waits e e2 h = ap (λ t. let b : Begun = record { entry = t; events = [] } in b) h
@@ -59,9 +60,9 @@ same_dues d now now2 [] q = refl
 same_dues d now now2 (l ∷ found) q = ap₂ (λ due dues. due ∷ dues) (same_due d now now2 l q) (same_dues d now now2 found q)
 
 same_load_as : (a : Access) (d : Desc) (now now2 : Around) (e e2 : Entry) (f f2 : Effect) (v v2 : ℕ) → without_outcome e ≡ without_outcome e2 → now.cycle ≡ now2.cycle → begun_without (load_as a d now e f v) ≡ begun_without (load_as a d now2 e2 f2 v2)
-same_load_as (Faults c) d now now2 e e2 f f2 v v2 h q = same_begins e e2 _ _ _ _ h (ap (λ n. n + 1) q) (ap (λ (t : Entry). event.LdFault t.serial ∷ []) h)
-same_load_as Forwards d now now2 e e2 f f2 v v2 h q = same_begins e e2 _ _ _ _ h (ap (λ n. n + 1) q) (ap (λ (t : Entry). event.LdForward t.serial ∷ []) h)
-same_load_as (Looks found ahead) d now now2 e e2 f f2 v v2 h q = same_begins e e2 _ _ _ _ h (ap latest (same_dues d now now2 found q)) (ap (λ (t : Entry). look_events t.serial found ahead) h)
+same_load_as (Faults c) d now now2 e e2 f f2 v v2 h q = same_begins e e2 _ _ _ _ _ _ h q (ap (λ n. n + 1) q) (ap (λ (t : Entry). event.LdFault t.serial ∷ []) h)
+same_load_as Forwards d now now2 e e2 f f2 v v2 h q = same_begins e e2 _ _ _ _ _ _ h q (ap (λ n. n + 1) q) (ap (λ (t : Entry). event.LdForward t.serial ∷ []) h)
+same_load_as (Looks found ahead) d now now2 e e2 f f2 v v2 h q = same_begins e e2 _ _ _ _ _ _ h q (ap latest (same_dues d now now2 found q)) (ap (λ (t : Entry). look_events t.serial found ahead) h)
 same_load_as Waits d now now2 e e2 f f2 v v2 h q = same_waits e e2 h
 
 -- ---- a store's parts
@@ -99,9 +100,9 @@ module _ (d : Desc) (code : Code) (x x2 : Machine) (r : Alike x x2) (place : Sam
       ∙ same_load_as (access_of d now2 b2 e2) d now now2 e e2 f f2 (value_loaded x.ram b e f.addr) (value_loaded x2.ram b2 e2 f2.addr) h cycle_same
   begin_alike Div b b2 e e2 q s h item m =
       let t = same_time d code x x2 r place b b2 s e e2 h (division_clean Div d now b e m refl) in
-      same_begins e e2 _ _ _ _ h (let c = cycle_same in cc) (let g = ap (λ (t : Entry). t.serial) h in cc)
-  begin_alike Mul b b2 e e2 q s h item m = same_begins e e2 _ _ _ _ h (ap (λ n. n + d.units_mul_latency) cycle_same) (ap (λ (t : Entry). event.Mul t.serial ∷ []) h)
-  begin_alike k b b2 e e2 q s h item m = same_begins e e2 _ _ _ _ h (ap (λ n. n + 1) cycle_same) (ap (λ (t : Entry). event.Alu t.serial ∷ []) h)
+      same_begins e e2 _ _ _ _ _ _ h cycle_same (let c = cycle_same in cc) (let g = ap (λ (t : Entry). t.serial) h in cc)
+  begin_alike Mul b b2 e e2 q s h item m = same_begins e e2 _ _ _ _ _ _ h cycle_same (ap (λ n. n + d.units_mul_latency) cycle_same) (ap (λ (t : Entry). event.Mul t.serial ∷ []) h)
+  begin_alike k b b2 e e2 q s h item m = same_begins e e2 _ _ _ _ _ _ h cycle_same (ap (λ n. n + 1) cycle_same) (ap (λ (t : Entry). event.Alu t.serial ∷ []) h)
 
   entry_if : (g g2 : Bool) (e e2 : Entry) (o o2 : Begun) → g ≡ g2 → without_outcome e ≡ without_outcome e2 → (g ≡ true → begun_without o ≡ begun_without o2) → begun_without (if g then o else waits e) ≡ begun_without (if g2 then o2 else waits e2)
   entry_if true true e e2 o o2 q h p = p refl

@@ -49,22 +49,23 @@ by_tests true a false false false c c2 q h = ap (λ c. a && not c) (h refl refl)
 by_tests true a false true false c c2 q h = absurd (cc)
 by_tests true a false false true c c2 q h = absurd (cc)
 
-module _ (model : SttModel) (bytes : List ℕ) where
-  same_let : (b b2 : List Entry) (e e2 : Entry) → SameOutcomes model b b2 → SameEntry model b e e2 → (not (is_store e.item.kind) || lets model bytes b e) ≡ (not (is_store e2.item.kind) || lets model bytes b2 e2)
+-- for a load that passes stores of unknown address, or for one that doesn't
+module _ (model : SttModel) (passes : Bool) (bytes : List ℕ) where
+  same_let : (b b2 : List Entry) (e e2 : Entry) → SameOutcomes model b b2 → SameEntry model b e e2 → (not (is_store e.item.kind) || lets model passes bytes b e) ≡ (not (is_store e2.item.kind) || lets model passes bytes b2 e2)
   same_let b b2 e e2 s h =
       let tainted2 = address_tainted model b2 e2 in
       let covered2 = list_any (λ a. covers a e2) bytes in
-      by_tests (is_store e.item.kind) (has_address e) (has_data e) (address_tainted model b e) tainted2 (list_any (λ a. covers a e) bytes) covered2
+      by_tests (is_store e.item.kind) (has_address e || passes) (has_data e) (address_tainted model b e) tainted2 (list_any (λ a. covers a e) bytes) covered2
       (same_address model b b2 e e2 s h.but_outcome)
       (λ k n. any_same_list _ _ bytes bytes refl (λ a. same_covers model b e e2 a h (λ k. n)))
-      ∙ ap (λ (u : Entry). not (is_store u.item.kind) || (has_address u && (has_data u || not tainted2 && not covered2))) h.but_outcome
+      ∙ ap (λ (u : Entry). not (is_store u.item.kind) || ((has_address u || passes) && (has_data u || not tainted2 && not covered2))) h.but_outcome
 
   -- the same loads go behind these stores
-  pub stores_let_alike : (b b2 : List Entry) → SameOutcomes model b b2 → stores_let model bytes b ≡ stores_let model bytes b2
+  pub stores_let_alike : (b b2 : List Entry) → SameOutcomes model b b2 → stores_let model passes bytes b ≡ stores_let model passes bytes b2
   stores_let_alike [] [] s = refl
   stores_let_alike (e ∷ b) (e2 ∷ b2) s =
       let one = same_let b b2 e e2 s.1 s.0 in
       let rest = stores_let_alike b b2 s.1 in
-      ap (λ l. l && stores_let model bytes b) one ∙ ap (λ r. (not (is_store e2.item.kind) || lets model bytes b2 e2) && r) rest
+      ap (λ l. l && stores_let model passes bytes b) one ∙ ap (λ r. (not (is_store e2.item.kind) || lets model passes bytes b2 e2) && r) rest
   stores_let_alike [] (e2 ∷ b2) s = absurd s
   stores_let_alike (e ∷ b) [] s = absurd s

@@ -22,6 +22,7 @@ pub mod Letting
 pub mod May
 pub mod Access
 pub mod Issue
+pub mod Clear
 pub mod Turns
 pub mod Retire
 pub mod Facts

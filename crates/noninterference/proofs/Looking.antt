@@ -2,9 +2,9 @@
 use Rattle.std.proofs.Common.{Option, map, ◌≡◌, ℕ, Bool, true, false, ◌&&◌, List, [], ◌∷◌, refl, ap, sym, ◌∙◌, arith}
 use Rattle.std.specs.List.{list_any}
 use Rattle.rv_types.specs.declared.Kind.{Kind}
-use Rattle.rv_types.specs.declared.Kind.TheVariants.{Load, Store}
+use Rattle.rv_types.specs.declared.Kind.TheVariants.{Load, Store, Branch, Jalr}
 use Rattle.machine_desc.specs.declared.SttModel.{SttModel}
-use Rattle.machine_desc.specs.declared.SttModel.TheVariants.{Spectre, Futuristic}
+use Rattle.machine_desc.specs.declared.SttModel.TheVariants.{Spectre, Futuristic, Off}
 use Rattle.window_model.specs.declared.Entry.{Entry}
 use Rattle.window_model.specs.declared.Outcome.{Outcome}
 use Rattle.window_model.specs.Order.{writes, sources, base_of, is_load, fault_of}
@@ -63,18 +63,22 @@ faults_alike Load model before e e2 o h = ap fault_of (o.1 h)
 faults_alike Store model before e e2 o h = (o.0 (untainted_base model before e h)).1
 faults_alike _ model before e e2 o h = ap fault_of (o (untainted_sources model before e h))
 
-safe_by : (k : Kind) (e e2 : Entry) → e.state ≡ e2.state → e.resolved ≡ e2.resolved → fault_of e.outcome ≡ fault_of e2.outcome → safe_as k e ≡ safe_as k e2
-safe_by Load e e2 st rs f = cc
-safe_by _ e e2 st rs f = cc
+safe_by : (k : Kind) (e e2 : Entry) → e.state ≡ e2.state → e.resolved ≡ e2.resolved → e.cleared ≡ e2.cleared → fault_of e.outcome ≡ fault_of e2.outcome → safe_as k e ≡ safe_as k e2
+safe_by Load e e2 st rs cl f = cc
+safe_by Store e e2 st rs cl f = cc
+safe_by Branch e e2 st rs cl f = cc
+safe_by Jalr e e2 st rs cl f = cc
+safe_by _ e e2 st rs cl f = refl
 
 same_safe : (model : SttModel) (before : List Entry) (e e2 : Entry) → SameEntry model before e e2 → visible model before ≡ true → safe e ≡ safe e2
 same_safe model before e e2 s h =
     ap (λ k. safe_as k e) (same_kind e e2 s.but_outcome)
-    ∙ safe_by e2.item.kind e e2 (ap (λ (t : Entry). t.state) s.but_outcome) (ap (λ (t : Entry). t.resolved) s.but_outcome) (faults_alike e.item.kind model before e e2 s.outcomes h)
+    ∙ safe_by e2.item.kind e e2 (ap (λ (t : Entry). t.state) s.but_outcome) (ap (λ (t : Entry). t.resolved) s.but_outcome) (ap (λ (t : Entry). t.cleared) s.but_outcome) (faults_alike e.item.kind model before e e2 s.outcomes h)
 
 same_passes : (model : SttModel) (before : List Entry) (e e2 : Entry) → SameEntry model before e e2 → visible model before ≡ true → passes model e ≡ passes model e2
 same_passes Spectre before e e2 s h = ap settled s.but_outcome
 same_passes Futuristic before e e2 s h = same_safe Futuristic before e e2 s h
+same_passes Off before e e2 s h = refl
 
 and_same : (a a2 b b2 : Bool) → b ≡ b2 → (b ≡ true → a ≡ a2) → (a && b) ≡ (a2 && b2)
 and_same true true b b2 p h = p

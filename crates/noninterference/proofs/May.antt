@@ -11,8 +11,10 @@ use Rattle.machine_desc.specs.declared.Desc.{Desc}
 use Rattle.window_model.specs.declared.Entry.{Entry}
 use Rattle.window_model.specs.State.{Machine}
 use Rattle.window_model.specs.Around.{Around, around, is_free}
-use Rattle.window_model.specs.Issue.{Port, AddressPort, DataPort, address_of, asking, bytes_of, goes_behind, is_granted, is_whole, may_at, may_issue, may_issue_as, part_may, port_of, ports, ready_part, same_port, stores_done, stores_let}
-use Rattle.window_model.specs.Order.{all_known, base_of, has_address, has_data, is_store, is_waiting, others_of, ready, sources}
+use Rattle.window_model.specs.Issue.{Port, AddressPort, DataPort, address_of, asking, bytes_of, goes_behind, is_granted, is_whole, may_at, may_issue, may_issue_as, part_may, passes_stores, port_of, ports, ready_part, same_port, stores_done, stores_let}
+use Rattle.window_model.specs.Order.{base_of, has_address, has_data, is_store, is_waiting, others_of, sources}
+use Rattle.window_model.specs.Dependence.{passing, waits_for_stores}
+use Rattle.window_model.specs.Ready.{all_known, ready}
 use Rattle.window_model.specs.Retire.{width_of}
 use Rattle.window_model.specs.Shape.{SameShape}
 use Rattle.window_model.specs.Taint.{address_tainted, any_tainted}
@@ -25,7 +27,8 @@ use Rattle.noninterference.proofs.Letting.{stores_let_alike}
 use Rattle.noninterference.proofs.Looking.{any_same_list, same_kind, same_sources, same_tainted}
 use Rattle.noninterference.proofs.Operand.{same_address, same_all_known, same_stores_done}
 
-and_tests : (a a2 c c2 : Bool) → a ≡ a2 → (a ≡ true → c ≡ c2) → (a && c) ≡ (a2 && c2)
+-- the second of two tests is asked where the first holds
+pub and_tests : (a a2 c c2 : Bool) → a ≡ a2 → (a ≡ true → c ≡ c2) → (a && c) ≡ (a2 && c2)
 and_tests true true c c2 p h = h refl
 and_tests false false c c2 p h = refl
 and_tests true false c c2 p h = absurd (cc)
@@ -53,12 +56,22 @@ module _ (d : Desc) (x x2 : Machine) (r : Alike x x2) (place : SameShape x.ram x
         ∙ ap (λ w. unless_fault (load_fault x.ram a2 w) (range a2 w)) w
         ∙ ap (λ c. unless_fault c (range a2 (width_of e2))) (sym (same_fault load_misaligned load_outside x.ram x2.ram a2 (width_of e2) place))
 
+    -- whether a load passes stores, its bit tells
+    passes_alike : passes_stores d now e ≡ passes_stores d now2 e2
+    passes_alike =
+        ap (λ (m : Machine). passing d && not (waits_for_stores d m.dependence e.item.pc)) r ∙ ap (λ (t : Entry). passes_stores d now2 t) h
+
     -- what such a load asks of the older stores
     behind_alike : address_tainted d.stt_model b e ≡ false → goes_behind d now b e ≡ goes_behind d now2 b2 e2
     behind_alike t =
+        let passes = passes_stores d now e in
+        let bytes2 = bytes_of now2 b2 e2 in
         let done = same_stores_done d.stt_model b b2 s in
-        let let_go = stores_let_alike d.stt_model (bytes_of now b e) b b2 s ∙ ap (λ bytes. stores_let d.stt_model bytes b2) (bytes_alike t) in
-        ap (λ z. if d.version == 1 then z else stores_let d.stt_model (bytes_of now b e) b) done ∙ ap (λ z. if d.version == 1 then stores_done b2 else z) let_go
+        let let_go =
+        stores_let_alike d.stt_model passes (bytes_of now b e) b b2 s
+        ∙ ap (λ bytes. stores_let d.stt_model passes bytes b2) (bytes_alike t)
+        ∙ ap (λ p. stores_let d.stt_model p bytes2 b2) passes_alike in
+        ap (λ z. if d.version == 1 then z else stores_let d.stt_model passes (bytes_of now b e) b) done ∙ ap (λ z. if d.version == 1 then stores_done b2 else z) let_go
 
     kind_alike : (k : Kind) → may_issue_as k d now b e ≡ may_issue_as k d now2 b2 e2
     kind_alike Load =
@@ -73,17 +86,17 @@ module _ (d : Desc) (x x2 : Machine) (r : Alike x x2) (place : SameShape x.ram x
     may_alike : may_issue d now b e ≡ may_issue d now2 b2 e2
     may_alike =
         let w = ap (λ (t : Entry). is_waiting t.state) h in
-        let known = same_all_known d.stt_model b b2 (sources e) (sources e2) s (same_sources e e2 h) in
+        let known = same_all_known d b b2 (sources e) (sources e2) s (same_sources e e2 h) in
         let kind = kind_alike e.item.kind ∙ ap (λ k. may_issue_as k d now2 b2 e2) (same_kind e e2 h) in
         cc
 
     -- a store's part
     ready_alike : (own own2 : List ℕ) → own ≡ own2 → ready_part d own b e ≡ ready_part d own2 b2 e2
     ready_alike own own2 q =
-        let known = same_all_known d.stt_model b b2 (sources e) (sources e2) s (same_sources e e2 h) in
+        let known = same_all_known d b b2 (sources e) (sources e2) s (same_sources e e2 h) in
         let together = ap₂ (λ k w. k && w) known (ap is_whole h) in
-        let part = same_all_known d.stt_model b b2 own own2 s q in
-        ap (λ z. if d.version == 1 then z else all_known b own) together ∙ ap (λ z. if d.version == 1 then ready b2 e2 && is_whole e2 else z) part
+        let part = same_all_known d b b2 own own2 s q in
+        ap (λ z. if d.version == 1 then z else all_known d b own) together ∙ ap (λ z. if d.version == 1 then ready d b2 e2 && is_whole e2 else z) part
 
     part_alike : (port : Port) → part_may port d b e ≡ part_may port d b2 e2
     part_alike AddressPort = ap₂ (λ a k. not a && k) (ap has_address h) (ready_alike _ _ (ap base_of (same_sources e e2 h)))

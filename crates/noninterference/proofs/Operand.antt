@@ -5,15 +5,17 @@ use Rattle.std.specs.List.{list_all, find}
 use Rattle.rv_types.specs.Isa.{reg}
 use Rattle.rv_types.specs.declared.Kind.{Kind}
 use Rattle.rv_types.specs.declared.Kind.TheVariants.{Load, Store}
+use Rattle.machine_desc.specs.declared.Desc.{Desc}
 use Rattle.machine_desc.specs.declared.SttModel.{SttModel}
 use Rattle.window_model.specs.declared.Entry.{Entry}
-use Rattle.window_model.specs.Order.{writes, base_of, is_load, is_store, is_done, is_known, all_known, value_of, operand, from_writer}
+use Rattle.window_model.specs.Order.{writes, base_of, is_load, is_store, is_done, value_of, operand, from_writer}
+use Rattle.window_model.specs.Ready.{all_known, gives, holds, is_known}
 use Rattle.window_model.specs.Taint.{visible, tainted, any_tainted, address_tainted}
 use Rattle.window_model.specs.Issue.{stores_done}
 use Rattle.window_model.proofs.Taints.{tainted_cons}
 use Rattle.noninterference.specs.Alike.{without_outcome}
 use Rattle.noninterference.specs.Outcomes.{SameOutcome, SameOutcomes}
-use Rattle.noninterference.proofs.Looking.{same_tainted, same_writes, same_sources, any_same_list}
+use Rattle.noninterference.proofs.Looking.{same_tainted, same_visible, same_writes, same_sources, any_same_list}
 
 seen : (v a : Bool) → (not v || a) ≡ false → v ≡ true
 seen true a h = refl
@@ -44,23 +46,28 @@ same_operand model regs (e ∷ before) [] r s h = absurd s
 
 -- ---- operands that are known
 
-same_known : (model : SttModel) (before before2 : List Entry) (r : ℕ) → SameOutcomes model before before2 → is_known before r ≡ is_known before2 r
-same_known model [] [] r s = refl
-same_known model (e ∷ before) (e2 ∷ before2) r s =
+-- which loads are visible is seen alike, so it is which results are held back
+same_gives : (d : Desc) (before before2 : List Entry) (e e2 : Entry) → SameOutcomes d.stt_model before before2 → without_outcome e ≡ without_outcome e2 → gives d before e ≡ gives d before2 e2
+same_gives d before before2 e e2 s h =
+    ap (λ v. not (holds d.stt_defence && is_load e.item.kind && not v) && is_done e.state) (same_visible d.stt_model before before2 s) ∙ ap (gives d before2) h
+
+same_known : (d : Desc) (before before2 : List Entry) (r : ℕ) → SameOutcomes d.stt_model before before2 → is_known d before r ≡ is_known d before2 r
+same_known d [] [] r s = refl
+same_known d (e ∷ before) (e2 ∷ before2) r s =
     let w = same_writes r e e2 s.0.but_outcome in
-    let d = ap (λ (t : Entry). is_done t.state) s.0.but_outcome in
-    let more = same_known model before before2 r s.1 in
-    ap (λ k. if writes r e then is_done e.state else k) more ∙ ap (λ k. if writes r e then k else is_known before2 r) d ∙ ap (λ w. if w then is_done e2.state else is_known before2 r) w
-same_known model [] (e2 ∷ before2) r s = absurd s
-same_known model (e ∷ before) [] r s = absurd s
+    let g = same_gives d before before2 e e2 s.1 s.0.but_outcome in
+    let more = same_known d before before2 r s.1 in
+    ap (λ k. if writes r e then gives d before e else k) more ∙ ap (λ k. if writes r e then k else is_known d before2 r) g ∙ ap (λ w. if w then gives d before2 e2 else is_known d before2 r) w
+same_known d [] (e2 ∷ before2) r s = absurd s
+same_known d (e ∷ before) [] r s = absurd s
 
 pub all_same_list : (f g : ℕ → Bool) (rs : List ℕ) → ((r : ℕ) → f r ≡ g r) → list_all f rs ≡ list_all g rs
 all_same_list f g [] h = refl
 all_same_list f g (r ∷ rs) h = ap (λ b. b && list_all f rs) (h r) ∙ ap (λ b. g r && b) (all_same_list f g rs h)
 
 -- the same registers are known, all or not all
-pub same_all_known : (model : SttModel) (before before2 : List Entry) (rs rs2 : List ℕ) → SameOutcomes model before before2 → rs ≡ rs2 → all_known before rs ≡ all_known before2 rs2
-same_all_known model before before2 rs rs2 s q = all_same_list _ _ rs (λ r. same_known model before before2 r s) ∙ ap (all_known before2) q
+pub same_all_known : (d : Desc) (before before2 : List Entry) (rs rs2 : List ℕ) → SameOutcomes d.stt_model before before2 → rs ≡ rs2 → all_known d before rs ≡ all_known d before2 rs2
+same_all_known d before before2 rs rs2 s q = all_same_list _ _ rs (λ r. same_known d before before2 r s) ∙ ap (all_known d before2) q
 
 -- the same stores are Done
 pub same_stores_done : (model : SttModel) (before before2 : List Entry) → SameOutcomes model before before2 → stores_done before ≡ stores_done before2

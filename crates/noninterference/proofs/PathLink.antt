@@ -4,7 +4,7 @@ use Rattle.std.specs.List.{list_all}
 use Rattle.rv_types.specs.Memory.{Code}
 use Rattle.machine_desc.specs.declared.SttModel.{SttModel}
 use Rattle.window_model.specs.declared.Entry.{Entry}
-use Rattle.window_model.specs.Taint.{passes, visible}
+use Rattle.window_model.specs.Taint.{passes, protects, visible}
 use Rattle.window_model.specs.Rename.{at_once}
 use Rattle.window_model.specs.Along.{Behind}
 use Rattle.window_model.specs.Committed.{Aligned}
@@ -18,7 +18,7 @@ use Rattle.noninterference.proofs.OneRun.{Linked, reaches}
 use Rattle.noninterference.proofs.Faults.{hart}
 use Rattle.noninterference.proofs.PathStep.{passed_steps}
 
-module _ (model : SttModel) (code : Code) (aligned : Aligned code) where
+module _ (model : SttModel) (protected : protects model ≡ true) (code : Code) (aligned : Aligned code) where
   -- what comes after visible entries that all go through is on the path
   pub leads_to : (s : Bank) → length s.regs ≡ 32 → (pc : ℕ) (before : List Entry) (n : ℕ) → Behind (Stands code s) before → Linked pc before → list_all goes_through before ≡ true → visible model before ≡ true → reaches pc before ≡ Some n →
       LeadsTo (path model code) (hart pc s) (length before) (hart n (bank s before))
@@ -28,5 +28,5 @@ module _ (model : SttModel) (code : Code) (aligned : Aligned code) where
       let through = b.0.through in (
         hart e.item.pc (bank s before),
         leads_to s m pc before e.item.pc b.1 l.1 through vs.1 l.0,
-        passed_steps code aligned (bank s before) e n b.0.item b.0.state b.0.parts (replayed_behind code s m (e ∷ before) b).0 (not_true (at_once e.item.kind) (both (goes_through e) (list_all goes_through before) t).0) r model vs.0,
+        passed_steps code aligned (bank s before) e n b.0.item b.0.state b.0.parts (replayed_behind code s m (e ∷ before) b).0 (not_true (at_once e.item.kind) (both (goes_through e) (list_all goes_through before) t).0) r model protected vs.0,
       )

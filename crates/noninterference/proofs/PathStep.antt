@@ -11,7 +11,7 @@ use Rattle.rv_types.specs.declared.Instr.{Instr}
 use Rattle.rv_types.specs.declared.Kind.{Kind}
 use Rattle.rv_types.specs.declared.Kind.TheVariants.{Load, Store, Branch, Jalr, Call, Stop}
 use Rattle.machine_desc.specs.declared.SttModel.{SttModel}
-use Rattle.machine_desc.specs.declared.SttModel.TheVariants.{Spectre, Futuristic}
+use Rattle.machine_desc.specs.declared.SttModel.TheVariants.{Spectre, Futuristic, Off}
 use Rattle.window_model.specs.declared.Entry.{Entry}
 use Rattle.window_model.specs.declared.Item.{Item}
 use Rattle.window_model.specs.declared.Outcome.{Outcome}
@@ -19,7 +19,7 @@ use Rattle.window_model.specs.declared.Progress.{Progress}
 use Rattle.window_model.specs.declared.Progress.TheVariants.{Waiting, Busy, Done}
 use Rattle.window_model.specs.Order.{fault_of, has_address, has_data, is_control, is_done, is_faulty, sources}
 use Rattle.window_model.specs.Resolve.{next_of}
-use Rattle.window_model.specs.Taint.{passes, safe_as, settled_as}
+use Rattle.window_model.specs.Taint.{passes, protects, safe_as, settled_as}
 use Rattle.window_model.specs.Rename.{at_once}
 use Rattle.window_model.specs.Committed.{Aligned}
 use Rattle.window_model.specs.Path.{path}
@@ -131,24 +131,26 @@ module _ (code : Code) (aligned : Aligned code) (s : Bank) (e : Entry) (n : ℕ)
       let h = no_fault s e.item.pc e.item i (ap at_once (sym word_there.3) ∙ g) (ap is_control (sym word_there.3) ∙ c) (ap is_access (sym word_there.3) ∙ k) (aligned e.item.pc word_there.0 word_there.1) in
       of_isa model (ap (λ (o : Outcome). o.fault) outcome_is ∙ h) (predicted_next c)
 
-  abbrev passes_as : SttModel → Kind → Bool
-  passes_as Spectre k = settled_as k e.resolved
-  passes_as Futuristic k = safe_as k e
+  by_settled : (k : Kind) → e.item.kind ≡ k → settled_as k e.resolved e.cleared ≡ true → Steps Spectre
+  by_settled Load q v = access_goes (ap is_control q) (ap is_access q)
+  by_settled Store q v = access_goes (ap is_control q) (ap is_access q)
+  by_settled Branch q v = resolved_goes Spectre v
+  by_settled Jalr q v = resolved_goes Spectre v
+  by_settled Call q v = absurd (let t = ap at_once q in cc)
+  by_settled (Stop c) q v = absurd (let t = ap at_once q in cc)
+  by_settled _ q v = plain_goes Spectre (ap is_control q) (ap is_access q)
 
-  by_kind : (model : SttModel) (k : Kind) → e.item.kind ≡ k → passes_as model k ≡ true → Steps model
-  by_kind Spectre Load q v = access_goes (ap is_control q) (ap is_access q)
-  by_kind Spectre Store q v = access_goes (ap is_control q) (ap is_access q)
-  by_kind Futuristic Load q v = safe_goes Futuristic (ap is_control q) v
-  by_kind Futuristic Store q v = safe_goes Futuristic (ap is_control q) v
-  by_kind Spectre Branch q v = resolved_goes Spectre v
-  by_kind Spectre Jalr q v = resolved_goes Spectre v
-  by_kind Futuristic Branch q v = resolved_goes Futuristic (both e.resolved _ v).0
-  by_kind Futuristic Jalr q v = resolved_goes Futuristic (both e.resolved _ v).0
-  by_kind model Call q v = absurd (let t = ap at_once q in cc)
-  by_kind model (Stop c) q v = absurd (let t = ap at_once q in cc)
-  by_kind model _ q v = plain_goes model (ap is_control q) (ap is_access q)
+  by_safe : (k : Kind) → e.item.kind ≡ k → safe_as k e ≡ true → Steps Futuristic
+  by_safe Load q v = safe_goes Futuristic (ap is_control q) v
+  by_safe Store q v = safe_goes Futuristic (ap is_control q) (both (is_done e.state && not (is_faulty e)) _ v).0
+  by_safe Branch q v = resolved_goes Futuristic (both e.resolved _ v).0
+  by_safe Jalr q v = resolved_goes Futuristic (both e.resolved _ v).0
+  by_safe Call q v = absurd (let t = ap at_once q in cc)
+  by_safe (Stop c) q v = absurd (let t = ap at_once q in cc)
+  by_safe _ q v = plain_goes Futuristic (ap is_control q) (ap is_access q)
 
-  -- an entry that is passed is a step of the path
-  pub passed_steps : (model : SttModel) → passes model e ≡ true → path model code (hart e.item.pc s) ≡ Goes (hart n (bank_after e s)) []
-  passed_steps Spectre v = by_kind Spectre e.item.kind refl v
-  passed_steps Futuristic v = by_kind Futuristic e.item.kind refl v
+  -- an entry that a model passes is a step of its path, where it protects
+  pub passed_steps : (model : SttModel) → protects model ≡ true → passes model e ≡ true → path model code (hart e.item.pc s) ≡ Goes (hart n (bank_after e s)) []
+  passed_steps Spectre p v = by_settled e.item.kind refl v
+  passed_steps Futuristic p v = by_safe e.item.kind refl v
+  passed_steps Off p v = absurd (cc)

@@ -50,7 +50,7 @@ same_fits d w i =
 
 renamed_shown : (d : Desc) (i : Item) (rest : List Item) (x : Machine) → shown (rename_one d i rest x).machine ≡ (rename_one d i rest (shown x)).machine
 renamed_shown d i rest x =
-    ap (λ w. let m : Machine = record x { window = w; ram = record (x.ram) { bytes = [] }; queue = rest; next_serial = x.next_serial + 1 } in m) (map-append without_outcome x.window (renamed x.next_serial i ∷ []))
+    ap (λ w. let m : Machine = record x { window = w; ram = record (x.ram) { bytes = [] }; queue = rest; next_serial = x.next_serial + 1 } in m) (map-append without_outcome x.window (renamed d x.next_serial i ∷ []))
 
 rename_if : (d : Desc) (more : Machine → After) → Commutes more → (b b2 : Bool) (i : Item) (rest : List Item) (x : Machine) → b ≡ b2 →
     shown_after (if b then then_does (rename_one d i rest x) more else nothing x) ≡ (if b2 then then_does (rename_one d i rest (shown x)) more else nothing (shown x))

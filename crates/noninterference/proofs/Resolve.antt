@@ -1,7 +1,6 @@
 -- Resolve looks at untainted operands alone.
-use Rattle.std.proofs.Common.{◌≡◌, ℕ, ◌+◌, Bool, true, false, not, ◌&&◌, List, [], ◌∷◌, ◌++◌, Option, Some, None, refl, ap, sym, ◌∙◌, length}
+use Rattle.std.proofs.Common.{◌≡◌, ℕ, ◌+◌, Bool, true, false, not, ◌&&◌, List, [], ◌∷◌, ◌++◌, Option, Some, None, refl, ap, ◌∙◌, length}
 use Rattle.std.specs.Prelude.{map, reverse, if◌then◌else◌}
-use Rattle.std.proofs.lemmas.List.{map-append}
 use Rattle.rv_types.specs.declared.Kind.{Kind}
 use Rattle.rv_types.specs.declared.Kind.TheVariants.{Load, Store}
 use Rattle.machine_desc.specs.declared.Desc.{Desc}
@@ -18,7 +17,7 @@ use Rattle.window_model.proofs.Places.{found}
 use Rattle.noninterference.specs.Alike.{Alike, shown, shown_after, without_outcome}
 use Rattle.noninterference.specs.Outcomes.{SameOutcome}
 use Rattle.noninterference.specs.Laws.{ResolveTellsNothing}
-use Rattle.noninterference.proofs.Places.{SamePlaces, SeenAlike, first_same, map_reverse, same_length}
+use Rattle.noninterference.proofs.Places.{SamePlaces, SeenAlike, first_same, left_over, same_length}
 use Rattle.noninterference.proofs.Looking.{same_any, same_entry, same_rest, same_kind}
 
 -- ---- which entry
@@ -39,18 +38,10 @@ same_outcome _ model b e e2 o k t = o t
 
 -- ---- what it does
 
--- the windows that are left
-left_over : (b b2 : List Entry) (e : Entry) (y y2 : List Entry) → map without_outcome b ≡ map without_outcome b2 → map without_outcome y ≡ map without_outcome y2 → map without_outcome (reverse b ++ e ∷ y) ≡ map without_outcome (reverse b2 ++ e ∷ y2)
-left_over b b2 e y y2 h l =
-    map-append without_outcome (reverse b) (e ∷ y)
-    ∙ ap (λ t. t ++ without_outcome e ∷ map without_outcome y) (map_reverse b ∙ ap reverse h ∙ sym (map_reverse b2))
-    ∙ ap (λ t. map without_outcome (reverse b2) ++ without_outcome e ∷ t) l
-    ∙ sym (map-append without_outcome (reverse b2) (e ∷ y2))
-
 squash_tells : (d : Desc) (b b2 : List Entry) (e : Entry) (y y2 : List Entry) (m m2 : Machine) → map without_outcome b ≡ map without_outcome b2 → map without_outcome y ≡ map without_outcome y2 → shown m ≡ shown m2 →
     shown_after (squash d (record { before = b; entry = e; younger = y }) m) ≡ shown_after (squash d (record { before = b2; entry = e; younger = y2 }) m2)
 squash_tells d b b2 e y y2 m m2 h l q =
-    let w = left_over b b2 (record e { resolved = true }) [] [] h refl in
+    let w = left_over b b2 (record e { resolved = true }) (record e { resolved = true }) [] [] h refl refl in
     let n = same_length y y2 l in
     let G : Machine → List Entry → ℕ → After = λ m w n. record {
       machine = record m { window = w; queue = []; fetch_pc = if is_faulty e then None else Some (next_of e.outcome); mark = true_mark d e; divider = freed_from (e.serial + 1) m.divider };
@@ -63,7 +54,7 @@ squash_tells d b b2 e y y2 m m2 h l q =
 keep_tells : (b b2 : List Entry) (e : Entry) (y y2 : List Entry) (m m2 : Machine) → map without_outcome b ≡ map without_outcome b2 → map without_outcome y ≡ map without_outcome y2 → shown m ≡ shown m2 →
     shown_after (keep (record { before = b; entry = e; younger = y }) m) ≡ shown_after (keep (record { before = b2; entry = e; younger = y2 }) m2)
 keep_tells b b2 e y y2 m m2 h l q =
-    let w = left_over b b2 (record e { resolved = true }) y y2 h l in
+    let w = left_over b b2 (record e { resolved = true }) (record e { resolved = true }) y y2 h refl l in
     let G : Machine → List Entry → After = λ m w. record { machine = record m { window = w }; events = [] } in
     ap (λ m. G m (map without_outcome (reverse b ++ record e { resolved = true } ∷ y))) q ∙ ap (G (shown m2)) w
 

@@ -7,7 +7,7 @@ use Rattle.rv_types.specs.declared.Cause.{Cause}
 use Rattle.rv_types.specs.declared.End.{End}
 use Rattle.rv_types.specs.declared.End.TheVariants.{Trap}
 use Rattle.machine_desc.specs.declared.Desc.{Desc}
-use Rattle.window_model.specs.Retire.{Retired, retire, turns, turn, head_turn, head_leaves, then_retires, stays, unless_ended, hart_of, may_leave, trap_of}
+use Rattle.window_model.specs.Retire.{Retired, retire, turns, turn, head_turn, head_leaves, then_retires, stays, store_waits, unless_ended, hart_of, may_leave, trap_of}
 use Rattle.window_model.specs.declared.Entry.{Entry}
 use Rattle.window_model.specs.State.{Machine}
 use Rattle.window_model.specs.Order.{is_load, is_store}
@@ -16,6 +16,7 @@ use Rattle.window_model.specs.Committed.{Aligned}
 use Rattle.window_model.specs.Path.{path}
 use Rattle.window_model.proofs.Booleans.{some_of}
 use Rattle.window_model.proofs.Calls.{call_does}
+use Rattle.window_model.proofs.Withheld.{is_protected}
 use Rattle.committed_state.specs.Consistent.{Holds, Stands, bank_in}
 use Rattle.committed_state.proofs.Turn.{head_leaves_so}
 use Rattle.committed_state.proofs.Ends.{head_calls}
@@ -40,7 +41,7 @@ module _ (d : Desc) (code : Code) (aligned : Aligned code) (total : ℕ) where
   -- both heads are one entry
   head_same : (x x2 : Machine) (e e2 : Entry) → InStepUpTo d.stt_model code total x x2 → 1 + x.retired ≤ total → length x.regs ≡ 32 → length x2.regs ≡ 32 → Stands code (bank_in (hart_of x)) [] e → Stands code (bank_in (hart_of x2)) [] e2 → x.pc ≡ e.item.pc → x2.pc ≡ e2.item.pc → without_outcome e ≡ without_outcome e2 → e ≡ e2
   head_same x x2 e e2 a lt n n2 st st2 pc pc2 h =
-      let s = same_window d.stt_model code aligned x x2 1 n n2 (λ k le. a k (omega (arith, le, lt))) (e ∷ []) (e2 ∷ []) (omega arith) (head_alone code d.stt_model x e st pc) (head_alone code d.stt_model x2 e2 st2 pc2) (ap (λ t. t ∷ []) h) in
+      let s = same_window d.stt_model (is_protected d) code aligned x x2 1 n n2 (λ k le. a k (omega (arith, le, lt))) (e ∷ []) (e2 ∷ []) (omega arith) (head_alone code d.stt_model x e st pc) (head_alone code d.stt_model x2 e2 st2 pc2) (ap (λ t. t ∷ []) h) in
       let u = untainted_sources d.stt_model [] e refl in
       same_entry e e2 h (known_outcome e.item.kind d.stt_model [] e e2 s.0.outcomes (off (is_load e.item.kind) _ _ refl u))
     where
@@ -75,7 +76,7 @@ module _ (d : Desc) (code : Code) (aligned : Aligned code) (total : ℕ) where
       R (turn d stored o e rest x (turns d n)) (turn d stored o e rest2 x2 (turns d n))
   by_trap (Some c) n stored x x2 e rest rest2 t ne h h2 may w le r a m =
       record { alike = ap (λ (m : Machine). let u : Machine = record m { end = Some (Trap c e.item.pc) } in u) r; events = refl; piece = refl; in_step = λ z. absurd (cc) }
-  by_trap None n stored x x2 e rest rest2 t ne h h2 may w le r a m = waits_or (stored && is_store e.item.kind) (by_call (is_call e.item.kind) n _ x x2 e rest rest2 refl ne h h2 may t w le r a (m (stored || is_store e.item.kind)))
+  by_trap None n stored x x2 e rest rest2 t ne h h2 may w le r a m = waits_or (store_waits stored e) (by_call (is_call e.item.kind) n _ x x2 e rest rest2 refl ne h h2 may t w le r a (m (stored || is_store e.item.kind)))
     where
       waits_or : (b : Bool) {s s2 : Retired} → R s s2 → R (if b then stays x else s) (if b then stays x2 else s2)
       waits_or true h = stays_alike d code total x x2 r a

@@ -16,7 +16,7 @@ use Rattle.window_model.specs.declared.Progress.TheVariants.{Waiting, Busy, Done
 use Rattle.window_model.specs.State.{Machine}
 use Rattle.window_model.specs.Order.{has_address, has_data, is_load}
 use Rattle.window_model.specs.Retire.{hart_of}
-use Rattle.window_model.specs.Taint.{visible}
+use Rattle.window_model.specs.Taint.{protects, visible}
 use Rattle.window_model.specs.Rename.{at_once}
 use Rattle.window_model.specs.Committed.{Aligned}
 use Rattle.window_model.specs.Path.{path}
@@ -58,7 +58,7 @@ issued_alike e e2 h p p2 f f2 =
 of_load : (e : Entry) (v : Outcome) → e.item.kind ≡ Load → ComesTo e.outcome (as_known e v) → ComesTo e.outcome v
 of_load e v k c = subst (ComesTo e.outcome) (ap (λ k. as_known_by k (has_address e) (has_data e) v) k) c
 
-module _ (model : SttModel) (code : Code) (aligned : Aligned code) (x x2 : Machine) (limit : ℕ) (n : length x.regs ≡ 32) (n2 : length x2.regs ≡ 32) (in_step : (k : ℕ) → k ≤ limit → InStep (path model) code k (hart_of x) (hart_of x2)) where
+module _ (model : SttModel) (protected : protects model ≡ true) (code : Code) (aligned : Aligned code) (x x2 : Machine) (limit : ℕ) (n : length x.regs ≡ 32) (n2 : length x2.regs ≡ 32) (in_step : (k : ℕ) → k ≤ limit → InStep (path model) code k (hart_of x) (hart_of x2)) where
   abbrev s : Bank
   s = bank_in (hart_of x)
 
@@ -76,8 +76,8 @@ module _ (model : SttModel) (code : Code) (aligned : Aligned code) (x x2 : Machi
   visible_load b b2 e e2 lt w w2 l h i v v2 k =
       let t = hart e.item.pc (bank s b) in
       let t2 = hart e2.item.pc (bank s2 b2) in
-      let one = leads_to model code aligned s n x.pc b e.item.pc w.stands.1 w.linked.1 w.stands.0.through v w.linked.0 in
-      let two = leads_to model code aligned s2 n2 x2.pc b2 e2.item.pc w2.stands.1 w2.linked.1 w2.stands.0.through v2 w2.linked.0 in
+      let one = leads_to model protected code aligned s n x.pc b e.item.pc w.stands.1 w.linked.1 w.stands.0.through v w.linked.0 in
+      let two = leads_to model protected code aligned s2 n2 x2.pc b2 e2.item.pc w2.stands.1 w2.linked.1 w2.stands.0.through v2 w2.linked.0 in
       let there = leads_on model code 1 (length b) (hart_of x) (hart_of x2) t t2 (in_step (length b + 1) lt) one (rw l two) in
       let f : effect_on (bank s b) e ≡ effect_on (bank s2 b2) e2 = (let g = there.regs in let q = ap (λ (x : Entry). x.item) h in cc) in
       let word = word_of code e is_load w.stands.0.item (λ c. refl) k in

@@ -7,6 +7,7 @@ use Rattle.window_model.specs.Shape.{SameShape}
 use Rattle.window_model.specs.State.{Machine}
 use Rattle.window_model.specs.Fill.{fill, complete}
 use Rattle.window_model.specs.Resolve.{resolve}
+use Rattle.window_model.specs.Clear.{clear}
 use Rattle.window_model.specs.Retire.{retire}
 use Rattle.window_model.specs.Issue.{issue}
 use Rattle.window_model.specs.Rename.{rename}
@@ -37,6 +38,10 @@ CompleteTellsNothing = (x x2 : Machine) → Alike x x2 → TellsNothing (complet
 -- nor Resolve, where the outcomes that may be looked at are equal
 abbrev pub ResolveTellsNothing : Type 0
 ResolveTellsNothing = (d : Desc) (x x2 : Machine) → Alike x x2 → OutcomesAgree d.stt_model x x2 → TellsNothing (resolve d x) (resolve d x2)
+
+-- nor Clear
+abbrev pub ClearTellsNothing : Type 0
+ClearTellsNothing = (d : Desc) (x x2 : Machine) → Alike x x2 → OutcomesAgree d.stt_model x x2 → TellsNothing (clear d x) (clear d x2)
 
 -- nor Retire, where the path of both runs goes on in step past the window
 abbrev pub RetireTellsNothing : Type 0

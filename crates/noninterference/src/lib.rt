@@ -4,7 +4,7 @@
 #![tactic(auto)]
 
 ghost use Rattle.noninterference.specs.Gadgets.{BoundsCheckBypass, FaultShadow, FaultShadowSpectre, TaintedBranch, TaintedDivisor, TaintedStoreAddress, TargetInjection};
-ghost use Rattle.noninterference.specs.Laws.{CompleteTellsNothing, CycleTellsNothing, FetchTellsNothing, FillTellsNothing, IssueTellsNothing, Noninterference, RenameTellsNothing, ResolveTellsNothing, RetireTellsNothing, TogetherAgree};
+ghost use Rattle.noninterference.specs.Laws.{ClearTellsNothing, CompleteTellsNothing, CycleTellsNothing, FetchTellsNothing, FillTellsNothing, IssueTellsNothing, Noninterference, RenameTellsNothing, ResolveTellsNothing, RetireTellsNothing, TogetherAgree};
 
 /// Memories that agree on each byte that the path loads, in the steps that the trace retires and as many more as the window holds,
 /// give one trace, under both models.
@@ -18,6 +18,7 @@ pub fn phases_tell_nothing()
     ensures fill { FillTellsNothing }
     ensures complete { CompleteTellsNothing }
     ensures resolve { ResolveTellsNothing }
+    ensures clear { ClearTellsNothing }
     ensures retire { RetireTellsNothing }
     ensures issue { IssueTellsNothing }
     ensures rename { RenameTellsNothing }
