@@ -1,10 +1,11 @@
 -- A cycle keeps two runs together, with one row.
-use Rattle.std.proofs.Common.{◌≡◌, ℕ, ◌+◌, ◌≤◌, List, ◌++◌, Option, Some, None, refl, ap, sym, ◌∙◌, subst, arith}
+use Rattle.std.proofs.Common.{◌≡◌, ℕ, ◌+◌, ◌≤◌, true, List, ◌++◌, Option, Some, None, refl, ap, sym, ◌∙◌, subst, arith}
 use Rattle.rv_types.specs.Memory.{Code}
 use Rattle.rv_types.specs.declared.End.{End}
 use Rattle.machine_desc.specs.declared.Desc.{Desc}
 use Rattle.window_model.specs.declared.Event.{Event}
 use Rattle.window_model.specs.State.{Machine, After, then_does, nothing}
+use Rattle.window_model.specs.Taint.{protects}
 use Rattle.window_model.specs.Fill.{fill, complete}
 use Rattle.window_model.specs.Resolve.{resolve}
 use Rattle.window_model.specs.Clear.{clear}
@@ -38,7 +39,7 @@ row_with n a b c = record { cycle = n + 1; events = a ++ b ++ c }
 row_of : (n n2 : ℕ) (a a2 b b2 c c2 : List Event) → n ≡ n2 → a ≡ a2 → b ≡ b2 → c ≡ c2 → row_with n a b c ≡ row_with n2 a2 b2 c2
 row_of n n2 a a2 b b2 c c2 p q r t = cc
 
-module _ (d : Desc) (code : Code) (total : ℕ) (aligned : Aligned code) where
+module _ (d : Desc) (code : Code) (total : ℕ) (protected : protects d.stt_model ≡ true) (aligned : Aligned code) where
   -- both runs between phases
   abbrev T : Machine → Machine → Type 0
   T = Together d code total
@@ -79,12 +80,12 @@ module _ (d : Desc) (code : Code) (total : ℕ) (aligned : Aligned code) where
       let p2 = phase complete (facts_complete d code) complete_quiet y y2 p1 t2 in
       let z = (complete y).machine in
       let z2 = (complete y2).machine in
-      let t3 = resolve_tells_nothing d z z2 p2.alike (together_agree d code total z z2 aligned le p2) in
+      let t3 = resolve_tells_nothing d z z2 p2.alike (together_agree d code total z z2 protected aligned le p2) in
       let p3 = phase (resolve d) (facts_resolve d code) (resolve_quiet d) z z2 p2 t3 in
       let w = (resolve d z).machine in
       let w2 = (resolve d z2).machine in
       let still = (resolve_quiet d z).retired in
-      let t4 = clear_tells_nothing d w w2 p3.alike (together_agree d code total w w2 aligned (omega (arith, le, still)) p3) in
+      let t4 = clear_tells_nothing d w w2 p3.alike (together_agree d code total w w2 protected aligned (omega (arith, le, still)) p3) in
       let e1 = same_events (fill d (begun x)) (fill d (begun x2)) t1 in
       let e2 = same_events (complete y) (complete y2) t2 in
       let e3 = same_events (resolve d z) (resolve d z2) t3 in
@@ -100,7 +101,7 @@ module _ (d : Desc) (code : Code) (total : ℕ) (aligned : Aligned code) where
   unfolding rest
   rest_alike x x2 p le =
       let place = (p.in_step 0 (omega (arith, le))).place in
-      let t1 = issue_tells_nothing d code x x2 p.facts.consistent p.alike (together_agree d code total x x2 aligned le p) place in
+      let t1 = issue_tells_nothing d code x x2 p.facts.consistent p.alike (together_agree d code total x x2 protected aligned le p) place in
       let p1 = phase (issue d) (facts_issue d code) (issue_quiet d) x x2 p t1 in
       let y = (issue d x).machine in
       let y2 = (issue d x2).machine in
@@ -143,7 +144,7 @@ module _ (d : Desc) (code : Code) (total : ℕ) (aligned : Aligned code) where
       let f = before_alike x x2 p (omega (arith, le, fq.retired, bq.retired, count)) in
       let fits = f.0.facts.fits in
       let ne2 : y2.end ≡ None = sym (ap (λ (m : Machine). m.end) f.0.alike) ∙ ne in
-      let t = retire_tells_nothing d code total y y2 aligned ne f.0.facts.consistent f.0.facts2.consistent (omega (arith, fq.retired, bq.retired, count, le, fits)) f.0.alike f.0.in_step in
+      let t = retire_tells_nothing d code total y y2 protected aligned ne f.0.facts.consistent f.0.facts2.consistent (omega (arith, fq.retired, bq.retired, count, le, fits)) f.0.alike f.0.in_step in
       let b = after_alike r.end r2.end r r2 (ap (λ (m : Machine). m.end) t.alike) refl t.alike
       (λ z. record { alike = t.alike; facts = facts_retire d code aligned y ne f.0.facts; facts2 = facts_retire d code aligned y2 ne2 f.0.facts2; in_step = t.in_step z })
       (λ z. omega (arith, bq.retired, le)) in
@@ -157,4 +158,4 @@ module _ (d : Desc) (code : Code) (total : ℕ) (aligned : Aligned code) where
       before_facts x f = facts_clear d code _ (facts_resolve d code _ (facts_complete d code _ (facts_fill d code _ (facts_begin d code x f))))
 
 pub cycle_tells_nothing : CycleTellsNothing
-cycle_tells_nothing d code total x x2 aligned n p le = cycle_alike d code total aligned x x2 n p le
+cycle_tells_nothing d code total x x2 protected aligned n p le = cycle_alike d code total protected aligned x x2 n p le

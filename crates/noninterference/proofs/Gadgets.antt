@@ -1,5 +1,5 @@
 -- The law at work: no secret byte shows in the trace of a program whose path doesn't load it.
-use Rattle.std.proofs.Common.{◌≡◌, ℕ, suc, ◌+◌, ◌<◌, ◌-◌, ◌%◌, ◌^◌, Bool, true, ◌&&◌, List, [], ◌∷◌, Option, Some, None, refl, ap, ap₂, sym, ◌∙◌, subst, arith, lit<, false}
+use Rattle.std.proofs.Common.{◌≡◌, ℕ, suc, ◌+◌, ◌<◌, ◌-◌, ◌%◌, ◌^◌, Bool, true, ◌&&◌, List, [], ◌∷◌, ◌++◌, Option, Some, None, refl, ap, ap₂, sym, ◌∙◌, subst, arith, lit<, false}
 use Rattle.std.specs.Prelude.{◌==◌, if◌then◌else◌, replicate, nat_le, slice_index}
 use Rattle.std.specs.List.{list_any, AllByRecursion as Each}
 use Rattle.std.proofs.lemmas.List.Elements.{All-from_recursion, recursion_from_All, All-append, All-replicate}
@@ -14,8 +14,9 @@ use Rattle.machine_desc.specs.declared.SttModel.TheVariants.{Spectre, Futuristic
 use Rattle.window_model.specs.Cycle.{trace}
 use Rattle.window_model.specs.Committed.{Aligned}
 use Rattle.window_model.specs.Path.{path}
+use Rattle.window_model.specs.Taint.{protects}
 use Rattle.window_model.proofs.Worked.{code_of, memory, bounds_check, fault, store, branch, divisor, injection}
-use Rattle.noninterference.specs.Gadgets.{loaded_by, HidesSecret, BoundsCheckBypass, TaintedStoreAddress, TaintedBranch, TaintedDivisor, TargetInjection, FaultShadow, FaultShadowSpectre}
+use Rattle.noninterference.specs.Gadgets.{loaded_by, HidesSecret, BoundsCheckBypass, TaintedStoreAddress, TaintedBranch, TaintedDivisor, TargetInjection, FaultShadow, FaultShadowSpectre, SpeculativeStoreBypass, store_bypass}
 use Rattle.noninterference.proofs.Runs.{same_trace, fewer}
 
 -- ---- premises
@@ -54,18 +55,18 @@ agree_on secret lt addresses same =
 abbrev loads : SttModel → List ℕ → ℕ → List ℕ
 loads model words steps = reads (path model) (code_of words) (start 0x10000 (memory 0 0)) steps
 
--- the paths of these programs end within six steps
-abbrev six_more : ℕ → ℕ
-six_more steps = suc (suc (suc (suc (suc (suc steps)))))
+-- the paths of these programs end within eleven steps
+abbrev eleven_more : ℕ → ℕ
+eleven_more steps = suc (suc (suc (suc (suc (suc (suc (suc (suc (suc (suc steps))))))))))
 
 -- what depends on the secret nowhere, in however many steps, hides it
-hides : (d : Desc) (words loaded : List ℕ) → ((steps : ℕ) → loads d.stt_model words (six_more steps) ≡ loaded) → ((secret : ℕ) → Each (SameAt secret) loaded) → HidesSecret d words
-hides d words loaded all same secret n lt =
+hides : (d : Desc) (words loaded : List ℕ) → protects d.stt_model ≡ true → ((steps : ℕ) → loads d.stt_model words (eleven_more steps) ≡ loaded) → ((secret : ℕ) → Each (SameAt secret) loaded) → HidesSecret d words
+hides d words loaded protected all same secret n lt =
     let run : Hart = start 0x10000 (memory 0 0) in
     let steps = (trace d (code_of words) 0x10000 (memory 0 0) n).retired + d.core_rob in
     let more = subst (Each (SameAt secret)) (sym (all steps)) (same secret) in
-    let less = fewer (SameAt secret) (path d.stt_model) (code_of words) steps (six_more steps) run (omega arith) more in
-    same_trace d (code_of words) 0x10000 (memory 0 0) (memory 0 secret) n (aligned_words words) (agree_on secret lt (loads d.stt_model words steps) less)
+    let less = fewer (SameAt secret) (path d.stt_model) (code_of words) steps (eleven_more steps) run (omega arith) more in
+    same_trace d (code_of words) 0x10000 (memory 0 0) (memory 0 secret) n protected (aligned_words words) (agree_on secret lt (loads d.stt_model words steps) less)
 
 same_bound : (secret : ℕ) → Each (SameAt secret) bound
 unfolding memory
@@ -73,38 +74,52 @@ same_bound secret = (refl, (refl, (refl, (refl, tt))))
 
 -- ---- what the paths load: the bound alone
 
-bypass_loads : (model : SttModel) (steps : ℕ) → loads model bounds_check (six_more steps) ≡ bound
+bypass_loads : (model : SttModel) (steps : ℕ) → loads model bounds_check (eleven_more steps) ≡ bound
 unfolding memory code_of decode isa_step pass_step
 bypass_loads Spectre steps = refl
 bypass_loads Futuristic steps = refl
 bypass_loads Off steps = refl
 
-store_loads : (model : SttModel) (steps : ℕ) → loads model store (six_more steps) ≡ bound
+store_loads : (model : SttModel) (steps : ℕ) → loads model store (eleven_more steps) ≡ bound
 unfolding memory code_of decode isa_step pass_step
 store_loads Spectre steps = refl
 store_loads Futuristic steps = refl
 store_loads Off steps = refl
 
-branch_loads : (model : SttModel) (steps : ℕ) → loads model branch (six_more steps) ≡ bound
+branch_loads : (model : SttModel) (steps : ℕ) → loads model branch (eleven_more steps) ≡ bound
 unfolding memory code_of decode isa_step pass_step
 branch_loads Spectre steps = refl
 branch_loads Futuristic steps = refl
 branch_loads Off steps = refl
 
-divisor_loads : (model : SttModel) (steps : ℕ) → loads model divisor (six_more steps) ≡ bound
+divisor_loads : (model : SttModel) (steps : ℕ) → loads model divisor (eleven_more steps) ≡ bound
 unfolding memory code_of decode isa_step pass_step
 divisor_loads Spectre steps = refl
 divisor_loads Futuristic steps = refl
 divisor_loads Off steps = refl
 
-injection_loads : (model : SttModel) (steps : ℕ) → loads model injection (six_more steps) ≡ bound
+injection_loads : (model : SttModel) (steps : ℕ) → loads model injection (eleven_more steps) ≡ bound
 unfolding memory code_of decode isa_step pass_step
 injection_loads Spectre steps = refl
 injection_loads Futuristic steps = refl
 injection_loads Off steps = refl
 
+-- behind the store a byte past the secret, and a word at an address made of that
+past_store : List ℕ
+past_store = bound ++ 0x1fff9 ∷ 0x1f7f0 ∷ 0x1f7f1 ∷ 0x1f7f2 ∷ 0x1f7f3 ∷ []
+
+store_bypass_loads : (model : SttModel) (steps : ℕ) → loads model store_bypass (eleven_more steps) ≡ past_store
+unfolding memory code_of decode isa_step pass_step past_store
+store_bypass_loads Spectre steps = refl
+store_bypass_loads Futuristic steps = refl
+store_bypass_loads Off steps = refl
+
+same_past_store : (secret : ℕ) → Each (SameAt secret) past_store
+unfolding memory past_store
+same_past_store secret = (refl, (refl, (refl, (refl, (refl, (refl, (refl, (refl, (refl, tt)))))))))
+
 -- the futuristic path ends at the fault
-fault_loads_none : (steps : ℕ) → loads Futuristic fault (six_more steps) ≡ []
+fault_loads_none : (steps : ℕ) → loads Futuristic fault (eleven_more steps) ≡ []
 unfolding memory code_of decode isa_step pass_step
 fault_loads_none steps = refl
 
@@ -124,22 +139,25 @@ fault_shows steps secret same = same.0
 -- ---- and so what they hide
 
 pub bypass_hides : BoundsCheckBypass
-bypass_hides d = hides d bounds_check bound (bypass_loads d.stt_model) same_bound
+bypass_hides d protected = hides d bounds_check bound protected (bypass_loads d.stt_model) same_bound
 
 pub store_hides : TaintedStoreAddress
-store_hides d = hides d store bound (store_loads d.stt_model) same_bound
+store_hides d protected = hides d store bound protected (store_loads d.stt_model) same_bound
 
 pub branch_hides : TaintedBranch
-branch_hides d = hides d branch bound (branch_loads d.stt_model) same_bound
+branch_hides d protected = hides d branch bound protected (branch_loads d.stt_model) same_bound
 
 pub divisor_hides : TaintedDivisor
-divisor_hides d = hides d divisor bound (divisor_loads d.stt_model) same_bound
+divisor_hides d protected = hides d divisor bound protected (divisor_loads d.stt_model) same_bound
 
 pub injection_hides : TargetInjection
-injection_hides d = hides d injection bound (injection_loads d.stt_model) same_bound
+injection_hides d protected = hides d injection bound protected (injection_loads d.stt_model) same_bound
+
+pub store_bypass_hides : SpeculativeStoreBypass
+store_bypass_hides d protected = hides d store_bypass past_store protected (store_bypass_loads d.stt_model) same_past_store
 
 pub fault_hides : FaultShadow
-fault_hides d futuristic = hides d fault [] (λ steps. ap (λ m. loads m fault (six_more steps)) futuristic ∙ fault_loads_none steps) (λ secret. tt)
+fault_hides d futuristic = hides d fault [] (ap protects futuristic) (λ steps. ap (λ m. loads m fault (eleven_more steps)) futuristic ∙ fault_loads_none steps) (λ secret. tt)
 
 -- the path goes on for as many steps as the window has room, and that is four at least
 pub fault_loads_secret : FaultShadowSpectre

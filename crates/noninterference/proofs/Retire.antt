@@ -12,11 +12,11 @@ use Rattle.window_model.specs.declared.Entry.{Entry}
 use Rattle.window_model.specs.State.{Machine}
 use Rattle.window_model.specs.Order.{is_load, is_store}
 use Rattle.window_model.specs.Rename.{is_call}
+use Rattle.window_model.specs.Taint.{protects}
 use Rattle.window_model.specs.Committed.{Aligned}
 use Rattle.window_model.specs.Path.{path}
 use Rattle.window_model.proofs.Booleans.{some_of}
 use Rattle.window_model.proofs.Calls.{call_does}
-use Rattle.window_model.proofs.Withheld.{is_protected}
 use Rattle.committed_state.specs.Consistent.{Holds, Stands, bank_in}
 use Rattle.committed_state.proofs.Turn.{head_leaves_so}
 use Rattle.committed_state.proofs.Ends.{head_calls}
@@ -34,14 +34,14 @@ use Rattle.noninterference.proofs.OneRun.{head_alone}
 use Rattle.noninterference.proofs.Turns.{Follows, stays_alike, left_turn, call_turn}
 use Rattle.committed_state.proofs.Retire.{call_kind}
 
-module _ (d : Desc) (code : Code) (aligned : Aligned code) (total : ℕ) where
+module _ (d : Desc) (protected : protects d.stt_model ≡ true) (code : Code) (aligned : Aligned code) (total : ℕ) where
   abbrev R : Retired → Retired → Type 0
   R r r2 = RetiresAlike d.stt_model code total r r2
 
   -- both heads are one entry
   head_same : (x x2 : Machine) (e e2 : Entry) → InStepUpTo d.stt_model code total x x2 → 1 + x.retired ≤ total → length x.regs ≡ 32 → length x2.regs ≡ 32 → Stands code (bank_in (hart_of x)) [] e → Stands code (bank_in (hart_of x2)) [] e2 → x.pc ≡ e.item.pc → x2.pc ≡ e2.item.pc → without_outcome e ≡ without_outcome e2 → e ≡ e2
   head_same x x2 e e2 a lt n n2 st st2 pc pc2 h =
-      let s = same_window d.stt_model (is_protected d) code aligned x x2 1 n n2 (λ k le. a k (omega (arith, le, lt))) (e ∷ []) (e2 ∷ []) (omega arith) (head_alone code d.stt_model x e st pc) (head_alone code d.stt_model x2 e2 st2 pc2) (ap (λ t. t ∷ []) h) in
+      let s = same_window d.stt_model protected code aligned x x2 1 n n2 (λ k le. a k (omega (arith, le, lt))) (e ∷ []) (e2 ∷ []) (omega arith) (head_alone code d.stt_model x e st pc) (head_alone code d.stt_model x2 e2 st2 pc2) (ap (λ t. t ∷ []) h) in
       let u = untainted_sources d.stt_model [] e refl in
       same_entry e e2 h (known_outcome e.item.kind d.stt_model [] e e2 s.0.outcomes (off (is_load e.item.kind) _ _ refl u))
     where
@@ -112,4 +112,4 @@ module _ (d : Desc) (code : Code) (aligned : Aligned code) (total : ℕ) where
 
 pub retire_tells_nothing : RetireTellsNothing
 unfolding retire
-retire_tells_nothing d code total x x2 aligned ne h h2 le r a = turns_alike d code aligned total d.core_retire_width false x x2 ne h h2 le r a
+retire_tells_nothing d code total x x2 protected aligned ne h h2 le r a = turns_alike d protected code aligned total d.core_retire_width false x x2 ne h h2 le r a

@@ -1,5 +1,5 @@
 -- Whole runs: what the path doesn't load leaves no mark in the trace.
-use Rattle.std.proofs.Common.{◌≡◌, ℕ, zero, suc, ◌+◌, ◌-◌, ◌≤◌, List, [], ◌∷◌, Option, Some, None, refl, ap, sym, ◌∙◌, arith}
+use Rattle.std.proofs.Common.{◌≡◌, ℕ, zero, suc, ◌+◌, ◌-◌, ◌≤◌, true, List, [], ◌∷◌, Option, Some, None, refl, ap, sym, ◌∙◌, arith}
 use Rattle.std.specs.Prelude.{slice_index}
 use Rattle.std.specs.List.{AllByRecursion as Each}
 use Rattle.std.proofs.lemmas.List.Elements.{recursion_from_All}
@@ -9,6 +9,7 @@ use Rattle.rv_types.specs.Isa.{Hart, Step, Goes, Exits, Traps, start}
 use Rattle.rv_types.specs.declared.End.{End}
 use Rattle.machine_desc.specs.declared.Desc.{Desc}
 use Rattle.window_model.specs.State.{Machine, opening}
+use Rattle.window_model.specs.Taint.{protects}
 use Rattle.window_model.specs.Retire.{unless_ended}
 use Rattle.window_model.specs.Row.{Row}
 use Rattle.window_model.specs.Cycle.{Trace, cycle, rows, after_cycles}
@@ -24,7 +25,7 @@ use Rattle.noninterference.specs.Laws.{Noninterference}
 use Rattle.noninterference.proofs.Facts.{facts_opening}
 use Rattle.noninterference.proofs.Cycle.{cycle_tells_nothing}
 
-module _ (d : Desc) (code : Code) (total : ℕ) (aligned : Aligned code) where
+module _ (d : Desc) (code : Code) (total : ℕ) (protected : protects d.stt_model ≡ true) (aligned : Aligned code) where
   -- what has retired stays so
   retired_stays : (n : ℕ) (x : Machine) → (x.end ≡ None → Consistent d code x) → x.retired ≤ (after_cycles d code n x).retired
   retired_stays zero x f = omega arith
@@ -59,7 +60,7 @@ module _ (d : Desc) (code : Code) (total : ℕ) (aligned : Aligned code) where
       by_end None None q z le more =
           let f = consistent_cycle d code x aligned (p q).facts.consistent q in
           let m = retired_stays n c (λ z. f) in
-          let t = cycle_tells_nothing d code total x x2 aligned q (p q) (omega (arith, m, le)) in
+          let t = cycle_tells_nothing d code total x x2 protected aligned q (p q) (omega (arith, m, le)) in
           let rest = more t.alike t.together le in
           (ap (λ w. w ∷ rows d code n c) t.row ∙ ap (λ ws. (cycle d code x2).row ∷ ws) rest.0, rest.1)
       by_end None (Some e) q z le more = absurd (cc)
@@ -114,13 +115,13 @@ abbrev with_end : List Row → Option End → ℕ → ℕ → Trace
 with_end rs e n c = record { rows = rs; end = e; retired = n; cycles = c }
 
 pub same_trace : Noninterference
-same_trace d code entry m m2 n aligned agree =
+same_trace d code entry m m2 n protected aligned agree =
     let x = opening d entry m in
     let x2 = opening d entry m2 in
     let total = (after_cycles d code n x).retired + d.core_rob in
     let al = opening_alike d code entry m m2 total agree in
     let p : Together d code total x x2 = record { alike = al; facts = facts_opening d code entry m; facts2 = facts_opening d code entry m2; in_step = opening_in_step d code entry m m2 total agree } in
-    let r = runs_alike d code total aligned n x x2 al (λ z. p) (omega arith) in
+    let r = runs_alike d code total protected aligned n x x2 al (λ z. p) (omega arith) in
     let last = after_cycles d code n x in
     sym (ap (λ rs. with_end rs last.end last.retired last.cycle) r.0
     ∙ ap (λ (y : Machine). with_end (rows d code n x2) y.end y.retired y.cycle) r.1)

@@ -1,37 +1,52 @@
--- Programs that would show a secret of memory, and what the law says of them (docs/theorems.md, "Noninterference"). They are those
--- of the worked runs: the bound at 0x1fff0 is 0, and the secret byte stands at 0x1fff8.
-use Rattle.std.specs.Prelude.{◌≡◌, ◌≢◌, ℕ, ◌<◌, ◌==◌, true, List}
+-- Programs that would show a secret of memory, and what the law says of them (docs/theorems.md, "Noninterference"). All but the
+-- store bypass are those of the worked runs. The bound at 0x1fff0 is 0, and the secret byte stands at 0x1fff8.
+use Rattle.std.specs.Prelude.{◌≡◌, ◌≢◌, ℕ, ◌<◌, ◌==◌, true, List, [], ◌∷◌}
 use Rattle.std.specs.List.{list_any}
 use Rattle.rv_types.specs.Memory.{Agree}
 use Rattle.machine_desc.specs.declared.Desc.{Desc}
 use Rattle.machine_desc.specs.declared.SttModel.TheVariants.{Spectre, Futuristic}
 use Rattle.window_model.specs.Cycle.{trace}
 use Rattle.window_model.specs.Path.{reads_of_trace}
+use Rattle.window_model.specs.Taint.{protects}
 use Rattle.window_model.proofs.Worked.{code_of, memory, bounds_check, fault, store, branch, divisor, injection}
 
 -- with each secret byte the trace of these words, of any number of cycles, is that with 0
 abbrev pub HidesSecret : Desc → List ℕ → Type 0
 HidesSecret d words = (secret n : ℕ) → secret < 256 → trace d (code_of words) 0x10000 (memory 0 secret) n ≡ trace d (code_of words) 0x10000 (memory 0 0) n
 
--- under every description: a load behind a bounds check that is predicted wrongly, and a load at an address made of the secret
+-- so it is under every description whose model protects
+abbrev pub Protected : List ℕ → Type 0
+Protected words = (d : Desc) → protects d.stt_model ≡ true → HidesSecret d words
+
+-- a load behind a bounds check that is predicted wrongly, and a load at an address made of the secret
 abbrev pub BoundsCheckBypass : Type 0
-BoundsCheckBypass = (d : Desc) → HidesSecret d bounds_check
+BoundsCheckBypass = Protected bounds_check
 
 -- a store at such an address, and a load that it may cover
 abbrev pub TaintedStoreAddress : Type 0
-TaintedStoreAddress = (d : Desc) → HidesSecret d store
+TaintedStoreAddress = Protected store
 
 -- a branch on the secret
 abbrev pub TaintedBranch : Type 0
-TaintedBranch = (d : Desc) → HidesSecret d branch
+TaintedBranch = Protected branch
 
 -- a division of the secret
 abbrev pub TaintedDivisor : Type 0
-TaintedDivisor = (d : Desc) → HidesSecret d divisor
+TaintedDivisor = Protected divisor
 
 -- a jump to an address made of the secret
 abbrev pub TargetInjection : Type 0
-TargetInjection = (d : Desc) → HidesSecret d injection
+TargetInjection = Protected injection
+
+-- a store whose address comes from a slow division, a load that passes it and reads an old pointer, a load of the secret by that
+-- pointer, and a load at an address made of the secret: addi x8,x0,1; div x5,x2,x8; sw x8,0(x5); lw x6,0(x2); add x6,x6,x2;
+-- lbu x7,8(x6); slli x7,x7,4; add x7,x7,x2; lw x9,-2048(x7); addi x17,x0,93; ecall
+abbrev pub store_bypass : List ℕ
+store_bypass = 0x00100413 ∷ 0x028142b3 ∷ 0x0082a023 ∷ 0x00012303 ∷ 0x00230333 ∷ 0x00834383 ∷ 0x00439393 ∷ 0x002383b3 ∷ 0x8003a483 ∷ 0x05d00893 ∷ 0x00000073 ∷ []
+
+-- the pointer that the store writes leads elsewhere
+abbrev pub SpeculativeStoreBypass : Type 0
+SpeculativeStoreBypass = Protected store_bypass
 
 -- a load behind one that faults, where the model is the futuristic one
 abbrev pub FaultShadow : Type 0

@@ -1,10 +1,12 @@
--- What the path doesn't load leaves no mark in the trace (docs/theorems.md, "Noninterference").
-use Rattle.std.specs.Prelude.{◌≡◌, ℕ, ◌+◌, ◌≤◌, length, None}
+-- What the path doesn't load leaves no mark in the trace (docs/theorems.md, "Noninterference"). Of a description whose model
+-- doesn't protect nothing is said: under it wrong paths show what they load.
+use Rattle.std.specs.Prelude.{◌≡◌, ℕ, ◌+◌, ◌≤◌, true, length, None}
 use Rattle.rv_types.specs.Memory.{Code, Ram, Agree}
 use Rattle.machine_desc.specs.declared.Desc.{Desc}
 use Rattle.window_model.specs.Committed.{Aligned}
 use Rattle.window_model.specs.Shape.{SameShape}
 use Rattle.window_model.specs.State.{Machine}
+use Rattle.window_model.specs.Taint.{protects}
 use Rattle.window_model.specs.Fill.{fill, complete}
 use Rattle.window_model.specs.Resolve.{resolve}
 use Rattle.window_model.specs.Clear.{clear}
@@ -20,9 +22,9 @@ use Rattle.noninterference.specs.Outcomes.{OutcomesAgree}
 use Rattle.noninterference.specs.InStep.{InStepUpTo}
 use Rattle.noninterference.specs.Together.{Together, RetiresAlike, CyclesAlike}
 
--- every memory that agrees on the bytes that the path loads gives one trace
+-- under a model that protects, every memory that agrees on the bytes that the path loads gives one trace
 abbrev pub Noninterference : Type 0
-Noninterference = (d : Desc) (code : Code) (entry : ℕ) (m m2 : Ram) (n : ℕ) → Aligned code → Agree m m2 (reads_of_trace d code entry m n) →
+Noninterference = (d : Desc) (code : Code) (entry : ℕ) (m m2 : Ram) (n : ℕ) → protects d.stt_model ≡ true → Aligned code → Agree m m2 (reads_of_trace d code entry m n) →
     trace d code entry m2 n ≡ trace d code entry m n
 
 -- ---- phase by phase
@@ -43,9 +45,9 @@ ResolveTellsNothing = (d : Desc) (x x2 : Machine) → Alike x x2 → OutcomesAgr
 abbrev pub ClearTellsNothing : Type 0
 ClearTellsNothing = (d : Desc) (x x2 : Machine) → Alike x x2 → OutcomesAgree d.stt_model x x2 → TellsNothing (clear d x) (clear d x2)
 
--- nor Retire, where the path of both runs goes on in step past the window
+-- nor Retire, where the model protects and the path of both runs goes on in step past the window
 abbrev pub RetireTellsNothing : Type 0
-RetireTellsNothing = (d : Desc) (code : Code) (total : ℕ) (x x2 : Machine) → Aligned code → x.end ≡ None → Consistent d code x → Consistent d code x2 → x.retired + length x.window ≤ total → Alike x x2 →
+RetireTellsNothing = (d : Desc) (code : Code) (total : ℕ) (x x2 : Machine) → protects d.stt_model ≡ true → Aligned code → x.end ≡ None → Consistent d code x → Consistent d code x2 → x.retired + length x.window ≤ total → Alike x x2 →
     InStepUpTo d.stt_model code total x x2 → RetiresAlike d.stt_model code total (retire d x) (retire d x2)
 
 -- nor Issue, which also looks at memory's place
@@ -60,11 +62,11 @@ RenameTellsNothing = (d : Desc) (x x2 : Machine) → Alike x x2 → TellsNothing
 abbrev pub FetchTellsNothing : Type 0
 FetchTellsNothing = (d : Desc) (code : Code) (x x2 : Machine) → Alike x x2 → TellsNothing (fetch d code x) (fetch d code x2)
 
--- of two runs that go on together, the outcomes that may be looked at are equal
+-- of two runs that go on together under a model that protects, the outcomes that may be looked at are equal
 abbrev pub TogetherAgree : Type 0
-TogetherAgree = (d : Desc) (code : Code) (total : ℕ) (x x2 : Machine) → Aligned code → x.retired + d.core_rob ≤ total → Together d code total x x2 → OutcomesAgree d.stt_model x x2
+TogetherAgree = (d : Desc) (code : Code) (total : ℕ) (x x2 : Machine) → protects d.stt_model ≡ true → Aligned code → x.retired + d.core_rob ≤ total → Together d code total x x2 → OutcomesAgree d.stt_model x x2
 
 -- and a cycle keeps them together, with one row
 abbrev pub CycleTellsNothing : Type 0
-CycleTellsNothing = (d : Desc) (code : Code) (total : ℕ) (x x2 : Machine) → Aligned code → x.end ≡ None → Together d code total x x2 → (cycle d code x).machine.retired + d.core_rob ≤ total →
+CycleTellsNothing = (d : Desc) (code : Code) (total : ℕ) (x x2 : Machine) → protects d.stt_model ≡ true → Aligned code → x.end ≡ None → Together d code total x x2 → (cycle d code x).machine.retired + d.core_rob ≤ total →
     CyclesAlike d code total x x2
