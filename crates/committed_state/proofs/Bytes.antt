@@ -1,5 +1,5 @@
 -- A load's bytes are those of the replay's memory.
-use Rattle.std.proofs.Common.{◌≡◌, ℕ, zero, suc, ◌+◌, ◌-◌, ◌<◌, ◌≤◌, Bool, true, false, not, ◌&&◌, List, [], ◌∷◌, length, get_or, take, drop, Option, Some, None, refl, ap, sym, ◌∙◌, subst, arith}
+use Rattle.std.proofs.Common.{◌≡◌, ℕ, zero, suc, ◌+◌, ◌-◌, ◌<◌, ◌≤◌, Bool, true, false, not, ◌&&◌, ◌||◌, List, [], ◌∷◌, length, get_or, take, drop, Option, Some, None, refl, ap, sym, ◌∙◌, subst, arith}
 use Rattle.std.proofs.lemmas.List.{drop_more}
 use Rattle.std.proofs.lemmas.Bool.Decides.{nat_tests}
 use Rattle.std.specs.Prelude.{if◌then◌else◌, is_some, nat_le, nat_lt, slice_index, slice_range}
@@ -9,20 +9,21 @@ use Rattle.rv_types.specs.Memory.{Code, Ram, with_bytes, store_fault, bytes_at}
 use Rattle.rv_types.specs.declared.Cause.{Cause}
 use Rattle.rv_types.specs.declared.Kind.{Kind}
 use Rattle.rv_types.specs.declared.Kind.TheVariants.{Store}
+use Rattle.machine_desc.specs.declared.Desc.{Desc}
 use Rattle.window_model.specs.declared.Entry.{Entry}
 use Rattle.window_model.specs.declared.Outcome.{Outcome}
 use Rattle.window_model.specs.Along.{Behind}
 use Rattle.window_model.specs.Order.{is_store, has_address, has_data}
 use Rattle.window_model.specs.Retire.{addr_of, stored_of, width_of}
 use Rattle.window_model.specs.Access.{reaches, covers, byte_of, byte_from}
-use Rattle.committed_state.specs.Replay.{Bank, bank, bank_after, replayed, replayed_as, Replayed, ram_after, stored_unless}
-use Rattle.committed_state.specs.Computed.{ComesTo, as_known, as_known_by, bytes_found, known_of}
-use Rattle.window_model.specs.Clear.{shares}
+use Rattle.committed_state.specs.Replay.{Bank, bank, bank_after, is_clear, replayed, replayed_as, Replayed, ram_after, stored_unless}
+use Rattle.committed_state.specs.Computed.{ComesTo, as_known, as_known_by, bytes_found, finds, known_of, left_out}
+use Rattle.window_model.specs.Clear.{passed, shares}
 use Rattle.committed_state.specs.Consistent.{FitsParts, Stands, is_issued, stands_before}
 use Rattle.window_model.proofs.Booleans.{both}
 use Rattle.window_model.specs.Shape.{SameShape}
 use Rattle.window_model.proofs.Memory.{length_to_le, inside, read_before, read_within, read_after, same_shape, shape_then, store_keeps}
-use Rattle.committed_state.proofs.Onward.{InLoad, before_address, before_data, byte_pick, shares_byte}
+use Rattle.committed_state.proofs.Sees.{InLoad, before_of, byte_pick, found_data, shares_byte}
 
 stored_keeps : (c : Option Cause) (ram : Ram) (a n v : ℕ) → store_fault ram a n ≡ c → SameShape ram (stored_unless c ram a (to_le n v))
 stored_keeps (Some c) ram a n v h = same_shape ram
@@ -95,30 +96,46 @@ store_byte m e b v c i d le h =
     ∙ if_same _ _ _ v (λ t. ap (λ h. slice_index (to_le (width_of e) (if h then r.stored else 0)) (b - r.addr)) (d (ap (reaches b (width_of e)) done ∙ t)))
     ∙ by_fault m.ram r.fault r.addr (width_of e) r.stored b v refl le h
 
-reached : (s h r : Bool) → s ≡ true → h ≡ true → (s && h && r) ≡ r
-reached true true r p q = refl
-reached true false r p q = absurd (cc)
-reached false h r p q = absurd (cc)
+-- ---- at a store that no load has passed wrongly
 
--- of a store what its byte needs: its address, and its data where it covers the byte
-pub record Covering (e : Entry) (b : ℕ) : Type 0 where
+-- a store that is cleared is not left out
+pub kept_in : (p c : Bool) → c ≡ true → (p && not c) ≡ false
+kept_in true true h = refl
+kept_in false true h = refl
+kept_in p false h = absurd (cc)
+
+reached : (lo s h r : Bool) → lo ≡ false → s ≡ true → h ≡ true → (not lo && (s && h && r)) ≡ r
+reached false true true r n p q = refl
+reached false true false r n p q = absurd (cc)
+reached false false h r n p q = absurd (cc)
+reached true s h r n p q = absurd (cc)
+
+none_found : (lo co : Bool) (x v : ℕ) → co ≡ false → (if not lo && co then x else v) ≡ v
+none_found true co x v q = refl
+none_found false co x v q = rw q refl
+
+-- of a store what its byte needs: its address, its data where the load finds the byte at it, and that it is cleared
+pub record Covering (l e : Entry) (b : ℕ) : Type 0 where
   pub address : has_address e ≡ true
   pub issued : is_some e.outcome ≡ true
+  pub cleared : e.cleared ≡ true
   pub datum : covers b e ≡ true → has_data e ≡ true
 
--- the byte that is found behind an entry is that of the replay after it
-pub one_byte : (ram : Ram) (m : Bank) (e : Entry) (b : ℕ) (o : Option Entry) → (is_store e.item.kind ≡ true → Covering e b) → ComesTo e.outcome (as_known e (replayed m e)) → m.ram.base ≤ b → byte_of ram b o ≡ Byte m.ram b →
-    byte_of ram b (if covers b e then Some e else o) ≡ Byte (bank_after e m).ram b
-one_byte ram m e b o st r le h = by_kind e.item.kind refl r
+-- the byte that a load finds behind an entry is that of the replay after it
+pub one_byte : (l : Entry) (ram : Ram) (m : Bank) (e : Entry) (b : ℕ) (o : Option Entry) → (is_store e.item.kind ≡ true → Covering l e b) → ComesTo e.outcome (as_known e (replayed m e)) → m.ram.base ≤ b → byte_of ram b o ≡ Byte m.ram b →
+    byte_of ram b (if finds l b e then Some e else o) ≡ Byte (bank_after e m).ram b
+one_byte l ram m e b o st r le h = by_kind e.item.kind refl r
   where
-    by_kind : (k : Kind) → e.item.kind ≡ k → ComesTo e.outcome (as_known_by k (has_address e) (has_data e) (replayed_as k m e)) → byte_of ram b (if covers b e then Some e else o) ≡ Byte (ram_after k m.ram e.item.instr (replayed_as k m e)) b
+    by_kind : (k : Kind) → e.item.kind ≡ k → ComesTo e.outcome (as_known_by k (has_address e) (has_data e) (replayed_as k m e)) → byte_of ram b (if finds l b e then Some e else o) ≡ Byte (ram_after k m.ram e.item.instr (replayed_as k m e)) b
     by_kind Store q r =
         let t : is_store e.item.kind ≡ true = ap is_store q in
         let c = st t in
-        let found : covers b e ≡ reaches b (width_of e) e.outcome = reached (is_store e.item.kind) (has_address e) _ t c.address in
-        byte_pick (covers b e) ram b e o ∙ ap (λ f. if f then byte_from b e else byte_of ram b o) found
-        ∙ store_byte m e b (byte_of ram b o) (subst (λ h. ComesTo e.outcome (known_of h (has_data e) (replayed_as Store m e))) c.address r) c.issued (λ t. c.datum (found ∙ t)) le h
-    by_kind _ q r = let n : is_store e.item.kind ≡ false = ap is_store q in let none : (if covers b e then byte_from b e else byte_of ram b o) ≡ byte_of ram b o = rw n refl in byte_pick (covers b e) ram b e o ∙ none ∙ h
+        let R : Bool = reaches b (width_of e) e.outcome in
+        let found : finds l b e ≡ R = reached (left_out l e) (is_store e.item.kind) (has_address e) R (kept_in (passed e l) e.cleared c.cleared) t c.address in
+        let covered : covers b e ≡ R = reached false (is_store e.item.kind) (has_address e) R refl t c.address in
+        byte_pick (finds l b e) ram b e o ∙ ap (λ f. if f then byte_from b e else byte_of ram b o) found
+        ∙ store_byte m e b (byte_of ram b o) (subst (λ h. ComesTo e.outcome (known_of h (has_data e) (replayed_as Store m e))) c.address r) c.issued (λ t. c.datum (covered ∙ t)) le h
+    by_kind _ q r = let n : is_store e.item.kind ≡ false = ap is_store q in byte_pick (finds l b e) ram b e o ∙ none_found (left_out l e) (covers b e) (byte_from b e) (byte_of ram b o) (rw n refl) ∙ h
 
 pub slice_step : (bytes : List ℕ) (k n : ℕ) → k < length bytes → slice_range bytes k (k + suc n) ≡ get_or bytes k 0 ∷ slice_range bytes (k + 1) (k + 1 + n)
 slice_step bytes k n lt =
@@ -134,39 +151,54 @@ store_issued Store true c i q p h = p
 store_issued Store false c i q p h = absurd (cc)
 store_issued _ a c i q p h = absurd (cc)
 
-module _ (code : Code) (s : Bank) (l : Entry) where
+-- a cleared store has its address
+cleared_address : (st h p c sh d : Bool) → st ≡ true → c ≡ true → before_of st h p c sh d ≡ true → h ≡ true
+cleared_address true true p c sh d q r b = refl
+cleared_address true false p true sh d q r b = absurd (cc)
+cleared_address true false p false sh d q r b = absurd (cc)
+cleared_address false h p c sh d q r b = absurd (cc)
+
+is_cleared : (s c : Bool) → s ≡ true → (not s || c) ≡ true → c ≡ true
+is_cleared true c q h = h
+is_cleared false c q h = absurd (cc)
+
+module _ (d : Desc) (code : Code) (s : Bank) (now : ℕ) (l : Entry) where
   -- of an older store what a byte of the load needs
-  covering : (before : List Entry) (e : Entry) (b : ℕ) → InLoad l b → Stands code s before e → stands_before l e ≡ true → is_store e.item.kind ≡ true → Covering e b
-  covering before e b i st sb q =
-      let address = before_address (is_store e.item.kind) (has_address e) (has_data e) (shares e l) q sb in
+  covering : (before : List Entry) (e : Entry) (b : ℕ) → InLoad l b → Stands d code s now before e → stands_before l e ≡ true → is_clear e ≡ true → is_store e.item.kind ≡ true → Covering l e b
+  covering before e b i st sb cl q =
+      let c = is_cleared (is_store e.item.kind) e.cleared q cl in
+      let address = cleared_address (is_store e.item.kind) (has_address e) (passed e l) e.cleared (shares e l) (has_data e) q c sb in
       record {
         address = address;
         issued = store_issued e.item.kind (has_address e) (has_data e) (is_issued e) q st.parts address;
-        datum = λ c. before_data (is_store e.item.kind) (has_address e) (has_data e) (shares e l) q sb (shares_byte l e b i c);
+        cleared = c;
+        datum = λ t. found_data (is_store e.item.kind) (has_address e) (passed e l) e.cleared (shares e l) (has_data e) q address (kept_in (passed e l) e.cleared c) (shares_byte l e b i t) sb;
       }
 
-  -- a byte of the load
-  byte_is : (before : List Entry) (b : ℕ) → s.ram.base ≤ b → InLoad l b → Behind (Stands code s) before → list_all (stands_before l) before ≡ true → Replayed s before → byte_of s.ram b (find (covers b) before) ≡ Byte (bank s before).ram b
-  byte_is [] b le i st sb r = refl
-  byte_is (e ∷ before) b le i st sb r =
+  -- a byte of the load, where each older store is cleared
+  byte_is : (before : List Entry) (b : ℕ) → s.ram.base ≤ b → InLoad l b → Behind (Stands d code s now) before → list_all (stands_before l) before ≡ true → list_all is_clear before ≡ true → Replayed s before →
+      byte_of s.ram b (find (finds l b) before) ≡ Byte (bank s before).ram b
+  byte_is [] b le i st sb cl r = refl
+  byte_is (e ∷ before) b le i st sb cl r =
       let k = keeps_bank s before in
       let ss = both (stands_before l e) _ sb in
-      one_byte s.ram (bank s before) e b (find (covers b) before) (covering before e b i st.0 ss.0) r.0 (rw k.base le) (byte_is before b le i st.1 ss.1 r.1)
+      let cs = both (is_clear e) _ cl in
+      one_byte l s.ram (bank s before) e b (find (finds l b) before) (covering before e b i st.0 ss.0 cs.0) (r.0 cs.1) (rw k.base le) (byte_is before b le i st.1 ss.1 cs.1 r.1)
 
   -- the bytes of a load are the replay's
   pub load_bytes_are : (before : List Entry) (a n : ℕ) → s.ram.base ≤ a → a + n ≤ s.ram.base + length s.ram.bytes → ((x : ℕ) → a ≤ x → x < a + n → InLoad l x) →
-      Behind (Stands code s) before → list_all (stands_before l) before ≡ true → Replayed s before → bytes_found s.ram before l a n ≡ bytes_at (bank s before).ram a n
-  load_bytes_are before a zero le fits i st sb r =
+      Behind (Stands d code s now) before → list_all (stands_before l) before ≡ true → list_all is_clear before ≡ true → Replayed s before → bytes_found s.ram before l a n ≡ bytes_at (bank s before).ram a n
+  load_bytes_are before a zero le fits i st sb cl r =
       let m = (bank s before).ram in
       let z : a - m.base + 0 - (a - m.base) ≡ 0 = omega arith in
       sym (ap (λ j. take j (drop (a - m.base) m.bytes)) z)
-  load_bytes_are before a (suc n) le fits i st sb r =
+  load_bytes_are before a (suc n) le fits i st sb cl r =
       let m = (bank s before).ram in
       let k = keeps_bank s before in
       let shift : a + 1 - m.base ≡ a - m.base + 1 = omega (arith, k.base) in
       let lt : a - m.base < length m.bytes = omega (arith, k.base, k.size) in
-      let one = byte_is before a le (i a (omega arith) (omega arith)) st sb r in
-      let rest = load_bytes_are before (a + 1) n (omega arith) (omega arith) (λ x le lt. i x (omega (arith, le)) (omega (arith, lt))) st sb r in
+      let one = byte_is before a le (i a (omega arith) (omega arith)) st sb cl r in
+      let rest = load_bytes_are before (a + 1) n (omega arith) (omega arith) (λ x le lt. i x (omega (arith, le)) (omega (arith, lt))) st sb cl r in
       let step = slice_step m.bytes (a - m.base) n lt in
       ap (λ (b : ℕ). b ∷ bytes_found s.ram before l (a + 1) n) one
       ∙ ap (λ (bs : List ℕ). Byte m a ∷ bs) (rest ∙ ap (λ j. slice_range m.bytes j (j + n)) shift)

@@ -11,27 +11,32 @@ use Rattle.window_model.specs.Retire.{hart_of}
 use Rattle.window_model.specs.Fill.{fill, complete, completed, completes_at}
 use Rattle.committed_state.specs.Computed.{Bank}
 use Rattle.window_model.specs.Along.{Behind}
-use Rattle.committed_state.specs.Consistent.{Stands, Holds, Consistent, FitsState, bank_in}
-use Rattle.committed_state.proofs.Onward.{moves_same}
+use Rattle.committed_state.specs.Consistent.{Stands, Holds, ConsistentIn, FitsClearing, FitsState, bank_in}
+use Rattle.window_model.specs.Dependence.{passing}
+use Rattle.committed_state.proofs.Sees.{moves_same}
 use Rattle.committed_state.proofs.Kept.{Kept, each_holds}
 use Rattle.window_model.proofs.EntryByEntry.{map_is_each}
 
 abbrev done : Entry → Entry
 done e = record e { state = Done }
 
-kept_same : (code : Code) (s : Bank) (b : List Entry) (e : Entry) → Stands code s b e → Kept code s b e e
-kept_same code s b e h = record { stands = h; moves = moves_same e; link = refl }
+kept_same : (d : Desc) (code : Code) (s : Bank) (now : ℕ) (b : List Entry) (e : Entry) → Stands d code s now b e → Kept d code s now b e e
+kept_same d code s now b e h = record { stands = h; moves = moves_same now e; link = refl }
 
 fits_done : (t : Progress) (e : Entry) (cycle : ℕ) → completes_at cycle t ≡ true → FitsState t e → FitsState Done (done e)
 fits_done (Busy due) e cycle c h = (h.0 ∙ sym (ap not h.2), λ r. absurd (let q = h.1 in cc))
 fits_done Waiting e cycle c h = absurd (cc)
 fits_done Done e cycle c h = absurd (cc)
 
-complete_one : (code : Code) (s : Bank) (cycle : ℕ) (b : List Entry) (e : Entry) → Behind (Stands code s) b → Stands code s b e → Kept code s b e (completed cycle e)
-complete_one code s cycle b e h st = by_due (completes_at cycle e.state) refl
+clearing_done : (p : Bool) (e : Entry) → FitsClearing p e → FitsClearing p (done e)
+clearing_done true e c = c
+clearing_done false e c = c
+
+complete_one : (d : Desc) (code : Code) (s : Bank) (now cycle : ℕ) (b : List Entry) (e : Entry) → Behind (Stands d code s now) b → Stands d code s now b e → Kept d code s now b e (completed cycle e)
+complete_one d code s now cycle b e h st = by_due (completes_at cycle e.state) refl
   where
-    by_due : (c : Bool) → completes_at cycle e.state ≡ c → Kept code s b e (if c then done e else e)
-    by_due false q = kept_same code s b e st
+    by_due : (c : Bool) → completes_at cycle e.state ≡ c → Kept d code s now b e (if c then done e else e)
+    by_due false q = kept_same d code s now b e st
     by_due true q = record {
       stands = record {
         item = st.item;
@@ -40,17 +45,20 @@ complete_one code s cycle b e h st = by_due (completes_at cycle e.state) refl
         computed = st.computed;
         operands = st.operands;
         stores = st.stores;
+        clearing = clearing_done (passing d) e st.clearing;
+        issued = st.issued;
+        due = st.due;
         through = st.through;
         alone = st.alone;
       };
-      moves = record { item = refl; done = λ h. (refl, refl); address = λ h. (h, refl); stored = λ h. (h, refl) };
+      moves = record { item = refl; cleared = refl; done = λ h. (refl, refl); address = λ h. (refl, refl); fresh = λ h k. absurd (cc); stored = λ h. (h, refl) };
       link = refl;
     }
 
-pub consistent_complete : (code : Code) (d : Desc) (x : Machine) → Consistent d code x → Consistent d code (complete x).machine
-consistent_complete code d x h =
-    subst (λ w. Holds code (hart_of x) w x.queue x.fetch_pc) (map_is_each (completed x.cycle) [] x.window)
-    (each_holds code (hart_of x) (λ b e. completed x.cycle e) (complete_one code (bank_in (hart_of x)) x.cycle) x.window x.queue x.fetch_pc h)
+pub consistent_complete : (now : ℕ) (code : Code) (d : Desc) (x : Machine) → ConsistentIn now d code x → ConsistentIn now d code (complete x).machine
+consistent_complete now code d x h =
+    subst (λ w. Holds d code (hart_of x) now w x.queue x.fetch_pc) (map_is_each (completed x.cycle) [] x.window)
+    (each_holds d code (hart_of x) now now (λ b e. completed x.cycle e) (complete_one d code (bank_in (hart_of x)) now x.cycle) x.window x.queue x.fetch_pc h)
 
-pub consistent_fill : (code : Code) (d : Desc) (x : Machine) → Consistent d code x → Consistent d code (fill d x).machine
-consistent_fill code d x h = h
+pub consistent_fill : (now : ℕ) (code : Code) (d : Desc) (x : Machine) → ConsistentIn now d code x → ConsistentIn now d code (fill d x).machine
+consistent_fill now code d x h = h

@@ -1,5 +1,5 @@
 -- Each phase keeps it that what has issued waited for untainted operands; so does a cycle, and a run.
-use Rattle.std.proofs.Common.{◌≡◌, List, [], ◌∷◌, ◌++◌, refl, ap, sym, subst}
+use Rattle.std.proofs.Common.{List, [], ◌∷◌, ◌++◌, refl, sym, subst, append_assoc}
 use Rattle.std.specs.Prelude.{reverse}
 use Rattle.rv_types.specs.Memory.{Code}
 use Rattle.machine_desc.specs.declared.Desc.{Desc}
@@ -22,11 +22,6 @@ use Rattle.committed_state.specs.Guarded.{IsGuarded, AllGuarded, CycleGuards, Ru
 use Rattle.window_model.specs.Along.{Fact}
 use Rattle.committed_state.proofs.Clears.{Clears, clears_same}
 use Rattle.committed_state.proofs.Untainted.{cleared_on, guarded_on, guarded_drops, guarded_new, guarded_completed, guarded_issued, resolved_on}
-
--- more entries behind an entry
-longer : (older : List Entry) (e : Entry) (ys zs : List Entry) → older ++ e ∷ (ys ++ zs) ≡ (older ++ e ∷ ys) ++ zs
-longer [] e ys zs = refl
-longer (o ∷ older) e ys zs = ap (λ w. o ∷ w) (longer older e ys zs)
 
 module _ (d : Desc) where
   abbrev W : List Entry → Type 0
@@ -59,7 +54,7 @@ module _ (d : Desc) where
       clear_keep d P cleared_here
       (λ x p q t u h.
       along_front G [] (reverse p.before ++ cleared_one p.entry ∷ reverse q.before) (q.entry ∷ q.younger)
-      (subst W (longer (reverse p.before) (cleared_one p.entry) (reverse q.before) (q.entry ∷ q.younger)) (subst (λ ys. W (reverse p.before ++ cleared_one p.entry ∷ ys)) u.younger (cleared_here x p t h))))
+      (subst W (sym (append_assoc (reverse p.before) (cleared_one p.entry ∷ reverse q.before) (q.entry ∷ q.younger))) (subst (λ ys. W (reverse p.before ++ cleared_one p.entry ∷ ys)) u.younger (cleared_here x p t h))))
 
   pub guarded_retire : (x : Machine) → W x.window → W (retire d x).machine.window
   guarded_retire = retire_keep d P (head_drops W (guarded_drops d.stt_model) d) (λ x end h. h)

@@ -1,5 +1,6 @@
 -- Issue: what begins to execute gets what it computes, and a store's parts make known what they compute.
-use Rattle.std.proofs.Common.{◌≡◌, ℕ, ◌<◌, Bool, true, false, ◌||◌, List, [], Option, Some, None, refl, ap, sym, ◌∙◌, subst}
+use Rattle.std.proofs.Common.{◌≡◌, ℕ, ◌+◌, ◌<◌, Bool, true, false, ◌||◌, List, [], ◌∷◌, Option, Some, None, refl, ap, sym, ◌∙◌, subst, arith}
+use Rattle.std.proofs.lemmas.Bool.Decides.{nat_tests}
 use Rattle.std.specs.List.{list_all}
 use Rattle.rv_types.specs.Memory.{Code, load_fault}
 use Rattle.rv_types.specs.Isa.{Effect}
@@ -14,18 +15,22 @@ use Rattle.window_model.specs.declared.Progress.TheVariants.{Waiting, Busy, Done
 use Rattle.window_model.specs.State.{Machine}
 use Rattle.window_model.specs.Order.{is_waiting, is_done, is_load, is_store, has_address, has_data, sources, first}
 use Rattle.window_model.specs.Ready.{ready}
-use Rattle.window_model.specs.Retire.{op_of, width_of, hart_of}
-use Rattle.window_model.specs.Access.{access_at}
+use Rattle.window_model.specs.Retire.{op_of, width_in, width_of, hart_of}
+use Rattle.window_model.specs.Access.{access_at, load_bytes}
+use Rattle.window_model.specs.Clear.{is_before}
+use Rattle.window_model.specs.Dependence.{passing}
 use Rattle.window_model.specs.Around.{Around, around}
 use Rattle.window_model.specs.Issue.{DivPort, LoadPort, issue, issue_entry, begin_as, begun, divider_after, effect_of, load_as, may_at, may_issue_as, outcome, Begun}
 use Rattle.window_model.specs.Rename.{at_once}
-use Rattle.committed_state.specs.Computed.{ComesTo, as_known, as_known_by, bytes_over, computed, loaded_or, outcome_as}
-use Rattle.window_model.specs.Along.{Behind}
-use Rattle.committed_state.specs.Consistent.{Stands, Holds, Consistent, FitsParts, FitsState, HasOperands, all_issued_by, is_issued, stands_before}
-use Rattle.committed_state.proofs.Computed.{address_is}
-use Rattle.committed_state.proofs.Letting.{stands_behind}
+use Rattle.committed_state.specs.Computed.{Bank, as_known_by, computed, loaded_or, outcome_as}
+use Rattle.window_model.specs.Along.{Along, Behind}
+use Rattle.committed_state.specs.Consistent.{Stands, Holds, Consistent, ConsistentIn, FitsClearing, FitsParts, FitsState, HasOperands, IsDueBy, all_issued_by, is_issued, stands_before}
+use Rattle.committed_state.proofs.Computed.{address_is, outcome_same}
+use Rattle.committed_state.proofs.Letting.{bytes_now, stands_behind}
 use Rattle.committed_state.proofs.Parts.{bank_of, parts_so, same_link}
-use Rattle.committed_state.proofs.Onward.{Moves, load_out, moves_same}
+use Rattle.committed_state.proofs.Onward.{load_out}
+use Rattle.committed_state.proofs.Sees.{Moves, moves_same}
+use Rattle.window_model.proofs.Memory.{same_shape}
 use Rattle.committed_state.proofs.Kept.{Kept, each_holds}
 use Rattle.committed_state.proofs.Operands.{all_known_executed}
 use Rattle.window_model.specs.declared.Divider.{Divider}
@@ -48,8 +53,12 @@ module _ (d : Desc) (now : Around) (e : Entry) (f : Effect) (bytes : List ℕ) w
   load_comes b a n None some =
       by_served d now (λ a. Comes now.cycle e (outcome f Value None) (load_as a d now e f Value).entry) (Begins _ refl) (λ a n some room. Begins _ refl) (λ a n some full. Remains refl) b a n some
 
-comes : (d : Desc) (x : Machine) (b : List Entry) (e : Entry) (k : Kind) → is_store k ≡ false → let f = effect_of x.regs b e in Comes x.cycle e (outcome_as k x.ram e.item.instr f (bytes_over (bank_of x) b e f.addr)) (begin_as k d (around x) b e).entry
-comes d x b e Load n = let f = effect_of x.regs b e in load_comes d (around x) e f (bytes_over (bank_of x) b e f.addr) b f.addr (width_of e) (load_fault x.ram f.addr (width_of e)) (some_bytes (op_of e.item.instr))
+-- what Issue gives an entry in one piece
+abbrev given : Machine → List Entry → Entry → Kind → Outcome
+given x b e k = let f = effect_of x.regs b e in outcome_as k x.ram e.item.instr f (load_bytes x.ram b f.addr (width_in e.item.instr))
+
+comes : (d : Desc) (x : Machine) (b : List Entry) (e : Entry) (k : Kind) → is_store k ≡ false → Comes x.cycle e (given x b e k) (begin_as k d (around x) b e).entry
+comes d x b e Load n = let f = effect_of x.regs b e in load_comes d (around x) e f (load_bytes x.ram b f.addr (width_of e)) b f.addr (width_of e) (load_fault x.ram f.addr (width_of e)) (some_bytes (op_of e.item.instr))
 comes d x b e Store n = absurd (cc)
 comes d x b e _ n = Begins _ refl
 
@@ -70,43 +79,106 @@ whole_operands : (k : Kind) (a c i : Bool) (d : Desc) (b : List Entry) (e : Entr
 whole_operands Store a c i d b e n r = absurd (cc)
 whole_operands _ a c i d b e n r = λ h. all_known_executed d b (sources e) r
 
-module _ (code : Code) (d : Desc) (x : Machine) (b : List Entry) (e : Entry) (h : Behind (Stands code (bank_of x)) b) (st : Stands code (bank_of x) b e) where
+-- ---- later
+
+later_before : (i : Option ℕ) (n : ℕ) → is_before i (Some n) ≡ true → is_before i (Some (n + 1)) ≡ true
+later_before None n h = absurd (cc)
+later_before (Some i) n h = grind (arith, nat_tests)
+
+later_due : (a : Option ℕ) (n : ℕ) → IsDueBy n a → IsDueBy (n + 1) a
+later_due None n h = tt
+later_due (Some a) n h = omega (arith, h)
+
+-- what Issue finds stands so in the next cycle
+stands_later : (d : Desc) (code : Code) (s : Bank) (now : ℕ) (b : List Entry) (e : Entry) → Stands d code s now b e → Stands d code s (now + 1) b e
+stands_later d code s now b e st = record {
+  item = st.item;
+  parts = st.parts;
+  state = st.state;
+  computed = st.computed;
+  operands = st.operands;
+  stores = st.stores;
+  clearing = st.clearing;
+  issued = λ i l. later_before e.issued now (st.issued i l);
+  due = later_due e.addr_due now st.due;
+  through = st.through;
+  alone = st.alone;
+}
+
+along_later : (d : Desc) (code : Code) (s : Bank) (now : ℕ) (b w : List Entry) → Along (Stands d code s now) b w → Along (Stands d code s (now + 1)) b w
+along_later d code s now b [] k = tt
+along_later d code s now b (e ∷ w) k = (stands_later d code s now b e k.0, along_later d code s now (e ∷ b) w k.1)
+
+-- so does a machine that Issue doesn't come to
+pub consistent_later : (now : ℕ) (code : Code) (d : Desc) (x : Machine) → ConsistentIn now d code x → ConsistentIn (now + 1) d code x
+consistent_later now code d x h = record { entries = along_later d code (bank_of x) now [] x.window h.entries; items = h.items; chain = h.chain; registers = h.registers }
+
+-- ---- an entry in one piece that begins
+
+clearing_begun : (p : Bool) (cycle : ℕ) (e : Entry) (due : ℕ) (o : Outcome) → FitsClearing p e → FitsClearing p (begun cycle e due o)
+clearing_begun true cycle e due o c = c
+clearing_begun false cycle e due o c = c
+
+module _ (d : Desc) (code : Code) (x : Machine) (b : List Entry) (e : Entry) (h : Behind (Stands d code (bank_of x) x.cycle) b) (st : Stands d code (bank_of x) x.cycle b e) where
+  abbrev F : Effect
+  F = effect_of x.regs b e
+
+  abbrev O : Outcome
+  O = given x b e e.item.kind
+
+  remains : Kept d code (bank_of x) (x.cycle + 1) b e e
+  remains = record { stands = stands_later d code (bank_of x) x.cycle b e st; moves = moves_same (x.cycle + 1) e; link = refl }
+
   waits_so : (t : Progress) → is_waiting t ≡ true → FitsState t e → (e.resolved ≡ false) × (at_once e.item.kind ≡ false) × (is_done t ≡ true → ⊥)
   waits_so Waiting w f = (f.1, f.2, λ q. absurd (cc))
   waits_so Done w f = absurd (cc)
   waits_so (Busy due) w f = absurd (cc)
 
-  -- older stores let a load go that begins with what it computes
-  stores_so : (l : Entry) → l.item ≡ e.item → ComesTo l.outcome (as_known e (computed (bank_of x) b e)) → is_issued l ≡ true → is_load e.item.kind ≡ true → may_issue_as e.item.kind d (around x) b e ≡ true → list_all (stands_before l) b ≡ true
-  stores_so l item c i z m =
-      let f = effect_of x.regs b e in
-      let ad = address_is code x.regs b e st.item (ap (λ t. t || is_store e.item.kind) z) in
-      let o = load_out e.item.kind x.ram e f (bytes_over (bank_of x) b e f.addr) l.outcome z c i in
-      stands_behind code (bank_of x) l d (around x) b e item (o.0 ∙ ad) (o.1 ∙ ap (λ a. load_fault x.ram a (width_of e)) ad) h (load_behind e.item.kind d (around x) b e m z)
+  -- what it gets is what it computes
+  computed_so : (due : ℕ) → computed (bank_of x) b (begun x.cycle e due O) ≡ O
+  computed_so due =
+      let l = begun x.cycle e due O in
+      outcome_same x.ram x.ram e.item.instr (same_shape x.ram) e.item.kind F F _ _ refl (λ z y. bytes_now d code (bank_of x) x.cycle l refl b F.addr (width_in e.item.instr) h)
 
-  -- an entry in one piece that begins stands
-  begun_so : is_store e.item.kind ≡ false → MayIssue d (around x) b e → (r : Entry) → Comes x.cycle e (computed (bank_of x) b e) r → Kept code (bank_of x) b e r
-  begun_so n m r (Remains q) = subst (λ r. Kept code (bank_of x) b e r) (sym q) (record { stands = st; moves = moves_same e; link = refl })
+  -- older stores let a load go that begins so
+  stores_so : (due : ℕ) → is_store e.item.kind ≡ false → is_load e.item.kind ≡ true → may_issue_as e.item.kind d (around x) b e ≡ true → list_all (stands_before (begun x.cycle e due O)) b ≡ true
+  stores_so due n z m =
+      let l = begun x.cycle e due O in
+      let ad = address_is code x.regs b e st.item (ap (λ t. t || is_store e.item.kind) z) in
+      let o = load_out e.item.kind x.ram l F (load_bytes x.ram b F.addr (width_in e.item.instr)) (Some O) z (sym (whole_known e.item.kind (has_address e) (has_data e) O n)) refl in
+      stands_behind d code (bank_of x) x.cycle l refl (around x) b e refl (o.0 ∙ ad) (o.1 ∙ ap (λ a. load_fault x.ram a (width_of e)) ad) h (load_behind e.item.kind d (around x) b e m z)
+
+  begun_so : is_store e.item.kind ≡ false → MayIssue d (around x) b e → (r : Entry) → Comes x.cycle e O r → Kept d code (bank_of x) (x.cycle + 1) b e r
+  begun_so n m r (Remains q) = subst (λ r. Kept d code (bank_of x) (x.cycle + 1) b e r) (sym q) remains
   begun_so n m r (Begins due q) =
       let k = e.item.kind in
       let a = has_address e in
       let c = has_data e in
       let t = waits_so e.state m.waits st.state in
       let p = whole_parts k a c (is_issued e) true n st.parts in
-      let r2 = begun x.cycle e due (computed (bank_of x) b e) in
-      let known : ComesTo r2.outcome (as_known e (computed (bank_of x) b e)) = sym (whole_known k a c (computed (bank_of x) b e) n) in
-      let made : Stands code (bank_of x) b r2 = record {
+      let l = begun x.cycle e due O in
+      let made : Stands d code (bank_of x) (x.cycle + 1) b l = record {
         item = st.item;
         parts = p.2;
         state = (whole_issued k a c true n, t.0, t.1);
-        computed = known;
+        computed = sym (whole_known k a c (computed (bank_of x) b l) n ∙ computed_so due);
         operands = whole_operands k a c true d b e n m.ready;
-        stores = λ i z. stores_so r2 refl known refl z m.kind;
+        stores = λ i z. stores_so due n z m.kind;
+        clearing = clearing_begun (passing d) x.cycle e due O st.clearing;
+        issued = λ i z. grind (arith, nat_tests);
+        due = later_due e.addr_due x.cycle st.due;
         through = st.through;
         alone = st.alone;
       } in
-      let on : Moves e r2 = record { item = refl; done = λ h. absurd (t.2 h); address = λ h. absurd (let z = p.0 in cc); stored = λ h. absurd (let z = p.1 in cc) } in
-      subst (λ r. Kept code (bank_of x) b e r) (sym q) (record { stands = made; moves = on; link = same_link e.resolved e r2 refl t.0 })
+      let on : Moves (x.cycle + 1) e l = record {
+        item = refl;
+        cleared = refl;
+        done = λ h. absurd (t.2 h);
+        address = λ h. absurd (let z = p.0 in cc);
+        fresh = λ h k. absurd (cc);
+        stored = λ h. absurd (let z = p.1 in cc);
+      } in
+      subst (λ r. Kept d code (bank_of x) (x.cycle + 1) b e r) (sym q) (record { stands = made; moves = on; link = same_link e.resolved e l refl t.0 })
 
 store_kind : (k : Kind) → is_store k ≡ true → k ≡ Store
 store_kind Store h = refl
@@ -117,14 +189,15 @@ store_kind _ h = absurd (cc)
 abbrev pub issued : Desc → Machine → List Entry → Entry → Entry
 issued d x b e = (issue_entry d (around x) b e).entry
 
-issue_one : (code : Code) (d : Desc) (x : Machine) (b : List Entry) (e : Entry) → Behind (Stands code (bank_of x)) b → Stands code (bank_of x) b e → Kept code (bank_of x) b e (issued d x b e)
-issue_one code d x b e h st = by_issue d (around x) b e (Kept code (bank_of x) b e) (record { stands = st; moves = moves_same e; link = refl })
-    (λ n m. begun_so code d x b e h st n m _ (comes d x b e e.item.kind n))
-    (λ t a c ga gc. parts_so d code x b e (store_kind e.item.kind t) st a c ga gc)
+issue_one : (d : Desc) (code : Code) (x : Machine) (b : List Entry) (e : Entry) → Behind (Stands d code (bank_of x) x.cycle) b → Stands d code (bank_of x) x.cycle b e → Kept d code (bank_of x) (x.cycle + 1) b e (issued d x b e)
+issue_one d code x b e h st = by_issue d (around x) b e (Kept d code (bank_of x) (x.cycle + 1) b e) (remains d code x b e h st)
+    (λ n m. begun_so d code x b e h st n m _ (comes d x b e e.item.kind n))
+    (λ t a c ga gc. parts_so d code x b e (store_kind e.item.kind t) (stands_later d code (bank_of x) x.cycle b e st) a c ga gc)
 
-pub consistent_issue : (code : Code) (d : Desc) (x : Machine) → Consistent d code x → Consistent d code (issue d x).machine
+-- Issue leads to the next cycle
+pub consistent_issue : (code : Code) (d : Desc) (x : Machine) → ConsistentIn x.cycle d code x → Consistent d code (issue d x).machine
 consistent_issue code d x h =
-    by_after_load d x (λ y. (w : List Entry) (v : Divider) → Holds code (hart_of x) w x.queue x.fetch_pc → Consistent d code (record y { window = w; divider = v })) (λ c s m w v k. k)
+    by_after_load d x (λ y. (w : List Entry) (v : Divider) → Holds d code (hart_of x) (x.cycle + 1) w x.queue x.fetch_pc → Consistent d code (record y { window = w; divider = v })) (λ c s m w v k. k)
     (first (may_at d (around x) LoadPort) x.window) _ (divider_after x (first (may_at d (around x) DivPort) x.window))
-    (subst (λ w. Holds code (hart_of x) w x.queue x.fetch_pc) (sym (map_each (λ (t : Begun). t.entry) (issue_entry d (around x)) [] x.window))
-    (each_holds code (hart_of x) (issued d x) (issue_one code d x) x.window x.queue x.fetch_pc h))
+    (subst (λ w. Holds d code (hart_of x) (x.cycle + 1) w x.queue x.fetch_pc) (sym (map_each (λ (t : Begun). t.entry) (issue_entry d (around x)) [] x.window))
+    (each_holds d code (hart_of x) x.cycle (x.cycle + 1) (issued d x) (issue_one d code x) x.window x.queue x.fetch_pc h))

@@ -1,28 +1,30 @@
--- What is known of an entry that may issue: its operands have their values, and older stores have been executed. So what it
--- computes is what the replay says.
-use Rattle.std.proofs.Common.{◌≡◌, ℕ, Bool, true, false, not, List, [], ◌∷◌, length, Option, Some, refl, ap, sym, ◌∙◌, subst, arith}
+-- What is known of an entry that has issued: its operands have their values. So what it computes is what the replay says, where each
+-- older store is cleared.
+use Rattle.std.proofs.Common.{◌≡◌, ℕ, ◌+◌, Bool, true, false, not, ◌&&◌, List, [], ◌∷◌, length, Option, Some, refl, ap, sym, ◌∙◌, subst, arith}
 use Rattle.std.specs.Prelude.{if◌then◌else◌, reverse}
 use Rattle.std.specs.List.{find, list_all}
 use Rattle.rv_types.specs.Memory.{Code, bytes_at}
 use Rattle.rv_types.specs.Isa.{Effect}
 use Rattle.rv_types.specs.declared.Kind.{Kind}
 use Rattle.rv_types.specs.declared.Kind.TheVariants.{Store}
+use Rattle.machine_desc.specs.declared.Desc.{Desc}
 use Rattle.window_model.specs.declared.Entry.{Entry}
 use Rattle.window_model.specs.declared.Outcome.{Outcome}
 use Rattle.window_model.specs.declared.Progress.{Progress}
 use Rattle.window_model.specs.declared.Progress.TheVariants.{Waiting, Busy, Done}
-use Rattle.window_model.specs.Along.{Behind}
+use Rattle.window_model.specs.Along.{Along, Behind}
+use Rattle.window_model.specs.Dependence.{passing}
 use Rattle.window_model.specs.Rename.{at_once}
 use Rattle.window_model.specs.Issue.{effect_of}
 use Rattle.window_model.specs.Order.{is_control, writes, writer, is_done, is_store, has_address, has_data}
 use Rattle.window_model.specs.Retire.{hart_of, width_in}
-use Rattle.window_model.proofs.Booleans.{both}
+use Rattle.window_model.proofs.Booleans.{both, or_true}
 use Rattle.window_model.proofs.EntryByEntry.{behind_of}
 use Rattle.window_model.proofs.Memory.{inside}
 use Rattle.committed_state.specs.Computed.{Bank, ComesTo, as_known, as_known_by, computed, outcome_as}
-use Rattle.committed_state.specs.Consistent.{Stands, FitsParts, FitsState, all_issued, all_issued_by, bank_in, executed, goes_through, is_issued}
-use Rattle.committed_state.specs.Laws.{IssuedIsReplayed}
-use Rattle.committed_state.specs.Replay.{Replayed, bank, replayed}
+use Rattle.committed_state.specs.Consistent.{Stands, FitsClearing, FitsParts, FitsState, all_issued, all_issued_by, bank_in, executed, goes_through, is_issued}
+use Rattle.committed_state.specs.Laws.{AllClearUnlessPassing, IssuedIsReplayed}
+use Rattle.committed_state.specs.Replay.{Replayed, bank, is_clear, replayed}
 use Rattle.committed_state.proofs.Bytes.{keeps_bank, load_bytes_are, store_issued}
 use Rattle.committed_state.proofs.Computed.{alike, effect_alone}
 use Rattle.committed_state.proofs.Onward.{comes_to, in_load}
@@ -52,41 +54,53 @@ known_all Store false c i v h = absurd (cc)
 known_all _ a c i v h = refl
 
 -- what is Done and no stop or call has an outcome
-pub done_issued : (code : Code) (s : Bank) (b : List Entry) (e : Entry) → Stands code s b e → goes_through e ≡ true → is_done e.state ≡ true → is_issued e ≡ true
-done_issued code s b e h t d = issued_of e.item.kind (has_address e) (has_data e) (is_issued e) h.parts ((done_has e.state e h.state d).0 ∙ t)
+pub done_issued : (d : Desc) (code : Code) (s : Bank) (now : ℕ) (b : List Entry) (e : Entry) → Stands d code s now b e → goes_through e ≡ true → is_done e.state ≡ true → is_issued e ≡ true
+done_issued d code s now b e h t f = issued_of e.item.kind (has_address e) (has_data e) (is_issued e) h.parts ((done_has e.state e h.state f).0 ∙ t)
 
 value_if : (w k : Bool) (e : Entry) (o : Option Entry) → (is_done e.state ≡ true → is_issued e ≡ true) → (k ≡ true → HasValue o) → (if w then is_done e.state else k) ≡ true → HasValue (if w then Some e else o)
 value_if true k e o p q t = p t
 value_if false k e o p q t = q t
 
-pub has_value : (code : Code) (s : Bank) (b : List Entry) (r : ℕ) → Behind (Stands code s) b → list_all goes_through b ≡ true → executed b r ≡ true → HasValue (writer b r)
-has_value code s [] r h t k = tt
-has_value code s (e ∷ b) r h t k =
+pub has_value : (d : Desc) (code : Code) (s : Bank) (now : ℕ) (b : List Entry) (r : ℕ) → Behind (Stands d code s now) b → list_all goes_through b ≡ true → executed b r ≡ true → HasValue (writer b r)
+has_value d code s now [] r h t k = tt
+has_value d code s now (e ∷ b) r h t k =
     let ts = both _ _ t in
-    value_if (writes r e) (executed b r) e (find (writes r) b) (done_issued code s b e h.0 ts.0) (has_value code s b r h.1 ts.1) k
+    value_if (writes r e) (executed b r) e (find (writes r) b) (done_issued d code s now b e h.0 ts.0) (has_value d code s now b r h.1 ts.1) k
 
 -- ---- the replay
 
 -- with as many registers as instructions name, what issued entries have computed is the replay's
-module _ (code : Code) (s : Bank) (n : length s.regs ≡ 32) where
+module _ (d : Desc) (code : Code) (s : Bank) (now : ℕ) (n : length s.regs ≡ 32) where
   -- one entry more
-  replayed_so : (b : List Entry) (e : Entry) → Replayed s b → Behind (Stands code s) b → Stands code s b e → is_issued e ≡ true → as_known e (replayed (bank s b) e) ≡ as_known e (computed s b e)
-  replayed_so b e r h st i =
+  replayed_so : (b : List Entry) (e : Entry) → Replayed s b → list_all is_clear b ≡ true → Behind (Stands d code s now) b → Stands d code s now b e → is_issued e ≡ true → as_known e (replayed (bank s b) e) ≡ as_known e (computed s b e)
+  replayed_so b e r cl h st i =
       let w = width_in e.item.instr in
       let m = bank s b in
       let F : Effect = effect_of s.regs b e in
       ap (λ (f : Effect). as_known e (outcome_as e.item.kind m.ram e.item.instr f (bytes_at m.ram f.addr w))) (sym (effect_alone m e))
-      ∙ alike code s m b [] e st.item (keeps_bank s b) (λ q lt k. sym (operand_is s b q (omega (arith, n)) r (has_value code s b q h st.through k))) (λ a. bytes_at m.ram a w)
-      (λ l f. let j = inside _ _ s.ram F.addr w f in sym (load_bytes_are code s e b F.addr w j.0 j.1 (λ a le lt. in_load code s b e st i l f a le lt) h (st.stores i l) r)) i st.operands
+      ∙ alike code s m b [] e st.item (keeps_bank s b) (λ q lt k. sym (operand_is s b q (omega (arith, n)) cl r (has_value d code s now b q h st.through k))) (λ a. bytes_at m.ram a w)
+      (λ l f. let j = inside _ _ s.ram F.addr w f in sym (load_bytes_are d code s now e b F.addr w j.0 j.1 (λ a le lt. in_load d code s now b e st i l f a le lt) h (st.stores i l) cl r)) i st.operands
 
   -- all that is looked back on
-  pub replayed_behind : (b : List Entry) → Behind (Stands code s) b → Replayed s b
+  pub replayed_behind : (b : List Entry) → Behind (Stands d code s now) b → Replayed s b
   replayed_behind [] h = tt
-  replayed_behind (e ∷ b) h = let r = replayed_behind b h.1 in (comes_to e.outcome _ _ (replayed_so b e r h.1 h.0) h.0.computed, r)
+  replayed_behind (e ∷ b) h = let r = replayed_behind b h.1 in (λ cl. comes_to e.outcome _ _ (replayed_so b e r cl h.1 h.0) h.0.computed, r)
 
   -- so all of the head's is that of the retired state
-  pub replayed_head : (e : Entry) → Stands code s [] e → all_issued e ≡ true → ComesTo e.outcome (replayed s e)
-  replayed_head e st a = subst (ComesTo e.outcome) (known_all e.item.kind (has_address e) (has_data e) (is_issued e) (replayed s e) a) (replayed_behind (e ∷ []) (st, tt)).0
+  pub replayed_head : (e : Entry) → Stands d code s now [] e → all_issued e ≡ true → ComesTo e.outcome (replayed s e)
+  replayed_head e st a = subst (ComesTo e.outcome) (known_all e.item.kind (has_address e) (has_data e) (is_issued e) (replayed s e) a) ((replayed_behind (e ∷ []) (st, tt)).0 refl)
 
 pub issued_is_replayed : IssuedIsReplayed
-issued_is_replayed d code x h = replayed_behind code (bank_in (hart_of x)) h.registers (reverse x.window) (behind_of (Stands code (bank_in (hart_of x))) [] x.window h.entries tt)
+issued_is_replayed d code x h = replayed_behind d code (bank_in (hart_of x)) (x.cycle + 1) h.registers (reverse x.window) (behind_of (Stands d code (bank_in (hart_of x)) (x.cycle + 1)) [] x.window h.entries tt)
+
+-- where no load passes a store, each entry is cleared
+clear_so : (p : Bool) (e : Entry) → FitsClearing p e → p ≡ false → is_clear e ≡ true
+clear_so true e c q = absurd (cc)
+clear_so false e c q = or_true (not (is_store e.item.kind)) e.cleared c
+
+all_clear_from : (d : Desc) (code : Code) (s : Bank) (now : ℕ) (b w : List Entry) → Along (Stands d code s now) b w → passing d ≡ false → list_all is_clear w ≡ true
+all_clear_from d code s now b [] h q = refl
+all_clear_from d code s now b (e ∷ w) h q = ap (λ c. c && list_all is_clear w) (clear_so (passing d) e h.0.clearing q) ∙ all_clear_from d code s now (e ∷ b) w h.1 q
+
+pub all_clear : AllClearUnlessPassing
+all_clear d code x h q = all_clear_from d code (bank_in (hart_of x)) (x.cycle + 1) [] x.window h.entries q

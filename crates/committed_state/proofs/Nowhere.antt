@@ -4,6 +4,7 @@ use Rattle.std.specs.Prelude.{if◌then◌else◌, is_some}
 use Rattle.rv_types.specs.Memory.{Code}
 use Rattle.rv_types.specs.declared.Kind.{Kind}
 use Rattle.rv_types.specs.declared.Kind.TheVariants.{Branch, Jalr, Jal, Stop}
+use Rattle.machine_desc.specs.declared.Desc.{Desc}
 use Rattle.window_model.specs.declared.Entry.{Entry}
 use Rattle.window_model.specs.declared.Item.{Item}
 use Rattle.window_model.specs.Order.{is_faulty}
@@ -35,15 +36,15 @@ entry_stops true true false p n h k = refl
 entry_stops true false s p n h k = absurd (cc)
 entry_stops false f s p n h k = let q = h k in cc
 
-window_stops : (code : Code) (s : Bank) (b : List Entry) (from : Option ℕ) (e : Entry) (es : List Entry) (queue : List Item) → Along (Stands code s) b (e ∷ es) → Each (IsItem code) queue → Chain from (links (e ∷ es) queue) None → HasStopped (e ∷ es) queue
-window_stops code s b from e [] [] h q k = entry_stops e.resolved (is_faulty e) (is_stop e.item.kind) e.item.predicted (next_of e.outcome) (stop_predicts e.item.kind e.item h.0.item.next) k.1
-window_stops code s b from e [] (i ∷ is) h q k = queue_stops code (entry_link e).next i is q k.1
-window_stops code s b from e (f ∷ es) queue h q k = window_stops code s (e ∷ b) (entry_link e).next f es queue h.1 q k.1
+window_stops : (d : Desc) (code : Code) (s : Bank) (now : ℕ) (b : List Entry) (from : Option ℕ) (e : Entry) (es : List Entry) (queue : List Item) → Along (Stands d code s now) b (e ∷ es) → Each (IsItem code) queue → Chain from (links (e ∷ es) queue) None → HasStopped (e ∷ es) queue
+window_stops d code s now b from e [] [] h q k = entry_stops e.resolved (is_faulty e) (is_stop e.item.kind) e.item.predicted (next_of e.outcome) (stop_predicts e.item.kind e.item h.0.item.next) k.1
+window_stops d code s now b from e [] (i ∷ is) h q k = queue_stops code (entry_link e).next i is q k.1
+window_stops d code s now b from e (f ∷ es) queue h q k = window_stops d code s now (e ∷ b) (entry_link e).next f es queue h.1 q k.1
 
-reason : (code : Code) (s : Bank) (pc : ℕ) (window : List Entry) (queue : List Item) → Along (Stands code s) [] window → Each (IsItem code) queue → Chain (Some pc) (links window queue) None → HasStopped window queue
-reason code s pc [] [] h q k = absurd (let n = ap is_some k in cc)
-reason code s pc [] (i ∷ is) h q k = queue_stops code (Some pc) i is q k
-reason code s pc (e ∷ es) queue h q k = window_stops code s [] (Some pc) e es queue h q k
+reason : (d : Desc) (code : Code) (s : Bank) (now : ℕ) (pc : ℕ) (window : List Entry) (queue : List Item) → Along (Stands d code s now) [] window → Each (IsItem code) queue → Chain (Some pc) (links window queue) None → HasStopped window queue
+reason d code s now pc [] [] h q k = absurd (let n = ap is_some k in cc)
+reason d code s now pc [] (i ∷ is) h q k = queue_stops code (Some pc) i is q k
+reason d code s now pc (e ∷ es) queue h q k = window_stops d code s now [] (Some pc) e es queue h q k
 
 pub nowhere_has_reason : NowhereHasReason
-nowhere_has_reason d code x h n = reason code _ x.pc x.window x.queue h.entries h.items (subst (Chain (Some x.pc) (links x.window x.queue)) n h.chain)
+nowhere_has_reason d code x h n = reason d code _ _ x.pc x.window x.queue h.entries h.items (subst (Chain (Some x.pc) (links x.window x.queue)) n h.chain)

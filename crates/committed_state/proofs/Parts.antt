@@ -1,5 +1,5 @@
 -- Issue of a store: each part that goes makes known what it computes.
-use Rattle.std.proofs.Common.{◌≡◌, ℕ, ◌+◌, Bool, true, false, not, ◌&&◌, ◌||◌, List, Option, Some, None, refl, ap, sym, ◌∙◌, subst}
+use Rattle.std.proofs.Common.{◌≡◌, ℕ, ◌+◌, Bool, true, false, not, ◌&&◌, ◌||◌, List, Option, Some, None, refl, ap, sym, ◌∙◌, subst, arith}
 use Rattle.std.specs.Prelude.{if◌then◌else◌, is_some}
 use Rattle.rv_types.specs.Memory.{Code}
 use Rattle.rv_types.specs.Isa.{Effect}
@@ -13,17 +13,18 @@ use Rattle.window_model.specs.declared.Progress.{Progress}
 use Rattle.window_model.specs.declared.Progress.TheVariants.{Waiting, Busy, Done}
 use Rattle.window_model.specs.State.{Machine}
 use Rattle.window_model.specs.Around.{around}
+use Rattle.window_model.specs.Dependence.{passing}
 use Rattle.window_model.specs.Issue.{busy_until_both, effect_of, so_far, with_address, with_data}
-use Rattle.window_model.specs.Order.{base_of, has_address, has_data, is_done, is_load, others_of, sources}
+use Rattle.window_model.specs.Order.{base_of, has_address, has_data, is_done, is_load, is_store, others_of, sources}
 use Rattle.window_model.specs.Rename.{at_once}
 use Rattle.window_model.specs.Retire.{hart_of, stored_of}
 use Rattle.window_model.proofs.Booleans.{or_true}
 use Rattle.window_model.proofs.Issuing.{MayGo, gone_parts}
 use Rattle.committed_state.specs.Computed.{Bank, ComesTo, as_known_by, bytes_over, computed, known_of, outcome_as}
-use Rattle.committed_state.specs.Consistent.{FitsParts, FitsState, HasOperands, Stands, all_executed, all_issued, all_issued_by, bank_in, is_issued}
+use Rattle.committed_state.specs.Consistent.{FitsClearing, FitsParts, FitsState, HasOperands, Stands, all_executed, all_issued, all_issued_by, bank_in, is_issued}
 use Rattle.committed_state.specs.Links.{Link, true_next}
 use Rattle.committed_state.proofs.Kept.{Kept}
-use Rattle.committed_state.proofs.Onward.{Moves, located, moves_same, moves_then}
+use Rattle.committed_state.proofs.Sees.{Moves, located, moves_same, moves_then}
 use Rattle.committed_state.proofs.Operands.{all_known_executed}
 
 -- registers and memory of a machine
@@ -67,7 +68,12 @@ and_no true false h = refl
 and_no false false h = refl
 and_no a true h = absurd (cc)
 
-module _ (d : Desc) (code : Code) (x : Machine) (b : List Entry) (e : Entry) (q : e.item.kind ≡ Store) (st : Stands code (bank_of x) b e) where
+-- whether it is cleared stays, and its address comes or stays
+fits_clearing : (p : Bool) (e r : Entry) → r.item ≡ e.item → r.cleared ≡ e.cleared → (has_address r ≡ false → has_address e ≡ false) → FitsClearing p e → FitsClearing p r
+fits_clearing true e r i c a f = λ q n. c ∙ f (sym (ap (λ (i : Item). is_store i.kind) i) ∙ q) (a n)
+fits_clearing false e r i c a f = c ∙ f
+
+module _ (d : Desc) (code : Code) (x : Machine) (b : List Entry) (e : Entry) (q : e.item.kind ≡ Store) (st : Stands d code (bank_of x) (x.cycle + 1) b e) where
   abbrev F : Effect
   F = effect_of x.regs b e
 
@@ -96,22 +102,32 @@ module _ (d : Desc) (code : Code) (x : Machine) (b : List Entry) (e : Entry) (q 
   own = subst (λ k. HasOperands k (has_address e) (has_data e) (is_issued e) b (sources e)) q st.operands
 
   -- the address
-  address_so : MayGo d (has_address e) (base_of (sources e)) b → Kept code (bank_of x) b e (with_address (around x) F e)
+  address_so : MayGo d (has_address e) (base_of (sources e)) b → Kept d code (bank_of x) (x.cycle + 1) b e (with_address (around x) F e)
   address_so g =
       let r = with_address (around x) F e in
       let w = still_waits e.state e st.state (store_all e.item.kind (has_address e) (has_data e) (is_issued e) q ∙ ap (λ a. a && has_data e) g.fresh) once in
       let out : ComesTo r.outcome (known_of true (has_data e) O) = ap (λ (u : Outcome). let v : Outcome = record u { addr = O.addr; fault = O.fault } in v) (before ∙ ap (λ a. known_of a (has_data e) O) g.fresh) in
-      let made : Stands code (bank_of x) b r = record {
+      let made : Stands d code (bank_of x) (x.cycle + 1) b r = record {
         item = st.item;
         parts = subst (λ k. FitsParts k true (has_data e) true) (sym q) refl;
         state = subst (λ t. FitsState (busy_until_both (Some (x.cycle + 1)) e.data_due t) r) (sym w.0) (fits_busy (Some (x.cycle + 1)) e.data_due r (store_all e.item.kind true (has_data e) true q) w.1 once);
         computed = known_as true (has_data e) r.outcome out;
         operands = subst (λ k. HasOperands k true (has_data e) true b (sources e)) (sym q) (λ z. all_known_executed d b (base_of (sources e)) g.known, own.1);
         stores = λ i l. absurd (let n = no_load in cc);
+        clearing = fits_clearing (passing d) e r refl refl (λ h. absurd (cc)) st.clearing;
+        issued = λ i l. absurd (let n = no_load in cc);
+        due = omega arith;
         through = st.through;
         alone = st.alone;
       } in
-      let on : Moves e r = record { item = refl; done = λ h. absurd (let z = w.0 in let d = ap is_done z in cc); address = λ h. absurd (let f = g.fresh in cc); stored = λ h. (h, kept_data h) } in
+      let on : Moves (x.cycle + 1) e r = record {
+        item = refl;
+        cleared = refl;
+        done = λ h. absurd (let z = w.0 in let d = ap is_done z in cc);
+        address = λ h. absurd (let f = g.fresh in cc);
+        fresh = λ h k. refl;
+        stored = λ h. (h, kept_data h);
+      } in
       record { stands = made; moves = on; link = same_link e.resolved e r refl w.1 }
     where
       kept_data : has_data e ≡ true → (so_far e.outcome F.next).stored ≡ stored_of e.outcome
@@ -122,22 +138,32 @@ module _ (d : Desc) (code : Code) (x : Machine) (b : List Entry) (e : Entry) (q 
           by_outcome None i = absurd (let z = or_true (has_address e) (has_data e) h in cc)
 
   -- the data
-  data_so : MayGo d (has_data e) (others_of (sources e)) b → Kept code (bank_of x) b e (with_data (around x) F e)
+  data_so : MayGo d (has_data e) (others_of (sources e)) b → Kept d code (bank_of x) (x.cycle + 1) b e (with_data (around x) F e)
   data_so g =
       let r = with_data (around x) F e in
       let w = still_waits e.state e st.state (store_all e.item.kind (has_address e) (has_data e) (is_issued e) q ∙ and_no (has_address e) (has_data e) g.fresh) once in
       let out : ComesTo r.outcome (known_of (has_address e) true O) = ap (λ (u : Outcome). let v : Outcome = record u { stored = O.stored } in v) (before ∙ ap (λ c. known_of (has_address e) c O) g.fresh) in
-      let made : Stands code (bank_of x) b r = record {
+      let made : Stands d code (bank_of x) (x.cycle + 1) b r = record {
         item = st.item;
         parts = subst (λ k. FitsParts k (has_address e) true true) (sym q) (sym (or_true (has_address e) true refl));
         state = subst (λ t. FitsState (busy_until_both e.addr_due (Some (x.cycle + 1)) t) r) (sym w.0) (fits_busy e.addr_due (Some (x.cycle + 1)) r (store_all e.item.kind (has_address e) true true q) w.1 once);
         computed = known_as (has_address e) true r.outcome out;
         operands = subst (λ k. HasOperands k (has_address e) true true b (sources e)) (sym q) (own.0, λ z. all_known_executed d b (others_of (sources e)) g.known);
         stores = λ i l. absurd (let n = no_load in cc);
+        clearing = fits_clearing (passing d) e r refl refl (λ h. h) st.clearing;
+        issued = λ i l. absurd (let n = no_load in cc);
+        due = st.due;
         through = st.through;
         alone = st.alone;
       } in
-      let on : Moves e r = record { item = refl; done = λ h. absurd (let z = w.0 in let d = ap is_done z in cc); address = λ h. (h, kept_address h); stored = λ h. absurd (let f = g.fresh in cc) } in
+      let on : Moves (x.cycle + 1) e r = record {
+        item = refl;
+        cleared = refl;
+        done = λ h. absurd (let z = w.0 in let d = ap is_done z in cc);
+        address = λ h. (refl, kept_address h);
+        fresh = λ h k. absurd (cc);
+        stored = λ h. absurd (let f = g.fresh in cc);
+      } in
       record { stands = made; moves = on; link = same_link e.resolved e r refl w.1 }
     where
       kept_address : has_address e ≡ true → located (Some (record (so_far e.outcome F.next) { stored = F.stored })) ≡ located e.outcome
@@ -150,14 +176,14 @@ module _ (d : Desc) (code : Code) (x : Machine) (b : List Entry) (e : Entry) (q 
 -- both, one or none
 module _ (d : Desc) (code : Code) (x : Machine) (b : List Entry) where
   abbrev Goes : Entry → Entry → Type 0
-  Goes = Kept code (bank_of x) b
+  Goes = Kept d code (bank_of x) (x.cycle + 1) b
 
   kept_then : (e e1 e2 : Entry) → Goes e e1 → Goes e1 e2 → Goes e e2
-  kept_then e e1 e2 p q = record { stands = q.stands; moves = moves_then e e1 e2 p.moves q.moves; link = q.link ∙ p.link }
+  kept_then e e1 e2 p q = record { stands = q.stands; moves = moves_then (x.cycle + 1) e e1 e2 p.moves q.moves; link = q.link ∙ p.link }
 
   -- a store whose parts go stands
-  pub parts_so : (e : Entry) → e.item.kind ≡ Store → Stands code (bank_of x) b e → (a c : Bool) → (a ≡ true → MayGo d (has_address e) (base_of (sources e)) b) → (c ≡ true → MayGo d (has_data e) (others_of (sources e)) b) → Goes e (gone_parts (around x) b a c e)
-  parts_so e q st false false ga gc = record { stands = st; moves = moves_same e; link = refl }
+  pub parts_so : (e : Entry) → e.item.kind ≡ Store → Stands d code (bank_of x) (x.cycle + 1) b e → (a c : Bool) → (a ≡ true → MayGo d (has_address e) (base_of (sources e)) b) → (c ≡ true → MayGo d (has_data e) (others_of (sources e)) b) → Goes e (gone_parts (around x) b a c e)
+  parts_so e q st false false ga gc = record { stands = st; moves = moves_same (x.cycle + 1) e; link = refl }
   parts_so e q st true false ga gc = address_so d code x b e q st (ga refl)
   parts_so e q st false true ga gc = data_so d code x b e q st (gc refl)
   parts_so e q st true true ga gc =

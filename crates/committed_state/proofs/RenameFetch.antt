@@ -13,7 +13,8 @@ use Rattle.window_model.specs.declared.Mark.{Mark}
 use Rattle.window_model.specs.declared.Progress.TheVariants.{Waiting, Done}
 use Rattle.window_model.specs.State.{Machine}
 use Rattle.window_model.specs.declared.Target.{Target}
-use Rattle.window_model.specs.Order.{is_control, sources}
+use Rattle.window_model.specs.Dependence.{passing}
+use Rattle.window_model.specs.Order.{is_control, is_store, sources}
 use Rattle.committed_state.proofs.Onward.{of_item}
 use Rattle.window_model.specs.Retire.{hart_of}
 use Rattle.window_model.specs.Rename.{rename, renamed, fits, fits_as, at_once, is_call}
@@ -23,7 +24,7 @@ use Rattle.window_model.proofs.Walks.{rename_keep, fetch_keep}
 use Rattle.committed_state.specs.Computed.{Bank}
 use Rattle.window_model.specs.Along.{Along}
 use Rattle.committed_state.specs.Links.{Chain, links, entry_link, item_link, true_next}
-use Rattle.committed_state.specs.Consistent.{Stands, Holds, Consistent, FitsParts, FitsState, HasOperands, all_issued_by, IsItem, Predicts, goes_through, bank_in}
+use Rattle.committed_state.specs.Consistent.{Stands, Holds, ConsistentIn, FitsClearing, FitsParts, FitsState, HasOperands, all_issued_by, IsItem, Predicts, goes_through, bank_in}
 use Rattle.window_model.proofs.Booleans.{both, neither, not_true}
 use Rattle.window_model.proofs.EntryByEntry.{along_push}
 use Rattle.window_model.proofs.Lists.{each_push}
@@ -58,12 +59,12 @@ resolved_control Done e h r = h.1 r
 resolved_control Waiting e h r = absurd (let q = h.1 in cc)
 resolved_control _ e h r = absurd (let q = h.1 in cc)
 
-through_chain : (code : Code) (s : Bank) (b : List Entry) (from to : Option ℕ) (w : List Entry) (i : Item) (rest : List Item) → Along (Stands code s) b w → Chain from (links w (i ∷ rest)) to → list_any (λ e. is_call e.item.kind) w ≡ false → list_all goes_through w ≡ true
-through_chain code s b from to [] i rest h k c = refl
-through_chain code s b from to (e ∷ w) i rest h k c =
+through_chain : (d : Desc) (code : Code) (s : Bank) (now : ℕ) (b : List Entry) (from to : Option ℕ) (w : List Entry) (i : Item) (rest : List Item) → Along (Stands d code s now) b w → Chain from (links w (i ∷ rest)) to → list_any (λ e. is_call e.item.kind) w ≡ false → list_all goes_through w ≡ true
+through_chain d code s now b from to [] i rest h k c = refl
+through_chain d code s now b from to (e ∷ w) i rest h k c =
     let cs = neither (is_call e.item.kind) _ c in
     let one = goes_as e.item.kind e refl (resolved_control e.state e h.0.state) h.0.item.next (has_next (entry_link e).next to w i rest k.1) cs.0 in
-    let more = through_chain code s (e ∷ b) (entry_link e).next to w i rest h.1 k.1 cs.1 in
+    let more = through_chain d code s now (e ∷ b) (entry_link e).next to w i rest h.1 k.1 cs.1 in
     ap (λ t. t && list_all goes_through w) one ∙ more
 
 -- ---- rename
@@ -90,32 +91,40 @@ operands_new : (k : Kind) (b : List Entry) (rs : List ℕ) → HasOperands k fal
 operands_new Store b rs = (λ h. absurd (cc), λ h. absurd (cc))
 operands_new _ b rs = λ h. absurd (cc)
 
-module _ (code : Code) (d : Desc) where
-  rename_holds : (s : Hart) (w : List Entry) (i : Item) (rest : List Item) (fetch_pc : Option ℕ) (serial : ℕ) → fits d w i ≡ true → Holds code s w (i ∷ rest) fetch_pc → Holds code s (w ++ renamed d serial i ∷ []) rest fetch_pc
+-- a new store isn't cleared where loads pass stores, and all else is
+clearing_new : (p : Bool) (d : Desc) (serial : ℕ) (i : Item) → passing d ≡ p → FitsClearing p (renamed d serial i)
+clearing_new true d serial i h = λ q n. ap (λ p. not (p && is_store i.kind)) h ∙ ap not q
+clearing_new false d serial i h = ap (λ p. not (p && is_store i.kind)) h
+
+module _ (now : ℕ) (code : Code) (d : Desc) where
+  rename_holds : (s : Hart) (w : List Entry) (i : Item) (rest : List Item) (fetch_pc : Option ℕ) (serial : ℕ) → fits d w i ≡ true → Holds d code s now w (i ∷ rest) fetch_pc → Holds d code s now (w ++ renamed d serial i ∷ []) rest fetch_pc
   rename_holds s w i rest fetch_pc serial f h =
       let f1 = both (nat_lt (length w) d.core_rob && not (list_any (λ e. is_call e.item.kind) w) && fits_as i.kind d w) _ f in
       let f2 = both (nat_lt (length w) d.core_rob && not (list_any (λ e. is_call e.item.kind) w)) _ f1.0 in
       let f3 = both (nat_lt (length w) d.core_rob) _ f2.0 in
-      let now : Stands code (bank_in s) (reverse w) (renamed d serial i) = record {
+      let made : Stands d code (bank_in s) now (reverse w) (renamed d serial i) = record {
         item = h.items.0;
         parts = parts_new i.kind;
         state = fits_new d (at_once i.kind) serial i refl;
         computed = tt;
         operands = operands_new i.kind (reverse w) (sources (of_item i));
         stores = λ q l. absurd (cc);
-        through = all_reverse goes_through w ∙ through_chain code (bank_in s) [] (Some s.pc) fetch_pc w i rest h.entries h.chain (not_true _ f3.1);
+        clearing = clearing_new (passing d) d serial i refl;
+        issued = λ q l. absurd (cc);
+        due = tt;
+        through = all_reverse goes_through w ∙ through_chain d code (bank_in s) now [] (Some s.pc) fetch_pc w i rest h.entries h.chain (not_true _ f3.1);
         alone = alone_as i.kind d w f2.1;
       } in
       record {
-        entries = along_push (Stands code (bank_in s)) [] w (renamed d serial i) h.entries now;
+        entries = along_push (Stands d code (bank_in s) now) [] w (renamed d serial i) h.entries made;
         items = h.items.1;
         chain = subst (λ ls. Chain (Some s.pc) ls fetch_pc) (sym (same_links d w rest i serial)) h.chain;
         registers = h.registers;
       }
 
-  pub consistent_rename : (x : Machine) → Consistent d code x → Consistent d code (rename d x).machine
-  consistent_rename = rename_keep d (Consistent d code)
-      (λ x i rest q f h. rename_holds (hart_of x) x.window i rest x.fetch_pc x.next_serial f (subst (λ q. Holds code (hart_of x) x.window q x.fetch_pc) q h))
+  pub consistent_rename : (x : Machine) → ConsistentIn now d code x → ConsistentIn now d code (rename d x).machine
+  consistent_rename = rename_keep d (ConsistentIn now d code)
+      (λ x i rest q f h. rename_holds (hart_of x) x.window i rest x.fetch_pc x.next_serial f (subst (λ q. Holds d code (hart_of x) now x.window q x.fetch_pc) q h))
 
 -- ---- fetch
 
@@ -134,13 +143,13 @@ chain_push : (from : Option ℕ) (w : List Entry) (q : List Item) (i : Item) →
 chain_push from [] q i k = chain_items from q i k
 chain_push from (e ∷ w) q i k = (k.0, chain_push (entry_link e).next w q i k.1)
 
-module _ (code : Code) (d : Desc) where
-  fetch_item : (x : Machine) (pc : ℕ) → x.fetch_pc ≡ Some pc → nat_lt (length x.queue) d.core_queue ≡ true → Consistent d code x → Consistent d code (fetch_one d (item_at d code x pc) x).machine
+module _ (now : ℕ) (code : Code) (d : Desc) where
+  fetch_item : (x : Machine) (pc : ℕ) → x.fetch_pc ≡ Some pc → nat_lt (length x.queue) d.core_queue ≡ true → ConsistentIn now d code x → ConsistentIn now d code (fetch_one d (item_at d code x pc) x).machine
   fetch_item x pc q r h =
       let i = item_at d code x pc in
       let c = subst (Chain (Some x.pc) (links x.window x.queue)) q h.chain in
-      let now : IsItem code i = record { instr = refl; kind = refl; next = predicts (kind_at (code pc)) d x.targets x.mark (guess (kind_at (code pc)) d x.counters x.mark pc) i refl } in
-      record { entries = h.entries; items = each_push (IsItem code) x.queue i h.items now; chain = chain_push (Some x.pc) x.window x.queue i c; registers = h.registers }
+      let made : IsItem code i = record { instr = refl; kind = refl; next = predicts (kind_at (code pc)) d x.targets x.mark (guess (kind_at (code pc)) d x.counters x.mark pc) i refl } in
+      record { entries = h.entries; items = each_push (IsItem code) x.queue i h.items made; chain = chain_push (Some x.pc) x.window x.queue i c; registers = h.registers }
 
-  pub consistent_fetch : (x : Machine) → Consistent d code x → Consistent d code (fetch d code x).machine
-  consistent_fetch = fetch_keep d (Consistent d code) code fetch_item
+  pub consistent_fetch : (x : Machine) → ConsistentIn now d code x → ConsistentIn now d code (fetch d code x).machine
+  consistent_fetch = fetch_keep d (ConsistentIn now d code) code fetch_item

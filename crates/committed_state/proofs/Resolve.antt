@@ -15,8 +15,10 @@ use Rattle.window_model.specs.Resolve.{resolve, squashes, is_next, next_of}
 use Rattle.committed_state.specs.Computed.{Bank}
 use Rattle.window_model.specs.Along.{Along}
 use Rattle.committed_state.specs.Links.{Link, Chain, links, entry_link, item_link, true_next}
-use Rattle.committed_state.specs.Consistent.{Stands, Holds, Consistent, FitsState, bank_in}
-use Rattle.committed_state.proofs.Onward.{Moves, moves_same, stands_onward}
+use Rattle.committed_state.specs.Consistent.{Stands, Holds, ConsistentIn, FitsClearing, FitsState, bank_in}
+use Rattle.window_model.specs.Dependence.{passing}
+use Rattle.committed_state.proofs.Onward.{stands_onward}
+use Rattle.committed_state.proofs.Sees.{Moves, moves_same}
 use Rattle.window_model.proofs.Placing.{Taken, resolve_keep}
 use Rattle.window_model.proofs.EntryByEntry.{along_cut, place_on}
 use Rattle.window_model.proofs.Resolving.{resolved_one}
@@ -39,14 +41,21 @@ fits_resolved Done e d c h = (h.0, λ r. c)
 fits_resolved Waiting e d c h = absurd (cc)
 fits_resolved (Busy due) e d c h = absurd (cc)
 
-stands_resolved : (code : Code) (s : Bank) (e : Entry) → is_done e.state ≡ true → is_control e.item.kind ≡ true → (b : List Entry) → Stands code s b e → Stands code s b (resolved_one e)
-stands_resolved code s e d c b st = record {
+clearing_resolved : (p : Bool) (e : Entry) → FitsClearing p e → FitsClearing p (resolved_one e)
+clearing_resolved true e c = c
+clearing_resolved false e c = c
+
+stands_resolved : (d : Desc) (code : Code) (s : Bank) (now : ℕ) (e : Entry) → is_done e.state ≡ true → is_control e.item.kind ≡ true → (b : List Entry) → Stands d code s now b e → Stands d code s now b (resolved_one e)
+stands_resolved d code s now e is c b st = record {
   item = st.item;
   parts = st.parts;
-  state = fits_resolved e.state e d c st.state;
+  state = fits_resolved e.state e is c st.state;
   computed = st.computed;
   operands = st.operands;
   stores = st.stores;
+  clearing = clearing_resolved (passing d) e st.clearing;
+  issued = st.issued;
+  due = st.due;
   through = st.through;
   alone = st.alone;
 }
@@ -72,24 +81,25 @@ right_link e r q =
 
 -- ---- the phase
 
-module _ (code : Code) (d : Desc) where
-  module _ (x : Machine) (p : Place) (t : Taken d x p) (h : Consistent d code x) where
+module _ (now : ℕ) (code : Code) (d : Desc) where
+  module _ (x : Machine) (p : Place) (t : Taken d x p) (h : ConsistentIn now d code x) where
     abbrev e : Entry
     e = p.entry
 
     abbrev older : List Entry
     older = reverse p.before
 
-    here : Holds code (hart_of x) (older ++ e ∷ p.younger) x.queue x.fetch_pc
-    here = subst (λ w. Holds code (hart_of x) w x.queue x.fetch_pc) t.window h
+    here : Holds d code (hart_of x) now (older ++ e ∷ p.younger) x.queue x.fetch_pc
+    here = subst (λ w. Holds d code (hart_of x) now w x.queue x.fetch_pc) t.window h
 
-    entries : Along (Stands code (bank_in (hart_of x))) [] (older ++ resolved_one e ∷ p.younger)
+    entries : Along (Stands d code (bank_in (hart_of x)) now) [] (older ++ resolved_one e ∷ p.younger)
     entries =
         let bank = bank_in (hart_of x) in
-        place_on (Stands code bank) Moves moves_same (stands_onward code bank) e (resolved_one e) (record { item = refl; done = λ q. (q, refl); address = λ q. (q, refl); stored = λ q. (q, refl) })
-        (stands_resolved code bank e t.parts.done t.parts.control) [] older p.younger here.entries
+        place_on (Stands d code bank now) (Moves now) (moves_same now) (stands_onward d code bank now) e (resolved_one e)
+        (record { item = refl; cleared = refl; done = λ q. (q, refl); address = λ q. (refl, refl); fresh = λ q k. absurd (cc); stored = λ q. (q, refl) })
+        (stands_resolved d code bank now e t.parts.done t.parts.control) [] older p.younger here.entries
 
-    kept : squashes e ≡ false → Holds code (hart_of x) (older ++ resolved_one e ∷ p.younger) x.queue x.fetch_pc
+    kept : squashes e ≡ false → Holds d code (hart_of x) now (older ++ resolved_one e ∷ p.younger) x.queue x.fetch_pc
     kept q = record {
       entries = entries;
       items = h.items;
@@ -97,13 +107,13 @@ module _ (code : Code) (d : Desc) where
       registers = h.registers;
     }
 
-    cut : Holds code (hart_of x) (older ++ resolved_one e ∷ []) [] (true_next e)
+    cut : Holds d code (hart_of x) now (older ++ resolved_one e ∷ []) [] (true_next e)
     cut = record {
-      entries = along_cut (Stands code (bank_in (hart_of x))) [] older p.younger (resolved_one e) entries;
+      entries = along_cut (Stands d code (bank_in (hart_of x)) now) [] older p.younger (resolved_one e) entries;
       items = tt;
       chain = chain_cut (Some x.pc) x.fetch_pc older p.younger x.queue e (resolved_one e) refl here.chain;
       registers = h.registers;
     }
 
-  pub consistent_resolve : (x : Machine) → Consistent d code x → Consistent d code (resolve d x).machine
-  consistent_resolve = resolve_keep d (Consistent d code) (λ x p t q h. cut x p t h) (λ x p t q h. kept x p t h q)
+  pub consistent_resolve : (x : Machine) → ConsistentIn now d code x → ConsistentIn now d code (resolve d x).machine
+  consistent_resolve = resolve_keep d (ConsistentIn now d code) (λ x p t q h. cut x p t h) (λ x p t q h. kept x p t h q)

@@ -7,8 +7,9 @@ use Rattle.rv_types.specs.Memory.{Code}
 use Rattle.rv_types.specs.Regs.{writes_of}
 use Rattle.rv_types.specs.declared.Kind.{Kind}
 use Rattle.rv_types.specs.declared.Kind.TheVariants.{Store}
+use Rattle.machine_desc.specs.declared.Desc.{Desc}
 use Rattle.window_model.specs.declared.Entry.{Entry}
-use Rattle.window_model.specs.Access.{covers, byte_of}
+use Rattle.window_model.specs.Access.{byte_of}
 use Rattle.window_model.specs.Along.{Along}
 use Rattle.window_model.specs.Order.{writes, operand, from_writer, is_done, is_store, has_address, has_data, sources}
 use Rattle.window_model.proofs.Booleans.{both_then}
@@ -17,12 +18,13 @@ use Rattle.window_model.proofs.Memory.{inside}
 use Rattle.window_model.proofs.Registers.{read_same, read_other}
 use Rattle.window_model.specs.Issue.{effect_of}
 use Rattle.window_model.specs.Retire.{width_in}
-use Rattle.committed_state.specs.Computed.{Bank, ComesTo, as_known, as_known_by, bytes_over, computed, known_of}
+use Rattle.committed_state.specs.Computed.{Bank, ComesTo, as_known, as_known_by, bytes_over, computed, finds, known_of}
 use Rattle.committed_state.specs.Consistent.{Stands, executed, goes_through, is_issued, stands_before}
 use Rattle.committed_state.specs.Replay.{bank_after, replayed}
 use Rattle.committed_state.proofs.Bytes.{keeps_bank, one_byte}
 use Rattle.committed_state.proofs.Computed.{alike, bytes_same}
-use Rattle.committed_state.proofs.Onward.{byte_else, byte_pick, comes_to, operands_then}
+use Rattle.committed_state.proofs.Onward.{comes_to, operands_then}
+use Rattle.committed_state.proofs.Sees.{byte_else, byte_pick}
 use Rattle.committed_state.proofs.Operands.{value_is}
 
 known_if : (w d k k2 : Bool) → (k ≡ true → k2 ≡ true) → (if w then d else k) ≡ true → (if w then d else k2) ≡ true
@@ -46,7 +48,7 @@ not_empty (e ∷ b) head h = absurd (cc)
 -- ---- what an entry reads of the oldest, it then reads of the retired state
 
 module _ (s : Bank) (head : Entry) (r : ComesTo head.outcome (replayed s head)) (issued : is_some head.outcome ≡ true)
-    (parts : is_store head.item.kind ≡ true → (has_address head ≡ true) × (has_data head ≡ true)) where
+    (parts : is_store head.item.kind ≡ true → (has_address head ≡ true) × (has_data head ≡ true) × (head.cleared ≡ true)) where
   abbrev S : Bank
   S = bank_after head s
 
@@ -70,19 +72,22 @@ module _ (s : Bank) (head : Entry) (r : ComesTo head.outcome (replayed s head)) 
       by_head false h = sym (read_other s.regs (writes_of head.item.instr) q _ h)
   operand_shift (e ∷ b) q lt = operand_if (writes q e) e (find (writes q) (b ++ head ∷ [])) (find (writes q) b) (reg s.regs q) (reg S.regs q) (operand_shift b q lt)
 
-  byte_shift : (b : List Entry) (a : ℕ) → s.ram.base ≤ a → byte_of S.ram a (find (covers a) b) ≡ byte_of s.ram a (find (covers a) (b ++ head ∷ []))
-  byte_shift [] a le = sym (one_byte s.ram s head a None (λ q. let p = parts q in record { address = p.0; issued = issued; datum = λ c. p.1 }) known le refl)
-  byte_shift (e ∷ b) a le =
-      byte_pick (covers a e) S.ram a e (find (covers a) b) ∙ ap (byte_else a e) (byte_shift b a le) ∙ sym (byte_pick (covers a e) s.ram a e (find (covers a) (b ++ head ∷ [])))
+  byte_shift : (l : Entry) (b : List Entry) (a : ℕ) → s.ram.base ≤ a → byte_of S.ram a (find (finds l a) b) ≡ byte_of s.ram a (find (finds l a) (b ++ head ∷ []))
+  byte_shift l [] a le = sym (one_byte l s.ram s head a None (λ q. let p = parts q in record { address = p.0; issued = issued; cleared = p.2; datum = λ c. p.1 }) known le refl)
+  byte_shift l (e ∷ b) a le =
+      byte_pick (finds l a e) S.ram a e (find (finds l a) b) ∙ ap (byte_else l a e) (byte_shift l b a le) ∙ sym (byte_pick (finds l a e) s.ram a e (find (finds l a) (b ++ head ∷ [])))
 
-  stands_shift : length s.regs ≡ 32 → (code : Code) (b : List Entry) (e : Entry) → Stands code s (b ++ head ∷ []) e → Stands code S b e
-  stands_shift n code b e k = record {
+  stands_shift : length s.regs ≡ 32 → (d : Desc) (code : Code) (now : ℕ) (b : List Entry) (e : Entry) → Stands d code s now (b ++ head ∷ []) e → Stands d code S now b e
+  stands_shift n d code now b e k = record {
     item = k.item;
     parts = k.parts;
     state = k.state;
     computed = comes_to e.outcome _ _ same k.computed;
     operands = operands_then e.item.kind (has_address e) (has_data e) (is_issued e) (b ++ head ∷ []) b (sources e) (known_shift b head) k.operands;
     stores = λ i l. all_but (stands_before e) b head (k.stores i l);
+    clearing = k.clearing;
+    issued = k.issued;
+    due = k.due;
     through = all_but goes_through b head k.through;
     alone = λ c. absurd (not_empty b head (k.alone c));
   }
@@ -92,7 +97,7 @@ module _ (s : Bank) (head : Entry) (r : ComesTo head.outcome (replayed s head)) 
           let old = b ++ head ∷ [] in
           let F : Effect = effect_of s.regs old e in
           alike code s S old b e k.item (keeps_bank s (head ∷ [])) (λ q lt z. sym (operand_shift b q (omega (arith, n)))) (bytes_over S b e)
-          (λ l f. let j = inside _ _ s.ram F.addr (width_in e.item.instr) f in bytes_same s.ram S.ram old b e F.addr (width_in e.item.instr) (λ a le lt. byte_shift b a (omega (arith, j.0, le)))) i k.operands
+          (λ l f. let j = inside _ _ s.ram F.addr (width_in e.item.instr) f in bytes_same s.ram S.ram old b e F.addr (width_in e.item.instr) (λ a le lt. byte_shift e b a (omega (arith, j.0, le)))) i k.operands
 
-  pub along_shift : length s.regs ≡ 32 → (code : Code) (es : List Entry) → Along (Stands code s) (head ∷ []) es → Along (Stands code S) [] es
-  along_shift n code es k = along_drops (Stands code s) (Stands code S) head (stands_shift n code) [] es k
+  pub along_shift : length s.regs ≡ 32 → (d : Desc) (code : Code) (now : ℕ) (es : List Entry) → Along (Stands d code s now) (head ∷ []) es → Along (Stands d code S now) [] es
+  along_shift n d code now es k = along_drops (Stands d code s now) (Stands d code S now) head (stands_shift n d code now) [] es k

@@ -6,7 +6,7 @@ use Rattle.machine_desc.specs.declared.Desc.{Desc}
 use Rattle.window_model.specs.declared.Event.{Event}
 use Rattle.window_model.specs.State.{Machine}
 use Rattle.window_model.specs.Retire.{Retired, then_retires, stays, hart_of}
-use Rattle.committed_state.specs.Consistent.{Consistent}
+use Rattle.committed_state.specs.Consistent.{ConsistentIn}
 use Rattle.window_model.specs.Committed.{Committed, Commits, TrapsNext, exit_of}
 
 -- from a state with so many retired, some steps lead to this machine
@@ -30,9 +30,9 @@ as_retired code x y piece c = record {
 }
 
 -- a turn or more, from a state that is consistent
-pub record Retires (d : Desc) (code : Code) (x : Machine) (r : Retired) : Type 0 where
+pub record Retires (now : ℕ) (d : Desc) (code : Code) (x : Machine) (r : Retired) : Type 0 where
   pub committed : Leads code (hart_of x) x.retired r.machine (with_piece r.piece [])
-  pub holds : Consistent d code r.machine
+  pub holds : ConsistentIn now d code r.machine
 
 pub prepend : (code : Code) (s s2 : Hart) (piece : List ℕ) (n : ℕ) (r : Run) → isa_step code s ≡ Goes s2 piece → isa code s2 n ≡ r → isa code s (suc n) ≡ record r { pieces = with_piece piece r.pieces; steps = suc r.steps }
 prepend code s s2 piece n r h k = ap (λ t. after s t (run (isa_step code) n)) h ∙ ap (λ (r : Run). let t : Run = record r { pieces = with_piece piece r.pieces; steps = r.steps + 1 } in t) k
@@ -41,16 +41,16 @@ prepend code s s2 piece n r h k = ap (λ t. after s t (run (isa_step code) n)) h
     one : r.steps + 1 ≡ suc r.steps
     one = omega arith
 
-module _ (d : Desc) (code : Code) where
-  pub no_turn : (x : Machine) → Consistent d code x → x.end ≡ None → Retires d code x (stays x)
+module _ (now : ℕ) (d : Desc) (code : Code) where
+  pub no_turn : (x : Machine) → ConsistentIn now d code x → x.end ≡ None → Retires now d code x (stays x)
   no_turn x h n = record {
     committed = record { steps = 0; counted = omega arith; runs = rw n refl; trap = rw n tt };
     holds = h;
   }
 
   -- a step, and what follows
-  pub one_more : (x y : Machine) (events : List Event) (more : Machine → Retired) → isa_step code (hart_of x) ≡ Goes (hart_of y) [] → y.retired ≡ x.retired + 1 → Retires d code y (more y) →
-      Retires d code x (then_retires (record { machine = y; events = events; piece = [] }) more)
+  pub one_more : (x y : Machine) (events : List Event) (more : Machine → Retired) → isa_step code (hart_of x) ≡ Goes (hart_of y) [] → y.retired ≡ x.retired + 1 → Retires now d code y (more y) →
+      Retires now d code x (then_retires (record { machine = y; events = events; piece = [] }) more)
   one_more x y events more step count h = record {
     committed = record {
       steps = suc h.committed.steps;

@@ -11,10 +11,11 @@ use Rattle.rv_types.specs.Kind.{kind_of}
 use Rattle.rv_types.specs.declared.Instr.{Instr}
 use Rattle.rv_types.specs.declared.Kind.{Kind}
 use Rattle.rv_types.specs.declared.Kind.TheVariants.{Load, Store}
+use Rattle.machine_desc.specs.declared.Desc.{Desc}
 use Rattle.window_model.specs.declared.Entry.{Entry}
 use Rattle.window_model.specs.declared.Item.{Item}
 use Rattle.window_model.specs.declared.Outcome.{Outcome}
-use Rattle.window_model.specs.Order.{is_done, is_control, has_address, has_data, value_of, fault_of, sources}
+use Rattle.window_model.specs.Order.{is_done, is_control, is_store, has_address, has_data, value_of, fault_of, sources}
 use Rattle.window_model.specs.Resolve.{next_of}
 use Rattle.window_model.specs.Retire.{may_leave, trap_of, trap_as, addr_of, stored_of, width_of}
 use Rattle.window_model.specs.Rename.{at_once, is_call}
@@ -118,37 +119,37 @@ no_stop : (k : Kind) (e : Entry) → trap_as k e ≡ None → is_call k ≡ fals
 no_stop k e h c = let n = no_trap k e h in (let s = n.0 in cc, n.1)
 
 -- after a head that is no call
-pub record Left (code : Code) (s : Hart) (e : Entry) (rest : List Entry) (queue : List Item) (fetch_pc : Option ℕ) : Type 0 where
-  pub holds : Holds code (head_hart s e) rest queue fetch_pc
+pub record Left (d : Desc) (code : Code) (s : Hart) (now : ℕ) (e : Entry) (rest : List Entry) (queue : List Item) (fetch_pc : Option ℕ) : Type 0 where
+  pub holds : Holds d code (head_hart s e) now rest queue fetch_pc
   pub step : isa_step code s ≡ Goes (head_hart s e) []
 
-pub head_leaves_so : (code : Code) (s : Hart) (e : Entry) (rest : List Entry) (queue : List Item) (fetch_pc : Option ℕ) → Holds code s (e ∷ rest) queue fetch_pc → may_leave e ≡ true → trap_of e ≡ None → is_call e.item.kind ≡ false →
-    Left code s e rest queue fetch_pc
+pub head_leaves_so : (d : Desc) (code : Code) (s : Hart) (now : ℕ) (e : Entry) (rest : List Entry) (queue : List Item) (fetch_pc : Option ℕ) → Holds d code s now (e ∷ rest) queue fetch_pc → may_leave e ≡ true → trap_of e ≡ None → is_call e.item.kind ≡ false →
+    (is_store e.item.kind ≡ true → e.cleared ≡ true) → Left d code s now e rest queue fetch_pc
 unfolding isa_step
-head_leaves_so code s e rest queue fetch_pc h may t k =
+head_leaves_so d code s now e rest queue fetch_pc h may t k c =
     let st = h.entries.0 in
     let pc = some_of _ _ h.chain.0 in
     let m = leave_parts (is_done e.state) (is_control e.item.kind) e.resolved may in
-    let d = done_has e.state e st.state m.0 in
+    let f = done_has e.state e st.state m.0 in
     let n = no_stop e.item.kind e t k in
     let r = replayed (bank_in s) e in
-    let all = d.0 ∙ ap not n.0 in
-    let rep = replayed_head code (bank_in s) h.registers e st all in
+    let all = f.0 ∙ ap not n.0 in
+    let rep = replayed_head d code (bank_in s) now h.registers e st all in
     let i = issued_of e.item.kind (has_address e) (has_data e) (is_issued e) st.parts all in
     let o = some_is e.outcome r rep i in
-    let f : r.fault ≡ None = sym (ap fault_of o) ∙ n.1 in
-    let left = hart_left s e e.outcome r o f in
-    let c = code s.pc in
-    let ins : e.item.instr ≡ instr_at c = st.item.instr ∙ ap (λ a. instr_at (code a)) (sym pc) in
-    let kin : e.item.kind ≡ kind_at c = st.item.kind ∙ ap (λ a. kind_at (code a)) (sym pc) in
-    let predicts = λ (u : e.resolved ≡ false). next_as c (bank_in s) e ins kin n.0 (m.1 u) st.item.next ∙ ap Some (sym (replayed_next e.item.kind (bank_in s) e)) in
-    let nx = link_next e.resolved e e.outcome r o f predicts in
+    let u : r.fault ≡ None = sym (ap fault_of o) ∙ n.1 in
+    let left = hart_left s e e.outcome r o u in
+    let w = code s.pc in
+    let ins : e.item.instr ≡ instr_at w = st.item.instr ∙ ap (λ a. instr_at (code a)) (sym pc) in
+    let kin : e.item.kind ≡ kind_at w = st.item.kind ∙ ap (λ a. kind_at (code a)) (sym pc) in
+    let predicts = λ (z : e.resolved ≡ false). next_as w (bank_in s) e ins kin n.0 (m.1 z) st.item.next ∙ ap Some (sym (replayed_next e.item.kind (bank_in s) e)) in
+    let nx = link_next e.resolved e e.outcome r o u predicts in
     record {
       holds = record {
-        entries = subst (λ b. Along (Stands code b) [] rest) (sym (ap bank_in left)) (along_shift (bank_in s) e rep i (λ q. both_parts e.item.kind (has_address e) (has_data e) (is_issued e) q all) h.registers code rest h.entries.1);
+        entries = subst (λ b. Along (Stands d code b now) [] rest) (sym (ap bank_in left)) (along_shift (bank_in s) e rep i (λ q. let p = both_parts e.item.kind (has_address e) (has_data e) (is_issued e) q all in (p.0, p.1, c q)) h.registers d code now rest h.entries.1);
         items = h.items;
         chain = subst (λ a. Chain a (links rest queue) fetch_pc) nx h.chain.1;
         registers = length_with s.regs (writes_of e.item.instr) (value_of e.outcome) ∙ h.registers;
       };
-      step = step_as c s e pc ins kin n.0 None f ∙ ap (λ u. Goes u []) (sym left);
+      step = step_as w s e pc ins kin n.0 None u ∙ ap (λ u. Goes u []) (sym left);
     }

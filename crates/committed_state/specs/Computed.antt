@@ -1,6 +1,6 @@
 -- What an entry that has issued computed: what Issue makes of its operands in the window, over the retired registers and memory
 -- (docs/theorems.md, "Committed state").
-use Rattle.std.specs.Prelude.{◌≡◌, ℕ, Bool, false, not, ◌&&◌, List, map, Option, Some, None, if◌then◌else◌}
+use Rattle.std.specs.Prelude.{◌≡◌, ℕ, Bool, not, ◌&&◌, List, map, Option, Some, None, if◌then◌else◌}
 use Rattle.std.specs.List.{find}
 use Rattle.rv_types.specs.Word.{from_le}
 use Rattle.rv_types.specs.Value.{extend}
@@ -15,6 +15,7 @@ use Rattle.window_model.specs.declared.Outcome.{Outcome}
 use Rattle.window_model.specs.Order.{has_address, has_data}
 use Rattle.window_model.specs.Retire.{op_of, width_in}
 use Rattle.window_model.specs.Access.{covers, byte_of}
+use Rattle.window_model.specs.Clear.{passed}
 use Rattle.window_model.specs.Issue.{effect_of, outcome, fault_if}
 
 -- registers and memory
@@ -62,11 +63,11 @@ as_known e o = as_known_by e.item.kind (has_address e) (has_data e) o
 
 -- ---- in the window
 
--- a load's value leaves no older store out, since no load passes one
+-- a load's value leaves a store out that it passed, until the store is cleared
 abbrev pub left_out : Entry → Entry → Bool
-left_out load store = false
+left_out load store = passed store load && not store.cleared
 
--- the store that a load finds at an address
+-- a store that a load finds at an address
 abbrev pub finds : Entry → ℕ → Entry → Bool
 finds load a store = not (left_out load store) && covers a store
 

@@ -1,6 +1,7 @@
 -- The window's instructions one after another from the retired state: what entries that have issued come to
 -- (docs/theorems.md, "Committed state").
-use Rattle.std.specs.Prelude.{ℕ, List, [], ◌∷◌, Option, Some, None}
+use Rattle.std.specs.Prelude.{◌≡◌, ℕ, Bool, true, not, ◌||◌, List, [], ◌∷◌, Option, Some, None}
+use Rattle.std.specs.List.{list_all}
 use Rattle.rv_types.specs.Word.{to_le}
 use Rattle.rv_types.specs.Memory.{Ram, with_bytes, bytes_at}
 use Rattle.rv_types.specs.Isa.{Effect, effect, with_reg, first_of, second_of}
@@ -11,7 +12,7 @@ use Rattle.rv_types.specs.declared.Kind.{Kind}
 use Rattle.rv_types.specs.declared.Kind.TheVariants.{Store}
 use Rattle.window_model.specs.declared.Entry.{Entry}
 use Rattle.window_model.specs.declared.Outcome.{Outcome}
-use Rattle.window_model.specs.Order.{sources}
+use Rattle.window_model.specs.Order.{is_store, sources}
 use Rattle.window_model.specs.Retire.{width_in}
 use Rattle.committed_state.specs.Computed.{ComesTo, as_known, outcome_as}
 pub use Rattle.committed_state.specs.Computed.{Bank}
@@ -49,7 +50,12 @@ abbrev pub bank : Bank → List Entry → Bank
 bank s [] = s
 bank s (e ∷ before) = bank_after e (bank s before)
 
--- each issued entry has the outcome of the replay at its place, as far as it is known
+-- the entry is no store, or it is cleared: no load that has issued passed it wrongly
+abbrev pub is_clear : Entry → Bool
+is_clear e = not (is_store e.item.kind) || e.cleared
+
+-- each issued entry all of whose older stores are cleared has the outcome of the replay at its place, as far as it is known
 abbrev pub Replayed : Bank → List Entry → Type 0
 Replayed s [] = Unit {0}
-Replayed s (e ∷ before) = ComesTo e.outcome (as_known e (replayed (bank s before) e)) × Replayed s before
+Replayed s (e ∷ before) =
+    (list_all is_clear before ≡ true → ComesTo e.outcome (as_known e (replayed (bank s before) e))) × Replayed s before
