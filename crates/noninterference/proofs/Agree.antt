@@ -12,9 +12,9 @@ use Rattle.noninterference.proofs.Places.{reverse_alike}
 use Rattle.noninterference.proofs.SameReads.{same_window}
 
 pub together_agree : TogetherAgree
-together_agree d code total x x2 protected aligned lt t =
+together_agree now d code total x x2 protected aligned lt t =
     let upto : (k : ℕ) → k ≤ d.core_rob → InStep (path d.stt_model) code k (hart_of x) (hart_of x2) = λ k le. t.in_step k (omega (arith, le, lt)) in
     let w : map without_outcome x.window ≡ map without_outcome x2.window = ap (λ (m : Machine). m.window) t.alike in
     let len : length (reverse x.window) ≤ d.core_rob = (let q = length-reverse x.window in let g = t.facts.fits in omega (arith, q, g)) in
-    same_window d.stt_model protected code aligned x x2 d.core_rob t.facts.consistent.registers t.facts2.consistent.registers upto
-    (reverse x.window) (reverse x2.window) len (whole_window d code x t.facts) (whole_window d code x2 t.facts2) (reverse_alike x.window x2.window w)
+    same_window now d protected code aligned x x2 d.core_rob t.facts.consistent.registers t.facts2.consistent.registers upto
+    (reverse x.window) (reverse x2.window) len (whole_window now d code x t.facts) (whole_window now d code x2 t.facts2) (reverse_alike x.window x2.window w)

@@ -1,8 +1,9 @@
 -- What both runs may look at is equal: it comes from equal registers and from visible loads.
-use Rattle.std.proofs.Common.{◌≡◌, true, List, [], ◌∷◌, ap, sym, ◌∙◌, subst}
+use Rattle.std.proofs.Common.{◌≡◌, ℕ, true, List, [], ◌∷◌, ap, sym, ◌∙◌, subst}
 use Rattle.std.specs.Prelude.{is_some}
 use Rattle.rv_types.specs.Memory.{Code}
 use Rattle.rv_types.specs.Isa.{Effect}
+use Rattle.machine_desc.specs.declared.Desc.{Desc}
 use Rattle.machine_desc.specs.declared.SttModel.{SttModel}
 use Rattle.window_model.specs.declared.Entry.{Entry}
 use Rattle.window_model.specs.State.{Machine}
@@ -35,7 +36,10 @@ AllSameReads model (e ∷ before) (e2 ∷ before2) = SameReads model before e e2
 AllSameReads model [] (e2 ∷ before2) = ⊥
 AllSameReads model (e ∷ before) [] = ⊥
 
-module _ (model : SttModel) (code : Code) (x x2 : Machine) (regs : x.regs ≡ x2.regs) (place : SameShape x.ram x2.ram) where
+module _ (now : ℕ) (d : Desc) (code : Code) (x x2 : Machine) (regs : x.regs ≡ x2.regs) (place : SameShape x.ram x2.ram) where
+  abbrev model : SttModel
+  model = d.stt_model
+
   abbrev s : Bank
   s = bank_in (hart_of x)
 
@@ -43,10 +47,10 @@ module _ (model : SttModel) (code : Code) (x x2 : Machine) (regs : x.regs ≡ x2
   s2 = bank_in (hart_of x2)
 
   -- all that may be looked at is equal in both runs
-  pub derive : (b b2 : List Entry) → AllSameReads model b b2 → OneRun code model x b → OneRun code model x2 b2 → SameOutcomes model b b2
+  pub derive : (b b2 : List Entry) → AllSameReads model b b2 → OneRun now d code x b → OneRun now d code x2 b2 → SameOutcomes model b b2
   derive [] [] a w w2 = tt
   derive (e ∷ b) (e2 ∷ b2) a w w2 =
-      let same = derive b b2 a.1 (older code model x e b w) (older code model x2 e2 b2 w2) in
+      let same = derive b b2 a.1 (older now d code x e b w) (older now d code x2 e2 b2 w2) in
       let h = a.0.but_outcome in
       let st = w.stands.0 in
       let item = ap (λ (t : Entry). t.item) h in

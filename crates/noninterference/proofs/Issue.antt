@@ -81,7 +81,7 @@ parts_hide true false d now now2 f f2 e q = ap (λ n. begun_without (parts_of tr
 parts_hide false true d now now2 f f2 e q = ap (λ n. begun_without (parts_of false true d (record now2 { cycle = n }) f2 (without_outcome e))) q
 parts_hide false false d now now2 f f2 e q = refl
 
-module _ (d : Desc) (code : Code) (x x2 : Machine) (r : Alike x x2) (place : SameShape x.ram x2.ram) where
+module _ (cycle : ℕ) (d : Desc) (code : Code) (x x2 : Machine) (r : Alike x x2) (place : SameShape x.ram x2.ram) where
   abbrev now : Around
   now = around x
 
@@ -142,7 +142,7 @@ module _ (d : Desc) (code : Code) (x x2 : Machine) (r : Alike x x2) (place : Sam
       by_parts (is_store e.item.kind) (is_store e2.item.kind) (issue_parts d now b e) (issue_parts d now2 b2 e2) (issue_whole d now b e) (issue_whole d now2 b2 e2)
       (ap is_store (same_kind e e2 h)) (parts_alike b b2 e e2 s h) (λ n. whole_alike b b2 e e2 n s h item)
 
-  each_alike : (es es2 b b2 : List Entry) → map without_outcome es ≡ map without_outcome es2 → SameOutcomes d.stt_model (reverse_aux es b) (reverse_aux es2 b2) → Along (Stands code (bank_in (hart_of x))) b es →
+  each_alike : (es es2 b b2 : List Entry) → map without_outcome es ≡ map without_outcome es2 → SameOutcomes d.stt_model (reverse_aux es b) (reverse_aux es2 b2) → Along (Stands d code (bank_in (hart_of x)) cycle) b es →
       map begun_without (each_from (issue_entry d now) b es) ≡ map begun_without (each_from (issue_entry d now2) b2 es2)
   each_alike [] [] b b2 l s i = refl
   each_alike (e ∷ es) (e2 ∷ es2) b b2 l s i =
@@ -165,17 +165,17 @@ module _ (d : Desc) (code : Code) (x x2 : Machine) (r : Alike x x2) (place : Sam
   load_shown a m m2 q = ap (λ (t : Machine). let u : Machine = record t { cache = cache_after a d t.cache; second = second_after a d t.second; misses = misses_after a d t.cycle t.misses } in u) q
 
   -- the place that is found is an instruction of the program
-  item_at : (b older es : List Entry) (e : Entry) → Along (Stands code (bank_in (hart_of x))) b (older ++ e ∷ es) → IsItem code e.item
+  item_at : (b older es : List Entry) (e : Entry) → Along (Stands d code (bank_in (hart_of x)) cycle) b (older ++ e ∷ es) → IsItem code e.item
   item_at b [] es e i = i.0.item
   item_at b (o ∷ older) es e i = item_at (o ∷ b) older es e i.1
 
-  tried_alike_at : (o o2 : Option Place) → SamePlaces d.stt_model o o2 → Along (Stands code (bank_in (hart_of x))) [] x.window → ((p : Place) → o ≡ Some p → Found (may_at d now LoadPort) [] x.window p) → shown (after_load d o x) ≡ shown (after_load d o2 x2)
+  tried_alike_at : (o o2 : Option Place) → SamePlaces d.stt_model o o2 → Along (Stands d code (bank_in (hart_of x)) cycle) [] x.window → ((p : Place) → o ≡ Some p → Found (may_at d now LoadPort) [] x.window p) → shown (after_load d o x) ≡ shown (after_load d o2 x2)
   tried_alike_at None None s i f = r
   tried_alike_at (Some p) (Some p2) s i f =
       let at = f p refl in
       let t = asks_load d now p.before p.entry at.has in
       let l : is_load p.entry.item.kind ≡ true = ap is_load t.1 in
-      let item = item_at [] at.older p.younger p.entry (subst (Along (Stands code (bank_in (hart_of x))) []) at.all i) in
+      let item = item_at [] at.older p.younger p.entry (subst (Along (Stands d code (bank_in (hart_of x)) cycle) []) at.all i) in
       let m = load_clean p.entry.item.kind d now p.before p.entry (may_parts d now p.before p.entry t.0).kind l in
       let a = same_access_of d code x x2 r place p.before p2.before s.before p.entry p2.entry s.here.but_outcome item l m in
       load_shown (access_of d now p.before p.entry) x x2 r
@@ -203,7 +203,7 @@ module _ (d : Desc) (code : Code) (x x2 : Machine) (r : Alike x x2) (place : Sam
   events_begun [] = refl
   events_begun (b ∷ bs) = ap (λ t. b.events ++ t) (events_begun bs)
 
-  issue_alike : SameOutcomes d.stt_model (reverse x.window) (reverse x2.window) → Along (Stands code (bank_in (hart_of x))) [] x.window → shown_after (issue d x) ≡ shown_after (issue d x2)
+  issue_alike : SameOutcomes d.stt_model (reverse x.window) (reverse x2.window) → Along (Stands d code (bank_in (hart_of x)) cycle) [] x.window → shown_after (issue d x) ≡ shown_after (issue d x2)
   issue_alike s i =
       let l : map without_outcome x.window ≡ map without_outcome x2.window = ap (λ (m : Machine). m.window) r in
       let bs = each (issue_entry d now) x.window in
@@ -224,4 +224,4 @@ module _ (d : Desc) (code : Code) (x x2 : Machine) (r : Alike x x2) (place : Sam
       ∙ ap (G (shown (after_load d load2 x2)) (map without_outcome (map (λ b. b.entry) bs2)) (divider_after x2 division2)) v
 
 pub issue_tells_nothing : IssueTellsNothing
-issue_tells_nothing d code x x2 c r o p = issue_alike d code x x2 r p o c.entries
+issue_tells_nothing now d code x x2 c r o p = issue_alike now d code x x2 r p o c.entries

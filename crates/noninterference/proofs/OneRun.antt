@@ -6,7 +6,6 @@ use Rattle.rv_types.specs.Memory.{Code}
 use Rattle.rv_types.specs.declared.Kind.{Kind}
 use Rattle.rv_types.specs.declared.Kind.TheVariants.{Store}
 use Rattle.machine_desc.specs.declared.Desc.{Desc}
-use Rattle.machine_desc.specs.declared.SttModel.{SttModel}
 use Rattle.window_model.specs.declared.Entry.{Entry}
 use Rattle.window_model.specs.declared.Item.{Item}
 use Rattle.window_model.specs.declared.Progress.{Progress}
@@ -43,19 +42,19 @@ linked_of pc before (e ∷ es) queue to c l = linked_of pc (e ∷ before) es que
 -- ---- all that is known
 
 -- these entries stand over the retired state, are guarded, and follow one another
-pub record OneRun (code : Code) (model : SttModel) (x : Machine) (before : List Entry) : Type 0 where
-  pub stands : Behind (Stands code (bank_in (hart_of x))) before
-  pub guarded : Behind (IsGuarded model) before
+pub record OneRun (now : ℕ) (d : Desc) (code : Code) (x : Machine) (before : List Entry) : Type 0 where
+  pub stands : Behind (Stands d code (bank_in (hart_of x)) now) before
+  pub guarded : Behind (IsGuarded d.stt_model) before
   pub linked : Linked x.pc before
 
 -- it is known without the youngest
-pub older : (code : Code) (model : SttModel) (x : Machine) (e : Entry) (before : List Entry) → OneRun code model x (e ∷ before) → OneRun code model x before
-older code model x e before w = record { stands = w.stands.1; guarded = w.guarded.1; linked = w.linked.1 }
+pub older : (now : ℕ) (d : Desc) (code : Code) (x : Machine) (e : Entry) (before : List Entry) → OneRun now d code x (e ∷ before) → OneRun now d code x before
+older now d code x e before w = record { stands = w.stands.1; guarded = w.guarded.1; linked = w.linked.1 }
 
 -- it is known of the whole window
-pub whole_window : (d : Desc) (code : Code) (x : Machine) → OwnFacts d code x → OneRun code d.stt_model x (reverse x.window)
-whole_window d code x f = record {
-  stands = behind_of (Stands code (bank_in (hart_of x))) [] x.window f.consistent.entries tt;
+pub whole_window : (now : ℕ) (d : Desc) (code : Code) (x : Machine) → OwnFacts now d code x → OneRun now d code x (reverse x.window)
+whole_window now d code x f = record {
+  stands = behind_of (Stands d code (bank_in (hart_of x)) now) [] x.window f.consistent.entries tt;
   guarded = behind_of (IsGuarded d.stt_model) [] x.window f.guarded tt;
   linked = linked_of x.pc [] x.window x.queue x.fetch_pc f.consistent.chain tt;
 }
@@ -78,7 +77,7 @@ has_parts : (e : Entry) → FitsState e.state e → is_waiting e.state ≡ false
 has_parts e f w s = let p = both_parts e.item.kind (has_address e) (has_data e) (is_issued e) s (has_all e.state e f w s) in ap₂ (λ a c. a && c) p.0 p.1
 
 -- and of the head alone: nothing is older, so none of its operands is tainted
-pub head_alone : (code : Code) (model : SttModel) (x : Machine) (e : Entry) → Stands code (bank_in (hart_of x)) [] e → x.pc ≡ e.item.pc → OneRun code model x (e ∷ [])
-head_alone code model x e st pc =
-    let guarded : IsGuarded model [] e = record { load = λ i l. untainted_base model [] e refl; division = λ i l. untainted_sources model [] e refl; fresh = waits_unresolved e.state e st.state; whole = has_parts e st.state } in
+pub head_alone : (now : ℕ) (d : Desc) (code : Code) (x : Machine) (e : Entry) → Stands d code (bank_in (hart_of x)) now [] e → x.pc ≡ e.item.pc → OneRun now d code x (e ∷ [])
+head_alone now d code x e st pc =
+    let guarded : IsGuarded d.stt_model [] e = record { load = λ i l. untainted_base d.stt_model [] e refl; division = λ i l. untainted_sources d.stt_model [] e refl; fresh = waits_unresolved e.state e st.state; whole = has_parts e st.state } in
     record { stands = (st, tt); guarded = (guarded, tt); linked = (ap Some pc, tt) }

@@ -8,6 +8,7 @@ use Rattle.rv_types.specs.Memory.{Code}
 use Rattle.rv_types.specs.Path.{loads_at}
 use Rattle.rv_types.specs.declared.Kind.{Kind}
 use Rattle.rv_types.specs.declared.Kind.TheVariants.{Load, Store}
+use Rattle.machine_desc.specs.declared.Desc.{Desc}
 use Rattle.machine_desc.specs.declared.SttModel.{SttModel}
 use Rattle.window_model.specs.declared.Entry.{Entry}
 use Rattle.window_model.specs.declared.Outcome.{Outcome}
@@ -33,7 +34,7 @@ use Rattle.noninterference.proofs.Derive.{AllSameReads, derive}
 use Rattle.noninterference.proofs.Loads.{is_load_kind, is_load_instr, word_of, load_same}
 use Rattle.noninterference.proofs.OneRun.{OneRun, older}
 use Rattle.noninterference.proofs.Onward.{leads_on}
-use Rattle.noninterference.proofs.PathLink.{leads_to}
+use Rattle.noninterference.proofs.PathLink.{leads_to, visible_clear}
 use Rattle.noninterference.proofs.Faults.{hart}
 use Rattle.noninterference.proofs.Replays.{same_outcome}
 
@@ -58,7 +59,10 @@ issued_alike e e2 h p p2 f f2 =
 of_load : (e : Entry) (v : Outcome) → e.item.kind ≡ Load → ComesTo e.outcome (as_known e v) → ComesTo e.outcome v
 of_load e v k c = subst (ComesTo e.outcome) (ap (λ k. as_known_by k (has_address e) (has_data e) v) k) c
 
-module _ (model : SttModel) (protected : protects model ≡ true) (code : Code) (aligned : Aligned code) (x x2 : Machine) (limit : ℕ) (n : length x.regs ≡ 32) (n2 : length x2.regs ≡ 32) (in_step : (k : ℕ) → k ≤ limit → InStep (path model) code k (hart_of x) (hart_of x2)) where
+module _ (now : ℕ) (d : Desc) (protected : protects d.stt_model ≡ true) (code : Code) (aligned : Aligned code) (x x2 : Machine) (limit : ℕ) (n : length x.regs ≡ 32) (n2 : length x2.regs ≡ 32) (in_step : (k : ℕ) → k ≤ limit → InStep (path d.stt_model) code k (hart_of x) (hart_of x2)) where
+  abbrev model : SttModel
+  model = d.stt_model
+
   abbrev s : Bank
   s = bank_in (hart_of x)
 
@@ -66,18 +70,18 @@ module _ (model : SttModel) (protected : protects model ≡ true) (code : Code) 
   s2 = bank_in (hart_of x2)
 
   abbrev One : List Entry → Type 0
-  One = OneRun code model x
+  One = OneRun now d code x
 
   abbrev Two : List Entry → Type 0
-  Two = OneRun code model x2
+  Two = OneRun now d code x2
 
   -- a visible load reads the same in both runs, whose paths lead to it in step
   visible_load : (b b2 : List Entry) (e e2 : Entry) → length b + 1 ≤ limit → One (e ∷ b) → Two (e2 ∷ b2) → length b ≡ length b2 → without_outcome e ≡ without_outcome e2 → is_some e.outcome ≡ is_some e2.outcome → visible model b ≡ true → visible model b2 ≡ true → is_load e.item.kind ≡ true → e.outcome ≡ e2.outcome
   visible_load b b2 e e2 lt w w2 l h i v v2 k =
       let t = hart e.item.pc (bank s b) in
       let t2 = hart e2.item.pc (bank s2 b2) in
-      let one = leads_to model protected code aligned s n x.pc b e.item.pc w.stands.1 w.linked.1 w.stands.0.through v w.linked.0 in
-      let two = leads_to model protected code aligned s2 n2 x2.pc b2 e2.item.pc w2.stands.1 w2.linked.1 w2.stands.0.through v2 w2.linked.0 in
+      let one = leads_to now d protected code aligned s n x.pc b e.item.pc w.stands.1 w.linked.1 w.stands.0.through v w.linked.0 in
+      let two = leads_to now d protected code aligned s2 n2 x2.pc b2 e2.item.pc w2.stands.1 w2.linked.1 w2.stands.0.through v2 w2.linked.0 in
       let there = leads_on model code 1 (length b) (hart_of x) (hart_of x2) t t2 (in_step (length b + 1) lt) one (rw l two) in
       let f : effect_on (bank s b) e ≡ effect_on (bank s2 b2) e2 = (let g = there.regs in let q = ap (λ (x : Entry). x.item) h in cc) in
       let word = word_of code e is_load w.stands.0.item (λ c. refl) k in
@@ -86,21 +90,21 @@ module _ (model : SttModel) (protected : protects model ≡ true) (code : Code) 
       let q = ap (λ o. loads_at o t) word.1 ∙ is_load_instr (decode word.0) (sym word.3 ∙ kl) (bank s b) e word.2 in
       let bytes = subst (All (λ a. byte (bank s b).ram a ≡ byte (bank s2 b2).ram a)) q (each_left _ (loads_at (code e.item.pc) t) _ there.bytes) in
       let same = load_same (bank s b) (bank s2 b2) e e2 there.place (ap (λ (x : Entry). x.item.instr) h) f bytes in
-      let r = of_load e (replayed (bank s b) e) kl (replayed_behind code s n (e ∷ b) w.stands).0 in
-      let r2 = of_load e2 (replayed (bank s2 b2) e2) kl2 (replayed_behind code s2 n2 (e2 ∷ b2) w2.stands).0 in
+      let r = of_load e (replayed (bank s b) e) kl ((replayed_behind d code s now n (e ∷ b) w.stands).0 (visible_clear model b protected v)) in
+      let r2 = of_load e2 (replayed (bank s2 b2) e2) kl2 ((replayed_behind d code s2 now n2 (e2 ∷ b2) w2.stands).0 (visible_clear model b2 protected v2)) in
       same_outcome e.outcome e2.outcome (replayed (bank s b) e) (replayed (bank s2 b2) e2) i r r2
       (λ y. ap (λ k. replayed_as k (bank s b) e) kl ∙ same ∙ ap (λ k. replayed_as k (bank s2 b2) e2) (sym kl2))
 
   derived : (b b2 : List Entry) → One b → Two b2 → AllSameReads model b b2 → SameOutcomes model b b2
-  derived b b2 w w2 a = let now = in_step 0 (omega arith) in derive model code x x2 now.regs now.place b b2 a w w2
+  derived b b2 w w2 a = let start = in_step 0 (omega arith) in derive now d code x x2 start.regs start.place b b2 a w w2
 
   same_reads : (b b2 : List Entry) → length b ≤ limit → One b → Two b2 → map without_outcome b ≡ map without_outcome b2 → AllSameReads model b b2
   same_reads [] [] lt w w2 h = tt
   same_reads (e ∷ b) (e2 ∷ b2) lt w w2 h =
       let h1 : without_outcome e ≡ without_outcome e2 = cc in
       let h2 : map without_outcome b ≡ map without_outcome b2 = cc in
-      let rest = same_reads b b2 (omega (arith, lt)) (older code model x e b w) (older code model x2 e2 b2 w2) h2 in
-      let same = derived b b2 (older code model x e b w) (older code model x2 e2 b2 w2) rest in
+      let rest = same_reads b b2 (omega (arith, lt)) (older now d code x e b w) (older now d code x2 e2 b2 w2) h2 in
+      let same = derived b b2 (older now d code x e b w) (older now d code x2 e2 b2 w2) rest in
       let l : length b ≡ length b2 = sym (length-map b without_outcome) ∙ ap length h2 ∙ length-map b2 without_outcome in
       let i = issued_alike e e2 h1 w.stands.0.parts w2.stands.0.parts w.stands.0.state w2.stands.0.state in (
         record {

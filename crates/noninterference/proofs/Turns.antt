@@ -18,7 +18,7 @@ use Rattle.window_model.specs.Resolve.{next_of}
 use Rattle.window_model.specs.Rename.{is_call}
 use Rattle.window_model.specs.declared.Event.TheVariants as event
 use Rattle.window_model.proofs.Calls.{CallDoes}
-use Rattle.committed_state.specs.Consistent.{Consistent}
+use Rattle.committed_state.specs.Consistent.{ConsistentIn}
 use Rattle.committed_state.proofs.Calls.{turns_empty}
 use Rattle.committed_state.proofs.Retire.{LeftAs}
 use Rattle.noninterference.specs.Alike.{Alike, shown, without_outcome}
@@ -28,7 +28,7 @@ use Rattle.noninterference.proofs.StepsAlike.{Moved, StepsAlike}
 use Rattle.noninterference.proofs.Onward.{goes_on}
 use Rattle.noninterference.proofs.Paths.{path_goes}
 
-module _ (d : Desc) (code : Code) (total : ℕ) where
+module _ (now : ℕ) (d : Desc) (code : Code) (total : ℕ) where
   -- two ends of turns
   abbrev pub R : Retired → Retired → Type 0
   R r r2 = RetiresAlike d.stt_model code total r r2
@@ -48,7 +48,7 @@ module _ (d : Desc) (code : Code) (total : ℕ) where
 
   -- what follows a turn
   abbrev pub Follows : (Machine → Retired) → Type 0
-  Follows more = (y y2 : Machine) → y.end ≡ None → Consistent d code y → Consistent d code y2 → y.retired + length y.window ≤ total → Alike y y2 → InStepUpTo d.stt_model code total y y2 → R (more y) (more y2)
+  Follows more = (y y2 : Machine) → y.end ≡ None → ConsistentIn now d code y → ConsistentIn now d code y2 → y.retired + length y.window ≤ total → Alike y y2 → InStepUpTo d.stt_model code total y y2 → R (more y) (more y2)
 
   -- a step of both keeps them in step
   in_step_after : (x x2 y y2 : Machine) (p p2 : List ℕ) → InStepUpTo d.stt_model code total x x2 → isa_step code (hart_of x) ≡ Goes (hart_of y) p → isa_step code (hart_of x2) ≡ Goes (hart_of y2) p2 → y.retired ≡ x.retired + 1 → InStepUpTo d.stt_model code total y y2
@@ -64,7 +64,7 @@ module _ (d : Desc) (code : Code) (total : ℕ) where
   left_store e w m = record (left e w m) { cache = fold (touched d) m.cache (lines_in d e) }
 
   -- a head that is no call leaves both alike
-  pub left_turn : (k : Kind) (x x2 : Machine) (e : Entry) (rest rest2 : List Entry) (more : Machine → Retired) → is_call k ≡ false → LeftAs code k x e rest → LeftAs code k x2 e rest2 → x.end ≡ None → map without_outcome rest ≡ map without_outcome rest2 → x.retired + suc (length rest) ≤ total → Alike x x2 → InStepUpTo d.stt_model code total x x2 → Follows more →
+  pub left_turn : (k : Kind) (x x2 : Machine) (e : Entry) (rest rest2 : List Entry) (more : Machine → Retired) → is_call k ≡ false → LeftAs now d code k x e rest → LeftAs now d code k x2 e rest2 → x.end ≡ None → map without_outcome rest ≡ map without_outcome rest2 → x.retired + suc (length rest) ≤ total → Alike x x2 → InStepUpTo d.stt_model code total x x2 → Follows more →
       R (then_retires (head_leaves k d e rest x) more) (then_retires (head_leaves k d e rest2 x2) more)
   left_turn Call x x2 e rest rest2 more c l l2 n w le r a m = absurd (cc)
   left_turn Store x x2 e rest rest2 more c l l2 n w le r a m =

@@ -16,11 +16,11 @@ use Rattle.window_model.specs.Rename.{rename}
 use Rattle.window_model.specs.Fetch.{fetch}
 use Rattle.window_model.specs.Cycle.{cycle, trace}
 use Rattle.window_model.specs.Path.{reads_of_trace}
-use Rattle.committed_state.specs.Consistent.{Consistent}
+use Rattle.committed_state.specs.Consistent.{ConsistentIn}
 use Rattle.noninterference.specs.Alike.{Alike, TellsNothing}
 use Rattle.noninterference.specs.Outcomes.{OutcomesAgree}
 use Rattle.noninterference.specs.InStep.{InStepUpTo}
-use Rattle.noninterference.specs.Together.{Together, RetiresAlike, CyclesAlike}
+use Rattle.noninterference.specs.Together.{Together, TogetherIn, RetiresAlike, CyclesAlike}
 
 -- under a model that protects, every memory that agrees on the bytes that the path loads gives one trace
 abbrev pub Noninterference : Type 0
@@ -47,12 +47,12 @@ ClearTellsNothing = (d : Desc) (x x2 : Machine) → Alike x x2 → OutcomesAgree
 
 -- nor Retire, where the model protects and the path of both runs goes on in step past the window
 abbrev pub RetireTellsNothing : Type 0
-RetireTellsNothing = (d : Desc) (code : Code) (total : ℕ) (x x2 : Machine) → protects d.stt_model ≡ true → Aligned code → x.end ≡ None → Consistent d code x → Consistent d code x2 → x.retired + length x.window ≤ total → Alike x x2 →
+RetireTellsNothing = (now : ℕ) (d : Desc) (code : Code) (total : ℕ) (x x2 : Machine) → protects d.stt_model ≡ true → Aligned code → x.end ≡ None → ConsistentIn now d code x → ConsistentIn now d code x2 → x.retired + length x.window ≤ total → Alike x x2 →
     InStepUpTo d.stt_model code total x x2 → RetiresAlike d.stt_model code total (retire d x) (retire d x2)
 
 -- nor Issue, which also looks at memory's place
 abbrev pub IssueTellsNothing : Type 0
-IssueTellsNothing = (d : Desc) (code : Code) (x x2 : Machine) → Consistent d code x → Alike x x2 → OutcomesAgree d.stt_model x x2 → SameShape x.ram x2.ram → TellsNothing (issue d x) (issue d x2)
+IssueTellsNothing = (now : ℕ) (d : Desc) (code : Code) (x x2 : Machine) → ConsistentIn now d code x → Alike x x2 → OutcomesAgree d.stt_model x x2 → SameShape x.ram x2.ram → TellsNothing (issue d x) (issue d x2)
 
 -- nor Rename
 abbrev pub RenameTellsNothing : Type 0
@@ -64,7 +64,7 @@ FetchTellsNothing = (d : Desc) (code : Code) (x x2 : Machine) → Alike x x2 →
 
 -- of two runs that go on together under a model that protects, the outcomes that may be looked at are equal
 abbrev pub TogetherAgree : Type 0
-TogetherAgree = (d : Desc) (code : Code) (total : ℕ) (x x2 : Machine) → protects d.stt_model ≡ true → Aligned code → x.retired + d.core_rob ≤ total → Together d code total x x2 → OutcomesAgree d.stt_model x x2
+TogetherAgree = (now : ℕ) (d : Desc) (code : Code) (total : ℕ) (x x2 : Machine) → protects d.stt_model ≡ true → Aligned code → x.retired + d.core_rob ≤ total → TogetherIn now d code total x x2 → OutcomesAgree d.stt_model x x2
 
 -- and a cycle keeps them together, with one row
 abbrev pub CycleTellsNothing : Type 0
