@@ -1,6 +1,6 @@
 -- The marks go on to tell of the entries.
 use Rattle.std.proofs.Common.{◌≡◌, ◌≢◌, nat_lt, ◌++◌, drop, add-one, ℕ, zero, suc, ◌+◌, ◌^◌, ◌<◌, ◌≤◌, Bool, true, false, List, [], ◌∷◌, length, take, get_or, inl, inr, Option, Some, None, refl, ap, sym, subst, ◌∙◌, arith, slice_get, ⊎_elim}
-use Rattle.std.specs.Prelude.{◌&&◌, if◌then◌else◌, map, slice_set, IfSome}
+use Rattle.std.specs.Prelude.{if◌then◌else◌, map, slice_set, IfSome}
 use Rattle.std.specs.Slice.Scan.{holds_at}
 use Rattle.std.proofs.Math.Seq.{map-set_same}
 use Rattle.std.proofs.lemmas.Bool.{cases_eq, cases_lt}
@@ -10,7 +10,7 @@ use Rattle.std.proofs.lemmas.Option.{get_or_from_slice_get, slice_get_cases}
 use Rattle.circular_buffer.specs.Buffer.{Buffer, buffer}
 use Rattle.window_model.specs.declared.Entry.{Entry}
 use Rattle.window_model.specs.declared.Progress.TheVariants.{Done}
-use Rattle.window_model.specs.Order.{is_control}
+use Rattle.window_model.specs.Clear.{cleared_one}
 use Rattle.rob_ring.specs.declared.issued.Issued.{Issued}
 use Rattle.rob_ring.specs.Issued.{as_resolved, with_issued}
 use Rattle.rob_ring.specs.Ring.{Ring, Next, in_execution, is_busy, is_open, is_unsafe}
@@ -173,30 +173,38 @@ module _ (es : List Entry) (room : ℕ) (busy open_ones unsafes : List ℕ) (m :
             unsafe_is = stays is_unsafe es unsafes m.unsafe_is i d e at (alike d (ap (λ (r : Ring). slice_get r.entries i) (sym seen) ∙ at));
           })
 
-  -- one that is resolved isn't open any more, and executes or not as it did
-  not_open : (b : Bool) → false ≡ (b && false)
-  not_open true = refl
-  not_open false = refl
-
-  pub resolve_marked : (i : ℕ) (open2 unsafe2 : List ℕ) (c : Bool) (es2 : List Entry) (room2 : ℕ) → i < length r.entries →
-      mark_at open2 i ≡ one_if false → ((k : ℕ) → k ≢ i → mark_at open2 k ≡ mark_at open_ones k) → mark_at unsafe2 i ≡ one_if c → ((k : ℕ) → k ≢ i → mark_at unsafe2 k ≡ mark_at unsafes k) →
-      ((e : Entry) → slice_get es i ≡ Some e → c ≡ is_unsafe (as_resolved e)) →
-      ((e : Entry) → slice_get es i ≡ Some e → buffer es2 room2 ≡ buffer (slice_set es i (as_resolved e)) room) → Marked es2 room2 busy open2 unsafe2
-  resolve_marked i open2 unsafe2 c es2 room2 lt h g u v tells wrote = elim (slice_get_cases es i).1 [
+  -- one that is resolved or cleared executes or not as it did; whether it is settled and whether it is safe is told
+  settle_marked : (f : Entry → Entry) → ((d : Entry) → is_busy (f d) ≡ is_busy d) → (i : ℕ) (open2 unsafe2 : List ℕ) (b c : Bool) (es2 : List Entry) (room2 : ℕ) → i < length r.entries →
+      mark_at open2 i ≡ one_if b → ((k : ℕ) → k ≢ i → mark_at open2 k ≡ mark_at open_ones k) → mark_at unsafe2 i ≡ one_if c → ((k : ℕ) → k ≢ i → mark_at unsafe2 k ≡ mark_at unsafes k) →
+      ((e : Entry) → slice_get es i ≡ Some e → b ≡ is_open (f e)) → ((e : Entry) → slice_get es i ≡ Some e → c ≡ is_unsafe (f e)) →
+      ((e : Entry) → slice_get es i ≡ Some e → buffer es2 room2 ≡ buffer (slice_set es i (f e)) room) → Marked es2 room2 busy open2 unsafe2
+  settle_marked f same i open2 unsafe2 b c es2 room2 lt h g u v opens tells wrote = elim (slice_get_cases es i).1 [
     | inl found ↦ there found.0 found.2
     | inr past ↦ absurd (let le = past.0 in let ours = within_ring i lt in omega (arith, le, ours))
   ]
     where
       there : (d : Entry) → slice_get es i ≡ Some d → Marked es2 room2 busy open2 unsafe2
       there d at =
-          let e = as_resolved d in
+          let e = f d in
           subst (λ (b : Buffer Entry). Marked b.items b.capacity busy open2 unsafe2) (sym (wrote d at)) (record {
             few = m.few;
             within = let long = length-set es i e in let w = m.within in omega (arith, long, w);
-            busy_is = stays is_busy es busy m.busy_is i d e at refl;
-            open_is = put_is is_open es open_ones m.open_is i e false open2 (within_ring i lt) (not_open (is_control d.item.kind)) h g;
+            busy_is = stays is_busy es busy m.busy_is i d e at (same d);
+            open_is = put_is is_open es open_ones m.open_is i e b open2 (within_ring i lt) (opens d at) h g;
             unsafe_is = put_is is_unsafe es unsafes m.unsafe_is i e c unsafe2 (within_ring i lt) (tells d at) u v;
           })
+
+  pub resolve_marked : (i : ℕ) (open2 unsafe2 : List ℕ) (b c : Bool) (es2 : List Entry) (room2 : ℕ) → i < length r.entries →
+      mark_at open2 i ≡ one_if b → ((k : ℕ) → k ≢ i → mark_at open2 k ≡ mark_at open_ones k) → mark_at unsafe2 i ≡ one_if c → ((k : ℕ) → k ≢ i → mark_at unsafe2 k ≡ mark_at unsafes k) →
+      ((e : Entry) → slice_get es i ≡ Some e → b ≡ is_open (as_resolved e)) → ((e : Entry) → slice_get es i ≡ Some e → c ≡ is_unsafe (as_resolved e)) →
+      ((e : Entry) → slice_get es i ≡ Some e → buffer es2 room2 ≡ buffer (slice_set es i (as_resolved e)) room) → Marked es2 room2 busy open2 unsafe2
+  resolve_marked = settle_marked as_resolved (λ d. refl)
+
+  pub clear_marked : (i : ℕ) (open2 unsafe2 : List ℕ) (b c : Bool) (es2 : List Entry) (room2 : ℕ) → i < length r.entries →
+      mark_at open2 i ≡ one_if b → ((k : ℕ) → k ≢ i → mark_at open2 k ≡ mark_at open_ones k) → mark_at unsafe2 i ≡ one_if c → ((k : ℕ) → k ≢ i → mark_at unsafe2 k ≡ mark_at unsafes k) →
+      ((e : Entry) → slice_get es i ≡ Some e → b ≡ is_open (cleared_one e)) → ((e : Entry) → slice_get es i ≡ Some e → c ≡ is_unsafe (cleared_one e)) →
+      ((e : Entry) → slice_get es i ≡ Some e → buffer es2 room2 ≡ buffer (slice_set es i (cleared_one e)) room) → Marked es2 room2 busy open2 unsafe2
+  clear_marked = settle_marked cleared_one (λ d. refl)
 
   pub finish_marked : (i : ℕ) (busy2 unsafe2 : List ℕ) (c : Bool) (es2 : List Entry) (room2 : ℕ) → i < length r.entries →
       mark_at busy2 i ≡ one_if false → ((k : ℕ) → k ≢ i → mark_at busy2 k ≡ mark_at busy k) → mark_at unsafe2 i ≡ one_if c → ((k : ℕ) → k ≢ i → mark_at unsafe2 k ≡ mark_at unsafes k) →

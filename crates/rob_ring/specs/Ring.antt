@@ -1,11 +1,10 @@
 -- What is seen of the reorder buffer.
-use Rattle.std.specs.Prelude.{◌≡◌, ℕ, ◌≤◌, ◌<◌, Bool, true, false, not, ◌&&◌, List, length, Option, Some, None}
+use Rattle.std.specs.Prelude.{◌≡◌, ℕ, ◌≤◌, ◌<◌, Bool, true, false, not, List, length, Option, Some, None}
 use Rattle.std.specs.Slice.Scan.{HoldsNowhere, holds_at}
 use Rattle.window_model.specs.declared.Entry.{Entry}
 use Rattle.window_model.specs.declared.Progress.{Progress}
 use Rattle.window_model.specs.declared.Progress.TheVariants.{Busy}
-use Rattle.window_model.specs.Order.{is_control}
-use Rattle.window_model.specs.Taint.{safe}
+use Rattle.window_model.specs.Taint.{safe, settled}
 pub use Rattle.window_model.specs.Serials.{below}
 
 -- the entries in flight, oldest first, and for how many there is room
@@ -22,9 +21,9 @@ in_execution _ = false
 abbrev pub is_busy : Entry → Bool
 is_busy e = in_execution e.state
 
--- the entry is a branch or JALR that isn't resolved
+-- the entry isn't settled: a branch or JALR that isn't resolved, or a store that isn't cleared
 abbrev pub is_open : Entry → Bool
-is_open e = is_control e.item.kind && not e.resolved
+is_open e = not (settled e)
 
 -- something may yet squash what comes after the entry
 abbrev pub is_unsafe : Entry → Bool

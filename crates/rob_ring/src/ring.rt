@@ -5,6 +5,7 @@ ghost use Rattle.std.specs.List.{All};
 ghost use Rattle.window_model.specs.declared.Entry.{Entry};
 ghost use Rattle.window_model.specs.declared.Progress.TheVariants.{Done};
 ghost use Rattle.window_model.specs.Serials.{Rise, below};
+ghost use Rattle.window_model.specs.Clear.{cleared_one};
 ghost use Rattle.rob_ring.specs.Issued.{as_resolved, with_issued};
 ghost use Rattle.rob_ring.specs.Ring.{Next, Ring, in_execution, is_busy, is_open, is_unsafe};
 
@@ -23,8 +24,8 @@ pub struct RobRing {
     items: HeapCircularBuffer<Entry>,
     // By position, whether the entry executes.
     busy: [u64; 3],
-    // And whether it is a branch or JALR that isn't resolved.
-    unresolved: [u64; 3],
+    // And whether it isn't settled.
+    unsettled: [u64; 3],
     // And whether it may yet squash what comes after it.
     unsafes: [u64; 3],
     // The oldest entry's serial where none is missing up to the youngest's: a guess, by which an entry is looked for first.
@@ -48,7 +49,7 @@ impl Model for RobRing {
 
     ghost view = { λ r. record { entries = r.items.items; room = r.items.capacity } };
 
-    ghost invariant = { λ r. Marked r.items.items r.items.capacity r.busy r.unresolved r.unsafes };
+    ghost invariant = { λ r. Marked r.items.items r.items.capacity r.busy r.unsettled r.unsafes };
 }
 
 impl RobRing {
@@ -60,7 +61,7 @@ impl RobRing {
         Ok(RobRing {
             items,
             busy: [0; 3],
-            unresolved: [0; 3],
+            unsettled: [0; 3],
             unsafes: [0; 3],
             counted_from: 0,
         })
@@ -81,7 +82,7 @@ impl RobRing {
     {
         let len = self.len();
         put_mark(&mut self.busy, len, in_execution(entry.state));
-        put_mark(&mut self.unresolved, len, is_open(&entry));
+        put_mark(&mut self.unsettled, len, !entry.is_settled());
         put_mark(&mut self.unsafes, len, !entry.is_safe());
         self.counted_from = entry.serial.wrapping_sub(len as u64);
         let _ = self.items.try_push_back(entry);
@@ -116,7 +117,7 @@ impl RobRing {
         ensures { self.new ≡ record self.old { entries = slice_set self.old.entries i entry } }
     {
         put_mark(&mut self.busy, i, in_execution(entry.state));
-        put_mark(&mut self.unresolved, i, is_open(&entry));
+        put_mark(&mut self.unsettled, i, !entry.is_settled());
         put_mark(&mut self.unsafes, i, !entry.is_safe());
         put_entry(&mut self.items, i, &entry);
     }
@@ -140,8 +141,19 @@ impl RobRing {
         ensures { (e : Entry) → slice_get self.old.entries i ≡ Some e
             → self.new ≡ record self.old { entries = slice_set self.old.entries i (as_resolved e) } }
     {
-        put_mark(&mut self.unresolved, i, false);
-        let is_unsafe = resolve_entry(&mut self.items, i);
+        let (stays_open, stays_unsafe) = resolve_entry(&mut self.items, i);
+        put_mark(&mut self.unsettled, i, stays_open);
+        put_mark(&mut self.unsafes, i, stays_unsafe);
+    }
+
+    /// The entry at a position is marked as cleared.
+    pub fn clear(&mut self, i: u32)
+        requires { i < length self.old.entries }
+        ensures { (e : Entry) → slice_get self.old.entries i ≡ Some e
+            → self.new ≡ record self.old { entries = slice_set self.old.entries i (cleared_one e) } }
+    {
+        let (is_open, is_unsafe) = clear_entry(&mut self.items, i);
+        put_mark(&mut self.unsettled, i, is_open);
         put_mark(&mut self.unsafes, i, is_unsafe);
     }
 
@@ -161,7 +173,7 @@ impl RobRing {
         ensures { self.new ≡ record self.old { entries = take len self.old.entries } }
     {
         self.busy = keep_marks(self.busy, len);
-        self.unresolved = keep_marks(self.unresolved, len);
+        self.unsettled = keep_marks(self.unsettled, len);
         self.unsafes = keep_marks(self.unsafes, len);
         self.items.truncate_back(len as usize);
     }
@@ -172,7 +184,7 @@ impl RobRing {
         ensures { self.new ≡ record self.old { entries = drop 1 self.old.entries } }
     {
         self.busy = drop_mark(self.busy);
-        self.unresolved = drop_mark(self.unresolved);
+        self.unsettled = drop_mark(self.unsettled);
         self.unsafes = drop_mark(self.unsafes);
         self.counted_from = self.counted_from.wrapping_add(1);
         let _ = self.items.pop_front();
@@ -187,13 +199,14 @@ impl RobRing {
         next_mark(self.busy, from)
     }
 
-    /// The first position from one on whose entry is a branch or JALR that isn't resolved.
+    /// The first position from one on whose entry isn't settled: a branch or JALR that isn't resolved, or a store that isn't
+    /// cleared.
     pub fn next_open(&self, from: u32) -> Option<u32>
         ensures next { Next is_open self.now.entries from result }
         ensures within { IfSome result (λ i. i < self.now.room) }
         ensures few { self.now.room < 2 ^ 32 }
     {
-        next_mark(self.unresolved, from)
+        next_mark(self.unsettled, from)
     }
 
     /// The first position from one on whose entry may yet squash what comes after it.
@@ -296,18 +309,34 @@ fn issue_entry(items: &mut HeapCircularBuffer<Entry>, i: u32, issued: &Issued)
     }
 }
 
-// The entry at a position is marked as resolved. Whether it may yet squash what comes after it.
-fn resolve_entry(items: &mut HeapCircularBuffer<Entry>, i: u32) -> bool
+// The entry at a position is marked as resolved. Whether it isn't settled, and whether it may yet squash what comes after it.
+fn resolve_entry(items: &mut HeapCircularBuffer<Entry>, i: u32) -> (bool, bool)
     requires { i < length items.old.items }
-    ensures tells { (e : Entry) → slice_get items.old.items i ≡ Some e → result ≡ is_unsafe (as_resolved e) }
+    ensures open { (e : Entry) → slice_get items.old.items i ≡ Some e → result.0 ≡ is_open (as_resolved e) }
+    ensures tells { (e : Entry) → slice_get items.old.items i ≡ Some e → result.1 ≡ is_unsafe (as_resolved e) }
     ensures wrote { (e : Entry) → slice_get items.old.items i ≡ Some e
         → items.new ≡ record items.old { items = slice_set items.old.items i (as_resolved e) } }
 {
     if let Some(entry) = items.get_mut(i as usize) {
         entry.resolved = true;
-        return !entry.is_safe();
+        return (!entry.is_settled(), !entry.is_safe());
     }
-    false
+    (false, false)
+}
+
+// The entry at a position is marked as cleared. Whether it isn't settled, and whether it may yet squash what comes after it.
+fn clear_entry(items: &mut HeapCircularBuffer<Entry>, i: u32) -> (bool, bool)
+    requires { i < length items.old.items }
+    ensures open { (e : Entry) → slice_get items.old.items i ≡ Some e → result.0 ≡ is_open (cleared_one e) }
+    ensures tells { (e : Entry) → slice_get items.old.items i ≡ Some e → result.1 ≡ is_unsafe (cleared_one e) }
+    ensures wrote { (e : Entry) → slice_get items.old.items i ≡ Some e
+        → items.new ≡ record items.old { items = slice_set items.old.items i (cleared_one e) } }
+{
+    if let Some(entry) = items.get_mut(i as usize) {
+        entry.cleared = true;
+        return (!entry.is_settled(), !entry.is_safe());
+    }
+    (false, false)
 }
 
 // The entry at a position becomes Done. Whether it may yet squash what comes after it.
@@ -333,13 +362,6 @@ fn in_execution(state: Progress) -> bool
         Progress::Busy(_) => true,
         _ => false,
     }
-}
-
-// Whether the entry is a branch or JALR that isn't resolved.
-fn is_open(entry: &Entry) -> bool
-    ensures { result ≡ is_open entry.now }
-{
-    entry.is_control() && !entry.resolved
 }
 
 impl Window for RobRing {

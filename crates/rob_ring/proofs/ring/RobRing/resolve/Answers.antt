@@ -9,5 +9,5 @@ put_mark-requires-2 c = in_word _ _ _ _ _ c.self.invariant _ c.self.view_is _ c.
 
 pub invariant_of-self : goal.invariant_of-self
 invariant_of-self c =
-    resolve_marked _ _ _ _ _ c.self.invariant _ c.self.view_is _ _ _ _ _ _ c.requires c.put_mark.ensures.here c.put_mark.ensures.others
-    c.put_mark-2.ensures.here c.put_mark-2.ensures.others c.resolve_entry-is_unsafe.ensures.tells c.resolve_entry-is_unsafe.ensures.wrote
+    resolve_marked _ _ _ _ _ c.self.invariant _ c.self.view_is _ _ _ _ _ _ _ c.requires c.put_mark.ensures.here c.put_mark.ensures.others
+    c.put_mark-2.ensures.here c.put_mark-2.ensures.others c.resolve_entry-stays_open.ensures.open c.resolve_entry-stays_open.ensures.tells c.resolve_entry-stays_open.ensures.wrote
