@@ -1,18 +1,19 @@
 -- Where the point is to stand over a window whose serials rise.
-use Rattle.std.proofs.Common.{◌≡◌, ℕ, zero, suc, ◌+◌, ◌<◌, ◌≤◌, Bool, true, false, not, ◌&&◌, List, [], ◌∷◌, length, Option, Some, None, refl, ap, ap₂, sym, ◌∙◌, subst, arith, slice_get}
-use Rattle.std.specs.Prelude.{nat_le}
+use Rattle.std.proofs.Common.{◌≡◌, ◌≢◌, ℕ, zero, suc, ◌+◌, ◌-◌, ◌^◌, ◌<◌, ◌≤◌, Bool, true, false, not, ◌&&◌, List, [], ◌∷◌, length, Option, Some, None, refl, ap, ap₂, sym, ◌∙◌, subst, arith, slice_get}
+use Rattle.std.specs.Prelude.{if◌then◌else◌, nat_le, reverse}
 use Rattle.std.specs.List.{find, list_all, All}
 use Rattle.std.specs.Option.{option_map, unwrap_or}
 use Rattle.std.proofs.lemmas.Bool.Decides.{nat_tests}
 use Rattle.std.proofs.lemmas.List.Elements.{All-nil, All-cons, All-head, All-tail, All-weaker}
 use Rattle.machine_desc.specs.declared.SttModel.{SttModel}
+use Rattle.machine_desc.specs.declared.SttModel.TheVariants.{Spectre, Futuristic, Off}
 use Rattle.window_model.specs.declared.Entry.{Entry}
 use Rattle.window_model.specs.Along.{Along}
-use Rattle.window_model.specs.Taint.{visible}
+use Rattle.window_model.specs.Taint.{protects, visible}
 use Rattle.window_model.proofs.Before.{all_reverse}
 use Rattle.window_model.specs.Serials.{Rise}
 use Rattle.window_model.proofs.Serials.{rise_head, rise_tail}
-use Rattle.visibility.specs.Point.{Point, passes, next_after, serial_of, moved_over, Passed, IsPoint, CanAdvance, HasMoved, HasAdvanced}
+use Rattle.visibility.specs.Point.{Point, passes, next_after, serial_of, stops_at, moved_over, Passed, IsPoint, CanAdvance, HasMoved, HasAdvanced, ShowsAll}
 
 -- ---- what the search finds
 
@@ -136,6 +137,12 @@ smaller p e es i s a =
     let l = All-head (λ e. s < e.serial) e es a in
     omega arith
 
+can_at : (p : Point) (f e : Entry) (es : List Entry) → Rise (e ∷ es) → stop p.model (e ∷ es) ≡ Some f → f.serial ≡ p.serial → CanAdvance p (e ∷ es)
+can_at p f e es r h q = record {
+  passed = before_stop p f (e ∷ es) h q r;
+  near = λ _. let l = found_has p.model (λ b. b.serial < next_after p.serial (e ∷ es)) f (e ∷ es) (below_next p.serial e es r) h in omega arith;
+}
+
 moved_to : (p : Point) (f e : Entry) (es : List Entry) → Rise (e ∷ es) → stop p.model (e ∷ es) ≡ Some f → f.serial ≡ p.serial → HasMoved p (e ∷ es)
 moved_to p f e es r h q =
     let i = stops p f [] (e ∷ es) refl h q r in
@@ -143,11 +150,14 @@ moved_to p f e es r h q =
       each = i;
       smaller = smaller p e es i;
       next = λ s a le. let l = found_has p.model (λ b. b.serial < s) f (e ∷ es) a h in absurd (omega arith);
-      again = record {
-        passed = before_stop p f (e ∷ es) h q r;
-        near = let l = found_has p.model (λ b. b.serial < next_after p.serial (e ∷ es)) f (e ∷ es) (below_next p.serial e es r) h in omega arith;
-      };
+      again = can_at p f e es r h q;
     }
+
+can_past : (p : Point) (old : ℕ) (e : Entry) (es : List Entry) → stop p.model (e ∷ es) ≡ None → next_after old (e ∷ es) ≡ p.serial → CanAdvance p (e ∷ es)
+can_past p old e es h q = record {
+  passed = All-weaker (λ b. passes p.model b ≡ true) (λ b. b.serial < p.serial → passes p.model b ≡ true) (λ b t lt. t) (e ∷ es) (all_pass p.model (e ∷ es) h);
+  near = λ _. omega (arith, q);
+}
 
 moved_past : (p : Point) (old : ℕ) (e : Entry) (es : List Entry) → Rise (e ∷ es) → stop p.model (e ∷ es) ≡ None → next_after old (e ∷ es) ≡ p.serial → HasMoved p (e ∷ es)
 moved_past p old e es r h q =
@@ -156,38 +166,90 @@ moved_past p old e es r h q =
       each = i;
       smaller = smaller p e es i;
       next = λ s a le. all_reverse (passes p.model) (e ∷ es) ∙ none_stops p.model (e ∷ es) h;
-      again = record {
-        passed = All-weaker (λ b. passes p.model b ≡ true) (λ b. b.serial < p.serial → passes p.model b ≡ true) (λ b t lt. t) (e ∷ es) (all_pass p.model (e ∷ es) h);
-        near = omega (arith, q);
-      };
+      again = can_past p old e es h q;
     }
 
--- it stands where the contract says,
-pub has_advanced : (old : Point) (window : List Entry) → Rise window → HasAdvanced (moved_over window old) window
-has_advanced old [] r = tt
-has_advanced old (e ∷ es) r = by_stop (stop old.model (e ∷ es)) refl
-  where
-    by_stop : (o : Option Entry) → stop old.model (e ∷ es) ≡ o → HasMoved (record old { serial = serial_of o (next_after old.serial (e ∷ es)) }) (e ∷ es)
-    by_stop None h = moved_past (record old { serial = next_after old.serial (e ∷ es) }) old.serial e es r h refl
-    by_stop (Some f) h = moved_to (record old { serial = f.serial }) f e es r h refl
+-- ---- under a model that doesn't protect it stays
 
-not_below : (m n : ℕ) → (m < n → ⊥) → n ≤ m
-not_below m n h = by_test (nat_le n m) refl
-  where
-    by_test : (b : Bool) → nat_le n m ≡ b → n ≤ m
-    by_test true q = grind (arith, nat_tests)
-    by_test false q = let l : m < n = grind (arith, nat_tests) in absurd (h l)
+pub all_passes : (model : SttModel) (e : Entry) → protects model ≡ false → passes model e ≡ true
+all_passes Spectre e h = absurd (cc)
+all_passes Futuristic e h = absurd (cc)
+all_passes Off e h = refl
 
--- and it hasn't gone back
-pub moves_on : (old : Point) (window : List Entry) → Rise window → CanAdvance old window → old.serial ≤ (moved_over window old).serial
-moves_on old [] r can = omega arith
-moves_on old (e ∷ es) r can = by_stop (stop old.model (e ∷ es)) refl
-  where
-    by_stop : (o : Option Entry) → stop old.model (e ∷ es) ≡ o → old.serial ≤ serial_of o (next_after old.serial (e ∷ es))
-    by_stop None h = can.near
-    by_stop (Some f) h =
-        let fails = found_fails old.model f (e ∷ es) h in
-        not_below f.serial old.serial (λ lt. let t = found_has old.model (λ b. b.serial < old.serial → passes old.model b ≡ true) f (e ∷ es) can.passed h lt in absurd (cc))
+all_visible : (model : SttModel) (before : List Entry) → protects model ≡ false → visible model before ≡ true
+all_visible model [] h = refl
+all_visible model (e ∷ before) h = ap₂ (λ a b. a && b) (all_passes model e h) (all_visible model before h)
+
+all_tell : (p : Point) (before es : List Entry) → protects p.model ≡ false → All (λ e. e.serial ≤ p.serial) es → Along (Tells p) before es
+all_tell p before [] h a = tt
+all_tell p before (e ∷ es) h a =
+    let l : e.serial ≤ p.serial = All-head (λ e. e.serial ≤ p.serial) e es a in
+    let n : nat_le e.serial p.serial ≡ true = grind (arith, nat_tests) in
+    (n ∙ sym (all_visible p.model before h), all_tell p (e ∷ before) es h (All-tail (λ e. e.serial ≤ p.serial) e es a))
+
+shows_all : (p : Point) (e : Entry) (es : List Entry) → protects p.model ≡ false → All (λ e. e.serial ≤ p.serial) (e ∷ es) → CanAdvance p (e ∷ es) → HasMoved p (e ∷ es)
+shows_all p e es h a can =
+    let i = all_tell p [] (e ∷ es) h a in
+    record { each = i; smaller = smaller p e es i; next = λ s a le. all_visible p.model (reverse (e ∷ es)) h; again = can }
+
+-- ---- either way
+
+module _ (p : Point) where
+  -- the point where it goes, if the model protects
+  abbrev at : List Entry → Bool → Point
+  at window b = record p { serial = if b then stops_at window p else p.serial }
+
+  at_stop : (P : Point → Type 0) (e : Entry) (es : List Entry) → ((f : Entry) → stop p.model (e ∷ es) ≡ Some f → P (record p { serial = f.serial })) →
+      (stop p.model (e ∷ es) ≡ None → P (record p { serial = next_after p.serial (e ∷ es) })) → P (at (e ∷ es) true)
+  at_stop P e es found none = by_stop (stop p.model (e ∷ es)) refl
+    where
+      by_stop : (o : Option Entry) → stop p.model (e ∷ es) ≡ o → P (record p { serial = serial_of o (next_after p.serial (e ∷ es)) })
+      by_stop None h = none h
+      by_stop (Some f) h = found f h
+
+  pub by_model : (P : Point → Type 0) (window : List Entry) → (protects p.model ≡ true → P (at window true)) → (protects p.model ≡ false → P p) → P (moved_over window p)
+  by_model P window goes stays = either (protects p.model) refl
+    where
+      either : (b : Bool) → protects p.model ≡ b → P (at window b)
+      either true h = goes h
+      either false h = stays h
+
+  -- it can move again,
+  pub can_again : (window : List Entry) → Rise window → CanAdvance p window → CanAdvance (moved_over window p) window
+  can_again [] r can = by_model (λ q. CanAdvance q []) [] (λ _. can) (λ _. can)
+  can_again (e ∷ es) r can =
+      by_model (λ q. CanAdvance q (e ∷ es)) (e ∷ es)
+      (λ _. at_stop (λ q. CanAdvance q (e ∷ es)) e es (λ f h. can_at (record p { serial = f.serial }) f e es r h refl)
+      (λ h. can_past (record p { serial = next_after p.serial (e ∷ es) }) p.serial e es h refl))
+      (λ _. can)
+
+  -- it stands where the contract says,
+  pub has_advanced : (window : List Entry) → Rise window → ShowsAll p → All (λ e. e.serial < 2 ^ 64 - 1) window → CanAdvance p window → HasAdvanced (moved_over window p) window
+  has_advanced [] r all few can = tt
+  has_advanced (e ∷ es) r all few can =
+      by_model (λ q. HasMoved q (e ∷ es)) (e ∷ es)
+      (λ _. at_stop (λ q. HasMoved q (e ∷ es)) e es (λ f h. moved_to (record p { serial = f.serial }) f e es r h refl)
+      (λ h. moved_past (record p { serial = next_after p.serial (e ∷ es) }) p.serial e es r h refl))
+      (λ h. let last = all h in
+      shows_all p e es h (All-weaker (λ e. e.serial < 2 ^ 64 - 1) (λ e. e.serial ≤ p.serial) (λ e l. omega (arith, l, last)) (e ∷ es) few) can)
+
+  not_below : (m n : ℕ) → (m < n → ⊥) → n ≤ m
+  not_below m n h = by_test (nat_le n m) refl
+    where
+      by_test : (b : Bool) → nat_le n m ≡ b → n ≤ m
+      by_test true q = grind (arith, nat_tests)
+      by_test false q = let l : m < n = grind (arith, nat_tests) in absurd (h l)
+
+  -- and it hasn't gone back
+  pub moves_on : (window : List Entry) → Rise window → CanAdvance p window → p.serial ≤ (moved_over window p).serial
+  moves_on [] r can = by_model (λ q. p.serial ≤ q.serial) [] (λ _. omega arith) (λ _. omega arith)
+  moves_on (e ∷ es) r can =
+      by_model (λ q. p.serial ≤ q.serial) (e ∷ es)
+      (λ g. at_stop (λ q. p.serial ≤ q.serial) e es
+      (λ f h. let fails = found_fails p.model f (e ∷ es) h in
+      not_below f.serial p.serial (λ lt. let t = found_has p.model (λ b. b.serial < p.serial → passes p.model b ≡ true) f (e ∷ es) can.passed h lt in absurd (cc)))
+      (λ h. can.near g))
+      (λ _. omega arith)
 
 -- ---- what the code finds
 
@@ -203,18 +265,37 @@ serial_is : (found : Option Entry) (next : ℕ) → unwrap_or (option_map (λ e.
 serial_is None next = refl
 serial_is (Some e) next = refl
 
--- what the search and the youngest entry come to, at the point as it was
-module _ (p : Point) (window : List Entry) (n next : ℕ) (found : Option ℕ)
-    (is : n ≡ unwrap_or found next) (stop_is : found ≡ option_map (λ e. e.serial) (stop p.model window)) (next_is : next ≡ next_after p.serial window) (rise : Rise window) where
-  pub moved : n ≡ (moved_over window p).serial
-  moved = is ∙ ap₂ (λ next found. unwrap_or found next) next_is stop_is ∙ serial_is (stop p.model window) (next_after p.serial window)
+-- a model is `off`, or it protects
+pub is_protecting : (model : SttModel) → model ≢ Off → protects model ≡ true
+is_protecting Spectre h = refl
+is_protecting Futuristic h = refl
+is_protecting Off h = absurd (h refl)
 
-  pub advanced_at : HasAdvanced (record p { serial = n }) window
-  advanced_at = subst (λ n. HasAdvanced (record p { serial = n }) window) (sym moved) (has_advanced p window rise)
+-- what the search and the youngest entry come to, at the point as it was, if the model protects
+module _ (p old : Point) (window : List Entry) (n next : ℕ) (found : Option ℕ) (same : p ≡ old) (guards : p.model ≢ Off)
+    (is : n ≡ unwrap_or found next) (stop_is : found ≡ option_map (λ e. e.serial) (stop p.model window)) (next_is : next ≡ next_after p.serial window)
+    (rise : Rise window) (can : CanAdvance old window) where
+  moved : n ≡ (moved_over window p).serial
+  moved =
+      is ∙ ap₂ (λ next found. unwrap_or found next) next_is stop_is ∙ serial_is (stop p.model window) (next_after p.serial window)
+      ∙ ap (λ b. if b then stops_at window p else p.serial) (sym (is_protecting p.model guards))
 
-  pub on_at : (old : Point) → p ≡ old → CanAdvance old window → old.serial ≤ n
-  on_at old same can =
-      let l = moves_on p window rise (subst (λ q. CanAdvance q window) (sym same) can) in
+  can_here : CanAdvance p window
+  can_here = subst (λ q. CanAdvance q window) (sym same) can
+
+  pub advanced_at : ShowsAll p → All (λ e. e.serial < 2 ^ 64 - 1) window → HasAdvanced (record p { serial = n }) window
+  advanced_at all few = subst (λ n. HasAdvanced (record p { serial = n }) window) (sym moved) (has_advanced p window rise all few can_here)
+
+  pub on_at : old.serial ≤ n
+  on_at =
+      let l = moves_on p window rise can_here in
       let s : p.serial ≡ old.serial = ap (λ (q : Point). q.serial) same in
       let m = moved in
       omega (arith, l, s, m)
+
+-- under `off` it is left
+pub left_advanced : (p old : Point) (window : List Entry) → p ≡ old → p.model ≡ Off → Rise window → ShowsAll p → All (λ e. e.serial < 2 ^ 64 - 1) window → CanAdvance old window → HasAdvanced old window
+left_advanced p old window same off rise all few can =
+    let none : protects p.model ≡ false = ap protects off in
+    let left : moved_over window p ≡ p = ap (λ b. let q : Point = record p { serial = if b then stops_at window p else p.serial } in q) none in
+    subst (λ q. HasAdvanced q window) (left ∙ same) (has_advanced p window rise all few (subst (λ q. CanAdvance q window) (sym same) can))

@@ -1,47 +1,30 @@
 -- Where the point stops, by what the reorder buffer tells.
-use Rattle.std.proofs.Common.{◌≡◌, ℕ, zero, suc, Bool, true, false, not, ◌&&◌, List, [], ◌∷◌, length, Option, Some, None, refl, ap, sym, subst, ◌∙◌, arith, slice_get}
+use Rattle.std.proofs.Common.{◌≡◌, ℕ, zero, suc, Bool, true, false, not, List, [], ◌∷◌, length, Option, Some, None, refl, ap, sym, subst, ◌∙◌, arith, slice_get}
 use Rattle.std.specs.List.{find}
 use Rattle.std.specs.Option.{option_map}
 use Rattle.std.specs.Slice.Scan.{HoldsNowhere, holds_at}
-use Rattle.rv_types.specs.declared.Kind.{Kind}
-use Rattle.rv_types.specs.declared.Kind.TheVariants.{Branch, Jalr}
 use Rattle.machine_desc.specs.declared.SttModel.{SttModel}
-use Rattle.machine_desc.specs.declared.SttModel.TheVariants.{Spectre, Futuristic}
+use Rattle.machine_desc.specs.declared.SttModel.TheVariants.{Spectre, Futuristic, Off}
 use Rattle.window_model.specs.declared.Entry.{Entry}
-use Rattle.window_model.specs.Order.{is_control}
-use Rattle.window_model.specs.Taint.{passes, settled, settled_as}
+use Rattle.window_model.specs.Taint.{passes}
 use Rattle.rob_ring.specs.Ring.{Next, is_open, is_unsafe}
-
--- a branch or JALR that isn't resolved is what isn't settled
-open_as : (k : Kind) (resolved : Bool) → (is_control k && not resolved) ≡ not (settled_as k resolved)
-open_as Branch r = refl
-open_as Jalr r = refl
-open_as _ r = refl
-
--- tests that are the same of each entry are so at each position
-module _ (p q : Entry → Bool) (same : (e : Entry) → p e ≡ q e) where
-  same_at : (es : List Entry) (k : ℕ) → holds_at p es k ≡ holds_at q es k
-  same_at [] k = refl
-  same_at (e ∷ es) zero = same e
-  same_at (e ∷ es) (suc k) = same_at es k
-
-  pub same_next : (es : List Entry) (from : ℕ) (o : Option ℕ) → Next p es from o → Next q es from o
-  same_next es from None h = λ k low high. sym (same_at es k) ∙ h k low high
-  same_next es from (Some i) h = record {
-    low = h.low;
-    within = h.within;
-    before = λ k low high. sym (same_at es k) ∙ h.before k low high;
-    here = sym (same_at es i) ∙ h.here;
-  }
 
 -- the next one that is open is where the point stops under the one model,
 pub stops_at_open : (model : SttModel) (es : List Entry) (from : ℕ) (o : Option ℕ) → model ≡ Spectre → Next is_open es from o → Next (λ e. not (passes model e)) es from o
-stops_at_open model es from o q h =
-    subst (λ model. Next (λ e. not (passes model e)) es from o) (sym q) (same_next is_open (λ e. not (settled e)) (λ e. open_as e.item.kind e.resolved) es from o h)
+stops_at_open model es from o q h = subst (λ model. Next (λ e. not (passes model e)) es from o) (sym q) h
 
--- and under the other the next one that may yet squash what comes after it
+-- under the other the next one that may yet squash what comes after it,
 pub stops_at_unsafe : (model : SttModel) (es : List Entry) (from : ℕ) (o : Option ℕ) → model ≡ Futuristic → Next is_unsafe es from o → Next (λ e. not (passes model e)) es from o
 stops_at_unsafe model es from o q h = subst (λ model. Next (λ e. not (passes model e)) es from o) (sym q) h
+
+-- and nowhere under one that doesn't protect
+pub stops_nowhere : (model : SttModel) (es : List Entry) (from : ℕ) → model ≡ Off → Next (λ e. not (passes model e)) es from None
+stops_nowhere model es from q = subst (λ model. Next (λ e. not (passes model e)) es from None) (sym q) (λ k low high. none es k)
+  where
+    none : (es : List Entry) (k : ℕ) → holds_at (λ e. not (passes Off e)) es k ≡ false
+    none [] k = refl
+    none (e ∷ es) zero = refl
+    none (e ∷ es) (suc k) = none es k
 
 -- the first position whose entry passes is where a search ends
 module _ (p : Entry → Bool) where

@@ -1,16 +1,28 @@
 -- The visibility point (docs/machine.md, "Safe and visible"): what it may be before it moves, and what it then is.
-use Rattle.std.specs.Prelude.{◌≡◌, ℕ, ◌+◌, ◌<◌, ◌≤◌, Bool, true, false, not, nat_le, List, [], ◌∷◌, Option, Some, None, reverse}
+use Rattle.std.specs.Prelude.{◌≡◌, ℕ, ◌+◌, ◌-◌, ◌^◌, ◌<◌, ◌≤◌, Bool, true, false, not, nat_le, List, [], ◌∷◌, Option, Some, None, if◌then◌else◌, reverse}
 use Rattle.std.specs.List.{All, find}
 use Rattle.machine_desc.specs.declared.SttModel.{SttModel}
 use Rattle.window_model.specs.declared.Entry.{Entry}
 use Rattle.window_model.specs.Along.{Along}
-use Rattle.window_model.specs.Taint.{visible}
+use Rattle.window_model.specs.Taint.{protects, visible}
 pub use Rattle.window_model.specs.Taint.{passes}
 
 -- entries up to this serial are visible under this model
 pub record Point : Type 0 where
   pub serial : ℕ
   pub model : SttModel
+
+-- before anything is in flight serial 0 alone is visible; under a model that doesn't protect every serial is
+abbrev pub first_point : SttModel → Point
+first_point model = record { serial = if protects model then 0 else 2 ^ 64 - 1; model = model }
+
+-- under a model that doesn't protect the point shows every serial, whatever the window is
+abbrev pub ShowsAll : Point → Type 0
+ShowsAll p = protects p.model ≡ false → p.serial ≡ 2 ^ 64 - 1
+
+-- under a model that protects it isn't past this serial
+abbrev pub NotPast : Point → ℕ → Type 0
+NotPast p serial = protects p.model ≡ true → p.serial ≤ serial
 
 -- a value with this youngest root is tainted
 abbrev pub is_hidden : ℕ → Option ℕ → Bool
@@ -27,17 +39,22 @@ abbrev pub serial_of : Option Entry → ℕ → ℕ
 serial_of None next = next
 serial_of (Some e) next = e.serial
 
--- the point moves to the oldest entry that doesn't pass, or to the serial after the youngest. An empty window leaves it
+-- where the point of a model that protects goes: to the oldest entry that doesn't pass, or to the serial after the youngest. An
+-- empty window leaves it
+abbrev pub stops_at : List Entry → Point → ℕ
+stops_at window p = serial_of (find (λ e. not (passes p.model e)) window) (next_after p.serial window)
+
+-- the point has moved there. That of a model that doesn't protect stays
 abbrev pub moved_over : List Entry → Point → Point
-moved_over window p = record p { serial = serial_of (find (λ e. not (passes p.model e)) window) (next_after p.serial window) }
+moved_over window p = record p { serial = if protects p.model then stops_at window p else p.serial }
 
 -- each entry below the point passes
 abbrev pub Passed : Point → List Entry → Type 0
 Passed p window = All (λ e. e.serial < p.serial → passes p.model e ≡ true) window
 
--- the point is at most the serial after the youngest
+-- the point isn't past the serial after the youngest
 abbrev pub IsNear : Point → List Entry → Type 0
-IsNear p window = p.serial ≤ next_after p.serial window
+IsNear p window = NotPast p (next_after p.serial window)
 
 -- the point says exactly which entries of the window are visible
 abbrev pub IsPoint : Point → List Entry → Type 0

@@ -1,16 +1,20 @@
 //! The point itself.
-ghost use Rattle.std.specs.Prelude.{◌≡◌, ◌-◌, ◌<◌, ◌≤◌, ◌^◌, not, nat_le};
+ghost use Rattle.std.specs.Prelude.{◌≡◌, ◌-◌, ◌<◌, ◌≤◌, ◌^◌, IsTrue, false, if◌then◌else◌, not, nat_le};
 ghost use Rattle.std.specs.List.{find, All};
 ghost use Rattle.std.specs.Option.{option_map};
 ghost use Rattle.window_model.specs.Serials.{Rise};
 ghost use Rattle.rob_ring.specs.Ring.{Next};
-ghost use Rattle.visibility.specs.Point.{passes, is_hidden, next_after, moved_over, CanAdvance, HasAdvanced};
+ghost use Rattle.window_model.specs.Taint.{protects};
+ghost use Rattle.visibility.specs.Point.{
+  passes, is_hidden, next_after, first_point, moved_over, CanAdvance, HasAdvanced,
+};
 
 use machine_desc::{Desc, SttModel};
 use rob_ring::RobRing;
 use std::marker::Model;
 
-/// The visibility point of a model: entries up to its serial are visible, and younger ones are not.
+/// The visibility point of a model: entries up to its serial are visible, and younger ones are not. Under a model that doesn't
+/// protect it stands at the last serial from the start on, so that every entry is visible.
 #[derive(Drop)]
 pub struct VisPoint {
     serial: u64,
@@ -18,27 +22,30 @@ pub struct VisPoint {
 }
 
 impl Model for VisPoint {
-    ghost use Rattle.visibility.specs.Point.{Point};
+    ghost use Rattle.visibility.specs.Point.{Point, ShowsAll};
 
     ghost Value = { Point };
 
     ghost view = { λ p. record { serial = p.serial; model = p.model } };
+
+    ghost invariant = { λ p. ShowsAll (record { serial = p.serial; model = p.model }) };
 }
 
 impl VisPoint {
-    /// The point before anything is in flight: serial 0 alone is visible.
+    /// The point before anything is in flight: serial 0 alone is visible, or every serial where the model doesn't protect.
     pub fn new(desc: &Desc) -> VisPoint
-        ensures { result ≡ record { serial = 0; model = desc.now.stt_model } }
+        ensures { result ≡ first_point desc.now.stt_model }
     {
         VisPoint {
-            serial: 0,
+            serial: first_serial(desc.stt_model),
             model: desc.stt_model,
         }
     }
 
-    /// Whether the entry with this serial is visible.
+    /// Whether the entry with this serial is visible: each is where the model doesn't protect.
     pub fn visible(&self, serial: u64) -> bool
-        ensures { result ≡ nat_le serial self.now.serial }
+        ensures tells { result ≡ nat_le serial self.now.serial }
+        ensures every { protects self.now.model ≡ false → IsTrue result }
     {
         serial <= self.serial
     }
@@ -55,7 +62,8 @@ impl VisPoint {
     }
 
     /// Moves the point on: to the oldest entry that keeps younger ones from being visible, or to the serial after the
-    /// youngest where none does. The reorder buffer tells that entry, so no walk over the entries is needed.
+    /// youngest where none does. The reorder buffer tells that entry, so no walk over the entries is needed. Where the model
+    /// doesn't protect the point stays where it shows all.
     pub fn advance(&mut self, rob: &RobRing)
         requires rise { Rise rob.now.entries }
         requires few { All (λ e. e.serial < 2 ^ 64 - 1) rob.now.entries }
@@ -64,8 +72,21 @@ impl VisPoint {
         ensures advanced { HasAdvanced self.new rob.now.entries }
         ensures on { self.old.serial ≤ self.new.serial }
     {
+        if self.model == SttModel::Off {
+            return;
+        }
         let stop = find_stop(self.model, rob);
         self.serial = stop.unwrap_or(after_youngest(self.serial, rob));
+    }
+}
+
+// The serial up to which entries are visible before anything is in flight.
+fn first_serial(model: SttModel) -> u64
+    ensures { result ≡ (if protects model then 0 else 2 ^ 64 - 1) }
+{
+    match model {
+        SttModel::Off => u64::MAX,
+        _ => 0,
     }
 }
 
@@ -79,7 +100,7 @@ fn find_stop(model: SttModel, rob: &RobRing) -> Option<u64>
     }
 }
 
-// Its position: the first branch or JALR that isn't resolved, or the first entry that may yet squash what comes after it.
+// Its position: the first entry that isn't settled, or the first that may yet squash what comes after it.
 fn next_stop(model: SttModel, rob: &RobRing) -> Option<u32>
     ensures { Next (λ e. not (passes model e)) rob.now.entries 0 result }
 {

@@ -1,4 +1,5 @@
-//! The point over a branch and a load behind it, under both models; the expected values follow from `docs/machine.md`.
+//! The point over a branch or a store and a load behind it, under both models that protect; the expected values follow from
+//! `docs/machine.md`.
 ghost use Rattle.std.specs.Prelude.{◌≡◌};
 
 use crate::VisPoint;
@@ -31,8 +32,10 @@ fn entry(serial: u64, instr: Instr, state: Progress, fault: Option<Cause>, resol
         state,
         outcome: Some(outcome),
         resolved,
+        issued: None,
         addr_due: None,
         data_due: None,
+        cleared: true,
     }
 }
 
@@ -48,6 +51,22 @@ fn branch(resolved: bool) -> Entry
         imm: 8,
     };
     entry(2, branch, Progress::Done, None, resolved)
+}
+
+// A store with serial 2 that is Done.
+fn store(cleared: bool) -> Entry
+    ensures { result.serial ≡ 2 }
+{
+    let x1 = Reg { number: 1 };
+    let store = Instr::Store {
+        op: Op::Sw,
+        rs1: x1,
+        rs2: x1,
+        imm: 0,
+    };
+    let mut entry = entry(2, store, Progress::Done, None, false);
+    entry.cleared = cleared;
+    entry
 }
 
 // A load with serial 5.
@@ -78,13 +97,13 @@ fn described(alloc: Global, model: &str) -> Result<Desc, Fail> {
     Ok(read_desc(alloc, text.as_bytes())?)
 }
 
-// Whether the branch, the load behind it and what comes next are visible.
-fn seen(alloc: Global, desc: &Desc, branch: Entry, load: Entry) -> Result<[bool; 3], NoMemory>
-    requires older { branch.serial ≡ 2 }
+// Whether the first entry, the load behind it and what comes next are visible.
+fn seen(alloc: Global, desc: &Desc, first: Entry, load: Entry) -> Result<[bool; 3], NoMemory>
+    requires older { first.serial ≡ 2 }
     requires younger { load.serial ≡ 5 }
 {
     let mut rob = RobRing::new(alloc, desc)?;
-    rob.push(branch);
+    rob.push(first);
     rob.push(load);
     let mut point = VisPoint::new(desc);
     point.advance(&rob);
@@ -119,6 +138,19 @@ fn the_point_stands_at_what_keeps_younger_ones_hidden(rt: HostRuntime) -> Result
             want,
             "{model:?} {state:?}"
         );
+    }
+    Ok(())
+}
+
+#[test]
+fn a_store_hides_what_follows_until_it_is_cleared(rt: HostRuntime) -> Result<(), Fail> {
+    let alloc = rt.alloc();
+    for model in ["model = \"spectre\"", "model = \"futuristic\""] {
+        let desc = described(alloc, model)?;
+        for (cleared, want) in [(false, [true, false, false]), (true, [true, true, true])] {
+            let load = load(Progress::Done, None);
+            assert_eq!(rt; seen(alloc, &desc, store(cleared), load)?, want, "{model}");
+        }
     }
     Ok(())
 }
