@@ -4,8 +4,11 @@ use Rattle.std.specs.List.{list_any}
 use Rattle.std.specs.Slice.Scan.{HoldsNowhere, holds_at}
 use Rattle.std.proofs.lemmas.List.{drop_more}
 use Rattle.std.proofs.lemmas.Option.{get_or_from_slice_get, slice_get_within}
+use Rattle.rv_types.specs.declared.Kind.{Kind}
+use Rattle.rv_types.specs.declared.Kind.TheVariants.{Branch, Jalr}
 use Rattle.window_model.specs.declared.Entry.{Entry}
 use Rattle.window_model.specs.Order.{is_control, is_done}
+use Rattle.window_model.specs.Taint.{settled_as}
 use Rattle.visibility.specs.Point.{is_hidden}
 use Rattle.rob_ring.specs.Ring.{IsNext, is_open}
 use Rattle.rob_ring.proofs.Gaps.{to_end, to_next}
@@ -30,11 +33,18 @@ module _ (point i : ℕ) (es : List Entry) (roots : List (List (Option ℕ))) (e
   pub pick_on : b ≡ false → pick_from point (i + 1) (drop (i + 1) es) (drop (i + 1) roots) ≡ r
   pick_on f = let a = at_place in cc
 
--- ---- between branches and JALRs that aren't resolved
+-- ---- between entries that aren't settled
 
--- no other entry can be
+-- what is settled is no branch or JALR that isn't resolved
+is_closed : (k : Kind) (resolved cleared : Bool) → not (settled_as k resolved cleared) ≡ false → (is_control k && not resolved) ≡ false
+is_closed Branch r c h = h
+is_closed Jalr r c h = h
+is_closed _ r c h = refl
+
+-- so it can't be resolved
 closed_stays : (point : ℕ) (e : Entry) (rs : List (Option ℕ)) → is_open e ≡ false → can_resolve point e rs ≡ false
-closed_stays point e rs h = by_parts (is_control e.item.kind) (is_done e.state) (not e.resolved) (not (list_any (is_hidden point) rs)) h
+closed_stays point e rs h =
+    by_parts (is_control e.item.kind) (is_done e.state) (not e.resolved) (not (list_any (is_hidden point) rs)) (is_closed e.item.kind e.resolved e.cleared h)
   where
     by_parts : (a b c d : Bool) → (a && c) ≡ false → (a && b && c && d) ≡ false
     by_parts false b c d h = refl

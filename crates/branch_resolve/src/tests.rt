@@ -52,8 +52,10 @@ fn done(instr: Instr, value: u32, next: u32, fault: Option<Cause>) -> Entry
         state: Progress::Done,
         outcome: Some(outcome),
         resolved: false,
+        issued: None,
         addr_due: None,
         data_due: None,
+        cleared: true,
     }
 }
 
@@ -72,6 +74,16 @@ fn jump() -> Instr {
     Instr::Jalr {
         rd: x1,
         rs1: x1,
+        imm: 0,
+    }
+}
+
+fn write() -> Instr {
+    let x1 = Reg { number: 1 };
+    Instr::Store {
+        op: Op::Sw,
+        rs1: x1,
+        rs2: x1,
         imm: 0,
     }
 }
@@ -162,6 +174,20 @@ fn what_is_resolved_is_passed_over(rt: HostRuntime) -> Result<(), Fail> {
         let sources = by_position(&rt, alloc, [[None, None], [Some(root), None]])?;
         assert_eq!(rt; pick(&ring, &point, &sources), want);
     }
+    Ok(())
+}
+
+#[test]
+fn a_store_that_is_not_cleared_is_passed_over(rt: HostRuntime) -> Result<(), Fail> {
+    let alloc = rt.alloc();
+    let point = VisPoint::new(&desc(alloc)?);
+    let store = Entry {
+        cleared: false,
+        ..done(write(), 0, 0x10008, None)
+    };
+    let ring = ring_of(alloc, store, younger(jump(), 0x10008, 0x20000))?;
+    let clean = by_position(&rt, alloc, [[None, None], [None, None]])?;
+    assert_eq!(rt; pick(&ring, &point, &clean), Some(1));
     Ok(())
 }
 
