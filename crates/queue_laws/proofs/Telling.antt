@@ -52,28 +52,30 @@ abbrev gives : ℕ → Entry → Bool
 gives a e = not (covers a e) || has_data e
 
 -- what lets a load of a byte and of others go gives the byte, and lets a load of the others go
-split_one : (s p d t q r : Bool) → (not s || p && (d || not t && not (s && p && q || r))) ≡ true →
-    ((not (s && p && q) || d) ≡ true) × ((not s || p && (d || not t && not r)) ≡ true)
-split_one false p d t q r h = (refl, refl)
-split_one true false d t q r h = absurd (cc)
-split_one true true true t true r h = (refl, refl)
-split_one true true true t false r h = (refl, refl)
-split_one true true false true q r h = absurd (cc)
-split_one true true false false true r h = absurd (cc)
-split_one true true false false false true h = absurd (cc)
-split_one true true false false false false h = (refl, refl)
+split_one : (s p f d t q r : Bool) → (not s || (p || f) && (d || not t && not (s && p && q || r))) ≡ true →
+    ((not (s && p && q) || d) ≡ true) × ((not s || (p || f) && (d || not t && not r)) ≡ true)
+split_one false p f d t q r h = (refl, refl)
+split_one true false true d t q r h = (refl, h)
+split_one true false false d t q r h = absurd (cc)
+split_one true true f true t true r h = (refl, refl)
+split_one true true f true t false r h = (refl, refl)
+split_one true true f false true q r h = absurd (cc)
+split_one true true f false false true r h = absurd (cc)
+split_one true true f false false false true h = absurd (cc)
+split_one true true f false false false false h = (refl, refl)
 
 joined : (a b c d : Bool) → a ≡ true → b ≡ true → (c ≡ true) × (d ≡ true) → ((a && c) ≡ true) × ((b && d) ≡ true)
 joined true true c d p q h = h
 joined false b c d p q h = absurd (cc)
 joined true false c d p q h = absurd (cc)
 
-byte_let : (model : SttModel) (a : ℕ) (bytes : List ℕ) (before : List Entry) → stores_let model (a ∷ bytes) before ≡ true → (list_all (gives a) before ≡ true) × (stores_let model bytes before ≡ true)
-byte_let model a bytes [] h = (refl, refl)
-byte_let model a bytes (e ∷ before) h =
-    let p = both _ (stores_let model (a ∷ bytes) before) h in
-    let one = split_one (is_store e.item.kind) (has_address e) (has_data e) (address_tainted model before e) (reaches a (width_of e) e.outcome) (list_any (λ a. covers a e) bytes) p.0 in
-    joined (gives a e) _ (list_all (gives a) before) (stores_let model bytes before) one.0 one.1 (byte_let model a bytes before p.1)
+byte_let : (model : SttModel) (passes : Bool) (a : ℕ) (bytes : List ℕ) (before : List Entry) → stores_let model passes (a ∷ bytes) before ≡ true →
+    (list_all (gives a) before ≡ true) × (stores_let model passes bytes before ≡ true)
+byte_let model passes a bytes [] h = (refl, refl)
+byte_let model passes a bytes (e ∷ before) h =
+    let p = both _ (stores_let model passes (a ∷ bytes) before) h in
+    let one = split_one (is_store e.item.kind) (has_address e) passes (has_data e) (address_tainted model before e) (reaches a (width_of e) e.outcome) (list_any (λ a. covers a e) bytes) p.0 in
+    joined (gives a e) _ (list_all (gives a) before) (stores_let model passes bytes before) one.0 one.1 (byte_let model passes a bytes before p.1)
 
 -- the byte of the youngest that covers it
 found_as : (a : ℕ) (c p d : Bool) (e : Entry) (r : Option ℕ) (o : Option Entry) → (c ≡ true → p ≡ true) → (not c || d) ≡ true → r ≡ option_map (byte_from a) o →
@@ -126,13 +128,13 @@ some_found a (Some e) = refl
 -- ---- the laws
 
 pub bytes_are : BytesAsLoaded
-bytes_are model ram ss before a zero h t = refl
-bytes_are model ram ss before a (suc n) h t =
-    let p = byte_let model a (range (a + 1) n) before t in
-    ap₂ (λ b bs. b ∷ bs) (ap (byte_or_memory ram a) (forwarded_is a ss before h p.0) ∙ byte_of_found ram a (find (covers a) before)) (bytes_are model ram ss before (a + 1) n h p.1)
+bytes_are model passes ram ss before a zero h t = refl
+bytes_are model passes ram ss before a (suc n) h t =
+    let p = byte_let model passes a (range (a + 1) n) before t in
+    ap₂ (λ b bs. b ∷ bs) (ap (byte_or_memory ram a) (forwarded_is a ss before h p.0) ∙ byte_of_found ram a (find (covers a) before)) (bytes_are model passes ram ss before (a + 1) n h p.1)
 
 pub covered_is : CoveredAsAsked
-covered_is model ss before a zero h t = refl
-covered_is model ss before a (suc n) h t =
-    let p = byte_let model a (range (a + 1) n) before t in
-    ap₂ (λ a b. a && b) (ap is_some (forwarded_is a ss before h p.0) ∙ some_found a (find (covers a) before)) (covered_is model ss before (a + 1) n h p.1)
+covered_is model passes ss before a zero h t = refl
+covered_is model passes ss before a (suc n) h t =
+    let p = byte_let model passes a (range (a + 1) n) before t in
+    ap₂ (λ a b. a && b) (ap is_some (forwarded_is a ss before h p.0) ∙ some_found a (find (covers a) before)) (covered_is model passes ss before (a + 1) n h p.1)

@@ -1,5 +1,5 @@
 -- What queues that stand for a window tell of it.
-use Rattle.std.specs.Prelude.{◌≡◌, ℕ, ◌≤◌, Bool, true, not, ◌&&◌, List, ◌++◌, length, map, reverse, Option, is_some}
+use Rattle.std.specs.Prelude.{◌≡◌, ℕ, ◌≤◌, Bool, true, not, ◌&&◌, ◌||◌, List, ◌++◌, length, map, reverse, Option, is_some}
 use Rattle.std.specs.List.{count_by, filter, list_any, list_all}
 use Rattle.rv_types.specs.Memory.{Ram, range}
 use Rattle.rv_types.specs.declared.Cause.{Cause}
@@ -28,27 +28,27 @@ HoldsOlder = (q : Queues) (old rest : List Entry) (serial : ℕ) → StandFor q 
 abbrev pub KnownAsComplete : Type 0
 KnownAsComplete = (stores : List Store) (before : List Entry) → StoresStandFor stores before → list_all is_known stores ≡ all_complete before
 
--- they let a load go where the queue says so: the address of each is known; none that the load meets lacks its data; and the
--- youngest root of the addresses of those that lack it is visible, if each store's root isn't where its own address is
--- tainted, and what is older than a visible load is visible
+-- they let a load go where the queue says so: the address of each is known, or the load passes those of which it isn't; none that
+-- the load meets lacks its data; and the youngest root of the addresses of those that lack it is visible, if each store's root
+-- isn't where its own address is tainted, and what is older than a visible load is visible
 abbrev pub LetsAsAsked : Type 0
-LetsAsAsked = (model : SttModel) (visible : ℕ → Bool) → ((a b : ℕ) → a ≤ b → visible b ≡ true → visible a ≡ true) →
+LetsAsAsked = (model : SttModel) (passes : Bool) (visible : ℕ → Bool) → ((a b : ℕ) → a ≤ b → visible b ≡ true → visible a ≡ true) →
     (stores : List Store) (before : List Entry) (fault : Option Cause) (a n : ℕ) → StoresStandFor stores before →
     map (λ s. hides visible s.root) stores ≡ tainted_stores model before →
-    stores_let model (bytes_asked fault a n) before ≡ (not (list_any lacks_address stores)
+    stores_let model passes (bytes_asked fault a n) before ≡ ((passes || not (list_any lacks_address stores))
     && not (list_any (lacks_data_for (bytes_asked fault a n)) stores)
     && not (hides visible (youngest_root (filter (λ s. not (is_some s.stored)) stores))))
 
 -- then a load finds its bytes
 abbrev pub BytesAsLoaded : Type 0
-BytesAsLoaded = (model : SttModel) (ram : Ram) (stores : List Store) (before : List Entry) (a n : ℕ) →
-    StoresStandFor stores before → stores_let model (range a n) before ≡ true →
+BytesAsLoaded = (model : SttModel) (passes : Bool) (ram : Ram) (stores : List Store) (before : List Entry) (a n : ℕ) →
+    StoresStandFor stores before → stores_let model passes (range a n) before ≡ true →
     merged_bytes ram stores a n ≡ load_bytes ram before a n
 
 -- and whether older stores cover them all
 abbrev pub CoveredAsAsked : Type 0
-CoveredAsAsked = (model : SttModel) (stores : List Store) (before : List Entry) (a n : ℕ) →
-    StoresStandFor stores before → stores_let model (range a n) before ≡ true →
+CoveredAsAsked = (model : SttModel) (passes : Bool) (stores : List Store) (before : List Entry) (a n : ℕ) →
+    StoresStandFor stores before → stores_let model passes (range a n) before ≡ true →
     all_forwarded stores a n ≡ all_covered before a n
 
 -- the youngest root isn't visible where some older store has a tainted address, if each store's root isn't where its own
