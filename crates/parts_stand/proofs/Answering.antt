@@ -14,12 +14,14 @@ use Rattle.machine_desc.specs.declared.Desc.{Desc}
 use Rattle.window_model.specs.declared.Entry.{Entry}
 use Rattle.window_model.specs.Along.{Along, Behind, Fact}
 use Rattle.window_model.specs.Around.{Around, is_free}
-use Rattle.window_model.specs.Order.{Place, all_known, base_of, before_at, first_from, is_control, is_done, is_known, is_waiting, others_of, sources, writer, writes}
+use Rattle.window_model.specs.Order.{Place, base_of, before_at, first_from, is_control, is_done, is_waiting, others_of, sources, writer, writes}
+use Rattle.window_model.specs.Ready.{all_known, gives, is_known}
 use Rattle.window_model.specs.Resolve.{may_resolve}
 use Rattle.window_model.specs.Issue.{goes_behind, may_issue_as}
 use Rattle.window_model.specs.Taint.{tainted, any_tainted, address_tainted}
 use Rattle.window_model.proofs.Booleans.{or_false}
 use Rattle.window_model.proofs.Counts.{count, count_is, count_pushed}
+use Rattle.window_model.proofs.Withheld.{gives_done}
 use Rattle.rename_taint.specs.Writes.{root_of}
 use Rattle.rename_taint.specs.Writes as writing
 use Rattle.stations.specs.Stations.{Station, able_as, awaits_none, nothing_at, source_of}
@@ -129,32 +131,32 @@ stations_younger window i m e e2 lt h w n =
     let k = fewer window i m e e2 lt h w n in
     omega (arith, a, b, k)
 
-none_awaited : (before : List Entry) (r : ℕ) → is_none (awaited_of (writer before r)) ≡ is_known before r
-none_awaited [] r = refl
-none_awaited (e ∷ before) r = by_writer (writes r e) (none_awaited before r)
+none_awaited : (d : Desc) (before : List Entry) (r : ℕ) → is_none (awaited_of (writer before r)) ≡ is_known d before r
+none_awaited d [] r = refl
+none_awaited d (e ∷ before) r = by_writer (writes r e) (none_awaited d before r)
   where
-    by_done : (d : Bool) → is_none (if d then None else Some e.serial) ≡ d
+    by_done : (b : Bool) → is_none (if b then None else Some e.serial) ≡ b
     by_done true = refl
     by_done false = refl
 
-    by_writer : (w : Bool) → is_none (awaited_of (writer before r)) ≡ is_known before r → is_none (awaited_of (if w then Some e else writer before r)) ≡ (if w then is_done e.state else is_known before r)
-    by_writer true h = by_done (is_done e.state)
+    by_writer : (w : Bool) → is_none (awaited_of (writer before r)) ≡ is_known d before r → is_none (awaited_of (if w then Some e else writer before r)) ≡ (if w then gives d before e else is_known d before r)
+    by_writer true h = by_done (is_done e.state) ∙ sym (gives_done d before e)
     by_writer false h = h
 
-ready_by : (before : List Entry) (rs : List ℕ) → length rs ≤ 2 → list_all is_none (map (awaited before) (two rs)) ≡ list_all (is_known before) rs
-ready_by before [] le = refl
-ready_by before (a ∷ []) le = ap (λ b. b && true) (none_awaited before a)
-ready_by before (a ∷ b ∷ []) le = ap₂ (λ p q. p && (q && true)) (none_awaited before a) (none_awaited before b)
-ready_by before (a ∷ b ∷ c ∷ rs) le = absurd (omega (arith, le))
+ready_by : (d : Desc) (before : List Entry) (rs : List ℕ) → length rs ≤ 2 → list_all is_none (map (awaited before) (two rs)) ≡ list_all (is_known d before) rs
+ready_by d before [] le = refl
+ready_by d before (a ∷ []) le = ap (λ b. b && true) (none_awaited d before a)
+ready_by d before (a ∷ b ∷ []) le = ap₂ (λ p q. p && (q && true)) (none_awaited d before a) (none_awaited d before b)
+ready_by d before (a ∷ b ∷ c ∷ rs) le = absurd (omega (arith, le))
 
 awaits_as : (o : Option Station) → option_map awaits_none o ≡ option_map (λ (w : Waiter). list_all is_none w.awaits) (option_map waiter_in o)
 awaits_as None = refl
 awaits_as (Some s) = refl
 
 pub tells_ready : TellsReady
-tells_ready p i e s h w =
+tells_ready d p i e s h w =
     awaits_as (slice_get p.held (station_of i p.window)) ∙ ap (option_map (λ (w : Waiter). list_all is_none w.awaits)) (has_station p i e s h w).is
-    ∙ ap Some (ready_by (before_at p.window i) (sources e) (few_reads e.item.instr))
+    ∙ ap Some (ready_by d (before_at p.window i) (sources e) (few_reads e.item.instr))
 
 and_true : (b : Bool) → (b && true) ≡ b
 and_true true = refl
@@ -165,28 +167,28 @@ or_none true b = refl
 or_none false b = or_false b
 
 -- each source by itself
-part_by : (part : Part) (before : List Entry) (rs : List ℕ) → length rs ≤ 2 → nothing_at (source_of part) (map (awaited before) (two rs)) ≡ all_known before (own_of part rs)
-part_by part.Base before [] le = refl
-part_by part.Other before [] le = refl
-part_by part.Base before (a ∷ []) le = none_awaited before a ∙ sym (and_true (is_known before a))
-part_by part.Other before (a ∷ []) le = refl
-part_by part.Base before (a ∷ b ∷ []) le = none_awaited before a ∙ sym (and_true (is_known before a))
-part_by part.Other before (a ∷ b ∷ []) le = none_awaited before b ∙ sym (and_true (is_known before b))
-part_by part before (a ∷ b ∷ c ∷ rs) le = absurd (omega (arith, le))
+part_by : (part : Part) (d : Desc) (before : List Entry) (rs : List ℕ) → length rs ≤ 2 → nothing_at (source_of part) (map (awaited before) (two rs)) ≡ all_known d before (own_of part rs)
+part_by part.Base d before [] le = refl
+part_by part.Other d before [] le = refl
+part_by part.Base d before (a ∷ []) le = none_awaited d before a ∙ sym (and_true (is_known d before a))
+part_by part.Other d before (a ∷ []) le = refl
+part_by part.Base d before (a ∷ b ∷ []) le = none_awaited d before a ∙ sym (and_true (is_known d before a))
+part_by part.Other d before (a ∷ b ∷ []) le = none_awaited d before b ∙ sym (and_true (is_known d before b))
+part_by part d before (a ∷ b ∷ c ∷ rs) le = absurd (omega (arith, le))
 
-either_by : (before : List Entry) (rs : List ℕ) → length rs ≤ 2 → list_any is_none (map (awaited before) (two rs)) ≡ (all_known before (base_of rs) || all_known before (others_of rs))
-either_by before [] le = refl
-either_by before (a ∷ []) le = or_none (is_none (awaited before (Some a))) true ∙ ap (λ b. b || true) (none_awaited before a ∙ sym (and_true (is_known before a)))
-either_by before (a ∷ b ∷ []) le =
+either_by : (d : Desc) (before : List Entry) (rs : List ℕ) → length rs ≤ 2 → list_any is_none (map (awaited before) (two rs)) ≡ (all_known d before (base_of rs) || all_known d before (others_of rs))
+either_by d before [] le = refl
+either_by d before (a ∷ []) le = or_none (is_none (awaited before (Some a))) true ∙ ap (λ b. b || true) (none_awaited d before a ∙ sym (and_true (is_known d before a)))
+either_by d before (a ∷ b ∷ []) le =
     or_none (is_none (awaited before (Some a))) (is_none (awaited before (Some b)))
-    ∙ ap₂ (λ p q. p || q) (none_awaited before a ∙ sym (and_true (is_known before a))) (none_awaited before b ∙ sym (and_true (is_known before b)))
-either_by before (a ∷ b ∷ c ∷ rs) le = absurd (omega (arith, le))
+    ∙ ap₂ (λ p q. p || q) (none_awaited d before a ∙ sym (and_true (is_known d before a))) (none_awaited d before b ∙ sym (and_true (is_known d before b)))
+either_by d before (a ∷ b ∷ c ∷ rs) le = absurd (omega (arith, le))
 
-able_by : (w : Wants) (before : List Entry) (e : Entry) → able_as w (map (awaited before) (two (sources e))) ≡ has_sources w before e
-able_by wants.Whole before e = ready_by before (sources e) (few_reads e.item.instr)
-able_by wants.Either before e = either_by before (sources e) (few_reads e.item.instr)
-able_by wants.Base before e = part_by part.Base before (sources e) (few_reads e.item.instr)
-able_by wants.Other before e = part_by part.Other before (sources e) (few_reads e.item.instr)
+able_by : (w : Wants) (d : Desc) (before : List Entry) (e : Entry) → able_as w (map (awaited before) (two (sources e))) ≡ has_sources w d before e
+able_by wants.Whole d before e = ready_by d before (sources e) (few_reads e.item.instr)
+able_by wants.Either d before e = either_by d before (sources e) (few_reads e.item.instr)
+able_by wants.Base d before e = part_by part.Base d before (sources e) (few_reads e.item.instr)
+able_by wants.Other d before e = part_by part.Other d before (sources e) (few_reads e.item.instr)
 
 -- a test of what a station wants and awaits is one of its waiter
 tested_as : (t : Wants → List (Option ℕ) → Bool) (o : Option Station) → option_map (λ s. t s.wants s.awaits) o ≡ option_map (λ (w : Waiter). t w.wants w.awaits) (option_map waiter_in o)
@@ -194,15 +196,15 @@ tested_as t None = refl
 tested_as t (Some s) = refl
 
 pub tells_able : TellsAble
-tells_able p i e s h w =
+tells_able d p i e s h w =
     tested_as able_as (slice_get p.held (station_of i p.window)) ∙ ap (option_map (λ (w : Waiter). able_as w.wants w.awaits)) (has_station p i e s h w).is
-    ∙ ap Some (able_by (wants_of p.version e) (before_at p.window i) e)
+    ∙ ap Some (able_by (wants_of p.version e) d (before_at p.window i) e)
 
 pub tells_part : TellsPart
-tells_part part p i e s h w =
+tells_part part d p i e s h w =
     tested_as (λ wants awaits. nothing_at (source_of part) awaits) (slice_get p.held (station_of i p.window))
     ∙ ap (option_map (λ (w : Waiter). nothing_at (source_of part) w.awaits)) (has_station p i e s h w).is
-    ∙ ap Some (part_by part (before_at p.window i) (sources e) (few_reads e.item.instr))
+    ∙ ap Some (part_by part d (before_at p.window i) (sources e) (few_reads e.item.instr))
 
 -- ---- roots
 

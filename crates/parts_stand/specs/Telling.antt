@@ -7,7 +7,8 @@ use Rattle.rv_types.specs.declared.Kind.TheVariants.{Load, Div}
 use Rattle.machine_desc.specs.declared.Desc.{Desc}
 use Rattle.window_model.specs.declared.Entry.{Entry}
 use Rattle.window_model.specs.Around.{Around, is_free}
-use Rattle.window_model.specs.Order.{all_known, base_of, before_at, first, is_waiting, others_of, ready, sources, writer}
+use Rattle.window_model.specs.Order.{base_of, before_at, first, is_waiting, others_of, sources, writer}
+use Rattle.window_model.specs.Ready.{all_known, ready}
 use Rattle.window_model.specs.Resolve.{may_resolve}
 use Rattle.window_model.specs.Issue.{goes_behind, may_issue_as}
 use Rattle.window_model.specs.Taint.{visible, tainted, any_tainted, address_tainted}
@@ -103,8 +104,8 @@ StationsYounger = (window : List Entry) (i m : ℕ) (e e2 : Entry) → m < i →
 
 -- a station awaits nothing exactly where its entry is ready
 abbrev pub TellsReady : Type 0
-TellsReady = (p : Parts) (i : ℕ) (e : Entry) → Stand p → slice_get p.window i ≡ Some e → is_waiting e.state ≡ true →
-    option_map awaits_none (slice_get p.held (station_of i p.window)) ≡ Some (ready (before_at p.window i) e)
+TellsReady = (d : Desc) (p : Parts) (i : ℕ) (e : Entry) → Stand p → slice_get p.window i ≡ Some e → is_waiting e.state ≡ true →
+    option_map awaits_none (slice_get p.held (station_of i p.window)) ≡ Some (ready d (before_at p.window i) e)
 
 -- the source of a part of a store, by its sources
 abbrev pub own_of : Part → List ℕ → List ℕ
@@ -112,21 +113,21 @@ own_of part.Base rs = base_of rs
 own_of part.Other rs = others_of rs
 
 -- what an entry that waits wants is there
-abbrev pub has_sources : Wants → List Entry → Entry → Bool
-has_sources wants.Whole before e = ready before e
-has_sources wants.Either before e = all_known before (base_of (sources e)) || all_known before (others_of (sources e))
-has_sources wants.Base before e = all_known before (base_of (sources e))
-has_sources wants.Other before e = all_known before (others_of (sources e))
+abbrev pub has_sources : Wants → Desc → List Entry → Entry → Bool
+has_sources wants.Whole d before e = ready d before e
+has_sources wants.Either d before e = all_known d before (base_of (sources e)) || all_known d before (others_of (sources e))
+has_sources wants.Base d before e = all_known d before (base_of (sources e))
+has_sources wants.Other d before e = all_known d before (others_of (sources e))
 
 -- a station is able exactly where what its entry wants is there
 abbrev pub TellsAble : Type 0
-TellsAble = (p : Parts) (i : ℕ) (e : Entry) → Stand p → slice_get p.window i ≡ Some e → is_waiting e.state ≡ true →
-    option_map is_able (slice_get p.held (station_of i p.window)) ≡ Some (has_sources (wants_of p.version e) (before_at p.window i) e)
+TellsAble = (d : Desc) (p : Parts) (i : ℕ) (e : Entry) → Stand p → slice_get p.window i ≡ Some e → is_waiting e.state ≡ true →
+    option_map is_able (slice_get p.held (station_of i p.window)) ≡ Some (has_sources (wants_of p.version e) d (before_at p.window i) e)
 
 -- and a part of it is ready exactly where the part's own source is
 abbrev pub TellsPart : Type 0
-TellsPart = (part : Part) (p : Parts) (i : ℕ) (e : Entry) → Stand p → slice_get p.window i ≡ Some e → is_waiting e.state ≡ true →
-    option_map (ready_part part) (slice_get p.held (station_of i p.window)) ≡ Some (all_known (before_at p.window i) (own_of part (sources e)))
+TellsPart = (part : Part) (d : Desc) (p : Parts) (i : ℕ) (e : Entry) → Stand p → slice_get p.window i ≡ Some e → is_waiting e.state ≡ true →
+    option_map (ready_part part) (slice_get p.held (station_of i p.window)) ≡ Some (all_known d (before_at p.window i) (own_of part (sources e)))
 
 -- ---- roots
 
