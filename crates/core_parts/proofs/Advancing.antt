@@ -10,7 +10,7 @@ use Rattle.window_model.specs.declared.Entry.{Entry}
 use Rattle.window_model.specs.Along.{Along}
 use Rattle.window_model.specs.Taint.{visible}
 use Rattle.window_model.proofs.Before.{all_reverse}
-use Rattle.visibility.specs.Point.{CanAdvance, HasAdvanced, HasMoved, IsPoint, Passed, Point, next_after, passes}
+use Rattle.visibility.specs.Point.{CanAdvance, HasAdvanced, HasMoved, IsPoint, NotPast, Passed, Point, next_after, passes}
 
 -- ---- what it says of each entry is all that is to be kept
 
@@ -79,5 +79,5 @@ alike_advanced p (e ∷ es) (f ∷ es2) z a =
     has_moved p f es2 (alike_tells p [] [] (e ∷ es) (f ∷ es2) tt z a.each)
     (record {
       passed = alike_passed p (e ∷ es) (f ∷ es2) z a.again.passed;
-      near = subst (λ n. p.serial ≤ n) (sym (alike_next p.model p.serial (e ∷ es) (f ∷ es2) z)) a.again.near;
+      near = subst (NotPast p) (sym (alike_next p.model p.serial (e ∷ es) (f ∷ es2) z)) a.again.near;
     })

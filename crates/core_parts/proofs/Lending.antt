@@ -28,8 +28,8 @@ lent_name_roots h v w s = subst (λ (v : Described). NamesRoots v.machine.next_s
 pub lent_waiting : (h : Held) (v : Described) → Whole h → described h ≡ v → HoldsWaiting v.desc.version h.stations v.machine.window
 lent_waiting h v w s = subst (λ (v : Described). HoldsWaiting v.desc.version h.stations v.machine.window) s w.stands.stand.held
 
-pub lent_ready : (h : Held) (v : Described) → Whole h → described h ≡ v → TellsReady h.stations v.machine.window
-lent_ready h v w s = subst (λ (v : Described). TellsReady h.stations v.machine.window) s (λ i e a b. tells_ready _ i e w.stands.stand a b)
+pub lent_ready : (h : Held) (v : Described) → Whole h → described h ≡ v → TellsReady v.desc h.stations v.machine.window
+lent_ready h v w s = subst (λ (v : Described). TellsReady v.desc h.stations v.machine.window) s (λ i e a b. tells_ready h.desc _ i e w.stands.stand a b)
 
 pub lent_queues : (h : Held) (v : Described) → Whole h → described h ≡ v → StandFor h.queues v.machine.window
 lent_queues h v w s = subst (λ (v : Described). StandFor h.queues v.machine.window) s w.stands.queues

@@ -164,7 +164,7 @@ stands_dropped p i e s h l =
     (writers_squash parts (each_writers p.sources) first s.stand s.writers)
     (queues_cut first p.window p.queues s.stand.rise s.queues)
     (addresses_squash parts p.queues.stores first s.stand s.addresses)
-    (point_squashes p.point p.next p.window i e s.point s.stand.rise h l)
+    (point_squashes p.point p.next first p.window i e s.point s.stand.rise h (omega arith) l)
 
 -- none of those that are younger has its serial
 younger_differ : (e : Entry) (es : List Entry) → All (λ d. e.serial < d.serial) es → Others e.serial es

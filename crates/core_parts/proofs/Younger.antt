@@ -1,5 +1,5 @@
 -- The parts once all that is younger than an entry is gone.
-use Rattle.std.proofs.Common.{◌≡◌, ℕ, ◌+◌, ◌<◌, ◌≤◌, List, [], ◌∷◌, ◌++◌, length, take, Option, ap, sym, ◌∙◌, subst, arith, lit≤}
+use Rattle.std.proofs.Common.{◌≡◌, ℕ, ◌+◌, ◌<◌, List, [], ◌∷◌, ◌++◌, length, take, Option, ap, sym, ◌∙◌, subst, arith, lit≤}
 use Rattle.std.specs.Prelude.{◌^◌, nat_lt}
 use Rattle.std.specs.List.{AllByRecursion as Each, filter}
 use Rattle.circular_buffer.specs.Buffer.{Buffer, buffer}
@@ -23,6 +23,7 @@ use Rattle.lsq.specs.Queues.{Queues}
 use Rattle.unit_ports.specs.Ports.{Ports}
 use Rattle.fetch_unit.specs.Unit.{FetchUnit}
 use Rattle.window_model.proofs.Serials.{all_at, splits}
+use Rattle.visibility.specs.Point.{NotPast}
 use Rattle.core_parts.specs.Described.{Described}
 use Rattle.core_parts.specs.Held.{Held, Whole, described, in_flight, machine_of}
 use Rattle.core_parts.specs.Stands.{Stands}
@@ -47,6 +48,7 @@ sized_dropped d x a b pc v e s =
       cache = f.cache;
       second = f.second;
       misses = f.misses;
+      dependence = f.dependence;
       registers = f.registers;
     })
 
@@ -81,7 +83,7 @@ dropped_whole h serial next w s =
       sized = sized_dropped h.desc (machine_of h) (below (serial + 1) h.rob.entries) t.gone next (freed_from (serial + 1) h.ports.divider) t.whole w.sized;
       stands =
           subst (λ n. Stands (below_serial (n + 1) (in_flight h))) s.is
-          (stands_dropped (in_flight h) s.position s.entry w.stands s.here (subst (λ n. h.point.serial ≤ n) (sym s.is) s.not_past));
+          (stands_dropped (in_flight h) s.position s.entry w.stands s.here (subst (NotPast h.point) (sym s.is) s.not_past));
       made = w.made;
     }
 

@@ -24,7 +24,7 @@ use Rattle.window_model.specs.declared.Miss.{Miss}
 use Rattle.window_model.specs.declared.Target.{Target}
 use Rattle.window_model.specs.State.{After, Machine, opening}
 use Rattle.window_model.specs.Fetch.{fetch}
-use Rattle.visibility.specs.Point.{Point}
+use Rattle.visibility.specs.Point.{Point, first_point}
 
 -- a machine, the description that it runs under, the words that it may fetch, and how far its entries are visible
 pub record Described : Type 0 where
@@ -35,7 +35,7 @@ pub record Described : Type 0 where
 
 -- before the first cycle
 abbrev pub opened : Desc → CodeText → ℕ → Ram → Described
-opened d code entry ram = record { desc = d; code = code; machine = opening d entry ram; point = record { serial = 0; model = d.stt_model } }
+opened d code entry ram = record { desc = d; code = code; machine = opening d entry ram; point = first_point d.stt_model }
 
 -- with this window in the place of its own
 abbrev pub with_window : List Entry → Described → Described
@@ -74,12 +74,19 @@ Levels = List (List ℕ) × List (List ℕ)
 abbrev pub levels_code : Coded Levels
 levels_code = coded× (coded_list (coded_list coded_ℕ)) (coded_list (coded_list coded_ℕ))
 
+-- what has been learnt: counters, targets and the bits of dependence
+abbrev pub Predicts : Type 0
+Predicts = List ℕ × (List (Option Target) × List Bool)
+
+abbrev pub predicts_code : Coded Predicts
+predicts_code = coded× (coded_list coded_ℕ) (coded× (coded_list (coded_option target.the_row.coded)) (coded_list coded_bool))
+
 -- what has been learnt, what is cached, and the divider
 abbrev pub Learnt : Type 0
-Learnt = List ℕ × (List (Option Target) × (Levels × (List Miss × Divider)))
+Learnt = Predicts × (Levels × (List Miss × Divider))
 
 abbrev pub learnt_code : Coded Learnt
-learnt_code = coded× (coded_list coded_ℕ) (coded× (coded_list (coded_option target.the_row.coded)) (coded× levels_code (coded× (coded_list miss.the_row.coded) divider.the_row.coded)))
+learnt_code = coded× predicts_code (coded× levels_code (coded× (coded_list miss.the_row.coded) divider.the_row.coded))
 
 -- a machine is stored as these three parts
 abbrev pub machine_code : Coded Machine
@@ -87,7 +94,7 @@ machine_code =
     code_by (Committed × (Unretired × Learnt)) (coded× committed_code (coded× unretired_code learnt_code))
     (λ x. (
       (x.cycle, (x.regs, (x.pc, (x.ram, (x.retired, x.end))))),
-      ((x.window, (x.next_serial, (x.queue, (x.fetch_pc, x.mark)))), (x.counters, (x.targets, ((x.cache, x.second), (x.misses, x.divider))))),
+      ((x.window, (x.next_serial, (x.queue, (x.fetch_pc, x.mark)))), ((x.counters, (x.targets, x.dependence)), ((x.cache, x.second), (x.misses, x.divider)))),
     ))
     (λ p. record {
       cycle = p.0.0;
@@ -98,12 +105,13 @@ machine_code =
       queue = p.1.0.1.1.0;
       fetch_pc = p.1.0.1.1.1.0;
       mark = p.1.0.1.1.1.1;
-      counters = p.1.1.0;
-      targets = p.1.1.1.0;
-      cache = p.1.1.1.1.0.0;
-      second = p.1.1.1.1.0.1;
-      misses = p.1.1.1.1.1.0;
-      divider = p.1.1.1.1.1.1;
+      counters = p.1.1.0.0;
+      targets = p.1.1.0.1.0;
+      dependence = p.1.1.0.1.1;
+      cache = p.1.1.1.0.0;
+      second = p.1.1.1.0.1;
+      misses = p.1.1.1.1.0;
+      divider = p.1.1.1.1.1;
       retired = p.0.1.1.1.1.0;
       next_serial = p.1.0.1.0;
       end = p.0.1.1.1.1.1;

@@ -1,6 +1,6 @@
 -- What the parts of a core hold, of which machine they are, and what holds of them in every state (docs/machine.md, "State",
 -- docs/architecture.md, "How they stand for it").
-use Rattle.std.specs.Prelude.{◌≡◌, ℕ, List, Option}
+use Rattle.std.specs.Prelude.{◌≡◌, ℕ, false, List, Option, replicate}
 use Rattle.circular_buffer.specs.Buffer.{Buffer}
 use Rattle.rv_types.specs.Memory.{Ram}
 use Rattle.rv_types.specs.declared.End.{End}
@@ -52,7 +52,7 @@ pub record Held : Type 0 where
   pub next_serial : ℕ
   pub end : Option End
 
--- the machine that they hold
+-- the machine that they hold. No bit of dependence is ever set: no load passes a store of unknown address
 abbrev pub machine_of : Held → Machine
 machine_of h = record {
   cycle = h.cycle;
@@ -64,6 +64,7 @@ machine_of h = record {
   fetch_pc = h.fetch_unit.fetch_pc;
   counters = h.tables.counters;
   targets = h.tables.targets;
+  dependence = replicate h.desc.predictor_depend false;
   mark = h.past.mark;
   cache = h.tags.sets;
   second = h.second.sets;

@@ -2,9 +2,11 @@
 use Rattle.std.specs.Prelude.{◌≡◌, ℕ, ◌<◌, ◌≤◌, nat_le, true, List, [], ◌∷◌, length, map, reverse, slice_get, Option, Some, if◌then◌else◌}
 use Rattle.std.specs.List.{All}
 use Rattle.std.specs.Option.{option_map}
+use Rattle.machine_desc.specs.declared.Desc.{Desc}
 use Rattle.machine_desc.specs.declared.SttModel.{SttModel}
 use Rattle.window_model.specs.declared.Entry.{Entry}
-use Rattle.window_model.specs.Order.{before_at, is_store, is_waiting, ready, writer}
+use Rattle.window_model.specs.Order.{before_at, is_store, is_waiting, writer}
+use Rattle.window_model.specs.Ready.{ready}
 use Rattle.window_model.specs.Taint.{visible}
 use Rattle.rename_taint.specs.declared.Write.{Write}
 use Rattle.rename_taint.specs.Writes.{root_of, source_of}
@@ -40,9 +42,9 @@ abbrev pub HoldsWaiting : ℕ → Stations → List Entry → Type 0
 HoldsWaiting version s window = map waiter_in s.held ≡ waiters_from version [] window
 
 -- and one awaits nothing exactly where its entry is ready
-abbrev pub TellsReady : Stations → List Entry → Type 0
-TellsReady s window = (i : ℕ) (e : Entry) → slice_get window i ≡ Some e → is_waiting e.state ≡ true →
-    option_map awaits_none (slice_get s.held (station_of i window)) ≡ Some (ready (before_at window i) e)
+abbrev pub TellsReady : Desc → Stations → List Entry → Type 0
+TellsReady d s window = (i : ℕ) (e : Entry) → slice_get window i ≡ Some e → is_waiting e.state ≡ true →
+    option_map awaits_none (slice_get s.held (station_of i window)) ≡ Some (ready d (before_at window i) e)
 
 -- entries up to the point are visible, and no others
 abbrev pub TellsVisible : SttModel → Point → List Entry → Type 0

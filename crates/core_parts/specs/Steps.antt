@@ -1,6 +1,6 @@
 -- What becomes of the parts in each step of a cycle, and that they go on to stand for the window (docs/architecture.md, "How they
 -- stand for it").
-use Rattle.std.specs.Prelude.{◌≡◌, ℕ, ◌+◌, ◌≤◌, not, ◌==◌, nat_lt, true, false, List, [], ◌∷◌, ◌++◌, length, map, reverse, take, drop, slice_get, slice_set, Option, Some, None}
+use Rattle.std.specs.Prelude.{◌≡◌, ℕ, ◌+◌, not, ◌==◌, nat_lt, true, false, List, [], ◌∷◌, ◌++◌, length, map, reverse, take, drop, slice_get, slice_set, Option, Some, None}
 use Rattle.std.specs.List.{filter}
 use Rattle.std.specs.Option.{option_to_list}
 use Rattle.rv_types.specs.Regs.{two}
@@ -18,7 +18,7 @@ use Rattle.stations.specs.Stations.{struck}
 use Rattle.lsq.specs.Queues as queues
 use Rattle.lsq.specs.Queues.{Queues}
 use Rattle.queue_laws.specs.Window.{PartsGoOn, noted}
-use Rattle.visibility.specs.Point.{moved_over}
+use Rattle.visibility.specs.Point.{NotPast, first_point, moved_over}
 use Rattle.parts_stand.specs.Parts.{awaits_of, write_of}
 use Rattle.parts_stand.specs.Addresses.{base_root}
 use Rattle.parts_stand.specs.Steps.{Issues, left_held, seated, station_of}
@@ -28,7 +28,7 @@ use Rattle.core_parts.specs.Stands.{InFlight, Stands}
 -- ---- before the first cycle
 
 abbrev pub empty : Desc → InFlight
-empty d = record { version = d.version; next = 0; window = []; sources = []; writes = []; held = []; queues = queues.empty d; point = record { serial = 0; model = d.stt_model } }
+empty d = record { version = d.version; next = 0; window = []; sources = []; writes = []; held = []; queues = queues.empty d; point = first_point d.stt_model }
 
 abbrev pub OpensEmpty : Type 0
 OpensEmpty = (d : Desc) → Stands (empty d)
@@ -106,7 +106,7 @@ below_serial first p = record p {
 
 -- all that is younger than an entry which the point isn't past
 abbrev pub DropsYounger : Type 0
-DropsYounger = (p : InFlight) (i : ℕ) (e : Entry) → Stands p → slice_get p.window i ≡ Some e → p.point.serial ≤ e.serial → Stands (below_serial (e.serial + 1) p)
+DropsYounger = (p : InFlight) (i : ℕ) (e : Entry) → Stands p → slice_get p.window i ≡ Some e → NotPast p.point e.serial → Stands (below_serial (e.serial + 1) p)
 
 -- the oldest
 abbrev pub without_head : Entry → InFlight → InFlight
@@ -127,4 +127,4 @@ PointMoves = (p : InFlight) → Stands p → Stands (record p { point = moved_ov
 
 -- it stops at a branch or JALR that isn't resolved
 abbrev pub PointStops : Type 0
-PointStops = (p : InFlight) (i : ℕ) (e : Entry) → Stands p → slice_get p.window i ≡ Some e → is_control e.item.kind ≡ true → e.resolved ≡ false → p.point.serial ≤ e.serial
+PointStops = (p : InFlight) (i : ℕ) (e : Entry) → Stands p → slice_get p.window i ≡ Some e → is_control e.item.kind ≡ true → e.resolved ≡ false → NotPast p.point e.serial

@@ -8,7 +8,7 @@ use squash::squash_after;
 
 impl<R: RenameTaint> Parts<R> {
     /// All parts let go of what is younger than the entry of this serial, entries and fetched items, and fetching goes on at this
-    /// address, or nowhere. The answer is how many there were. The visibility point may not be past the entry.
+    /// address, or nowhere. The answer is how many there were. The visibility point of a model that protects may not be past the entry.
     pub fn drop_younger(&mut self, serial: u64, next: Option<u32>) -> u32
         requires stops { StopsAt serial self.old.point self.old.machine.window }
         ensures dropped { result ≡ younger_count serial self.old.machine }

@@ -76,7 +76,7 @@ next_over s first (x ∷ es) zero e r h lt =
     let rest = splits first es (rise_tail x es r) in
     let young = All-weaker (λ d. x.serial < d.serial) (λ d. e.serial + 1 ≤ d.serial) (λ d l. omega (arith, n, l)) es (rise_head x es r) in
     let k = next_rises (e.serial + 1) (below first es) (all_left (λ d. e.serial + 1 ≤ d.serial) (below first es) rest.gone (subst (All (λ d. e.serial + 1 ≤ d.serial)) rest.whole young))
-        (rise_left (below first es) rest.gone (subst Rise rest.whole (rise_tail x es r))) in
+    (rise_left (below first es) rest.gone (subst Rise rest.whole (rise_tail x es r))) in
     subst (λ b. e.serial + 1 ≤ next_after s (cond b (x ∷ below first es) (below first es))) (sym t) (subst (λ m. e.serial + 1 ≤ next_after (m + 1) (below first es)) (sym n) k)
 next_over s first (x ∷ es) (suc i) e r h lt =
     let l : x.serial < e.serial = all_at (λ d. x.serial < d.serial) es i e (rise_head x es r) h in

@@ -6,7 +6,13 @@ ghost use Rattle.window_model.specs.Serials.{Rise};
 ghost use Rattle.rob_ring.specs.Ring.{Next};
 ghost use Rattle.window_model.specs.Taint.{protects};
 ghost use Rattle.visibility.specs.Point.{
-  passes, is_hidden, next_after, first_point, moved_over, CanAdvance, HasAdvanced,
+  passes,
+  is_hidden,
+  next_after,
+  first_point,
+  moved_over,
+  CanAdvance,
+  HasAdvanced,
 };
 
 use machine_desc::{Desc, SttModel};
