@@ -214,7 +214,7 @@ retires_head d s0 i stored s s2 e h lt t g =
     let stores : Each (TakesStore s.ram) (e ∷ rest) = subst (Each (TakesStore s.ram)) w h.stores in
     record {
       went = h.went ++ e ∷ [];
-      left = left_more d s0 s s2 h.went rest e None h.left g w (head.may, head.goes) (opening d 0 s.ram);
+      left = left_more d s0 s s2 h.went rest e None h.left g w (head.may, head.goes, head.cleared) (opening d 0 s.ram);
       whole = λ x. one_more d (d.core_retire_width - (i + 1)) stored s s2 h.went rest e None t w p g x ∙ sym (ap (λ n. behind s (turns d n stored (standing s (length h.went) None x))) n) ∙ h.whole x;
       empty = λ one.
           quiet_if (calls e) e rest s2.piece refl alone (λ k. g.piece (opening d 0 s.ram) rest ∙ quiet e.item.kind d e rest (with_effects s.tags s.ram s.regs s.pc None (opening d 0 s.ram)) k) (subst (λ w. 1 ≤ length w) after one);
@@ -329,7 +329,7 @@ over_ends d s0 i stored s s2 e o end h r lt t left ends =
     let n : d.core_retire_width - i ≡ suc k = omega (arith, lt) in
     let p : s.piece ≡ [] = h.empty (let l = ap length w in omega (arith, l)) in
     let went = h.went ++ e ∷ [] in
-    over d s0 s2 went (Some end) r (left_more d s0 s s2 h.went rest e (Some end) h.left g w (head.may, head.goes) (opening d 0 s.ram)) (λ x.
+    over d s0 s2 went (Some end) r (left_more d s0 s s2 h.went rest e (Some end) h.left g w (head.may, head.goes, head.cleared) (opening d 0 s.ram)) (λ x.
     sym (ap (behind s2) (ended d k (stored || is_store e.item.kind) (standing s2 (length went) (Some end) x) end refl))
     ∙ one_more d k stored s s2 h.went rest e (Some end) t w p g x
     ∙ sym (ap (λ n. behind s (turns d n stored (standing s (length h.went) None x))) n)

@@ -1,5 +1,5 @@
 -- Turns of retiring, by what is found at the head.
-use Rattle.std.proofs.Common.{◌≡◌, ℕ, zero, suc, Bool, true, false, ◌&&◌, ◌||◌, List, [], ◌∷◌, Option, Some, None, refl, ap, sym, ◌∙◌, subst}
+use Rattle.std.proofs.Common.{◌≡◌, ℕ, zero, suc, Bool, true, false, ◌||◌, List, [], ◌∷◌, Option, Some, None, refl, ap, sym, ◌∙◌, subst}
 use Rattle.std.specs.Prelude.{if◌then◌else◌}
 use Rattle.rv_types.specs.declared.Cause.{Cause}
 use Rattle.rv_types.specs.declared.End.{End}
@@ -8,7 +8,8 @@ use Rattle.machine_desc.specs.declared.Desc.{Desc}
 use Rattle.window_model.specs.declared.Entry.{Entry}
 use Rattle.window_model.specs.State.{Machine}
 use Rattle.window_model.specs.Order.{is_store}
-use Rattle.window_model.specs.Retire.{Retired, turns, turn, head_turn, head_leaves, then_retires, stays, unless_ended, may_leave, trap_of}
+use Rattle.window_model.specs.Retire.{Retired, turns, turn, head_turn, head_leaves, then_retires, stays, unless_ended, may_leave, store_waits, trap_of}
+use Rattle.window_model.proofs.Leaving.{is_cleared}
 use Rattle.retire.specs.declared.turn.Turn.TheVariants.{Waits, Traps, Leaves}
 use Rattle.retire.specs.Turn.{Goes, turn_at, turn_by}
 
@@ -31,7 +32,7 @@ module _ (d : Desc) (stored : Bool) (x : Machine) (more : Bool → Machine → R
 
   waits_by : (e : Entry) (rest : List Entry) (o : Option Cause) → turn_by stored o e ≡ Waits → turn d stored o e rest x more ≡ stays x
   waits_by e rest (Some cause) h = absurd (cc)
-  waits_by e rest None h = waits_if e rest (stored && is_store e.item.kind) h
+  waits_by e rest None h = waits_if e rest (store_waits stored e) h
 
   waits_head : (e : Entry) (rest : List Entry) (b : Bool) → (if b then turn_by stored (trap_of e) e else Waits) ≡ Waits →
       (if b then turn d stored (trap_of e) e rest x more else stays x) ≡ stays x
@@ -54,7 +55,7 @@ module _ (d : Desc) (stored : Bool) (x : Machine) (more : Bool → Machine → R
       let p : c ≡ cause = cc in
       let q : e.item.pc ≡ pc = cc in
       ap (λ c. stays (record x { end = Some (Trap c e.item.pc) })) p ∙ ap (λ pc. stays (record x { end = Some (Trap cause pc) })) q
-  traps_by e rest None cause pc h = absurd (traps_if e (stored && is_store e.item.kind) cause pc h)
+  traps_by e rest None cause pc h = absurd (traps_if e (store_waits stored e) cause pc h)
 
   traps_head : (e : Entry) (rest : List Entry) (b : Bool) (cause : Cause) (pc : ℕ) → (if b then turn_by stored (trap_of e) e else Waits) ≡ Traps cause pc →
       (if b then turn d stored (trap_of e) e rest x more else stays x) ≡ stays (record x { end = Some (Trap cause pc) })
@@ -76,7 +77,7 @@ module _ (d : Desc) (stored : Bool) (x : Machine) (more : Bool → Machine → R
   leaves_by : (e : Entry) (rest : List Entry) (o : Option Cause) → turn_by stored o e ≡ Leaves →
       turn d stored o e rest x more ≡ then_retires (head_leaves e.item.kind d e rest x) (more (stored || is_store e.item.kind))
   leaves_by e rest (Some c) h = absurd (cc)
-  leaves_by e rest None h = leaves_if e rest (stored && is_store e.item.kind) h
+  leaves_by e rest None h = leaves_if e rest (store_waits stored e) h
 
   leaves_head : (e : Entry) (rest : List Entry) (b : Bool) → (if b then turn_by stored (trap_of e) e else Waits) ≡ Leaves →
       (if b then turn d stored (trap_of e) e rest x more else stays x) ≡ then_retires (head_leaves e.item.kind d e rest x) (more (stored || is_store e.item.kind))
@@ -101,19 +102,28 @@ leaves d n stored x head rest h t w =
 
 -- ---- the head that retires
 
--- it is the oldest, may leave and doesn't trap
+-- it is the oldest, may leave, doesn't trap, and is cleared if it is a store
 pub record Head (head : Entry) (w : List Entry) : Type 0 where
   pub first : (rest : List Entry) × (w ≡ head ∷ rest)
   pub may : may_leave head ≡ true
   pub goes : trap_of head ≡ None
+  pub cleared : is_store head.item.kind ≡ true → head.cleared ≡ true
 
 no_trap : (stored : Bool) (e : Entry) (o : Option Cause) → turn_by stored o e ≡ Leaves → o ≡ None
 no_trap stored e (Some c) h = absurd (cc)
 no_trap stored e None h = refl
 
+no_wait : (stored : Bool) (e : Entry) (o : Option Cause) → turn_by stored o e ≡ Leaves → store_waits stored e ≡ false
+no_wait stored e (Some c) h = absurd (cc)
+no_wait stored e None h = by_test (store_waits stored e) h
+  where
+    by_test : (b : Bool) → (if b then Waits else Leaves) ≡ Leaves → b ≡ false
+    by_test true h = absurd (cc)
+    by_test false h = refl
+
 head_of : (stored : Bool) (e : Entry) (rest : List Entry) (b : Bool) → may_leave e ≡ b → (if b then turn_by stored (trap_of e) e else Waits) ≡ Leaves → Head e (e ∷ rest)
 head_of stored e rest false l h = absurd (cc)
-head_of stored e rest true l h = record { first = (rest, refl); may = l; goes = no_trap stored e (trap_of e) h }
+head_of stored e rest true l h = record { first = (rest, refl); may = l; goes = no_trap stored e (trap_of e) h; cleared = is_cleared stored e (no_wait stored e (trap_of e) h) }
 
 pub head_at : (stored : Bool) (w : List Entry) (head : Entry) → Goes stored w head → Head head w
 head_at stored [] head g = let h = g.head in absurd (cc)

@@ -2,6 +2,7 @@
 use Rattle.std.specs.Prelude.{◌≡◌, ℕ, ◌-◌, true, not, ◌==◌, List, [], ◌∷◌, length, take, None}
 use Rattle.std.specs.List.{filter}
 use Rattle.window_model.specs.declared.Entry.{Entry}
+use Rattle.window_model.specs.Order.{is_store}
 use Rattle.window_model.specs.Retire.{may_leave, trap_of}
 use Rattle.rob_ring.specs.Ring.{Ring}
 use Rattle.rename_taint.specs.declared.Write.{Write}
@@ -12,9 +13,9 @@ use Rattle.lsq.specs.Queues.{Queues}
 abbrev pub gone : Ring → Ring → List Entry
 gone old new = take (length old.entries - length new.entries) old.entries
 
--- the entry may retire, and ends no run as a trap
+-- the entry may retire, ends no run as a trap, and is cleared if it is a store
 abbrev pub MayRetire : Entry → Type 0
-MayRetire e = (may_leave e ≡ true) × (trap_of e ≡ None)
+MayRetire e = (may_leave e ≡ true) × (trap_of e ≡ None) × (is_store e.item.kind ≡ true → e.cleared ≡ true)
 
 -- the writes that are held once these have retired, in this order
 abbrev pub without_each : List Entry → List Write → List Write

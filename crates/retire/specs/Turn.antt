@@ -1,18 +1,17 @@
 -- What one turn does with the head (docs/machine.md, "Retire").
-use Rattle.std.specs.Prelude.{◌≡◌, ℕ, Bool, ◌&&◌, if◌then◌else◌, List, [], ◌∷◌, Option, None, Some, slice_get}
+use Rattle.std.specs.Prelude.{◌≡◌, ℕ, Bool, if◌then◌else◌, List, [], ◌∷◌, Option, None, Some, slice_get}
 use Rattle.rv_types.specs.declared.Cause.{Cause}
 use Rattle.rv_types.specs.declared.End.{End}
 use Rattle.rv_types.specs.declared.End.TheVariants.{Exit}
 use Rattle.window_model.specs.declared.Entry.{Entry}
-use Rattle.window_model.specs.Order.{is_store}
-use Rattle.window_model.specs.Retire.{may_leave, trap_of}
+use Rattle.window_model.specs.Retire.{may_leave, store_waits, trap_of}
 use Rattle.retire.specs.declared.turn.Turn.{Turn}
 use Rattle.retire.specs.declared.turn.Turn.TheVariants.{Waits, Traps, Leaves}
 
--- a head that may leave traps, or else waits as a second store, or else retires
+-- a head that may leave traps, or else waits as a store, or else retires
 abbrev pub turn_by : Bool → Option Cause → Entry → Turn
 turn_by stored (Some cause) e = Traps cause e.item.pc
-turn_by stored None e = if stored && is_store e.item.kind then Waits else Leaves
+turn_by stored None e = if store_waits stored e then Waits else Leaves
 
 -- the turn of a head, where a store has retired in this cycle or not
 abbrev pub turn_of : Bool → Entry → Turn

@@ -48,8 +48,10 @@ fn done(serial: u64, instr: Instr, kind: Kind, value: u32, addr: u32, stored: u3
             fault: None,
         }),
         resolved: false,
+        issued: None,
         addr_due: None,
         data_due: None,
+        cleared: true,
     }
 }
 

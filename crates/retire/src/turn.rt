@@ -1,6 +1,7 @@
 //! What the next turn of retiring finds at the head of the reorder buffer (`docs/machine.md`, "Retire").
 ghost use Rattle.std.specs.Prelude.{◌≡◌, ◌<◌, ◌||◌, length};
 ghost use Rattle.window_model.specs.Order.{is_store};
+ghost use Rattle.window_model.specs.Retire.{store_waits};
 ghost use Rattle.retire.specs.Turn.{turn_at, turn_of};
 ghost use Rattle.retire.specs.declared.turn.Turn.TheVariants.{Leaves};
 
@@ -11,7 +12,7 @@ use window_model::Entry;
 /// What a turn does with the head, the oldest entry.
 #[derive(Clone, Copy)]
 pub(crate) enum Turn {
-    /// There is no head, or it may not leave yet, or it is the cycle's second store: no further turn follows.
+    /// There is no head, or it may not leave yet, or it is a store that waits: no further turn follows.
     Waits,
     /// It ends the run as a trap, with this cause and at this address, and doesn't retire.
     Traps(Cause, u32),
@@ -40,10 +41,17 @@ fn turn_of(head: &Entry, stored: bool) -> Turn
     if let Some(cause) = head.trap() {
         return Turn::Traps(cause, head.item.pc);
     }
-    if stored && head.is_store() {
+    if store_waits(head, stored) {
         return Turn::Waits;
     }
     Turn::Leaves
+}
+
+// Whether the head is a store that waits: behind another one of the cycle, or because it isn't cleared.
+fn store_waits(head: &Entry, stored: bool) -> bool
+    ensures { result ≡ store_waits stored head.now }
+{
+    head.is_store() && (stored || !head.cleared)
 }
 
 /// Whether a store has retired in this cycle, once this entry has.
