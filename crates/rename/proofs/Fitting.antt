@@ -8,7 +8,6 @@ use Rattle.rv_types.specs.declared.Kind.TheVariants.{Load, Store}
 use Rattle.machine_desc.specs.declared.Desc.{Desc}
 use Rattle.window_model.specs.declared.Entry.{Entry}
 use Rattle.window_model.specs.declared.Item.{Item}
-use Rattle.window_model.specs.declared.Progress.TheVariants.{Waiting, Done}
 use Rattle.window_model.specs.Order.{is_load, is_store, is_waiting}
 use Rattle.window_model.specs.Rename.{at_once, fits, fits_as, CallAlone, calls}
 use Rattle.window_model.proofs.Booleans.{both, neither, not_true, below}
@@ -98,7 +97,7 @@ untold (Some item) h = absurd (cc)
 
 -- ---- room for it
 
-pub station_room : (b : Bool) (m n : ℕ) → (b || nat_lt m n) ≡ true → is_waiting (if b then Done else Waiting) ≡ true → m < n
+pub station_room : (b : Bool) (m n : ℕ) → (b || nat_lt m n) ≡ true → b ≡ false → m < n
 station_room true m n h w = absurd (cc)
 station_room false m n h w = below m n h
 

@@ -51,7 +51,9 @@ renames_more s0 row0 i s row item s2 row2 h lt q g r =
     let rest = drop 1 y.queue in
     let more = rename_up_to d k (rename_one d item rest y).machine in
     let es : row2.events ≡ row.events ++ event.Ren y.next_serial item.pc ∷ [] = ap (λ (r : Row). r.events) r in
-    let machine : s2.machine ≡ (rename_one d item rest y).machine = ap (λ (s : Described). s.machine) g in
+    let here = ap (λ (s : Described). s.desc) h.same in
+    let entered : s2 ≡ record s { machine = (rename_one d item rest y).machine } = g ∙ ap (λ d. record s { machine = (rename_one d item rest y).machine }) here in
+    let machine : s2.machine ≡ (rename_one d item rest y).machine = ap (λ (s : Described). s.machine) entered in
     let next = ap (λ (x : Machine). x.next_serial) machine in
     record {
       left =
@@ -60,7 +62,7 @@ renames_more s0 row0 i s row item s2 row2 h lt q g r =
           ∙ sym (ap (behind row) (one_more d k y item rest (first_rest y.queue item found.0) found.1))
           ∙ sym (ap (λ n. behind row (rename_up_to d n y)) n)
           ∙ h.left;
-      same = g ∙ ap (λ (s : Described). record s { machine = (rename_one d item rest y).machine }) h.same ∙ ap (λ x. record s0 { machine = x }) (sym machine);
+      same = entered ∙ ap (λ (s : Described). record s { machine = (rename_one d item rest y).machine }) h.same ∙ ap (λ x. record s0 { machine = x }) (sym machine);
       cycle = ap (λ (r : Row). r.cycle) r ∙ h.cycle;
       serials = omega (arith, next, h.serials, n);
       few = (let l = ap length es in let l2 = length-append row.events (event.Ren y.next_serial item.pc ∷ []) in omega (arith, l, l2, h.few, n));

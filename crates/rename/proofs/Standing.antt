@@ -1,5 +1,5 @@
 -- The parts once an entry has come in.
-use Rattle.std.proofs.Common.{◌≡◌, ℕ, ◌+◌, true, List, [], ◌∷◌, ◌++◌, Option, Some, refl, ap, ap₂, sym, ◌∙◌, subst, arith}
+use Rattle.std.proofs.Common.{◌≡◌, ℕ, ◌+◌, true, false, List, [], ◌∷◌, ◌++◌, Option, Some, refl, ap, ap₂, sym, ◌∙◌, subst, arith}
 use Rattle.std.specs.Prelude.{◌<◌, drop, length, map, reverse, slice_get}
 use Rattle.std.specs.Option.{option_to_list}
 use Rattle.circular_buffer.specs.Buffer.{Buffer, buffer}
@@ -8,7 +8,7 @@ use Rattle.rv_types.specs.declared.Kind.{Kind}
 use Rattle.rv_types.specs.declared.Kind.TheVariants.{Load, Store}
 use Rattle.window_model.specs.declared.Entry.{Entry}
 use Rattle.window_model.specs.declared.Item.{Item}
-use Rattle.window_model.specs.Order.{is_load, is_store, is_waiting, sources}
+use Rattle.window_model.specs.Order.{is_load, is_store, sources}
 use Rattle.window_model.specs.Rename.{at_once, renamed}
 use Rattle.machine_facts.proofs.SizedPhases.{rename_item}
 use Rattle.rob_ring.specs.Ring.{Ring}
@@ -28,7 +28,7 @@ use Rattle.core_parts.specs.Described.{Described}
 use Rattle.core_parts.specs.Held.{Held, Sizes, Whole, described, in_flight, machine_of, sizes}
 use Rattle.core_parts.specs.Steps.{queued}
 use Rattle.core_parts.proofs.Steps.{stands_renamed}
-use Rattle.rename.specs.Entering.{awaited_of_writer, with_station, with_write}
+use Rattle.rename.specs.Entering.{awaited_of_writer, with_station, with_write, write_by}
 use Rattle.rename.proofs.Awaiting.{awaits_are, writers_at}
 use Rattle.rename.specs.Fitting.{Counted, fitting, next_item, with_oldest}
 use Rattle.rename.proofs.Fitting.{fits_all, fitting_is, load_room, station_room, store_room}
@@ -49,11 +49,11 @@ pub record HasRoomFor (h : Held) (e : Entry) : Type 0 where
   pub entry : length h.rob.entries < h.rob.room
   pub sources : length h.sources.items < h.sources.capacity
   pub write : length h.writes < h.table_room
-  pub station : is_waiting e.state ≡ true → length h.stations.held < h.stations.room
+  pub station : at_once e.item.kind ≡ false → length h.stations.held < h.stations.room
   pub load : is_load e.item.kind ≡ true → length h.queues.loads < h.queues.max_loads
   pub store : is_store e.item.kind ≡ true → length h.queues.stores < h.queues.max_stores
 
-pub room_for : (h : Held) (item : Item) → Whole h → fitting h.desc h.rob.entries (slice_get h.fetch_unit.queue 0) ≡ Some item → HasRoomFor h (renamed h.next_serial item)
+pub room_for : (h : Held) (item : Item) → Whole h → fitting h.desc h.rob.entries (slice_get h.fetch_unit.queue 0) ≡ Some item → HasRoomFor h (renamed h.desc h.next_serial item)
 room_for h item w q =
     let f = fits_all h.desc h.rob.entries item (fitting_is h.desc h.rob.entries (slice_get h.fetch_unit.queue 0) item q).1 in
     let c = counts_room _ w.stands.stand in
@@ -69,7 +69,7 @@ room_for h item w q =
       entry = omega (arith, f.entries, a);
       sources = omega (arith, f.entries, n, b);
       write = omega (arith, f.entries, c.writes, g);
-      station = λ wait. let l = station_room (at_once item.kind) _ _ f.station wait in omega (arith, l, c.held, p);
+      station = λ waits. let l = station_room (at_once item.kind) _ _ f.station waits in omega (arith, l, c.held, p);
       load = λ is. let l = load_room item.kind h.desc h.rob.entries f.kind is in omega (arith, l, k.0, m);
       store = λ is. let l = store_room item.kind h.desc h.rob.entries f.kind is in omega (arith, l, k.1, t);
     }
@@ -96,18 +96,18 @@ pub record Entered (e : Entry) (h : Held) (rob : Ring) (beside : Buffer Sources)
 
 -- what the phase makes of each part is that
 pub entered_by : (h : Held) (item : Item) (s : Sources) (awaits : List (Option ℕ)) (rob : Ring) (beside : Buffer Sources) (writes : List Write) (room : ℕ) (stations : Stations) (q : Queues) (fetch_unit : FetchUnit) →
-    Whole h → s.writers ≡ writers_at h.writes (renamed h.next_serial item) → s.roots ≡ roots_at h.writes (renamed h.next_serial item) →
-    awaits ≡ map (awaited_of_writer h.rob.entries) s.writers → rob ≡ record (h.rob) { entries = h.rob.entries ++ renamed h.next_serial item ∷ [] } →
-    beside ≡ buffer (h.sources.items ++ s ∷ []) h.sources.capacity → writes ≡ with_write (write_of (renamed h.next_serial item) s.roots) h.writes → room ≡ h.table_room →
-    (place : ℕ) × (stations ≡ with_station h.desc.version place awaits (renamed h.next_serial item) h.stations) → q ≡ queued item.kind h.next_serial (base_root s.roots) h.queues →
-    fetch_unit ≡ record (h.fetch_unit) { queue = drop 1 h.fetch_unit.queue } → Entered (renamed h.next_serial item) h rob beside writes room stations q fetch_unit
+    Whole h → s.writers ≡ writers_at h.writes (renamed h.desc h.next_serial item) → s.roots ≡ roots_at h.writes (renamed h.desc h.next_serial item) →
+    awaits ≡ map (awaited_of_writer h.rob.entries) s.writers → rob ≡ record (h.rob) { entries = h.rob.entries ++ renamed h.desc h.next_serial item ∷ [] } →
+    beside ≡ buffer (h.sources.items ++ s ∷ []) h.sources.capacity → writes ≡ with_write (write_by h.next_serial item s.roots) h.writes → room ≡ h.table_room →
+    (place : ℕ) × (stations ≡ with_station h.desc.version place awaits (renamed h.desc h.next_serial item) h.stations) → q ≡ queued item.kind h.next_serial (base_root s.roots) h.queues →
+    fetch_unit ≡ record (h.fetch_unit) { queue = drop 1 h.fetch_unit.queue } → Entered (renamed h.desc h.next_serial item) h rob beside writes room stations q fetch_unit
 entered_by h item s awaits rob beside writes room stations q fetch_unit w are_writers are_roots are_awaits come pushed written same placed added taken =
-    let e = renamed h.next_serial item in
+    let e = renamed h.desc h.next_serial item in
     let awaited = are_awaits ∙ ap (map (awaited_of_writer h.rob.entries)) are_writers ∙ awaits_are _ e w.stands.stand in
     record {
       window = come;
       sources = pushed ∙ ap₂ (λ rs ws. buffer (h.sources.items ++ record { roots = rs; writers = ws } ∷ []) h.sources.capacity) are_roots are_writers;
-      table = written ∙ ap (λ rs. with_write (write_of e rs) h.writes) are_roots;
+      table = written ∙ ap (λ rs. with_write (write_by h.next_serial item rs) h.writes) are_roots;
       same_room = same;
       places = (placed.0, placed.1 ∙ ap (λ awaits. with_station h.desc.version placed.0 awaits e h.stations) awaited);
       loads_and_stores = added ∙ ap (λ rs. queued item.kind h.next_serial (base_root rs) h.queues) are_roots;
@@ -147,9 +147,9 @@ pub first_rest : (q : List Item) (item : Item) → slice_get q 0 ≡ Some item �
 first_rest [] item h = absurd (cc)
 first_rest (x ∷ q) item h = cc
 
-entered_whole : (h : Held) (item : Item) (place : ℕ) → Whole h → fitting h.desc h.rob.entries (slice_get h.fetch_unit.queue 0) ≡ Some item → Whole (entered place (renamed h.next_serial item) h)
+entered_whole : (h : Held) (item : Item) (place : ℕ) → Whole h → fitting h.desc h.rob.entries (slice_get h.fetch_unit.queue 0) ≡ Some item → Whole (entered place (renamed h.desc h.next_serial item) h)
 entered_whole h item place w q =
-    let e = renamed h.next_serial item in
+    let e = renamed h.desc h.next_serial item in
     let found = fitting_is h.desc h.rob.entries (slice_get h.fetch_unit.queue 0) item q in
     record {
       sized = rename_item h.desc (machine_of h) item (drop 1 h.fetch_unit.queue) (first_rest h.fetch_unit.queue item found.0) found.1 w.sized;
@@ -161,8 +161,8 @@ one_item : (o : Option Item) (a b : Item) → o ≡ Some a → o ≡ Some b → 
 one_item o a b p q = cc
 
 module _ (h : Held) (item : Item) (rob : Ring) (beside : Buffer Sources) (writes : List Write) (room : ℕ) (stations : Stations) (q : Queues) (fetch_unit : FetchUnit) (next : ℕ) (w : Whole h)
-    (g : Entered (renamed h.next_serial item) h rob beside writes room stations q fetch_unit) (n : next ≡ h.next_serial + 1) where
-  are : record h { rob = rob; sources = beside; writes = writes; table_room = room; stations = stations; queues = q; fetch_unit = fetch_unit; next_serial = next } ≡ entered g.places.0 (renamed h.next_serial item) h
+    (g : Entered (renamed h.desc h.next_serial item) h rob beside writes room stations q fetch_unit) (n : next ≡ h.next_serial + 1) where
+  are : record h { rob = rob; sources = beside; writes = writes; table_room = room; stations = stations; queues = q; fetch_unit = fetch_unit; next_serial = next } ≡ entered g.places.0 (renamed h.desc h.next_serial item) h
   are =
       let e1 = g.window in
       let e2 = g.sources in

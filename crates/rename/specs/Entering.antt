@@ -1,9 +1,12 @@
 -- What an entry brings into the parts, and the writers of an entry's sources in the window (docs/machine.md, "Rename"; docs/architecture.md, "How they stand for it").
 use Rattle.std.specs.Prelude.{◌≡◌, ℕ, List, ◌++◌, length, slice_get, Option, Some, None}
 use Rattle.std.specs.Option.{option_map, option_to_list}
+use Rattle.rv_types.specs.Regs.{writes_of}
 use Rattle.window_model.specs.declared.Entry.{Entry}
+use Rattle.window_model.specs.declared.Item.{Item}
 use Rattle.rob_ring.specs.Ring.{below}
 use Rattle.rename_taint.specs.declared.Write.{Write}
+use Rattle.rename_taint.specs.Writes.{root_written}
 use Rattle.stations.specs.Stations.{Stations}
 use Rattle.parts_stand.specs.Parts.{awaited_of}
 use Rattle.parts_stand.specs.Steps.{seated}
@@ -17,6 +20,10 @@ HasPlace window (Some serial) = option_map (λ e. e.serial) (slice_get window (l
 abbrev pub awaited_of_writer : List Entry → Option ℕ → Option ℕ
 awaited_of_writer window None = None
 awaited_of_writer window (Some serial) = awaited_of (slice_get window (length (below serial window)))
+
+-- what an item with this serial and these roots writes, if it writes a register
+abbrev pub write_by : ℕ → Item → List (Option ℕ) → Option Write
+write_by serial item roots = option_map (λ r. record { serial = serial; register = r; root = root_written item.kind serial roots }) (writes_of item.instr)
 
 -- the table's writes, with this one behind them, if it is one
 abbrev pub with_write : Option Write → List Write → List Write

@@ -1,18 +1,19 @@
 //! An entry comes into the parts (`docs/machine.md`, "Rename").
-ghost use Rattle.std.specs.Prelude.{◌≡◌, ◌<◌, ◌++◌, ◌∷◌, [], ◌&&◌, ◌==◌, if◌then◌else◌, ℕ, true, not, length};
+ghost use Rattle.std.specs.Prelude.{◌≡◌, ◌<◌, ◌++◌, ◌∷◌, [], ◌&&◌, ◌==◌, if◌then◌else◌, ℕ, true, false, not, length};
 ghost use Rattle.std.specs.List.{All};
 ghost use Rattle.circular_buffer.specs.Buffer.{buffer};
-ghost use Rattle.window_model.specs.Rename.{renamed};
-ghost use Rattle.window_model.specs.Order.{is_load, is_store, is_waiting};
+ghost use Rattle.window_model.specs.Dependence.{starts_cleared};
+ghost use Rattle.window_model.specs.Rename.{at_once, renamed};
+ghost use Rattle.window_model.specs.Order.{is_load, is_store};
 ghost use Rattle.stations.specs.declared.wants.Wants.TheVariants as wants;
 ghost use Rattle.parts_stand.specs.Addresses.{base_root};
-ghost use Rattle.parts_stand.specs.Parts.{write_of};
 ghost use Rattle.core_parts.specs.Steps.{queued};
-ghost use Rattle.rename.specs.Entering.{with_station, with_write};
+ghost use Rattle.rename.specs.Entering.{with_station, with_write, write_by};
 
 use crate::room::is_at_once;
 use circular_buffer::HeapCircularBuffer;
 use lsq::Lsq;
+use machine_desc::Desc;
 use rename_taint::{RenameTaint, root_written};
 use rob_ring::{RobRing, Sources};
 use rv_types::{Kind, writes_of};
@@ -20,16 +21,27 @@ use stations::{Stations, Wants};
 use window_model::{Entry, Item, Progress};
 
 /// The item comes into the window, which has room, as its youngest entry.
-pub(crate) fn add_entry(serial: u64, item: &Item, rob: &mut RobRing)
+pub(crate) fn add_entry(serial: u64, item: &Item, desc: &Desc, rob: &mut RobRing)
     requires { length rob.old.entries < rob.old.room }
-    ensures { rob.new ≡ record rob.old { entries = rob.old.entries ++ renamed serial item.now ∷ [] } }
+    ensures { rob.new
+        ≡ record rob.old { entries = rob.old.entries ++ renamed desc.now serial item.now ∷ [] } }
 {
-    rob.push(renamed(serial, item));
+    rob.push(renamed(serial, item, desc));
+}
+
+// What is cleared from its first cycle on: all but a store that loads may pass.
+fn starts_cleared(kind: Kind, desc: &Desc) -> bool
+    ensures { result ≡ starts_cleared desc.now kind }
+{
+    match kind {
+        Kind::Store => desc.predictor_depend == 0,
+        _ => true,
+    }
 }
 
 // The item as an entry.
-fn renamed(serial: u64, item: &Item) -> Entry
-    ensures { result ≡ renamed serial item.now }
+fn renamed(serial: u64, item: &Item, desc: &Desc) -> Entry
+    ensures { result ≡ renamed desc.now serial item.now }
 {
     let state = if is_at_once(item.kind) {
         Progress::Done
@@ -41,11 +53,11 @@ fn renamed(serial: u64, item: &Item) -> Entry
         item: *item,
         state,
         outcome: None,
-        issued: None,
         resolved: false,
-        cleared: true,
+        issued: None,
         addr_due: None,
         data_due: None,
+        cleared: starts_cleared(item.kind, desc),
     }
 }
 
@@ -58,7 +70,7 @@ pub(crate) fn add_write<R: RenameTaint>(
 )
     requires room { length (R.writes table.old) < R.room table.old }
     requires youngest { All (λ w. w.serial < serial) (R.writes table.old) }
-    ensures table { R.writes table.new ≡ with_write (write_of (renamed serial item.now) sources) (R.writes table.old) }
+    ensures table { R.writes table.new ≡ with_write (write_by serial item.now sources) (R.writes table.old) }
     ensures same_room { R.room table.new ≡ R.room table.old }
 {
     if let Some(register) = writes_of(&item.instr) {
@@ -81,17 +93,17 @@ fn wants_of(version: u32, kind: Kind) -> Wants
 pub(crate) fn add_station(
     serial: u64,
     item: &Item,
-    version: u32,
+    desc: &Desc,
     awaits: [Option<u64>; 2],
     stations: &mut Stations,
 )
-    requires room { is_waiting (renamed serial item.now).state ≡ true → length stations.old.held < stations.old.room }
+    requires room { at_once item.now.kind ≡ false → length stations.old.held < stations.old.room }
     requires youngest { All (λ s. s.serial < serial) stations.old.held }
     ensures { (place : ℕ) × (stations.new
-        ≡ with_station version place awaits (renamed serial item.now) stations.old) }
+        ≡ with_station desc.now.version place awaits (renamed desc.now serial item.now) stations.old) }
 {
     if !is_at_once(item.kind) {
-        stations.insert(serial, wants_of(version, item.kind), awaits);
+        stations.insert(serial, wants_of(desc.version, item.kind), awaits);
     }
 }
 

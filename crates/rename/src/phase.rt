@@ -61,16 +61,10 @@ fn enter_next<R: RenameTaint>(parts: &mut Parts<R>) -> Option<u32>
     let sources = sources_of(&parts.table, &item.instr);
     let awaits = awaits_of(sources.writers, &parts.rob);
     add_write(serial, item, sources.roots, &mut parts.table);
-    add_station(
-        serial,
-        item,
-        parts.desc.version,
-        awaits,
-        &mut parts.stations,
-    );
+    add_station(serial, item, &parts.desc, awaits, &mut parts.stations);
     add_access(serial, item.kind, sources.roots, &mut parts.lsq);
     push_within(&mut parts.sources, sources);
-    add_entry(serial, item, &mut parts.rob);
+    add_entry(serial, item, &parts.desc, &mut parts.rob);
     let pc = item.pc;
     parts.fetch_unit.drop_oldest();
     parts.next_serial += 1;

@@ -14,7 +14,7 @@ next_fitting-requires-clause-counted g c = counted _ c.parts.invariant
 
 pub awaits_of-awaits-requires-clause-in_flight : goal.awaits_of-awaits-requires-clause-in_flight
 awaits_of-awaits-requires-clause-in_flight g c =
-    subst (All (HasPlace c.parts.inside.rob.entries)) (sym c.sources_of-sources.ensures.writers) (writers_in_flight _ (renamed c.parts.inside.next_serial c.in-Some.item.now) c.parts.invariant.stands.stand)
+    subst (All (HasPlace c.parts.inside.rob.entries)) (sym c.sources_of-sources.ensures.writers) (writers_in_flight _ (renamed c.parts.inside.desc c.parts.inside.next_serial c.in-Some.item.now) c.parts.invariant.stands.stand)
 
 pub add_write-requires-clause-youngest : goal.add_write-requires-clause-youngest
 add_write-requires-clause-youngest g c = (holds_older _ c.parts.invariant.stands.stand).writes
