@@ -1,5 +1,5 @@
 -- The parts once an entry has taught the predictor and is marked as resolved.
-use Rattle.std.proofs.Common.{◌≡◌, ℕ, zero, suc, ◌<◌, ◌≤◌, List, [], ◌∷◌, ◌++◌, length, Option, Some, None, refl, ap, ap₂, sym, ◌∙◌, subst, slice_get}
+use Rattle.std.proofs.Common.{◌≡◌, ℕ, zero, suc, ◌<◌, List, [], ◌∷◌, ◌++◌, length, Option, Some, None, refl, ap, ap₂, sym, ◌∙◌, subst, slice_get}
 use Rattle.std.specs.Prelude.{slice_set}
 use Rattle.std.proofs.lemmas.List.{append-nil, append_assoc}
 use Rattle.std.proofs.lemmas.Option.{slice_get_within}
@@ -24,7 +24,7 @@ use Rattle.rob_ring.specs.Issued.{as_resolved}
 use Rattle.rob_ring.specs.Ring.{Ring}
 use Rattle.predictor.specs.Tables.{Tables}
 use Rattle.history_pred.specs.Past.{Past}
-use Rattle.visibility.specs.Point.{HasAdvanced}
+use Rattle.visibility.specs.Point.{HasAdvanced, NotPast}
 use Rattle.branch_resolve.specs.Effect.{resolution_of, taught, told}
 use Rattle.branch_resolve.specs.declared.effect.Resolution.TheVariants.{Right}
 use Rattle.branch_resolve.specs.Pick.{pick_from}
@@ -87,13 +87,14 @@ sized_marked d x i e h s =
       cache = f.cache;
       second = f.second;
       misses = f.misses;
+      dependence = f.dependence;
       registers = f.registers;
     })
 
 sized_recalled : (d : Desc) (x : Machine) (m : Mark) → Sized d x → Sized d (record x { mark = m })
 sized_recalled d x m s =
     let f = parts d x s in
-    whole d (record x { mark = m }) (record { window = f.window; entries = f.entries; queue = f.queue; predictor = f.predictor; cache = f.cache; second = f.second; misses = f.misses; registers = f.registers })
+    whole d (record x { mark = m }) (record { window = f.window; entries = f.entries; queue = f.queue; predictor = f.predictor; cache = f.cache; second = f.second; misses = f.misses; dependence = f.dependence; registers = f.registers })
 
 -- ---- the parts
 
@@ -129,7 +130,7 @@ module _ (h : Held) (v : Described) (i : ℕ) (e : Entry) (rob : Ring) (tables :
       ∙ ap (λ (v : Described). record v { machine = marked v.desc i e v.machine }) s
 
   -- the visibility point stops at it
-  pub marked_stops : h.point.serial ≤ e.serial
+  pub marked_stops : NotPast h.point e.serial
   marked_stops = stops_at (in_flight h) i e w.stands here may.control may.fresh
 
   -- what stands there then is the entry, marked
