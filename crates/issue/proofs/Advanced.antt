@@ -6,7 +6,7 @@ use Rattle.std.specs.List.{All, AllZip, AllByRecursion as Each}
 use Rattle.std.specs.Prelude.{map}
 use Rattle.machine_desc.specs.declared.Desc.{Desc}
 use Rattle.machine_desc.specs.declared.SttModel.{SttModel}
-use Rattle.machine_desc.specs.declared.SttModel.TheVariants.{Spectre, Futuristic}
+use Rattle.machine_desc.specs.declared.SttModel.TheVariants.{Spectre, Futuristic, Off}
 use Rattle.rv_types.specs.declared.Kind.{Kind}
 use Rattle.rv_types.specs.declared.Kind.TheVariants.{Store}
 use Rattle.window_model.specs.declared.Entry.{Entry}
@@ -30,7 +30,7 @@ Unresolved e = is_waiting e.state ≡ true → e.resolved ≡ false
 
 comes_alike : (model : SttModel) (e r : Entry) → Comes e r → is_waiting e.state ≡ true → e.resolved ≡ false → Alike model e r
 comes_alike model e r (Remains q) w u = subst (Alike model e) (sym q) (refl, refl)
-comes_alike model e r (Begins due o q) w u = subst (Alike model e) (sym q) (refl, passes_begun model e due o w u)
+comes_alike model e r (Begins cycle due o q) w u = subst (Alike model e) (sym q) (refl, passes_begun model e cycle due o w u)
 
 -- ---- a store whose parts go isn't Done, before or after
 
@@ -52,25 +52,27 @@ still_undone (Some a) None s h = h
 still_undone None c s h = h
 
 undone_fails : (k : Kind) (e : Entry) → is_store k ≡ true → is_done e.state ≡ false → safe_as k e ≡ false
-undone_fails Store e s d = ap (λ d. d && not (is_faulty e)) d
+undone_fails Store e s d = ap (λ d. d && not (is_faulty e) && e.cleared) d
 undone_fails _ e s d = absurd (cc)
 
-undone_alike : (model : SttModel) (e r : Entry) → is_store e.item.kind ≡ true → is_done e.state ≡ false → r.item ≡ e.item → r.resolved ≡ e.resolved → is_done r.state ≡ false → passes model r ≡ passes model e
-undone_alike Spectre e r s d i u n = ap₂ (λ (i : Item) r. settled_as i.kind r) i u
-undone_alike Futuristic e r s d i u n = undone_fails r.item.kind r (ap (λ (i : Item). is_store i.kind) i ∙ s) n ∙ sym (undone_fails e.item.kind e s d)
+undone_alike : (model : SttModel) (e r : Entry) → is_store e.item.kind ≡ true → is_done e.state ≡ false → r.item ≡ e.item → r.resolved ≡ e.resolved → r.cleared ≡ e.cleared → is_done r.state ≡ false →
+    passes model r ≡ passes model e
+undone_alike Spectre e r s d i u c n = ap (λ (i : Item). settled_as i.kind r.resolved r.cleared) i ∙ ap₂ (settled_as e.item.kind) u c
+undone_alike Futuristic e r s d i u c n = undone_fails r.item.kind r (ap (λ (i : Item). is_store i.kind) i ∙ s) n ∙ sym (undone_fails e.item.kind e s d)
+undone_alike Off e r s d i u c n = refl
 
 parts_alike : (model : SttModel) (now : Around) (b : List Entry) (e : Entry) (a c : Bool) → is_store e.item.kind ≡ true → HasParts e → (a ≡ true → has_address e ≡ false) → (c ≡ true → has_data e ≡ false) →
     Alike model e (gone_parts now b a c e)
 parts_alike model now b e false false s h p q = (refl, refl)
 parts_alike model now b e true true s h p q =
     let d = waiting_done e.state (lacks_address (has_address e) (has_data e) (is_waiting e.state) (h s) (p refl)) in
-    (refl, undone_alike model e _ s d refl refl refl)
+    (refl, undone_alike model e _ s d refl refl refl refl)
 parts_alike model now b e true false s h p q =
     let d = waiting_done e.state (lacks_address (has_address e) (has_data e) (is_waiting e.state) (h s) (p refl)) in
-    (refl, undone_alike model e (with_address now (effect_of now.regs b e) e) s d refl refl (still_undone (Some (now.cycle + 1)) e.data_due e.state d))
+    (refl, undone_alike model e (with_address now (effect_of now.regs b e) e) s d refl refl refl (still_undone (Some (now.cycle + 1)) e.data_due e.state d))
 parts_alike model now b e false true s h p q =
     let d = waiting_done e.state (lacks_data (has_address e) (has_data e) (is_waiting e.state) (h s) (q refl)) in
-    (refl, undone_alike model e (with_data now (effect_of now.regs b e) e) s d refl refl (still_undone e.addr_due (Some (now.cycle + 1)) e.state d))
+    (refl, undone_alike model e (with_data now (effect_of now.regs b e) e) s d refl refl refl (still_undone e.addr_due (Some (now.cycle + 1)) e.state d))
 
 -- ---- each entry
 

@@ -11,7 +11,8 @@ use Rattle.window_model.specs.Around.{Around}
 use Rattle.window_model.specs.Along.{Fact}
 use Rattle.window_model.specs.Issue.{Port, AddressPort, DataPort, asking, is_granted, is_whole, may_at, may_issue, may_issue_as, part_may, port_of, ports, ready_part, same_port}
 use Rattle.window_model.proofs.Booleans.{both, neither}
-use Rattle.window_model.specs.Order.{all_known, base_of, has_address, has_data, is_store, is_waiting, others_of, ready, sources}
+use Rattle.window_model.specs.Order.{base_of, has_address, has_data, is_store, is_waiting, others_of, sources}
+use Rattle.window_model.specs.Ready.{all_known, ready}
 use Rattle.machine_facts.specs.Sized.{HasParts, Together}
 use Rattle.unit_ports.specs.Ports.{port_for}
 use Rattle.stations.specs.declared.wants.Part.{Part}
@@ -116,32 +117,32 @@ module _ (d : Desc) (now : Around) (before : List Entry) (e : Entry) where
   not_waiting t w = by_store (is_store e.item.kind) refl
     where
       by_store : (s : Bool) → is_store e.item.kind ≡ s → AsksNone d now before e
-      by_store false s = whole_none s (ap (λ w. w && ready before e && may_issue_as e.item.kind d now before e) w)
+      by_store false s = whole_none s (ap (λ w. w && ready d before e && may_issue_as e.item.kind d now before e) w)
       by_store true s = let p = both (has_address e) (has_data e) (t.parts s ∙ ap not w) in store_none s (address_gone p.0) (data_gone p.1)
 
   -- in version 1 a part asks for both sources, in version 2 for its own
-  ready_in : (v : Bool) (own : List ℕ) (r : Bool) → (d.version == 1) ≡ v → (if v then ready before e && is_whole e else all_known before own) ≡ r → ready_part d own before e ≡ r
-  ready_in v own r q h = ap (λ v. if v then ready before e && is_whole e else all_known before own) q ∙ h
+  ready_in : (v : Bool) (own : List ℕ) (r : Bool) → (d.version == 1) ≡ v → (if v then ready d before e && is_whole e else all_known d before own) ≡ r → ready_part d own before e ≡ r
+  ready_in v own r q h = ap (λ v. if v then ready d before e && is_whole e else all_known d before own) q ∙ h
 
-  parts_none : (a c : Bool) → (d.version == 1) ≡ false → is_store e.item.kind ≡ true → has_address e ≡ a → has_data e ≡ c → has_sources (wants_by a c) before e ≡ false → AsksNone d now before e
+  parts_none : (a c : Bool) → (d.version == 1) ≡ false → is_store e.item.kind ≡ true → has_address e ≡ a → has_data e ≡ c → has_sources (wants_by a c) d before e ≡ false → AsksNone d now before e
   parts_none false false v s a c h =
-      let n = neither (all_known before (base_of (sources e))) (all_known before (others_of (sources e))) h in
+      let n = neither (all_known d before (base_of (sources e))) (all_known d before (others_of (sources e))) h in
       store_none s (address_waits (ready_in false (base_of (sources e)) false v n.0)) (data_waits (ready_in false (others_of (sources e)) false v n.1))
   parts_none false true v s a c h = store_none s (address_waits (ready_in false (base_of (sources e)) false v h)) (data_gone c)
   parts_none true c v s a q h = store_none s (address_gone a) (data_waits (ready_in false (others_of (sources e)) false v h))
 
   by_wants : (s v : Bool) → is_store e.item.kind ≡ s → (d.version == 1) ≡ v → is_waiting e.state ≡ true →
-      has_sources (if s && not v then wants_by (has_address e) (has_data e) else wants.Whole) before e ≡ false → AsksNone d now before e
+      has_sources (if s && not v then wants_by (has_address e) (has_data e) else wants.Whole) d before e ≡ false → AsksNone d now before e
   by_wants false v s q w h =
       whole_none s (ap (λ r. is_waiting e.state && r && may_issue_as e.item.kind d now before e) h
       ∙ ap (λ w. w && may_issue_as e.item.kind d now before e) (and-false (is_waiting e.state)))
   by_wants true true s q w h =
-      let none : (ready before e && is_whole e) ≡ false = ap (λ r. r && is_whole e) h in
+      let none : (ready d before e && is_whole e) ≡ false = ap (λ r. r && is_whole e) h in
       store_none s (address_waits (ready_in true (base_of (sources e)) false q none)) (data_waits (ready_in true (others_of (sources e)) false q none))
   by_wants true false s q w h = parts_none (has_address e) (has_data e) q s refl refl h
 
   -- one that waits, and lacks what it wants
-  pub not_able : is_waiting e.state ≡ true → has_sources (wants_of d.version e) before e ≡ false → AsksNone d now before e
+  pub not_able : is_waiting e.state ≡ true → has_sources (wants_of d.version e) d before e ≡ false → AsksNone d now before e
   not_able w h = by_wants (is_store e.item.kind) (d.version == 1) refl refl w h
 
 -- ---- what it is granted
@@ -153,8 +154,8 @@ grants_none d now port before e h = ap (λ m. m && nat_lt (asking d now port bef
 -- ---- what is there where an entry is able
 
 -- one in one piece has all its sources
-pub whole_ready : (version : ℕ) (before : List Entry) (e : Entry) → is_store e.item.kind ≡ false → has_sources (wants_of version e) before e ≡ true → ready before e ≡ true
-whole_ready version before e s h = sym (ap (λ s. has_sources (if s && not (version == 1) then wants_by (has_address e) (has_data e) else wants.Whole) before e) s) ∙ h
+pub whole_ready : (d : Desc) (before : List Entry) (e : Entry) → is_store e.item.kind ≡ false → has_sources (wants_of d.version e) d before e ≡ true → ready d before e ≡ true
+whole_ready d before e s h = sym (ap (λ s. has_sources (if s && not (d.version == 1) then wants_by (has_address e) (has_data e) else wants.Whole) d before e) s) ∙ h
 
 -- so has a store in version 1, which has issued neither part
 whole_by : (a b w : Bool) → (a && b) ≡ not w → a ≡ b → w ≡ true → not (a || b) ≡ true
@@ -165,18 +166,18 @@ whole_by false true w h q p = absurd (cc)
 whole_by a b false h q p = absurd (cc)
 
 pub first_ready : (d : Desc) (before : List Entry) (e : Entry) (own : List ℕ) → InStep d e → d.version ≡ 1 → is_store e.item.kind ≡ true → is_waiting e.state ≡ true →
-    has_sources (wants_of d.version e) before e ≡ true → ready_part d own before e ≡ true
+    has_sources (wants_of d.version e) d before e ≡ true → ready_part d own before e ≡ true
 first_ready d before e own t one s w h =
     let v : (d.version == 1) ≡ true = ap (λ v. v == 1) one in
-    let all : ready before e ≡ true = sym (ap₂ (λ s v. has_sources (if s && not v then wants_by (has_address e) (has_data e) else wants.Whole) before e) s v) ∙ h in
-    ap (λ v. if v then ready before e && is_whole e else all_known before own) v
+    let all : ready d before e ≡ true = sym (ap₂ (λ s v. has_sources (if s && not v then wants_by (has_address e) (has_data e) else wants.Whole) d before e) s v) ∙ h in
+    ap (λ v. if v then ready d before e && is_whole e else all_known d before own) v
     ∙ ap₂ (λ r w. r && w) all (whole_by (has_address e) (has_data e) (is_waiting e.state) (t.parts s) (t.together one s) w)
 
 -- in version 2 a part asks for its own sources alone
-pub second_ready : (d : Desc) (before : List Entry) (e : Entry) (own : List ℕ) → (d.version ≡ 1 → ⊥) → ready_part d own before e ≡ all_known before own
+pub second_ready : (d : Desc) (before : List Entry) (e : Entry) (own : List ℕ) → (d.version ≡ 1 → ⊥) → ready_part d own before e ≡ all_known d before own
 second_ready d before e own other = by_version (d.version == 1) refl
   where
-    by_version : (v : Bool) → (d.version == 1) ≡ v → (if v then ready before e && is_whole e else all_known before own) ≡ all_known before own
+    by_version : (v : Bool) → (d.version == 1) ≡ v → (if v then ready d before e && is_whole e else all_known d before own) ≡ all_known d before own
     by_version true q = absurd (other (eqb-true _ _ q))
     by_version false q = refl
 

@@ -14,10 +14,11 @@ use Rattle.window_model.specs.declared.Entry.{Entry}
 use Rattle.window_model.specs.declared.Progress.{Progress}
 use Rattle.window_model.specs.declared.Progress.TheVariants.{Waiting, Busy, Done}
 use Rattle.window_model.specs.Access.{covers}
-use Rattle.window_model.specs.Issue.{address_of, bytes_of, effect_of, first_operand, goes_behind, lets, second_operand, stores_done, stores_let}
+use Rattle.window_model.specs.Issue.{address_of, bytes_of, effect_of, first_operand, goes_behind, lets, passes_stores, second_operand, stores_done, stores_let}
 use Rattle.window_model.specs.Order.{before_at, has_address, has_data, is_done, is_store, is_waiting, sources}
 use Rattle.window_model.specs.Retire.{width_of}
 use Rattle.window_model.specs.Taint.{address_tainted}
+use Rattle.window_model.proofs.Withheld.{passes_none}
 use Rattle.machine_facts.specs.Sized.{HasParts, Together}
 use Rattle.machine_facts.specs.Timely.{WaitsOrDone, is_busy}
 use Rattle.machine_facts.proofs.GoesBehind.{goes_as_let}
@@ -46,22 +47,22 @@ address_is regs before e = by_base e.item.pc e.item.instr (first_operand regs be
 -- ---- stores of which both parts have issued
 
 -- they let every load go
-complete_one : (store a c r : Bool) → (not store || a && c) ≡ true → (not store || a && (c || r)) ≡ true
-complete_one false a c r h = refl
-complete_one true true true r h = refl
-complete_one true true false r h = absurd (cc)
-complete_one true false c r h = absurd (cc)
+complete_one : (store a c f r : Bool) → (not store || a && c) ≡ true → (not store || (a || f) && (c || r)) ≡ true
+complete_one false a c f r h = refl
+complete_one true true true f r h = refl
+complete_one true true false f r h = absurd (cc)
+complete_one true false c f r h = absurd (cc)
 
 both_of : (a b c d : Bool) → (a ≡ true → c ≡ true) → (b ≡ true → d ≡ true) → (a && b) ≡ true → (c && d) ≡ true
 both_of true true c d p q h = ap₂ (λ x y. x && y) (p refl) (q refl)
 both_of true false c d p q h = absurd (cc)
 both_of false b c d p q h = absurd (cc)
 
-complete_lets : (model : SttModel) (bytes : List ℕ) (before : List Entry) → all_complete before ≡ true → stores_let model bytes before ≡ true
-complete_lets model bytes [] h = refl
-complete_lets model bytes (e ∷ before) h =
-    both_of (not (is_store e.item.kind) || has_address e && has_data e) (all_complete before) (not (is_store e.item.kind) || lets model bytes before e) (stores_let model bytes before)
-    (complete_one (is_store e.item.kind) (has_address e) (has_data e) (not (address_tainted model before e) && not (list_any (λ a. covers a e) bytes))) (complete_lets model bytes before) h
+complete_lets : (model : SttModel) (passes : Bool) (bytes : List ℕ) (before : List Entry) → all_complete before ≡ true → stores_let model passes bytes before ≡ true
+complete_lets model passes bytes [] h = refl
+complete_lets model passes bytes (e ∷ before) h =
+    both_of (not (is_store e.item.kind) || has_address e && has_data e) (all_complete before) (not (is_store e.item.kind) || lets model passes bytes before e) (stores_let model passes bytes before)
+    (complete_one (is_store e.item.kind) (has_address e) (has_data e) passes (not (address_tainted model before e) && not (list_any (λ a. covers a e) bytes))) (complete_lets model passes bytes before) h
 
 -- where no store executes, they are those that are Done
 done_parts : (a c : Bool) (s : Progress) → (a && c) ≡ not (is_waiting s) → is_busy s ≡ false → is_done s ≡ (a && c)
@@ -95,25 +96,29 @@ module _ (s : Seen) (i : ℕ) (e : Entry) (t : Stands s) (h : StandsAt s i e) wh
   settled_before = each_back WaitsOrDone s.rob.now.entries [] i t.settled tt
 
   -- a load goes behind them where they let it go
-  pub goes_is : goes_behind s.desc.now (around_of s) before e ≡ stores_let s.desc.now.stt_model (bytes_of (around_of s) before e) before
+  pub goes_is : goes_behind s.desc.now (around_of s) before e ≡ stores_let s.desc.now.stt_model (passes_stores s.desc.now (around_of s) e) (bytes_of (around_of s) before e) before
   goes_is = goes_as_let s.desc.now (around_of s) before e parts_before (each_back (Together s.desc.now) s.rob.now.entries [] i t.together tt) settled_before
+
+  -- which no load passes
+  pub goes_unpassed : goes_behind s.desc.now (around_of s) before e ≡ stores_let s.desc.now.stt_model false (bytes_of (around_of s) before e) before
+  goes_unpassed = goes_is ∙ ap (λ a. stores_let s.desc.now.stt_model a (bytes_of (around_of s) before e) before) (passes_none s.desc.now (around_of s) e)
 
   -- so it does where they are all known
   pub goes_known : list_all is_known (stores s i e t h) ≡ true → goes_behind s.desc.now (around_of s) before e ≡ true
-  goes_known k = goes_is ∙ complete_lets s.desc.now.stt_model (bytes_of (around_of s) before e) before (sym (known_is (stores s i e t h) before (stand s i e t h)) ∙ k)
+  goes_known k = goes_is ∙ complete_lets s.desc.now.stt_model (passes_stores s.desc.now (around_of s) e) (bytes_of (around_of s) before e) before (sym (known_is (stores s i e t h) before (stand s i e t h)) ∙ k)
 
   -- and in version 1 only there
   pub goes_not : (s.desc.now.version == 1) ≡ true → list_all is_known (stores s i e t h) ≡ false → goes_behind s.desc.now (around_of s) before e ≡ false
   goes_not v k =
-      ap (λ v. if v then stores_done before else stores_let s.desc.now.stt_model (bytes_of (around_of s) before e) before) v
+      ap (λ v. if v then stores_done before else stores_let s.desc.now.stt_model (passes_stores s.desc.now (around_of s) e) (bytes_of (around_of s) before e) before) v
       ∙ done_complete before parts_before settled_before ∙ sym (known_is (stores s i e t h) before (stand s i e t h)) ∙ k
 
   -- a load without fault asks for all its bytes
   pub lets_sound : (addr : ℕ) → addr ≡ (effect_of s.regs.now before e).addr → load_fault s.ram.now addr (width_of e) ≡ None → goes_behind s.desc.now (around_of s) before e ≡ true →
-      stores_let s.desc.now.stt_model (range addr (width_of e)) before ≡ true
+      stores_let s.desc.now.stt_model (passes_stores s.desc.now (around_of s) e) (range addr (width_of e)) before ≡ true
   lets_sound addr q sound g =
       let a = q ∙ address_is s.regs.now before e in
       let fault = sym (ap (λ a. load_fault s.ram.now a (width_of e)) a) ∙ sound in
-      ap (λ a. stores_let s.desc.now.stt_model (range a (width_of e)) before) a
-      ∙ sym (ap (λ f. stores_let s.desc.now.stt_model (unless_fault f (range (address_of s.regs.now before e) (width_of e))) before) fault)
+      ap (λ a. stores_let s.desc.now.stt_model (passes_stores s.desc.now (around_of s) e) (range a (width_of e)) before) a
+      ∙ sym (ap (λ f. stores_let s.desc.now.stt_model (passes_stores s.desc.now (around_of s) e) (unless_fault f (range (address_of s.regs.now before e) (width_of e))) before) fault)
       ∙ sym goes_is ∙ g

@@ -1,5 +1,5 @@
 -- What the queue of stores gives to a load is what the older entries give to it.
-use Rattle.std.proofs.Common.{◌≡◌, ℕ, ◌≤◌, Bool, true, not, ◌&&◌, List, Option, Some, ap, ap₂, sym, subst, ◌∙◌, arith, slice_get}
+use Rattle.std.proofs.Common.{◌≡◌, ℕ, ◌≤◌, Bool, true, not, ◌&&◌, ◌||◌, List, Option, Some, ap, ap₂, sym, subst, ◌∙◌, arith, slice_get}
 use Rattle.std.specs.Prelude.{is_some, map, nat_le, reverse}
 use Rattle.std.specs.List.{filter, list_any}
 use Rattle.std.proofs.lemmas.Bool.Decides.{nat_tests}
@@ -61,24 +61,24 @@ module _ (s : Seen) (i : ℕ) (e : Entry) (t : Stands s) (h : StandsAt s i e) wh
   each_told = tells_each_store (parts_of t.next t.writes s) s.point.now s.lsq.now.stores i e t.parts t.advanced t.addresses h ∙ ap (λ m. tainted_stores m before) t.model
 
   -- a load goes behind them where the queue says so
-  pub let_is : (fault : Option Cause) (a n : ℕ) →
-      stores_let model (bytes_asked fault a n) before
-      ≡ (not (list_any lacks_address stores) && not (list_any (lacks_data_for (bytes_asked fault a n)) stores) && not (is_hidden s.point.now.serial (youngest_root (filter (λ s. not (is_some s.stored)) stores))))
-  let_is fault a n =
-      lets_are model (λ root. nat_le root s.point.now.serial) (down s.point.now.serial) stores before fault a n stand each_told
-      ∙ ap (λ b. not (list_any lacks_address stores) && not (list_any (lacks_data_for (bytes_asked fault a n)) stores) && not b) (hides_root s.point.now.serial (youngest_root (filter (λ s. not (is_some s.stored)) stores)))
+  pub let_is : (passes : Bool) (fault : Option Cause) (a n : ℕ) →
+      stores_let model passes (bytes_asked fault a n) before
+      ≡ ((passes || not (list_any lacks_address stores)) && not (list_any (lacks_data_for (bytes_asked fault a n)) stores) && not (is_hidden s.point.now.serial (youngest_root (filter (λ s. not (is_some s.stored)) stores))))
+  let_is passes fault a n =
+      lets_are model passes (λ root. nat_le root s.point.now.serial) (down s.point.now.serial) stores before fault a n stand each_told
+      ∙ ap (λ b. (passes || not (list_any lacks_address stores)) && not (list_any (lacks_data_for (bytes_asked fault a n)) stores) && not b) (hides_root s.point.now.serial (youngest_root (filter (λ s. not (is_some s.stored)) stores)))
 
   -- then it finds their bytes
-  pub number_is : (a : ℕ) (w : Width) → bytes_in w ≡ width_of e → stores_let model (range a (width_of e)) before ≡ true →
+  pub number_is : (passes : Bool) (a : ℕ) (w : Width) → bytes_in w ≡ width_of e → stores_let model passes (range a (width_of e)) before ≡ true →
       from_le (merged_bytes s.ram.now stores a (bytes_in w)) ≡ from_le (load_bytes s.ram.now before a (width_of e))
-  number_is a w n d =
-      ap from_le (bytes_are model s.ram.now stores before a (bytes_in w) stand (ap (λ n. stores_let model (range a n) before) n ∙ d))
+  number_is passes a w n d =
+      ap from_le (bytes_are model passes s.ram.now stores before a (bytes_in w) stand (ap (λ n. stores_let model passes (range a n) before) n ∙ d))
       ∙ ap (λ n. from_le (load_bytes s.ram.now before a n)) n
 
-  pub forwarded_is : (a : ℕ) (w : Width) (b c : Bool) → bytes_in w ≡ width_of e → stores_let model (range a (width_of e)) before ≡ true →
+  pub forwarded_is : (passes : Bool) (a : ℕ) (w : Width) (b c : Bool) → bytes_in w ≡ width_of e → stores_let model passes (range a (width_of e)) before ≡ true →
       b ≡ all_forwarded stores a (bytes_in w) → c ≡ is_hidden s.point.now.serial (youngest_root stores) →
       (b && not c) ≡ (all_covered before a (width_of e) && not (any_store_hidden model before))
-  forwarded_is a w b c n d p q =
-      let covered = p ∙ covered_is model stores before a (bytes_in w) stand (ap (λ n. stores_let model (range a n) before) n ∙ d) ∙ ap (all_covered before a) n in
+  forwarded_is passes a w b c n d p q =
+      let covered = p ∙ covered_is model passes stores before a (bytes_in w) stand (ap (λ n. stores_let model passes (range a n) before) n ∙ d) ∙ ap (all_covered before a) n in
       let hidden = q ∙ sym (hides_root s.point.now.serial (youngest_root stores)) ∙ hidden_is model (λ root. nat_le root s.point.now.serial) (down s.point.now.serial) stores before each_told in
       ap₂ (λ b c. b && not c) covered hidden

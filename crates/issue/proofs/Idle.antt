@@ -37,7 +37,7 @@ answer_at (s ∷ held) zero b h k = let no = (neither (is_able s) (list_any is_a
 answer_at (s ∷ held) (suc n) b h k = answer_at held n b (neither (is_able s) (list_any is_able held) h).1 k
 
 -- an entry that doesn't wait, and one that lacks what it wants, asks for no port
-none_by : (d : Desc) (now : Around) (before : List Entry) (e : Entry) (w : Bool) → InStep d e → is_waiting e.state ≡ w → (is_waiting e.state ≡ true → has_sources (wants_of d.version e) before e ≡ false) → AsksNone d now before e
+none_by : (d : Desc) (now : Around) (before : List Entry) (e : Entry) (w : Bool) → InStep d e → is_waiting e.state ≡ w → (is_waiting e.state ≡ true → has_sources (wants_of d.version e) d before e ≡ false) → AsksNone d now before e
 none_by d now before e true t w r = not_able d now before e w (r w)
 none_by d now before e false t w r = not_waiting d now before e t w
 
@@ -48,7 +48,7 @@ along_by P before (e ∷ es) h = (h 0 e refl, along_by P (e ∷ before) es (λ i
 
 pub all_stay : (d : Desc) (now : Around) (p : Parts) → p.version ≡ d.version → Stand p → Each HasParts p.window → Each (Together d) p.window → list_any is_able p.held ≡ false → Along (AsksNone d now) [] p.window
 all_stay d now p v s parts together none = along_by (AsksNone d now) [] p.window (λ i e h.
-    none_by d now (before_at p.window i) e (is_waiting e.state) (step_at d p.window i e parts together h) refl (λ w. subst (λ v. has_sources (wants_of v e) (before_at p.window i) e ≡ false) v (answer_at p.held (station_of i p.window) (has_sources (wants_of p.version e) (before_at p.window i) e) none (tells_able p i e s h w))))
+    none_by d now (before_at p.window i) e (is_waiting e.state) (step_at d p.window i e parts together h) refl (λ w. subst (λ v. has_sources (wants_of v e) d (before_at p.window i) e ≡ false) v (answer_at p.held (station_of i p.window) (has_sources (wants_of p.version e) d (before_at p.window i) e) none (tells_able d p i e s h w))))
 
 -- ---- and nothing is left otherwise
 

@@ -1,5 +1,6 @@
 -- The phase leaves parts that hold what the machine then holds, and stand for it.
-use Rattle.std.proofs.Common.{◌≡◌, ℕ, ◌+◌, ◌≤◌, length, [], ap, sym, ◌∙◌, subst, arith}
+use Rattle.std.proofs.Common.{◌≡◌, ℕ, ◌+◌, ◌≤◌, false, length, [], ap, sym, ◌∙◌, subst, arith}
+use Rattle.std.specs.Prelude.{replicate}
 use Rattle.std.specs.List.{AllByRecursion as Each, flat_map}
 use Rattle.std.specs.Option.{option_map}
 use Rattle.machine_desc.proofs.EveryDesc.{every_desc}
@@ -70,7 +71,7 @@ standing h w = (in_flight h, w.stands)
 
 -- what an entry looks at, with this divider
 abbrev pub now_with : Held → Divider → Around
-now_with h v = record { cycle = h.cycle; regs = h.regs; ram = h.ram; cache = h.tags.sets; second = h.second.sets; misses = h.mshrs.misses; free_from = v.free_from }
+now_with h v = record { cycle = h.cycle; regs = h.regs; ram = h.ram; dependence = replicate h.desc.predictor_depend false; cache = h.tags.sets; second = h.second.sets; misses = h.mshrs.misses; free_from = v.free_from }
 
 -- what is decided for what is seen is decided for the machine
 pub decides : (h : Held) (v : Divider) (cycle : ℕ) (begun : Ports) (new : Divider) (decided : Decided) → Whole h → v ≡ h.ports.divider →

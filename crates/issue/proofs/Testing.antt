@@ -13,7 +13,8 @@ use Rattle.window_model.specs.declared.Entry.{Entry}
 use Rattle.window_model.specs.Around.{Around}
 use Rattle.window_model.specs.Issue.{Port, AddressPort, AluPort, DataPort, is_granted, may_at, may_issue, may_issue_as}
 use Rattle.window_model.proofs.Booleans.{both}
-use Rattle.window_model.specs.Order.{all_known, before_at, is_store, is_waiting, ready, sources}
+use Rattle.window_model.specs.Order.{before_at, is_store, is_waiting, sources}
+use Rattle.window_model.specs.Ready.{all_known, ready}
 use Rattle.stations.specs.Stations.{is_able, ready_part}
 use Rattle.stations.specs.declared.wants.Part.{Part}
 use Rattle.rob_ring.specs.Beside.{each_roots}
@@ -37,25 +38,25 @@ module _ (s : Seen) (i : ℕ) (e : Entry) (t : Stands s) (h : StandsAt s i e) wh
   before = before_at s.rob.now.entries i
 
   -- an entry that waits has a station, which tells whether what it wants is there
-  pub able_is : (n : ℕ) (b : Bool) → is_waiting e.state ≡ true → n ≡ station_of i s.rob.now.entries → option_map is_able (slice_get s.stations.now.held n) ≡ Some b → b ≡ has_sources (wants_of s.desc.now.version e) before e
+  pub able_is : (n : ℕ) (b : Bool) → is_waiting e.state ≡ true → n ≡ station_of i s.rob.now.entries → option_map is_able (slice_get s.stations.now.held n) ≡ Some b → b ≡ has_sources (wants_of s.desc.now.version e) s.desc.now before e
   able_is n b w q k =
-      let told = tells_able (parts_of t.next t.writes s) i e t.parts h w in
+      let told = tells_able s.desc.now (parts_of t.next t.writes s) i e t.parts h w in
       let here : option_map is_able (slice_get s.stations.now.held (station_of i s.rob.now.entries)) ≡ Some b = subst (λ n. option_map is_able (slice_get s.stations.now.held n) ≡ Some b) q k in
-      let both : Some b ≡ Some (has_sources (wants_of s.desc.now.version e) before e) = sym here ∙ told in
+      let both : Some b ≡ Some (has_sources (wants_of s.desc.now.version e) s.desc.now before e) = sym here ∙ told in
       cc
 
   -- and whether the source of a part is
-  pub part_is : (part : Part) (n : ℕ) (b : Bool) → is_waiting e.state ≡ true → n ≡ station_of i s.rob.now.entries → option_map (ready_part part) (slice_get s.stations.now.held n) ≡ Some b → b ≡ all_known before (own_of part (sources e))
+  pub part_is : (part : Part) (n : ℕ) (b : Bool) → is_waiting e.state ≡ true → n ≡ station_of i s.rob.now.entries → option_map (ready_part part) (slice_get s.stations.now.held n) ≡ Some b → b ≡ all_known s.desc.now before (own_of part (sources e))
   part_is part n b w q k =
-      let told = tells_part part (parts_of t.next t.writes s) i e t.parts h w in
+      let told = tells_part part s.desc.now (parts_of t.next t.writes s) i e t.parts h w in
       let here : option_map (ready_part part) (slice_get s.stations.now.held (station_of i s.rob.now.entries)) ≡ Some b = subst (λ n. option_map (ready_part part) (slice_get s.stations.now.held n) ≡ Some b) q k in
-      let both : Some b ≡ Some (all_known before (own_of part (sources e))) = sym here ∙ told in
+      let both : Some b ≡ Some (all_known s.desc.now before (own_of part (sources e))) = sym here ∙ told in
       cc
 
   -- an entry that waits and is ready may issue by its untainted operands, and by what is asked for besides
   pub issue_is : (m b : Bool) (roots : List (Option ℕ)) → slice_get (each_roots s.sources.now.items) i ≡ Some roots →
       m ≡ may_transmit e.item.kind s.point.now.serial roots → b ≡ asks_besides e.item.kind s.desc.now (around_of s) before e →
-      is_waiting e.state ≡ true → ready before e ≡ true → (m && b) ≡ may_issue s.desc.now (around_of s) before e
+      is_waiting e.state ≡ true → ready s.desc.now before e ≡ true → (m && b) ≡ may_issue s.desc.now (around_of s) before e
   issue_is m b roots k p q w r =
       ap₂ (λ m b. m && b) p q ∙ sym (tells_issue s.desc.now (parts_of t.next t.writes s) s.point.now i e roots (around_of s) t.parts t.advanced t.model h k)
       ∙ sym (ap₂ (λ a b. a && b && may_issue_as e.item.kind s.desc.now (around_of s) before e) w r)

@@ -89,34 +89,34 @@ pub record Acts (e : Entry) (b : Begun) : Type 0 where
 abbrev pub Turns : Entry → Begun → Type 0
 Turns e b = (b ≡ waits e) ⊎ Acts e b
 
-some_events : (e : Entry) (due : ℕ) (o : Outcome) (v : Event) (more : List Event) → is_store e.item.kind ≡ false → is_waiting e.state ≡ true → Turns e (begins e due o (v ∷ more))
-some_events e due o v more s w = inr (record {
+some_events : (now : Around) (e : Entry) (due : ℕ) (o : Outcome) (v : Event) (more : List Event) → is_store e.item.kind ≡ false → is_waiting e.state ≡ true → Turns e (begins now e due o (v ∷ more))
+some_events now e due o v more s w = inr (record {
   event = v;
   more = more;
   has = refl;
   waits = w;
   rest = refl;
-  issues = record { on = record { serial = refl; item = refl }; undone = refl; resolved = refl };
+  issues = record { on = record { serial = refl; item = refl }; undone = refl; resolved = refl; cleared = refl };
   stay = λ t. absurd (cc);
 })
 
-one_event : (e : Entry) (due : ℕ) (o : Outcome) (v : Event) → is_store e.item.kind ≡ false → is_waiting e.state ≡ true → Turns e (begins e due o (v ∷ []))
-one_event e due o v s w = some_events e due o v [] s w
+one_event : (now : Around) (e : Entry) (due : ℕ) (o : Outcome) (v : Event) → is_store e.item.kind ≡ false → is_waiting e.state ≡ true → Turns e (begins now e due o (v ∷ []))
+one_event now e due o v s w = some_events now e due o v [] s w
 
 -- a load that looks lines up has an event for the first of them
 looks_turns : (d : Desc) (now : Around) (e : Entry) (f : Effect) (v : ℕ) (lines : List ℕ) (ahead : List Request) → OneOrTwo lines → is_store e.item.kind ≡ false → is_waiting e.state ≡ true →
     Turns e (load_as (Looks (map (look_up d now) lines) ahead) d now e f v)
-looks_turns d now e f v _ ahead (One line) s w = some_events e _ _ _ _ s w
-looks_turns d now e f v _ ahead (Two low high up) s w = some_events e _ _ _ _ s w
+looks_turns d now e f v _ ahead (One line) s w = some_events now e _ _ _ _ s w
+looks_turns d now e f v _ ahead (Two low high up) s w = some_events now e _ _ _ _ s w
 
 load_turns : (d : Desc) (now : Around) (b : List Entry) (e : Entry) (f : Effect) (v : ℕ) → is_store e.item.kind ≡ false → is_waiting e.state ≡ true → Turns e (load_as (access_of d now b e) d now e f v)
 load_turns d now b e f v s w =
-    by_load d now (λ a. Turns e (load_as a d now e f v)) (one_event e _ _ _ s w) (λ a n some room. looks_turns d now e f v (lines_of d a n) _ (lines_are d a n some) s w)
-    (λ a n some full. inl refl) (λ c. one_event e _ _ _ s w) b e
+    by_load d now (λ a. Turns e (load_as a d now e f v)) (one_event now e _ _ _ s w) (λ a n some room. looks_turns d now e f v (lines_of d a n) _ (lines_are d a n some) s w)
+    (λ a n some full. inl refl) (λ c. one_event now e _ _ _ s w) b e
 
 begin_turns : (k : Kind) (d : Desc) (now : Around) (before : List Entry) (e : Entry) → is_store e.item.kind ≡ false → is_waiting e.state ≡ true → Turns e (begin_as k d now before e)
 begin_turns Load d now before e s w = load_turns d now before e _ _ s w
-begin_turns _ d now before e s w = one_event e _ _ _ s w
+begin_turns _ d now before e s w = one_event now e _ _ _ s w
 
 parts_turns : (a c : Bool) (d : Desc) (now : Around) (before : List Entry) (e : Entry) → ((a || c) ≡ true → is_waiting e.state ≡ true) → (a ≡ false → c ≡ true → (d.version == 1) ≡ false) → Turns e (parts_as a c d now before e)
 parts_turns false false d now before e w v = inl refl
@@ -126,7 +126,7 @@ parts_turns true true d now before e w v = inr (record {
   has = refl;
   waits = w refl;
   rest = refl;
-  issues = record { on = record { serial = refl; item = refl }; undone = refl; resolved = refl };
+  issues = record { on = record { serial = refl; item = refl }; undone = refl; resolved = refl; cleared = refl };
   stay = λ t. record { address = λ h. refl; stored = λ h. refl; outcome = λ h. refl; size = size_is (op_of e.item.instr) };
 })
 parts_turns true false d now before e w v = inr (record {
@@ -139,6 +139,7 @@ parts_turns true false d now before e w v = inr (record {
     on = record { serial = refl; item = refl };
     undone = still_undone (Some (now.cycle + 1)) e.data_due e.state (waiting_done e.state (w refl));
     resolved = refl;
+    cleared = refl;
   };
   stay = λ t. record { address = λ h. refl; stored = λ h. h; outcome = λ h. refl; size = size_is (op_of e.item.instr) };
 })
@@ -152,6 +153,7 @@ parts_turns false true d now before e w v = inr (record {
     on = record { serial = refl; item = refl };
     undone = still_undone e.addr_due (Some (now.cycle + 1)) e.state (waiting_done e.state (w refl));
     resolved = refl;
+    cleared = refl;
   };
   stay = λ t. record { address = λ h. h; stored = λ h. refl; outcome = λ h. refl; size = size_is (op_of e.item.instr) };
 })

@@ -1,6 +1,6 @@
 -- What a load waits for in the older stores, and whether it is let go (docs/machine.md, "Issue").
 use Rattle.std.specs.Prelude.{ℕ, Bool, not, ◌&&◌}
-use Rattle.window_model.specs.Issue.{bytes_of}
+use Rattle.window_model.specs.Issue.{bytes_of, passes_stores}
 use Rattle.visibility.specs.Point.{is_hidden}
 use Rattle.lsq.specs.declared.pending.Pending.{Pending}
 use Rattle.lsq.specs.Pending.{awaited}
@@ -8,6 +8,10 @@ use Rattle.lsq.specs.Queues.{older}
 use Rattle.issue.specs.declared.seen.Place.{Place}
 use Rattle.issue.specs.declared.seen.Seen.{Seen}
 use Rattle.issue.specs.State.{around_of, before_of}
+
+-- it passes stores of unknown address
+abbrev pub passes_here : Seen → Place → Bool
+passes_here s p = passes_stores s.desc.now (around_of s) p.entry.now
 
 -- what the queue says of its bytes
 abbrev pub pending_here : Seen → Place → Pending

@@ -1,6 +1,6 @@
 -- The state that the phase looks at, when it stands for a machine, and an entry in its place (docs/machine.md, "Issue", "The
 -- parts stand for the machine").
-use Rattle.std.specs.Prelude.{◌≡◌, ℕ, ◌+◌, ◌^◌, ◌≤◌, List, true, length, slice_get, Some}
+use Rattle.std.specs.Prelude.{◌≡◌, ℕ, ◌+◌, ◌^◌, ◌≤◌, List, true, false, length, replicate, slice_get, Some}
 use Rattle.std.specs.List.{AllByRecursion as Each}
 use Rattle.machine_desc.specs.declared.Desc.{Desc}
 use Rattle.machine_facts.specs.Sized.{HasParts, Together}
@@ -20,9 +20,9 @@ use Rattle.parts_stand.specs.Writers.{WritersOf}
 use Rattle.issue.specs.declared.seen.Place.{Place}
 use Rattle.issue.specs.declared.seen.Seen.{Seen}
 
--- what an entry looks at besides the older ones
+-- what an entry looks at besides the older ones. No bit of dependence is ever set: no load passes a store of unknown address
 abbrev pub around_of : Seen → Around
-around_of s = record { cycle = s.cycle; regs = s.regs.now; ram = s.ram.now; cache = s.tags.now.sets; second = s.second.now.sets; misses = s.mshrs.now.misses; free_from = s.free_from }
+around_of s = record { cycle = s.cycle; regs = s.regs.now; ram = s.ram.now; dependence = replicate s.desc.now.predictor_depend false; cache = s.tags.now.sets; second = s.second.now.sets; misses = s.mshrs.now.misses; free_from = s.free_from }
 
 -- the window
 abbrev pub window_of : Seen → List Entry
@@ -74,5 +74,5 @@ pub record HasTurn (s : Seen) (p : Place) : Type 0 where
   pub stands : Stands s
   pub at : StandsAt s p.position p.entry.now
   pub waits : is_waiting p.entry.now.state ≡ true
-  pub able : has_sources (wants_of s.desc.now.version p.entry.now) (before_of s p) p.entry.now ≡ true
+  pub able : has_sources (wants_of s.desc.now.version p.entry.now) s.desc.now (before_of s p) p.entry.now ≡ true
   pub station : p.station ≡ station_of p.position s.rob.now.entries

@@ -85,7 +85,12 @@ impl<'a> Seen<'a> {
         let due = self.cycle as u64 + time as u64;
         ports.divide(due, place.entry.serial);
         row.push(Event::Div(place.entry.serial, time));
-        begun(self.cycle, place.entry, due, outcome(made, made.value, None))
+        begun(
+            self.cycle,
+            place.entry,
+            due,
+            outcome(made, made.value, None),
+        )
     }
 
     // A multiplication.
@@ -96,7 +101,12 @@ impl<'a> Seen<'a> {
     {
         row.push(Event::Mul(place.entry.serial));
         let due = self.cycle as u64 + self.desc.units_mul_latency as u64;
-        begun(self.cycle, place.entry, due, outcome(made, made.value, None))
+        begun(
+            self.cycle,
+            place.entry,
+            due,
+            outcome(made, made.value, None),
+        )
     }
 
     // What takes one cycle of an arithmetic unit.

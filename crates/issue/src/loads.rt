@@ -52,6 +52,7 @@ impl<'a> Seen<'a> {
     ghost use Rattle.visibility.specs.Point.{is_hidden};
     ghost use Rattle.issue.specs.Accesses.{as_access, as_line, as_lines};
     ghost use Rattle.issue.specs.State.{HasTurn, around_of, before_of, here};
+    ghost use Rattle.issue.specs.Pending.{passes_here};
     ghost use Rattle.issue.specs.Turns.{Comes, access_from, effect_here, loads, value_from};
 
     // Whether older stores have all bytes, and none of them hides its address.
@@ -64,7 +65,8 @@ impl<'a> Seen<'a> {
     // What a load without fault finds from an address on.
     fn load_sound(&self, place: &Place, addr: u32) -> Loaded
         requires turn { HasTurn self.now place.now }
-        requires lets { stores_let self.now.desc.now.stt_model (range addr (width_of place.now.entry.now)) (before_of self.now place.now) ≡ true }
+        requires lets { stores_let self.now.desc.now.stt_model (passes_here self.now place.now)
+            (range addr (width_of place.now.entry.now)) (before_of self.now place.now) ≡ true }
         requires sound { load_fault self.now.ram.now addr (width_of place.now.entry.now) ≡ None }
         ensures access { as_access result.access ≡ here (access_from addr) self.now place.now }
         ensures value { result.value ≡ here (value_from addr) self.now place.now }
@@ -139,7 +141,12 @@ impl<'a> Seen<'a> {
             }
             Access::Forwards => {
                 row.push(Event::LdForward(serial));
-                Some(begun(self.cycle, place.entry, soon, outcome(made, found.value, None)))
+                Some(begun(
+                    self.cycle,
+                    place.entry,
+                    soon,
+                    outcome(made, found.value, None),
+                ))
             }
             Access::Looks(lines, ahead) => {
                 tell_lines(serial, &lines, ahead, row);
