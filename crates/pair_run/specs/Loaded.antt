@@ -6,7 +6,7 @@ use Rattle.rv_types.specs.Path.{reads}
 use Rattle.window_model.specs.Path.{path}
 use Rattle.rv_types.specs.declared.Cause.{Cause}
 use Rattle.machine_desc.specs.declared.SttModel.{SttModel}
-use Rattle.machine_desc.specs.declared.SttModel.TheVariants.{Spectre, Futuristic}
+use Rattle.machine_desc.specs.declared.SttModel.TheVariants.{Spectre, Futuristic, Off}
 use Rattle.isa_step.specs.declared.stepped.Stepped.{Stepped}
 use Rattle.pair_run.specs.declared.starting.Start.{Start}
 use Rattle.isa_step.specs.declared.stepped.Stepped.TheVariants.{Next, Exit, Trap}
@@ -20,6 +20,7 @@ abbrev pub ends_path : SttModel → Stepped → Option Cause → Bool
 ends_path Spectre Next passed = false
 ends_path Futuristic Next None = false
 ends_path Futuristic Next (Some cause) = true
+ends_path Off Next passed = false
 ends_path model (Exit v) passed = true
 ends_path model (Trap cause) passed = true
 
