@@ -9,6 +9,7 @@ use Rattle.window_model.specs.declared.Event.{Event}
 use Rattle.window_model.specs.State.{Machine, After}
 use Rattle.window_model.specs.Row.{Row}
 use Rattle.window_model.specs.Fill.{fill, complete}
+use Rattle.window_model.specs.Resolve.{resolve}
 use Rattle.window_model.specs.Retire.{Retired, retire}
 use Rattle.window_model.specs.Fetch.{fetch}
 use Rattle.window_model.specs.Cycle.{Cycled, after_retire, begins_cycle, cycle}
@@ -19,6 +20,7 @@ use Rattle.std.specs.List.{AllByRecursion as Each}
 use Rattle.machine_facts.specs.Timely.{Timely, WaitsOrDone}
 use Rattle.machine_facts.proofs.Stores.{none_busy}
 use Rattle.machine_facts.proofs.Adds.{fill_adds, complete_adds, resolve_adds, retire_turns}
+use Rattle.machine_facts.proofs.ClearPhases.{clear_adds}
 use Rattle.quiet_cycles.specs.Still.{NothingDueBefore, StillUntil, empty_row}
 use Rattle.visibility.specs.Point.{HasAdvanced}
 use Rattle.core_parts.specs.Described.{Described, fetch_of}
@@ -126,6 +128,7 @@ module _ (s s1 s2 : Described) (p : Fronts s s1 s2) where
         let z = (complete y).machine in
         ap (λ (x : Machine). x.next_serial) machine_left
         ∙ (retire_turns s.desc (at_retire s.desc s.machine)).serials
+        ∙ (clear_adds s.desc (resolve s.desc z).machine).serials
         ∙ (resolve_adds s.desc z).serials
         ∙ (complete_adds y).serials
         ∙ (fill_adds s.desc x).serials

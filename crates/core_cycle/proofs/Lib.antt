@@ -6,3 +6,4 @@ pub mod Advanced
 pub mod Moving
 pub mod Passing
 pub mod Cycling
+pub mod Fronts

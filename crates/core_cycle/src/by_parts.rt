@@ -82,7 +82,7 @@ impl<R: RenameTaint> Core<R> {
     /// The stations: they hold the entries that wait and what these want, and tell which are ready.
     pub fn stations(&self) -> &Stations
         ensures waiting { HoldsWaiting self.now.desc.version result.now self.now.machine.window }
-        ensures ready { TellsReady result.now self.now.machine.window }
+        ensures ready { TellsReady self.now.desc result.now self.now.machine.window }
     {
         self.parts.stations()
     }

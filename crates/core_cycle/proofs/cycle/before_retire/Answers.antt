@@ -1,13 +1,14 @@
-use Rattle.std.proofs.Common.{ap, sym, ◌∙◌, length}
+use Rattle.std.proofs.Common.{ap, ◌∙◌, length}
 use Rattle.core_parts.specs.Described.{Described}
 use Rattle.core_cycle.proofs.Advanced.{complete_advanced}
 use Rattle.core_cycle.proofs.Moving.{complete_silent, described_advanced, resolve_silent}
+use Rattle.core_cycle.proofs.Fronts.{fronts_machine, fronts_row}
 use Rattle.core_cycle.proofs.cycle.before_retire.Goals as goal
 
-pub advance_after_complete-requires-clause-spectre : goal.advance_after_complete-requires-clause-spectre
-advance_after_complete-requires-clause-spectre g c = λ spectre.
+pub advance_after_complete-requires-clause-undone : goal.advance_after_complete-requires-clause-undone
+advance_after_complete-requires-clause-undone g c = λ other.
     described_advanced c.fill.new.parts c.complete.new.parts _ c.complete.ensures.machine
-    (complete_advanced c.fill.new.parts.point c.fill.new.parts.machine (sym (ap (λ (s : Described). s.point.model) c.complete.ensures.machine) ∙ spectre)
+    (complete_advanced c.fill.new.parts.point c.fill.new.parts.machine (λ q. other (ap (λ (s : Described). s.point.model) c.complete.ensures.machine ∙ q))
     (described_advanced c.args.parts.now c.fill.new.parts _ c.fill.ensures.machine c.requires.advanced))
 
 pub advance_after_complete-requires-clause-advanced : goal.advance_after_complete-requires-clause-advanced
@@ -23,3 +24,14 @@ advance_after-requires g c = record {
       (resolve_silent _ c.advance_after_complete.new.parts.machine c.complete.new.row c.resolve.new.row (same ∙ ap length c.events-completed.ensures.value)
       c.advance_after_complete.ensures.advanced _ c.resolve.ensures.row);
 }
+
+-- nothing is cleared behind Resolve
+pub returns-clause-machine : goal.returns-clause-machine
+returns-clause-machine g c =
+    fronts_machine c.args.parts.now c.fill.new.parts c.complete.new.parts c.advance_after_complete.new.parts c.fill.ensures.machine c.complete.ensures.machine c.advance_after_complete.ensures.others
+    c.resolve.new.parts c.advance_after.new.parts c.resolve.ensures.machine c.advance_after.ensures.others
+
+pub returns-clause-row : goal.returns-clause-row
+returns-clause-row g c =
+    fronts_row c.args.parts.now c.fill.new.parts c.complete.new.parts c.advance_after_complete.new.parts c.fill.ensures.machine c.complete.ensures.machine c.advance_after_complete.ensures.others
+    c.args.row.now c.fill.new.row c.complete.new.row c.resolve.new.row c.fill.ensures.row c.complete.ensures.row c.resolve.ensures.row
