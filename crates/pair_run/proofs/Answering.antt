@@ -16,6 +16,7 @@ use Rattle.window_model.specs.State.{Machine}
 use Rattle.window_model.specs.Cycle.{Trace, trace, at, after_cycles}
 use Rattle.window_model.specs.Committed.{Aligned}
 use Rattle.window_model.specs.Path.{path as path_of}
+use Rattle.window_model.proofs.Withheld.{is_protected}
 use Rattle.noninterference.proofs.Runs.{same_trace}
 use Rattle.pair_run.specs.Starts.{loaded, trace_of}
 use Rattle.core_cycle.specs.Programmed.{Programmed}
@@ -56,7 +57,7 @@ pub premise_traces : (d : Desc) (one two : ImageText) (n : ℕ) → Aligned one.
 premise_traces d one two n al p =
     ap (λ (k : Code). trace d k two.entry two.ram n) p.code
     ∙ ap (λ (k : ℕ). trace d one.code k two.ram n) p.entry
-    ∙ same_trace d one.code one.entry one.ram two.ram n al p.agree
+    ∙ same_trace d one.code one.entry one.ram two.ram n (is_protected d) al p.agree
 
 pub hidden : (d : Desc) (one two : Image) (core core2 : Programmed) (n : ℕ) (r : Differ)
     → CoreStarts d one core → CoreStarts d two core2 → Premise d (loaded one) (loaded two) n
