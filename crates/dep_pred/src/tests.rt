@@ -14,13 +14,25 @@ const OTHER: u32 = 0x10010;
 #[test]
 fn a_bit_is_set_for_good(rt: HostRuntime) -> Result<(), Fail> {
     let mut bits = DepPred::unset(rt.alloc(), 16)?;
-    for (load, place) in [(OTHER, 4), (LOAD, 3), (SAME_BIT, 3), (OTHER, 4)] {
-        assert_eq!(rt; bits.waits(LOAD), bits.waits(SAME_BIT));
-        assert_eq!(rt; bits.learn(load), Event::Dp(place, 1));
-        assert_eq!(rt; bits.waits(load), true);
-        assert_eq!(rt; bits.waits(OTHER), true);
-        assert_eq!(rt; bits.waits(LOAD + 8), false);
-    }
+    assert_eq!(rt;
+        (bits.waits(LOAD), bits.waits(SAME_BIT), bits.waits(OTHER)),
+        (false, false, false)
+    );
+    assert_eq!(rt; bits.learn(LOAD), Event::Dp(3, 1));
+    assert_eq!(rt;
+        (bits.waits(LOAD), bits.waits(SAME_BIT), bits.waits(OTHER)),
+        (true, true, false)
+    );
+    assert_eq!(rt; bits.learn(SAME_BIT), Event::Dp(3, 1));
+    assert_eq!(rt;
+        (bits.waits(LOAD), bits.waits(SAME_BIT), bits.waits(OTHER)),
+        (true, true, false)
+    );
+    assert_eq!(rt; bits.learn(OTHER), Event::Dp(4, 1));
+    assert_eq!(rt;
+        (bits.waits(LOAD), bits.waits(SAME_BIT), bits.waits(OTHER)),
+        (true, true, true)
+    );
     Ok(())
 }
 
