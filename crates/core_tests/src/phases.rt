@@ -3,6 +3,7 @@ ghost use Rattle.std.specs.Prelude.{◌≡◌, true};
 ghost use Rattle.std.specs.List.{AllByRecursion as Each};
 ghost use Rattle.machine_facts.specs.Timely.{WaitsOrDone};
 
+use crate::cycles::with_model;
 use crate::flights::{COMPLETING, Flight, ISSUING, Phase, RESOLVING};
 use crate::lines::{ANY_ADDRESS, NEXT_LINE, OVER_TWO_LINES, PREFETCHING, SECOND_LEVEL, TWO_LEVELS};
 use crate::stores::STORES;
@@ -22,9 +23,8 @@ use window_model::{Entry, Progress, Row, empty_row};
 
 // The description with four words fetched a cycle, under this model.
 fn wide(desc: &Desc, model: SttModel) -> Desc {
-    let mut changed = *desc;
+    let mut changed = with_model(desc, model);
     changed.core_fetch_width = 4;
-    changed.stt_model = model;
     changed
 }
 
