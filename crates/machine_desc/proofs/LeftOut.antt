@@ -1,10 +1,12 @@
 -- The facts that pin the keys that may be left out: the ends of their ranges, which versions know them, and what they are then.
-use Rattle.std.proofs.Common.{◌≡◌, true, false, [], ◌∷◌, map, Some, None, refl}
+use Rattle.std.proofs.Common.{◌≡◌, ℕ, true, false, List, [], ◌∷◌, map, Option, Some, None, refl}
 use Rattle.std.specs.Prelude.{pos, codes}
 use lib.Count.{ones}
 use Rattle.toml.specs.Data.{no_members, string}
-use Rattle.machine_desc.specs.declared.keys.Key.TheVariants.{RamMisaligned, PredictorHistory, PredictorReturns, CacheSecondSets, CacheSecondWays, CacheSecondLatency, CachePrefetch, SttModel as ModelKey, SttDefence as DefenceKey}
-use Rattle.machine_desc.specs.declared.keys.Section.TheVariants.{Cache, Ram, Predictor, Stt}
+use Rattle.machine_desc.specs.declared.keys.Key.TheVariants.{RamMisaligned, PredictorDepend, PredictorHistory, PredictorReturns, CacheSecondSets, CacheSecondWays, CacheSecondLatency, CachePrefetch, SttModel as ModelKey, SttDefence as DefenceKey}
+use Rattle.machine_desc.specs.declared.keys.Section.TheVariants.{Cache, Ram, Stt}
+use Rattle.machine_desc.specs.declared.keys.Key.{Key}
+use Rattle.machine_desc.specs.declared.fault.DescFault.{DescFault}
 use Rattle.machine_desc.specs.declared.fault.DescFault.TheVariants.{Kind, Range, Shape as WrongShape}
 use Rattle.machine_desc.specs.declared.fault.Subject.TheVariants.{Key as OfKey}
 use Rattle.machine_desc.specs.Version.{comes_between}
@@ -14,6 +16,11 @@ use Rattle.machine_desc.proofs.Versions.{told}
 
 misaligned : (told 2 RamMisaligned 0 ≡ None) × (told 2 RamMisaligned 1 ≡ None) × (told 2 RamMisaligned 2 ≡ Some (Range RamMisaligned (pos 2)))
 misaligned = (refl, refl, refl)
+
+depend : (told 2 PredictorDepend 0 ≡ None) × (told 2 PredictorDepend 1 ≡ None) × (told 2 PredictorDepend 12 ≡ Some (WrongShape PredictorDepend))
+    × (told 2 PredictorDepend 1024 ≡ None) × (told 2 PredictorDepend 2048 ≡ Some (Range PredictorDepend (pos 2048)))
+unfolding ones
+depend = (refl, refl, refl, refl, refl)
 
 history : (told 2 PredictorHistory 0 ≡ None) × (told 2 PredictorHistory 12 ≡ None) × (told 2 PredictorHistory 13 ≡ Some (Range PredictorHistory (pos 13)))
 history = (refl, refl, refl)
@@ -37,25 +44,33 @@ second_latency = (refl, refl, refl, refl)
 prefetch : (told 2 CachePrefetch 0 ≡ None) × (told 2 CachePrefetch 1 ≡ None) × (told 2 CachePrefetch 2 ≡ Some (Range CachePrefetch (pos 2)))
 prefetch = (refl, refl, refl)
 
--- ---- version 1 knows none of them, version 2 every key but two; no other table has a key of theirs
+-- ---- version 1 knows none of them, version 2 each; no other table has a key of theirs
 
 unknown_in_1 : map (is_known 1) optional_numbers ≡ false ∷ false ∷ false ∷ false ∷ false ∷ false ∷ false ∷ false ∷ []
 unknown_in_1 = refl
 
-known_in_2 : map (is_known 2) optional_numbers ≡ true ∷ false ∷ true ∷ true ∷ true ∷ true ∷ true ∷ true ∷ []
+known_in_2 : map (is_known 2) optional_numbers ≡ true ∷ true ∷ true ∷ true ∷ true ∷ true ∷ true ∷ true ∷ []
 known_in_2 = refl
 
 by_table : (some_key 1 keys Ram (codes "misaligned") ≡ false) × (some_key 2 keys Ram (codes "misaligned") ≡ true)
     × (some_key 2 keys Cache (codes "misaligned") ≡ false) × (some_key 1 keys Cache (codes "sets") ≡ true)
 by_table = (refl, refl, refl, refl)
 
--- ---- no version knows these two so far, nor the third model
+-- ---- nor does version 1 know the third model and the second defence
 
-withheld : (some_key 2 keys Predictor (codes "depend") ≡ false) × (some_key 2 keys Stt (codes "defence") ≡ false)
-    × (value_fault ModelKey (row 2 ModelKey).values (Some (string (codes "off"))) ≡ Some (Kind (OfKey ModelKey)))
-    × (key_fault 2 no_members DefenceKey ≡ None)
+-- what is told of a text in a version
+abbrev named : ℕ → Key → List ℕ → Option DescFault
+named version key text = value_fault key (row version key).values (Some (string text))
+
+third_model : (named 1 ModelKey (codes "off") ≡ Some (Kind (OfKey ModelKey))) × (named 2 ModelKey (codes "off") ≡ None)
+    × (named 1 ModelKey (codes "futuristic") ≡ None) × (named 2 ModelKey (codes "none") ≡ Some (Kind (OfKey ModelKey)))
+third_model = (refl, refl, refl, refl)
+
+second_defence : (some_key 1 keys Stt (codes "defence") ≡ false) × (some_key 2 keys Stt (codes "defence") ≡ true)
+    × (named 2 DefenceKey (codes "stt") ≡ None) × (named 2 DefenceKey (codes "hold") ≡ None)
+    × (named 2 DefenceKey (codes "off") ≡ Some (Kind (OfKey DefenceKey))) × (key_fault 2 no_members DefenceKey ≡ None)
 unfolding key_fault
-withheld = (refl, refl, refl, refl)
+second_defence = (refl, refl, refl, refl, refl, refl)
 
 -- ---- left out they have no fault, and in both versions these numbers
 

@@ -7,7 +7,6 @@ pub mod Fitting
 pub mod Passing
 pub mod LeftOut
 pub mod Named
-pub mod Withheld
 pub mod EveryDesc
 pub mod SameDesc
 pub mod SomeDesc

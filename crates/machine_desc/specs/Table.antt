@@ -51,7 +51,7 @@ row v RamBase = whole Ram (codes "base") 0 4294963200 MultipleOf16
 row v RamSize = whole Ram (codes "size") 4096 16777216 MultipleOf16
 row v SttModel = record { section = Stt; name = codes "model"; values = Models (knows_off v) }
 row v RamMisaligned = optional Ram (codes "misaligned") 0 (most 0 1 v) Any
-row v PredictorDepend = optional Predictor (codes "depend") 0 (most 0 0 v) ZeroOrPowerOfTwo
+row v PredictorDepend = optional Predictor (codes "depend") 0 (most 0 1024 v) ZeroOrPowerOfTwo
 row v PredictorHistory = optional Predictor (codes "history") 0 (most 0 12 v) Any
 row v PredictorReturns = optional Predictor (codes "returns") 0 (most 0 16 v) Any
 row v CacheSecondSets = optional Cache (codes "second_sets") 0 (most 0 1024 v) ZeroOrPowerOfTwo

@@ -1,5 +1,5 @@
 -- The versions of a description (docs/formats.md, "Versions").
-use Rattle.std.specs.Prelude.{ℕ, Bool, true, false, ◌==◌, ◌≤◌, ◌&&◌, ◌||◌, nat_lt, if◌then◌else◌}
+use Rattle.std.specs.Prelude.{ℕ, Bool, true, ◌==◌, ◌≤◌, ◌&&◌, ◌||◌, not, nat_lt, if◌then◌else◌}
 use Rattle.machine_desc.specs.declared.SttModel.{SttModel}
 use Rattle.machine_desc.specs.declared.SttModel.TheVariants.{Off}
 use Rattle.machine_desc.specs.declared.Defence.{Defence}
@@ -17,13 +17,13 @@ IsKnown version = (1 ≤ version) × (version ≤ newest)
 abbrev pub most : ℕ → ℕ → ℕ → ℕ
 most in_1 in_2 version = if version == 1 then in_1 else in_2
 
--- whether the model `off` may be named in a version: it may in none so far
+-- whether the model `off` may be named in a version: in each but the first
 abbrev pub knows_off : ℕ → Bool
-knows_off version = false
+knows_off version = not (version == 1)
 
--- whether the defence `hold` may be: it may in none so far
+-- whether the defence `hold` may be: in each but the first
 abbrev pub knows_hold : ℕ → Bool
-knows_hold version = false
+knows_hold version = not (version == 1)
 
 -- the version knows the model
 abbrev pub knows_model : ℕ → SttModel → Bool

@@ -168,18 +168,18 @@ fn most(in_1: u32, in_2: u32, version: u32) -> u32
     if version == 1 { in_1 } else { in_2 }
 }
 
-// May the model `off` be named in a version? In none so far.
-pub(crate) fn knows_off(_version: u32) -> bool
-    ensures { result ≡ knows_off _version }
+// May the model `off` be named in a version? In each but the first.
+pub(crate) fn knows_off(version: u32) -> bool
+    ensures { result ≡ knows_off version }
 {
-    false
+    version != 1
 }
 
-// May the defence `hold` be? In none so far.
-pub(crate) fn knows_hold(_version: u32) -> bool
-    ensures { result ≡ knows_hold _version }
+// May the defence `hold` be? In each but the first.
+pub(crate) fn knows_hold(version: u32) -> bool
+    ensures { result ≡ knows_hold version }
 {
-    false
+    version != 1
 }
 
 // Is there a choice of values? A key that has to be there always has one.
@@ -293,7 +293,7 @@ impl Key {
                 off: knows_off(version),
             },
             Key::RamMisaligned => optional(0, most(0, 1, version), Shape::Any),
-            Key::PredictorDepend => optional(0, most(0, 0, version), Shape::ZeroOrPowerOfTwo),
+            Key::PredictorDepend => optional(0, most(0, 1024, version), Shape::ZeroOrPowerOfTwo),
             Key::PredictorHistory => optional(0, most(0, 12, version), Shape::Any),
             Key::PredictorReturns => optional(0, most(0, 16, version), Shape::Any),
             Key::CacheSecondSets => optional(0, most(0, 1024, version), Shape::ZeroOrPowerOfTwo),

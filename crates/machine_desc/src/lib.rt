@@ -159,7 +159,7 @@ pub struct Desc {
     pub ghost size_aligned: { ram_size % 16 ≡ 0 },
     pub ghost ram_ends: { ram_base + ram_size ≤ 2 ^ 32 },
     pub ghost few_misaligned: { ram_misaligned ≤ most 0 1 version },
-    pub ghost few_depend: { predictor_depend ≤ most 0 0 version },
+    pub ghost few_depend: { predictor_depend ≤ most 0 1024 version },
     pub ghost depend_power: { IsZeroOrPower predictor_depend } by { zero_or_power_prop predictor_depend },
     pub ghost short_history: { predictor_history ≤ most 0 12 version },
     pub ghost few_returns: { predictor_returns ≤ most 0 16 version },

@@ -21,4 +21,3 @@ pub mod Walks
 pub mod Quiet
 pub mod Telling
 pub mod Together
-pub mod Withheld
