@@ -2,3 +2,4 @@ pub mod Queues
 pub mod Merging
 pub mod Gathering
 pub mod Pending
+pub mod Clearing

@@ -42,7 +42,7 @@ fn reaches_one(span: &Span, addr: u64, width: Width) -> bool
 
 // Whether what a store writes reaches a byte that a load asks for.
 #[tactic(auto, using(crate::proofs::Awaiting::one_is))]
-fn shares(span: &Span, addr: u64, width: Width, fault: Option<Cause>) -> bool
+pub(crate) fn shares(span: &Span, addr: u64, width: Width, fault: Option<Cause>) -> bool
     requires { addr < 2 ^ 32 }
     ensures { result ≡ list_any (λ a. reaches a span.now) (bytes_asked fault addr (bytes_in width)) }
 {

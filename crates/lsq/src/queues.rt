@@ -1,13 +1,18 @@
 //! The queue of loads and the queue of stores.
-ghost use Rattle.std.specs.Prelude.{◌≡◌, ◌<◌, ◌≤◌, ◌*◌, ◌^◌, not, ◌==◌, ◌||◌, nat_le, nat_lt, [], ◌∷◌, ◌++◌, length, map, None, is_some, true, IfOk, vec_len, vec_capacity};
+ghost use Rattle.std.specs.Prelude.{◌≡◌, ◌<◌, ◌≤◌, ◌*◌, ◌^◌, not, ◌==◌, ◌||◌, nat_le, nat_lt, [], ◌∷◌, ◌++◌, length, map, None, is_some, false, slice_get, IfOk, vec_len, vec_capacity};
 ghost use Rattle.std.specs.List.{filter, list_all, list_any};
+ghost use Rattle.std.specs.Option.{option_map};
 ghost use Rattle.rv_types.specs.Memory.{load_fault};
 ghost use Rattle.rv_types.specs.Value.{bytes_in};
 ghost use Rattle.rv_types.specs.Word.{from_le};
-ghost use Rattle.lsq.specs.Queues.{Rise, addressed_at, empty, filled_at, is_known, older, youngest_root};
+ghost use Rattle.lsq.specs.Clearing.{info_of, violated_by};
+ghost use Rattle.lsq.specs.Queues.{addressed_at, cleared_at, cut_at, empty, filled_at, is_known, issued_at, older, without, youngest_root};
 ghost use Rattle.lsq.specs.Merging.{all_forwarded, merged_bytes};
 ghost use Rattle.lsq.specs.Pending.{bytes_asked, lacks_address, lacks_data_for};
 
+use crate::clearing::{StoreInfo, info_of, violated_by};
+use crate::load::{Access, Load};
+use crate::loads::{cut_loads, issue_load, pop_load, rises_with};
 use crate::merging::{Merged, merge};
 use crate::pending::{Pending, pending_in};
 use crate::store::{Span, Store};
@@ -20,7 +25,7 @@ use std::marker::Model;
 /// The loads and the stores in flight, each oldest first. Entries are named by their serials.
 #[derive(Drop)]
 pub struct Lsq {
-    loads: Vec<u64>,
+    loads: Vec<Load>,
     stores: Vec<Store>,
     max_loads: u32,
     max_stores: u32,
@@ -75,20 +80,30 @@ impl Lsq {
         self.stores.len() < self.max_stores as usize
     }
 
-    /// Appends a load.
+    /// Appends a load of which nothing is known.
     pub fn add_load(&mut self, serial: u64)
         requires room { length self.old.loads < self.old.max_loads }
-        ensures { self.new ≡ record self.old { loads = self.old.loads ++ serial ∷ [] } }
+        ensures { self.new ≡ record self.old {
+          loads = self.old.loads ++ record { serial = serial; access = None } ∷ [];
+        } }
     {
         self.rising = rises_with(self.rising, self.loads.as_slice(), serial);
-        push_within(&mut self.loads, serial);
+        push_within(
+            &mut self.loads,
+            Load {
+                serial,
+                access: None,
+            },
+        );
     }
 
-    /// Appends a store of which nothing is known, with the serial of the youngest load from which its address flows.
+    /// Appends a store of which nothing is known, and that isn't cleared, with the serial of the youngest load from which its
+    /// address flows.
     pub fn add_store(&mut self, serial: u64, root: Option<u64>)
         requires room { length self.old.stores < self.old.max_stores }
         ensures { self.new ≡ record self.old {
-          stores = self.old.stores ++ record { serial = serial; root = root; span = None; stored = None } ∷ [];
+          stores = self.old.stores
+              ++ record { serial = serial; root = root; span = None; stored = None; cleared = false } ∷ [];
         } }
     {
         let store = Store {
@@ -96,18 +111,34 @@ impl Lsq {
             root,
             span: None,
             stored: None,
+            cleared: false,
         };
         push_within(&mut self.stores, store);
     }
 
     /// Notes where the store with this serial writes, whose address part has issued: a width's bytes from an address on, or
-    /// nothing where it has a fault.
-    pub fn store_addr(&mut self, serial: u64, addr: u32, width: Width, fault: Option<Cause>)
+    /// nothing where it has a fault. It is known from a cycle on.
+    pub fn store_addr(
+        &mut self,
+        serial: u64,
+        addr: u32,
+        width: Width,
+        fault: Option<Cause>,
+        cycle: u64,
+    )
         ensures { self.new ≡ record self.old {
-          stores = map (addressed_at serial (record { addr = addr; width = width; fault = fault })) self.old.stores;
+          stores = map
+              (addressed_at serial (record { addr = addr; width = width; fault = fault; known_from = cycle }))
+              self.old.stores;
         } }
     {
-        address_store(&mut self.stores, serial, Span { addr, width, fault });
+        let span = Span {
+            addr,
+            width,
+            fault,
+            known_from: cycle,
+        };
+        address_store(&mut self.stores, serial, span);
     }
 
     /// Notes the number whose lowest bytes the store with this serial writes, whose data part has issued.
@@ -115,6 +146,31 @@ impl Lsq {
         ensures { self.new ≡ record self.old { stores = map (filled_at serial stored) self.old.stores } }
     {
         fill_store(&mut self.stores, serial, stored);
+    }
+
+    /// Notes what the load with this serial reads, which issued in this cycle: a width's bytes from an address on, or nothing
+    /// where it has a fault.
+    pub fn load_issued(
+        &mut self,
+        serial: u64,
+        addr: u32,
+        width: Width,
+        fault: Option<Cause>,
+        cycle: u64,
+    )
+        ensures { self.new ≡ record self.old {
+          loads = map
+              (issued_at serial (record { addr = addr; width = width; fault = fault; cycle = cycle }))
+              self.old.loads;
+        } }
+    {
+        let access = Access {
+            addr,
+            width,
+            fault,
+            cycle,
+        };
+        issue_load(&mut self.loads, serial, access);
     }
 
     /// What a load with this serial still waits for, if the fault is its own: whether of some older store it isn't known
@@ -152,12 +208,31 @@ impl Lsq {
         merge(self.stores.as_slice(), serial, addr, width, ram)
     }
 
+    /// What is told of the store at a place, the oldest at 0, if there are so many.
+    pub fn store_at(&self, place: u32) -> Option<StoreInfo>
+        ensures { result ≡ option_map info_of (slice_get self.now.stores place) }
+    {
+        match self.stores.get(place as usize) {
+            Some(store) => Some(info_of(store)),
+            None => None,
+        }
+    }
+
+    /// Clears the store with this serial. The answer is the serial of the oldest load that is violated: it is younger, it
+    /// issued before the cycle from which on it was known where the store writes, and they share a byte. Where it isn't known
+    /// yet, and where the load or the store has a fault, no load is.
+    pub fn clear(&mut self, serial: u64) -> Option<u64>
+        ensures violated { result ≡ violated_by serial self.old.stores self.old.loads }
+        ensures cleared { self.new ≡ record self.old { stores = map (cleared_at serial) self.old.stores } }
+    {
+        let violated = violated_by(self.stores.as_slice(), self.loads.as_slice(), serial);
+        clear_store(&mut self.stores, serial);
+        violated
+    }
+
     /// Takes out each load and store from this serial on: they were dropped.
     pub fn cut(&mut self, first: u64)
-        ensures { self.new ≡ record self.old {
-          loads = filter (λ l. nat_lt l first) self.old.loads;
-          stores = filter (λ s. nat_lt s.serial first) self.old.stores;
-        } }
+        ensures { self.new ≡ cut_at first self.old }
     {
         cut_loads(&mut self.loads, first);
         cut_stores(&mut self.stores, first);
@@ -165,10 +240,7 @@ impl Lsq {
 
     /// Takes out the load or store with this serial, if there is one: it retired.
     pub fn pop(&mut self, serial: u64)
-        ensures { self.new ≡ record self.old {
-          loads = filter (λ l. not (l == serial)) self.old.loads;
-          stores = filter (λ s. not (s.serial == serial)) self.old.stores;
-        } }
+        ensures { self.new ≡ without serial self.old }
     {
         pop_load(&mut self.loads, self.rising, serial);
         pop_store(&mut self.stores, serial);
@@ -246,52 +318,37 @@ fn fill_store(stores: &mut Vec<Store>, serial: u64, stored: u32)
     fill_in(stores.as_mut_slice(), serial, stored);
 }
 
-fn cut_loads(loads: &mut Vec<u64>, first: u64)
-    ensures kept { loads.new.items ≡ filter (λ l. nat_lt l first) loads.old.items }
-    ensures capacity { vec_capacity loads.new ≡ vec_capacity loads.old }
+// Marks the store as cleared, where it has this serial.
+fn clear_one(store: &mut Store, serial: u64)
+    ensures { store.new ≡ cleared_at serial store.old }
 {
-    loads.retain(|load| *load < first);
+    if store.serial == serial {
+        store.cleared = true;
+    }
 }
 
+// Marks one in a list of stores as cleared.
+fn clear_in(stores: &mut [Store], serial: u64)
+    ensures { stores.new ≡ map (cleared_at serial) stores.old }
+{
+    for store in stores.iter_mut() {
+        clear_one(store, serial);
+    }
+}
+
+fn clear_store(stores: &mut Vec<Store>, serial: u64)
+    ensures items { stores.new.items ≡ map (cleared_at serial) stores.old.items }
+    ensures capacity { vec_capacity stores.new ≡ vec_capacity stores.old }
+{
+    clear_in(stores.as_mut_slice(), serial);
+}
+
+// Takes out the stores from a serial on.
 fn cut_stores(stores: &mut Vec<Store>, first: u64)
     ensures kept { stores.new.items ≡ filter (λ s. nat_lt s.serial first) stores.old.items }
     ensures capacity { vec_capacity stores.new ≡ vec_capacity stores.old }
 {
     stores.retain(|store| store.serial < first);
-}
-
-// Whether the loads are known to rise, with this one as the youngest.
-fn rises_with(rising: bool, loads: &[u64], serial: u64) -> bool
-    requires { rising ≡ true → Rise loads.now }
-    ensures { result ≡ true → Rise (loads.now ++ serial ∷ []) }
-{
-    if !rising {
-        return false;
-    }
-    if loads.len() == 0 {
-        return true;
-    }
-    loads[loads.len() - 1] < serial
-}
-
-// Takes out the load with this serial, if there is one. Who retires is the oldest, so it is the first or isn't there.
-fn pop_rising(loads: &mut Vec<u64>, serial: u64)
-    requires { Rise loads.old.items }
-    ensures kept { loads.new.items ≡ filter (λ l. not (l == serial)) loads.old.items }
-    ensures capacity { vec_capacity loads.new ≡ vec_capacity loads.old }
-{
-    if loads.len() == 0 {
-        return;
-    }
-    let first = loads[0];
-    if serial < first {
-        return;
-    }
-    if first == serial {
-        loads.remove(0);
-        return;
-    }
-    loads.retain(|load| *load != serial);
 }
 
 // Takes out the oldest store where it has this serial, as who retires has.
@@ -312,18 +369,7 @@ fn holds_store(stores: &[Store], serial: u64) -> bool
     stores.iter().any(|store| store.serial == serial)
 }
 
-fn pop_load(loads: &mut Vec<u64>, rising: bool, serial: u64)
-    requires { rising ≡ true → Rise loads.old.items }
-    ensures kept { loads.new.items ≡ filter (λ l. not (l == serial)) loads.old.items }
-    ensures capacity { vec_capacity loads.new ≡ vec_capacity loads.old }
-{
-    if rising {
-        pop_rising(loads, serial);
-    } else {
-        loads.retain(|load| *load != serial);
-    }
-}
-
+// Takes out the store with this serial, if there is one.
 fn pop_store(stores: &mut Vec<Store>, serial: u64)
     ensures kept { stores.new.items ≡ filter (λ s. not (s.serial == serial)) stores.old.items }
     ensures capacity { vec_capacity stores.new ≡ vec_capacity stores.old }

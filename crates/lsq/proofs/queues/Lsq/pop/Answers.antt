@@ -10,5 +10,5 @@ invariant_of-self c =
     let stores = c.self.invariant.1 in (
       omega (arith, loads, c.pop_load.ensures.capacity),
       omega (arith, stores, c.pop_store.ensures.capacity),
-      λ rising. subst Rise (sym c.pop_load.ensures.kept) (AllPairs-filter (λ a b. a < b) (λ l. not (l == c.args.serial)) c.self.inside.loads.items (c.self.invariant.2 rising)),
+      λ rising. subst Rise (sym c.pop_load.ensures.kept) (AllPairs-filter (λ a b. a.serial < b.serial) (λ l. not (l.serial == c.args.serial)) c.self.inside.loads.items (c.self.invariant.2 rising)),
     )

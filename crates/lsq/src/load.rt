@@ -1,0 +1,24 @@
+//! A load in flight.
+use rv_types::{Cause, Width};
+
+/// What a load reads, and when it issued.
+#[derive(Clone, Copy, Debug, PartialEq, Eq)]
+pub struct Access {
+    /// The address of its first byte.
+    pub addr: u32,
+    /// How many bytes it reads.
+    pub width: Width,
+    /// Why it traps once it is the oldest, if it does: it then reads nothing.
+    pub fault: Option<Cause>,
+    /// The cycle in which it issued.
+    pub cycle: u64,
+}
+
+/// A load in flight.
+#[derive(Clone, Copy, Debug, PartialEq, Eq)]
+pub struct Load {
+    /// Its number in the order of renaming.
+    pub serial: u64,
+    /// What it reads, once that is noted as it issues.
+    pub access: Option<Access>,
+}
