@@ -123,7 +123,7 @@ parts_noted_at a d q window i e e2 w s h r n k g =
 
 -- ---- all the parts that it has
 
-gone : (b c : Bool) → (b ≡ true → c ≡ true) → c ≡ false → b ≡ false
+pub gone : (b c : Bool) → (b ≡ true → c ≡ true) → c ≡ false → b ≡ false
 gone true c h k = let x = h refl in absurd (cc)
 gone false c h k = refl
 

@@ -10,8 +10,9 @@ use Rattle.window_model.specs.Order.{is_load, is_store}
 use Rattle.lsq.specs.declared.store.Store.{Store}
 use Rattle.queue_laws.specs.Window.{NotOlder, Older, Others, Shown, StoresStandFor, loads_in, shown_entry, shown_store, stores_in}
 use Rattle.queue_laws.specs.Laws.{HoldsOlder}
-use Rattle.lsq.specs.Queues.{Queues}
-use Rattle.queue_laws.specs.Window.{StandFor}
+use Rattle.lsq.specs.declared.load.Load.{Load}
+use Rattle.lsq.specs.Queues.{Queues, cut_at, without}
+use Rattle.queue_laws.specs.Window.{StandFor, serials_of}
 
 -- ---- a filter by serials
 
@@ -62,7 +63,7 @@ loads_kept p (e ∷ ws) =
 
 -- ---- youngest first
 
-map_reverse : {X Y : Type 0} (f : X → Y) (xs : List X) → map f (reverse xs) ≡ reverse (map f xs)
+pub map_reverse : {X Y : Type 0} (f : X → Y) (xs : List X) → map f (reverse xs) ≡ reverse (map f xs)
 map_reverse f [] = refl
 map_reverse f (x ∷ xs) =
     ap (map f) (reverse-append (x ∷ []) xs) ∙ map-append f (reverse xs) (x ∷ []) ∙ ap (λ ys. ys ++ f x ∷ []) (map_reverse f xs) ∙ sym (reverse-append (f x ∷ []) (map f xs))
@@ -107,7 +108,7 @@ others_pass serial (e ∷ es) h =
     ap (λ b. cond (not b) (e ∷ filter (λ e. not (e.serial == serial)) es) (filter (λ e. not (e.serial == serial)) es)) b
     ∙ ap (λ es. e ∷ es) (others_pass serial es (All-tail (λ (e : Entry). e.serial ≢ serial) e es h))
 
-split_by : (first : ℕ) (old rest : List Entry) → Older first old → NotOlder first rest → filter (λ e. nat_lt e.serial first) (old ++ rest) ≡ old
+pub split_by : (first : ℕ) (old rest : List Entry) → Older first old → NotOlder first rest → filter (λ e. nat_lt e.serial first) (old ++ rest) ≡ old
 split_by first old rest h k =
     filter-append (λ e. nat_lt e.serial first) old rest ∙ ap (λ es. es ++ filter (λ e. nat_lt e.serial first) rest) (older_pass first old h)
     ∙ ap (λ es. old ++ es) (none_pass first rest k) ∙ append-nil old
@@ -118,25 +119,38 @@ pub older_stands : HoldsOlder
 older_stands q old rest serial s h k =
     reversed (filter (λ s. nat_lt s.serial serial) q.stores) old (stores_kept (λ n. nat_lt n serial) q.stores (old ++ rest) s.stores ∙ ap stores_in (split_by serial old rest h k))
 
+load_passed : (b : Bool) (l : Load) (f : List Load) (g : List ℕ) → serials_of f ≡ g → serials_of (cond b (l ∷ f) f) ≡ cond b (l.serial ∷ g) g
+load_passed true l f g h = ap (λ g. l.serial ∷ g) h
+load_passed false l f g h = h
+
+-- the loads with some serials
+loads_passed : (p : ℕ → Bool) (ls : List Load) → serials_of (filter (λ l. p l.serial) ls) ≡ filter p (serials_of ls)
+loads_passed p [] = refl
+loads_passed p (l ∷ ls) = load_passed (p l.serial) l _ _ (loads_passed p ls)
+
 -- entries from a serial on are dropped and cut
-pub cut_stands : (q : Queues) (first : ℕ) (old rest : List Entry) → StandFor q (old ++ rest) → Older first old → NotOlder first rest →
-    StandFor (record q { loads = filter (λ l. nat_lt l first) q.loads; stores = filter (λ s. nat_lt s.serial first) q.stores }) old
+pub cut_stands : (q : Queues) (first : ℕ) (old rest : List Entry) → StandFor q (old ++ rest) → Older first old → NotOlder first rest → StandFor (cut_at first q) old
 cut_stands q first old rest s h k =
     let p : ℕ → Bool = λ n. nat_lt n first in
     let e = split_by first old rest h k in
     record {
-      loads = ap (filter p) s.loads ∙ loads_kept p (old ++ rest) ∙ ap loads_in e;
+      loads = loads_passed p q.loads ∙ ap (filter p) s.loads ∙ loads_kept p (old ++ rest) ∙ ap loads_in e;
       stores = stores_kept p q.stores (old ++ rest) s.stores ∙ ap stores_in e;
     }
 
+-- the oldest entry alone has its serial
+pub head_passes : (head : Entry) (rest : List Entry) → Others head.serial rest → filter (λ e. not (e.serial == head.serial)) (head ∷ rest) ≡ rest
+head_passes head rest h =
+    let own : (head.serial == head.serial) ≡ true = grind (arith, nat_tests) in
+    let left = filter (λ (e : Entry). not (e.serial == head.serial)) rest in
+    ap (λ b. cond (not b) (head ∷ left) left) own ∙ others_pass head.serial rest h
+
 -- the oldest entry retires and is popped
-pub pop_stands : (q : Queues) (head : Entry) (rest : List Entry) → StandFor q (head ∷ rest) → Others head.serial rest →
-    StandFor (record q { loads = filter (λ l. not (l == head.serial)) q.loads; stores = filter (λ s. not (s.serial == head.serial)) q.stores }) rest
+pub pop_stands : (q : Queues) (head : Entry) (rest : List Entry) → StandFor q (head ∷ rest) → Others head.serial rest → StandFor (without head.serial q) rest
 pop_stands q head rest s h =
     let p : ℕ → Bool = λ n. not (n == head.serial) in
-    let own : (head.serial == head.serial) ≡ true = grind (arith, nat_tests) in
-    let e = ap (λ b. cond (not b) (head ∷ filter (λ (e : Entry). p e.serial) rest) (filter (λ (e : Entry). p e.serial) rest)) own ∙ others_pass head.serial rest h in
+    let e = head_passes head rest h in
     record {
-      loads = ap (filter p) s.loads ∙ loads_kept p (head ∷ rest) ∙ ap loads_in e;
+      loads = loads_passed p q.loads ∙ ap (filter p) s.loads ∙ loads_kept p (head ∷ rest) ∙ ap loads_in e;
       stores = stores_kept p q.stores (head ∷ rest) s.stores ∙ ap stores_in e;
     }

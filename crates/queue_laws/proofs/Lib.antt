@@ -6,3 +6,9 @@ pub mod Roots
 pub mod Renaming
 pub mod Around
 pub mod Issuing
+pub mod Shows
+pub mod Tracking
+pub mod Noting
+pub mod Violating
+pub mod Clearing
+pub mod Leaving

@@ -10,9 +10,12 @@ use Rattle.window_model.specs.declared.Entry.{Entry}
 use Rattle.window_model.specs.Order.{fault_of, has_address, has_data, is_load, is_store}
 use Rattle.window_model.specs.Retire.{addr_of, stored_of, width_of}
 use Rattle.window_model.specs.Taint.{address_tainted}
+use Rattle.lsq.specs.declared.clearing.StoreInfo.{StoreInfo}
+use Rattle.lsq.specs.declared.load.Access.{Access}
+use Rattle.lsq.specs.declared.load.Load.{Load}
 use Rattle.lsq.specs.declared.store.Span.{Span}
 use Rattle.lsq.specs.declared.store.Store.{Store}
-use Rattle.lsq.specs.Queues.{Queues, addressed_at, filled_at}
+use Rattle.lsq.specs.Queues.{Queues, addressed_at, cleared_at, filled_at, issued_at}
 
 -- ---- what queue and window both show of a store
 
@@ -56,6 +59,10 @@ shown_entry e = record {
 abbrev pub stores_in : List Entry → List Shown
 stores_in es = map shown_entry (filter (λ e. is_store e.item.kind) es)
 
+-- the loads that are held have these serials
+abbrev pub serials_of : List Load → List ℕ
+serials_of loads = map (λ l. l.serial) loads
+
 -- the serials of the entries' loads, in their order
 abbrev pub loads_in : List Entry → List ℕ
 loads_in es = map (λ e. e.serial) (filter (λ e. is_load e.item.kind) es)
@@ -67,16 +74,92 @@ StoresStandFor stores es = map shown_store stores ≡ stores_in es
 
 -- the queues hold the window's loads and stores, by age
 pub record StandFor (q : Queues) (window : List Entry) : Type 0 where
-  pub loads : q.loads ≡ loads_in window
+  pub loads : serials_of q.loads ≡ loads_in window
   pub stores : StoresStandFor q.stores window
+
+-- ---- what is held besides where loads may pass stores
+
+-- what a load reads, and in which cycle it issued
+pub record Reading : Type 0 where
+  pub area : Area
+  pub cycle : ℕ
+
+-- a load: its serial, and what it reads once it has issued
+pub record ShownLoad : Type 0 where
+  pub serial : ℕ
+  pub reading : Option Reading
+
+-- what is noted of a load in the queue
+abbrev pub reading_of : Access → Reading
+reading_of a = record { area = record { addr = a.addr; bytes = bytes_in a.width; fault = a.fault }; cycle = a.cycle }
+
+abbrev pub shown_load : Load → ShownLoad
+shown_load l = record { serial = l.serial; reading = option_map reading_of l.access }
+
+-- and of a load in the window
+abbrev pub shown_reader : Entry → ShownLoad
+shown_reader e = record { serial = e.serial; reading = option_map (λ cycle. record { area = area_in e; cycle = cycle }) e.issued }
+
+-- the entries' loads, in their order
+abbrev pub readers_in : List Entry → List ShownLoad
+readers_in es = map shown_reader (filter (λ e. is_load e.item.kind) es)
+
+-- a store: its serial, from which cycle on its address is known, and whether it is cleared
+pub record ShownClearing : Type 0 where
+  pub serial : ℕ
+  pub known_from : Option ℕ
+  pub cleared : Bool
+
+-- of a store in the queue
+abbrev pub shown_cleared : Store → ShownClearing
+shown_cleared s = record { serial = s.serial; known_from = option_map (λ (k : Span). k.known_from) s.span; cleared = s.cleared }
+
+-- of a store in the window
+abbrev pub shown_clearing : Entry → ShownClearing
+shown_clearing e = record { serial = e.serial; known_from = e.addr_due; cleared = e.cleared }
+
+-- the entries' stores, in their order
+abbrev pub clearings_in : List Entry → List ShownClearing
+clearings_in es = map shown_clearing (filter (λ e. is_store e.item.kind) es)
+
+-- of each load the queues hold what it reads and when it issued, and of each store when its address became known, and whether it is
+-- cleared
+pub record Tracks (q : Queues) (window : List Entry) : Type 0 where
+  pub loads : map shown_load q.loads ≡ readers_in window
+  pub stores : map shown_cleared q.stores ≡ clearings_in window
+
+-- what is told of a store in its place, but for its root
+pub record Told : Type 0 where
+  pub serial : ℕ
+  pub known : Bool
+  pub cleared : Bool
+
+-- of a store in the queue
+abbrev pub told_of : StoreInfo → Told
+told_of i = record { serial = i.serial; known = i.known; cleared = i.cleared }
+
+-- of a store in the window
+abbrev pub told_in : Entry → Told
+told_in e = record { serial = e.serial; known = has_address e; cleared = e.cleared }
+
+-- ---- parts that are noted
 
 -- both parts of each store among these entries have issued
 abbrev pub all_complete : List Entry → Bool
 all_complete es = list_all (λ e. not (is_store e.item.kind) || has_address e && has_data e) es
 
--- where an entry writes, with the width of its access
+-- the cycle, 0 where there is none
+abbrev pub cycle_or_first : Option ℕ → ℕ
+cycle_or_first None = 0
+cycle_or_first (Some cycle) = cycle
+
+-- where an entry writes, with the width of its access, and from which cycle on that is known
 abbrev pub span_in : Width → Entry → Span
-span_in w e = record { addr = addr_of e.outcome; width = w; fault = fault_of e.outcome }
+span_in w e = record { addr = addr_of e.outcome; width = w; fault = fault_of e.outcome; known_from = cycle_or_first e.addr_due }
+
+-- what an entry reads, with the width of its access, and when it issued
+abbrev pub access_in : Width → Entry → Access
+access_in w e = record { addr = addr_of e.outcome; width = w; fault = fault_of e.outcome; cycle = cycle_or_first e.issued }
 
 -- the stores, with where an entry writes if that is noted
 abbrev pub with_span : Bool → Width → Entry → List Store → List Store
@@ -100,6 +183,19 @@ noted_parts addressed filled w e q = record q { stores = parts_in addressed fill
 abbrev pub noted : Width → Entry → Queues → Queues
 noted w e q = noted_parts (has_address e) (has_data e) w e q
 
+-- a load that has issued
+abbrev pub has_read : Entry → Bool
+has_read e = is_load e.item.kind && is_some e.issued
+
+-- the queues once it is noted what an entry reads, where that is asked for and it is a load that has issued
+abbrev pub noted_load : Bool → Width → Entry → Queues → Queues
+noted_load passing w e q =
+    if passing && has_read e then record q { loads = map (issued_at e.serial (access_in w e)) q.loads } else q
+
+-- the queues with the store of this serial cleared
+abbrev pub cleared_in : ℕ → Queues → Queues
+cleared_in serial q = record q { stores = map (cleared_at serial) q.stores }
+
 -- the entry afterwards shows what it showed, but for the parts that are noted
 pub record ShowsParts (addressed filled : Bool) (w : Width) (e e2 : Entry) : Type 0 where
   pub span : (shown_entry e2).span ≡ (if addressed then Some (area_of (span_in w e2)) else (shown_entry e).span)
@@ -113,15 +209,25 @@ pub record PartsGoOn (w : Width) (e e2 : Entry) : Type 0 where
   pub outcome : (has_address e2 || has_data e2) ≡ true → is_some e2.outcome ≡ true
   pub size : bytes_in w ≡ width_of e2
 
+-- what is tracked of it goes on too: an address that is known stays known from the same cycle on, and a load that has issued has an
+-- outcome, with the width of its access
+pub record TracksOn (w : Width) (e e2 : Entry) : Type 0 where
+  pub known : has_address e ≡ true → e2.addr_due ≡ e.addr_due
+  pub cleared : e2.cleared ≡ e.cleared
+  pub unread : is_load e.item.kind ≡ true → has_read e2 ≡ false → e2.issued ≡ e.issued
+  pub size : has_read e2 ≡ true → bytes_in w ≡ width_of e2
+
 -- an entry as far as the queues see it
 pub record Seen : Type 0 where
-  pub load : Option ℕ
+  pub load : Option ShownLoad
   pub store : Option Shown
+  pub clearing : Option ShownClearing
 
 abbrev pub seen : Entry → Seen
 seen e = record {
-  load = if is_load e.item.kind then Some e.serial else None;
+  load = if is_load e.item.kind then Some (shown_reader e) else None;
   store = if is_store e.item.kind then Some (shown_entry e) else None;
+  clearing = if is_store e.item.kind then Some (shown_clearing e) else None;
 }
 
 -- ---- serials
@@ -144,6 +250,10 @@ Others serial es = All (λ e. e.serial ≢ serial) es
 abbrev pub hides : (ℕ → Bool) → Option ℕ → Bool
 hides visible None = false
 hides visible (Some root) = not (visible root)
+
+-- the store isn't cleared, its address is known, and its root, if it has one, is visible
+abbrev pub may_clear_by : (ℕ → Bool) → StoreInfo → Bool
+may_clear_by visible i = not i.cleared && i.known && not (hides visible i.root)
 
 -- of each store among these entries, youngest first, whether its address is tainted
 abbrev pub tainted_stores : SttModel → List Entry → List Bool
