@@ -24,12 +24,12 @@ use Rattle.window_model.proofs.Telling.{retire_few}
 use Rattle.rob_ring.specs.Ring.{Ring}
 use Rattle.rename_taint.specs.declared.Write.{Write}
 use Rattle.rename_taint.specs.Writes.{without_retired}
-use Rattle.lsq.specs.Queues.{Queues}
+use Rattle.lsq.specs.Queues.{Queues, without}
 use Rattle.cache_tags.specs.Sets.{Cache}
 use Rattle.retire.specs.declared.turn.Turn.TheVariants.{Waits, Traps}
 use Rattle.retire.specs.Parts.{IsLeft, PrintsHead, TakesStore, TellsHead, with_effects, with_parts, counted, head_retires, head_told, lines_moved, retires}
 use Rattle.retire.specs.Turn.{Goes, turn_at}
-use Rattle.retire.specs.Gone.{gone, MayRetire, without_each, without, popped}
+use Rattle.retire.specs.Gone.{gone, MayRetire, without_each, popped}
 use Rattle.retire.proofs.Quiet.{quiet}
 use Rattle.retire.proofs.Turns.{head_at, ended, waits, traps, leaves}
 

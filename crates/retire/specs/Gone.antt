@@ -1,13 +1,12 @@
 -- What goes with the entries that retire.
-use Rattle.std.specs.Prelude.{◌≡◌, ℕ, ◌-◌, true, not, ◌==◌, List, [], ◌∷◌, length, take, None}
-use Rattle.std.specs.List.{filter}
+use Rattle.std.specs.Prelude.{◌≡◌, ◌-◌, true, List, [], ◌∷◌, length, take, None}
 use Rattle.window_model.specs.declared.Entry.{Entry}
 use Rattle.window_model.specs.Order.{is_store}
 use Rattle.window_model.specs.Retire.{may_leave, trap_of}
 use Rattle.rob_ring.specs.Ring.{Ring}
 use Rattle.rename_taint.specs.declared.Write.{Write}
 use Rattle.rename_taint.specs.Writes.{without_retired}
-use Rattle.lsq.specs.Queues.{Queues}
+use Rattle.lsq.specs.Queues.{Queues, without}
 
 -- the entries that left: the oldest that there were, as many as there are fewer now
 abbrev pub gone : Ring → Ring → List Entry
@@ -22,11 +21,7 @@ abbrev pub without_each : List Entry → List Write → List Write
 without_each [] writes = writes
 without_each (e ∷ es) writes = without_each es (without_retired e.serial writes)
 
--- the queues without the load or store of this serial
-abbrev pub without : ℕ → Queues → Queues
-without serial q = record q { loads = filter (λ l. not (l == serial)) q.loads; stores = filter (λ s. not (s.serial == serial)) q.stores }
-
--- the queues without those of these entries
+-- the queues without the loads and stores of these entries
 abbrev pub popped : List Entry → Queues → Queues
 popped [] q = q
 popped (e ∷ es) q = popped es (without e.serial q)

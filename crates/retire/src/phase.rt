@@ -6,7 +6,8 @@ ghost use Rattle.window_model.specs.State.{Machine};
 ghost use Rattle.rename_taint.specs.Writes.{without_retired};
 ghost use Rattle.window_model.specs.Rename.{CallAlone};
 ghost use Rattle.retire.specs.Parts.{TakesStore, Tells, with_parts, counted, retires};
-ghost use Rattle.retire.specs.Gone.{gone, MayRetire, without_each, without, popped};
+ghost use Rattle.lsq.specs.Queues.{without};
+ghost use Rattle.retire.specs.Gone.{gone, MayRetire, without_each, popped};
 
 use crate::commit::{commit, tell};
 use crate::turn::{Turn, has_stored, turn_at};

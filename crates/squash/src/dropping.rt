@@ -4,6 +4,7 @@ ghost use Rattle.std.specs.List.{filter};
 ghost use Rattle.window_model.specs.Resolve.{freed_from};
 ghost use Rattle.window_model.specs.Serials.{Rise, below};
 ghost use Rattle.rename_taint.specs.Writes.{before_serial};
+ghost use Rattle.lsq.specs.Queues.{cut_at};
 
 use lsq::Lsq;
 use rename_taint::RenameTaint;
@@ -30,10 +31,7 @@ pub fn squash_after<R: RenameTaint>(
     ensures stations { stations.new ≡ record stations.old {
       held = filter (λ s. nat_lt s.serial first) stations.old.held;
     } }
-    ensures lsq { lsq.new ≡ record lsq.old {
-      loads = filter (λ l. nat_lt l first) lsq.old.loads;
-      stores = filter (λ s. nat_lt s.serial first) lsq.old.stores;
-    } }
+    ensures lsq { lsq.new ≡ cut_at first lsq.old }
     ensures ports { ports.new ≡ record ports.old { divider = freed_from first ports.old.divider } }
 {
     let len = rob.len();
