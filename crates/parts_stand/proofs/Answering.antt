@@ -14,17 +14,16 @@ use Rattle.machine_desc.specs.declared.Desc.{Desc}
 use Rattle.window_model.specs.declared.Entry.{Entry}
 use Rattle.window_model.specs.Along.{Along, Behind, Fact}
 use Rattle.window_model.specs.Around.{Around, is_free}
-use Rattle.window_model.specs.Order.{Place, base_of, before_at, first_from, is_control, is_done, is_waiting, others_of, sources, writer, writes}
-use Rattle.window_model.specs.Ready.{all_known, gives, is_known}
+use Rattle.window_model.specs.Order.{Place, base_of, before_at, first_from, is_control, is_done, is_load, is_waiting, others_of, sources, writer, writes}
+use Rattle.window_model.specs.Ready.{all_known, gives, holds, is_known}
 use Rattle.window_model.specs.Resolve.{may_resolve}
 use Rattle.window_model.specs.Issue.{goes_behind, may_issue_as}
-use Rattle.window_model.specs.Taint.{tainted, any_tainted, address_tainted}
+use Rattle.window_model.specs.Taint.{tainted, any_tainted, address_tainted, visible}
 use Rattle.window_model.proofs.Booleans.{or_false}
 use Rattle.window_model.proofs.Counts.{count, count_is, count_pushed}
-use Rattle.window_model.proofs.Withheld.{gives_done}
 use Rattle.rename_taint.specs.Writes.{root_of}
 use Rattle.rename_taint.specs.Writes as writing
-use Rattle.stations.specs.Stations.{Station, able_as, awaits_none, nothing_at, source_of}
+use Rattle.stations.specs.Stations.{Station, able_as, nothing_at, source_of}
 use Rattle.stations.specs.declared.wants.Part.{Part}
 use Rattle.stations.specs.declared.wants.Part.TheVariants as part
 use Rattle.stations.specs.declared.wants.Wants.{Wants}
@@ -33,9 +32,9 @@ use Rattle.visibility.specs.Point.{Point, HasAdvanced, HasMoved, is_hidden}
 use Rattle.branch_resolve.specs.Pick.{can_resolve, pick_from}
 use Rattle.transmit_gate.specs.Gate.{may_transmit}
 use Rattle.parts_stand.specs.Roots.{youngest_root, root_of_source, source_roots, unretired}
-use Rattle.parts_stand.specs.Parts.{RootsStand, Waiter, awaited, awaited_of, oldest_of, waiter_in, waiter_of, waiters_from, wants_of, writes_in}
+use Rattle.parts_stand.specs.Parts.{Hold, Parts, RootsStand, Waiter, awaited, awaited_of, gives_at, oldest_of, waiter_in, waiter_of, waiters_from, wants_of, writes_in}
 use Rattle.parts_stand.specs.Steps.{station_of}
-use Rattle.parts_stand.specs.Telling.{CountsRoom, CountsStations, FindsAwaited, FindsWriter, HasStation, HoldsOlderOnes, NamesEntry, NamesRoot, NamesWriter, OperandsTold, PicksFirst, TellsAble, TellsIssue, TellsOperands, TellsPart, StationsOlder, StationsYounger, TellsReady, TellsTaint, TellsVisible, asks_besides, entry_of, has_sources, own_of}
+use Rattle.parts_stand.specs.Telling.{CountsRoom, CountsStations, FindsAwaited, FindsWriter, HasStation, HoldsBy, HoldsOlderOnes, NamesEntry, NamesRoot, NamesWriter, OperandsTold, PicksFirst, TellsAble, TellsGiven, TellsIssue, TellsOperands, TellsPart, StationsOlder, StationsYounger, TellsReady, TellsTaint, TellsVisible, asks_besides, entry_of, has_sources, hold_of, own_of}
 use Rattle.window_model.specs.Serials.{Rise}
 use Rattle.window_model.proofs.Serials.{Falls, behind, behind_at, falls, rise_head}
 use Rattle.parts_stand.proofs.Serials.{oldest_least}
@@ -49,7 +48,7 @@ pub counts_room : CountsRoom
 counts_room p s = record {
   roots = as_many (oldest_of p.next p.window) [] p.window p.roots s.roots;
   writes = let a = ap length s.writes in let b = few_writes p.window p.roots in omega (arith, a, b);
-  held = sym (length-map p.held waiter_in) ∙ ap length s.held ∙ waiters_count p.version [] p.window ∙ count_is (λ e. is_waiting e.state) p.window;
+  held = sym (length-map p.held waiter_in) ∙ ap length s.held ∙ waiters_count p.version p.hold [] p.window ∙ count_is (λ e. is_waiting e.state) p.window;
 }
 
 of_waiters : (n : ℕ) (held : List Station) → All (λ w. w.serial < n) (map waiter_in held) → All (λ s. s.serial < n) held
@@ -59,7 +58,7 @@ of_waiters n (s ∷ held) a = All-cons (λ s. s.serial < n) s held (All-head (λ
 pub holds_older : HoldsOlderOnes
 holds_older p s = record {
   writes = subst (All (λ w. w.serial < p.next)) (sym s.writes) (writes_have (λ n. n < p.next) p.window p.roots s.next);
-  held = of_waiters p.next p.held (subst (All (λ w. w.serial < p.next)) (sym s.held) (waiters_have p.version (λ n. n < p.next) [] p.window s.next));
+  held = of_waiters p.next p.held (subst (All (λ w. w.serial < p.next)) (sym s.held) (waiters_have p.version p.hold (λ n. n < p.next) [] p.window s.next));
 }
 
 -- ---- writers
@@ -74,7 +73,7 @@ pub finds_writer : FindsWriter
 finds_writer p r s = ap (entry_of p.window) (names_writer p r s) ∙ found r p.window s.rise (writer (reverse p.window) r) refl
 
 pub finds_awaited : FindsAwaited
-finds_awaited p r s = ap awaited_of (finds_writer p r s)
+finds_awaited p r s = ap (awaited_of p.hold) (finds_writer p r s)
 
 -- ---- stations
 
@@ -91,8 +90,8 @@ pub has_station : HasStation
 has_station p i e s h w =
     let is =
     sym (slice_get-map waiter_in p.held (station_of i p.window)) ∙ ap (λ ws. slice_get ws (station_of i p.window)) s.held
-    ∙ ap (slice_get (waiters_from p.version [] p.window)) (sym (count_is (λ e. is_waiting e.state) (take i p.window))) ∙ station_is p.version [] p.window i e h w in
-    record { within = some_within p.held (station_of i p.window) (within_map waiter_in (slice_get p.held (station_of i p.window)) (waiter_of p.version (before_at p.window i) e) is); is = is }
+    ∙ ap (slice_get (waiters_from p.version p.hold [] p.window)) (sym (count_is (λ e. is_waiting e.state) (take i p.window))) ∙ station_is p.version p.hold [] p.window i e h w in
+    record { within = some_within p.held (station_of i p.window) (within_map waiter_in (slice_get p.held (station_of i p.window)) (waiter_of p.version p.hold (before_at p.window i) e) is); is = is }
 
 pub counts_stations : CountsStations
 counts_stations window i e h =
@@ -131,80 +130,104 @@ stations_younger window i m e e2 lt h w n =
     let k = fewer window i m e e2 lt h w n in
     omega (arith, a, b, k)
 
-none_awaited : (d : Desc) (before : List Entry) (r : ℕ) → is_none (awaited_of (writer before r)) ≡ is_known d before r
-none_awaited d [] r = refl
-none_awaited d (e ∷ before) r = by_writer (writes r e) (none_awaited d before r)
-  where
-    by_done : (b : Bool) → is_none (if b then None else Some e.serial) ≡ b
-    by_done true = refl
-    by_done false = refl
+-- ---- what is ready
 
-    by_writer : (w : Bool) → is_none (awaited_of (writer before r)) ≡ is_known d before r → is_none (awaited_of (if w then Some e else writer before r)) ≡ (if w then gives d before e else is_known d before r)
-    by_writer true h = by_done (is_done e.state) ∙ sym (gives_done d before e)
-    by_writer false h = h
+-- an older entry gives its value by what results are held back by where it does by the machine's definition
+abbrev GivesAlike : Desc → Hold → Fact
+GivesAlike d hold before e = gives_at hold e ≡ gives d before e
 
-ready_by : (d : Desc) (before : List Entry) (rs : List ℕ) → length rs ≤ 2 → list_all is_none (map (awaited before) (two rs)) ≡ list_all (is_known d before) rs
-ready_by d before [] le = refl
-ready_by d before (a ∷ []) le = ap (λ b. b && true) (none_awaited d before a)
-ready_by d before (a ∷ b ∷ []) le = ap₂ (λ p q. p && (q && true)) (none_awaited d before a) (none_awaited d before b)
-ready_by d before (a ∷ b ∷ c ∷ rs) le = absurd (omega (arith, le))
+alike_behind : (d : Desc) (point : Point) (before : List Entry) → point.model ≡ d.stt_model → Behind (Tells point) before → Behind (GivesAlike d (hold_of d point)) before
+alike_behind d point [] q t = tt
+alike_behind d point (e ∷ before) q t =
+    (ap (λ v. not (holds d.stt_defence && is_load e.item.kind && not v) && is_done e.state) (t.0 ∙ ap (λ m. visible m before) q), alike_behind d point before q t.1)
 
-awaits_as : (o : Option Station) → option_map awaits_none o ≡ option_map (λ (w : Waiter). list_all is_none w.awaits) (option_map waiter_in o)
-awaits_as None = refl
-awaits_as (Some s) = refl
+along_window : (point : Point) (es : List Entry) → HasAdvanced point es → Along (Tells point) [] es
+along_window point [] m = tt
+along_window point (e ∷ es) m = m.each
 
-pub tells_ready : TellsReady
-tells_ready d p i e s h w =
-    awaits_as (slice_get p.held (station_of i p.window)) ∙ ap (option_map (λ (w : Waiter). list_all is_none w.awaits)) (has_station p i e s h w).is
-    ∙ ap Some (ready_by d (before_at p.window i) (sources e) (few_reads e.item.instr))
+-- so it is with those before each position
+alike_at : (d : Desc) (p : Parts) (point : Point) (i : ℕ) → HoldsBy d p point → Behind (GivesAlike d p.hold) (before_at p.window i)
+alike_at d p point i b =
+    subst (λ h. Behind (GivesAlike d h) (before_at p.window i)) (sym b.hold)
+    (alike_behind d point (before_at p.window i) b.model (behind_at (Tells point) [] p.window i tt (along_window point p.window b.advanced)))
 
-and_true : (b : Bool) → (b && true) ≡ b
-and_true true = refl
-and_true false = refl
+module _ (d : Desc) (hold : Hold) where
+  none_awaited : (before : List Entry) (r : ℕ) → Behind (GivesAlike d hold) before → is_none (awaited_of hold (writer before r)) ≡ is_known d before r
+  none_awaited [] r k = refl
+  none_awaited (e ∷ before) r k = by_writer (writes r e) (none_awaited before r k.1)
+    where
+      by_given : (b : Bool) → is_none (if b then None else Some e.serial) ≡ b
+      by_given true = refl
+      by_given false = refl
 
-or_none : (a b : Bool) → (a || (b || false)) ≡ (a || b)
-or_none true b = refl
-or_none false b = or_false b
+      by_writer : (w : Bool) → is_none (awaited_of hold (writer before r)) ≡ is_known d before r → is_none (awaited_of hold (if w then Some e else writer before r)) ≡ (if w then gives d before e else is_known d before r)
+      by_writer true h = by_given (gives_at hold e) ∙ k.0
+      by_writer false h = h
 
--- each source by itself
-part_by : (part : Part) (d : Desc) (before : List Entry) (rs : List ℕ) → length rs ≤ 2 → nothing_at (source_of part) (map (awaited before) (two rs)) ≡ all_known d before (own_of part rs)
-part_by part.Base d before [] le = refl
-part_by part.Other d before [] le = refl
-part_by part.Base d before (a ∷ []) le = none_awaited d before a ∙ sym (and_true (is_known d before a))
-part_by part.Other d before (a ∷ []) le = refl
-part_by part.Base d before (a ∷ b ∷ []) le = none_awaited d before a ∙ sym (and_true (is_known d before a))
-part_by part.Other d before (a ∷ b ∷ []) le = none_awaited d before b ∙ sym (and_true (is_known d before b))
-part_by part d before (a ∷ b ∷ c ∷ rs) le = absurd (omega (arith, le))
+  ready_by : (before : List Entry) (rs : List ℕ) → Behind (GivesAlike d hold) before → length rs ≤ 2 → list_all is_none (map (awaited hold before) (two rs)) ≡ list_all (is_known d before) rs
+  ready_by before [] k le = refl
+  ready_by before (a ∷ []) k le = ap (λ b. b && true) (none_awaited before a k)
+  ready_by before (a ∷ b ∷ []) k le = ap₂ (λ p q. p && (q && true)) (none_awaited before a k) (none_awaited before b k)
+  ready_by before (a ∷ b ∷ c ∷ rs) k le = absurd (omega (arith, le))
 
-either_by : (d : Desc) (before : List Entry) (rs : List ℕ) → length rs ≤ 2 → list_any is_none (map (awaited before) (two rs)) ≡ (all_known d before (base_of rs) || all_known d before (others_of rs))
-either_by d before [] le = refl
-either_by d before (a ∷ []) le = or_none (is_none (awaited before (Some a))) true ∙ ap (λ b. b || true) (none_awaited d before a ∙ sym (and_true (is_known d before a)))
-either_by d before (a ∷ b ∷ []) le =
-    or_none (is_none (awaited before (Some a))) (is_none (awaited before (Some b)))
-    ∙ ap₂ (λ p q. p || q) (none_awaited d before a ∙ sym (and_true (is_known d before a))) (none_awaited d before b ∙ sym (and_true (is_known d before b)))
-either_by d before (a ∷ b ∷ c ∷ rs) le = absurd (omega (arith, le))
+  -- a source that is known is known, and so are all of one
+  one_known : (before : List Entry) (r : ℕ) → Behind (GivesAlike d hold) before → is_none (awaited_of hold (writer before r)) ≡ all_known d before (r ∷ [])
+  one_known before r k = none_awaited before r k ∙ sym (and_true (is_known d before r))
+    where
+      and_true : (b : Bool) → (b && true) ≡ b
+      and_true true = refl
+      and_true false = refl
 
-able_by : (w : Wants) (d : Desc) (before : List Entry) (e : Entry) → able_as w (map (awaited before) (two (sources e))) ≡ has_sources w d before e
-able_by wants.Whole d before e = ready_by d before (sources e) (few_reads e.item.instr)
-able_by wants.Either d before e = either_by d before (sources e) (few_reads e.item.instr)
-able_by wants.Base d before e = part_by part.Base d before (sources e) (few_reads e.item.instr)
-able_by wants.Other d before e = part_by part.Other d before (sources e) (few_reads e.item.instr)
+  -- each source by itself
+  part_by : (part : Part) (before : List Entry) (rs : List ℕ) → Behind (GivesAlike d hold) before → length rs ≤ 2 →
+      nothing_at (source_of part) (map (awaited hold before) (two rs)) ≡ all_known d before (own_of part rs)
+  part_by part.Base before [] k le = refl
+  part_by part.Other before [] k le = refl
+  part_by part.Base before (a ∷ []) k le = one_known before a k
+  part_by part.Other before (a ∷ []) k le = refl
+  part_by part.Base before (a ∷ b ∷ []) k le = one_known before a k
+  part_by part.Other before (a ∷ b ∷ []) k le = one_known before b k
+  part_by part before (a ∷ b ∷ c ∷ rs) k le = absurd (omega (arith, le))
+
+  or_none : (a b : Bool) → (a || (b || false)) ≡ (a || b)
+  or_none true b = refl
+  or_none false b = or_false b
+
+  either_by : (before : List Entry) (rs : List ℕ) → Behind (GivesAlike d hold) before → length rs ≤ 2 →
+      list_any is_none (map (awaited hold before) (two rs)) ≡ (all_known d before (base_of rs) || all_known d before (others_of rs))
+  either_by before [] k le = refl
+  either_by before (a ∷ []) k le = or_none (is_none (awaited hold before (Some a))) true ∙ ap (λ b. b || true) (one_known before a k)
+  either_by before (a ∷ b ∷ []) k le =
+      or_none (is_none (awaited hold before (Some a))) (is_none (awaited hold before (Some b))) ∙ ap₂ (λ p q. p || q) (one_known before a k) (one_known before b k)
+  either_by before (a ∷ b ∷ c ∷ rs) k le = absurd (omega (arith, le))
+
+  able_by : (w : Wants) (before : List Entry) (e : Entry) → Behind (GivesAlike d hold) before → able_as w (map (awaited hold before) (two (sources e))) ≡ has_sources w d before e
+  able_by wants.Whole before e k = ready_by before (sources e) k (few_reads e.item.instr)
+  able_by wants.Either before e k = either_by before (sources e) k (few_reads e.item.instr)
+  able_by wants.Base before e k = part_by part.Base before (sources e) k (few_reads e.item.instr)
+  able_by wants.Other before e k = part_by part.Other before (sources e) k (few_reads e.item.instr)
 
 -- a test of what a station wants and awaits is one of its waiter
 tested_as : (t : Wants → List (Option ℕ) → Bool) (o : Option Station) → option_map (λ s. t s.wants s.awaits) o ≡ option_map (λ (w : Waiter). t w.wants w.awaits) (option_map waiter_in o)
 tested_as t None = refl
 tested_as t (Some s) = refl
 
+pub tells_ready : TellsReady
+tells_ready d p point i e s b h w =
+    tested_as (λ wants awaits. list_all is_none awaits) (slice_get p.held (station_of i p.window))
+    ∙ ap (option_map (λ (w : Waiter). list_all is_none w.awaits)) (has_station p i e s h w).is
+    ∙ ap Some (ready_by d p.hold (before_at p.window i) (sources e) (alike_at d p point i b) (few_reads e.item.instr))
+
 pub tells_able : TellsAble
-tells_able d p i e s h w =
+tells_able d p point i e s b h w =
     tested_as able_as (slice_get p.held (station_of i p.window)) ∙ ap (option_map (λ (w : Waiter). able_as w.wants w.awaits)) (has_station p i e s h w).is
-    ∙ ap Some (able_by (wants_of p.version e) d (before_at p.window i) e)
+    ∙ ap Some (able_by d p.hold (wants_of p.version e) (before_at p.window i) e (alike_at d p point i b))
 
 pub tells_part : TellsPart
-tells_part part d p i e s h w =
+tells_part part d p point i e s b h w =
     tested_as (λ wants awaits. nothing_at (source_of part) awaits) (slice_get p.held (station_of i p.window))
     ∙ ap (option_map (λ (w : Waiter). nothing_at (source_of part) w.awaits)) (has_station p i e s h w).is
-    ∙ ap Some (part_by part d (before_at p.window i) (sources e) (few_reads e.item.instr))
+    ∙ ap Some (part_by d p.hold part (before_at p.window i) (sources e) (alike_at d p point i b) (few_reads e.item.instr))
 
 -- ---- roots
 
@@ -232,6 +255,21 @@ along_at P before (x ∷ es) (suc i) e k h = along_at P (x ∷ before) es i e k.
 pub tells_visible : TellsVisible
 tells_visible point [] i e m h = absurd (cc)
 tells_visible point (x ∷ es) i e m h = along_at (Tells point) [] (x ∷ es) i e m.each h
+
+pub tells_given : TellsGiven
+tells_given d p point i e b h =
+    ap (λ hold. gives_at hold e) b.hold
+    ∙ ap (λ v. not (holds d.stt_defence && is_load e.item.kind && not v) && is_done e.state) (tells_visible point p.window i e b.advanced h ∙ ap (λ m. visible m (before_at p.window i)) b.model)
+
+-- the oldest entry is visible, so it gives its value once it is Done
+pub head_gives : (d : Desc) (p : Parts) (point : Point) (head : Entry) → HoldsBy d p point → slice_get p.window 0 ≡ Some head → is_done head.state ≡ true → gives_at p.hold head ≡ true
+head_gives d p point head b h done =
+    tells_given d p point 0 head b h ∙ ap (λ b. b && is_done head.state) (none_held (holds d.stt_defence) (is_load head.item.kind)) ∙ done
+  where
+    none_held : (a b : Bool) → not (a && b && not true) ≡ true
+    none_held true true = refl
+    none_held true false = refl
+    none_held false b = refl
 
 pub tells_taint : TellsTaint
 tells_taint p point r s m = by_window p.window p.roots s.rise s.roots m (names_root p r s) s.writes

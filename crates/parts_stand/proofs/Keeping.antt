@@ -1,27 +1,24 @@
 -- Roots by position and stations, as entries come, go on and leave.
-use Rattle.std.proofs.Common.{◌≡◌, ℕ, zero, suc, ◌+◌, ◌<◌, ◌≤◌, Bool, true, false, cond, List, [], ◌∷◌, ◌++◌, length, take, Option, Some, None, refl, ap, ap₂, sym, ◌∙◌, arith, subst, slice_get}
-use Rattle.std.specs.Prelude.{if◌then◌else◌, map, ◌==◌, slice_set}
+use Rattle.std.proofs.Common.{◌≡◌, ℕ, zero, suc, ◌+◌, ◌<◌, ◌≤◌, Bool, true, false, not, ◌&&◌, cond, List, [], ◌∷◌, ◌++◌, length, take, Option, Some, None, refl, ap, ap₂, sym, ◌∙◌, arith, subst, slice_get}
+use Rattle.std.specs.Prelude.{if◌then◌else◌, map, nat_le, slice_set}
 use Rattle.std.specs.List.{All, AllZip, cons_option, remove}
 use Rattle.std.specs.Option.{option_map}
-use Rattle.std.proofs.lemmas.Bool.Decides.{nat_tests}
 use Rattle.std.proofs.lemmas.List.Elements.{All-nil, All-cons, All-head, All-tail}
 use mathlib.Core.List.{reverse_aux}
 use Rattle.rv_types.specs.Regs.{reads_of, writes_of, two}
 use Rattle.window_model.specs.declared.Entry.{Entry}
 use Rattle.window_model.specs.declared.Item.{Item}
-use Rattle.window_model.specs.declared.Progress.TheVariants.{Done}
-use Rattle.window_model.specs.Order.{is_waiting, is_done, is_register, writer, writes, sources}
+use Rattle.window_model.specs.Order.{is_waiting, is_done, is_load, is_register, writer, writes, sources}
 use Rattle.window_model.proofs.Counts.{count}
 use Rattle.window_model.proofs.EntryByEntry.{zip_same}
 use Rattle.rename_taint.specs.Writes.{root_written}
-use Rattle.stations.specs.Stations.{strike}
 use Rattle.parts_stand.specs.Roots.{youngest_root, root_of_source, source_roots, unretired}
 use Rattle.stations.specs.declared.wants.Wants.{Wants}
-use Rattle.parts_stand.specs.Parts.{RootsStand, Waiter, awaited, awaited_of, oldest_of, waiter_of, waiters_from, wants_of, writes_in}
+use Rattle.parts_stand.specs.Parts.{Hold, RootsStand, Waiter, awaited, awaited_of, gives_at, oldest_of, waiter_of, waiters_from, wants_of, writes_in}
 use Rattle.parts_stand.specs.Steps.{GoesOn}
 use Rattle.window_model.specs.Serials.{Rise}
-use Rattle.window_model.proofs.Serials.{rise_cons, rise_head, rise_tail, all_at}
-use Rattle.parts_stand.proofs.Youngest.{kept_all_twice, kept_sources, map_same, map_twice, root_without}
+use Rattle.window_model.proofs.Serials.{rise_cons, rise_head, rise_tail}
+use Rattle.parts_stand.proofs.Youngest.{kept_all_twice, kept_sources, map_same, root_without}
 
 -- ---- roots by position
 
@@ -127,52 +124,52 @@ zip_set R same (x ∷ es) (suc i) e e2 h g = (same x, zip_set R same es i e e2 h
 
 -- ---- stations
 
-pub waiters_join : (version : ℕ) (before a b : List Entry) → waiters_from version before (a ++ b) ≡ waiters_from version before a ++ waiters_from version (reverse_aux a before) b
-waiters_join version before [] b = refl
-waiters_join version before (e ∷ a) b = by_wait (is_waiting e.state) (waiters_join version (e ∷ before) a b)
+pub waiters_join : (version : ℕ) (hold : Hold) (before a b : List Entry) → waiters_from version hold before (a ++ b) ≡ waiters_from version hold before a ++ waiters_from version hold (reverse_aux a before) b
+waiters_join version hold before [] b = refl
+waiters_join version hold before (e ∷ a) b = by_wait (is_waiting e.state) (waiters_join version hold (e ∷ before) a b)
   where
-    by_wait : (w : Bool) → waiters_from version (e ∷ before) (a ++ b) ≡ waiters_from version (e ∷ before) a ++ waiters_from version (reverse_aux a (e ∷ before)) b →
-        (if w then waiter_of version before e ∷ waiters_from version (e ∷ before) (a ++ b) else waiters_from version (e ∷ before) (a ++ b))
-        ≡ (if w then waiter_of version before e ∷ waiters_from version (e ∷ before) a else waiters_from version (e ∷ before) a) ++ waiters_from version (reverse_aux a (e ∷ before)) b
-    by_wait true h = ap (λ ws. waiter_of version before e ∷ ws) h
+    by_wait : (w : Bool) → waiters_from version hold (e ∷ before) (a ++ b) ≡ waiters_from version hold (e ∷ before) a ++ waiters_from version hold (reverse_aux a (e ∷ before)) b →
+        (if w then waiter_of version hold before e ∷ waiters_from version hold (e ∷ before) (a ++ b) else waiters_from version hold (e ∷ before) (a ++ b))
+        ≡ (if w then waiter_of version hold before e ∷ waiters_from version hold (e ∷ before) a else waiters_from version hold (e ∷ before) a) ++ waiters_from version hold (reverse_aux a (e ∷ before)) b
+    by_wait true h = ap (λ ws. waiter_of version hold before e ∷ ws) h
     by_wait false h = h
 
 -- a fact of serials that all entries have
-pub waiters_have : (version : ℕ) (P : ℕ → Type 0) (before es : List Entry) → All (λ e. P e.serial) es → All (λ w. P w.serial) (waiters_from version before es)
-waiters_have version P before [] a = All-nil (λ w. P w.serial)
-waiters_have version P before (e ∷ es) a = by_wait (is_waiting e.state) (waiters_have version P (e ∷ before) es (All-tail (λ e. P e.serial) e es a))
+pub waiters_have : (version : ℕ) (hold : Hold) (P : ℕ → Type 0) (before es : List Entry) → All (λ e. P e.serial) es → All (λ w. P w.serial) (waiters_from version hold before es)
+waiters_have version hold P before [] a = All-nil (λ w. P w.serial)
+waiters_have version hold P before (e ∷ es) a = by_wait (is_waiting e.state) (waiters_have version hold P (e ∷ before) es (All-tail (λ e. P e.serial) e es a))
   where
-    by_wait : (w : Bool) → All (λ w. P w.serial) (waiters_from version (e ∷ before) es) → All (λ w. P w.serial) (if w then waiter_of version before e ∷ waiters_from version (e ∷ before) es else waiters_from version (e ∷ before) es)
-    by_wait true h = All-cons (λ w. P w.serial) (waiter_of version before e) (waiters_from version (e ∷ before) es) (All-head (λ e. P e.serial) e es a) h
+    by_wait : (w : Bool) → All (λ w. P w.serial) (waiters_from version hold (e ∷ before) es) → All (λ w. P w.serial) (if w then waiter_of version hold before e ∷ waiters_from version hold (e ∷ before) es else waiters_from version hold (e ∷ before) es)
+    by_wait true h = All-cons (λ w. P w.serial) (waiter_of version hold before e) (waiters_from version hold (e ∷ before) es) (All-head (λ e. P e.serial) e es a) h
     by_wait false h = h
 
-pub waiters_count : (version : ℕ) (before es : List Entry) → length (waiters_from version before es) ≡ count (λ e. is_waiting e.state) es
-waiters_count version before [] = refl
-waiters_count version before (e ∷ es) = by_wait (is_waiting e.state) (waiters_count version (e ∷ before) es)
+pub waiters_count : (version : ℕ) (hold : Hold) (before es : List Entry) → length (waiters_from version hold before es) ≡ count (λ e. is_waiting e.state) es
+waiters_count version hold before [] = refl
+waiters_count version hold before (e ∷ es) = by_wait (is_waiting e.state) (waiters_count version hold (e ∷ before) es)
   where
-    by_wait : (w : Bool) → length (waiters_from version (e ∷ before) es) ≡ count (λ e. is_waiting e.state) es →
-        length (if w then waiter_of version before e ∷ waiters_from version (e ∷ before) es else waiters_from version (e ∷ before) es) ≡ cond w 1 0 + count (λ e. is_waiting e.state) es
+    by_wait : (w : Bool) → length (waiters_from version hold (e ∷ before) es) ≡ count (λ e. is_waiting e.state) es →
+        length (if w then waiter_of version hold before e ∷ waiters_from version hold (e ∷ before) es else waiters_from version hold (e ∷ before) es) ≡ cond w 1 0 + count (λ e. is_waiting e.state) es
     by_wait true h = omega (arith, h)
     by_wait false h = omega (arith, h)
 
--- what the oldest entry's leaving changes for those that look back: nothing, where it is Done
-awaited_without : (before : List Entry) (h : Entry) → is_done h.state ≡ true → (o : Option ℕ) → awaited (before ++ h ∷ []) o ≡ awaited before o
-awaited_without before h d None = refl
-awaited_without [] h d (Some r) = by_writes (writes r h)
+-- what the oldest entry's leaving changes for those that look back: nothing, where it gives its value
+awaited_without : (hold : Hold) (before : List Entry) (h : Entry) → gives_at hold h ≡ true → (o : Option ℕ) → awaited hold (before ++ h ∷ []) o ≡ awaited hold before o
+awaited_without hold before h d None = refl
+awaited_without hold [] h d (Some r) = by_writes (writes r h)
   where
-    by_writes : (b : Bool) → awaited_of (cond b (Some h) None) ≡ None
+    by_writes : (b : Bool) → awaited_of hold (cond b (Some h) None) ≡ None
     by_writes true = ap (λ b. if b then None else Some h.serial) d
     by_writes false = refl
-awaited_without (e ∷ before) h d (Some r) = by_writes (writes r e) (awaited_without before h d (Some r))
+awaited_without hold (e ∷ before) h d (Some r) = by_writes (writes r e) (awaited_without hold before h d (Some r))
   where
-    by_writes : (b : Bool) → awaited_of (writer (before ++ h ∷ []) r) ≡ awaited_of (writer before r) → awaited_of (cond b (Some e) (writer (before ++ h ∷ []) r)) ≡ awaited_of (cond b (Some e) (writer before r))
+    by_writes : (b : Bool) → awaited_of hold (writer (before ++ h ∷ []) r) ≡ awaited_of hold (writer before r) → awaited_of hold (cond b (Some e) (writer (before ++ h ∷ []) r)) ≡ awaited_of hold (cond b (Some e) (writer before r))
     by_writes true k = refl
     by_writes false k = k
 
-pub waiters_rest : (version : ℕ) (before es : List Entry) (h : Entry) → is_done h.state ≡ true → waiters_from version (before ++ h ∷ []) es ≡ waiters_from version before es
-waiters_rest version before [] h d = refl
-waiters_rest version before (e ∷ es) h d =
-    ap₂ (λ a ws. if is_waiting e.state then record { serial = e.serial; awaits = a; wants = wants_of version e } ∷ ws else ws) (map_same (awaited (before ++ h ∷ [])) (awaited before) (two (sources e)) (awaited_without before h d)) (waiters_rest version (e ∷ before) es h d)
+pub waiters_rest : (version : ℕ) (hold : Hold) (before es : List Entry) (h : Entry) → gives_at hold h ≡ true → waiters_from version hold (before ++ h ∷ []) es ≡ waiters_from version hold before es
+waiters_rest version hold before [] h d = refl
+waiters_rest version hold before (e ∷ es) h d =
+    ap₂ (λ a ws. if is_waiting e.state then record { serial = e.serial; awaits = a; wants = wants_of version e } ∷ ws else ws) (map_same (awaited hold (before ++ h ∷ [])) (awaited hold before) (two (sources e)) (awaited_without hold before h d)) (waiters_rest version hold (e ∷ before) es h d)
 
 -- ---- entries that are Done as before
 
@@ -199,31 +196,37 @@ still_goes [] (e2 ∷ es2) v = absurd v
 still_goes (e ∷ es) [] v = absurd v
 still_goes (e ∷ es) (e2 ∷ es2) v = (v.0.steady.on, still_goes es es2 v.1)
 
-awaited_steady : (b b2 : List Entry) → AllZip Steady b b2 → (o : Option ℕ) → awaited b2 o ≡ awaited b o
-awaited_steady b b2 v None = refl
-awaited_steady [] [] v (Some r) = refl
-awaited_steady [] (e2 ∷ b2) v (Some r) = absurd v
-awaited_steady (e ∷ b) [] v (Some r) = absurd v
-awaited_steady (e ∷ b) (e2 ∷ b2) v (Some r) =
-    ap (λ (i : Item). awaited_of (cond (is_register r (writes_of i.instr)) (Some e2) (writer b2 r))) v.0.on.item ∙ by_writes (writes r e) (awaited_steady b b2 v.1 (Some r))
+-- it gives its value or not as it did
+gives_steady : (hold : Hold) (e e2 : Entry) → Steady e e2 → gives_at hold e2 ≡ gives_at hold e
+gives_steady hold e e2 g =
+    ap₂ (λ (i : Item) (s : ℕ). not (hold.holds && is_load i.kind && not (nat_le s hold.point)) && is_done e2.state) g.on.item g.on.serial
+    ∙ ap (λ d. not (hold.holds && is_load e.item.kind && not (nat_le e.serial hold.point)) && d) g.done
+
+awaited_steady : (hold : Hold) (b b2 : List Entry) → AllZip Steady b b2 → (o : Option ℕ) → awaited hold b2 o ≡ awaited hold b o
+awaited_steady hold b b2 v None = refl
+awaited_steady hold [] [] v (Some r) = refl
+awaited_steady hold [] (e2 ∷ b2) v (Some r) = absurd v
+awaited_steady hold (e ∷ b) [] v (Some r) = absurd v
+awaited_steady hold (e ∷ b) (e2 ∷ b2) v (Some r) =
+    ap (λ (i : Item). awaited_of hold (cond (is_register r (writes_of i.instr)) (Some e2) (writer b2 r))) v.0.on.item ∙ by_writes (writes r e) (awaited_steady hold b b2 v.1 (Some r))
   where
-    by_writes : (w : Bool) → awaited_of (writer b2 r) ≡ awaited_of (writer b r) → awaited_of (cond w (Some e2) (writer b2 r)) ≡ awaited_of (cond w (Some e) (writer b r))
-    by_writes true h = ap₂ (λ (d : Bool) (s : ℕ). if d then None else Some s) v.0.done v.0.on.serial
+    by_writes : (w : Bool) → awaited_of hold (writer b2 r) ≡ awaited_of hold (writer b r) → awaited_of hold (cond w (Some e2) (writer b2 r)) ≡ awaited_of hold (cond w (Some e) (writer b r))
+    by_writes true h = ap₂ (λ (d : Bool) (s : ℕ). if d then None else Some s) (gives_steady hold e e2 v.0) v.0.on.serial
     by_writes false h = h
 
-waiter_steady : (version : ℕ) (b b2 : List Entry) (e e2 : Entry) → AllZip Steady b b2 → GoesOn e e2 →
-    waiter_of version b2 e2 ≡ record (waiter_of version b e) { wants = wants_of version e2 }
-waiter_steady version b b2 e e2 v g =
-    ap₂ (λ (s : ℕ) (i : Item). record { serial = s; awaits = map (awaited b2) (two (reads_of i.instr)); wants = wants_of version e2 }) g.serial g.item
-    ∙ ap (λ os. record { serial = e.serial; awaits = os; wants = wants_of version e2 }) (map_same (awaited b2) (awaited b) (two (sources e)) (awaited_steady b b2 v))
+waiter_steady : (version : ℕ) (hold : Hold) (b b2 : List Entry) (e e2 : Entry) → AllZip Steady b b2 → GoesOn e e2 →
+    waiter_of version hold b2 e2 ≡ record (waiter_of version hold b e) { wants = wants_of version e2 }
+waiter_steady version hold b b2 e e2 v g =
+    ap₂ (λ (s : ℕ) (i : Item). record { serial = s; awaits = map (awaited hold b2) (two (reads_of i.instr)); wants = wants_of version e2 }) g.serial g.item
+    ∙ ap (λ os. record { serial = e.serial; awaits = os; wants = wants_of version e2 }) (map_same (awaited hold b2) (awaited hold b) (two (sources e)) (awaited_steady hold b b2 v))
 
-pub waiters_still : (version : ℕ) (b b2 es es2 : List Entry) → AllZip Steady b b2 → AllZip Still es es2 → waiters_from version b2 es2 ≡ waiters_from version b es
-waiters_still version b b2 [] [] u v = refl
-waiters_still version b b2 [] (e2 ∷ es2) u v = absurd v
-waiters_still version b b2 (e ∷ es) [] u v = absurd v
-waiters_still version b b2 (e ∷ es) (e2 ∷ es2) u v =
-    ap (λ t. if t then waiter_of version b2 e2 ∷ waiters_from version (e2 ∷ b2) es2 else waiters_from version (e2 ∷ b2) es2) v.0.waits
-    ∙ ap₂ (λ w ws. if is_waiting e.state then w ∷ ws else ws) (waiter_steady version b b2 e e2 u v.0.steady.on ∙ ap (λ w. record (waiter_of version b e) { wants = w }) (v.0.wants version)) (waiters_still version (e ∷ b) (e2 ∷ b2) es es2 (v.0.steady, u) v.1)
+pub waiters_still : (version : ℕ) (hold : Hold) (b b2 es es2 : List Entry) → AllZip Steady b b2 → AllZip Still es es2 → waiters_from version hold b2 es2 ≡ waiters_from version hold b es
+waiters_still version hold b b2 [] [] u v = refl
+waiters_still version hold b b2 [] (e2 ∷ es2) u v = absurd v
+waiters_still version hold b b2 (e ∷ es) [] u v = absurd v
+waiters_still version hold b b2 (e ∷ es) (e2 ∷ es2) u v =
+    ap (λ t. if t then waiter_of version hold b2 e2 ∷ waiters_from version hold (e2 ∷ b2) es2 else waiters_from version hold (e2 ∷ b2) es2) v.0.waits
+    ∙ ap₂ (λ w ws. if is_waiting e.state then w ∷ ws else ws) (waiter_steady version hold b b2 e e2 u v.0.steady.on ∙ ap (λ w. record (waiter_of version hold b e) { wants = w }) (v.0.wants version)) (waiters_still version hold (e ∷ b) (e2 ∷ b2) es es2 (v.0.steady, u) v.1)
 
 -- ---- the station of a position
 
@@ -239,40 +242,40 @@ map_remove f [] (suc i) = refl
 map_remove f (x ∷ xs) zero = refl
 map_remove f (x ∷ xs) (suc i) = ap (λ ys. f x ∷ ys) (map_remove f xs i)
 
-pub station_is : (version : ℕ) (before es : List Entry) (i : ℕ) (e : Entry) → slice_get es i ≡ Some e → is_waiting e.state ≡ true →
-    slice_get (waiters_from version before es) (count (λ e. is_waiting e.state) (take i es)) ≡ Some (waiter_of version (reverse_aux (take i es) before) e)
-station_is version before [] i e h w = absurd (cc)
-station_is version before (x ∷ es) zero e h w =
+pub station_is : (version : ℕ) (hold : Hold) (before es : List Entry) (i : ℕ) (e : Entry) → slice_get es i ≡ Some e → is_waiting e.state ≡ true →
+    slice_get (waiters_from version hold before es) (count (λ e. is_waiting e.state) (take i es)) ≡ Some (waiter_of version hold (reverse_aux (take i es) before) e)
+station_is version hold before [] i e h w = absurd (cc)
+station_is version hold before (x ∷ es) zero e h w =
     let a : x ≡ e = cc in
-    subst (λ e. is_waiting e.state ≡ true → slice_get (waiters_from version before (x ∷ es)) 0 ≡ Some (waiter_of version before e)) a
-    (λ w. ap (λ t. slice_get (if t then waiter_of version before x ∷ waiters_from version (x ∷ before) es else waiters_from version (x ∷ before) es) 0) w) w
-station_is version before (x ∷ es) (suc i) e h w = by_wait (is_waiting x.state) (station_is version (x ∷ before) es i e h w)
+    subst (λ e. is_waiting e.state ≡ true → slice_get (waiters_from version hold before (x ∷ es)) 0 ≡ Some (waiter_of version hold before e)) a
+    (λ w. ap (λ t. slice_get (if t then waiter_of version hold before x ∷ waiters_from version hold (x ∷ before) es else waiters_from version hold (x ∷ before) es) 0) w) w
+station_is version hold before (x ∷ es) (suc i) e h w = by_wait (is_waiting x.state) (station_is version hold (x ∷ before) es i e h w)
   where
     n : ℕ
     n = count (λ e. is_waiting e.state) (take i es)
 
-    by_wait : (t : Bool) → slice_get (waiters_from version (x ∷ before) es) (count (λ e. is_waiting e.state) (take i es)) ≡ Some (waiter_of version (reverse_aux (take i es) (x ∷ before)) e) →
-        slice_get (if t then waiter_of version before x ∷ waiters_from version (x ∷ before) es else waiters_from version (x ∷ before) es) (cond t 1 0 + count (λ e. is_waiting e.state) (take i es)) ≡ Some (waiter_of version (reverse_aux (take i es) (x ∷ before)) e)
-    by_wait true k = take_on (waiter_of version before x) (waiters_from version (x ∷ before) es) (count (λ e. is_waiting e.state) (take i es)) ∙ k
-    by_wait false k = let z : 0 + count (λ e. is_waiting e.state) (take i es) ≡ count (λ e. is_waiting e.state) (take i es) = omega arith in ap (slice_get (waiters_from version (x ∷ before) es)) z ∙ k
+    by_wait : (t : Bool) → slice_get (waiters_from version hold (x ∷ before) es) (count (λ e. is_waiting e.state) (take i es)) ≡ Some (waiter_of version hold (reverse_aux (take i es) (x ∷ before)) e) →
+        slice_get (if t then waiter_of version hold before x ∷ waiters_from version hold (x ∷ before) es else waiters_from version hold (x ∷ before) es) (cond t 1 0 + count (λ e. is_waiting e.state) (take i es)) ≡ Some (waiter_of version hold (reverse_aux (take i es) (x ∷ before)) e)
+    by_wait true k = take_on (waiter_of version hold before x) (waiters_from version hold (x ∷ before) es) (count (λ e. is_waiting e.state) (take i es)) ∙ k
+    by_wait false k = let z : 0 + count (λ e. is_waiting e.state) (take i es) ≡ count (λ e. is_waiting e.state) (take i es) = omega arith in ap (slice_get (waiters_from version hold (x ∷ before) es)) z ∙ k
 
 -- an entry that waited waits no longer
-pub waiters_issue : (version : ℕ) (before es : List Entry) (i : ℕ) (e e2 : Entry) → slice_get es i ≡ Some e → is_waiting e.state ≡ true → is_waiting e2.state ≡ false → Steady e e2 →
-    waiters_from version before (slice_set es i e2) ≡ remove (waiters_from version before es) (count (λ e. is_waiting e.state) (take i es))
-waiters_issue version before [] i e e2 h w n g = absurd (cc)
-waiters_issue version before (x ∷ es) zero e e2 h w n g =
+pub waiters_issue : (version : ℕ) (hold : Hold) (before es : List Entry) (i : ℕ) (e e2 : Entry) → slice_get es i ≡ Some e → is_waiting e.state ≡ true → is_waiting e2.state ≡ false → Steady e e2 →
+    waiters_from version hold before (slice_set es i e2) ≡ remove (waiters_from version hold before es) (count (λ e. is_waiting e.state) (take i es))
+waiters_issue version hold before [] i e e2 h w n g = absurd (cc)
+waiters_issue version hold before (x ∷ es) zero e e2 h w n g =
     let a : x ≡ e = cc in
-    ap (λ t. if t then waiter_of version before e2 ∷ waiters_from version (e2 ∷ before) es else waiters_from version (e2 ∷ before) es) n
-    ∙ waiters_still version (e ∷ before) (e2 ∷ before) es es (g, zip_same Steady steady_same before) (zip_same Still still_same es)
-    ∙ ap (λ (e : Entry). waiters_from version (e ∷ before) es) (sym a)
-    ∙ ap (λ t. remove (if t then waiter_of version before x ∷ waiters_from version (x ∷ before) es else waiters_from version (x ∷ before) es) 0) (sym (ap (λ (e : Entry). is_waiting e.state) a ∙ w))
-waiters_issue version before (x ∷ es) (suc i) e e2 h w n g = by_wait (is_waiting x.state) (waiters_issue version (x ∷ before) es i e e2 h w n g)
+    ap (λ t. if t then waiter_of version hold before e2 ∷ waiters_from version hold (e2 ∷ before) es else waiters_from version hold (e2 ∷ before) es) n
+    ∙ waiters_still version hold (e ∷ before) (e2 ∷ before) es es (g, zip_same Steady steady_same before) (zip_same Still still_same es)
+    ∙ ap (λ (e : Entry). waiters_from version hold (e ∷ before) es) (sym a)
+    ∙ ap (λ t. remove (if t then waiter_of version hold before x ∷ waiters_from version hold (x ∷ before) es else waiters_from version hold (x ∷ before) es) 0) (sym (ap (λ (e : Entry). is_waiting e.state) a ∙ w))
+waiters_issue version hold before (x ∷ es) (suc i) e e2 h w n g = by_wait (is_waiting x.state) (waiters_issue version hold (x ∷ before) es i e e2 h w n g)
   where
-    by_wait : (t : Bool) → waiters_from version (x ∷ before) (slice_set es i e2) ≡ remove (waiters_from version (x ∷ before) es) (count (λ e. is_waiting e.state) (take i es)) →
-        (if t then waiter_of version before x ∷ waiters_from version (x ∷ before) (slice_set es i e2) else waiters_from version (x ∷ before) (slice_set es i e2))
-        ≡ remove (if t then waiter_of version before x ∷ waiters_from version (x ∷ before) es else waiters_from version (x ∷ before) es) (cond t 1 0 + count (λ e. is_waiting e.state) (take i es))
-    by_wait true k = ap (λ ws. waiter_of version before x ∷ ws) k ∙ sym (remove_on (waiter_of version before x) (waiters_from version (x ∷ before) es) (count (λ e. is_waiting e.state) (take i es)))
-    by_wait false k = let z : 0 + count (λ e. is_waiting e.state) (take i es) ≡ count (λ e. is_waiting e.state) (take i es) = omega arith in k ∙ sym (ap (remove (waiters_from version (x ∷ before) es)) z)
+    by_wait : (t : Bool) → waiters_from version hold (x ∷ before) (slice_set es i e2) ≡ remove (waiters_from version hold (x ∷ before) es) (count (λ e. is_waiting e.state) (take i es)) →
+        (if t then waiter_of version hold before x ∷ waiters_from version hold (x ∷ before) (slice_set es i e2) else waiters_from version hold (x ∷ before) (slice_set es i e2))
+        ≡ remove (if t then waiter_of version hold before x ∷ waiters_from version hold (x ∷ before) es else waiters_from version hold (x ∷ before) es) (cond t 1 0 + count (λ e. is_waiting e.state) (take i es))
+    by_wait true k = ap (λ ws. waiter_of version hold before x ∷ ws) k ∙ sym (remove_on (waiter_of version hold before x) (waiters_from version hold (x ∷ before) es) (count (λ e. is_waiting e.state) (take i es)))
+    by_wait false k = let z : 0 + count (λ e. is_waiting e.state) (take i es) ≡ count (λ e. is_waiting e.state) (take i es) = omega arith in k ∙ sym (ap (remove (waiters_from version hold (x ∷ before) es)) z)
 
 -- the one at a position wants this
 abbrev pub waiters_left : ℕ → Wants → List Waiter → List Waiter
@@ -284,18 +287,18 @@ left_on : (k : ℕ) (wants : Wants) (w : Waiter) (ws : List Waiter) → waiters_
 left_on k wants w ws = let e : 1 + k ≡ suc k = omega arith in ap (λ k. waiters_left k wants (w ∷ ws)) e
 
 -- an entry that waited waits still, for what it then wants
-pub waiters_leave : (version : ℕ) (before es : List Entry) (i : ℕ) (e e2 : Entry) → slice_get es i ≡ Some e → is_waiting e.state ≡ true → is_waiting e2.state ≡ true → Steady e e2 →
-    waiters_from version before (slice_set es i e2) ≡ waiters_left (count (λ e. is_waiting e.state) (take i es)) (wants_of version e2) (waiters_from version before es)
-waiters_leave version before [] i e e2 h w n g = absurd (cc)
-waiters_leave version before (x ∷ es) zero e e2 h w n g =
+pub waiters_leave : (version : ℕ) (hold : Hold) (before es : List Entry) (i : ℕ) (e e2 : Entry) → slice_get es i ≡ Some e → is_waiting e.state ≡ true → is_waiting e2.state ≡ true → Steady e e2 →
+    waiters_from version hold before (slice_set es i e2) ≡ waiters_left (count (λ e. is_waiting e.state) (take i es)) (wants_of version e2) (waiters_from version hold before es)
+waiters_leave version hold before [] i e e2 h w n g = absurd (cc)
+waiters_leave version hold before (x ∷ es) zero e e2 h w n g =
     let a : x ≡ e = cc in
-    let rest = waiters_still version (e ∷ before) (e2 ∷ before) es es (g, zip_same Steady steady_same before) (zip_same Still still_same es) in
-    let P : Entry → Type 0 = λ x. waiters_from version before (e2 ∷ es) ≡ waiters_left 0 (wants_of version e2) (waiters_from version before (x ∷ es)) in
+    let rest = waiters_still version hold (e ∷ before) (e2 ∷ before) es es (g, zip_same Steady steady_same before) (zip_same Still still_same es) in
+    let P : Entry → Type 0 = λ x. waiters_from version hold before (e2 ∷ es) ≡ waiters_left 0 (wants_of version e2) (waiters_from version hold before (x ∷ es)) in
     subst P (sym a)
-    (ap (λ t. if t then waiter_of version before e2 ∷ waiters_from version (e2 ∷ before) es else waiters_from version (e2 ∷ before) es) n
-    ∙ ap₂ (λ w ws. w ∷ ws) (waiter_steady version before before e e2 (zip_same Steady steady_same before) g.on) rest
-    ∙ sym (ap (λ t. waiters_left 0 (wants_of version e2) (if t then waiter_of version before e ∷ waiters_from version (e ∷ before) es else waiters_from version (e ∷ before) es)) w))
-waiters_leave version before (x ∷ es) (suc i) e e2 h w n g = by_wait (is_waiting x.state) (waiters_leave version (x ∷ before) es i e e2 h w n g)
+    (ap (λ t. if t then waiter_of version hold before e2 ∷ waiters_from version hold (e2 ∷ before) es else waiters_from version hold (e2 ∷ before) es) n
+    ∙ ap₂ (λ w ws. w ∷ ws) (waiter_steady version hold before before e e2 (zip_same Steady steady_same before) g.on) rest
+    ∙ sym (ap (λ t. waiters_left 0 (wants_of version e2) (if t then waiter_of version hold before e ∷ waiters_from version hold (e ∷ before) es else waiters_from version hold (e ∷ before) es)) w))
+waiters_leave version hold before (x ∷ es) (suc i) e e2 h w n g = by_wait (is_waiting x.state) (waiters_leave version hold (x ∷ before) es i e e2 h w n g)
   where
     at : ℕ
     at = count (λ e. is_waiting e.state) (take i es)
@@ -303,108 +306,8 @@ waiters_leave version before (x ∷ es) (suc i) e e2 h w n g = by_wait (is_waiti
     wants : Wants
     wants = wants_of version e2
 
-    by_wait : (t : Bool) → waiters_from version (x ∷ before) (slice_set es i e2) ≡ waiters_left (count (λ e. is_waiting e.state) (take i es)) (wants_of version e2) (waiters_from version (x ∷ before) es) →
-        (if t then waiter_of version before x ∷ waiters_from version (x ∷ before) (slice_set es i e2) else waiters_from version (x ∷ before) (slice_set es i e2))
-        ≡ waiters_left (cond t 1 0 + count (λ e. is_waiting e.state) (take i es)) (wants_of version e2) (if t then waiter_of version before x ∷ waiters_from version (x ∷ before) es else waiters_from version (x ∷ before) es)
-    by_wait true k = ap (λ ws. waiter_of version before x ∷ ws) k ∙ sym (left_on at wants (waiter_of version before x) (waiters_from version (x ∷ before) es))
-    by_wait false k = let z : 0 + count (λ e. is_waiting e.state) (take i es) ≡ count (λ e. is_waiting e.state) (take i es) = omega arith in k ∙ sym (ap (λ k. waiters_left k (wants_of version e2) (waiters_from version (x ∷ before) es)) z)
-
--- ---- an entry becomes Done
-
--- the entry with this serial is Done
-abbrev pub done_at : ℕ → Entry → Entry
-done_at serial e = if e.serial == serial then record e { state = Done } else e
-
--- a station that awaits a serial no longer
-abbrev pub struck_waiter : ℕ → Waiter → Waiter
-struck_waiter serial w = record w { awaits = map (strike serial) w.awaits }
-
-map_others : (serial : ℕ) (es : List Entry) → All (λ e. serial < e.serial) es → map (done_at serial) es ≡ es
-map_others serial [] a = refl
-map_others serial (e ∷ es) a =
-    let lt = All-head (λ e. serial < e.serial) e es a in
-    let f : (e.serial == serial) ≡ false = grind (arith, nat_tests) in
-    ap₂ (λ x xs. x ∷ xs) (ap (λ b. if b then record e { state = Done } else e) f) (map_others serial es (All-tail (λ e. serial < e.serial) e es a))
-
--- no other entry has its serial
-pub set_done : (es : List Entry) (i : ℕ) (e : Entry) → Rise es → slice_get es i ≡ Some e → slice_set es i (record e { state = Done }) ≡ map (done_at e.serial) es
-set_done [] i e r h = absurd (cc)
-set_done (x ∷ es) zero e r h = let a : x ≡ e = cc in subst (λ (e : Entry). record e { state = Done } ∷ es ≡ map (done_at e.serial) (x ∷ es)) a here
-  where
-    here : record x { state = Done } ∷ es ≡ map (done_at x.serial) (x ∷ es)
-    here = let t : (x.serial == x.serial) ≡ true = grind (arith, nat_tests) in
-        sym (ap₂ (λ y ys. y ∷ ys) (ap (λ b. if b then record x { state = Done } else x) t) (map_others x.serial es (rise_head x es r)))
-set_done (x ∷ es) (suc i) e r h =
-    let lt : x.serial < e.serial = all_at (λ d. x.serial < d.serial) es i e (rise_head x es r) h in
-    let f : (x.serial == e.serial) ≡ false = grind (arith, nat_tests) in
-    sym (ap₂ (λ y ys. y ∷ ys) (ap (λ b. if b then record x { state = Done } else x) f) (sym (set_done es i e (rise_tail x es r) h)))
-
-pub alone : (es : List Entry) (i : ℕ) (e : Entry) → Rise es → slice_get es i ≡ Some e → is_waiting e.state ≡ false → All (λ d. d.serial ≡ e.serial → is_waiting d.state ≡ false) es
-alone [] i e r h w = All-nil (λ d. d.serial ≡ e.serial → is_waiting d.state ≡ false)
-alone (x ∷ es) zero e r h w =
-    let a : x ≡ e = cc in
-    All-cons (λ d. d.serial ≡ e.serial → is_waiting d.state ≡ false) x es (λ s. subst (λ (d : Entry). is_waiting d.state ≡ false) (sym a) w) (younger a)
-  where
-    younger : x ≡ e → All (λ d. d.serial ≡ e.serial → is_waiting d.state ≡ false) es
-    younger a k d within = let lt = rise_head x es r k d within in let n : x.serial ≡ e.serial = ap (λ (e : Entry). e.serial) a in λ s. absurd (omega (arith, lt, n, s))
-alone (x ∷ es) (suc i) e r h w =
-    let lt : x.serial < e.serial = all_at (λ d. x.serial < d.serial) es i e (rise_head x es r) h in
-    All-cons (λ d. d.serial ≡ e.serial → is_waiting d.state ≡ false) x es (λ s. absurd (omega (arith, lt, s))) (alone es i e (rise_tail x es r) h w)
-
-awaited_done : (serial : ℕ) (before : List Entry) (o : Option ℕ) → awaited (map (done_at serial) before) o ≡ strike serial (awaited before o)
-awaited_done serial before None = refl
-awaited_done serial [] (Some r) = refl
-awaited_done serial (e ∷ before) (Some r) = by_serial (e.serial == serial) refl (awaited_done serial before (Some r))
-  where
-    own : (b : Bool) → (e.serial == serial) ≡ b → (d : Bool) → strike serial (if d then None else Some e.serial) ≡ (if b then None else (if d then None else Some e.serial))
-    own true q true = refl
-    own true q false = ap (λ b. if b then None else Some e.serial) q
-    own false q true = refl
-    own false q false = ap (λ b. if b then None else Some e.serial) q
-
-    at_true : (e.serial == serial) ≡ true → awaited_of (writer (map (done_at serial) before) r) ≡ strike serial (awaited_of (writer before r)) → (w : Bool) →
-        awaited_of (cond w (Some (record e { state = Done })) (writer (map (done_at serial) before) r)) ≡ strike serial (awaited_of (cond w (Some e) (writer before r)))
-    at_true q h true = sym (own true q (is_done e.state))
-    at_true q h false = h
-
-    at_false : (e.serial == serial) ≡ false → awaited_of (writer (map (done_at serial) before) r) ≡ strike serial (awaited_of (writer before r)) → (w : Bool) →
-        awaited_of (cond w (Some e) (writer (map (done_at serial) before) r)) ≡ strike serial (awaited_of (cond w (Some e) (writer before r)))
-    at_false q h true = sym (own false q (is_done e.state))
-    at_false q h false = h
-
-    by_serial : (b : Bool) → (e.serial == serial) ≡ b → awaited_of (writer (map (done_at serial) before) r) ≡ strike serial (awaited_of (writer before r)) →
-        awaited_of (cond (writes r (if b then record e { state = Done } else e)) (Some (if b then record e { state = Done } else e)) (writer (map (done_at serial) before) r))
-        ≡ strike serial (awaited_of (cond (writes r e) (Some e) (writer before r)))
-    by_serial true q h = at_true q h (writes r e)
-    by_serial false q h = at_false q h (writes r e)
-
-waiter_done : (version : ℕ) (serial : ℕ) (before : List Entry) (e : Entry) → waiter_of version (map (done_at serial) before) e ≡ struck_waiter serial (waiter_of version before e)
-waiter_done version serial before e =
-    ap (λ os. record { serial = e.serial; awaits = os; wants = wants_of version e })
-    (map_same (awaited (map (done_at serial) before)) (λ o. strike serial (awaited before o)) (two (sources e)) (awaited_done serial before) ∙ sym (map_twice (strike serial) (awaited before) (two (sources e))))
-
-pub waiters_done : (version : ℕ) (serial : ℕ) (before es : List Entry) → All (λ d. d.serial ≡ serial → is_waiting d.state ≡ false) es →
-    waiters_from version (map (done_at serial) before) (map (done_at serial) es) ≡ map (struck_waiter serial) (waiters_from version before es)
-waiters_done version serial before [] a = refl
-waiters_done version serial before (e ∷ es) a =
-    by_serial (e.serial == serial) refl (waiters_done version serial (e ∷ before) es (All-tail (λ d. d.serial ≡ serial → is_waiting d.state ≡ false) e es a))
-  where
-    rest : List Waiter
-    rest = waiters_from version (map (done_at serial) (e ∷ before)) (map (done_at serial) es)
-
-    at_false : (w : Bool) → waiters_from version (map (done_at serial) (e ∷ before)) (map (done_at serial) es) ≡ map (struck_waiter serial) (waiters_from version (e ∷ before) es) →
-        (if w then waiter_of version (map (done_at serial) before) e ∷ waiters_from version (map (done_at serial) (e ∷ before)) (map (done_at serial) es) else waiters_from version (map (done_at serial) (e ∷ before)) (map (done_at serial) es))
-        ≡ map (struck_waiter serial) (if w then waiter_of version before e ∷ waiters_from version (e ∷ before) es else waiters_from version (e ∷ before) es)
-    at_false true h = ap₂ (λ w ws. w ∷ ws) (waiter_done version serial before e) h
-    at_false false h = h
-
-    by_serial : (b : Bool) → (e.serial == serial) ≡ b → waiters_from version (map (done_at serial) (e ∷ before)) (map (done_at serial) es) ≡ map (struck_waiter serial) (waiters_from version (e ∷ before) es) →
-        waiters_from version (map (done_at serial) before) ((if b then record e { state = Done } else e) ∷ map (done_at serial) es) ≡ map (struck_waiter serial) (waiters_from version before (e ∷ es))
-    by_serial true q h =
-        let same : e.serial ≡ serial = grind (arith, nat_tests) in
-        let w = All-head (λ d. d.serial ≡ serial → is_waiting d.state ≡ false) e es a same in
-        ap (λ b. waiters_from version ((if b then record e { state = Done } else e) ∷ map (done_at serial) before) (map (done_at serial) es)) (sym q)
-        ∙ h ∙ ap (λ b. map (struck_waiter serial) (if b then waiter_of version before e ∷ waiters_from version (e ∷ before) es else waiters_from version (e ∷ before) es)) (sym w)
-    by_serial false q h =
-        ap (λ b. if is_waiting e.state then waiter_of version (map (done_at serial) before) e ∷ waiters_from version ((if b then record e { state = Done } else e) ∷ map (done_at serial) before) (map (done_at serial) es) else waiters_from version ((if b then record e { state = Done } else e) ∷ map (done_at serial) before) (map (done_at serial) es)) (sym q)
-        ∙ at_false (is_waiting e.state) h
+    by_wait : (t : Bool) → waiters_from version hold (x ∷ before) (slice_set es i e2) ≡ waiters_left (count (λ e. is_waiting e.state) (take i es)) (wants_of version e2) (waiters_from version hold (x ∷ before) es) →
+        (if t then waiter_of version hold before x ∷ waiters_from version hold (x ∷ before) (slice_set es i e2) else waiters_from version hold (x ∷ before) (slice_set es i e2))
+        ≡ waiters_left (cond t 1 0 + count (λ e. is_waiting e.state) (take i es)) (wants_of version e2) (if t then waiter_of version hold before x ∷ waiters_from version hold (x ∷ before) es else waiters_from version hold (x ∷ before) es)
+    by_wait true k = ap (λ ws. waiter_of version hold before x ∷ ws) k ∙ sym (left_on at wants (waiter_of version hold before x) (waiters_from version hold (x ∷ before) es))
+    by_wait false k = let z : 0 + count (λ e. is_waiting e.state) (take i es) ≡ count (λ e. is_waiting e.state) (take i es) = omega arith in k ∙ sym (ap (λ k. waiters_left k (wants_of version e2) (waiters_from version hold (x ∷ before) es)) z)

@@ -2,8 +2,10 @@ pub mod Serials
 pub mod Youngest
 pub mod Tables
 pub mod Keeping
+pub mod Waking
 pub mod Standing
 pub mod Answering
 pub mod Moving
 pub mod Addressing
+pub mod Clearing
 pub mod Writing

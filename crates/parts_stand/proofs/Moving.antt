@@ -8,17 +8,18 @@ use Rattle.machine_desc.specs.declared.SttModel.{SttModel}
 use Rattle.window_model.specs.declared.Entry.{Entry}
 use Rattle.window_model.specs.declared.Item.{Item}
 use Rattle.window_model.specs.declared.Progress.TheVariants.{Done}
-use Rattle.window_model.specs.Order.{is_control, is_done, is_faulty, is_waiting}
-use Rattle.window_model.specs.Taint.{protects, safe_as, settled_as}
+use Rattle.window_model.specs.Clear.{cleared_one}
+use Rattle.window_model.specs.Order.{is_done, is_faulty, is_waiting}
+use Rattle.window_model.specs.Taint.{protects, safe_as, settled, settled_as}
 use Rattle.rv_types.specs.declared.Kind.{Kind}
 use Rattle.rv_types.specs.declared.Kind.TheVariants.{Branch, Call, Jalr, Load, Stop, Store}
 use Rattle.machine_desc.specs.declared.SttModel.TheVariants.{Spectre, Futuristic, Off}
 use Rattle.parts_stand.specs.Steps.{Issues}
 use Rattle.rob_ring.specs.Ring.{below}
 use Rattle.visibility.specs.Point.{Point, NotPast, moved_over, next_after, first_point, passes}
-use Rattle.visibility.proofs.Moving.{all_passes, by_model, can_again}
+use Rattle.visibility.proofs.Moving.{all_passes, by_model, can_again, moves_on}
 use Rattle.window_model.proofs.Booleans.{waiting_done}
-use Rattle.window_model.proofs.Passing.{passes_done, passes_resolved, unresolved_fails}
+use Rattle.window_model.proofs.Passing.{passes_cleared, passes_done, passes_resolved}
 use Rattle.parts_stand.specs.Points.{Below, PointStands}
 use Rattle.window_model.specs.Serials.{Rise}
 use Rattle.window_model.proofs.Serials.{all_at, all_left, rise_head, rise_left, rise_tail, splits}
@@ -84,6 +85,10 @@ next_over s first (x ∷ es) (suc i) e r h lt =
     subst (λ b. e.serial + 1 ≤ next_after s (cond b (x ∷ below first es) (below first es))) (sym t) (next_over (x.serial + 1) first es i e (rise_tail x es r) h lt)
 
 -- ---- it moves, and entries come and go
+
+-- it only moves on
+pub point_moves_on : (point : Point) (next : ℕ) (window : List Entry) → PointStands point next window → Rise window → point.serial ≤ (moved_over window point).serial
+point_moves_on point next window s r = moves_on point window r s.can
 
 -- it moves
 pub point_advances : (point : Point) (next : ℕ) (window : List Entry) → PointStands point next window → Rise window → Below next window →
@@ -180,19 +185,42 @@ pub point_resolves : (point : Point) (next : ℕ) (window : List Entry) (i : ℕ
     slice_get window i ≡ Some e → is_waiting e.state ≡ false → PointStands point next (slice_set window i (record e { resolved = true }))
 point_resolves point next window i e s h w = sets point next window i e (record e { resolved = true }) s h refl (passes_resolved point.model e) (λ v. absurd (cc))
 
--- ---- a branch or JALR that is not resolved
+-- it is cleared
+pub point_clears : (point : Point) (next : ℕ) (window : List Entry) (i : ℕ) (e : Entry) → PointStands point next window →
+    slice_get window i ≡ Some e → PointStands point next (slice_set window i (cleared_one e))
+point_clears point next window i e s h =
+    sets point next window i e (cleared_one e) s h refl (passes_cleared point.model e) (all_at Unresolved window i e s.unresolved h)
 
--- the point isn't past a branch or JALR that is not resolved
+-- ---- a branch or JALR that isn't resolved, and a store that isn't cleared
+
+-- neither is safe
+unsettled_as : (k : Kind) (e : Entry) → settled_as k e.resolved e.cleared ≡ false → safe_as k e ≡ false
+unsettled_as Branch e u = ap (λ r. r && not (is_faulty e)) u
+unsettled_as Jalr e u = ap (λ r. r && not (is_faulty e)) u
+unsettled_as Store e u = ap (λ c. is_done e.state && not (is_faulty e) && c) u ∙ and_false (is_done e.state && not (is_faulty e))
+  where
+    and_false : (b : Bool) → (b && false) ≡ false
+    and_false true = refl
+    and_false false = refl
+unsettled_as _ e u = absurd (cc)
+
+-- so neither passes, under each model that protects
+unsettled_fails : (m : SttModel) (e : Entry) → protects m ≡ true → settled e ≡ false → passes m e ≡ false
+unsettled_fails Spectre e p u = u
+unsettled_fails Futuristic e p u = unsettled_as e.item.kind e u
+unsettled_fails Off e p u = absurd (cc)
+
+-- the point isn't past one
 pub point_stops : (point : Point) (next : ℕ) (window : List Entry) (i : ℕ) (e : Entry) → PointStands point next window →
-    slice_get window i ≡ Some e → is_control e.item.kind ≡ true → e.resolved ≡ false → NotPast point e.serial
-point_stops point next window i e s h c u g = by_test (nat_le point.serial e.serial) refl
+    slice_get window i ≡ Some e → settled e ≡ false → NotPast point e.serial
+point_stops point next window i e s h u g = by_test (nat_le point.serial e.serial) refl
   where
     by_test : (b : Bool) → nat_le point.serial e.serial ≡ b → point.serial ≤ e.serial
     by_test true q = grind (arith, nat_tests)
     by_test false q =
         let lt : e.serial < point.serial = grind (arith, nat_tests) in
         let p = all_at (Passes point) window i e s.can.passed h lt in
-        let f = unresolved_fails point.model e g c u in
+        let f = unsettled_fails point.model e g u in
         absurd (cc)
 
 -- so all from a serial on that is above such an entry's can be dropped

@@ -1,15 +1,15 @@
 -- Which steps keep the parts standing for the window (docs/architecture.md, "How they stand for it").
-use Rattle.std.specs.Prelude.{◌≡◌, ℕ, ◌+◌, false, List, [], ◌∷◌, ◌++◌, take, Option, if◌then◌else◌}
-use Rattle.std.specs.List.{count_by, remove}
+use Rattle.std.specs.Prelude.{◌≡◌, ℕ, ◌+◌, ◌≤◌, false, not, ◌&&◌, List, [], ◌∷◌, ◌++◌, map, take, Option, if◌then◌else◌}
+use Rattle.std.specs.List.{count_by, filter, remove}
 use Rattle.std.specs.Option.{option_to_list}
 use Rattle.window_model.specs.declared.Entry.{Entry}
 use Rattle.window_model.specs.Order.{is_done, is_waiting}
-use Rattle.stations.specs.Stations.{Station, left_wanting}
-use Rattle.parts_stand.specs.Parts.{Parts, wants_of, write_of}
+use Rattle.stations.specs.Stations.{Station, left_wanting, struck}
+use Rattle.parts_stand.specs.Parts.{Hold, Parts, gives_at, wants_of, write_of}
 
 -- nothing in flight, and nothing held
-abbrev pub empty : ℕ → ℕ → Parts
-empty version next = record { version = version; next = next; window = []; roots = []; writes = []; held = [] }
+abbrev pub empty : ℕ → Hold → ℕ → Parts
+empty version hold next = record { version = version; hold = hold; next = next; window = []; roots = []; writes = []; held = [] }
 
 -- a station more, in some place, where the entry waits
 abbrev pub seated : ℕ → ℕ → List (Option ℕ) → Entry → List Station → List Station
@@ -20,6 +20,7 @@ seated version place awaits e held =
 abbrev pub with_entry : ℕ → List (Option ℕ) → List (Option ℕ) → Entry → Parts → Parts
 with_entry place roots awaits e p = record {
   version = p.version;
+  hold = p.hold;
   next = p.next + 1;
   window = p.window ++ e ∷ [];
   roots = p.roots ++ roots ∷ [];
@@ -47,3 +48,27 @@ station_of i window = count_by (λ e. is_waiting e.state) (take i window)
 -- the station at a position is freed where its entry no longer waits, else it waits for what the entry then wants
 abbrev pub left_held : ℕ → ℕ → Entry → List Station → List Station
 left_held version k e held = if is_waiting e.state then left_wanting k (wants_of version e) held else remove held k
+
+-- ---- values that are given
+
+-- the stations, of which none awaits one of these serials any more
+abbrev pub struck_each : List ℕ → List Station → List Station
+struck_each [] held = held
+struck_each (serial ∷ serials) held = struck_each serials (map (struck serial) held)
+
+-- the stations once an entry is Done: none awaits it any more, unless its value is held back
+abbrev pub struck_if_given : Hold → Entry → List Station → List Station
+struck_if_given h e held = if gives_at h e then map (struck e.serial) held else held
+
+-- the serials of the entries that give their values by the second, and didn't by the first
+abbrev pub released : Hold → Hold → List Entry → List ℕ
+released old new window = map (λ e. e.serial) (filter (λ e. not (gives_at old e) && gives_at new e) window)
+
+-- the stations once the point has moved: none awaits an entry that then gives its value
+abbrev pub struck_by_move : Hold → Hold → List Entry → List Station → List Station
+struck_by_move old new window held = struck_each (released old new window) held
+
+-- the point moves on, and holds what it held
+pub record MovesOn (old new : Hold) : Type 0 where
+  pub holds : new.holds ≡ old.holds
+  pub on : old.point ≤ new.point

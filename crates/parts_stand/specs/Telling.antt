@@ -8,7 +8,7 @@ use Rattle.machine_desc.specs.declared.Desc.{Desc}
 use Rattle.window_model.specs.declared.Entry.{Entry}
 use Rattle.window_model.specs.Around.{Around, is_free}
 use Rattle.window_model.specs.Order.{base_of, before_at, first, is_waiting, others_of, sources, writer}
-use Rattle.window_model.specs.Ready.{all_known, ready}
+use Rattle.window_model.specs.Ready.{all_known, gives, holds, ready}
 use Rattle.window_model.specs.Resolve.{may_resolve}
 use Rattle.window_model.specs.Issue.{goes_behind, may_issue_as}
 use Rattle.window_model.specs.Taint.{visible, tainted, any_tainted, address_tainted}
@@ -25,7 +25,7 @@ use Rattle.visibility.specs.Point.{Point, HasAdvanced, is_hidden}
 use Rattle.branch_resolve.specs.Pick.{pick_from}
 use Rattle.transmit_gate.specs.Gate.{may_transmit}
 use Rattle.parts_stand.specs.Roots.{youngest_root, unretired}
-use Rattle.parts_stand.specs.Parts.{Parts, Stand, awaited, awaited_of, oldest_of, waiter_in, waiter_of, wants_of}
+use Rattle.parts_stand.specs.Parts.{Hold, Parts, Stand, awaited, awaited_of, gives_at, oldest_of, waiter_in, waiter_of, wants_of}
 use Rattle.parts_stand.specs.Steps.{station_of}
 
 -- ---- room
@@ -75,14 +75,14 @@ FindsWriter = (p : Parts) (r : ℕ) → Stand p → entry_of p.window (source_of
 
 -- so what a source of the next entry awaits is found
 abbrev pub FindsAwaited : Type 0
-FindsAwaited = (p : Parts) (r : ℕ) → Stand p → awaited_of (entry_of p.window (source_of p.writes r)) ≡ awaited (reverse p.window) (Some r)
+FindsAwaited = (p : Parts) (r : ℕ) → Stand p → awaited_of p.hold (entry_of p.window (source_of p.writes r)) ≡ awaited p.hold (reverse p.window) (Some r)
 
 -- ---- stations
 
 -- an entry's station is where the older ones that wait are counted, with what its sources await
 pub record StationFor (p : Parts) (i : ℕ) (e : Entry) : Type 0 where
   pub within : station_of i p.window < length p.held
-  pub is : option_map waiter_in (slice_get p.held (station_of i p.window)) ≡ Some (waiter_of p.version (before_at p.window i) e)
+  pub is : option_map waiter_in (slice_get p.held (station_of i p.window)) ≡ Some (waiter_of p.version p.hold (before_at p.window i) e)
 
 -- an entry that waits has its station
 abbrev pub HasStation : Type 0
@@ -102,9 +102,24 @@ abbrev pub StationsYounger : Type 0
 StationsYounger = (window : List Entry) (i m : ℕ) (e e2 : Entry) → m < i → slice_get window m ≡ Some e → is_waiting e.state ≡ true → is_waiting e2.state ≡ false →
     station_of i (slice_set window m e2) + 1 ≡ station_of i window
 
--- a station awaits nothing exactly where its entry is ready
+-- what results are held back by under a description, up to a point
+abbrev pub hold_of : Desc → Point → Hold
+hold_of d point = record { holds = holds d.stt_defence; point = point.serial }
+
+-- the point has moved over the window, and results are held back by it as the description says
+pub record HoldsBy (d : Desc) (p : Parts) (point : Point) : Type 0 where
+  pub advanced : HasAdvanced point p.window
+  pub model : point.model ≡ d.stt_model
+  pub hold : p.hold ≡ hold_of d point
+
+-- then each entry gives its value where it does by the machine's definition
+abbrev pub TellsGiven : Type 0
+TellsGiven = (d : Desc) (p : Parts) (point : Point) (i : ℕ) (e : Entry) → HoldsBy d p point → slice_get p.window i ≡ Some e →
+    gives_at p.hold e ≡ gives d (before_at p.window i) e
+
+-- and a station awaits nothing exactly where its entry is ready
 abbrev pub TellsReady : Type 0
-TellsReady = (d : Desc) (p : Parts) (i : ℕ) (e : Entry) → Stand p → slice_get p.window i ≡ Some e → is_waiting e.state ≡ true →
+TellsReady = (d : Desc) (p : Parts) (point : Point) (i : ℕ) (e : Entry) → Stand p → HoldsBy d p point → slice_get p.window i ≡ Some e → is_waiting e.state ≡ true →
     option_map awaits_none (slice_get p.held (station_of i p.window)) ≡ Some (ready d (before_at p.window i) e)
 
 -- the source of a part of a store, by its sources
@@ -121,12 +136,12 @@ has_sources wants.Other d before e = all_known d before (others_of (sources e))
 
 -- a station is able exactly where what its entry wants is there
 abbrev pub TellsAble : Type 0
-TellsAble = (d : Desc) (p : Parts) (i : ℕ) (e : Entry) → Stand p → slice_get p.window i ≡ Some e → is_waiting e.state ≡ true →
+TellsAble = (d : Desc) (p : Parts) (point : Point) (i : ℕ) (e : Entry) → Stand p → HoldsBy d p point → slice_get p.window i ≡ Some e → is_waiting e.state ≡ true →
     option_map is_able (slice_get p.held (station_of i p.window)) ≡ Some (has_sources (wants_of p.version e) d (before_at p.window i) e)
 
 -- and a part of it is ready exactly where the part's own source is
 abbrev pub TellsPart : Type 0
-TellsPart = (part : Part) (d : Desc) (p : Parts) (i : ℕ) (e : Entry) → Stand p → slice_get p.window i ≡ Some e → is_waiting e.state ≡ true →
+TellsPart = (part : Part) (d : Desc) (p : Parts) (point : Point) (i : ℕ) (e : Entry) → Stand p → HoldsBy d p point → slice_get p.window i ≡ Some e → is_waiting e.state ≡ true →
     option_map (ready_part part) (slice_get p.held (station_of i p.window)) ≡ Some (all_known d (before_at p.window i) (own_of part (sources e)))
 
 -- ---- roots

@@ -21,6 +21,7 @@ ghost use Rattle.parts_stand.specs.Telling.{
   StationsOlder,
   StationsYounger,
   TellsAble,
+  TellsGiven,
   TellsIssue,
   TellsOperands,
   TellsPart,
@@ -28,13 +29,14 @@ ghost use Rattle.parts_stand.specs.Telling.{
   TellsTaint,
   TellsVisible,
 };
-ghost use Rattle.parts_stand.specs.Addresses.{TellsEachStore};
+ghost use Rattle.parts_stand.specs.Addresses.{FindsClearable, TellsEachStore};
 ghost use Rattle.parts_stand.specs.Writers.{CountsWriters, TellsWriters};
 
-/// What parts that stand for the window tell of it: for what there is room, who writes a register, what an entry awaits, whether it
-/// is ready, and whether a part of a store is; and, where the point has just moved, what is tainted, what may issue and what is
-/// resolved. By the serials of the sources' writers each source's writer is found (`docs/machine.md`, "Writers and roots"); by the
-/// roots of the stores' addresses a load is told which older stores have tainted ones ("Loads").
+/// What parts that stand for the window tell of it: for what there is room, who writes a register, and what an entry awaits; and, where
+/// the point has just moved, which entries give their values, whether an entry is ready, and a part of a store, what is tainted, what
+/// may issue and what is resolved. By the serials of the sources' writers each source's writer is found (`docs/machine.md`, "Writers
+/// and roots"); by the roots of the stores' addresses a load is told which older stores have tainted ones ("Loads"), and the store is
+/// found that is cleared ("Clear").
 pub fn parts_tell_of_window()
     ensures room { CountsRoom }
     ensures older { HoldsOlderOnes }
@@ -46,6 +48,7 @@ pub fn parts_tell_of_window()
     ensures count { CountsStations }
     ensures older_stations { StationsOlder }
     ensures younger_stations { StationsYounger }
+    ensures gives { TellsGiven }
     ensures ready { TellsReady }
     ensures able { TellsAble }
     ensures part { TellsPart }
@@ -58,4 +61,5 @@ pub fn parts_tell_of_window()
     ensures writers { TellsWriters }
     ensures count_writers { CountsWriters }
     ensures stores { TellsEachStore }
+    ensures clearable { FindsClearable }
 {}

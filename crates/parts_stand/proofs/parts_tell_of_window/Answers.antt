@@ -1,5 +1,6 @@
-use Rattle.parts_stand.proofs.Answering.{counts_room, counts_stations, finds_awaited, finds_writer, has_station, holds_older, names_entry, names_root, names_writer, picks_first, stations_older, stations_younger, tells_issue, tells_operands, tells_able, tells_part, tells_ready, tells_taint, tells_visible}
+use Rattle.parts_stand.proofs.Answering.{counts_room, counts_stations, finds_awaited, finds_writer, has_station, holds_older, names_entry, names_root, names_writer, picks_first, stations_older, stations_younger, tells_given, tells_issue, tells_operands, tells_able, tells_part, tells_ready, tells_taint, tells_visible}
 use Rattle.parts_stand.proofs.Addressing.{tells_each_store}
+use Rattle.parts_stand.proofs.Clearing.{finds_clearable}
 use Rattle.parts_stand.proofs.Writing.{counts_writers, tells_writers}
 use Rattle.parts_stand.proofs.parts_tell_of_window.Goals as goal
 
@@ -15,6 +16,7 @@ returns c = record {
   count = counts_stations;
   older_stations = stations_older;
   younger_stations = stations_younger;
+  gives = tells_given;
   ready = tells_ready;
   able = tells_able;
   part = tells_part;
@@ -27,4 +29,5 @@ returns c = record {
   writers = tells_writers;
   count_writers = counts_writers;
   stores = tells_each_store;
+  clearable = finds_clearable;
 }
