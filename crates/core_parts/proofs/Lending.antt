@@ -4,7 +4,8 @@ use Rattle.std.specs.Prelude.{if◌then◌else◌}
 use Rattle.machine_desc.specs.declared.SttModel.{SttModel}
 use Rattle.window_model.specs.declared.Entry.{Entry}
 use Rattle.lsq.specs.declared.store.Store.{Store}
-use Rattle.queue_laws.specs.Window.{StandFor}
+use Rattle.queue_laws.specs.Window.{StandFor, Tracks}
+use Rattle.window_model.specs.Dependence.{passing}
 use Rattle.window_model.specs.Order.{is_store}
 use Rattle.visibility.specs.Point.{Point, HasAdvanced}
 use Rattle.parts_stand.proofs.Answering.{counts_room, names_root, names_writer, tells_ready, tells_visible}
@@ -14,9 +15,10 @@ use Rattle.rob_ring.proofs.AtPositions.{as_many_roots, roots_here}
 use Rattle.parts_stand.specs.Addresses.{Addressed, address_in, addresses_of, base_root}
 use Rattle.parts_stand.specs.Parts.{RootsStand, oldest_of}
 use Rattle.parts_stand.specs.Roots.{source_roots, unretired}
+use Rattle.parts_stand.specs.Telling.{hold_of}
 use Rattle.parts_stand.proofs.Keeping.{roots_at}
 use Rattle.core_parts.specs.Described.{Described}
-use Rattle.core_parts.specs.Held.{Held, Whole, described}
+use Rattle.core_parts.specs.Held.{Held, Sizes, Whole, described}
 use Rattle.core_parts.specs.Lent.{HasAddressRoots, HasRoots, HoldsWaiting, NamesRoots, NamesWriters, ShowsOlder, TellsReady, TellsVisible, address_roots}
 
 pub lent_names : (h : Held) (v : Described) → Whole h → described h ≡ v → NamesWriters h.writes v.machine.window
@@ -25,14 +27,21 @@ lent_names h v w s = subst (λ (v : Described). NamesWriters h.writes v.machine.
 pub lent_name_roots : (h : Held) (v : Described) → Whole h → described h ≡ v → NamesRoots v.machine.next_serial h.writes v.machine.window
 lent_name_roots h v w s = subst (λ (v : Described). NamesRoots v.machine.next_serial h.writes v.machine.window) s (λ r. names_root _ r w.stands.stand)
 
-pub lent_waiting : (h : Held) (v : Described) → Whole h → described h ≡ v → HoldsWaiting v.desc.version h.stations v.machine.window
-lent_waiting h v w s = subst (λ (v : Described). HoldsWaiting v.desc.version h.stations v.machine.window) s w.stands.stand.held
+pub lent_waiting : (h : Held) (v : Described) → Whole h → described h ≡ v → HoldsWaiting v.desc.version (hold_of v.desc v.point) h.stations v.machine.window
+lent_waiting h v w s = subst (λ (v : Described). HoldsWaiting v.desc.version (hold_of v.desc v.point) h.stations v.machine.window) s w.stands.stand.held
 
-pub lent_ready : (h : Held) (v : Described) → Whole h → described h ≡ v → TellsReady v.desc h.stations v.machine.window
-lent_ready h v w s = subst (λ (v : Described). TellsReady v.desc h.stations v.machine.window) s (λ i e a b. tells_ready h.desc _ i e w.stands.stand a b)
+-- what they tell of who is ready, where the point has advanced
+ready_by : (h : Held) → Whole h → HasAdvanced h.point h.rob.entries → TellsReady h.desc h.stations h.rob.entries
+ready_by h w a i e b c = tells_ready h.desc _ h.point i e w.stands.stand (record { advanced = a; model = ap (λ (s : Sizes). s.model) w.made; hold = refl }) b c
+
+pub lent_ready : (h : Held) (v : Described) → Whole h → described h ≡ v → HasAdvanced v.point v.machine.window → TellsReady v.desc h.stations v.machine.window
+lent_ready h v w s = subst (λ (v : Described). HasAdvanced v.point v.machine.window → TellsReady v.desc h.stations v.machine.window) s (ready_by h w)
 
 pub lent_queues : (h : Held) (v : Described) → Whole h → described h ≡ v → StandFor h.queues v.machine.window
 lent_queues h v w s = subst (λ (v : Described). StandFor h.queues v.machine.window) s w.stands.queues
+
+pub lent_tracks : (h : Held) (v : Described) → Whole h → described h ≡ v → passing v.desc ≡ true → Tracks h.queues v.machine.window
+lent_tracks h v w s = subst (λ (v : Described). passing v.desc ≡ true → Tracks h.queues v.machine.window) s w.stands.tracks
 
 -- ---- the roots of the stores' addresses
 

@@ -6,3 +6,4 @@ pub mod Lending
 pub mod Younger
 pub mod Sizes
 pub mod Advancing
+pub mod Waking

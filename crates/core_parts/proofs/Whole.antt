@@ -1,15 +1,20 @@
 -- What holds of the parts in every state goes on to hold, and what is shown of them.
-use Rattle.std.proofs.Common.{◌≡◌, ℕ, ◌+◌, ◌++◌, ap, sym, ◌∙◌, subst}
+use Rattle.std.proofs.Common.{◌≡◌, ℕ, ◌+◌, true, false, ◌++◌, ap, sym, ◌∙◌, subst}
 use Rattle.machine_desc.specs.declared.Desc.{Desc}
 use Rattle.machine_desc.proofs.EveryDesc.{every_desc}
 use Rattle.machine_facts.specs.Sized.{Sized}
 use Rattle.machine_facts.proofs.SizedPhases.{sized_begin}
 use Rattle.visibility.specs.Point.{Point, moved_over}
+use Rattle.parts_stand.specs.Steps.{struck_by_move, struck_each}
+use Rattle.stations.specs.Stations.{Stations}
+use Rattle.window_model.specs.Ready.{holds}
 use Rattle.window_model.specs.Row.{Row}
 use Rattle.window_model.specs.State.{Machine, After}
 use Rattle.core_parts.specs.Described.{Described}
 use Rattle.core_parts.specs.Held.{Held, Whole, described, in_flight, machine_of}
+use Rattle.core_parts.specs.Steps.{with_moved}
 use Rattle.core_parts.proofs.Steps.{stands_moved}
+use Rattle.core_parts.proofs.Waking.{at_point, none_released}
 
 -- ---- what is shown
 
@@ -36,17 +41,33 @@ begin_whole h cycle w e = record {
   made = w.made;
 }
 
--- the point moves
-pub advance_whole : (h : Held) (point : Point) → Whole h → point ≡ moved_over h.rob.entries h.point → Whole (record h { point = point })
-advance_whole h point w e = subst (λ p. Whole (record h { point = p })) (sym e) (record {
-  sized = w.sized;
-  stands = stands_moved (in_flight h) w.stands;
-  made = w.made;
-})
+-- the point moves, and the stations are told
+advance_whole : (h : Held) (point : Point) (stations : Stations) → Whole h → point ≡ moved_over h.rob.entries h.point →
+    stations ≡ record (h.stations) { held = (with_moved (in_flight h)).held } → Whole (record h { point = point; stations = stations })
+advance_whole h point stations w e t =
+    subst (λ s. Whole (record h { point = point; stations = s })) (sym t)
+    (subst (λ p. Whole (record h { point = p; stations = record (h.stations) { held = (with_moved (in_flight h)).held } })) (sym e)
+    (record { sized = w.sized; stands = stands_moved (in_flight h) w.stands; made = w.made }))
 
-pub advance_shown : (h : Held) (point : Point) (v : Described) → Whole h → point ≡ moved_over h.rob.entries h.point → described h ≡ v →
-    described (record h { point = point }) ≡ record v { point = moved_over v.machine.window v.point }
-advance_shown h point v w e s =
-    let shown : Point → Described = λ p. record { desc = h.desc; code = h.code; machine = machine_of h; point = p } in
-    let after : Described → Described = λ v. record v { point = moved_over v.machine.window v.point } in
-    ap shown e ∙ ap after s
+-- where nothing is held back the stations are told nothing
+nothing_told : (h : Held) → holds h.desc.stt_defence ≡ false → h.stations ≡ record (h.stations) { held = (with_moved (in_flight h)).held }
+nothing_told h n =
+    ap (λ held. record (h.stations) { held = held })
+    (sym (ap (λ b. struck_by_move (record { holds = b; point = h.point.serial }) (record { holds = b; point = (moved_over h.rob.entries h.point).serial }) h.rob.entries h.stations.held) n
+    ∙ ap (λ serials. struck_each serials h.stations.held) (none_released h.point.serial (moved_over h.rob.entries h.point).serial h.rob.entries)))
+
+-- where results of loads are, they are told what the point passes
+passed_told : (h : Held) (point : Point) (stations : Stations) → holds h.desc.stt_defence ≡ true → point ≡ moved_over h.rob.entries h.point →
+    stations ≡ record (h.stations) { held = struck_by_move (at_point h.point.serial) (at_point point.serial) h.rob.entries h.stations.held } →
+    stations ≡ record (h.stations) { held = (with_moved (in_flight h)).held }
+passed_told h point stations y e t =
+    t
+    ∙ ap (λ (p : Point). record (h.stations) { held = struck_by_move (at_point h.point.serial) (at_point p.serial) h.rob.entries h.stations.held }) e
+    ∙ ap (λ b. record (h.stations) { held = struck_by_move (record { holds = b; point = h.point.serial }) (record { holds = b; point = (moved_over h.rob.entries h.point).serial }) h.rob.entries h.stations.held }) (sym y)
+
+pub advance_alone : (h : Held) (point : Point) → Whole h → holds h.desc.stt_defence ≡ false → point ≡ moved_over h.rob.entries h.point → Whole (record h { point = point })
+advance_alone h point w n e = advance_whole h point h.stations w e (nothing_told h n)
+
+pub advance_told : (h : Held) (point : Point) (stations : Stations) → Whole h → holds h.desc.stt_defence ≡ true → point ≡ moved_over h.rob.entries h.point →
+    stations ≡ record (h.stations) { held = struck_by_move (at_point h.point.serial) (at_point point.serial) h.rob.entries h.stations.held } → Whole (record h { point = point; stations = stations })
+advance_told h point stations w y e t = advance_whole h point stations w e (passed_told h point stations y e t)

@@ -1,4 +1,4 @@
--- The parts once all that is younger than an entry is gone.
+-- The parts once the youngest entries are gone.
 use Rattle.std.proofs.Common.{◌≡◌, ℕ, ◌+◌, ◌<◌, List, [], ◌∷◌, ◌++◌, length, take, Option, ap, sym, ◌∙◌, subst, arith, lit≤}
 use Rattle.std.specs.Prelude.{◌^◌, nat_lt}
 use Rattle.std.specs.List.{AllByRecursion as Each, filter}
@@ -19,16 +19,13 @@ use Rattle.rob_ring.specs.declared.beside.Sources.{Sources}
 use Rattle.rename_taint.specs.declared.Write.{Write}
 use Rattle.rename_taint.specs.Writes.{before_serial}
 use Rattle.stations.specs.Stations.{Stations}
-use Rattle.lsq.specs.Queues.{Queues}
+use Rattle.lsq.specs.Queues.{Queues, cut_at}
 use Rattle.unit_ports.specs.Ports.{Ports}
 use Rattle.fetch_unit.specs.Unit.{FetchUnit}
-use Rattle.window_model.proofs.Serials.{all_at, splits}
-use Rattle.visibility.specs.Point.{NotPast}
+use Rattle.window_model.proofs.Serials.{splits}
 use Rattle.core_parts.specs.Described.{Described}
 use Rattle.core_parts.specs.Held.{Held, Whole, described, in_flight, machine_of}
-use Rattle.core_parts.specs.Stands.{Stands}
-use Rattle.core_parts.specs.Dropped.{StopsAt, cut_after}
-use Rattle.core_parts.specs.Steps.{below_serial}
+use Rattle.core_parts.specs.Dropped.{StopsBelow, cut_from}
 use Rattle.core_parts.proofs.Steps.{stands_dropped}
 
 -- ---- a window that is cut has no more of anything
@@ -54,42 +51,40 @@ sized_dropped d x a b pc v e s =
 
 -- ---- what each part is left with
 
-pub record Dropped (h : Held) (serial : ℕ) (next : Option ℕ) (rob : Ring) (sources : Buffer Sources) (writes : List Write) (room : ℕ) (stations : Stations) (q : Queues) (ports : Ports) (fetch_unit : FetchUnit) : Type 0 where
-  pub window : rob ≡ record (h.rob) { entries = below (serial + 1) h.rob.entries }
+pub record Dropped (h : Held) (first : ℕ) (next : Option ℕ) (rob : Ring) (sources : Buffer Sources) (writes : List Write) (room : ℕ) (stations : Stations) (q : Queues) (ports : Ports) (fetch_unit : FetchUnit) : Type 0 where
+  pub window : rob ≡ record (h.rob) { entries = below first h.rob.entries }
   pub beside : sources ≡ buffer (take (length rob.entries) h.sources.items) h.sources.capacity
-  pub table : writes ≡ before_serial (serial + 1) h.writes
+  pub table : writes ≡ before_serial first h.writes
   pub same_room : room ≡ h.table_room
-  pub places : stations ≡ record (h.stations) { held = filter (λ s. nat_lt s.serial (serial + 1)) h.stations.held }
-  pub loads_and_stores : q ≡ record (h.queues) { loads = filter (λ l. nat_lt l (serial + 1)) h.queues.loads; stores = filter (λ s. nat_lt s.serial (serial + 1)) h.queues.stores }
-  pub divider : ports ≡ record (h.ports) { divider = freed_from (serial + 1) h.ports.divider }
+  pub places : stations ≡ record (h.stations) { held = filter (λ s. nat_lt s.serial first) h.stations.held }
+  pub loads_and_stores : q ≡ cut_at first h.queues
+  pub divider : ports ≡ record (h.ports) { divider = freed_from first h.ports.divider }
   pub fetches : fetch_unit ≡ record (h.fetch_unit) { queue = []; fetch_pc = next }
 
 -- all parts, so cut
 abbrev pub dropped : Held → ℕ → Option ℕ → Held
-dropped h serial next = record h {
-  rob = record (h.rob) { entries = below (serial + 1) h.rob.entries };
-  sources = buffer (take (length (below (serial + 1) h.rob.entries)) h.sources.items) h.sources.capacity;
-  writes = before_serial (serial + 1) h.writes;
-  stations = record (h.stations) { held = filter (λ s. nat_lt s.serial (serial + 1)) h.stations.held };
-  queues = record (h.queues) { loads = filter (λ l. nat_lt l (serial + 1)) h.queues.loads; stores = filter (λ s. nat_lt s.serial (serial + 1)) h.queues.stores };
-  ports = record (h.ports) { divider = freed_from (serial + 1) h.ports.divider };
+dropped h first next = record h {
+  rob = record (h.rob) { entries = below first h.rob.entries };
+  sources = buffer (take (length (below first h.rob.entries)) h.sources.items) h.sources.capacity;
+  writes = before_serial first h.writes;
+  stations = record (h.stations) { held = filter (λ s. nat_lt s.serial first) h.stations.held };
+  queues = cut_at first h.queues;
+  ports = record (h.ports) { divider = freed_from first h.ports.divider };
   fetch_unit = record (h.fetch_unit) { queue = []; fetch_pc = next };
 }
 
-dropped_whole : (h : Held) (serial : ℕ) (next : Option ℕ) → Whole h → StopsAt serial h.point h.rob.entries → Whole (dropped h serial next)
-dropped_whole h serial next w s =
-    let t = splits (serial + 1) h.rob.entries w.stands.stand.rise in
+dropped_whole : (h : Held) (first : ℕ) (next : Option ℕ) → Whole h → StopsBelow first h.point h.rob.entries → Whole (dropped h first next)
+dropped_whole h first next w s =
+    let t = splits first h.rob.entries w.stands.stand.rise in
     record {
-      sized = sized_dropped h.desc (machine_of h) (below (serial + 1) h.rob.entries) t.gone next (freed_from (serial + 1) h.ports.divider) t.whole w.sized;
-      stands =
-          subst (λ n. Stands (below_serial (n + 1) (in_flight h))) s.is
-          (stands_dropped (in_flight h) s.position s.entry w.stands s.here (subst (NotPast h.point) (sym s.is) s.not_past));
+      sized = sized_dropped h.desc (machine_of h) (below first h.rob.entries) t.gone next (freed_from first h.ports.divider) t.whole w.sized;
+      stands = stands_dropped (in_flight h) first s.position s.entry w.stands s.here s.older s.not_past;
       made = w.made;
     }
 
-module _ (h : Held) (serial : ℕ) (next : Option ℕ) (rob : Ring) (sources : Buffer Sources) (writes : List Write) (room : ℕ) (stations : Stations) (q : Queues) (ports : Ports) (fetch_unit : FetchUnit)
-    (w : Whole h) (l : Dropped h serial next rob sources writes room stations q ports fetch_unit) where
-  are : record h { rob = rob; sources = sources; writes = writes; table_room = room; stations = stations; queues = q; ports = ports; fetch_unit = fetch_unit } ≡ dropped h serial next
+module _ (h : Held) (first : ℕ) (next : Option ℕ) (rob : Ring) (sources : Buffer Sources) (writes : List Write) (room : ℕ) (stations : Stations) (q : Queues) (ports : Ports) (fetch_unit : FetchUnit)
+    (w : Whole h) (l : Dropped h first next rob sources writes room stations q ports fetch_unit) where
+  are : record h { rob = rob; sources = sources; writes = writes; table_room = room; stations = stations; queues = q; ports = ports; fetch_unit = fetch_unit } ≡ dropped h first next
   are =
       let e1 = l.window in
       let e2 = l.beside in
@@ -102,27 +97,20 @@ module _ (h : Held) (serial : ℕ) (next : Option ℕ) (rob : Ring) (sources : B
       let n = ap (λ (r : Ring). length r.entries) l.window in
       cc
 
-  pub drop_whole : StopsAt serial h.point h.rob.entries → Whole (record h { rob = rob; sources = sources; writes = writes; table_room = room; stations = stations; queues = q; ports = ports; fetch_unit = fetch_unit })
-  drop_whole s = subst Whole (sym are) (dropped_whole h serial next w s)
+  pub drop_whole : StopsBelow first h.point h.rob.entries → Whole (record h { rob = rob; sources = sources; writes = writes; table_room = room; stations = stations; queues = q; ports = ports; fetch_unit = fetch_unit })
+  drop_whole s = subst Whole (sym are) (dropped_whole h first next w s)
 
   pub drop_shown : (v : Described) → described h ≡ v →
       described (record h { rob = rob; sources = sources; writes = writes; table_room = room; stations = stations; queues = q; ports = ports; fetch_unit = fetch_unit })
-      ≡ record v { machine = cut_after serial next v.machine }
+      ≡ record v { machine = cut_from first next v.machine }
   drop_shown v s =
       ap described are
-      ∙ ap (λ (v : Described). record v { machine = cut_after serial next v.machine }) s
+      ∙ ap (λ (v : Described). record v { machine = cut_from first next v.machine }) s
 
 -- ---- what is asked
 
--- the serial after it fits
-pub serial_fits : (h : Held) (v : Described) (serial : ℕ) → Whole h → described h ≡ v → StopsAt serial v.point v.machine.window → h.next_serial < 2 ^ 64 → serial + 1 < 2 ^ 64
-serial_fits h v serial w s t n =
-    let t2 : StopsAt serial h.point h.rob.entries = subst (λ (v : Described). StopsAt serial v.point v.machine.window) (sym s) t in
-    let l = all_at (λ (e : Entry). e.serial < h.next_serial) h.rob.entries t2.position t2.entry w.stands.stand.next t2.here in
-    omega (arith, l, n, t2.is)
-
-pub stops_here : (h : Held) (v : Described) (serial : ℕ) → Whole h → described h ≡ v → StopsAt serial v.point v.machine.window → StopsAt serial h.point h.rob.entries
-stops_here h v serial w s t = subst (λ (v : Described). StopsAt serial v.point v.machine.window) (sym s) t
+pub stops_here : (h : Held) (v : Described) (first : ℕ) → Whole h → described h ≡ v → StopsBelow first v.point v.machine.window → StopsBelow first h.point h.rob.entries
+stops_here h v first w s t = subst (λ (v : Described). StopsBelow first v.point v.machine.window) (sym s) t
 
 -- all of them can be counted
 pub few_dropped : (h : Held) → Whole h → length h.rob.entries + length h.fetch_unit.queue < 2 ^ 32

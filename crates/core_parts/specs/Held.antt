@@ -1,12 +1,14 @@
 -- What the parts of a core hold, of which machine they are, and what holds of them in every state (docs/machine.md, "State",
 -- docs/architecture.md, "How they stand for it").
-use Rattle.std.specs.Prelude.{◌≡◌, ℕ, false, List, Option, replicate}
+use Rattle.std.specs.Prelude.{◌≡◌, ℕ, Bool, List, length, Option}
 use Rattle.circular_buffer.specs.Buffer.{Buffer}
 use Rattle.rv_types.specs.Memory.{Ram}
 use Rattle.rv_types.specs.declared.End.{End}
 use Rattle.elf_loader.specs.Code.{CodeText}
 use Rattle.machine_desc.specs.declared.Desc.{Desc}
 use Rattle.machine_desc.specs.declared.SttModel.{SttModel}
+use Rattle.window_model.specs.Dependence.{passing}
+use Rattle.window_model.specs.Ready.{holds}
 use Rattle.window_model.specs.State.{Machine}
 use Rattle.machine_facts.specs.Sized.{Sized}
 use Rattle.rob_ring.specs.Ring.{Ring}
@@ -46,13 +48,14 @@ pub record Held : Type 0 where
   pub ports : Ports
   pub tables : Tables
   pub past : Past
+  pub dependence : List Bool
   pub fetch_unit : FetchUnit
   pub point : Point
   pub retired : ℕ
   pub next_serial : ℕ
   pub end : Option End
 
--- the machine that they hold. No bit of dependence is ever set: no load passes a store of unknown address
+-- the machine that they hold
 abbrev pub machine_of : Held → Machine
 machine_of h = record {
   cycle = h.cycle;
@@ -64,7 +67,7 @@ machine_of h = record {
   fetch_pc = h.fetch_unit.fetch_pc;
   counters = h.tables.counters;
   targets = h.tables.targets;
-  dependence = replicate h.desc.predictor_depend false;
+  dependence = h.dependence;
   mark = h.past.mark;
   cache = h.tags.sets;
   second = h.second.sets;
@@ -83,6 +86,8 @@ described h = record { desc = h.desc; code = h.code; machine = machine_of h; poi
 abbrev pub in_flight : Held → InFlight
 in_flight h = record {
   version = h.desc.version;
+  holds = holds h.desc.stt_defence;
+  tracked = passing h.desc;
   next = h.next_serial;
   window = h.rob.entries;
   sources = h.sources.items;
@@ -105,6 +110,7 @@ pub record Sizes : Type 0 where
   pub second : Desc
   pub tables : Desc
   pub past : Desc
+  pub bits : ℕ
   pub fetch_unit : Desc
   pub alus : ℕ
   pub model : SttModel
@@ -122,6 +128,7 @@ sizes h = record {
   second = h.second.desc;
   tables = h.tables.desc;
   past = h.past.desc;
+  bits = length h.dependence;
   fetch_unit = h.fetch_unit.desc;
   alus = h.ports.alus;
   model = h.point.model;
@@ -141,6 +148,7 @@ sizes_for d = record {
   second = d;
   tables = d;
   past = d;
+  bits = d.predictor_depend;
   fetch_unit = d;
   alus = d.units_alus;
   model = d.stt_model;

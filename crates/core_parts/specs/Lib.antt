@@ -5,3 +5,4 @@ pub mod Held
 pub mod Inside
 pub mod Lent
 pub mod Dropped
+pub mod Given

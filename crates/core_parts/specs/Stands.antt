@@ -1,15 +1,15 @@
 -- What is in flight, in all parts that hold something of it, and when the parts stand for the window (docs/architecture.md, "How they
 -- stand for it").
-use Rattle.std.specs.Prelude.{ℕ, List}
+use Rattle.std.specs.Prelude.{◌≡◌, ℕ, Bool, true, List}
 use Rattle.window_model.specs.declared.Entry.{Entry}
 use Rattle.rob_ring.specs.Beside.{each_roots, each_writers}
 use Rattle.rob_ring.specs.declared.beside.Sources.{Sources}
 use Rattle.rename_taint.specs.declared.Write.{Write}
 use Rattle.stations.specs.Stations.{Station}
 use Rattle.lsq.specs.Queues.{Queues}
-use Rattle.queue_laws.specs.Window.{StandFor}
+use Rattle.queue_laws.specs.Window.{StandFor, Tracks}
 use Rattle.visibility.specs.Point.{Point}
-use Rattle.parts_stand.specs.Parts.{Parts, Stand}
+use Rattle.parts_stand.specs.Parts.{Hold, Parts, Stand}
 use Rattle.parts_stand.specs.Addresses.{AddressesStand}
 use Rattle.parts_stand.specs.Points.{PointStands}
 use Rattle.parts_stand.specs.Writers.{WritersOf}
@@ -18,6 +18,10 @@ use Rattle.parts_stand.specs.Writers.{WritersOf}
 pub record InFlight : Type 0 where
   -- the version of the machine
   pub version : ℕ
+  -- whether the results of loads are held back until they are visible
+  pub holds : Bool
+  -- whether loads may pass stores of unknown address, so that the queues track what they read and who is cleared
+  pub tracked : Bool
   -- the serial that the next entry gets
   pub next : ℕ
   -- the entries
@@ -33,9 +37,13 @@ pub record InFlight : Type 0 where
   -- how far entries are visible
   pub point : Point
 
+-- what holds results back
+abbrev pub hold_in : InFlight → Hold
+hold_in p = record { holds = p.holds; point = p.point.serial }
+
 -- those of which `parts_stand` speaks
 abbrev pub table_and_stations : InFlight → Parts
-table_and_stations p = record { version = p.version; next = p.next; window = p.window; roots = each_roots p.sources; writes = p.writes; held = p.held }
+table_and_stations p = record { version = p.version; hold = hold_in p; next = p.next; window = p.window; roots = each_roots p.sources; writes = p.writes; held = p.held }
 
 -- the parts stand for the window
 pub record Stands (p : InFlight) : Type 0 where
@@ -45,6 +53,8 @@ pub record Stands (p : InFlight) : Type 0 where
   pub writers : WritersOf p.next p.window (each_writers p.sources)
   -- the queues hold the loads and stores
   pub queues : StandFor p.queues p.window
+  -- and track them where loads may pass stores
+  pub tracks : p.tracked ≡ true → Tracks p.queues p.window
   -- with the roots of the stores' addresses
   pub addresses : AddressesStand p.window (each_roots p.sources) p.queues.stores
   -- and the point can move on

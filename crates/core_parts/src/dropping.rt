@@ -1,22 +1,23 @@
-//! What is younger than an entry goes.
+//! The youngest entries go.
 ghost use Rattle.std.specs.Prelude.{◌≡◌};
-ghost use Rattle.core_parts.specs.Dropped.{StopsAt, cut_after, younger_count};
+ghost use Rattle.core_parts.specs.Dropped.{StopsBelow, count_from, cut_from};
 
 use crate::parts::Parts;
 use rename_taint::RenameTaint;
 use squash::squash_after;
 
 impl<R: RenameTaint> Parts<R> {
-    /// All parts let go of what is younger than the entry of this serial, entries and fetched items, and fetching goes on at this
-    /// address, or nowhere. The answer is how many there were. The visibility point of a model that protects may not be past the entry.
-    pub fn drop_younger(&mut self, serial: u64, next: Option<u32>) -> u32
-        requires stops { StopsAt serial self.old.point self.old.machine.window }
-        ensures dropped { result ≡ younger_count serial self.old.machine }
-        ensures left { self.new ≡ record self.old { machine = cut_after serial next self.old.machine } }
+    /// All parts let go of the entries from this serial on, and of all fetched items, and fetching goes on at this address, or
+    /// nowhere. The answer is how many there were. An older entry stays, and the visibility point of a model that protects isn't past
+    /// it.
+    pub fn drop_from(&mut self, first: u64, next: Option<u32>) -> u32
+        requires stops { StopsBelow first self.old.point self.old.machine.window }
+        ensures dropped { result ≡ count_from first self.old.machine }
+        ensures left { self.new ≡ record self.old { machine = cut_from first next self.old.machine } }
     {
         let items = self.fetch_unit.redirect(next);
         let entries = squash_after(
-            serial + 1,
+            first,
             &mut self.rob,
             &mut self.table,
             &mut self.stations,

@@ -1,6 +1,9 @@
 //! The parts that are lent: what each tells of the machine.
-ghost use Rattle.std.specs.Prelude.{◌≡◌, ◌<◌, length};
-ghost use Rattle.queue_laws.specs.Window.{StandFor};
+ghost use Rattle.std.specs.Prelude.{◌≡◌, ◌<◌, true, length};
+ghost use Rattle.parts_stand.specs.Telling.{hold_of};
+ghost use Rattle.queue_laws.specs.Window.{StandFor, Tracks};
+ghost use Rattle.visibility.specs.Point.{HasAdvanced};
+ghost use Rattle.window_model.specs.Dependence.{passing};
 ghost use Rattle.core_parts.specs.Lent.{HasAddressRoots, HasRoots, HoldsWaiting, NamesRoots, NamesWriters, TellsReady};
 
 use crate::parts::Parts;
@@ -26,17 +29,22 @@ impl<R: RenameTaint> Parts<R> {
         &self.table
     }
 
-    /// The stations: they hold the entries that wait and what these want, and tell which are ready.
+    /// The stations: they hold the entries that wait and what these want and await, as far as results are held back by the
+    /// visibility point; and they tell which are ready, where the point has moved over the window.
     pub fn stations(&self) -> &Stations
-        ensures waiting { HoldsWaiting self.now.desc.version result.now self.now.machine.window }
-        ensures ready { TellsReady self.now.desc result.now self.now.machine.window }
+        ensures waiting { HoldsWaiting self.now.desc.version (hold_of self.now.desc self.now.point) result.now
+            self.now.machine.window }
+        ensures ready { HasAdvanced self.now.point self.now.machine.window
+            → TellsReady self.now.desc result.now self.now.machine.window }
     {
         &self.stations
     }
 
-    /// The queues: they hold the window's loads and stores by age, the stores with the youngest roots of their addresses.
+    /// The queues: they hold the window's loads and stores by age, the stores with the youngest roots of their addresses; and what
+    /// loads have read and which stores are cleared, where loads may pass stores.
     pub fn lsq(&self) -> &Lsq
         ensures queues { StandFor result.now self.now.machine.window }
+        ensures tracks { passing self.now.desc ≡ true → Tracks result.now self.now.machine.window }
         ensures roots { HasAddressRoots self.now.machine.next_serial result.now.stores self.now.machine.window }
     {
         &self.lsq

@@ -7,6 +7,7 @@
 
 mod dropping;
 mod fetching;
+mod giving;
 mod laws;
 mod lent;
 mod making;
@@ -14,6 +15,7 @@ mod moves;
 mod parts;
 mod start;
 
+pub use giving::gives;
 pub use laws::parts_stay_with_window;
 pub use making::parts_of;
 pub use parts::Parts;

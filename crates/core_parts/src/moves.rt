@@ -2,7 +2,9 @@
 ghost use Rattle.std.specs.Prelude.{◌≡◌, ◌<◌, ◌+◌, ◌-◌, ◌^◌};
 ghost use Rattle.visibility.specs.Point.{HasAdvanced, moved_over};
 
+use crate::giving::advance_and_wake;
 use crate::parts::Parts;
+use machine_desc::Defence;
 use rename_taint::RenameTaint;
 
 impl<R: RenameTaint> Parts<R> {
@@ -16,11 +18,15 @@ impl<R: RenameTaint> Parts<R> {
         self.cycle += 1;
     }
 
-    /// The point moves over the window: then it says which entries are visible.
+    /// The point moves over the window: then it says which entries are visible. Under `hold` loads that are Done and that it passes
+    /// give their values from then on: the stations await none of them any more.
     pub fn advance(&mut self)
         ensures moved { self.new ≡ record self.old { point = moved_over self.old.machine.window self.old.point } }
         ensures advanced { HasAdvanced self.new.point self.new.machine.window }
     {
-        self.point.advance(&self.rob);
+        match self.desc.stt_defence {
+            Defence::Stt => self.point.advance(&self.rob),
+            Defence::Hold => advance_and_wake(&mut self.point, &self.rob, &mut self.stations),
+        }
     }
 }

@@ -1,13 +1,7 @@
-use Rattle.core_parts.proofs.Younger.{drop_whole, serial_fits, stops_here}
-use Rattle.std.proofs.Common.{rules, arith, ap, take, ◌<◌, ◌^◌, ◌∙◌}
+use Rattle.std.proofs.Common.{ap, take, ◌∙◌}
 use Rattle.circular_buffer.specs.Buffer.{buffer}
-use Rattle.core_parts.proofs.parts.Parts.drop_younger.Goals as goal
-
-pub overflow_add-serial : goal.overflow_add-serial
-overflow_add-serial g c =
-    let n : c.self.inside.next_serial < 2 ^ 64 = search rules in
-    let fits = serial_fits _ _ _ c.self.invariant c.self.view_is c.requires.stops n in
-    omega (arith, fits)
+use Rattle.core_parts.proofs.Younger.{drop_whole, stops_here}
+use Rattle.core_parts.proofs.parts.Parts.drop_from.Goals as goal
 
 pub invariant_of-self : goal.invariant_of-self
 invariant_of-self g c =
