@@ -1,5 +1,5 @@
 -- The parts once an entry is Done.
-use Rattle.std.proofs.Common.{◌≡◌, ℕ, ◌<◌, ◌≤◌, Bool, not, false, length, map, arith, Option, Some, None, refl, ap, sym, ◌∙◌, subst, lit≤, slice_get}
+use Rattle.std.proofs.Common.{◌≡◌, ℕ, zero, suc, ◌<◌, ◌≤◌, Bool, not, false, List, [], ◌∷◌, length, arith, Option, Some, None, refl, ap, sym, ◌∙◌, subst, lit≤, slice_get}
 use Rattle.std.specs.Prelude.{slice_set}
 use Rattle.std.specs.Option.{option_map}
 use Rattle.std.specs.Slice.Scan.{HoldsNowhere, holds_at}
@@ -11,7 +11,9 @@ use Rattle.window_model.specs.Order.{is_waiting}
 use Rattle.window_model.proofs.Booleans.{some_of}
 use Rattle.machine_facts.proofs.Parts.{IsEntry}
 use Rattle.rob_ring.specs.Ring.{IsNext, Ring, is_busy}
-use Rattle.stations.specs.Stations.{Stations, struck}
+use Rattle.stations.specs.Stations.{Stations}
+use Rattle.parts_stand.specs.Steps.{struck_if_given}
+use Rattle.parts_stand.specs.Telling.{hold_of}
 use Rattle.core_parts.specs.Described.{Described}
 use Rattle.core_parts.specs.Held.{Held, Whole, described, in_flight, machine_of}
 use Rattle.core_parts.proofs.Sizes.{sized_set}
@@ -27,22 +29,46 @@ is_inside h v i w s a =
     let k = some_here (slice_get h.rob.entries i) (ap (λ (v : Described). option_map (λ (e : Entry). is_waiting e.state) (slice_get v.machine.window i)) s ∙ a) in
     slice_get_within h.rob.entries i k.0 k.1
 
-module _ (h : Held) (v : Described) (i : ℕ) (e : Entry) (rob : Ring) (stations : Stations) (w : Whole h) (s : described h ≡ v) (a : option_map (λ (e : Entry). is_waiting e.state) (slice_get v.machine.window i) ≡ Some false)
-    (here : slice_get h.rob.entries i ≡ Some e) (sets : rob ≡ record (h.rob) { entries = slice_set h.rob.entries i (done e) }) (wakes : stations ≡ record (h.stations) { held = map (struck e.serial) h.stations.held }) where
+-- ---- what is there once it is set
+
+set_here : (w : List Entry) (i : ℕ) (e e2 : Entry) → slice_get w i ≡ Some e → slice_get (slice_set w i e2) i ≡ Some e2
+set_here [] i e e2 h = absurd (cc)
+set_here (x ∷ w) zero e e2 h = refl
+set_here (x ∷ w) (suc i) e e2 h = set_here w i e e2 h
+
+set_there : (h : Held) (i : ℕ) (e : Entry) (rob : Ring) → slice_get h.rob.entries i ≡ Some e → rob ≡ record (h.rob) { entries = slice_set h.rob.entries i (done e) } → slice_get rob.entries i ≡ Some (done e)
+set_there h i e rob here sets = ap (λ (r : Ring). slice_get r.entries i) sets ∙ set_here h.rob.entries i e (done e) here
+
+-- so there still is an entry at the position
+pub still_inside : (h : Held) (i : ℕ) (e : Entry) (rob : Ring) → Whole h → slice_get h.rob.entries i ≡ Some e → rob ≡ record (h.rob) { entries = slice_set h.rob.entries i (done e) } → i < length rob.entries
+still_inside h i e rob w here sets = slice_get_within rob.entries i _ (set_there h i e rob here sets)
+
+-- ---- the parts
+
+module _ (h : Held) (v : Described) (i : ℕ) (e then : Entry) (rob : Ring) (stations : Stations) (w : Whole h) (s : described h ≡ v) (a : option_map (λ (e : Entry). is_waiting e.state) (slice_get v.machine.window i) ≡ Some false)
+    (here : slice_get h.rob.entries i ≡ Some e) (sets : rob ≡ record (h.rob) { entries = slice_set h.rob.entries i (done e) }) (there : slice_get rob.entries i ≡ Some then)
+    (wakes : stations ≡ record (h.stations) { held = struck_if_given (hold_of h.desc h.point) then h.stations.held }) where
   waits_not : is_waiting e.state ≡ false
   waits_not =
       let b = sym (ap (option_map (λ (e : Entry). is_waiting e.state)) here) ∙ ap (λ (v : Described). option_map (λ (e : Entry). is_waiting e.state) (slice_get v.machine.window i)) s ∙ a in
       let k : Some (is_waiting e.state) ≡ Some false = b in
       cc
 
+  -- what wakes stations is the entry, Done
+  is_done : then ≡ done e
+  is_done = some_of then (done e) (sym there ∙ set_there h i e rob here sets)
+
+  wakes_done : stations ≡ record (h.stations) { held = struck_if_given (hold_of h.desc h.point) (done e) h.stations.held }
+  wakes_done = wakes ∙ ap (λ (e : Entry). record (h.stations) { held = struck_if_given (hold_of h.desc h.point) e h.stations.held }) is_done
+
   are : record h { rob = rob; stations = stations }
       ≡ record h {
         rob = record (h.rob) { entries = slice_set h.rob.entries i (done e) };
-        stations = record (h.stations) { held = map (struck e.serial) h.stations.held };
+        stations = record (h.stations) { held = struck_if_given (hold_of h.desc h.point) (done e) h.stations.held };
       }
   are =
       ap (λ (r : Ring). record h { rob = r; stations = stations }) sets
-      ∙ ap (λ (t : Stations). record h { rob = record (h.rob) { entries = slice_set h.rob.entries i (done e) }; stations = t }) wakes
+      ∙ ap (λ (t : Stations). record h { rob = record (h.rob) { entries = slice_set h.rob.entries i (done e) }; stations = t }) wakes_done
 
   entry_done : IsEntry h.desc h.ram e → IsEntry h.desc h.ram (done e)
   entry_done k = record { kind = k.kind; memory = k.memory; outcome = k.outcome; parts = λ st. k.parts st ∙ ap not waits_not; together = k.together }
@@ -64,9 +90,9 @@ module _ (h : Held) (v : Described) (i : ℕ) (e : Entry) (rob : Ring) (stations
   serial_shown = ap (option_map (λ (e : Entry). e.serial)) was_here
 
   -- whichever entry is there in the machine's window is this one
-  pub finish_shown : (there : Entry) → slice_get v.machine.window i ≡ Some there →
-      described (record h { rob = rob; stations = stations }) ≡ record v { machine = record (v.machine) { window = slice_set v.machine.window i (done there) } }
-  finish_shown there at = one_shown ∙ ap (λ (e : Entry). record v { machine = record (v.machine) { window = slice_set v.machine.window i (done e) } }) (some_of e there (sym was_here ∙ at))
+  pub finish_shown : (one : Entry) → slice_get v.machine.window i ≡ Some one →
+      described (record h { rob = rob; stations = stations }) ≡ record v { machine = record (v.machine) { window = slice_set v.machine.window i (done one) } }
+  finish_shown one at = one_shown ∙ ap (λ (e : Entry). record v { machine = record (v.machine) { window = slice_set v.machine.window i (done e) } }) (some_of e one (sym was_here ∙ at))
 
 -- what is told of the entry in the buffer is told of the machine's
 pub told_here : (h : Held) (v : Described) (i : ℕ) (b : Bool) → Whole h → described h ≡ v → option_map (completes h.cycle) (slice_get h.rob.entries i) ≡ Some b →

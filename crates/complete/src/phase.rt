@@ -8,6 +8,7 @@ ghost use Rattle.window_model.specs.Row.{HasRoom, IsLonger, most_done, with_even
 ghost use Rattle.core_parts.specs.Described.{with_window};
 ghost use Rattle.complete.specs.Completed.{done_at};
 
+use crate::waking::wake_readers;
 use core_parts::Parts;
 use rename_taint::RenameTaint;
 use rob_ring::RobRing;
@@ -49,7 +50,8 @@ fn is_due(state: Progress, cycle: u64) -> bool
     }
 }
 
-// The entry at a position, which doesn't wait, becomes Done: no station awaits it any more. The answer is its serial.
+// The entry at a position, which doesn't wait, becomes Done: no station awaits it any more, unless its value is held back. The
+// answer is its serial.
 fn finish<R: RenameTaint>(i: u32, parts: &mut Parts<R>) -> u64
     requires { option_map (λ e. is_waiting e.state) (slice_get parts.old.machine.window i) ≡ Some false }
     ensures serial { option_map (λ e. e.serial) (slice_get parts.old.machine.window i) ≡ Some result }
@@ -58,6 +60,7 @@ fn finish<R: RenameTaint>(i: u32, parts: &mut Parts<R>) -> u64
 {
     let serial = parts.rob.lend(i).serial;
     parts.rob.finish(i);
-    parts.stations.wake(serial);
+    let done = parts.rob.lend(i);
+    wake_readers(done, &parts.desc, &parts.point, &mut parts.stations);
     serial
 }
