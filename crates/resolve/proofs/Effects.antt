@@ -14,7 +14,7 @@ use Rattle.window_model.specs.Serials.{Rise}
 use Rattle.window_model.proofs.Serials.{below_next as up_to, rise_with}
 use Rattle.branch_resolve.specs.Effect.{resolution_of}
 use Rattle.branch_resolve.specs.declared.effect.Resolution.TheVariants.{Right, Wrong, Fault}
-use Rattle.core_parts.specs.Dropped.{cut_after, younger_count}
+use Rattle.core_parts.specs.Dropped.{count_from, cut_from}
 use Rattle.resolve.specs.Taken.{resolving, true_next}
 use Rattle.resolve.proofs.Picked.{Taken, taken, replaced}
 
@@ -97,8 +97,8 @@ module _ (d : Desc) (x : Machine) (i : ℕ) (e : Entry) (picked : Some i ≡ res
 
     pub wrong_is : resolve d x
         ≡ record {
-          machine = cut_after e.serial (true_next (resolution_of e)) (recalled d i e x);
-          events = (learn d e x.counters x.targets).events ++ event.Sq (younger_count e.serial (recalled d i e x)) ∷ [];
+          machine = cut_from (e.serial + 1) (true_next (resolution_of e)) (recalled d i e x);
+          events = (learn d e x.counters x.targets).events ++ event.Sq (count_from (e.serial + 1) (recalled d i e x)) ∷ [];
         }
     unfolding place
     wrong_is =
@@ -106,5 +106,5 @@ module _ (d : Desc) (x : Machine) (i : ℕ) (e : Entry) (picked : Some i ≡ res
         let end : Machine → ℕ → After = λ y n. record { machine = y; events = (learn d e x.counters x.targets).events ++ event.Sq (n + length x.queue) ∷ [] } in
         by_place d x _ place true it.is s.0
         ∙ ap (λ n. end (squash d place (with_predictor x (learn d e x.counters x.targets).counters (learn d e x.counters x.targets).targets)).machine n) (sym gone)
-        ∙ ap (λ w. end (record (cut_after e.serial (if is_faulty e then None else Some (next_of e.outcome)) (recalled d i e x)) { window = w }) (length (slice_set x.window i (as_resolved e)) - length (below (e.serial + 1) (slice_set x.window i (as_resolved e))))) (sym below_is)
-        ∙ ap (λ next. end (cut_after e.serial next (recalled d i e x)) (length (slice_set x.window i (as_resolved e)) - length (below (e.serial + 1) (slice_set x.window i (as_resolved e))))) (sym s.1)
+        ∙ ap (λ w. end (record (cut_from (e.serial + 1) (if is_faulty e then None else Some (next_of e.outcome)) (recalled d i e x)) { window = w }) (length (slice_set x.window i (as_resolved e)) - length (below (e.serial + 1) (slice_set x.window i (as_resolved e))))) (sym below_is)
+        ∙ ap (λ next. end (cut_from (e.serial + 1) next (recalled d i e x)) (length (slice_set x.window i (as_resolved e)) - length (below (e.serial + 1) (slice_set x.window i (as_resolved e))))) (sym s.1)

@@ -1,13 +1,16 @@
 -- The parts once an entry has taught the predictor and is marked as resolved.
-use Rattle.std.proofs.Common.{◌≡◌, ℕ, zero, suc, ◌<◌, List, [], ◌∷◌, ◌++◌, length, Option, Some, None, refl, ap, ap₂, sym, ◌∙◌, subst, slice_get}
-use Rattle.std.specs.Prelude.{slice_set}
+use Rattle.std.proofs.Common.{◌≡◌, ℕ, zero, suc, ◌+◌, ◌<◌, Bool, true, false, List, [], ◌∷◌, ◌++◌, length, Option, Some, None, refl, ap, ap₂, sym, ◌∙◌, subst, arith, slice_get}
+use Rattle.std.specs.Prelude.{◌^◌, slice_set}
 use Rattle.std.proofs.lemmas.List.{append-nil, append_assoc}
 use Rattle.std.proofs.lemmas.Option.{slice_get_within}
 use Rattle.std.specs.Option.{option_map}
+use Rattle.rv_types.specs.declared.Kind.{Kind}
+use Rattle.rv_types.specs.declared.Kind.TheVariants.{Branch, Jalr}
 use Rattle.machine_desc.specs.declared.Desc.{Desc}
 use Rattle.window_model.specs.declared.Entry.{Entry}
-use Rattle.window_model.specs.Order.{Place, first}
+use Rattle.window_model.specs.Order.{Place, first, is_control}
 use Rattle.window_model.specs.Resolve.{learn, may_resolve, resolve, resolve_at, true_mark}
+use Rattle.window_model.specs.Taint.{settled_as}
 use Rattle.window_model.specs.declared.Mark.{Mark}
 use Rattle.window_model.specs.Row.{Row}
 use Rattle.window_model.specs.declared.Event.TheVariants as event
@@ -15,6 +18,7 @@ use Rattle.window_model.specs.State.{After, Machine}
 use Rattle.window_model.proofs.Booleans.{done_waits, some_of}
 use Rattle.window_model.proofs.Counts.{evolves_thins}
 use Rattle.window_model.proofs.Places.{found}
+use Rattle.window_model.proofs.Serials.{all_at}
 use Rattle.window_model.proofs.Resolving.{MayResolve, resolve_parts, resolved_goes}
 use Rattle.machine_facts.specs.Sized.{Sized}
 use Rattle.machine_facts.proofs.Parts.{IsEntry, parts, whole}
@@ -32,7 +36,7 @@ use Rattle.parts_stand.proofs.Answering.{picks_first}
 use Rattle.rob_ring.specs.Beside.{each_roots}
 use Rattle.core_parts.specs.Described.{Described}
 use Rattle.core_parts.specs.Held.{Held, Sizes, Whole, described, in_flight, machine_of, sizes}
-use Rattle.core_parts.specs.Dropped.{StopsAt, cut_after, younger_count}
+use Rattle.core_parts.specs.Dropped.{StopsBelow, count_from, cut_from}
 use Rattle.core_parts.proofs.Sizes.{each_set, evolves_set}
 use Rattle.core_parts.proofs.Steps.{stands_resolved, stops_at}
 use Rattle.resolve.specs.Taken.{resolving, true_next}
@@ -98,6 +102,16 @@ sized_recalled d x m s =
 
 -- ---- the parts
 
+-- there is a serial after the entry's, as there is a next one
+pub serial_fits : (h : Held) (i : ℕ) (e : Entry) → Whole h → slice_get h.rob.entries i ≡ Some e → h.next_serial < 2 ^ 64 → e.serial + 1 < 2 ^ 64
+serial_fits h i e w here n = let below_next = all_at (λ (e : Entry). e.serial < h.next_serial) h.rob.entries i e w.stands.stand.next here in omega (arith, below_next, n)
+
+-- a branch or JALR that isn't resolved isn't settled
+unsettled : (k : Kind) (resolved cleared : Bool) → is_control k ≡ true → resolved ≡ false → settled_as k resolved cleared ≡ false
+unsettled Branch resolved cleared c h = h
+unsettled Jalr resolved cleared c h = h
+unsettled _ resolved cleared c h = absurd (cc)
+
 -- the entry that is taken may be
 takes : (d : Desc) (w : List Entry) (i : ℕ) (e : Entry) (k : Taken d w i e) → MayResolve d k.before e
 takes d w i e k = resolve_parts d k.before e (found (may_resolve d) [] w (record { before = k.before; entry = e; younger = k.younger }) k.is).has
@@ -131,7 +145,7 @@ module _ (h : Held) (v : Described) (i : ℕ) (e : Entry) (rob : Ring) (tables :
 
   -- the visibility point stops at it
   pub marked_stops : NotPast h.point e.serial
-  marked_stops = stops_at (in_flight h) i e w.stands here may.control may.fresh
+  marked_stops = stops_at (in_flight h) i e w.stands here (unsettled e.item.kind e.resolved e.cleared may.control may.fresh)
 
   -- what stands there then is the entry, marked
   marked_here : slice_get rob.entries i ≡ Some (as_resolved e)
@@ -186,36 +200,36 @@ module _ (h : Held) (v : Described) (i : ℕ) (e : Entry) (rob : Ring) (tables :
 
       all : resolve v.desc v.machine
           ≡ record {
-            machine = cut_after e.serial (true_next (resolution_of e)) (recalled v.desc i e v.machine);
-            events = (learn v.desc e v.machine.counters v.machine.targets).events ++ event.Sq (younger_count e.serial (recalled v.desc i e v.machine)) ∷ [];
+            machine = cut_from (e.serial + 1) (true_next (resolution_of e)) (recalled v.desc i e v.machine);
+            events = (learn v.desc e v.machine.counters v.machine.targets).events ++ event.Sq (count_from (e.serial + 1) (recalled v.desc i e v.machine)) ∷ [];
           }
       all = wrong_is v.desc v.machine i e p there wrong rises
 
       pub wrong_shown : (last : Described) (next : Option ℕ) → next ≡ true_next (resolution_of e) →
-          last ≡ (let d = described (record h { rob = rob; tables = tables; past = past }) in record d { machine = cut_after e.serial next d.machine }) → last ≡ record v { machine = (resolve v.desc v.machine).machine }
+          last ≡ (let d = described (record h { rob = rob; tables = tables; past = past }) in record d { machine = cut_from (e.serial + 1) next d.machine }) → last ≡ record v { machine = (resolve v.desc v.machine).machine }
       wrong_shown last next n l =
           l
-          ∙ ap (λ (d : Described). record d { machine = cut_after e.serial next d.machine }) recalled_shown
-          ∙ ap (λ next. record v { machine = cut_after e.serial next (recalled v.desc i e v.machine) }) n
+          ∙ ap (λ (d : Described). record d { machine = cut_from (e.serial + 1) next d.machine }) recalled_shown
+          ∙ ap (λ next. record v { machine = cut_from (e.serial + 1) next (recalled v.desc i e v.machine) }) n
           ∙ ap (λ (a : After). record v { machine = a.machine }) (sym all)
 
       pub wrong_row : (old then new : Row) (n : ℕ) → then ≡ record old { events = old.events ++ told h.tables e } →
-          n ≡ (let d = described (record h { rob = rob; tables = tables; past = past }) in younger_count e.serial d.machine) →
+          n ≡ (let d = described (record h { rob = rob; tables = tables; past = past }) in count_from (e.serial + 1) d.machine) →
           new ≡ record then { events = then.events ++ event.Sq n ∷ [] } → new ≡ record old { events = old.events ++ (resolve v.desc v.machine).events }
       wrong_row old then new n t d r =
           r
-          ∙ ap (λ n. record then { events = then.events ++ event.Sq n ∷ [] }) (d ∙ ap (λ (d : Described). younger_count e.serial d.machine) recalled_shown)
-          ∙ ap (λ (r : Row). record r { events = r.events ++ event.Sq (younger_count e.serial (recalled v.desc i e v.machine)) ∷ [] }) t
-          ∙ ap (λ es. record old { events = es }) (append_assoc old.events (told h.tables e) (event.Sq (younger_count e.serial (recalled v.desc i e v.machine)) ∷ []))
-          ∙ ap (λ es. record old { events = old.events ++ (es ++ event.Sq (younger_count e.serial (recalled v.desc i e v.machine)) ∷ []) }) told_is
+          ∙ ap (λ n. record then { events = then.events ++ event.Sq n ∷ [] }) (d ∙ ap (λ (d : Described). count_from (e.serial + 1) d.machine) recalled_shown)
+          ∙ ap (λ (r : Row). record r { events = r.events ++ event.Sq (count_from (e.serial + 1) (recalled v.desc i e v.machine)) ∷ [] }) t
+          ∙ ap (λ es. record old { events = es }) (append_assoc old.events (told h.tables e) (event.Sq (count_from (e.serial + 1) (recalled v.desc i e v.machine)) ∷ []))
+          ∙ ap (λ es. record old { events = old.events ++ (es ++ event.Sq (count_from (e.serial + 1) (recalled v.desc i e v.machine)) ∷ []) }) told_is
           ∙ ap (λ (a : After). record old { events = old.events ++ a.events }) (sym all)
 
   -- all that is younger may go
-  pub marked_stops_at : StopsAt e.serial h.point rob.entries
-  marked_stops_at = record {
+  pub marked_stops_below : StopsBelow (e.serial + 1) h.point rob.entries
+  marked_stops_below = record {
     position = i;
     entry = as_resolved e;
     here = marked_here;
-    is = refl;
+    older = omega arith;
     not_past = marked_stops;
   }

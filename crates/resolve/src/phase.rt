@@ -44,7 +44,7 @@ fn resolve_at<R: RenameTaint>(position: u32, parts: &mut Parts<R>, row: &mut Row
         return;
     }
     go_back_behind(parts.rob.lend(position), &mut parts.history);
-    let dropped = parts.drop_younger(serial, true_next(resolution));
+    let dropped = parts.drop_from(serial + 1, true_next(resolution));
     row.push(Event::Sq(dropped));
 }
 
