@@ -1,5 +1,5 @@
 -- The parts once an entry has come in.
-use Rattle.std.proofs.Common.{◌≡◌, ℕ, ◌+◌, true, false, List, [], ◌∷◌, ◌++◌, Option, Some, refl, ap, ap₂, sym, ◌∙◌, subst, arith}
+use Rattle.std.proofs.Common.{◌≡◌, ℕ, ◌+◌, Bool, true, false, not, ◌&&◌, List, [], ◌∷◌, ◌++◌, Option, Some, refl, ap, ap₂, sym, ◌∙◌, subst, arith}
 use Rattle.std.specs.Prelude.{◌<◌, drop, length, map, reverse, slice_get}
 use Rattle.std.specs.Option.{option_to_list}
 use Rattle.circular_buffer.specs.Buffer.{Buffer, buffer}
@@ -8,6 +8,7 @@ use Rattle.rv_types.specs.declared.Kind.{Kind}
 use Rattle.rv_types.specs.declared.Kind.TheVariants.{Load, Store}
 use Rattle.window_model.specs.declared.Entry.{Entry}
 use Rattle.window_model.specs.declared.Item.{Item}
+use Rattle.window_model.specs.Dependence.{passing}
 use Rattle.window_model.specs.Order.{is_load, is_store, sources}
 use Rattle.window_model.specs.Rename.{at_once, renamed}
 use Rattle.machine_facts.proofs.SizedPhases.{rename_item}
@@ -22,11 +23,12 @@ use Rattle.queue_laws.proofs.Renaming.{room_is}
 use Rattle.parts_stand.specs.Addresses.{base_root}
 use Rattle.parts_stand.specs.Parts.{awaits_of, write_of}
 use Rattle.parts_stand.specs.Steps.{seated}
+use Rattle.parts_stand.specs.Telling.{hold_of}
 use Rattle.parts_stand.proofs.Answering.{counts_room}
 use Rattle.core_parts.proofs.Lending.{each_has_sources}
 use Rattle.core_parts.specs.Described.{Described}
 use Rattle.core_parts.specs.Held.{Held, Sizes, Whole, described, in_flight, machine_of, sizes}
-use Rattle.core_parts.specs.Steps.{queued}
+use Rattle.core_parts.specs.Steps.{Fresh, queued}
 use Rattle.core_parts.proofs.Steps.{stands_renamed}
 use Rattle.rename.specs.Entering.{awaited_of_writer, with_station, with_write, write_by}
 use Rattle.rename.proofs.Awaiting.{awaits_are, writers_at}
@@ -90,20 +92,20 @@ pub record Entered (e : Entry) (h : Held) (rob : Ring) (beside : Buffer Sources)
   pub sources : beside ≡ buffer (h.sources.items ++ sources_at h.writes e ∷ []) h.sources.capacity
   pub table : writes ≡ h.writes ++ option_to_list (write_of e (roots_at h.writes e))
   pub same_room : room ≡ h.table_room
-  pub places : (place : ℕ) × (stations ≡ record (h.stations) { held = seated h.desc.version place (awaits_of (reverse h.rob.entries) e) e h.stations.held })
+  pub places : (place : ℕ) × (stations ≡ record (h.stations) { held = seated h.desc.version place (awaits_of (hold_of h.desc h.point) (reverse h.rob.entries) e) e h.stations.held })
   pub loads_and_stores : q ≡ queued e.item.kind e.serial (base_root (roots_at h.writes e)) h.queues
   pub fetched : fetch_unit ≡ record (h.fetch_unit) { queue = drop 1 h.fetch_unit.queue }
 
 -- what the phase makes of each part is that
 pub entered_by : (h : Held) (item : Item) (s : Sources) (awaits : List (Option ℕ)) (rob : Ring) (beside : Buffer Sources) (writes : List Write) (room : ℕ) (stations : Stations) (q : Queues) (fetch_unit : FetchUnit) →
     Whole h → s.writers ≡ writers_at h.writes (renamed h.desc h.next_serial item) → s.roots ≡ roots_at h.writes (renamed h.desc h.next_serial item) →
-    awaits ≡ map (awaited_of_writer h.rob.entries) s.writers → rob ≡ record (h.rob) { entries = h.rob.entries ++ renamed h.desc h.next_serial item ∷ [] } →
+    awaits ≡ map (awaited_of_writer (hold_of h.desc h.point) h.rob.entries) s.writers → rob ≡ record (h.rob) { entries = h.rob.entries ++ renamed h.desc h.next_serial item ∷ [] } →
     beside ≡ buffer (h.sources.items ++ s ∷ []) h.sources.capacity → writes ≡ with_write (write_by h.next_serial item s.roots) h.writes → room ≡ h.table_room →
     (place : ℕ) × (stations ≡ with_station h.desc.version place awaits (renamed h.desc h.next_serial item) h.stations) → q ≡ queued item.kind h.next_serial (base_root s.roots) h.queues →
     fetch_unit ≡ record (h.fetch_unit) { queue = drop 1 h.fetch_unit.queue } → Entered (renamed h.desc h.next_serial item) h rob beside writes room stations q fetch_unit
 entered_by h item s awaits rob beside writes room stations q fetch_unit w are_writers are_roots are_awaits come pushed written same placed added taken =
     let e = renamed h.desc h.next_serial item in
-    let awaited = are_awaits ∙ ap (map (awaited_of_writer h.rob.entries)) are_writers ∙ awaits_are _ e w.stands.stand in
+    let awaited = are_awaits ∙ ap (map (awaited_of_writer (hold_of h.desc h.point) h.rob.entries)) are_writers ∙ awaits_are _ e w.stands.stand in
     record {
       window = come;
       sources = pushed ∙ ap₂ (λ rs ws. buffer (h.sources.items ++ record { roots = rs; writers = ws } ∷ []) h.sources.capacity) are_roots are_writers;
@@ -120,7 +122,7 @@ entered place e h = record h {
   rob = record (h.rob) { entries = h.rob.entries ++ e ∷ [] };
   sources = buffer (h.sources.items ++ sources_at h.writes e ∷ []) h.sources.capacity;
   writes = h.writes ++ option_to_list (write_of e (roots_at h.writes e));
-  stations = record (h.stations) { held = seated h.desc.version place (awaits_of (reverse h.rob.entries) e) e h.stations.held };
+  stations = record (h.stations) { held = seated h.desc.version place (awaits_of (hold_of h.desc h.point) (reverse h.rob.entries) e) e h.stations.held };
   queues = queued e.item.kind e.serial (base_root (roots_at h.writes e)) h.queues;
   fetch_unit = record (h.fetch_unit) { queue = drop 1 h.fetch_unit.queue };
   next_serial = h.next_serial + 1;
@@ -147,13 +149,29 @@ pub first_rest : (q : List Item) (item : Item) → slice_get q 0 ≡ Some item �
 first_rest [] item h = absurd (cc)
 first_rest (x ∷ q) item h = cc
 
+-- a store that loads may pass isn't cleared
+starts_uncleared : (passing store : Bool) → passing ≡ true → store ≡ true → not (passing && store) ≡ false
+starts_uncleared true true p s = refl
+starts_uncleared true false p s = absurd (cc)
+starts_uncleared false store p s = absurd (cc)
+
+fresh : (h : Held) (item : Item) → Fresh (in_flight h) (renamed h.desc h.next_serial item)
+fresh h item = record {
+  serial = refl;
+  unresolved = refl;
+  address = refl;
+  stored = refl;
+  unissued = refl;
+  uncleared = starts_uncleared (passing h.desc) (is_store item.kind);
+}
+
 entered_whole : (h : Held) (item : Item) (place : ℕ) → Whole h → fitting h.desc h.rob.entries (slice_get h.fetch_unit.queue 0) ≡ Some item → Whole (entered place (renamed h.desc h.next_serial item) h)
 entered_whole h item place w q =
     let e = renamed h.desc h.next_serial item in
     let found = fitting_is h.desc h.rob.entries (slice_get h.fetch_unit.queue 0) item q in
     record {
       sized = rename_item h.desc (machine_of h) item (drop 1 h.fetch_unit.queue) (first_rest h.fetch_unit.queue item found.0) found.1 w.sized;
-      stands = stands_renamed (in_flight h) e (sources_at h.writes e) (awaits_of (reverse h.rob.entries) e) place w.stands (record { serial = refl; unresolved = refl; address = refl; stored = refl }) refl refl refl;
+      stands = stands_renamed (in_flight h) e (sources_at h.writes e) (awaits_of (hold_of h.desc h.point) (reverse h.rob.entries) e) place w.stands (fresh h item) refl refl refl;
       made = entered_sizes h place e ∙ w.made;
     }
 

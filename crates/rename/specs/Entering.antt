@@ -2,24 +2,31 @@
 use Rattle.std.specs.Prelude.{◌≡◌, ℕ, List, ◌++◌, length, slice_get, Option, Some, None}
 use Rattle.std.specs.Option.{option_map, option_to_list}
 use Rattle.rv_types.specs.Regs.{writes_of}
+use Rattle.machine_desc.specs.declared.Defence.{Defence}
 use Rattle.window_model.specs.declared.Entry.{Entry}
 use Rattle.window_model.specs.declared.Item.{Item}
+use Rattle.window_model.specs.Ready.{holds}
 use Rattle.rob_ring.specs.Ring.{below}
 use Rattle.rename_taint.specs.declared.Write.{Write}
 use Rattle.rename_taint.specs.Writes.{root_written}
 use Rattle.stations.specs.Stations.{Stations}
-use Rattle.parts_stand.specs.Parts.{awaited_of}
+use Rattle.visibility.specs.Point.{Point}
+use Rattle.parts_stand.specs.Parts.{Hold, awaited_of}
 use Rattle.parts_stand.specs.Steps.{seated}
+
+-- what holds results back under a defence, up to a point
+abbrev pub held_by : Defence → Point → Hold
+held_by defence point = record { holds = holds defence; point = point.serial }
 
 -- a source's writer, if it has one, is in the window: the entry at its serial's position has that serial
 abbrev pub HasPlace : List Entry → Option ℕ → Type 0
 HasPlace window None = Unit {0}
 HasPlace window (Some serial) = option_map (λ e. e.serial) (slice_get window (length (below serial window))) ≡ Some serial
 
--- the serial that a source with this writer awaits, by the entry at that position
-abbrev pub awaited_of_writer : List Entry → Option ℕ → Option ℕ
-awaited_of_writer window None = None
-awaited_of_writer window (Some serial) = awaited_of (slice_get window (length (below serial window)))
+-- the serial that a source with this writer awaits where results are held back so, by the entry at that position
+abbrev pub awaited_of_writer : Hold → List Entry → Option ℕ → Option ℕ
+awaited_of_writer h window None = None
+awaited_of_writer h window (Some serial) = awaited_of h (slice_get window (length (below serial window)))
 
 -- what an item with this serial and these roots writes, if it writes a register
 abbrev pub write_by : ℕ → Item → List (Option ℕ) → Option Write

@@ -38,9 +38,9 @@ pub fn rename<R: RenameTaint>(parts: &mut Parts<R>, row: &mut Row)
 }
 
 // The oldest fetched item comes into the window with the next serial, and its entry into all parts: with the youngest roots and
-// the writers of its sources beside it, its write in the table, a station where it waits, and a load or a store in its queue. The
-// sources are looked up before the entry's own write is held. The answer is the item's address, None where there is no item or it
-// can't go into the window; nothing changes then.
+// the writers of its sources beside it, its write in the table, a station where it waits, for the writers that don't give their
+// values yet, and a load or a store in its queue. The sources are looked up before the entry's own write is held. The answer is the
+// item's address, None where there is no item or it can't go into the window; nothing changes then.
 fn enter_next<R: RenameTaint>(parts: &mut Parts<R>) -> Option<u32>
     requires serials { parts.old.machine.next_serial + 1 < 2 ^ 64 }
     ensures address { result ≡ option_map (λ item. item.pc) (next_item parts.old.desc parts.old.machine) }
@@ -59,7 +59,12 @@ fn enter_next<R: RenameTaint>(parts: &mut Parts<R>) -> Option<u32>
     };
     let serial = parts.next_serial;
     let sources = sources_of(&parts.table, &item.instr);
-    let awaits = awaits_of(sources.writers, &parts.rob);
+    let awaits = awaits_of(
+        sources.writers,
+        &parts.rob,
+        parts.desc.stt_defence,
+        &parts.point,
+    );
     add_write(serial, item, sources.roots, &mut parts.table);
     add_station(serial, item, &parts.desc, awaits, &mut parts.stations);
     add_access(serial, item.kind, sources.roots, &mut parts.lsq);
