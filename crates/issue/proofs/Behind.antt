@@ -18,7 +18,6 @@ use Rattle.window_model.specs.Issue.{address_of, bytes_of, effect_of, first_oper
 use Rattle.window_model.specs.Order.{before_at, has_address, has_data, is_done, is_store, is_waiting, sources}
 use Rattle.window_model.specs.Retire.{width_of}
 use Rattle.window_model.specs.Taint.{address_tainted}
-use Rattle.window_model.proofs.Withheld.{passes_none}
 use Rattle.machine_facts.specs.Sized.{HasParts, Together}
 use Rattle.machine_facts.specs.Timely.{WaitsOrDone, is_busy}
 use Rattle.machine_facts.proofs.GoesBehind.{goes_as_let}
@@ -98,10 +97,6 @@ module _ (s : Seen) (i : ℕ) (e : Entry) (t : Stands s) (h : StandsAt s i e) wh
   -- a load goes behind them where they let it go
   pub goes_is : goes_behind s.desc.now (around_of s) before e ≡ stores_let s.desc.now.stt_model (passes_stores s.desc.now (around_of s) e) (bytes_of (around_of s) before e) before
   goes_is = goes_as_let s.desc.now (around_of s) before e parts_before (each_back (Together s.desc.now) s.rob.now.entries [] i t.together tt) settled_before
-
-  -- which no load passes
-  pub goes_unpassed : goes_behind s.desc.now (around_of s) before e ≡ stores_let s.desc.now.stt_model false (bytes_of (around_of s) before e) before
-  goes_unpassed = goes_is ∙ ap (λ a. stores_let s.desc.now.stt_model a (bytes_of (around_of s) before e) before) (passes_none s.desc.now (around_of s) e)
 
   -- so it does where they are all known
   pub goes_known : list_all is_known (stores s i e t h) ≡ true → goes_behind s.desc.now (around_of s) before e ≡ true

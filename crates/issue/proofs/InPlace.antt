@@ -1,16 +1,20 @@
 -- Parts that stand for the window go on to do so as the entries that have issued, or of which a part has, come in their places, the
 -- youngest first.
-use Rattle.std.proofs.Common.{◌≡◌, ℕ, zero, suc, ◌+◌, ◌-◌, ◌<◌, ◌≤◌, true, false, not, List, [], ◌∷◌, ◌++◌, length, Some, refl, ap, sym, ◌∙◌, subst, arith, take, get_or, slice_get}
-use Rattle.std.specs.Prelude.{slice_set}
+use Rattle.std.proofs.Common.{◌≡◌, ℕ, zero, suc, ◌+◌, ◌-◌, ◌<◌, ◌≤◌, Bool, true, false, not, ◌&&◌, List, [], ◌∷◌, ◌++◌, length, Some, refl, ap, sym, ◌∙◌, subst, arith, take, get_or, slice_get}
+use Rattle.std.specs.Prelude.{if◌then◌else◌, map, slice_set}
 use Rattle.std.specs.List.{All, AllPairs}
 use Rattle.std.proofs.Math.Seq.{get_or-append_seam}
 use Rattle.std.proofs.lemmas.List.{get_or_append_left, length-append, take_all, take_more}
 use Rattle.std.proofs.lemmas.List.Elements.{All-head}
 use Rattle.std.proofs.lemmas.Option.{slice_get_within}
+use Rattle.machine_desc.specs.declared.Desc.{Desc}
 use Rattle.window_model.specs.declared.Entry.{Entry}
+use Rattle.window_model.specs.Dependence.{passing}
 use Rattle.window_model.specs.Order.{is_waiting}
 use Rattle.window_model.specs.Retire.{width_of}
-use Rattle.lsq.specs.Queues.{Queues}
+use Rattle.lsq.specs.Queues.{Queues, issued_at}
+use Rattle.lsq.specs.declared.load.Load.{Load}
+use Rattle.queue_laws.specs.Window.{access_in, has_read, noted}
 use Rattle.machine_desc.specs.declared.SttModel.TheVariants.{Futuristic}
 use Rattle.rob_ring.specs.Issued.{with_issued}
 use Rattle.rob_ring.specs.Ring.{Ring, is_unsafe}
@@ -28,20 +32,20 @@ use Rattle.issue.proofs.Turning.{issues_here, placed_push}
 -- ---- what stands
 
 -- whatever stood for the one window, with these stations and queues, does for the other with those
-abbrev pub Ties : ℕ → List Entry → List Station → Queues → List Entry → List Station → Queues → Type 0
-Ties version entries held queues now held_now queues_now =
-    (p : InFlight) → Stands (record p { version = version; window = entries; held = held; queues = queues }) →
-    Stands (record p { version = version; window = now; held = held_now; queues = queues_now })
+abbrev pub Ties : Desc → List Entry → List Station → Queues → List Entry → List Station → Queues → Type 0
+Ties d entries held queues now held_now queues_now =
+    (p : InFlight) → Stands (record p { version = d.version; tracked = passing d; window = entries; held = held; queues = queues }) →
+    Stands (record p { version = d.version; tracked = passing d; window = now; held = held_now; queues = queues_now })
 
 -- an entry comes in its place, its station is freed or waits for what is left, and what has issued of it is known
-ties_more : (version : ℕ) (entries : List Entry) (held : List Station) (queues : Queues) (now : List Entry) (held_now : List Station) (queues_now : Queues) (put : Put) →
-    Ties version entries held queues now held_now queues_now → (k : IsPut now put) →
-    Ties version entries held queues (slice_set now put.position (with_issued put.issued k.old)) (left_held version put.station (with_issued put.issued k.old) held_now) (known_in queues_now (with_issued put.issued k.old))
-ties_more version entries held queues now held_now queues_now put t k =
+ties_more : (d : Desc) (entries : List Entry) (held : List Station) (queues : Queues) (now : List Entry) (held_now : List Station) (queues_now : Queues) (put : Put) →
+    Ties d entries held queues now held_now queues_now → (k : IsPut now put) →
+    Ties d entries held queues (slice_set now put.position (with_issued put.issued k.old)) (left_held d.version put.station (with_issued put.issued k.old) held_now) (known_in (passing d) queues_now (with_issued put.issued k.old))
+ties_more d entries held queues now held_now queues_now put t k =
     let new = with_issued put.issued k.old in
-    let P : ℕ → Type 0 = λ n. Ties version entries held queues (slice_set now put.position new) (left_held version n new held_now) (known_in queues_now new) in
+    let P : ℕ → Type 0 = λ n. Ties d entries held queues (slice_set now put.position new) (left_held d.version n new held_now) (known_in (passing d) queues_now new) in
     subst P (sym k.station)
-    (λ p s. stands_issued (record p { version = version; window = now; held = held_now; queues = queues_now }) put.position k.old new (width_for (width_of k.old)) (t p s) k.here k.waits k.issues k.stay)
+    (λ p s. stands_issued (record p { version = d.version; tracked = passing d; window = now; held = held_now; queues = queues_now }) put.position k.old new (width_for (width_of k.old)) (t p s) k.here k.waits k.issues k.stay (λ t. k.tracks))
 
 -- ---- the puts
 
@@ -71,6 +75,7 @@ still_put window put m e lt k = record {
   station = k.station ∙ sym (stations_older window put.position m e (omega (arith, lt)));
   issues = k.issues;
   stay = k.stay;
+  tracks = k.tracks;
 }
 
 -- the others are still to be put in their places, whatever comes in the youngest one's
@@ -99,27 +104,36 @@ still_left window puts put e a =
         let less = a.by_age i j d lt (omega (arith, many, within)) in
         omega (arith, this, that, less)
 
+-- ---- what is noted takes no room
+
+room_by : (b : Bool) (loads : List Load) (q : Queues) → ((if b then record q { loads = loads } else q).max_loads ≡ q.max_loads) × ((if b then record q { loads = loads } else q).max_stores ≡ q.max_stores)
+room_by true loads q = (refl, refl)
+room_by false loads q = (refl, refl)
+
+same_room_known : (passes : Bool) (q : Queues) (e : Entry) → ((known_in passes q e).max_loads ≡ q.max_loads) × ((known_in passes q e).max_stores ≡ q.max_stores)
+same_room_known passes q e = room_by (passes && has_read e) (map (issued_at e.serial (access_in (width_for (width_of e)) e)) q.loads) (noted (width_for (width_of e)) e q)
+
 -- ---- the loop
 
 -- with those that are left these parts come to what the first ones come to with all
-pub record PlacesOn (version : ℕ) (puts : List Put) (rob : Ring) (stations : Stations) (queues : Queues) (left : List Put) (r : Ring) (s : Stations) (q : Queues) : Type 0 where
+pub record PlacesOn (d : Desc) (puts : List Put) (rob : Ring) (stations : Stations) (queues : Queues) (left : List Put) (r : Ring) (s : Stations) (q : Queues) : Type 0 where
   pub whole : placed left r.entries ≡ placed puts rob.entries
   pub rest : ArePuts r.entries left
   pub same_room : r.room ≡ rob.room
   pub same_places : s.room ≡ stations.room
   pub same_loads : q.max_loads ≡ queues.max_loads
   pub same_stores : q.max_stores ≡ queues.max_stores
-  pub ties : Ties version rob.entries stations.held queues r.entries s.held q
+  pub ties : Ties d rob.entries stations.held queues r.entries s.held q
 
-pub places_start : (version : ℕ) (puts : List Put) (rob : Ring) (stations : Stations) (queues : Queues) → ArePuts rob.entries puts →
-    PlacesOn version puts rob stations queues (take (length puts) puts) rob stations queues
-places_start version puts rob stations queues a =
-    subst (λ left. PlacesOn version puts rob stations queues left rob stations queues) (sym (take_all (length puts) puts (omega arith)))
+pub places_start : (d : Desc) (puts : List Put) (rob : Ring) (stations : Stations) (queues : Queues) → ArePuts rob.entries puts →
+    PlacesOn d puts rob stations queues (take (length puts) puts) rob stations queues
+places_start d puts rob stations queues a =
+    subst (λ left. PlacesOn d puts rob stations queues left rob stations queues) (sym (take_all (length puts) puts (omega arith)))
     (record { whole = refl; rest = a; same_room = refl; same_places = refl; same_loads = refl; same_stores = refl; ties = λ p s. s })
 
 -- the youngest of the first n comes in its place
-module _ (version : ℕ) (puts : List Put) (rob : Ring) (stations : Stations) (queues : Queues) (n : ℕ) (r : Ring) (s : Stations) (q : Queues) (put : Put)
-    (t : PlacesOn version puts rob stations queues (take n puts) r s q) (some : 0 < n) (count : ℕ) (within : n ≤ count) (counted : count ≡ length puts)
+module _ (d : Desc) (puts : List Put) (rob : Ring) (stations : Stations) (queues : Queues) (n : ℕ) (r : Ring) (s : Stations) (q : Queues) (put : Put)
+    (t : PlacesOn d puts rob stations queues (take n puts) r s q) (some : 0 < n) (count : ℕ) (within : n ≤ count) (counted : count ≡ length puts)
     (items : List Put) (is : put ≡ get_or items (n - 1) put) (all : items ≡ puts) where
   abbrev rest : List Put
   rest = take (n - 1) puts
@@ -141,18 +155,18 @@ module _ (version : ℕ) (puts : List Put) (rob : Ring) (stations : Stations) (q
   place_within = slice_get_within r.entries put.position here.old here.here
 
   -- these stand for the window as it is now
-  now_stands : (p : InFlight) × Stands (record p { version = version; window = rob.entries; held = stations.held; queues = queues }) →
-      (p : InFlight) × Stands (record p { version = version; window = r.entries; held = s.held; queues = q })
+  now_stands : (p : InFlight) × Stands (record p { version = d.version; tracked = passing d; window = rob.entries; held = stations.held; queues = queues }) →
+      (p : InFlight) × Stands (record p { version = d.version; tracked = passing d; window = r.entries; held = s.held; queues = q })
   now_stands k = (k.0, t.ties k.0 k.1)
 
-  pub station_within : (p : InFlight) × Stands (record p { version = version; window = rob.entries; held = stations.held; queues = queues }) → put.station < length s.held
+  pub station_within : (p : InFlight) × Stands (record p { version = d.version; tracked = passing d; window = rob.entries; held = stations.held; queues = queues }) → put.station < length s.held
   station_within k =
       let now = now_stands k in
       subst (λ n. n < length s.held) (sym here.station)
-      ((has_station (table_and_stations (record now.0 { version = version; window = r.entries; held = s.held; queues = q })) put.position here.old now.1.stand here.here here.waits).within)
+      ((has_station (table_and_stations (record now.0 { version = d.version; tracked = passing d; window = r.entries; held = s.held; queues = q })) put.position here.old now.1.stand here.here here.waits).within)
 
   -- the entry there waits, and so is unresolved: once it or a part of it has issued it is safe as it was
-  pub as_safe : (p : InFlight) × Stands (record p { version = version; window = rob.entries; held = stations.held; queues = queues }) → (e : Entry) → slice_get r.entries put.position ≡ Some e →
+  pub as_safe : (p : InFlight) × Stands (record p { version = d.version; tracked = passing d; window = rob.entries; held = stations.held; queues = queues }) → (e : Entry) → slice_get r.entries put.position ≡ Some e →
       is_unsafe (with_issued put.issued e) ≡ is_unsafe e
   as_safe k e at =
       subst (λ e. is_unsafe (with_issued put.issued e) ≡ is_unsafe e) (one_there r.entries put.position here.old e here.here at)
@@ -179,19 +193,19 @@ module _ (version : ℕ) (puts : List Put) (rob : Ring) (stations : Stations) (q
     pub still_within : put.position < length r2.entries
     still_within = slice_get_within r2.entries put.position new new_there
 
-    pub places_more : (e2 : Entry) (s2 : Stations) (q2 : Queues) → slice_get r2.entries put.position ≡ Some e2 → s2 ≡ record s { held = left_held version put.station e2 s.held } →
-        q2 ≡ known_in q e2 → PlacesOn version puts rob stations queues rest r2 s2 q2
+    pub places_more : (e2 : Entry) (s2 : Stations) (q2 : Queues) → slice_get r2.entries put.position ≡ Some e2 → s2 ≡ record s { held = left_held d.version put.station e2 s.held } →
+        q2 ≡ known_in (passing d) q e2 → PlacesOn d puts rob stations queues rest r2 s2 q2
     places_more e2 s2 q2 at k n =
         let is : e2 ≡ new = one_there r2.entries put.position e2 new at new_there in
-        subst (λ r2. PlacesOn version puts rob stations queues rest r2 s2 q2) (sym ring_is)
-        (subst (λ s2. PlacesOn version puts rob stations queues rest (record r { entries = with_new }) s2 q2) (sym (k ∙ ap (λ e. record s { held = left_held version put.station e s.held }) is))
-        (subst (λ q2. PlacesOn version puts rob stations queues rest (record r { entries = with_new }) (record s { held = left_held version put.station new s.held }) q2) (sym (n ∙ ap (known_in q) is))
+        subst (λ r2. PlacesOn d puts rob stations queues rest r2 s2 q2) (sym ring_is)
+        (subst (λ s2. PlacesOn d puts rob stations queues rest (record r { entries = with_new }) s2 q2) (sym (k ∙ ap (λ e. record s { held = left_held d.version put.station e s.held }) is))
+        (subst (λ q2. PlacesOn d puts rob stations queues rest (record r { entries = with_new }) (record s { held = left_held d.version put.station new s.held }) q2) (sym (n ∙ ap (known_in (passing d) q) is))
         (record {
           whole = ap (placed rest) (sym (issues_here put r.entries here.old here.here)) ∙ sym (placed_push rest put r.entries) ∙ ap (λ ps. placed ps r.entries) (sym split) ∙ t.whole;
           rest = still_left r.entries rest put new are;
           same_room = t.same_room;
           same_places = t.same_places;
-          same_loads = t.same_loads;
-          same_stores = t.same_stores;
-          ties = ties_more version rob.entries stations.held queues r.entries s.held q put t.ties here;
+          same_loads = (same_room_known (passing d) q new).0 ∙ t.same_loads;
+          same_stores = (same_room_known (passing d) q new).1 ∙ t.same_stores;
+          ties = ties_more d rob.entries stations.held queues r.entries s.held q put t.ties here;
         })))

@@ -1,6 +1,5 @@
 -- The phase leaves parts that hold what the machine then holds, and stand for it.
-use Rattle.std.proofs.Common.{◌≡◌, ℕ, ◌+◌, ◌≤◌, false, length, [], ap, sym, ◌∙◌, subst, arith}
-use Rattle.std.specs.Prelude.{replicate}
+use Rattle.std.proofs.Common.{◌≡◌, ℕ, ◌+◌, ◌≤◌, length, [], ap, sym, ◌∙◌, subst, arith}
 use Rattle.std.specs.List.{AllByRecursion as Each, flat_map}
 use Rattle.std.specs.Option.{option_map}
 use Rattle.machine_desc.proofs.EveryDesc.{every_desc}
@@ -66,12 +65,12 @@ pub all_left : (h : Held) (cycle : ℕ) (now : Around) (ports : Ports) → Whole
 all_left h cycle now ports w b = subst (LeftAfter h.desc now []) (sym b) (left_first h.desc now cycle h.ports (ap (λ (s : Sizes). s.alus) w.made))
 
 -- the parts stand for the window
-pub standing : (h : Held) → Whole h → (p : InFlight) × Stands (holding h.desc.version h.rob h.stations h.queues p)
+pub standing : (h : Held) → Whole h → (p : InFlight) × Stands (holding h.desc h.rob h.stations h.queues p)
 standing h w = (in_flight h, w.stands)
 
 -- what an entry looks at, with this divider
 abbrev pub now_with : Held → Divider → Around
-now_with h v = record { cycle = h.cycle; regs = h.regs; ram = h.ram; dependence = replicate h.desc.predictor_depend false; cache = h.tags.sets; second = h.second.sets; misses = h.mshrs.misses; free_from = v.free_from }
+now_with h v = record { cycle = h.cycle; regs = h.regs; ram = h.ram; dependence = h.dependence; cache = h.tags.sets; second = h.second.sets; misses = h.mshrs.misses; free_from = v.free_from }
 
 -- what is decided for what is seen is decided for the machine
 pub decides : (h : Held) (v : Divider) (cycle : ℕ) (begun : Ports) (new : Divider) (decided : Decided) → Whole h → v ≡ h.ports.divider →
@@ -128,7 +127,7 @@ module _ (h : Held) (decided : Decided) (rob : Ring) (stations : Stations) (queu
       let registers = ap (λ (m : Registers). m.room) m in
       cc
 
-  pub issued_whole : ((p : InFlight) → Stands (holding h.desc.version h.rob h.stations h.queues p) → Stands (holding h.desc.version rob stations queues p)) → stations.room ≡ h.stations.room →
+  pub issued_whole : ((p : InFlight) → Stands (holding h.desc h.rob h.stations h.queues p) → Stands (holding h.desc rob stations queues p)) → stations.room ≡ h.stations.room →
       queues.max_loads ≡ h.queues.max_loads → queues.max_stores ≡ h.queues.max_stores → ports.alus ≡ h.ports.alus → Whole new
   issued_whole stands s a b p = record {
     sized = subst (Sized h.desc) (sym issued_machine) (sized_issue h.desc (machine_of h) (every_desc h.desc) w.sized);

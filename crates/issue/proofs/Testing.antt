@@ -24,7 +24,7 @@ use Rattle.unit_ports.specs.Laws.{LeftAfter, asked, if_asked}
 use Rattle.unit_ports.proofs.Granting.{granted_is, left_more}
 use Rattle.parts_stand.specs.Steps.{station_of}
 use Rattle.parts_stand.specs.Parts.{wants_of}
-use Rattle.parts_stand.specs.Telling.{asks_besides, has_sources, own_of}
+use Rattle.parts_stand.specs.Telling.{HoldsBy, asks_besides, has_sources, own_of}
 use Rattle.parts_stand.proofs.Answering.{tells_able, tells_issue, tells_part}
 use Rattle.issue.specs.declared.seen.Seen.{Seen}
 use Rattle.issue.specs.Ports.{OnlyPorts, events_left, left_in_all, most_events_of}
@@ -37,10 +37,14 @@ module _ (s : Seen) (i : ℕ) (e : Entry) (t : Stands s) (h : StandsAt s i e) wh
   abbrev before : List Entry
   before = before_at s.rob.now.entries i
 
+  -- what loads read is held back by the point
+  held_by : HoldsBy s.desc.now (parts_of t.next t.writes s) s.point.now
+  held_by = record { advanced = t.advanced; model = t.model; hold = refl }
+
   -- an entry that waits has a station, which tells whether what it wants is there
   pub able_is : (n : ℕ) (b : Bool) → is_waiting e.state ≡ true → n ≡ station_of i s.rob.now.entries → option_map is_able (slice_get s.stations.now.held n) ≡ Some b → b ≡ has_sources (wants_of s.desc.now.version e) s.desc.now before e
   able_is n b w q k =
-      let told = tells_able s.desc.now (parts_of t.next t.writes s) i e t.parts h w in
+      let told = tells_able s.desc.now (parts_of t.next t.writes s) s.point.now i e t.parts held_by h w in
       let here : option_map is_able (slice_get s.stations.now.held (station_of i s.rob.now.entries)) ≡ Some b = subst (λ n. option_map is_able (slice_get s.stations.now.held n) ≡ Some b) q k in
       let both : Some b ≡ Some (has_sources (wants_of s.desc.now.version e) s.desc.now before e) = sym here ∙ told in
       cc
@@ -48,7 +52,7 @@ module _ (s : Seen) (i : ℕ) (e : Entry) (t : Stands s) (h : StandsAt s i e) wh
   -- and whether the source of a part is
   pub part_is : (part : Part) (n : ℕ) (b : Bool) → is_waiting e.state ≡ true → n ≡ station_of i s.rob.now.entries → option_map (ready_part part) (slice_get s.stations.now.held n) ≡ Some b → b ≡ all_known s.desc.now before (own_of part (sources e))
   part_is part n b w q k =
-      let told = tells_part part s.desc.now (parts_of t.next t.writes s) i e t.parts h w in
+      let told = tells_part part s.desc.now (parts_of t.next t.writes s) s.point.now i e t.parts held_by h w in
       let here : option_map (ready_part part) (slice_get s.stations.now.held (station_of i s.rob.now.entries)) ≡ Some b = subst (λ n. option_map (ready_part part) (slice_get s.stations.now.held n) ≡ Some b) q k in
       let both : Some b ≡ Some (all_known s.desc.now before (own_of part (sources e))) = sym here ∙ told in
       cc

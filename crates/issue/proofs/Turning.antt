@@ -1,5 +1,5 @@
 -- What an entry's turn comes to: it waits on, or it goes on with an event.
-use Rattle.std.proofs.Common.{◌≡◌, ℕ, ◌+◌, ◌<◌, ◌≤◌, Bool, true, false, List, [], ◌∷◌, ◌++◌, length, refl, ap, ap₂, sym, subst, ◌∙◌, inl, inr, arith, append-nil, slice_get, Some, eqb-true}
+use Rattle.std.proofs.Common.{◌≡◌, ℕ, ◌+◌, ◌<◌, ◌≤◌, Bool, true, false, ◌&&◌, Option, List, [], ◌∷◌, ◌++◌, length, refl, ap, ap₂, sym, subst, ◌∙◌, inl, inr, arith, append-nil, slice_get, Some, eqb-true}
 use Rattle.std.specs.Prelude.{◌==◌, ◌||◌, if◌then◌else◌, map, slice_set, ◌⊎◌}
 use Rattle.std.specs.List.{All}
 use Rattle.std.proofs.lemmas.List.{set_at}
@@ -17,7 +17,7 @@ use Rattle.window_model.specs.declared.Outcome.{Outcome}
 use Rattle.window_model.specs.Around.{Around}
 use Rattle.window_model.specs.State.{lines_of}
 use Rattle.window_model.specs.Access.{Line, Looks, Request, look_up, prefetched, source_of}
-use Rattle.window_model.specs.Order.{has_address, has_data, is_store, is_waiting}
+use Rattle.window_model.specs.Order.{has_address, has_data, is_load, is_store, is_waiting}
 use Rattle.window_model.specs.Retire.{op_of, width_of}
 use Rattle.window_model.specs.Issue.{AddressPort, Begun, DataPort, access_of, begin_as, begins, data_events, effect_of, if_granted, is_granted, issue_entry, issue_parts, load_as, port_of, waits, with_address, with_data}
 use Rattle.window_model.proofs.Booleans.{waiting_done}
@@ -25,7 +25,7 @@ use Rattle.window_model.proofs.Issuing.{OneOrTwo, One, Two, by_load, by_prefetch
 use Rattle.window_model.proofs.Together.{granted_together}
 use Rattle.unit_ports.specs.Ports.{port_for}
 use Rattle.rob_ring.specs.Issued.{issued_of, with_issued}
-use Rattle.queue_laws.specs.Window.{PartsGoOn}
+use Rattle.queue_laws.specs.Window.{PartsGoOn, TracksOn}
 use Rattle.parts_stand.specs.Steps.{Issues, station_of}
 use Rattle.issue.specs.declared.decide.Put.{Put}
 use Rattle.issue.specs.Ports.{most_events_of}
@@ -85,9 +85,15 @@ pub record Acts (e : Entry) (b : Begun) : Type 0 where
   pub rest : with_issued (issued_of b.entry) e ≡ b.entry
   pub issues : Issues e b.entry
   pub stay : is_store e.item.kind ≡ true → PartsGoOn (width_for (width_of e)) e b.entry
+  pub tracks : TracksOn (width_for (width_of e)) e b.entry
 
 abbrev pub Turns : Entry → Begun → Type 0
 Turns e b = (b ≡ waits e) ⊎ Acts e b
+
+-- a load that issues has read
+unread_not : (load : Bool) → load ≡ true → (load && true) ≡ false → ⊥
+unread_not true l h = absurd (cc)
+unread_not false l h = absurd (cc)
 
 some_events : (now : Around) (e : Entry) (due : ℕ) (o : Outcome) (v : Event) (more : List Event) → is_store e.item.kind ≡ false → is_waiting e.state ≡ true → Turns e (begins now e due o (v ∷ more))
 some_events now e due o v more s w = inr (record {
@@ -98,6 +104,12 @@ some_events now e due o v more s w = inr (record {
   rest = refl;
   issues = record { on = record { serial = refl; item = refl }; undone = refl; resolved = refl; cleared = refl };
   stay = λ t. absurd (cc);
+  tracks = record {
+    known = λ h. refl;
+    cleared = refl;
+    unread = λ l h. absurd (unread_not (is_load e.item.kind) l h);
+    size = λ h. size_is (op_of e.item.instr);
+  };
 })
 
 one_event : (now : Around) (e : Entry) (due : ℕ) (o : Outcome) (v : Event) → is_store e.item.kind ≡ false → is_waiting e.state ≡ true → Turns e (begins now e due o (v ∷ []))
@@ -118,9 +130,21 @@ begin_turns : (k : Kind) (d : Desc) (now : Around) (before : List Entry) (e : En
 begin_turns Load d now before e s w = load_turns d now before e _ _ s w
 begin_turns _ d now before e s w = one_event now e _ _ _ s w
 
-parts_turns : (a c : Bool) (d : Desc) (now : Around) (before : List Entry) (e : Entry) → ((a || c) ≡ true → is_waiting e.state ≡ true) → (a ≡ false → c ≡ true → (d.version == 1) ≡ false) → Turns e (parts_as a c d now before e)
-parts_turns false false d now before e w v = inl refl
-parts_turns true true d now before e w v = inr (record {
+-- its address is known from the same cycle on as it was, since it wasn't known
+same_address : (e : Entry) (due : Option ℕ) → has_address e ≡ false → has_address e ≡ true → due ≡ e.addr_due
+same_address e due none some = absurd (cc)
+
+-- a part that issues isn't known already; what else is tracked stays
+parts_track : (a c : Bool) (d : Desc) (now : Around) (before : List Entry) (e : Entry) → (a ≡ true → has_address e ≡ false) →
+    TracksOn (width_for (width_of e)) e (parts_as a c d now before e).entry
+parts_track true true d now before e f = record { known = same_address e _ (f refl); cleared = refl; unread = λ l h. refl; size = λ h. size_is (op_of e.item.instr) }
+parts_track true false d now before e f = record { known = same_address e _ (f refl); cleared = refl; unread = λ l h. refl; size = λ h. size_is (op_of e.item.instr) }
+parts_track false true d now before e f = record { known = λ h. refl; cleared = refl; unread = λ l h. refl; size = λ h. size_is (op_of e.item.instr) }
+parts_track false false d now before e f = record { known = λ h. refl; cleared = refl; unread = λ l h. refl; size = λ h. size_is (op_of e.item.instr) }
+
+parts_turns : (a c : Bool) (d : Desc) (now : Around) (before : List Entry) (e : Entry) → (a ≡ true → has_address e ≡ false) → ((a || c) ≡ true → is_waiting e.state ≡ true) → (a ≡ false → c ≡ true → (d.version == 1) ≡ false) → Turns e (parts_as a c d now before e)
+parts_turns false false d now before e f w v = inl refl
+parts_turns true true d now before e f w v = inr (record {
   event = event.Agu e.serial;
   more = data_events d e;
   has = refl;
@@ -128,8 +152,9 @@ parts_turns true true d now before e w v = inr (record {
   rest = refl;
   issues = record { on = record { serial = refl; item = refl }; undone = refl; resolved = refl; cleared = refl };
   stay = λ t. record { address = λ h. refl; stored = λ h. refl; outcome = λ h. refl; size = size_is (op_of e.item.instr) };
+  tracks = parts_track true true d now before e f;
 })
-parts_turns true false d now before e w v = inr (record {
+parts_turns true false d now before e f w v = inr (record {
   event = event.Agu e.serial;
   more = [];
   has = refl;
@@ -142,8 +167,9 @@ parts_turns true false d now before e w v = inr (record {
     cleared = refl;
   };
   stay = λ t. record { address = λ h. refl; stored = λ h. h; outcome = λ h. refl; size = size_is (op_of e.item.instr) };
+  tracks = parts_track true false d now before e f;
 })
-parts_turns false true d now before e w v = inr (record {
+parts_turns false true d now before e f w v = inr (record {
   event = event.Std e.serial;
   more = [];
   has = ap (λ one. if one then [] else event.Std e.serial ∷ []) (v refl refl);
@@ -156,6 +182,7 @@ parts_turns false true d now before e w v = inr (record {
     cleared = refl;
   };
   stay = λ t. record { address = λ h. h; stored = λ h. refl; outcome = λ h. refl; size = size_is (op_of e.item.instr) };
+  tracks = parts_track false true d now before e f;
 })
 
 module _ (d : Desc) (now : Around) (before : List Entry) (e : Entry) where
@@ -175,7 +202,7 @@ module _ (d : Desc) (now : Around) (before : List Entry) (e : Entry) where
   not_alone true v p q = let one : d.version ≡ 1 = eqb-true _ _ v in let same = granted_together d now one before e in absurd (cc)
 
   store_turns : (a c : Bool) → InStep d e → is_store e.item.kind ≡ true → is_granted d now AddressPort before e ≡ a → is_granted d now DataPort before e ≡ c → Turns e (parts_as a c d now before e)
-  store_turns a c t s p q = parts_turns a c d now before e (part_waits a c t s p q) (λ x y. not_alone (d.version == 1) refl (p ∙ x) (q ∙ y))
+  store_turns a c t s p q = parts_turns a c d now before e (λ x. fresh_address d now before e s (p ∙ x)) (part_waits a c t s p q) (λ x y. not_alone (d.version == 1) refl (p ∙ x) (q ∙ y))
 
   pub entry_turns : InStep d e → Turns e (issue_entry d now before e)
   entry_turns t = by_store (is_store e.item.kind) refl
@@ -258,6 +285,7 @@ puts_more window i station e puts b h n (inr a) t =
       station = n;
       issues = subst (Issues e) (sym a.rest) a.issues;
       stay = λ s. subst (PartsGoOn (width_for (width_of e)) e) (sym a.rest) (a.stay s);
+      tracks = subst (TracksOn (width_for (width_of e)) e) (sym a.rest) a.tracks;
     } in
     subst (λ events. PutsTo window (i + 1) (puts ++ puts_by i station (after_by b.entry events))) (sym a.has)
     (record {

@@ -1,10 +1,11 @@
 -- What Issue changes of the parts that stand for the window (docs/architecture.md, "How they stand for it").
-use Rattle.std.specs.Prelude.{ℕ}
+use Rattle.machine_desc.specs.declared.Desc.{Desc}
+use Rattle.window_model.specs.Dependence.{passing}
 use Rattle.rob_ring.specs.Ring.{Ring}
 use Rattle.stations.specs.Stations.{Stations}
 use Rattle.lsq.specs.Queues.{Queues}
 use Rattle.core_parts.specs.Stands.{InFlight}
 
--- what is in flight in this version of the machine, with these entries, these stations and these queues
-abbrev pub holding : ℕ → Ring → Stations → Queues → InFlight → InFlight
-holding version rob stations queues p = record p { version = version; window = rob.entries; held = stations.held; queues = queues }
+-- what is in flight under this description, with these entries, these stations and these queues
+abbrev pub holding : Desc → Ring → Stations → Queues → InFlight → InFlight
+holding d rob stations queues p = record p { version = d.version; tracked = passing d; window = rob.entries; held = stations.held; queues = queues }

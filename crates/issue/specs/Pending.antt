@@ -1,5 +1,5 @@
 -- What a load waits for in the older stores, and whether it is let go (docs/machine.md, "Issue").
-use Rattle.std.specs.Prelude.{ℕ, Bool, not, ◌&&◌}
+use Rattle.std.specs.Prelude.{ℕ, Bool, not, ◌&&◌, ◌||◌}
 use Rattle.window_model.specs.Issue.{bytes_of, passes_stores}
 use Rattle.visibility.specs.Point.{is_hidden}
 use Rattle.lsq.specs.declared.pending.Pending.{Pending}
@@ -17,6 +17,7 @@ passes_here s p = passes_stores s.desc.now (around_of s) p.entry.now
 abbrev pub pending_here : Seen → Place → Pending
 pending_here s p = awaited (bytes_of (around_of s) (before_of s p) p.entry.now) (older p.entry.now.serial s.lsq.now.stores)
 
--- each older store has its address; none without data covers a byte of the load, or has a tainted address
-abbrev pub lets_by : ℕ → Pending → Bool
-lets_by point p = not p.address && not p.overlap && not (is_hidden point p.root)
+-- each older store has its address, or the load passes those that lack it; none without data covers a byte of the load, or has a
+-- tainted address
+abbrev pub lets_by : Bool → ℕ → Pending → Bool
+lets_by passes point p = (passes || not p.address) && not p.overlap && not (is_hidden point p.root)

@@ -1,6 +1,6 @@
 -- Entries that issue, or of which a part does, before they do in their places (docs/machine.md, "Issue"): every test is made on the
 -- window as it was before the phase.
-use Rattle.std.specs.Prelude.{◌≡◌, ℕ, ◌<◌, ◌==◌, true, List, [], ◌∷◌, Option, None, Some, slice_get, slice_set, if◌then◌else◌}
+use Rattle.std.specs.Prelude.{◌≡◌, ℕ, Bool, ◌<◌, ◌==◌, true, List, [], ◌∷◌, Option, None, Some, slice_get, slice_set, if◌then◌else◌}
 use Rattle.std.specs.List.{All, AllPairs}
 use Rattle.rv_types.specs.declared.Width.{Width}
 use Rattle.rv_types.specs.declared.Width.TheVariants.{B, H, W}
@@ -9,7 +9,7 @@ use Rattle.window_model.specs.Order.{is_store, is_waiting}
 use Rattle.window_model.specs.Retire.{width_of}
 use Rattle.rob_ring.specs.Issued.{with_issued}
 use Rattle.lsq.specs.Queues.{Queues}
-use Rattle.queue_laws.specs.Window.{PartsGoOn, noted}
+use Rattle.queue_laws.specs.Window.{PartsGoOn, TracksOn, noted, noted_load}
 use Rattle.parts_stand.specs.Steps.{Issues, station_of}
 use Rattle.issue.specs.declared.decide.Put.{Put}
 
@@ -25,6 +25,7 @@ pub record IsPut (window : List Entry) (p : Put) : Type 0 where
   pub station : p.station ≡ station_of p.position window
   pub issues : Issues old (with_issued p.issued old)
   pub stay : is_store old.item.kind ≡ true → PartsGoOn (width_for (width_of old)) old (with_issued p.issued old)
+  pub tracks : TracksOn (width_for (width_of old)) old (with_issued p.issued old)
 
 -- each is one, and they are named by age
 pub record ArePuts (window : List Entry) (puts : List Put) : Type 0 where
@@ -45,6 +46,7 @@ abbrev pub placed : List Put → List Entry → List Entry
 placed [] window = window
 placed (p ∷ ps) window = issue_in p (placed ps window)
 
--- what has issued of the entry is known to the queues, if it is a store
-abbrev pub known_in : Queues → Entry → Queues
-known_in q e = noted (width_for (width_of e)) e q
+-- what has issued of the entry is known to the queues, if it is a store; and if it is a load what it reads, where loads may pass
+-- stores
+abbrev pub known_in : Bool → Queues → Entry → Queues
+known_in passing q e = noted_load passing (width_for (width_of e)) e (noted (width_for (width_of e)) e q)

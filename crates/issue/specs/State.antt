@@ -1,6 +1,6 @@
 -- The state that the phase looks at, when it stands for a machine, and an entry in its place (docs/machine.md, "Issue", "The
 -- parts stand for the machine").
-use Rattle.std.specs.Prelude.{◌≡◌, ℕ, ◌+◌, ◌^◌, ◌≤◌, List, true, false, length, replicate, slice_get, Some}
+use Rattle.std.specs.Prelude.{◌≡◌, ℕ, ◌+◌, ◌^◌, ◌≤◌, List, true, length, slice_get, Some}
 use Rattle.std.specs.List.{AllByRecursion as Each}
 use Rattle.machine_desc.specs.declared.Desc.{Desc}
 use Rattle.machine_facts.specs.Sized.{HasParts, Together}
@@ -13,27 +13,28 @@ use Rattle.rename_taint.specs.declared.Write.{Write}
 use Rattle.visibility.specs.Point.{HasAdvanced}
 use Rattle.queue_laws.specs.Window.{StandFor}
 use Rattle.parts_stand.specs.Parts.{Parts, Stand, wants_of}
-use Rattle.parts_stand.specs.Telling.{has_sources}
+use Rattle.parts_stand.specs.Telling.{has_sources, hold_of}
 use Rattle.parts_stand.specs.Addresses.{AddressesStand}
 use Rattle.parts_stand.specs.Steps.{station_of}
 use Rattle.parts_stand.specs.Writers.{WritersOf}
 use Rattle.issue.specs.declared.seen.Place.{Place}
 use Rattle.issue.specs.declared.seen.Seen.{Seen}
 
--- what an entry looks at besides the older ones. No bit of dependence is ever set: no load passes a store of unknown address
+-- what an entry looks at besides the older ones
 abbrev pub around_of : Seen → Around
-around_of s = record { cycle = s.cycle; regs = s.regs.now; ram = s.ram.now; dependence = replicate s.desc.now.predictor_depend false; cache = s.tags.now.sets; second = s.second.now.sets; misses = s.mshrs.now.misses; free_from = s.free_from }
+around_of s = record { cycle = s.cycle; regs = s.regs.now; ram = s.ram.now; dependence = s.dependence.now; cache = s.tags.now.sets; second = s.second.now.sets; misses = s.mshrs.now.misses; free_from = s.free_from }
 
 -- the window
 abbrev pub window_of : Seen → List Entry
 window_of s = s.rob.now.entries
 
--- what stands for the window, with the next serial and the writes of the rename table
+-- what stands for the window, with the next serial and the writes of the rename table. What loads read is held back by the point, as
+-- the description says
 abbrev pub parts_of : ℕ → List Write → Seen → Parts
-parts_of next writes s = record { version = s.desc.now.version; next = next; window = s.rob.now.entries; roots = each_roots s.sources.now.items; writes = writes; held = s.stations.now.held }
+parts_of next writes s = record { version = s.desc.now.version; hold = hold_of s.desc.now s.point.now; next = next; window = s.rob.now.entries; roots = each_roots s.sources.now.items; writes = writes; held = s.stations.now.held }
 
--- the parts stand for the window, the point has just moved, both levels of the cache and the registers are of the
--- description, and memory ends where it is said to
+-- the parts stand for the window, the point has just moved, the bits of dependence, both levels of the cache and the registers are
+-- of the description, and memory ends where it is said to
 pub record Stands (s : Seen) : Type 0 where
   pub next : ℕ
   pub writes : List Write
@@ -48,6 +49,7 @@ pub record Stands (s : Seen) : Type 0 where
   pub settled : Each WaitsOrDone s.rob.now.entries
   pub advanced : HasAdvanced s.point.now s.rob.now.entries
   pub model : s.point.now.model ≡ s.desc.now.stt_model
+  pub bits : length s.dependence.now ≡ s.desc.now.predictor_depend
   pub cache : s.tags.now.desc ≡ s.desc.now
   pub second : s.second.now.desc ≡ s.desc.now
   pub registers : s.mshrs.now.room ≡ s.desc.now.cache_mshrs

@@ -13,7 +13,7 @@ impl<'a> Seen<'a> {
     ghost use Rattle.window_model.specs.Order.{is_store};
     ghost use Rattle.rob_ring.specs.Beside.{each_roots, each_writers};
     ghost use Rattle.issue.specs.Ports.{LeftFor, besides, is_served};
-    ghost use Rattle.issue.specs.Pending.{lets_by, pending_here};
+    ghost use Rattle.issue.specs.Pending.{lets_by, passes_here, pending_here};
     ghost use Rattle.issue.specs.State.{HasTurn, here};
 
     /// What stands of the entry's sources at its position: their youngest roots, and the serials of their writers.
@@ -26,8 +26,8 @@ impl<'a> Seen<'a> {
         *sources_at(self.sources, place.position)
     }
 
-    // Whether the older stores let a load go: each has both its parts; or in version 2 each has its address, and each without data
-    // an untainted one that covers none of the load's bytes.
+    // Whether the older stores let a load go: each has both its parts; or in version 2 each has its address, unless the load passes
+    // stores, and each without data an untainted one that covers none of the load's bytes.
     fn goes(&self, place: &Place) -> bool
         requires turn { HasTurn self.now place.now }
         ensures { result ≡ here goes_behind self.now place.now }
@@ -38,14 +38,22 @@ impl<'a> Seen<'a> {
         if self.desc.version == 1 {
             return false;
         }
-        self.is_let(&self.pending(place))
+        self.is_let(self.passes(place), &self.pending(place))
     }
 
-    // Whether a load that waits for this is let go.
-    fn is_let(&self, pending: &Pending) -> bool
-        ensures { result ≡ lets_by self.now.point.now.serial pending.now }
+    // Whether a load passes stores of unknown address: there are bits of dependence, and its own isn't set.
+    fn passes(&self, place: &Place) -> bool
+        requires turn { HasTurn self.now place.now }
+        ensures { result ≡ passes_here self.now place.now }
     {
-        !pending.address && !pending.overlap && !self.point.tainted(pending.root)
+        self.desc.predictor_depend > 0 && !self.dependence.waits(place.entry.item.pc)
+    }
+
+    // Whether a load is let go that passes stores or not, and waits for this.
+    fn is_let(&self, passes: bool, pending: &Pending) -> bool
+        ensures { result ≡ lets_by passes self.now.point.now.serial pending.now }
+    {
+        (passes || !pending.address) && !pending.overlap && !self.point.tainted(pending.root)
     }
 
     // What a load waits for in the older stores, by its address: its base alone decides it.

@@ -18,8 +18,8 @@ use window_model::Row;
 /// issue begins to execute, oldest first, as far as there are ports, with its event in the row, and its station is freed. A store
 /// issues in two parts, each at a port of its own, and begins to execute once both have issued; what has issued of it is known to
 /// the queue of stores. A load's lines move to the front of their sets where the cache has them, and take miss registers where they
-/// need them, with which the line behind them may be prefetched; a division takes the divider. The point goes on to say which
-/// entries are visible.
+/// need them, with which the line behind them may be prefetched; what it reads is known to the queue of loads, where loads may pass
+/// stores. A division takes the divider. The point goes on to say which entries are visible.
 pub fn issue<R: RenameTaint>(parts: &mut Parts<R>, row: &mut Row)
     requires advanced { HasAdvanced parts.old.point parts.old.machine.window }
     requires settled { Each WaitsOrDone parts.old.machine.window }
@@ -41,6 +41,7 @@ pub fn issue<R: RenameTaint>(parts: &mut Parts<R>, row: &mut Row)
         lsq: &parts.lsq,
         point: &parts.point,
         sources: &parts.sources,
+        dependence: &parts.dependence,
         tags: &parts.tags,
         second: &parts.second,
         mshrs: &parts.mshrs,
@@ -54,7 +55,7 @@ pub fn issue<R: RenameTaint>(parts: &mut Parts<R>, row: &mut Row)
     seen.decide(&mut parts.ports, &mut decided, row);
     place(
         &decided.puts,
-        parts.desc.version,
+        &parts.desc,
         &mut parts.rob,
         &mut parts.stations,
         &mut parts.lsq,

@@ -1,15 +1,19 @@
 //! The entries that issue, or of which a part does, in their places (`docs/architecture.md`, "How they stand for it").
 ghost use Rattle.std.specs.Prelude.{◌≡◌, ◌<◌, length, true};
+ghost use Rattle.window_model.specs.Dependence.{passing};
 ghost use Rattle.window_model.specs.Order.{has_address, has_data, is_store, is_waiting};
+ghost use Rattle.window_model.specs.Retire.{width_of};
+ghost use Rattle.queue_laws.specs.Window.{noted, noted_load, with_span};
 ghost use Rattle.parts_stand.specs.Parts.{wants_by, wants_of};
 ghost use Rattle.parts_stand.specs.Steps.{left_held};
 ghost use Rattle.core_parts.specs.Stands.{InFlight, Stands};
 ghost use Rattle.issue.specs.Parts.{holding};
-ghost use Rattle.issue.specs.Puts.{ArePuts, known_in, placed};
+ghost use Rattle.issue.specs.Puts.{ArePuts, known_in, placed, width_for};
 
 use crate::decide::{PUTS_MAX, Put};
 use arrayvec::ArrayVec;
 use lsq::Lsq;
+use machine_desc::Desc;
 use rob_ring::RobRing;
 use stations::{Stations, Wants};
 use window_model::{Entry, Progress};
@@ -49,45 +53,88 @@ fn settle(stations: &mut Stations, version: u32, station: u32, entry: &Entry)
     }
 }
 
-// What has issued of an entry is known to the queue of stores, if it is a store.
+// Where a store writes is known to the queue of stores once its address part has issued, and from which cycle on it is known.
 #[tactic(auto, using(crate::proofs::Width::width_is))]
-fn note(lsq: &mut Lsq, entry: &Entry)
-    ensures { lsq.new ≡ known_in lsq.old entry.now }
+fn note_address(lsq: &mut Lsq, entry: &Entry)
+    ensures { lsq.new ≡ record lsq.old {
+      stores = with_span (has_address entry.now) (width_for (width_of entry.now)) entry.now lsq.old.stores;
+    } }
+{
+    if let Some(due) = entry.addr_due {
+        lsq.store_addr(
+            entry.serial,
+            entry.addr(),
+            entry.width(),
+            entry.fault(),
+            due,
+        );
+    }
+}
+
+// What has issued of an entry is known to the queue of stores, if it is a store.
+fn note_store(lsq: &mut Lsq, entry: &Entry)
+    ensures { lsq.new ≡ noted (width_for (width_of entry.now)) entry.now lsq.old }
 {
     if !entry.is_store() {
         return;
     }
-    if entry.addr_due.is_some() {
-        lsq.store_addr(entry.serial, entry.addr(), entry.width(), entry.fault());
-    }
+    note_address(lsq, entry);
     if entry.data_due.is_some() {
         lsq.store_data(entry.serial, entry.stored());
     }
 }
 
-/// Each entry issues in its place, its station is freed or waits for what is left, and a store's parts that have issued are known
-/// to its queue. The youngest comes first, so that the others' stations stay where they are.
+// What an entry reads is known to the queue of loads, if it is a load that has issued, and loads may pass stores.
+#[tactic(auto, using(crate::proofs::Width::width_is))]
+fn note_load(lsq: &mut Lsq, desc: &Desc, entry: &Entry)
+    ensures { lsq.new ≡ noted_load (passing desc.now) (width_for (width_of entry.now)) entry.now lsq.old }
+{
+    if desc.predictor_depend == 0 || !entry.is_load() {
+        return;
+    }
+    if let Some(cycle) = entry.issued {
+        lsq.load_issued(
+            entry.serial,
+            entry.addr(),
+            entry.width(),
+            entry.fault(),
+            cycle,
+        );
+    }
+}
+
+// Both queues know of it.
+fn note(lsq: &mut Lsq, desc: &Desc, entry: &Entry)
+    ensures { lsq.new ≡ known_in (passing desc.now) lsq.old entry.now }
+{
+    note_store(lsq, entry);
+    note_load(lsq, desc, entry);
+}
+
+/// Each entry issues in its place, its station is freed or waits for what is left, a store's parts that have issued are known to
+/// its queue, and so is what a load reads, where loads may pass stores. The youngest comes first, so that the others' stations stay
+/// where they are.
 pub(crate) fn place(
     puts: &ArrayVec<Put, PUTS_MAX>,
-    version: u32,
+    desc: &Desc,
     rob: &mut RobRing,
     stations: &mut Stations,
     lsq: &mut Lsq,
 )
     requires puts { ArePuts rob.old.entries puts.now.items }
-    requires stands { (p : InFlight) × Stands (holding version rob.old stations.old lsq.old p) }
+    requires stands { (p : InFlight) × Stands (holding desc.now rob.old stations.old lsq.old p) }
     ensures window { rob.new ≡ record rob.old { entries = placed puts.now.items rob.old.entries } }
     ensures same_places { stations.new.room ≡ stations.old.room }
     ensures same_loads { lsq.new.max_loads ≡ lsq.old.max_loads }
     ensures same_stores { lsq.new.max_stores ≡ lsq.old.max_stores }
-    ensures stands { (p : InFlight) → Stands (holding version rob.old stations.old lsq.old p)
-        → Stands (holding version rob.new stations.new lsq.new p) }
+    ensures stands { (p : InFlight) → Stands (holding desc.now rob.old stations.old lsq.old p)
+        → Stands (holding desc.now rob.new stations.new lsq.new p) }
 {
     for k in (0..puts.len()).rev() {
         let put = &puts[k];
         rob.issue(put.position, &put.issued);
         let entry = rob.lend(put.position);
-        settle(stations, version, put.station, entry);
-        note(lsq, entry);
+        settle(stations, desc.version, put.station, entry);
+        note(lsq, desc, entry);
     }
 }

@@ -2,6 +2,7 @@
 use byte_ram::Ram;
 use cache_tags::Tags;
 use circular_buffer::HeapCircularBuffer;
+use dep_pred::DepPred;
 use lsq::Lsq;
 use machine_desc::Desc;
 use mshr_file::Mshrs;
@@ -25,6 +26,8 @@ pub(crate) struct Seen<'a> {
     pub(crate) point: &'a VisPoint,
     /// At each entry's position the youngest roots and the writers of its sources, as it was renamed.
     pub(crate) sources: &'a HeapCircularBuffer<Sources>,
+    /// The bits of dependence.
+    pub(crate) dependence: &'a DepPred,
     /// The cache.
     pub(crate) tags: &'a Tags,
     /// Its second level.

@@ -8,10 +8,10 @@ use Rattle.issue.proofs.Issued.{advanced, all_left, decides, events_few, few_lef
 use Rattle.issue.proofs.phase.issue.Goals as goal
 
 pub returns-then-not-any_able-clause-machine : goal.returns-then-not-any_able-clause-machine
-returns-then-not-any_able-clause-machine g c = sym c.parts.view_is ∙ idle_shown _ _ c.parts.invariant (sym c.any_able.ensures ∙ c.if-not-any_able.true) c.parts.view_is
+returns-then-not-any_able-clause-machine g c = sym c.parts.view_is ∙ idle_shown _ _ c.parts.invariant (advanced _ _ c.parts.invariant c.parts.view_is c.requires.advanced) (sym c.any_able.ensures ∙ c.if-not-any_able.true) c.parts.view_is
 
 pub returns-then-not-any_able-clause-row : goal.returns-then-not-any_able-clause-row
-returns-then-not-any_able-clause-row g c = idle_row _ _ _ c.parts.invariant (sym c.any_able.ensures ∙ c.if-not-any_able.true) c.parts.view_is
+returns-then-not-any_able-clause-row g c = idle_row _ _ _ c.parts.invariant (advanced _ _ c.parts.invariant c.parts.view_is c.requires.advanced) (sym c.any_able.ensures ∙ c.if-not-any_able.true) c.parts.view_is
 
 pub decide-requires-clause-stands : goal.decide-requires-clause-stands
 decide-requires-clause-stands g c =
@@ -28,6 +28,7 @@ decide-requires-clause-stands g c =
       settled = settled _ _ w c.parts.view_is c.requires.settled;
       advanced = advanced _ _ w c.parts.view_is c.requires.advanced;
       model = ap (λ (s : Sizes). s.model) w.made;
+      bits = ap (λ (s : Sizes). s.bits) w.made;
       cache = ap (λ (s : Sizes). s.tags) w.made;
       second = ap (λ (s : Sizes). s.second) w.made;
       registers = ap (λ (s : Sizes). s.registers) w.made;

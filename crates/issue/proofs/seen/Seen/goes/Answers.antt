@@ -1,11 +1,11 @@
-use Rattle.std.proofs.Common.{◌∙◌, false, ap, sym}
+use Rattle.std.proofs.Common.{◌∙◌, ap, ap₂, sym}
 use Rattle.std.specs.Prelude.{◌==◌}
 use Rattle.rv_types.specs.Memory.{load_fault}
 use Rattle.window_model.specs.Issue.{address_of}
 use Rattle.window_model.specs.Retire.{width_of}
-use Rattle.issue.specs.Pending.{lets_by}
+use Rattle.issue.specs.Pending.{lets_by, passes_here}
 use Rattle.issue.specs.State.{before_of}
-use Rattle.issue.proofs.Behind.{goes_known, goes_not, goes_unpassed}
+use Rattle.issue.proofs.Behind.{goes_is, goes_known, goes_not}
 use Rattle.issue.proofs.Bytes.{let_is}
 use Rattle.issue.proofs.seen.Seen.goes.Goals as goal
 
@@ -25,5 +25,5 @@ returns c =
     let t = c.requires.turn in
     let e = c.args.place.now.entry.now in
     let a = address_of s.regs.now (before_of s c.args.place.now) e in
-    c.is_let.ensures ∙ ap (lets_by s.point.now.serial) c.pending.ensures
-    ∙ sym (goes_unpassed s _ e t.stands t.at ∙ let_is s _ e t.stands t.at false (load_fault s.ram.now a (width_of e)) a (width_of e))
+    c.is_let.ensures ∙ ap₂ (λ passes p. lets_by passes s.point.now.serial p) c.passes.ensures c.pending.ensures
+    ∙ sym (goes_is s _ e t.stands t.at ∙ let_is s _ e t.stands t.at (passes_here s c.args.place.now) (load_fault s.ram.now a (width_of e)) a (width_of e))
