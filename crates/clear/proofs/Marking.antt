@@ -1,0 +1,125 @@
+-- The parts once the store that is found is marked as cleared.
+use Rattle.std.proofs.Common.{◌≡◌, ℕ, zero, suc, ◌<◌, Bool, true, false, List, [], ◌∷◌, ◌++◌, length, map, Option, Some, None, refl, ap, ap₂, sym, ◌∙◌, subst, slice_get}
+use Rattle.std.specs.Prelude.{IfSome, reverse, slice_set}
+use Rattle.std.specs.Option.{option_map}
+use Rattle.std.proofs.lemmas.Option.{slice_get_within}
+use Rattle.window_model.specs.declared.Entry.{Entry}
+use Rattle.window_model.specs.Clear.{cleared_one, violated_by}
+use Rattle.window_model.specs.Dependence.{passing}
+use Rattle.rv_types.specs.declared.Kind.{Kind}
+use Rattle.rv_types.specs.declared.Kind.TheVariants.{Store as AsStore}
+use Rattle.window_model.specs.Order.{Place, is_store}
+use Rattle.window_model.specs.Serials.{Rise, below}
+use Rattle.window_model.specs.Taint.{settled_as}
+use Rattle.window_model.proofs.Clearing.{cleared_goes}
+use Rattle.rob_ring.specs.Ring.{Ring}
+use Rattle.lsq.specs.Clearing.{violated_by as violated_in}
+use Rattle.lsq.specs.Queues.{Queues, cleared_at}
+use Rattle.queue_laws.specs.Window.{StandFor, Tracks, cleared_in}
+use Rattle.queue_laws.proofs.Violating.{violates}
+use Rattle.core_parts.specs.Described.{Described}
+use Rattle.core_parts.specs.Dropped.{StopsBelow}
+use Rattle.core_parts.specs.Held.{Held, Whole, described, in_flight, machine_of}
+use Rattle.core_parts.proofs.Sizes.{sized_set}
+use Rattle.core_parts.proofs.Steps.{stands_cleared, stops_at}
+use Rattle.core_parts.proofs.Whole.{shown_by}
+use Rattle.clear.specs.Cleared.{clearing, violated, with_cleared}
+use Rattle.clear.proofs.Effects.{cleared_is, violated_is}
+use Rattle.clear.proofs.Places.{Load, Store, load_at, load_younger, set_there, stands_there, store_at}
+
+set_here : (w : List Entry) (i : ℕ) (e e2 : Entry) → slice_get w i ≡ Some e → slice_get (slice_set w i e2) i ≡ Some e2
+set_here [] i e e2 h = absurd (cc)
+set_here (x ∷ w) zero e e2 h = refl
+set_here (x ∷ w) (suc i) e e2 h = set_here w i e e2 h
+
+-- a store that isn't cleared isn't settled
+unsettled : (k : Kind) (r c : Bool) → is_store k ≡ true → c ≡ false → settled_as k r c ≡ false
+unsettled AsStore r c s u = u
+unsettled _ r c s u = absurd (cc)
+
+module _ (h : Held) (v : Described) (serial : ℕ) (w : Whole h) (s : described h ≡ v) (a : passing v.desc ≡ true) (f : Some serial ≡ clearing v.desc v.machine) where
+  it : Store h.desc (machine_of h) serial
+  it = store_at h.desc (machine_of h) serial (subst (λ (v : Described). Some serial ≡ clearing v.desc v.machine) (sym s) f)
+
+  rises : Rise h.rob.entries
+  rises = w.stands.stand.rise
+
+  here : slice_get h.rob.entries (length (below serial h.rob.entries)) ≡ Some it.place.entry
+  here = stands_there h.desc (machine_of h) serial it rises
+
+  pub is_inside : (i : ℕ) → i ≡ length (below serial h.rob.entries) → i < length h.rob.entries
+  is_inside i e = subst (λ i. i < length h.rob.entries) (sym e) (slice_get_within h.rob.entries (length (below serial h.rob.entries)) it.place.entry here)
+
+  -- ---- where it stands, and in the queue
+
+  module _ (i : ℕ) (rob : Ring) (q : Queues) (at : i ≡ length (below serial h.rob.entries))
+      (marks : (e : Entry) → slice_get h.rob.entries i ≡ Some e → rob ≡ record (h.rob) { entries = slice_set h.rob.entries i (cleared_one e) })
+      (notes : q ≡ record (h.queues) { stores = map (cleared_at serial) h.queues.stores }) where
+    ring_is : rob ≡ record (h.rob) { entries = slice_set h.rob.entries (length (below serial h.rob.entries)) (cleared_one it.place.entry) }
+    ring_is =
+        marks it.place.entry (ap (slice_get h.rob.entries) at ∙ here)
+        ∙ ap (λ i. record (h.rob) { entries = slice_set h.rob.entries i (cleared_one it.place.entry) }) at
+
+    queues_are : q ≡ cleared_in it.place.entry.serial h.queues
+    queues_are = notes ∙ ap (λ n. cleared_in n h.queues) (sym it.named)
+
+    are : record h { rob = rob; queues = q }
+        ≡ record h {
+          rob = record (h.rob) { entries = slice_set h.rob.entries (length (below serial h.rob.entries)) (cleared_one it.place.entry) };
+          queues = cleared_in it.place.entry.serial h.queues;
+        }
+    are = ap₂ (λ (r : Ring) (q : Queues). record h { rob = r; queues = q }) ring_is queues_are
+
+    pub marked_whole : Whole (record h { rob = rob; queues = q })
+    marked_whole = subst Whole (sym are) (record {
+      sized = sized_set h.desc (machine_of h) (length (below serial h.rob.entries)) it.place.entry (cleared_one it.place.entry) here (cleared_goes it.place.entry)
+          (λ k. record { kind = k.kind; memory = k.memory; outcome = k.outcome; parts = k.parts; together = k.together }) w.sized;
+      stands = stands_cleared (in_flight h) (length (below serial h.rob.entries)) it.place.entry w.stands here it.may.store;
+      made = w.made;
+    })
+
+    machine_is : machine_of (record h {
+      rob = record (h.rob) { entries = slice_set h.rob.entries (length (below serial h.rob.entries)) (cleared_one it.place.entry) };
+      queues = cleared_in it.place.entry.serial h.queues;
+    }) ≡ with_cleared h.desc (machine_of h)
+    machine_is =
+        ap (λ es. record (machine_of h) { window = es }) (set_there h.desc (machine_of h) serial it rises)
+        ∙ sym (cleared_is h.desc (machine_of h) it.place it.is)
+
+    pub marked_shown : described (record h { rob = rob; queues = q }) ≡ record v { machine = with_cleared v.desc v.machine }
+    marked_shown = ap described are ∙ shown_by with_cleared h _ v machine_is s
+
+    -- ---- the load that it violates
+
+    here_whole : h.rob.entries ≡ reverse it.place.before ++ it.place.entry ∷ it.place.younger
+    here_whole = it.whole
+
+    told : violated_in it.place.entry.serial h.queues.stores h.queues.loads ≡ option_map (λ q. q.entry.serial) (violated_by it.place)
+    told =
+        violates h.queues (reverse it.place.before) it.place.younger it.place.entry (subst (StandFor h.queues) here_whole w.stands.queues)
+        (subst (Tracks h.queues) here_whole (w.stands.tracks (subst (λ (v : Described). passing v.desc ≡ true) (sym s) a))) (subst Rise here_whole rises) it.may.store
+
+    pub marked_violates : (o : Option ℕ) → o ≡ violated_in serial h.queues.stores h.queues.loads → o ≡ violated v.desc v.machine
+    marked_violates o e =
+        e
+        ∙ ap (λ n. violated_in n h.queues.stores h.queues.loads) (sym it.named)
+        ∙ told
+        ∙ sym (violated_is h.desc (machine_of h) it.place it.is)
+        ∙ ap (λ (v : Described). violated v.desc v.machine) s
+
+    -- all from it on may go: the store stays, and the point isn't past it
+    stops_by : (load : ℕ) → Load it.place load → StopsBelow load h.point rob.entries
+    stops_by load l = record {
+      position = length (below serial h.rob.entries);
+      entry = cleared_one it.place.entry;
+      here = ap (λ (r : Ring). slice_get r.entries (length (below serial h.rob.entries))) ring_is ∙ set_here h.rob.entries _ it.place.entry (cleared_one it.place.entry) here;
+      older = subst (λ n. it.place.entry.serial < n) l.named (load_younger h.desc (machine_of h) serial it rises l.place l.is);
+      not_past = stops_at (in_flight h) (length (below serial h.rob.entries)) it.place.entry w.stands here (unsettled it.place.entry.item.kind it.place.entry.resolved it.place.entry.cleared it.may.store it.may.fresh);
+    }
+
+    by_answer : (o : Option ℕ) → o ≡ option_map (λ (q : Place). q.entry.serial) (violated_by it.place) → IfSome o (λ load. StopsBelow load h.point rob.entries)
+    by_answer None e = tt
+    by_answer (Some load) e = stops_by load (load_at it.place load e)
+
+    pub marked_stops : (o : Option ℕ) → o ≡ violated_in serial h.queues.stores h.queues.loads → IfSome o (λ load. StopsBelow load h.point rob.entries)
+    marked_stops o e = by_answer o (e ∙ ap (λ n. violated_in n h.queues.stores h.queues.loads) (sym it.named) ∙ told)

@@ -1,0 +1,102 @@
+-- The walk over the queue's stores, and that it finds the one that the definition takes.
+use Rattle.std.proofs.Common.{◌≡◌, ℕ, zero, suc, ◌+◌, ◌<◌, true, false, List, [], ◌∷◌, length, Option, Some, None, refl, ap, sym, ◌∙◌, subst, arith, lit≤, slice_get}
+use Rattle.std.specs.Prelude.{◌^◌, drop, if◌then◌else◌}
+use Rattle.std.specs.List.{find}
+use Rattle.std.specs.Option.{option_map}
+use Rattle.machine_desc.specs.declared.Desc.{Desc}
+use Rattle.machine_desc.proofs.Versions.{most_up_to}
+use Rattle.window_model.specs.Clear.{clear}
+use Rattle.window_model.specs.Dependence.{passing}
+use Rattle.window_model.specs.Row.{Row, with_events}
+use Rattle.window_model.proofs.Booleans.{is_below}
+use Rattle.window_model.specs.State.{After}
+use Rattle.std.proofs.lemmas.List.{append-nil}
+use Rattle.lsq.specs.Clearing.{info_of}
+use Rattle.lsq.specs.declared.clearing.StoreInfo.{StoreInfo}
+use Rattle.lsq.specs.declared.store.Store.{Store}
+use Rattle.parts_stand.specs.Addresses.{can_clear}
+use Rattle.visibility.specs.Point.{HasAdvanced}
+use Rattle.core_parts.specs.Described.{Described}
+use Rattle.core_parts.specs.Held.{Held, Sizes, Whole, described, in_flight}
+use Rattle.core_parts.specs.Stands.{table_and_stations}
+use Rattle.clear.specs.Cleared.{clearing, may_clear_by}
+use Rattle.parts_stand.proofs.Clearing.{finds_clearable}
+use Rattle.queue_laws.proofs.Renaming.{room_is}
+use Rattle.clear.proofs.Effects.{none_is}
+
+-- ---- the walk
+
+-- what is left at a place
+pub at_place : (stores : List Store) (i : ℕ) (info : StoreInfo) → option_map info_of (slice_get stores i) ≡ Some info →
+    (s : Store) × (slice_get stores i ≡ Some s) × (info ≡ info_of s)
+at_place [] i info h = absurd (cc)
+at_place (s ∷ stores) zero info h = (s, refl, cc)
+at_place (s ∷ stores) (suc i) info h = at_place stores i info h
+
+pub within : (stores : List Store) (i : ℕ) (info : StoreInfo) → option_map info_of (slice_get stores i) ≡ Some info → i < length stores
+within [] i info h = absurd (cc)
+within (s ∷ stores) zero info h = omega arith
+within (s ∷ stores) (suc i) info h = let l = within stores i info h in omega (arith, l)
+
+-- a store that may not be cleared is passed
+pub passed : (point : ℕ) (stores : List Store) (i : ℕ) (info : StoreInfo) → option_map info_of (slice_get stores i) ≡ Some info → may_clear_by point info ≡ false →
+    find (can_clear point) (drop (i + 1) stores) ≡ find (can_clear point) (drop i stores)
+passed point [] i info h n = absurd (cc)
+passed point (s ∷ stores) zero info h n =
+    let same : info ≡ info_of s = cc in
+    let no : can_clear point s ≡ false = ap (may_clear_by point) (sym same) ∙ n in
+    sym (ap (λ b. if b then Some s else find (can_clear point) stores) no)
+passed point (s ∷ stores) (suc i) info h n =
+    let next : suc i + 1 ≡ suc (i + 1) = omega arith in
+    ap (λ k. find (can_clear point) (drop k (s ∷ stores))) next ∙ passed point stores i info h n
+
+-- one that may is found
+pub is_found : (point : ℕ) (stores : List Store) (i : ℕ) (info : StoreInfo) → option_map info_of (slice_get stores i) ≡ Some info → may_clear_by point info ≡ true →
+    Some info.serial ≡ option_map (λ s. s.serial) (find (can_clear point) (drop i stores))
+is_found point [] i info h n = absurd (cc)
+is_found point (s ∷ stores) zero info h n =
+    let same : info ≡ info_of s = cc in
+    let yes : can_clear point s ≡ true = ap (may_clear_by point) (sym same) ∙ n in
+    ap (λ (info : StoreInfo). Some info.serial) same ∙ sym (ap (λ b. option_map (λ (s : Store). s.serial) (if b then Some s else find (can_clear point) stores)) yes)
+is_found point (s ∷ stores) (suc i) info h n = is_found point stores i info h n
+
+-- behind the last there is none
+pub none_left : (point : ℕ) (stores : List Store) (i : ℕ) → None ≡ option_map info_of (slice_get stores i) → None ≡ option_map (λ s. s.serial) (find (can_clear point) (drop i stores))
+none_left point [] zero h = refl
+none_left point [] (suc i) h = refl
+none_left point (s ∷ stores) zero h = absurd (cc)
+none_left point (s ∷ stores) (suc i) h = none_left point stores i h
+
+-- ---- what it finds
+
+-- there are bits of dependence
+some_bits : (d : Desc) → (d.predictor_depend ≡ 0 → ⊥) → passing d ≡ true
+some_bits d n = is_below 0 d.predictor_depend (omega (arith, n))
+
+-- so many stores that their places can be counted
+pub few_stores : (h : Held) → Whole h → length h.queues.stores < 2 ^ 32
+few_stores h w =
+    let a = w.sized.stores_fit in
+    let b = (room_is h.queues h.rob.entries w.stands.queues).1 in
+    let c = most_up_to 16 48 h.desc.version h.desc.core_stores (lit≤ tt) h.desc.few_stores in
+    omega (arith, a, b, c)
+
+-- the store that the definition takes
+pub finds : (h : Held) (v : Described) (o : Option ℕ) → Whole h → described h ≡ v → (h.desc.predictor_depend ≡ 0 → ⊥) → HasAdvanced v.point v.machine.window →
+    o ≡ option_map (λ s. s.serial) (find (can_clear h.point.serial) h.queues.stores) → o ≡ clearing v.desc v.machine
+finds h v o w s bits moved e =
+    let here : HasAdvanced h.point h.rob.entries = subst (λ (v : Described). HasAdvanced v.point v.machine.window) (sym s) moved in
+    let tracks = w.stands.tracks (some_bits h.desc bits) in
+    e
+    ∙ finds_clearable h.desc (table_and_stations (in_flight h)) h.point h.queues w.stands.stand here (ap (λ (s : Sizes). s.model) w.made) w.stands.addresses w.stands.queues tracks
+    ∙ ap (λ (v : Described). clearing v.desc v.machine) s
+
+-- ---- nothing happens
+
+-- where none is found
+module _ (v : Described) (row : Row) (n : None ≡ clearing v.desc v.machine) where
+  pub none_shown : v ≡ record v { machine = (clear v.desc v.machine).machine }
+  none_shown = ap (λ (a : After). record v { machine = a.machine }) (sym (none_is v.desc v.machine n))
+
+  pub none_row : row ≡ with_events row (clear v.desc v.machine).events
+  none_row = ap (λ es. record row { events = es }) (sym (append-nil row.events)) ∙ ap (λ (a : After). with_events row a.events) (sym (none_is v.desc v.machine n))

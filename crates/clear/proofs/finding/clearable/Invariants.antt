@@ -1,0 +1,12 @@
+use Rattle.std.proofs.Common.{◌≡◌, ◌-◌, length}
+use Rattle.std.specs.Prelude.{drop}
+use Rattle.std.specs.List.{find}
+use Rattle.parts_stand.specs.Addresses.{can_clear}
+use Rattle.clear.proofs.finding.clearable.Given as goal
+
+-- none of the stores so far may be cleared
+abbrev pub invariant-loop-store : goal.invariant-loop-store
+invariant-loop-store l = find (can_clear l.point.serial) (drop l.place l.queues.stores) ≡ find (can_clear l.point.serial) l.queues.stores
+
+abbrev pub decreases-loop-store : goal.decreases-loop-store
+decreases-loop-store l = length l.queues.stores - l.place

@@ -1,0 +1,50 @@
+-- Clear, step by step: the store that is found, what is left once it is cleared, and once the load that it violates goes
+-- (docs/machine.md, "Clear").
+use Rattle.std.specs.Prelude.{ℕ, Bool, not, ◌&&◌, List, [], ◌∷◌, Option, Some, None}
+use Rattle.std.specs.Option.{option_and_then, option_map}
+use Rattle.machine_desc.specs.declared.Desc.{Desc}
+use Rattle.window_model.specs.declared.Entry.{Entry}
+use Rattle.window_model.specs.declared.Event.{Event}
+use Rattle.window_model.specs.declared.Event.TheVariants as event
+use Rattle.window_model.specs.Clear.{clears, may_clear, violated_by}
+use Rattle.window_model.specs.Dependence.{bit_index, bit_set}
+use Rattle.window_model.specs.Order.{Place, first}
+use Rattle.window_model.specs.State.{Machine}
+use Rattle.lsq.specs.declared.clearing.StoreInfo.{StoreInfo}
+use Rattle.visibility.specs.Point.{is_hidden}
+use Rattle.core_parts.specs.Dropped.{count_from, cut_from}
+
+-- what is told of a store says that it may be cleared, where entries up to the point are visible
+abbrev pub may_clear_by : ℕ → StoreInfo → Bool
+may_clear_by point s = s.known && not s.cleared && not (is_hidden point s.root)
+
+-- the serial of the oldest store that may be cleared
+abbrev pub clearing : Desc → Machine → Option ℕ
+clearing d x = option_map (λ p. p.entry.serial) (first (may_clear d) x.window)
+
+-- with the store at a place cleared, if there is one
+abbrev pub cleared_at : Option Place → Machine → Machine
+cleared_at None x = x
+cleared_at (Some p) x = (clears p x).machine
+
+-- with that store cleared
+abbrev pub with_cleared : Desc → Machine → Machine
+with_cleared d x = cleared_at (first (may_clear d) x.window) x
+
+-- the serial of the oldest load that it violates
+abbrev pub violated : Desc → Machine → Option ℕ
+violated d x = option_map (λ q. q.entry.serial) (option_and_then violated_by (first (may_clear d) x.window))
+
+-- without a load and all that is younger, with its bit set: fetching goes on at it, with history and stack as they were before it
+abbrev pub anew : Desc → Entry → Machine → Machine
+anew d load x =
+    cut_from load.serial (Some load.item.pc) (record x { dependence = bit_set d load.item.pc x.dependence; mark = load.item.mark })
+
+-- what tells of that
+abbrev pub anew_events : Desc → Entry → Machine → List Event
+anew_events d load x =
+    event.Vio load.serial ∷ event.Dp (bit_index d load.item.pc) 1 ∷ event.Sq (count_from load.serial x) ∷ []
+
+-- so many events
+abbrev pub most_anew : ℕ
+most_anew = 3
