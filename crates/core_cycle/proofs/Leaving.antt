@@ -1,19 +1,23 @@
 -- As the oldest entries retire, what stands beside the window goes on to stand for it.
-use Rattle.std.proofs.Common.{◌≡◌, ℕ, suc, zero, Bool, true, false, List, [], ◌∷◌, ◌++◌, length, drop, refl, subst}
-use Rattle.std.specs.Prelude.{◌&&◌, ◌||◌, not}
+use Rattle.std.proofs.Common.{◌≡◌, ℕ, suc, zero, Bool, true, false, List, [], ◌∷◌, ◌++◌, length, drop, refl, ap₂, ◌∙◌, subst}
+use Rattle.std.specs.Prelude.{◌&&◌, ◌||◌, not, nat_le}
 use Rattle.std.specs.List.{AllByRecursion as Each}
 use Rattle.window_model.specs.declared.Entry.{Entry}
-use Rattle.window_model.specs.Order.{is_done, is_control}
+use Rattle.window_model.specs.Order.{is_control, is_done, is_load}
+use Rattle.window_model.specs.Rename.{CallAlone}
 use Rattle.window_model.specs.Retire.{may_leave}
 use Rattle.rob_ring.specs.declared.beside.Sources.{Sources}
 use Rattle.rename_taint.specs.declared.Write.{Write}
 use Rattle.rename_taint.specs.Writes.{without_retired}
-use Rattle.stations.specs.Stations.{Station}
-use Rattle.lsq.specs.Queues.{Queues}
-use Rattle.visibility.specs.Point.{Point}
-use Rattle.retire.specs.Gone.{MayRetire, without_each, without, popped}
+use Rattle.lsq.specs.Queues.{Queues, without}
+use Rattle.visibility.specs.Point.{HasAdvanced, Point}
+use Rattle.parts_stand.specs.Parts.{Hold, gives_at}
+use Rattle.retire.specs.Gone.{MayRetire, popped, without_each}
+use Rattle.retire.proofs.Leaving.{alone_rest}
+use Rattle.core_parts.specs.Stands.{InFlight, hold_in}
 use Rattle.core_parts.proofs.Steps.{stands_retired}
-use Rattle.core_cycle.proofs.Tied.{Tied}
+use Rattle.core_cycle.proofs.Advanced.{head_gone}
+use Rattle.core_cycle.proofs.Tied.{Tied, with_left}
 
 by_parts : (a b : Bool) → a && b ≡ true → a ≡ true
 by_parts true b m = refl
@@ -23,12 +27,24 @@ by_parts false b m = m
 leaves_done : (e : Entry) → may_leave e ≡ true → is_done e.state ≡ true
 leaves_done e m = by_parts (is_done e.state) (not (is_control e.item.kind) || e.resolved) m
 
+-- one that is Done and visible gives its value
+gives_visible : (h : Hold) (e : Entry) → nat_le e.serial h.point ≡ true → is_done e.state ≡ true → gives_at h e ≡ true
+gives_visible h e v d = ap₂ (λ visible done. not (h.holds && is_load e.item.kind && not visible) && done) v d ∙ by_two h.holds (is_load e.item.kind)
+  where
+    by_two : (a b : Bool) → (not (a && b && false) && true) ≡ true
+    by_two true true = refl
+    by_two true false = refl
+    by_two false b = refl
+
+-- the oldest is visible
+head_visible : (p : Point) (e : Entry) (es : List Entry) → HasAdvanced p (e ∷ es) → nat_le e.serial p.serial ≡ true
+head_visible p e es a = a.each.0
+
 -- the oldest entry goes
-one_gone : (version next : ℕ) (e : Entry) (es : List Entry) (sources : List Sources) (writes : List Write) (held : List Station) (q : Queues) (point : Point) →
-    is_done e.state ≡ true → Tied version next (e ∷ es) sources writes held q point →
-    Tied version next es (drop 1 sources) (without_retired e.serial writes) held (without e.serial q) point
-one_gone version next e es sources writes held q point d t =
-    stands_retired (record { version = version; next = next; window = e ∷ es; sources = sources; writes = writes; held = held; queues = q; point = point }) e t refl d
+one_gone : (p : InFlight) (e : Entry) (es : List Entry) (sources : List Sources) (writes : List Write) (q : Queues) → is_done e.state ≡ true → HasAdvanced p.point (e ∷ es) →
+    Tied p (e ∷ es) sources writes q → Tied p es (drop 1 sources) (without_retired e.serial writes) (without e.serial q)
+one_gone p e es sources writes q d a t =
+    stands_retired (with_left p (e ∷ es) sources writes q) e t refl (gives_visible (hold_in p) e (head_visible p.point e es a) d)
 
 drop_none : (n : ℕ) (xs : List Sources) → xs ≡ [] → drop n xs ≡ xs
 drop_none zero xs e = refl
@@ -40,11 +56,12 @@ drop_more n [] = drop_none n [] refl
 drop_more n (x ∷ xs) = refl
 
 -- the oldest entries go, one after the other
-pub all_gone : (version next : ℕ) (gone rest : List Entry) (sources : List Sources) (writes : List Write) (held : List Station) (q : Queues) (point : Point) →
-    Each MayRetire gone → Tied version next (gone ++ rest) sources writes held q point →
-    Tied version next rest (drop (length gone) sources) (without_each gone writes) held (popped gone q) point
-all_gone version next [] rest sources writes held q point m t = t
-all_gone version next (e ∷ gone) rest sources writes held q point m t =
-    let one = one_gone version next e (gone ++ rest) sources writes held q point (leaves_done e m.0.0) t in
-    let all = all_gone version next gone rest (drop 1 sources) (without_retired e.serial writes) held (without e.serial q) point m.1 one in
-    subst (λ sources. Tied version next rest sources (without_each (e ∷ gone) writes) held (popped (e ∷ gone) q) point) (drop_more (length gone) sources) all
+pub all_gone : (p : InFlight) (gone rest : List Entry) (sources : List Sources) (writes : List Write) (q : Queues) → Each MayRetire gone → CallAlone (gone ++ rest) →
+    HasAdvanced p.point (gone ++ rest) → Tied p (gone ++ rest) sources writes q → Tied p rest (drop (length gone) sources) (without_each gone writes) (popped gone q)
+all_gone p [] rest sources writes q m alone a t = t
+all_gone p (e ∷ gone) rest sources writes q m alone a t =
+    let one = one_gone p e (gone ++ rest) sources writes q (leaves_done e m.0.0) a t in
+    let all =
+    all_gone p gone rest (drop 1 sources) (without_retired e.serial writes) (without e.serial q) m.1 (alone_rest e (gone ++ rest) alone)
+    (head_gone p.point e (gone ++ rest) m.0 alone a) one in
+    subst (λ sources. Tied p rest sources (without_each (e ∷ gone) writes) (popped (e ∷ gone) q)) (drop_more (length gone) sources) all

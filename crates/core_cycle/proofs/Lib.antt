@@ -1,9 +1,9 @@
 pub mod Idle
 pub mod Tied
-pub mod Leaving
-pub mod Retiring
 pub mod Advanced
+pub mod Leaving
 pub mod Moving
+pub mod Retiring
 pub mod Passing
 pub mod Cycling
 pub mod Fronts

@@ -5,12 +5,13 @@ use Rattle.std.proofs.lemmas.List.{length-append, nil_from_length}
 use Rattle.std.specs.List.{AllByRecursion as Each}
 use Rattle.machine_desc.specs.declared.Desc.{Desc}
 use Rattle.window_model.specs.declared.Event.{Event}
+use Rattle.window_model.specs.Clear.{clear}
 use Rattle.window_model.specs.Fill.{complete}
 use Rattle.window_model.specs.Rename.{rename, CallAlone}
 use Rattle.window_model.specs.Resolve.{resolve}
 use Rattle.window_model.specs.Row.{Row}
 use Rattle.window_model.specs.State.{Machine, After}
-use Rattle.quiet_cycles.proofs.Early.{complete_nothing, none_done, none_resolves, resolve_nothing}
+use Rattle.quiet_cycles.proofs.Early.{clear_nothing, complete_nothing, none_done, none_resolves, resolve_nothing}
 use Rattle.quiet_cycles.proofs.RenameFetch.{rename_nothing}
 use Rattle.visibility.specs.Point.{HasAdvanced, Point}
 use Rattle.rob_ring.specs.Ring.{Ring}
@@ -39,6 +40,11 @@ module _ (p : Point) (x : Machine) (old new : Row) (same : length new.events ≡
       let stays = resolve_nothing d x (none_resolves d x (no_more old new (resolve d x).events e same)) in
       subst (HasAdvanced p) (sym (ap (λ (b : After). b.machine.window) stays)) a
 
+  pub clear_silent : (d : Desc) → new ≡ record old { events = old.events ++ (clear d x).events } → HasAdvanced p (clear d x).machine.window
+  clear_silent d e =
+      let stays = clear_nothing d x.cycle x (no_more old new (clear d x).events e same) in
+      subst (HasAdvanced p) (sym (ap (λ (b : After). b.machine.window) stays)) a
+
   pub rename_silent : (d : Desc) → new ≡ record old { events = old.events ++ (rename d x).events } → HasAdvanced p (rename d x).machine.window
   rename_silent d e =
       let stays = rename_nothing d x.cycle x (no_more old new (rename d x).events e same) in
@@ -47,13 +53,13 @@ module _ (p : Point) (x : Machine) (old new : Row) (same : length new.events ≡
 -- ---- what a phase leaves of the parts
 
 -- the point said which entries are visible
-here : (h : Held) (v : Described) → described h ≡ v → HasAdvanced v.point v.machine.window → HasAdvanced h.point h.rob.entries
-here h v s a = subst (λ (v : Described). HasAdvanced v.point v.machine.window) (sym s) a
+pub advanced_here : (h : Held) (v : Described) → described h ≡ v → HasAdvanced v.point v.machine.window → HasAdvanced h.point h.rob.entries
+advanced_here h v s a = subst (λ (v : Described). HasAdvanced v.point v.machine.window) (sym s) a
 
 pub retire_goes_on : (h : Held) (rob : Ring) (v : Described) → Whole h → h.rob.entries ≡ gone h.rob rob ++ rob.entries → Each MayRetire (gone h.rob rob) → described h ≡ v →
     HasAdvanced v.point v.machine.window → HasAdvanced h.point rob.entries
 retire_goes_on h rob v w left m s a =
-    retire_advanced h.point (gone h.rob rob) rob.entries m (subst CallAlone left w.sized.call_alone) (subst (HasAdvanced h.point) left (here h v s a))
+    retire_advanced h.point (gone h.rob rob) rob.entries m (subst CallAlone left w.sized.call_alone) (subst (HasAdvanced h.point) left (advanced_here h v s a))
 
 -- ---- the core's point, once the machine is another
 

@@ -11,6 +11,7 @@ use Rattle.window_model.specs.declared.Outcome.{Outcome}
 use Rattle.window_model.specs.Order.{fault_of, has_address, has_data, is_done, is_store}
 use Rattle.window_model.specs.Retire.{retire, addr_of, width_of}
 use Rattle.window_model.proofs.Booleans.{both, done_waits}
+use Rattle.window_model.specs.Rename.{CallAlone}
 use Rattle.window_model.specs.Row.{Row}
 use Rattle.window_model.specs.State.{Machine}
 use Rattle.machine_facts.specs.Sized.{Sized, FaultIs, FitsMemory, HasOutcome, HasParts}
@@ -18,16 +19,18 @@ use Rattle.machine_facts.proofs.SizedRetire.{sized_retire}
 use Rattle.rob_ring.specs.Ring.{Ring}
 use Rattle.rob_ring.specs.declared.beside.Sources.{Sources}
 use Rattle.rename_taint.specs.declared.Write.{Write}
-use Rattle.lsq.specs.Queues.{Queues}
+use Rattle.lsq.specs.Queues.{Queues, without}
+use Rattle.visibility.specs.Point.{HasAdvanced}
 use Rattle.cache_tags.specs.Sets.{Cache}
 use Rattle.parts_stand.proofs.Standing.{take_length}
 use Rattle.retire.specs.Parts as retiring
 use Rattle.retire.specs.Parts.{TakesStore}
-use Rattle.retire.specs.Gone.{gone, MayRetire, without_each, without, popped}
+use Rattle.retire.specs.Gone.{MayRetire, gone, popped, without_each}
 use Rattle.core_parts.specs.Described.{Described}
-use Rattle.core_parts.specs.Held.{Held, Whole, described, machine_of, sizes}
+use Rattle.core_parts.specs.Held.{Held, Whole, described, in_flight, machine_of, sizes}
 use Rattle.core_cycle.proofs.Tied.{Tied}
 use Rattle.core_cycle.proofs.Leaving.{all_gone}
+use Rattle.core_cycle.proofs.Moving.{advanced_here}
 use Rattle.core_parts.proofs.Lending.{each_has_sources}
 use Rattle.core_parts.proofs.Whole.{shown_by}
 
@@ -77,15 +80,18 @@ pub record Left (h : Held) (rob : Ring) (sources : Buffer Sources) (writes : Lis
 
 -- what stands beside the window stands for what is left of it
 left_tied : (h : Held) (rob : Ring) (sources : Buffer Sources) (writes : List Write) (room : ℕ) (queues : Queues) (tags : Cache) (retired : ℕ) → Whole h →
-    Left h rob sources writes room queues tags retired → Tied h.desc.version h.next_serial rob.entries sources.items writes h.stations.held queues h.point
-left_tied h rob sources writes room queues tags retired w l =
-    let here : Tied h.desc.version h.next_serial (gone h.rob rob ++ rob.entries) h.sources.items h.writes h.stations.held h.queues h.point =
-    subst (λ es. Tied h.desc.version h.next_serial es h.sources.items h.writes h.stations.held h.queues h.point) l.entries w.stands in
-    let all = all_gone h.desc.version h.next_serial (gone h.rob rob) rob.entries h.sources.items h.writes h.stations.held h.queues h.point l.may_retire here in
+    HasAdvanced h.point h.rob.entries → Left h rob sources writes room queues tags retired → Tied (in_flight h) rob.entries sources.items writes queues
+left_tied h rob sources writes room queues tags retired w a l =
+    let p = in_flight h in
+    let left = gone h.rob rob in
+    let here : Tied p (left ++ rob.entries) h.sources.items h.writes h.queues = subst (λ es. Tied p es h.sources.items h.writes h.queues) l.entries w.stands in
+    let all =
+    all_gone p left rob.entries h.sources.items h.writes h.queues l.may_retire (subst CallAlone l.entries w.sized.call_alone)
+    (subst (HasAdvanced h.point) l.entries a) here in
     let sources_are = stays h.rob.entries rob.entries h.sources.items (each_has_sources h w) ∙ sym (ap (λ (b : Buffer Sources). b.items) l.beside) in
-    subst (λ ss. Tied h.desc.version h.next_serial rob.entries ss writes h.stations.held queues h.point) sources_are
-    (subst (λ ns. Tied h.desc.version h.next_serial rob.entries (drop (length (gone h.rob rob)) h.sources.items) ns h.stations.held queues h.point) (sym l.table)
-    (subst (λ q. Tied h.desc.version h.next_serial rob.entries (drop (length (gone h.rob rob)) h.sources.items) (without_each (gone h.rob rob) h.writes) h.stations.held q h.point) (sym l.lsq) all))
+    subst (λ ss. Tied p rob.entries ss writes queues) sources_are
+    (subst (λ ns. Tied p rob.entries (drop (length left) h.sources.items) ns queues) (sym l.table)
+    (subst (λ q. Tied p rob.entries (drop (length left) h.sources.items) (without_each left h.writes) q) (sym l.lsq) all))
 
 -- the machine that they then hold
 left_machine : (h : Held) (rob : Ring) (tags : Cache) (ram : Ram) (regs : List ℕ) (pc : ℕ) (end : Option End) (retired : ℕ) → h.end ≡ None →
@@ -109,13 +115,13 @@ left_sizes h rob sources writes room queues tags retired l =
     cc
 
 pub retire_whole : (h : Held) (rob : Ring) (sources : Buffer Sources) (writes : List Write) (room : ℕ) (queues : Queues) (tags : Cache) (ram : Ram) (regs : List ℕ) (pc : ℕ) (end : Option End) (retired : ℕ) →
-    Whole h → h.end ≡ None →
+    Whole h → (v : Described) → described h ≡ v → HasAdvanced v.point v.machine.window → h.end ≡ None →
     ((x : Machine) → retiring.counted (length h.rob.entries - length rob.entries) (retiring.with_parts rob tags ram regs pc end x) ≡ (retiring.retires h.desc h.rob h.tags h.ram h.regs h.pc x).machine) →
     Left h rob sources writes room queues tags retired →
     Whole (record h { rob = rob; sources = sources; writes = writes; table_room = room; queues = queues; tags = tags; ram = ram; regs = regs; pc = pc; end = end; retired = retired })
-retire_whole h rob sources writes room queues tags ram regs pc end retired w n f l = record {
+retire_whole h rob sources writes room queues tags ram regs pc end retired w v s a n f l = record {
   sized = subst (Sized h.desc) (sym (left_machine h rob tags ram regs pc end retired n f l.count)) (sized_retire h.desc (machine_of h) (every_desc h.desc) w.sized);
-  stands = left_tied h rob sources writes room queues tags retired w l;
+  stands = left_tied h rob sources writes room queues tags retired w (advanced_here h v s a) l;
   made = left_sizes h rob sources writes room queues tags retired l ∙ w.made;
 }
 

@@ -1,3 +1,4 @@
 pub mod Programmed
 pub mod Kept
 pub mod Phases
+pub mod Waiting

@@ -1,12 +1,15 @@
 //! The core.
-ghost use Rattle.std.specs.Prelude.{◌≡◌, ◌<◌, length, IfOk};
-ghost use Rattle.queue_laws.specs.Window.{StandFor};
+ghost use Rattle.std.specs.Prelude.{◌≡◌, ◌<◌, true, length, IfOk};
+ghost use Rattle.queue_laws.specs.Window.{StandFor, Tracks};
+ghost use Rattle.window_model.specs.Dependence.{passing};
 ghost use Rattle.window_model.specs.State.{opening};
-ghost use Rattle.core_parts.specs.Lent.{HasAddressRoots, HasRoots, HoldsWaiting, NamesRoots, NamesWriters};
+ghost use Rattle.core_parts.specs.Lent.{HasAddressRoots, HasRoots, NamesRoots, NamesWriters};
 ghost use Rattle.core_parts.specs.Lent.{ShowsOlder, TellsReady, TellsVisible};
+ghost use Rattle.core_cycle.specs.Waiting.{HoldsByPoint};
 
 use crate::cycle::{after_retire, before_retire};
 use crate::due::still_until;
+use crate::lent::stations_of;
 use crate::phases::retire;
 use byte_ram::Ram;
 use core_parts::Parts;
@@ -79,18 +82,21 @@ impl<R: RenameTaint> Core<R> {
         self.parts.table()
     }
 
-    /// The stations: they hold the entries that wait and what these want, and tell which are ready.
+    /// The stations: they hold the entries that wait, and what these want and await, where results are held back by a visibility
+    /// point that has moved over the window; and they tell which are ready.
     pub fn stations(&self) -> &Stations
-        ensures waiting { HoldsWaiting self.now.desc.version result.now self.now.machine.window }
+        ensures waiting { HoldsByPoint self.now.desc result.now self.now.machine.window }
         ensures ready { TellsReady self.now.desc result.now self.now.machine.window }
     {
-        self.parts.stations()
+        stations_of(&self.parts)
     }
 
-    /// The queues: they hold the window's loads and stores by age. Each store has the youngest root of its address; one without
-    /// a root in flight may have one that has retired.
+    /// The queues: they hold the window's loads and stores by age; and what loads have read and which stores are cleared, where
+    /// loads may pass stores. Each store has the youngest root of its address; one without a root in flight may have one that has
+    /// retired.
     pub fn lsq(&self) -> &Lsq
         ensures queues { StandFor result.now self.now.machine.window }
+        ensures tracks { passing self.now.desc ≡ true → Tracks result.now self.now.machine.window }
         ensures roots { HasAddressRoots self.now.machine.next_serial result.now.stores self.now.machine.window }
     {
         self.parts.lsq()

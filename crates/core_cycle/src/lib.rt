@@ -7,6 +7,7 @@
 mod by_parts;
 mod cycle;
 mod due;
+mod lent;
 mod moves;
 mod phases;
 

@@ -9,9 +9,10 @@ use rename_taint::RenameTaint;
 use rv_types::Piece;
 use window_model::Row;
 
-/// Phase Retire. What is kept of sources by position goes with the entries that retire. A visibility point that has moved over the window
-/// says the same of those that stay.
+/// Phase Retire, once the visibility point has moved over the window: it says the same of the entries that stay. What is kept of
+/// sources by position goes with those that retire.
 pub(crate) fn retire<R: RenameTaint>(parts: &mut Parts<R>, row: &mut Row, piece: &mut Piece)
+    requires advanced { HasAdvanced parts.old.point parts.old.machine.window }
     requires room { HasRoom most_retired row.old }
     requires running { parts.old.machine.end ≡ None }
     requires empty { piece.old ≡ [] }
@@ -19,8 +20,7 @@ pub(crate) fn retire<R: RenameTaint>(parts: &mut Parts<R>, row: &mut Row, piece:
     ensures machine { parts.new ≡ record parts.old { machine = (retire parts.old.desc parts.old.machine).machine } }
     ensures row { row.new ≡ with_events row.old (retire parts.old.desc parts.old.machine).events }
     ensures piece { piece.new ≡ (retire parts.old.desc parts.old.machine).piece }
-    ensures advanced { HasAdvanced parts.old.point parts.old.machine.window
-        → HasAdvanced parts.new.point parts.new.machine.window }
+    ensures advanced { HasAdvanced parts.new.point parts.new.machine.window }
     ensures few { IsLonger most_retired row.old row.new }
 {
     let before = parts.rob.len();

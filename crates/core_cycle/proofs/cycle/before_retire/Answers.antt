@@ -1,7 +1,7 @@
 use Rattle.std.proofs.Common.{ap, ◌∙◌, length}
 use Rattle.core_parts.specs.Described.{Described}
 use Rattle.core_cycle.proofs.Advanced.{complete_advanced}
-use Rattle.core_cycle.proofs.Moving.{complete_silent, described_advanced, resolve_silent}
+use Rattle.core_cycle.proofs.Moving.{clear_silent, complete_silent, described_advanced, resolve_silent}
 use Rattle.core_cycle.proofs.Fronts.{fronts_machine, fronts_row}
 use Rattle.core_cycle.proofs.cycle.before_retire.Goals as goal
 
@@ -25,13 +25,34 @@ advance_after-requires g c = record {
       c.advance_after_complete.ensures.advanced _ c.resolve.ensures.row);
 }
 
--- nothing is cleared behind Resolve
+pub advance_after-requires-2 : goal.advance_after-requires-2
+advance_after-requires-2 g c = record {
+  advanced = λ same.
+      described_advanced c.advance_after.new.parts c.clear.new.parts _ c.clear.ensures.machine
+      (clear_silent _ c.advance_after.new.parts.machine c.resolve.new.row c.clear.new.row (same ∙ ap length c.events-resolved.ensures.value)
+      c.advance_after.ensures.advanced c.advance_after.new.parts.desc c.clear.ensures.row);
+}
+
 pub returns-clause-machine : goal.returns-clause-machine
 returns-clause-machine g c =
-    fronts_machine c.args.parts.now c.fill.new.parts c.complete.new.parts c.advance_after_complete.new.parts c.fill.ensures.machine c.complete.ensures.machine c.advance_after_complete.ensures.others
-    c.resolve.new.parts c.advance_after.new.parts c.resolve.ensures.machine c.advance_after.ensures.others
+    fronts_machine c.args.parts.now c.fill.new.parts c.complete.new.parts c.advance_after_complete.new.parts c.resolve.new.parts c.advance_after.new.parts
+    (record {
+      filled = c.fill.ensures.machine;
+      completed = c.complete.ensures.machine;
+      moved = c.advance_after_complete.ensures.others;
+      resolved = c.resolve.ensures.machine;
+      moved_again = c.advance_after.ensures.others;
+    })
+    c.clear.new.parts c.advance_after-2.new.parts c.clear.ensures.machine c.advance_after-2.ensures.others
 
 pub returns-clause-row : goal.returns-clause-row
 returns-clause-row g c =
-    fronts_row c.args.parts.now c.fill.new.parts c.complete.new.parts c.advance_after_complete.new.parts c.fill.ensures.machine c.complete.ensures.machine c.advance_after_complete.ensures.others
-    c.args.row.now c.fill.new.row c.complete.new.row c.resolve.new.row c.fill.ensures.row c.complete.ensures.row c.resolve.ensures.row
+    fronts_row c.args.parts.now c.fill.new.parts c.complete.new.parts c.advance_after_complete.new.parts c.resolve.new.parts c.advance_after.new.parts
+    (record {
+      filled = c.fill.ensures.machine;
+      completed = c.complete.ensures.machine;
+      moved = c.advance_after_complete.ensures.others;
+      resolved = c.resolve.ensures.machine;
+      moved_again = c.advance_after.ensures.others;
+    })
+    c.args.row.now c.fill.new.row c.complete.new.row c.resolve.new.row c.clear.new.row c.fill.ensures.row c.complete.ensures.row c.resolve.ensures.row c.clear.ensures.row

@@ -17,7 +17,7 @@ retire-parts-inside-requires-clause-line g c = ap (λ (s : Sizes). s.tags.cache_
 
 pub invariant_of-parts : goal.invariant_of-parts
 invariant_of-parts g c =
-    retire_whole _ _ _ _ _ _ _ _ _ _ _ _ c.parts.invariant (ap (λ (s : Described). s.machine.end) c.parts.view_is ∙ c.requires.running) c.retire-parts-inside.ensures.state
+    retire_whole _ _ _ _ _ _ _ _ _ _ _ _ c.parts.invariant _ c.parts.view_is c.requires.advanced (ap (λ (s : Described). s.machine.end) c.parts.view_is ∙ c.requires.running) c.retire-parts-inside.ensures.state
     (record {
       entries = c.retire-parts-inside.ensures.left;
       may_retire = c.retire-parts-inside.ensures.may_retire;
@@ -42,4 +42,4 @@ pub returns-clause-piece : goal.returns-clause-piece
 returns-clause-piece g c = retire_piece _ _ _ c.parts.invariant (ap (λ (s : Described). s.machine.end) c.parts.view_is ∙ c.requires.running) c.retire-parts-inside.ensures.piece c.parts.view_is
 
 pub returns-clause-advanced : goal.returns-clause-advanced
-returns-clause-advanced g c = λ a. retire_goes_on _ c.retire-parts-inside.new.rob _ c.parts.invariant c.retire-parts-inside.ensures.left c.retire-parts-inside.ensures.may_retire c.parts.view_is a
+returns-clause-advanced g c = retire_goes_on _ c.retire-parts-inside.new.rob _ c.parts.invariant c.retire-parts-inside.ensures.left c.retire-parts-inside.ensures.may_retire c.parts.view_is c.requires.advanced

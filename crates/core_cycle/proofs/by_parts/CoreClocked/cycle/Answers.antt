@@ -55,7 +55,7 @@ retire-requires-clause-counts g c =
     omega (arith, same, number, c.requires.few, c.self.invariant.kept.counted.retired)
 
 pub after_retire-requires-clause-advanced : goal.after_retire-requires-clause-advanced
-after_retire-requires-clause-advanced g c = c.retire.ensures.advanced c.before_retire.ensures.advanced
+after_retire-requires-clause-advanced g c = c.retire.ensures.advanced
 
 pub after_retire-requires-clause-settled : goal.after_retire-requires-clause-settled
 after_retire-requires-clause-settled g c =
