@@ -1,5 +1,5 @@
--- What two runs come to from where two images begin, and that they are the same where the premise holds.
-use Rattle.std.proofs.Common.{◌≡◌, ◌↔◌, Bool, IsTrue, ℕ, ◌+◌, ◌-◌, ap, sym, subst, refl, ◌∙◌, Option}
+-- What two runs come to from where two images begin, and that they are the same where the premise holds and the model protects.
+use Rattle.std.proofs.Common.{◌≡◌, ◌↔◌, Bool, true, IsTrue, ℕ, ◌+◌, ◌-◌, ap, sym, subst, refl, ◌∙◌, Option}
 use Rattle.std.specs.Prelude.{slice_get, IsSome}
 use Rattle.rv_types.specs.Memory.{Code, Agree}
 use Rattle.rv_types.specs.Isa.{start}
@@ -16,7 +16,7 @@ use Rattle.window_model.specs.State.{Machine}
 use Rattle.window_model.specs.Cycle.{Trace, trace, at, after_cycles}
 use Rattle.window_model.specs.Committed.{Aligned}
 use Rattle.window_model.specs.Path.{path as path_of}
-use Rattle.window_model.proofs.Withheld.{is_protected}
+use Rattle.window_model.specs.Taint.{protects}
 use Rattle.noninterference.proofs.Runs.{same_trace}
 use Rattle.pair_run.specs.Starts.{loaded, trace_of}
 use Rattle.core_cycle.specs.Programmed.{Programmed}
@@ -52,18 +52,18 @@ one_trace t t2 (Cycle k) e h = absurd (h.there (ap (λ (t : Trace). slice_get t.
 aligned : (code : CodeText) → Aligned (word_at code)
 aligned code pc w e = code_aligned code pc (subst (λ (o : Option ℕ). IsSome o) (sym e) refl)
 
--- images that agree on what the path of the first loads have one trace
-pub premise_traces : (d : Desc) (one two : ImageText) (n : ℕ) → Aligned one.code → Premise d one two n → trace_of d two n ≡ trace_of d one n
-premise_traces d one two n al p =
+-- images that agree on what the path of the first loads have one trace, where the model protects
+pub premise_traces : (d : Desc) (one two : ImageText) (n : ℕ) → protects d.stt_model ≡ true → Aligned one.code → Premise d one two n → trace_of d two n ≡ trace_of d one n
+premise_traces d one two n protected al p =
     ap (λ (k : Code). trace d k two.entry two.ram n) p.code
     ∙ ap (λ (k : ℕ). trace d one.code k two.ram n) p.entry
-    ∙ same_trace d one.code one.entry one.ram two.ram n (is_protected d) al p.agree
+    ∙ same_trace d one.code one.entry one.ram two.ram n protected al p.agree
 
 pub hidden : (d : Desc) (one two : Image) (core core2 : Programmed) (n : ℕ) (r : Differ)
-    → CoreStarts d one core → CoreStarts d two core2 → Premise d (loaded one) (loaded two) n
+    → protects d.stt_model ≡ true → CoreStarts d one core → CoreStarts d two core2 → Premise d (loaded one) (loaded two) n
     → Differs (trace_from core.desc (word_at core.code) n core.machine) (trace_from core2.desc (word_at core2.code) n core2.machine) r → r ≡ Same
-hidden d one two core core2 n r s s2 p h =
-    one_trace _ _ r (its_trace d two core2 n s2 ∙ premise_traces d (loaded one) (loaded two) n (aligned one.code) p ∙ sym (its_trace d one core n s)) h
+hidden d one two core core2 n r protected s s2 p h =
+    one_trace _ _ r (its_trace d two core2 n s2 ∙ premise_traces d (loaded one) (loaded two) n protected (aligned one.code) p ∙ sym (its_trace d one core n s)) h
 
 -- what is asked of codes and of starts is the premise
 module _ (d : Desc) (one two : Start) (same_code : Bool) (first second : Programmed) (path : IsaState) (n steps : ℕ) (o : Opened d one two same_code first second path)

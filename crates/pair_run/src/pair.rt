@@ -1,6 +1,7 @@
 //! Two images to be run.
-ghost use Rattle.std.specs.Prelude.{◌≡◌, ◌<◌, ◌^◌, ◌+◌, ◌↔◌, length, IfOk, IsTrue};
+ghost use Rattle.std.specs.Prelude.{◌≡◌, ◌<◌, ◌^◌, ◌+◌, ◌↔◌, length, true, IfOk, IsTrue};
 ghost use Rattle.window_model.specs.Cycle.{after_cycles};
+ghost use Rattle.window_model.specs.Taint.{protects};
 ghost use Rattle.pair_run.specs.Starts.{loaded};
 ghost use Rattle.pair_run.specs.Answer.{Answers, Premise};
 ghost use Rattle.pair_run.specs.declared.answer.Differ.TheVariants.{Same};
@@ -74,10 +75,10 @@ impl<R: RenameTaint + Drop> Pair<R> {
     }
 
     /// Runs a core on both images, for at most so many cycles each, and answers how the runs differ, and whether they have
-    /// to be the same (`docs/theorems.md`, "Noninterference"). It takes no memory.
+    /// to be the same under a model that protects (`docs/theorems.md`, "Noninterference"). It takes no memory.
     pub fn run(self, cycles: u32) -> PairAnswer
         ensures answers { Answers self.desc (loaded self.one) (loaded self.two) cycles result }
-        ensures hides { IsTrue result.premise → result.first ≡ Same }
+        ensures hides { protects self.desc.stt_model ≡ true → IsTrue result.premise → result.first ≡ Same }
     {
         let Pair {
             desc,

@@ -11,7 +11,6 @@ use Rattle.window_model.specs.Committed.{Aligned, Committed, TrapsNext}
 use Rattle.committed_state.proofs.Run.{run_commits}
 use Rattle.progress.specs.Laws.{Allows}
 use Rattle.progress.proofs.Run.{retires_within_bound, retires_in_budget}
-use Rattle.window_model.proofs.Withheld.{is_protected}
 use Rattle.noninterference.proofs.Runs.{same_trace}
 use Rattle.report_text.specs.Report.{report_text}
 use Rattle.trace_text.specs.TraceText as text
@@ -66,14 +65,14 @@ moves_on d image n allows = record {
 
 hides : (d : Desc) (image : ImageText) (n : ℕ) (out out' : Told) → Aligned image.code → Wrote (text.trace_text (trace_of d image n)) out out' → Hides d image n out out'
 hides d image n out out' al w = record {
-  agreeing = λ m agree. subst (λ t. Wrote (text.trace_text t) out out') (sym (same_trace d image.code image.entry image.ram m n (is_protected d) al agree)) w;
+  agreeing = λ protected m agree. subst (λ t. Wrote (text.trace_text t) out out') (sym (same_trace d image.code image.entry image.ram m n protected al agree)) w;
 }
 
--- two files' images with one entry and code, whose memories agree on what the path loads, have one trace
+-- two files' images with one entry and code, whose memories agree on what the path loads, have one trace where the model protects
 pub traces_agree : TracesAgree
-traces_agree d a b one two n f g e c agree =
+traces_agree d a b one two n protected f g e c agree =
     let first : trace_of d two n ≡ trace d one.code one.entry two.ram n = ap (λ (x : ℕ). trace d two.code x two.ram n) e ∙ ap (λ (x : Code). trace d x one.entry two.ram n) c in
-    ap text.trace_text (first ∙ same_trace d one.code one.entry one.ram two.ram n (is_protected d) (at_words a _ _ _ one f) agree)
+    ap text.trace_text (first ∙ same_trace d one.code one.entry one.ram two.ram n protected (at_words a _ _ _ one f) agree)
 
 -- and so the answer on two images whose premise is true is that their runs are the same
 compares : (d : Desc) (one two : ImageText) (n : ℕ) (answer : PairAnswer) (out out' : Told) → Aligned one.code → Answers d one two n answer → Wrote (comparison answer) out out'
@@ -82,7 +81,7 @@ compares d one two n answer out out' al a w = record {
   answer = answer;
   answers = a;
   text = w;
-  equal = λ t. one_trace (trace_of d one n) (trace_of d two n) answer.first (premise_traces d one two n al (a.premise.0 t)) a.first;
+  equal = λ protected t. one_trace (trace_of d one n) (trace_of d two n) answer.first (premise_traces d one two n protected al (a.premise.0 t)) a.first;
 }
 
 -- ---- The program

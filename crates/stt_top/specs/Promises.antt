@@ -1,6 +1,6 @@
 -- What may be relied on of a machine's run besides its text: what it has retired, how soon, and what it shows
 -- (docs/theorems.md, "Committed state", "Progress", "Noninterference").
-use Rattle.std.specs.Prelude.{◌≡◌, ◌==◌, ℕ, ◌+◌, ◌*◌, ◌<◌, ◌≤◌, List, Some, None, Ok, IsTrue}
+use Rattle.std.specs.Prelude.{◌≡◌, ◌==◌, ℕ, ◌+◌, ◌*◌, ◌<◌, ◌≤◌, List, true, Some, None, Ok, IsTrue}
 use Rattle.rv_types.specs.Isa.{Run}
 use Rattle.rv_types.specs.Memory.{Ram, Agree}
 use Rattle.elf_loader.specs.Image.{ImageText, image_of}
@@ -9,6 +9,7 @@ use Rattle.machine_desc.specs.Ranges.{bound}
 use Rattle.window_model.specs.State.{Machine}
 use Rattle.window_model.specs.Cycle.{at}
 use Rattle.window_model.specs.Path.{reads_of_trace}
+use Rattle.window_model.specs.Taint.{protects}
 use Rattle.window_model.specs.Committed.{exit_of, TrapsNext}
 use Rattle.report_text.specs.Report.{report_text}
 use Rattle.trace_text.specs.TraceText as trace
@@ -53,26 +54,27 @@ pub record MovesOn (d : Desc) (image : ImageText) (n : ℕ) : Type 0 where
 abbrev pub with_memory : ImageText → Ram → ImageText
 with_memory image m = record image { ram = m }
 
--- what is written is the trace of the machine on every memory that agrees with the image's on each byte that the path
--- loads, in as many steps as the machine retires and the window may hold besides
+-- where the model protects, what is written is the trace of the machine on every memory that agrees with the image's on each byte
+-- that the path loads, in as many steps as the machine retires and the window may hold besides
 pub record Hides (d : Desc) (image : ImageText) (n : ℕ) (out out' : Told) : Type 0 where
-  pub agreeing : (m : Ram) → Agree image.ram m (reads_of_trace d image.code image.entry image.ram n) → Wrote (trace.trace_text (trace_of d (with_memory image m) n)) out out'
+  pub agreeing : protects d.stt_model ≡ true → (m : Ram) → Agree image.ram m (reads_of_trace d image.code image.entry image.ram n) → Wrote (trace.trace_text (trace_of d (with_memory image m) n)) out out'
 
 -- the file is accepted under the description, and this is its image
 abbrev pub IsImageOf : Desc → List ℕ → ImageText → Type 0
 IsImageOf d file image = image_of file d.ram_base d.ram_size (d.ram_misaligned == 1) ≡ Ok image
 
--- two files' images with one entry and code, whose memories so agree, have one trace
+-- two files' images with one entry and code, whose memories so agree, have one trace, where the model protects
 abbrev pub TracesAgree : Type 0
-TracesAgree = (d : Desc) (a b : List ℕ) (one two : ImageText) (n : ℕ) → IsImageOf d a one → IsImageOf d b two → two.entry ≡ one.entry
+TracesAgree = (d : Desc) (a b : List ℕ) (one two : ImageText) (n : ℕ) → protects d.stt_model ≡ true → IsImageOf d a one → IsImageOf d b two → two.entry ≡ one.entry
     → two.code ≡ one.code → Agree one.ram two.ram (reads_of_trace d one.code one.entry one.ram n) → trace.trace_text (trace_of d two n) ≡ trace.trace_text (trace_of d one n)
 
--- what is written is the answer on the runs of two images; and with the premise true it is that they are the same
+-- what is written is the answer on the runs of two images; and with the premise true it is that they are the same, where the model
+-- protects
 pub record Compares (d : Desc) (one two : ImageText) (n : ℕ) (out out' : Told) : Type 0 where
   pub answer : PairAnswer
   pub answers : Answers d one two n answer
   pub text : Wrote (comparison answer) out out'
-  pub equal : IsTrue answer.premise → answer.first ≡ Same
+  pub equal : protects d.stt_model ≡ true → IsTrue answer.premise → answer.first ≡ Same
 
 -- ---- The program
 
