@@ -53,7 +53,7 @@ tests version n =
     (nat_le (n 17 + n 18) (2 ^ 32)) ∷
     (nat_le 1 version) ∷ (nat_le version newest) ∷
     (nat_le (n 19) (most 0 1 version)) ∷ (nat_le (2 * n 19) (n 16)) ∷
-    (nat_le (n 20) (most 0 0 version)) ∷ (n 20 == 0 || is_power_of_two (n 20)) ∷
+    (nat_le (n 20) (most 0 1024 version)) ∷ (n 20 == 0 || is_power_of_two (n 20)) ∷
     (nat_le (n 21) (most 0 12 version)) ∷
     (nat_le (n 22) (most 0 16 version)) ∷
     (nat_le (n 23) (most 0 1024 version)) ∷ (n 23 == 0 || is_power_of_two (n 23)) ∷

@@ -9,5 +9,6 @@ pub mod Agreeing
 pub mod Marks
 pub mod Version2
 pub mod PassedStores
+pub mod Violated
 pub mod Unprotected
 pub mod Held

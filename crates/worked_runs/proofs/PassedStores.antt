@@ -7,10 +7,10 @@ use Rattle.rv_types.specs.Causes.{load_misaligned, store_misaligned}
 use Rattle.machine_desc.specs.declared.Desc.{Desc}
 use Rattle.machine_desc.specs.declared.SttModel.TheVariants.{Futuristic}
 use Rattle.rv_types.specs.Isa.{reg}
-use Rattle.worked_runs.proofs.Version2.{Bits, example_2, with_bits}
-use Rattle.window_model.specs.declared.Event.TheVariants.{Fill, Done, Res, Bp, Bt, Sq, Clr, Vio, Dp, Ret, St, Call, Alu, Mul, Div, Agu, Std, Ld, LdForward, LdFault, Ren, Fet}
+use Rattle.worked_runs.proofs.Version2.{example_2, with_bits}
+use Rattle.window_model.specs.declared.Event.TheVariants.{Fill, Done, Res, Bp, Sq, Clr, Vio, Dp, Ret, St, Call, Alu, Mul, Div, Agu, Std, Ld, LdForward, LdFault, Ren, Fet}
 use Rattle.window_model.specs.declared.Look.TheVariants.{Hit, Miss, Join}
-use Rattle.window_model.specs.declared.Way.TheVariants.{Taken, NotTaken, Jump}
+use Rattle.window_model.specs.declared.Way.TheVariants.{Taken, NotTaken}
 use Rattle.window_model.specs.Row.{Row}
 use Rattle.window_model.specs.Cycle.{trace, cycle, at}
 use Rattle.window_model.specs.Retire.{retire}
@@ -56,27 +56,22 @@ faulting_store_cleared_code = 0x020002b3 ∷ 0x002282b3 ∷ 0x0022a123 ∷ 0x000
 abbrev faulting_load_not_violated_code : List ℕ
 faulting_load_not_violated_code = 0x020002b3 ∷ 0x002282b3 ∷ 0x0022a023 ∷ 0x00212303 ∷ []
 
--- mul x5,x0,x0; add x5,x5,x2; sw x2,0(x5); lw x6,0(x2); lw x7,0(x2); addi x17,x0,93; ecall
-abbrev oldest_load_violated_code : List ℕ
-oldest_load_violated_code = 0x020002b3 ∷ 0x002282b3 ∷ 0x0022a023 ∷ 0x00012303 ∷ 0x00012383 ∷ 0x05d00893 ∷ 0x00000073 ∷ []
-
--- jal x1,+12; addi x17,x0,93; ecall; mul x5,x0,x0; add x5,x5,x2; sw x2,0(x5); lw x6,0(x2); mul x7,x5,x0; add x1,x1,x7;
--- jalr x0,0(x1)
-abbrev stack_after_violation_code : List ℕ
-stack_after_violation_code = 0x00c000ef ∷ 0x05d00893 ∷ 0x00000073 ∷ 0x020002b3 ∷ 0x002282b3 ∷ 0x0022a023 ∷ 0x00012303 ∷ 0x020283b3 ∷ 0x007080b3 ∷ 0x00008067 ∷ []
-
 -- under the futuristic model
-abbrev futuristic_2 : Bits → Desc
-futuristic_2 bits = record (with_bits bits) { stt_model = Futuristic; model_known = refl }
+abbrev futuristic_2 : Desc
+futuristic_2 = record with_bits { stt_model = Futuristic; model_known = refl }
 
--- and with a return stack
-abbrev with_stack : Bits → Desc
-with_stack bits = record (with_bits bits) { predictor_returns = 4; few_returns = lit≤ tt }
+-- addi x8,x0,1; div x5,x2,x8; sw x2,-32(x5); lw x6,8(x2); add x7,x6,x2; sw x2,-36(x7); sw x2,-40(x7); sw x2,2(x7)
+abbrev trap_not_cleared_code : List ℕ
+trap_not_cleared_code = 0x00100413 ∷ 0x028142b3 ∷ 0xfe22a023 ∷ 0x00812303 ∷ 0x002303b3 ∷ 0xfc23ae23 ∷ 0xfc23ac23 ∷ 0x0023a123 ∷ []
+
+-- lw x5,0(x2); mul x5,x5,x5; bgeu x0,x5,+12; lbu x6,8(x2); sw x6,4(x2); addi x17,x0,93; ecall
+abbrev cleared_with_tainted_data_code : List ℕ
+cleared_with_tainted_data_code = 0x00012283 ∷ 0x025282b3 ∷ 0x00507663 ∷ 0x00814303 ∷ 0x00612223 ∷ 0x05d00893 ∷ 0x00000073 ∷ []
 
 -- what the violated load loads in the end is what the store wrote
-wrong_pass_loads : (bits : Bits) → reg (at (with_bits bits) (code_of late_address) 0x10000 (memory 0 0) 100).regs 6 ≡ 0x1fff0
+wrong_pass_loads : reg (at with_bits (code_of late_address) 0x10000 (memory 0 0) 100).regs 6 ≡ 0x1fff0
 unfolding decode cycle retire rename fetch count_leading_zeros memory code_of
-wrong_pass_loads bits = refl
+wrong_pass_loads = refl
 
 -- The store's address comes from a multiplication, and the load goes before. The store is cleared in cycle 8: the load has
 -- passed it wrongly, and is fetched anew with all behind it.
@@ -98,10 +93,10 @@ wrong_pass_rows =
     row 15 (Ret 7 ∷ Call 7 0 ∷ []) ∷
     []
 
-wrong_pass : (bits : Bits) → trace (with_bits bits) (code_of late_address) 0x10000 (memory 0 0) 100
+wrong_pass : trace with_bits (code_of late_address) 0x10000 (memory 0 0) 100
     ≡ record { rows = wrong_pass_rows; end = Some (Exit 0); retired = 6; cycles = 15 }
 unfolding decode cycle retire rename fetch count_leading_zeros row quiet memory code_of wrong_pass_rows
-wrong_pass bits = refl
+wrong_pass = refl
 
 -- Without a dependence predictor the load waits, and nothing is cleared.
 no_pass_rows : List Row
@@ -145,10 +140,10 @@ tainted_address_not_cleared_rows =
     row 20 (Ret 7 ∷ Call 7 0 ∷ []) ∷
     []
 
-tainted_address_not_cleared : (bits : Bits) → trace (with_bits bits) (code_of tainted_address_not_cleared_code) 0x10000 (memory 1 0) 100
+tainted_address_not_cleared : trace with_bits (code_of tainted_address_not_cleared_code) 0x10000 (memory 1 0) 100
     ≡ record { rows = tainted_address_not_cleared_rows; end = Some (Exit 0); retired = 8; cycles = 20 }
 unfolding decode cycle retire rename fetch count_leading_zeros row quiet memory code_of tainted_address_not_cleared_rows
-tainted_address_not_cleared bits = refl
+tainted_address_not_cleared = refl
 
 -- Under the spectre model a load isn't visible before each older store is cleared: what has its base from it waits for the store's
 -- address, which comes from a division.
@@ -168,10 +163,10 @@ clearing_hides_rows =
     row 24 (Done 1 ∷ Clr 1 ∷ []) ∷
     []
 
-clearing_hides : (bits : Bits) → trace (with_bits bits) (code_of clearing_hides_code) 0x10000 (memory 0 0) 100
+clearing_hides : trace with_bits (code_of clearing_hides_code) 0x10000 (memory 0 0) 100
     ≡ record { rows = clearing_hides_rows; end = Some (Trap store_misaligned 0x10004); retired = 1; cycles = 24 }
 unfolding decode cycle retire rename fetch count_leading_zeros row quiet memory code_of clearing_hides_rows
-clearing_hides bits = refl
+clearing_hides = refl
 
 -- One store is cleared a cycle, and under the futuristic model one that is done isn't safe before: the last load waits for the
 -- second store.
@@ -199,10 +194,10 @@ clearing_hides_futuristic_rows =
     row 29 (Ret 11 ∷ Call 11 0 ∷ []) ∷
     []
 
-clearing_hides_futuristic : (bits : Bits) → trace (futuristic_2 bits) (code_of clearing_hides_futuristic_code) 0x10000 (memory 0 0) 100
+clearing_hides_futuristic : trace futuristic_2 (code_of clearing_hides_futuristic_code) 0x10000 (memory 0 0) 100
     ≡ record { rows = clearing_hides_futuristic_rows; end = Some (Exit 0); retired = 12; cycles = 29 }
 unfolding decode cycle retire rename fetch count_leading_zeros row quiet memory code_of clearing_hides_futuristic_rows
-clearing_hides_futuristic bits = refl
+clearing_hides_futuristic = refl
 
 -- A load that issues in the cycle in which the store's address becomes known (15) hasn't passed it: nothing is violated as the
 -- store is cleared.
@@ -232,10 +227,10 @@ passed_before_known_rows =
     row 23 (Ret 14 ∷ Call 14 0 ∷ []) ∷
     []
 
-passed_before_known : (bits : Bits) → trace (with_bits bits) (code_of passed_before_known_code) 0x10000 (memory 1 0) 100
+passed_before_known : trace with_bits (code_of passed_before_known_code) 0x10000 (memory 1 0) 100
     ≡ record { rows = passed_before_known_rows; end = Some (Exit 0); retired = 15; cycles = 23 }
 unfolding decode cycle retire rename fetch count_leading_zeros row quiet memory code_of passed_before_known_rows
-passed_before_known bits = refl
+passed_before_known = refl
 
 -- A store is cleared before its data is there.
 cleared_without_data_rows : List Row
@@ -256,10 +251,10 @@ cleared_without_data_rows =
     row 27 (Ret 5 ∷ Call 5 0 ∷ []) ∷
     []
 
-cleared_without_data : (bits : Bits) → trace (with_bits bits) (code_of cleared_without_data_code) 0x10000 (memory 0 0) 100
+cleared_without_data : trace with_bits (code_of cleared_without_data_code) 0x10000 (memory 0 0) 100
     ≡ record { rows = cleared_without_data_rows; end = Some (Exit 0); retired = 6; cycles = 27 }
 unfolding decode cycle retire rename fetch count_leading_zeros row quiet memory code_of cleared_without_data_rows
-cleared_without_data bits = refl
+cleared_without_data = refl
 
 -- In the second round the load waits for the store: its bit is set.
 waits_the_second_time_rows : List Row
@@ -286,10 +281,10 @@ waits_the_second_time_rows =
     row 20 (Ret 21 ∷ Call 21 0 ∷ []) ∷
     []
 
-waits_the_second_time : (bits : Bits) → trace (with_bits bits) (code_of waits_the_second_time_code) 0x10000 (memory 0 0) 100
+waits_the_second_time : trace with_bits (code_of waits_the_second_time_code) 0x10000 (memory 0 0) 100
     ≡ record { rows = waits_the_second_time_rows; end = Some (Exit 0); retired = 15; cycles = 20 }
 unfolding decode cycle retire rename fetch count_leading_zeros row quiet memory code_of waits_the_second_time_rows
-waits_the_second_time bits = refl
+waits_the_second_time = refl
 
 -- A store with a fault is cleared too, and no load is violated.
 faulting_store_cleared_rows : List Row
@@ -304,10 +299,10 @@ faulting_store_cleared_rows =
     row 8 (Done 2 ∷ Clr 2 ∷ []) ∷
     []
 
-faulting_store_cleared : (bits : Bits) → trace (with_bits bits) (code_of faulting_store_cleared_code) 0x10000 (memory 0 0) 100
+faulting_store_cleared : trace with_bits (code_of faulting_store_cleared_code) 0x10000 (memory 0 0) 100
     ≡ record { rows = faulting_store_cleared_rows; end = Some (Trap store_misaligned 0x10008); retired = 2; cycles = 8 }
 unfolding decode cycle retire rename fetch count_leading_zeros row quiet memory code_of faulting_store_cleared_rows
-faulting_store_cleared bits = refl
+faulting_store_cleared = refl
 
 -- Nor is a load with a fault.
 faulting_load_not_violated_rows : List Row
@@ -322,61 +317,59 @@ faulting_load_not_violated_rows =
     row 8 (Done 2 ∷ Clr 2 ∷ Ret 2 ∷ St 2 0x0001fff0 false ∷ []) ∷
     []
 
-faulting_load_not_violated : (bits : Bits) → trace (with_bits bits) (code_of faulting_load_not_violated_code) 0x10000 (memory 0 0) 100
+faulting_load_not_violated : trace with_bits (code_of faulting_load_not_violated_code) 0x10000 (memory 0 0) 100
     ≡ record { rows = faulting_load_not_violated_rows; end = Some (Trap load_misaligned 0x1000c); retired = 3; cycles = 8 }
 unfolding decode cycle retire rename fetch count_leading_zeros row quiet memory code_of faulting_load_not_violated_rows
-faulting_load_not_violated bits = refl
+faulting_load_not_violated = refl
 
--- Of two loads that passed the store wrongly the older one is fetched anew, and all behind it.
-oldest_load_violated_rows : List Row
-oldest_load_violated_rows =
+-- A store with a fault traps as the oldest before it is cleared: the one before it was cleared in that cycle.
+trap_not_cleared_rows : List Row
+trap_not_cleared_rows =
     row 1 (Fet 0x00010000 ∷ Fet 0x00010004 ∷ []) ∷
     row 2 (Ren 0 0x00010000 ∷ Ren 1 0x00010004 ∷ Fet 0x00010008 ∷ Fet 0x0001000c ∷ []) ∷
-    row 3 (Mul 0 ∷ Ren 2 0x00010008 ∷ Ren 3 0x0001000c ∷ Fet 0x00010010 ∷ Fet 0x00010014 ∷ []) ∷
-    row 4 (Std 2 ∷ Ld 3 0x0001fff0 Miss ∷ Ren 4 0x00010010 ∷ Ren 5 0x00010014 ∷ Fet 0x00010018 ∷ Fet 0x0001001c ∷ []) ∷
-    row 5 (Ld 4 0x0001fff0 Join ∷ Alu 5 ∷ []) ∷
-    row 6 (Done 0 ∷ Done 5 ∷ Ret 0 ∷ Alu 1 ∷ []) ∷
-    row 7 (Done 1 ∷ Ret 1 ∷ Agu 2 ∷ []) ∷
-    row 8 (Done 2 ∷ Clr 2 ∷ Vio 3 ∷ Dp 3 1 ∷ Sq 5 ∷ Ret 2 ∷ St 2 0x0001fff0 false ∷ Fet 0x0001000c ∷ Fet 0x00010010 ∷ []) ∷
-    row 9 (Ren 6 0x0001000c ∷ Ren 7 0x00010010 ∷ Fet 0x00010014 ∷ Fet 0x00010018 ∷ []) ∷
-    row 10 (Ld 6 0x0001fff0 Join ∷ Ren 8 0x00010014 ∷ Fet 0x0001001c ∷ []) ∷
-    row 11 (Ld 7 0x0001fff0 Join ∷ Alu 8 ∷ []) ∷
-    row 12 (Done 8 ∷ []) ∷
-    quiet 13 1 ++
-    row 14 (Fill 0x0001fff0 ∷ Done 6 ∷ Done 7 ∷ Ret 6 ∷ Ret 7 ∷ []) ∷
-    row 15 (Ret 8 ∷ Ren 9 0x00010018 ∷ []) ∷
-    row 16 (Ret 9 ∷ Call 9 0 ∷ []) ∷
+    row 3 (Alu 0 ∷ Ren 2 0x00010008 ∷ Ren 3 0x0001000c ∷ Fet 0x00010010 ∷ Fet 0x00010014 ∷ []) ∷
+    row 4 (Done 0 ∷ Ret 0 ∷ Div 1 20 ∷ Std 2 ∷ Ld 3 0x0001fff0 Miss ∷ Ren 4 0x00010010 ∷ Ren 5 0x00010014 ∷ Fet 0x00010018 ∷ Fet 0x0001001c ∷ []) ∷
+    row 5 (Std 5 ∷ Ren 6 0x00010018 ∷ Ren 7 0x0001001c ∷ Fet 0x00010020 ∷ []) ∷
+    row 6 (Std 6 ∷ Ren 8 0x00010020 ∷ []) ∷
+    row 7 (Std 7 ∷ []) ∷
+    quiet 8 6 ++
+    row 14 (Fill 0x0001fff0 ∷ Done 3 ∷ Alu 4 ∷ []) ∷
+    row 15 (Done 4 ∷ Agu 5 ∷ []) ∷
+    row 16 (Done 5 ∷ Agu 6 ∷ []) ∷
+    row 17 (Done 6 ∷ Agu 7 ∷ []) ∷
+    row 18 (Done 7 ∷ []) ∷
+    quiet 19 5 ++
+    row 24 (Done 1 ∷ Ret 1 ∷ Agu 2 ∷ []) ∷
+    row 25 (Done 2 ∷ Clr 2 ∷ Ret 2 ∷ St 2 0x0001ffd0 false ∷ Ret 3 ∷ []) ∷
+    row 26 (Clr 5 ∷ Ret 4 ∷ Ret 5 ∷ St 5 0x0001ffc0 false ∷ []) ∷
+    row 27 (Clr 6 ∷ Ret 6 ∷ St 6 0x0001ffc0 false ∷ []) ∷
     []
 
-oldest_load_violated : (bits : Bits) → trace (with_bits bits) (code_of oldest_load_violated_code) 0x10000 (memory 0 0) 100
-    ≡ record { rows = oldest_load_violated_rows; end = Some (Exit 0); retired = 7; cycles = 16 }
-unfolding decode cycle retire rename fetch count_leading_zeros row quiet memory code_of oldest_load_violated_rows
-oldest_load_violated bits = refl
+trap_not_cleared : trace with_bits (code_of trap_not_cleared_code) 0x10000 (memory 0 0) 100
+    ≡ record { rows = trap_not_cleared_rows; end = Some (Trap store_misaligned 0x1001c); retired = 7; cycles = 27 }
+unfolding decode cycle retire rename fetch count_leading_zeros row quiet memory code_of trap_not_cleared_rows
+trap_not_cleared = refl
 
--- The violated load is fetched anew with the stack as it was before it, so the return behind it is predicted again.
-stack_after_violation_rows : List Row
-stack_after_violation_rows =
-    row 1 (Fet 0x00010000 ∷ Fet 0x0001000c ∷ []) ∷
-    row 2 (Ren 0 0x00010000 ∷ Ren 1 0x0001000c ∷ Fet 0x00010010 ∷ Fet 0x00010014 ∷ []) ∷
-    row 3 (Alu 0 ∷ Mul 1 ∷ Ren 2 0x00010010 ∷ Ren 3 0x00010014 ∷ Fet 0x00010018 ∷ Fet 0x0001001c ∷ []) ∷
-    row 4 (Done 0 ∷ Ret 0 ∷ Std 3 ∷ Ren 4 0x00010018 ∷ Ren 5 0x0001001c ∷ Fet 0x00010020 ∷ Fet 0x00010024 ∷ []) ∷
-    row 5 (Ld 4 0x0001fff0 Miss ∷ Ren 6 0x00010020 ∷ Ren 7 0x00010024 ∷ Fet 0x00010004 ∷ Fet 0x00010008 ∷ []) ∷
-    row 6 (Done 1 ∷ Ret 1 ∷ Alu 2 ∷ Ren 8 0x00010004 ∷ Fet 0x0001000c ∷ Fet 0x00010010 ∷ []) ∷
-    row 7 (Done 2 ∷ Ret 2 ∷ Agu 3 ∷ Mul 5 ∷ Alu 8 ∷ Fet 0x00010014 ∷ Fet 0x00010018 ∷ []) ∷
-    row 8 (Done 3 ∷ Done 8 ∷ Clr 3 ∷ Vio 4 ∷ Dp 6 1 ∷ Sq 10 ∷ Ret 3 ∷ St 3 0x0001fff0 false ∷ Fet 0x00010018 ∷ Fet 0x0001001c ∷ []) ∷
-    row 9 (Ren 9 0x00010018 ∷ Ren 10 0x0001001c ∷ Fet 0x00010020 ∷ Fet 0x00010024 ∷ []) ∷
-    row 10 (Ld 9 0x0001fff0 Join ∷ Mul 10 ∷ Ren 11 0x00010020 ∷ Ren 12 0x00010024 ∷ Fet 0x00010004 ∷ Fet 0x00010008 ∷ []) ∷
-    row 11 (Ren 13 0x00010004 ∷ Fet 0x0001000c ∷ Fet 0x00010010 ∷ []) ∷
-    row 12 (Alu 13 ∷ Fet 0x00010014 ∷ Fet 0x00010018 ∷ []) ∷
-    row 13 (Done 10 ∷ Done 13 ∷ Alu 11 ∷ Fet 0x0001001c ∷ Fet 0x00010020 ∷ []) ∷
-    row 14 (Done 11 ∷ Alu 12 ∷ Fet 0x00010024 ∷ []) ∷
-    row 15 (Fill 0x0001fff0 ∷ Done 9 ∷ Done 12 ∷ Res 12 Jump ∷ Bt 1 0x00010004 ∷ Ret 9 ∷ Ret 10 ∷ []) ∷
-    row 16 (Ret 11 ∷ Ret 12 ∷ []) ∷
-    row 17 (Ret 13 ∷ Ren 14 0x00010008 ∷ Fet 0x00010028 ∷ []) ∷
-    row 18 (Ret 14 ∷ Call 14 0 ∷ []) ∷
+-- A store whose data alone is tainted is cleared, in cycle 6.
+cleared_with_tainted_data_rows : List Row
+cleared_with_tainted_data_rows =
+    row 1 (Fet 0x00010000 ∷ Fet 0x00010004 ∷ []) ∷
+    row 2 (Ren 0 0x00010000 ∷ Ren 1 0x00010004 ∷ Fet 0x00010008 ∷ Fet 0x0001000c ∷ []) ∷
+    row 3 (Ld 0 0x0001fff0 Miss ∷ Ren 2 0x00010008 ∷ Ren 3 0x0001000c ∷ Fet 0x00010010 ∷ Fet 0x00010014 ∷ []) ∷
+    row 4 (Ld 3 0x0001fff0 Join ∷ Ren 4 0x00010010 ∷ Ren 5 0x00010014 ∷ Fet 0x00010018 ∷ Fet 0x0001001c ∷ []) ∷
+    row 5 (Agu 4 ∷ Alu 5 ∷ []) ∷
+    row 6 (Done 5 ∷ Clr 4 ∷ []) ∷
+    quiet 7 6 ++
+    row 13 (Fill 0x0001fff0 ∷ Done 0 ∷ Done 3 ∷ Ret 0 ∷ Mul 1 ∷ Std 4 ∷ []) ∷
+    row 14 (Done 4 ∷ []) ∷
+    quiet 15 1 ++
+    row 16 (Done 1 ∷ Ret 1 ∷ Alu 2 ∷ []) ∷
+    row 17 (Done 2 ∷ Res 2 NotTaken ∷ Bp 2 0 ∷ Ret 2 ∷ Ret 3 ∷ []) ∷
+    row 18 (Ret 4 ∷ St 4 0x0001fff0 true ∷ Ret 5 ∷ Ren 6 0x00010018 ∷ []) ∷
+    row 19 (Ret 6 ∷ Call 6 0 ∷ []) ∷
     []
 
-stack_after_violation : (bits : Bits) → trace (with_stack bits) (code_of stack_after_violation_code) 0x10000 (memory 0 0) 100
-    ≡ record { rows = stack_after_violation_rows; end = Some (Exit 0); retired = 10; cycles = 18 }
-unfolding decode cycle retire rename fetch count_leading_zeros row quiet memory code_of stack_after_violation_rows
-stack_after_violation bits = refl
+cleared_with_tainted_data : trace with_bits (code_of cleared_with_tainted_data_code) 0x10000 (memory 1 17) 100
+    ≡ record { rows = cleared_with_tainted_data_rows; end = Some (Exit 0); retired = 7; cycles = 19 }
+unfolding decode cycle retire rename fetch count_leading_zeros row quiet memory code_of cleared_with_tainted_data_rows
+cleared_with_tainted_data = refl

@@ -1,11 +1,7 @@
--- The example description in version 2, and with what no version may name so far: bits of dependence, the model `off`, the defence
--- `hold`. That it may be named is a premise, so a fact under it says nothing yet of a description that there is; it is evaluated all
--- the same, and the premise goes with the day on which a version knows the name.
-use Rattle.std.proofs.Common.{◌≤◌, IsTrue, inl, inr, refl, lit≤}
+-- The example description in version 2, and with bits of dependence, the model `off` and the defence `hold`.
+use Rattle.std.proofs.Common.{inr, refl, lit≤}
 use Rattle.machine_desc.specs.Example.{example}
-use Rattle.machine_desc.specs.Version.{most, knows_model, knows_defence}
 use Rattle.machine_desc.specs.declared.Desc.{Desc}
-use Rattle.machine_desc.specs.declared.SttModel.{SttModel}
 use Rattle.machine_desc.specs.declared.SttModel.TheVariants.{Off}
 use Rattle.machine_desc.specs.declared.Defence.TheVariants.{Hold}
 
@@ -32,26 +28,14 @@ example_2 = record example {
   defence_known = refl;
 }
 
--- 16 bits of dependence may be asked for
-abbrev pub Bits : Type 0
-Bits = 16 ≤ most 0 0 2
+-- with 16 bits of dependence
+abbrev pub with_bits : Desc
+with_bits = record example_2 { predictor_depend = 16; few_depend = lit≤ tt; depend_power = inr (4, refl) }
 
--- with them
-abbrev pub with_bits : Bits → Desc
-with_bits bits = record example_2 { predictor_depend = 16; few_depend = bits; depend_power = inr (4, refl) }
+-- under the model that protects nothing
+abbrev pub unprotected : Desc
+unprotected = record example_2 { stt_model = Off; model_known = refl }
 
--- the model may be `off`
-abbrev pub MayBeOff : Type 0
-MayBeOff = IsTrue (knows_model 2 Off)
-
--- under it
-abbrev pub unprotected : MayBeOff → Desc
-unprotected off = record example_2 { stt_model = Off; model_known = off }
-
--- the defence may be `hold`
-abbrev pub MayHold : Type 0
-MayHold = IsTrue (knows_defence 2 Hold)
-
--- under it
-abbrev pub holding : MayHold → Desc
-holding hold = record example_2 { stt_defence = Hold; defence_known = hold }
+-- under the defence that holds the results of loads back
+abbrev pub holding : Desc
+holding = record example_2 { stt_defence = Hold; defence_known = refl }
