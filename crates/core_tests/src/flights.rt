@@ -9,6 +9,7 @@ pub enum Phase {
     Fill,
     Complete,
     Resolve,
+    Clear,
     Issue,
     Rename,
     Fetch,

@@ -1,4 +1,4 @@
-//! The phases one by one over words in flight (`flights.rt`, `stores.rt`, `lines.rt`), over both tables of names.
+//! The phases one by one over words in flight (`flights.rt`, `stores.rt`, `lines.rt`, `settings.rt`), over both tables of names.
 ghost use Rattle.std.specs.Prelude.{◌≡◌, true};
 ghost use Rattle.std.specs.List.{AllByRecursion as Each};
 ghost use Rattle.machine_facts.specs.Timely.{WaitsOrDone};
@@ -6,7 +6,9 @@ ghost use Rattle.machine_facts.specs.Timely.{WaitsOrDone};
 use crate::cycles::with_model;
 use crate::flights::{COMPLETING, Flight, ISSUING, Phase, RESOLVING};
 use crate::lines::{ANY_ADDRESS, NEXT_LINE, OVER_TWO_LINES, PREFETCHING, SECOND_LEVEL, TWO_LEVELS};
+use crate::settings::{CLEARING, HOLDING, PASSING, RESULTS_HELD, SHOWN, UNPROTECTED};
 use crate::stores::STORES;
+use clear::clear;
 use complete::complete;
 use core_parts::{Parts, parts_of};
 use fill::fill;
@@ -69,6 +71,7 @@ fn perform<R: RenameTaint>(
         Phase::Fill => fill(parts, row),
         Phase::Complete => complete(parts, row),
         Phase::Resolve => resolve(parts, row),
+        Phase::Clear => clear(parts, row),
         Phase::Issue => {
             if !are_settled(parts.rob()) {
                 panic!(rt; "a store executes as Issue begins");
@@ -185,4 +188,19 @@ fn a_line_comes_from_the_second_level(rt: HostRuntime) -> Result<(), Fail> {
 #[test]
 fn the_next_line_is_prefetched(rt: HostRuntime) -> Result<(), Fail> {
     go_under(&rt, rt.alloc(), NEXT_LINE, &PREFETCHING)
+}
+
+#[test]
+fn the_oldest_store_is_cleared(rt: HostRuntime) -> Result<(), Fail> {
+    go_under(&rt, rt.alloc(), PASSING, &CLEARING)
+}
+
+#[test]
+fn results_are_held_back(rt: HostRuntime) -> Result<(), Fail> {
+    go_under(&rt, rt.alloc(), HOLDING, &RESULTS_HELD)
+}
+
+#[test]
+fn all_is_visible(rt: HostRuntime) -> Result<(), Fail> {
+    go_under(&rt, rt.alloc(), UNPROTECTED, &SHOWN)
 }

@@ -9,4 +9,6 @@ mod descriptions;
 #[cfg(test)]
 mod optional_keys;
 #[cfg(test)]
+mod settings;
+#[cfg(test)]
 mod words;

@@ -1,4 +1,4 @@
-//! The keys that may be left out: what version 2 takes, what they are where they are left out, and each fault.
+//! The keys of numbers that may be left out, but for bits of dependence: what version 2 takes, what they are where they are left out, and each fault.
 use crate::descriptions::{LARGE, expect, text};
 use machine_desc::{Desc, read_desc};
 use std::alloc::Global;
@@ -178,7 +178,7 @@ const ENDS: [(&str, &str, &str, &str); 24] = [
 ];
 
 // The same of kinds and shapes, of what is asked of several numbers, of names, and of the order of keys.
-const FAULTS: [(&str, &str, &str, &str); 21] = [
+const FAULTS: [(&str, &str, &str, &str); 19] = [
     // kinds and shapes
     (
         "[ram]",
@@ -255,18 +255,6 @@ const FAULTS: [(&str, &str, &str, &str); 21] = [
         "K2 ram.second_sets",
     ),
     (
-        "[predictor]",
-        "depend = 0",
-        "K2 predictor.depend",
-        "K2 predictor.depend",
-    ),
-    (
-        "[stt]",
-        "defence = \"stt\"",
-        "K2 stt.defence",
-        "K2 stt.defence",
-    ),
-    (
         "[cache]",
         "second_line = 16",
         "K2 cache.second_line",
@@ -312,8 +300,8 @@ const FAULTS: [(&str, &str, &str, &str); 21] = [
     ),
 ];
 
-// Reading the example in this version, with a line added behind a table's, this is told.
-fn expect_with(
+/// Reading the example in this version, with a line added behind a table's, this is told.
+pub fn expect_with(
     rt: &impl Abort,
     alloc: Global,
     version: u32,
@@ -377,7 +365,7 @@ const CHANGES: [((&str, &str), (&str, &str), &str); 12] = [
     ),
     // the first of two faults: these keys come behind the model, misaligned first, whatever their tables
     (
-        ("model = \"spectre\"", "model = \"off\""),
+        ("model = \"spectre\"", "model = \"none\""),
         ("[ram]", "[ram]\nmisaligned = 2"),
         "K4 stt.model",
     ),

@@ -14,6 +14,7 @@ mod images;
 mod lines;
 mod machine;
 mod pairs;
+mod settings;
 mod stores;
 mod texts;
 mod traces;

@@ -33,7 +33,7 @@ fn run_two(
     run_with(alloc, words, &mut shelf, NOTHING)
 }
 
-// Two images of this code, with this data each.
+// Two images of this code, with this data each, under a model that version 2 knows.
 fn compared(
     alloc: Global,
     cycles: &str,
@@ -44,7 +44,8 @@ fn compared(
     let [data, data2] = data;
     let one = image_with_data(alloc, code, data)?;
     let two = image_with_data(alloc, code, data2)?;
-    let text = replaced(alloc, EXAMPLE, "spectre", model)?;
+    let plain = format!(in alloc; "version = 2\n{EXAMPLE}")?;
+    let text = replaced(alloc, plain.as_str(), "spectre", model)?;
     let words = ["pair", "d.toml", "p.elf", "q.elf", "--cycles", cycles];
     run_two(
         alloc,
@@ -61,7 +62,7 @@ fn secrets_compared(rt: HostRuntime) -> Result<(), Fail> {
     let hidden: [&[u8]; 2] = [b"\0\0\0\0\0\0\0\0\x11", b"\0\0\0\0\0\0\0\0\x22"];
     let loaded: [&[u8]; 2] = [b"\x01\0\0\0\0\0\0\0\x11", b"\x01\0\0\0\0\0\0\0\x22"];
     let none: [&[u8]; 2] = [b"", b""];
-    let rows: [(&str, &str, &[u32], [&[u8]; 2], u8, &str); 5] = [
+    let rows: [(&str, &str, &[u32], [&[u8]; 2], u8, &str); 6] = [
         // past the bound the secret is loaded on a wrong path alone
         (
             "100",
@@ -78,6 +79,15 @@ fn secrets_compared(rt: HostRuntime) -> Result<(), Fail> {
             hidden,
             0,
             "premise yes\nequal\nretired 5 cycles 21\n",
+        ),
+        // under a model that doesn't protect the wrong path shows it
+        (
+            "100",
+            "off",
+            &test_programs::BOUNDS_CHECK,
+            hidden,
+            1,
+            "premise yes\nunequal 15\nretired 5 cycles 21\n",
         ),
         // within it the program loads the secret
         (
