@@ -1,7 +1,7 @@
 """The path of a model: the instruction set's run whose loads a program shows by right (docs/machine.md, "Paths")."""
 from typing import NamedTuple, Optional
 
-from view.description import SPECTRE
+from view.description import FUTURISTIC
 from view.instruction import LOAD
 
 from .hart import Hart
@@ -15,8 +15,8 @@ class Path(NamedTuple):
 
 
 def hart_of(image, model):
-    """The run of a model's path: under `spectre` faulting loads and stores are passed over."""
-    return Hart(image, passing=model == SPECTRE)
+    """The run of a model's path: under `spectre` and `off` faulting loads and stores are passed over."""
+    return Hart(image, passing=model != FUTURISTIC)
 
 
 def walk(image, model, steps):

@@ -2,7 +2,7 @@
 from typing import NamedTuple
 
 from view import difference
-from view.description import Description
+from view.description import HOLD, OFF, Description
 from view.disassembly import CALLERS, Disassembler
 from view.replay import Replay
 from view.trace import Trace
@@ -15,7 +15,7 @@ from .telling import Telling
 WIDTH = 14
 MOST_LINES = 6
 
-STATUS = {"hidden": 0, "differs": 1, "vacuous": 3, "same": 4, "refuted": 5}
+STATUS = {"hidden": 0, "differs": 1, "vacuous": 3, "same": 4, "refuted": 5, "leaks": 6}
 MEANING = {
     "hidden": "the traces are equal, and proved to be for every two images of this code whose memories agree on what the path loads; "
               "what would have told them apart was held",
@@ -24,6 +24,8 @@ MEANING = {
                "one made of the bytes that differ",
     "same": "the traces of these two images are equal; nothing promises that those of others are",
     "refuted": "the premises are met and the traces aren't equal. This contradicts what is proved: please report it",
+    "leaks": "the traces aren't equal, though the path loads nothing that differs: under the model `off` an attack shows it, and nothing "
+             "promises that it doesn't",
 }
 
 
@@ -42,11 +44,16 @@ class Case(NamedTuple):
         """Whether the premises are met, as the simulator says; the reasons are those of this tool."""
         return self.pair.premise
 
+    @property
+    def promised(self):
+        """Whether the traces are proved equal: the premises are met, and the model protects."""
+        return self.met and self.machine.model != OFF
+
     def word(self):
         """The verdict in one word."""
         if self.pair.unequal is not None:
-            return "refuted" if self.met else "differs"
-        if not self.met:
+            return "refuted" if self.promised else "leaks" if self.met else "differs"
+        if not self.promised:
             return "same"
         return "hidden" if self.telling.held else "vacuous"
 
@@ -54,13 +61,14 @@ class Case(NamedTuple):
 def lines(case, notation=CALLERS):
     """The whole verdict, a line each."""
     texts = [Disassembler(image, notation) for image in (case.one, case.two)]
-    yield row("description", f"{case.description}, model {case.machine.model}")
+    defence = f", defence {HOLD}" if case.machine.defence == HOLD else ""
+    yield row("description", f"{case.description}, model {case.machine.model}{defence}")
     yield row("A", f"{case.one.name}: {case.pair.ends[0].text}")
     yield row("B", f"{case.two.name}: {case.pair.ends[1].text}")
     yield row("memory", differing(case.one, case.premises.memory))
     yield row("code", code(case))
     yield from path(case, texts[0])
-    yield row("premises", "met" if case.met else "not met")
+    yield row("premises", "not met" if not case.met else "met" if case.promised else "met, and the model off promises nothing")
     yield from traces(case, texts)
     yield from transmitters(case.telling, texts[0])
     yield row("verdict", f"{case.word()}: {MEANING[case.word()]}")

@@ -25,6 +25,13 @@ class Pair(NamedTuple):
         return read_end(self.one[-1].strip()), read_end(self.two[-1].strip())
 
 
+class Answer(NamedTuple):
+    """The three lines of `pair`: the premises, the first unequal cycle or none, and the cycles of the first run."""
+    premise: bool
+    unequal: Optional[int]
+    cycles: int
+
+
 def found(named=None):
     """The program named, or that of the variable STT_CLI, or the built one of this repository; none where there is no such file."""
     path = named or os.environ.get("STT_CLI") or BUILT
@@ -41,13 +48,13 @@ def run(program, *words):
 
 def compare(program, description, one, two, cycles):
     """What the simulator says of two images: how they compare, and their traces."""
-    premise, unequal = compared(run(program, "pair", description, one, two, "--cycles", str(cycles)))
+    premise, unequal, _ = answer(run(program, "pair", description, one, two, "--cycles", str(cycles)))
     traces = (run(program, "trace", description, image, "--cycles", str(cycles)) for image in (one, two))
     return Pair(*(trace.splitlines(keepends=True) for trace in traces), premise, unequal)
 
 
-def compared(text):
-    """The premises and the first unequal cycle, from the three lines of `pair`. Where only the ends differ, it is the last cycle."""
+def answer(text):
+    """What the three lines of `pair` say. Where only the ends differ, the last cycle is the first unequal one."""
     (_, premise), first, (*_, cycles) = (line.split() for line in text.splitlines())
     unequal = None if first == ["equal"] else int(cycles if first[1] == "end" else first[1])
-    return premise == "yes", unequal
+    return Answer(premise == "yes", unequal, int(cycles))

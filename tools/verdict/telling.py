@@ -3,20 +3,23 @@ showed them.
 
 What may show an operand is a load's access, a division's time, where a branch or JALR goes, the line that a store writes, and
 whether a load gets its bytes from a store. Where the operand is tainted the instruction waits; and a load behind a store of a tainted
-address goes to the cache whether the store covers it or not, or waits as long as the store has no data (docs/machine.md). An equal pair
-of traces is telling where something was held on an operand made of the differing bytes, and by taint alone; else it is vacuous."""
+address goes to the cache whether the store covers it or not, or waits as long as the store has no data; and a store that loads passed
+isn't cleared (docs/machine.md). An equal pair of traces is telling where something was held on an operand made of the differing bytes,
+or a load of these bytes was, and by taint alone; else it is vacuous. Under the defence `hold` the same is asked of what waits for nothing
+but results of loads that are held back."""
 from typing import NamedTuple
 
+from view.description import HOLD
 from view.instruction import BRANCH, CALL, DIVISION, JALR, LOAD, STORE
 from view.pipeline import lines_of
-from view.reasons import STORE_TAINT, TAINT, TAINTED_OUTCOME
+from view.reasons import HELD_BACK, STORE_TAINT, TAINT, TAINTED_CLEARING, TAINTED_OUTCOME
 from view.replay import Replay
 
 from .hart import EXITS, WRITE
 from .values import Valued
 
 SHOWS = {LOAD: "access", DIVISION: "time", BRANCH: "direction", JALR: "target", STORE: "line", CALL: "registers"}
-BEFORE_A_LOAD = "address before a load"
+BEFORE_A_LOAD, CLEARING, LOAD_OF_THEM = "address before a load", "clearing", "load of these bytes"
 A0, A1, A2, A7 = 10, 11, 12, 17
 
 
@@ -80,6 +83,17 @@ class Telling(Replay):
                 self.holds(item, SHOWS[item.code.kind])
         return squashed
 
+    def clear(self, events):
+        stores = [item for item in self.pipeline.window if item.code.kind == STORE and self.hidden_source(item, 0)]
+        for words in events[:1]:
+            store = self.pipeline.entry(words)
+            self.shows(store, any(self.marked(store)[:1]), CLEARING)
+        violated = super().clear(events)
+        for store in stores:
+            if self.waited(store, TAINTED_CLEARING):
+                self.holds(store, CLEARING)
+        return violated
+
     def retire(self, events, ends):
         for words in events:
             item = self.pipeline.entry(words) if words[0] == "ret" else item
@@ -91,8 +105,11 @@ class Telling(Replay):
         super().retire(events, ends)
 
     def issue(self, events):
-        hidden = [item for item in self.pipeline.waiting if self.hidden(item)]
-        kept = [item for item in hidden if item.code.kind == LOAD and self.reasons.behind_stores(item, taint=False)[0]]
+        ready = [item for item in self.pipeline.waiting if not item.awaits]
+        hidden = [item for item in ready if self.hidden(item)]
+        reaching = [item for item in ready if item.code.kind == LOAD and self.pipeline.is_hidden(item.roots[0])
+                    and item not in hidden and self.pipeline.loads_marked(item)]
+        kept = [item for item in hidden + reaching if self.is_kept(item)]
         stores = {store.serial: store for store in self.pipeline.open_stores if self.hidden_source(store, 0)}
         loads = [item for item in self.pipeline.waiting if item.code.kind == LOAD]
         for step in self.steps(events):
@@ -102,16 +119,47 @@ class Telling(Replay):
             elif item.code.kind == DIVISION:
                 self.shows(item, any(self.marked(item)))
         super().issue(events)
-        for item in hidden:
+        for item in hidden + reaching:
             if self.waited(item, TAINT) and item not in kept:
-                self.holds(item, SHOWS[item.code.kind])
+                self.holds(item, SHOWS[item.code.kind] if item in hidden else LOAD_OF_THEM)
+        if self.pipeline.description.defence == HOLD:
+            self.hold_back()
         for store in {item.waits[-1].serial for item in loads if self.waited(item, STORE_TAINT)} & set(stores):
             self.holds(stores[store], BEFORE_A_LOAD)
+
+    def is_kept(self, item):
+        """It is a load that older stores would keep, were nothing tainted."""
+        return item.code.kind == LOAD and self.reasons.behind_stores(item, taint=False)[0] is not None
+
+    def hold_back(self):
+        """Counts what would show the bytes, and waits for results that are held back, and for nothing else."""
+        for item in self.pipeline.waiting:
+            if item.code.kind in SHOWS and self.is_held_back(item) and not self.is_kept(item):
+                what = self.would_show(item, [self.pipeline.prospect(source) for source in self.pipeline.values[item.serial].sources])
+                if what is not None:
+                    self.holds(item, what)
+
+    def would_show(self, item, sources):
+        """What an instruction would show of the bytes with these operands, of which one is none where it can't be told yet."""
+        if item.code.kind == STORE:
+            loads = any(load.code.kind == LOAD and load.serial > item.serial for load in self.pipeline.window)
+            return BEFORE_A_LOAD if loads and sources[0] is not None and sources[0].mark else None
+        if None in sources:
+            return None
+        if any(source.mark for source in sources):
+            return SHOWS[item.code.kind]
+        reads = item.code.kind == LOAD and self.pipeline.would_load_marked(item, sources[0].result)
+        return LOAD_OF_THEM if reads else None
+
+    def is_held_back(self, item):
+        """Whether nothing but results that are held back keeps it waiting, its own sources' or those of what it waits for."""
+        awaited = [writer for writer in item.sources if writer is not None and writer.done is None]
+        return self.waited(item, HELD_BACK) or item.issued is None and bool(awaited) and all(map(self.is_held_back, awaited))
 
     def load(self, item, accesses):
         """A load that issues: what it shows, what it loads, and which stores it goes to the cache for, covered or not."""
         self.shows(item, self.marked(item)[0])
-        if self.pipeline.values[item.serial].loads_marked:
+        if self.pipeline.loads_marked(item):
             self.loads.append(item)
         for store in self.pipeline.window:
             if accesses and store.code.kind == STORE and store.serial < item.serial and self.hidden_source(store, 0):
@@ -126,8 +174,8 @@ class Telling(Replay):
     def holds(self, item, what):
         self.held.setdefault((item.pc, what), Held()).add(item)
 
-    def shows(self, item, marked):
+    def shows(self, item, marked, what=None):
         if marked:
-            key = item.pc, SHOWS[item.code.kind]
+            key = item.pc, what or SHOWS[item.code.kind]
             times, first = self.shown.get(key, (0, self.pipeline.cycle))
             self.shown[key] = Shown(times + 1, first)

@@ -1,35 +1,60 @@
 """The pipeline with values: what each instruction in flight computes, also on wrong paths, and from which bytes of memory.
 
-A trace has no values. But what an entry of the window computes is what the instructions of the window, one after another from the
-retired state, give at its place, where faulting loads and stores are passed over (docs/theorems.md, "Committed state"). So each entry
-is executed as it is renamed, and undone when it is dropped. The run checks itself: the lines, faults, times of divisions and
-directions of branches that are computed have to be those that the trace tells."""
+A trace has no values. But an entry computes its result from those of the writers of its sources and, if it is a load, from older stores
+and retired memory, as it issues (docs/machine.md, "Writers and roots", "Loads"): so each entry is executed with the event of its issue,
+each part of a store with its own. The run checks itself: the lines, faults, times of divisions and directions of branches that are
+computed have to be those that the trace tells."""
+from typing import NamedTuple
+
 from view import Fault
 from view.instruction import CALL, DIVISION, JALR, LOAD, STORE
-from view.pipeline import PREFETCH, Pipeline
+from view.pipeline import ADDRESS_PART, DATA_PART, PREFETCH, Pipeline
 
 from .hart import JUMP_MISALIGNED, Memory, stored_bytes, system_call
 from .operation import SIZES, WORD, decode, division_time, effect, extend
 
 
+class Retired(NamedTuple):
+    """A register's retired value, and whether it comes from a marked byte."""
+
+    result: int
+    mark: bool
+
+
 class Value:
-    """What an entry computed. `marked` says for each source whether its value comes from a marked byte; `loads_marked` whether the
-    entry itself loads one. `fault` is why it would trap, or none; `undo` has what it overwrote."""
+    """What an entry computes. `sources` are the values of its operands; `result` is its own, none until it issues, and `mark` whether it
+    comes from a marked byte. `address` is that of a load or store, once its base is known; `fault` is then why it would trap, or none.
+    `taken` is whether a branch is."""
 
-    __slots__ = ("operation", "operands", "effect", "marked", "loads_marked", "fault", "undo")
+    __slots__ = ("operation", "pc", "sources", "result", "mark", "address", "stored", "fault", "taken")
 
-    def __init__(self, operation, operands, marked):
-        self.operation, self.operands, self.marked = operation, operands, marked
-        self.effect, self.fault, self.loads_marked, self.undo = None, None, False, []
+    def __init__(self, operation, pc, sources):
+        self.operation, self.pc, self.sources = operation, pc, sources
+        self.result = self.address = self.fault = self.taken = None
+        self.mark, self.stored = False, 0
 
     @property
     def size(self):
         return SIZES[self.operation.name]
 
+    @property
+    def bytes(self):
+        """The addresses of its access; none where it faults, or its base isn't known."""
+        return range(self.address, self.address + self.size) if self.address is not None and self.fault is None else range(0)
+
+    @property
+    def marked(self):
+        """For each source whether its value comes from a marked byte."""
+        return [source.mark for source in self.sources]
+
+    def effect(self, *operands):
+        return effect(self.operation, self.pc, *operands)
+
 
 class Valued(Pipeline):
     """A pipeline whose entries have values, by serial. `marks` are the addresses of the bytes that are followed; they move with what is
-    computed from them, through registers and memory. What is merely chosen by them, as by a branch, isn't marked."""
+    computed from them, through registers and memory. What is merely chosen by them, as by a branch, isn't marked. `registers`, `memory`
+    and their marks are the retired ones."""
 
     def __init__(self, image, description, marks):
         super().__init__(image, description)
@@ -38,117 +63,147 @@ class Valued(Pipeline):
         self.marked_bytes, self.marked_registers = dict.fromkeys(marks, True), [False] * 32
         self.values, self.to_write = {}, []
 
-    # ---- Rename executes
+    # ---- Rename
 
     def rename(self, serial, pc):
         item = super().rename(serial, pc)
-        operation = decode(self.image.words.get(pc))
-        sources = item.code.sources
-        value = Value(operation, [self.registers[source] for source in sources], [self.marked_registers[source] for source in sources])
-        self.values[serial] = value
-        if not item.code.at_once:
-            self.execute(item, value)
+        sources = [self.values[writer.serial] if writer is not None else Retired(self.registers[register], self.marked_registers[register])
+                   for register, writer in zip(item.code.sources, item.sources)]
+        self.values[serial] = Value(decode(self.image.words.get(pc)), pc, sources)
         return item
 
-    def execute(self, item, value):
-        value.effect = effect(value.operation, item.pc, *value.operands)
-        result, mark = value.effect.value, any(value.marked)
-        if value.effect.misaligned:
-            value.fault = JUMP_MISALIGNED
-        if item.code.kind in (LOAD, STORE):
-            value.fault = self.memory.fault(item.code.kind, value.effect.address, value.size)
-        if item.code.kind == LOAD and value.fault is None:
-            result = extend(value.operation.name, self.memory.get(value.effect.address, value.size))
-            value.loads_marked = any(self.marked_bytes.get(value.effect.address + at) for at in range(value.size))
-            mark = mark or value.loads_marked
-        if item.code.kind == STORE and value.fault is None:
-            self.store(value)
-        if item.code.destination:
-            self.overwrite(value, self.registers, item.code.destination, result)
-            self.overwrite(value, self.marked_registers, item.code.destination, mark)
-
-    def store(self, value):
-        for address, byte in enumerate(stored_bytes(value.effect.stored, value.size), value.effect.address):
-            self.overwrite(value, self.memory.data, address - self.memory.base, byte)
-            self.overwrite(value, self.marked_bytes, address, value.marked[1])
-
-    def overwrite(self, value, where, place, new):
-        old = where.get(place, False) if isinstance(where, dict) else where[place]
-        value.undo.append((where, place, old))
-        where[place] = new
-
-    # ---- Resolve, Retire, Issue, Complete
-
-    def squash(self, item):
-        while self.values and (youngest := next(reversed(self.values))) > item.serial:
-            for where, place, old in reversed(self.values.pop(youngest).undo):
-                where[place] = old
-        return super().squash(item)
-
-    def resolve(self, item, outcome):
+    def located(self, item):
+        """The value of a load or store, with its address as soon as its base is known."""
         value = self.values[item.serial]
-        computed = "J" if item.code.kind == JALR else "T" if value.effect.value else "N"
-        self.compare(item, f"is resolved as {outcome}", computed == outcome, computed)
-        super().resolve(item, outcome)
+        base, *others = value.sources
+        if value.address is None and base.result is not None:
+            value.address = value.effect(base.result, *[0] * len(others)).address
+            value.fault = self.memory.fault(item.code.kind, value.address, value.size)
+        return value
 
-    def retire(self, item):
-        super().retire(item)
-        if item.code.kind == CALL:
-            call = system_call(self.registers, self.memory)
-            if call.exit is None:
-                self.registers[10], self.marked_registers[10] = call.answer, False
-        self.to_write = self.lines_of(self.values[item.serial]) if item.code.kind == STORE else []
-        del self.values[item.serial]
+    # ---- Issue executes
 
     def issue(self, item, step):
         told, computed = [words[2:] for words in step if words[0] != PREFETCH], self.told_by_issue(item, step)
         texts = [" ".join(":".join(words) for words in events) for events in (told, computed)]
         self.compare(item, f"tells {step[0][0]}:{texts[0]}", told == computed, texts[1])
+        value = self.values[item.serial]
+        if item.code.kind == LOAD:
+            data, value.mark = self.found(item, self.located(item).bytes)
+            value.mark = value.mark or any(value.marked)
+            value.result = extend(value.operation.name, data) if data else 0
+        elif item.code.kind == STORE:
+            self.located(item)
+        else:
+            self.execute(value)
         super().issue(item, step)
+        if DATA_PART in item.parts and value.sources[1].result is not None:
+            value.stored = value.sources[1].result
 
-    def shares(self, load, store):
-        """Whether the two have a byte in common; where one faults it has none."""
-        one, two = self.values[load.serial], self.values[store.serial]
-        bytes_of = [range(value.effect.address, value.effect.address + value.size) for value in (one, two)]
-        return one.fault is two.fault is None and bytes_of[0].start < bytes_of[1].stop and bytes_of[1].start < bytes_of[0].stop
+    def execute(self, value):
+        done = value.effect(*(source.result or 0 for source in value.sources))
+        value.result, value.mark, value.taken = done.value, any(value.marked), bool(done.value)
+        if done.misaligned:
+            value.fault = JUMP_MISALIGNED
 
-    def lines_of(self, value):
-        """The lines of an access, the lower first."""
-        ends = (value.effect.address, value.effect.address + value.size - 1)
-        return sorted({end - end % self.description.line for end in ends})
+    def found(self, load, addresses):
+        """What a load finds at these addresses before Issue, and whether a byte of it is marked: each from the youngest older store that
+        covers it, as far as addresses are known, else from memory."""
+        stores = [self.values[store.serial] for store in self.window if store.serial < load.serial and store.code.kind == STORE
+                  and store.parts.get(ADDRESS_PART, self.cycle) < self.cycle]
+        sources = [next((store for store in reversed(stores) if address in store.bytes), None) for address in addresses]
+        data = [self.memory.get(address, 1)[0] if store is None else stored_bytes(store.stored, store.size)[address - store.address]
+                for address, store in zip(addresses, sources)]
+        marks = [self.marked_bytes.get(address, False) if store is None else store.marked[1] for address, store in zip(addresses, sources)]
+        return bytes(data), any(marks)
 
-    def may_take_two(self, load):
-        """Whether both of its lines lack in the cache and aren't on their way."""
-        lines = self.lines_of(self.values[load.serial])
-        return len(lines) == 2 and not any(self.cache.has(line) or line in self.misses for line in lines)
+    def loads_marked(self, load):
+        """Whether a load whose base is known loads a marked byte, as memory and stores are before Issue."""
+        return self.found(load, self.located(load).bytes)[1]
+
+    def would_load_marked(self, load, base):
+        """Whether a load would load a marked byte, were this its base."""
+        value = self.values[load.serial]
+        address = value.effect(base).address
+        inside = self.memory.fault(LOAD, address, value.size) is None
+        return inside and self.found(load, range(address, address + value.size))[1]
 
     def told_by_issue(self, item, step):
         """What the events of its issue tell behind the serial: how a load finds a line is for others to say."""
         value = self.values[item.serial]
         if item.code.kind == DIVISION:
-            return [[str(division_time(value.operation.name, value.operands[0]))]]
+            return [[str(division_time(value.operation.name, value.sources[0].result or 0))]]
         if item.code.kind != LOAD:
             return [[]]
-        if value.fault is not None:
+        if self.located(item).fault is not None:
             return [["x"]]
         if step[0][-1] == "f":
             return [["f"]]
         found = [words[-1] for words in step if words[0] != PREFETCH] + [""]
         return [[f"{line:08x}", how] for line, how in zip(self.lines_of(value), found)]
 
+    # ---- What is asked of addresses
+
+    def shares(self, load, store):
+        """Whether the two have a byte in common; where one faults it has none. None where the load's address isn't known yet."""
+        one, two = self.located(load), self.located(store)
+        return None if one.address is None else bool(one.bytes and two.bytes) and (
+            one.bytes.start < two.bytes.stop and two.bytes.start < one.bytes.stop)
+
+    def lines_of(self, value):
+        """The lines of an access, the lower first."""
+        ends = (value.address, value.address + value.size - 1)
+        return sorted({end - end % self.description.line for end in ends})
+
+    def may_take_two(self, load):
+        """Whether both of its lines lack in the cache and aren't on their way."""
+        lines = self.lines_of(self.located(load))
+        return len(lines) == 2 and not any(self.cache.has(line) or line in self.misses for line in lines)
+
+    def faults(self, item):
+        """A store that faults isn't safe, which the trace alone doesn't tell."""
+        return super().faults(item) or item.code.kind == STORE and self.values[item.serial].fault is not None
+
+    def prospect(self, value):
+        """What a value that isn't there yet will be, and its mark, where no load has to be waited for; else none."""
+        if value.result is not None:
+            return Retired(value.result, value.mark)
+        sources = [self.prospect(source) for source in value.sources]
+        if None in sources or value.operation.code.kind == LOAD:
+            return None
+        return Retired(value.effect(*(source.result for source in sources)).value, any(source.mark for source in sources))
+
+    # ---- Resolve and Retire
+
+    def resolve(self, item, outcome):
+        value = self.values[item.serial]
+        computed = "J" if item.code.kind == JALR else "T" if value.taken else "N"
+        self.compare(item, f"is resolved as {outcome}", computed == outcome, computed)
+        super().resolve(item, outcome)
+
+    def leave(self, item):
+        super().leave(item)
+        del self.values[item.serial]
+
+    def retire(self, item):
+        value = self.values[item.serial]
+        super().retire(item)
+        if item.code.destination:
+            self.registers[item.code.destination], self.marked_registers[item.code.destination] = value.result or 0, value.mark
+        if item.code.kind == CALL:
+            call = system_call(self.registers, self.memory)
+            if call.exit is None:
+                self.registers[10], self.marked_registers[10] = call.answer, False
+        self.to_write = self.lines_of(value) if item.code.kind == STORE else []
+        if item.code.kind == STORE and value.bytes:
+            self.memory.put(value.address, stored_bytes(value.stored, value.size))
+            self.marked_bytes.update(dict.fromkeys(value.bytes, value.marked[1]))
+
     def write(self, item, line, answer):
         """Each line of a store is one of those that it writes, in their order."""
         super().write(item, line, answer)
         right, place = self.to_write, len(item.written) - 1
         self.compare(item, f"writes line {line:08x}", right[place:place + 1] == [line], " ".join(f"{line:08x}" for line in right))
-
-    def complete(self, item):
-        """A store that faults isn't safe, which the trace alone doesn't tell."""
-        shadow = item in self.shadows
-        super().complete(item)
-        if item.code.kind == STORE and shadow and self.values[item.serial].fault is not None:
-            self.shadows.append(item)
-            self.shadows.sort(key=lambda entry: entry.serial)
 
     def compare(self, item, told, equal, computed):
         if not equal:

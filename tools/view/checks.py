@@ -1,6 +1,6 @@
 """Whether what happens is what the machine's rules ask for: when lines come, when results are there, what loads find."""
-from .instruction import BRANCH, CALL, STORE
-from .pipeline import DATA_PART, PREFETCH, lines_of
+from .instruction import BRANCH, CALL, LOAD, STORE
+from .pipeline import ADDRESS_PART, DATA_PART, PREFETCH, lines_of
 
 # the letters of a line that takes a miss register
 TAKES = ("m", "2")
@@ -32,6 +32,33 @@ class Checks:
         right = [["res", learns], ["res", learns, "sq"]] + ([["res", "sq"]] if learns == "bt" else [])
         if names_told not in right:
             self.tell(f"entry {item.serial}, a {item.code.kind}, is resolved with the events {' '.join(names_told)}")
+
+    def clear(self, store, events):
+        """A store is cleared, and where the oldest younger load that passed it shares a byte with it, that load is violated: its bit is
+        set, and it goes with all that is younger."""
+        names_told = [words[0] for words in events]
+        if store.code.kind != STORE or names_told not in (["clr"], ["clr", "vio", "dp", "sq"]):
+            self.tell(f"entry {store.serial}, a {store.code.kind}, is cleared with the events {' '.join(names_told)}")
+            return
+        violated = self.pipeline.entry(events[1]) if events[1:] else None
+        passed = [load for load in self.pipeline.window if load.serial > store.serial and self.passed(load, store)]
+        shares = [self.pipeline.shares(load, store) for load in passed]
+        certain = next((load for load, shared in zip(passed, shares) if shared), None)
+        likely = [load for load, shared in zip(passed, shares) if shared is None] + [certain]
+        if violated not in [*likely, None] or violated is None and certain is not None:
+            told = "none is" if violated is None else f"load {violated.serial} is"
+            right = ", ".join(f"load {load.serial}" for load in likely if load is not None) or "none"
+            self.tell(f"store {store.serial} is cleared and {told} violated, where {right} may be")
+        if violated is not None and self.pipeline.description.depend:
+            right = ["dp", str(self.pipeline.bit_of(violated)), "1"]
+            if events[2] != right:
+                self.tell(f"load {violated.serial} is violated with {':'.join(events[2])}, where {':'.join(right)} is right")
+
+    @staticmethod
+    def passed(load, store):
+        """It is a load without fault that issued before the store's address was known."""
+        known = load.code.kind == LOAD and load.issued is not None and load.unit != "fault"
+        return known and load.issued <= store.parts.get(ADDRESS_PART, -1)
 
     def retired(self, item):
         """A store tells what it finds in the cache, a call how much it puts out."""

@@ -71,6 +71,7 @@ def read_description(name):
         values |= {key: tables.get(table, {}).get(key, default) for key, (table, default) in OPTIONAL.items()}
     except (KeyError, TypeError, AttributeError) as error:
         raise Fault(f"{name}: the description has no {error}") from None
-    if values["model"] not in (SPECTRE, FUTURISTIC):
-        raise Fault(f"{name}: stt.model is neither {SPECTRE} nor {FUTURISTIC}")
+    for key, texts in (("model", (SPECTRE, FUTURISTIC, OFF)), ("defence", (STT, HOLD))):
+        if values[key] not in texts:
+            raise Fault(f"{name}: stt.{key} is none of {', '.join(texts)}")
     return Description(version=tables.get("version", 1), **values)

@@ -3,7 +3,7 @@ from collections import Counter, deque
 from itertools import zip_longest
 from typing import NamedTuple
 
-OF_AN_ENTRY = {"done", "res", "ret", "st", "call", "alu", "mul", "div", "agu", "std", "ld", "ren"}
+OF_AN_ENTRY = {"done", "res", "clr", "vio", "ret", "st", "call", "alu", "mul", "div", "agu", "std", "ld", "ren"}
 OF_A_LINE = {"fill": 1, "ld": 2, "st": 2}
 
 

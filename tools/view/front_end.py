@@ -77,6 +77,11 @@ class FrontEnd:
 
     # ---- Fetch
 
+    def after_violation(self, fetched, violated):
+        """Behind a load that is violated fetch goes on at it."""
+        if violated is not None and [item.pc for item in fetched[:1]] != [violated.pc]:
+            self.tell(f"load {violated.serial} is violated, and fetch doesn't go on at {violated.pc:08x}")
+
     def after_fetch(self, fetched, squashed):
         """Fewer than the width were fetched: the queue is full, or a stop or a jump that faults left nothing to fetch.
 

@@ -1,6 +1,6 @@
 """`list`: one line an instruction with all its times."""
 from .pipeline import LOAD_UNITS, NEVER
-from .reasons import HELD
+from .reasons import HELD, HELD_BACK
 from .why import cycles, held_by
 
 TIMES = ("fetched", "renamed", "ready", "issued", "done", "resolved", "retired")
@@ -32,6 +32,10 @@ def notes(item):
         yield ", ".join(f"{LOAD_UNITS[found]} {line:08x}" for line, found in item.lines) or item.unit
     if len(set(item.parts.values())) > 1 or item.parts and item.issued is None:
         yield ", ".join(f"{PART_NAMES[part]} {cycle}" for part, cycle in sorted(item.parts.items(), key=lambda part: part[1]))
+    if item.passed:
+        yield "passes stores of unknown address"
+    if item.cleared is not None:
+        yield f"cleared {item.cleared}"
     for line, found in item.written:
         yield f"writes {line:08x}, {LOAD_UNITS[found]}"
     if item.output is not None:
@@ -39,8 +43,9 @@ def notes(item):
     if item.outcome:
         yield {"T": "taken", "N": "not taken", "J": "jump"}[item.outcome] + (", mispredicted" if item.mispredicted else "")
     yield from (f"held by taint {cycles(wait)} of {held_by(wait)} {wait.serial}" for wait in item.waits if wait.reason in HELD)
+    yield from (f"held back {cycles(wait)} of load {wait.serial}" for wait in item.waits if wait.reason == HELD_BACK)
     if item.squashed is not None:
-        yield f"squashed {item.squashed}"
+        yield f"squashed {item.squashed}" + ", violated" * item.violated
     elif item.trapped is not None:
         yield f"traps {item.trapped}"
     elif item.retired is None:

@@ -6,7 +6,7 @@ This module does what the events say; whether they are what the machine's rules 
 from collections import deque
 
 from . import Fault
-from .description import SPECTRE
+from .description import FUTURISTIC, SPECTRE
 from .instruction import CALL, LOAD, STORE
 from .memory_side import Cache, Divider, Miss
 
@@ -35,18 +35,21 @@ class Item:
     the letter of how it was found. A store has issued once both of its parts have: `parts` has the cycle of each, by the name of its event.
     `roots` are, for each source, the youngest load from which the value flows, or None. `ready` is the first cycle in which
     it could have issued as far as its operands go. Of a load `sharers` are the stores of which one kept it for its data, and
-    `lacking` is the last cycle in which it surely lacked miss registers, and how many of its lines then needed one.
+    `lacking` is the last cycle in which it surely lacked miss registers, and how many of its lines then needed one; `passed` says
+    whether an older store's address wasn't known as it issued, and `violated` whether it is dropped for that. `cleared` is when a store
+    is cleared, where loads pass stores.
     """
 
     __slots__ = ("number", "pc", "code", "serial", "fetched", "renamed", "ready", "issued", "unit", "due", "done",
                  "resolved", "outcome", "mispredicted", "retired", "squashed", "trapped", "lines", "written", "output", "sources",
-                 "awaits", "consumers", "roots", "waits", "producers", "parts", "sharers", "lacking")
+                 "awaits", "consumers", "roots", "waits", "producers", "parts", "sharers", "lacking", "cleared", "passed", "violated")
 
     def __init__(self, number, pc, code, cycle):
         self.number, self.pc, self.code, self.fetched = number, pc, code, cycle
         self.serial = self.renamed = self.ready = self.issued = self.unit = self.due = self.done = None
         self.resolved = self.outcome = self.retired = self.squashed = self.trapped = self.output = None
         self.mispredicted, self.lines, self.written = False, (), ()
+        self.cleared, self.passed, self.violated = None, False, False
         self.sources, self.roots, self.consumers, self.awaits = (), (), [], 0
         self.waits, self.producers, self.parts, self.sharers, self.lacking = [], (), {}, (), (None, 0)
 
@@ -83,7 +86,8 @@ LOAD_UNITS = {"h": "hit", "m": "miss", "j": "join", "2": "second", "f": "forward
 
 
 class Pipeline:
-    """The machine's state, as far as a trace tells it. `misses` are the miss registers that are taken, by their lines.
+    """The machine's state, as far as a trace tells it. `misses` are the miss registers that are taken, by their lines, and `learnt` the
+    bits of dependence that are set, each with the cycle in which it was.
 
     `waiting` are the entries that haven't issued, by age, `open_stores` the stores that aren't Done, and `shadows` the
     entries that keep younger ones from being visible: what stands behind the first of them isn't.
@@ -100,6 +104,7 @@ class Pipeline:
         self.cache = Cache(description.line, description.sets, description.ways)
         self.second = Cache(description.line, description.second_sets, description.second_ways)
         self.divider, self.misses = Divider(), {}
+        self.learnt = {}
         self.fills, self.prefetches, self.last_squash = [], [], None
 
     @property
@@ -134,10 +139,25 @@ class Pipeline:
                 consumer.ready = self.cycle
         if item.code.kind == STORE:
             self.open_stores.remove(item)
-        if item.code.kind in (LOAD, STORE) and item.unit != "fault" and item in self.shadows:
+        self.leave_shadows(item)
+
+    def faults(self, item):
+        """Whether it faults: of a store a trace doesn't tell."""
+        return item.unit == "fault"
+
+    def is_cleared(self, store):
+        """Whether nothing keeps it from retiring but what it does itself. Where no load passes a store it is so from the start."""
+        return not self.description.depend or store.cleared is not None
+
+    def leave_shadows(self, item):
+        """A load or store that is safe hides nothing; under `spectre` a store hides nothing once it is cleared."""
+        if item not in self.shadows or item.code.kind == STORE and not self.is_cleared(item):
+            return
+        safe = item.done is not None and not self.faults(item)
+        if item.code.kind in (LOAD, STORE) and (safe or self.description.model == SPECTRE):
             self.shadows.remove(item)
 
-    # ---- Resolve
+    # ---- Resolve and Clear
 
     def resolve(self, item, outcome):
         item.resolved, item.outcome = self.cycle, outcome
@@ -150,9 +170,33 @@ class Pipeline:
         """Drops all that is younger than this branch or JALR, and answers how many entries and items that were."""
         item.mispredicted = True
         self.last_squash = item
+        return self.drop_from(item.serial + 1)
+
+    def clear(self, store):
+        store.cleared = self.cycle
+        self.leave_shadows(store)
+
+    def bit_of(self, load):
+        """Where the bit stands that tells a load to wait for the addresses of older stores."""
+        return load.pc // 4 % self.description.depend
+
+    def may_pass(self, load):
+        """Whether a load may go before stores of unknown address."""
+        return self.description.depend > 0 and self.bit_of(load) not in self.learnt
+
+    def violate(self, load):
+        """Drops a load that passed a store wrongly, with what is younger, and answers how many entries and items that were."""
+        load.violated = True
+        self.last_squash = load
+        if self.description.depend:
+            self.learnt.setdefault(self.bit_of(load), self.cycle)
+        return self.drop_from(load.serial)
+
+    def drop_from(self, serial):
+        """Drops the entries from this serial on, and the queue."""
         dropped = list(self.queue)
         self.queue.clear()
-        while self.window and self.window[-1].serial > item.serial:
+        while self.window and self.window[-1].serial >= serial:
             dropped.append(self.window.pop())
         for gone in dropped:
             gone.squashed = self.cycle
@@ -160,7 +204,7 @@ class Pipeline:
                 self.leave(gone)
         for entries in (self.waiting, self.open_stores, self.shadows, self.controls):
             entries[:] = [entry for entry in entries if entry.squashed is None]
-        self.divider.drop_from(item.serial + 1)
+        self.divider.drop_from(serial)
         self.writers = [None] * 32
         for entry in self.window:
             self.writers[entry.code.destination] = entry
@@ -206,6 +250,8 @@ class Pipeline:
         self.waiting.remove(item)
         item.issued, item.unit = self.cycle, words[0]
         if words[0] == "ld":
+            item.passed = any(store.parts.get(ADDRESS_PART, self.cycle) == self.cycle for store in self.open_stores
+                              if store.serial < item.serial)
             self.access(item, step)
             return
         time = {"mul": self.description.mul_latency, "div": int(words[-1])}.get(words[0], 1)
@@ -219,6 +265,10 @@ class Pipeline:
         if len(item.parts) == len(PARTS):
             self.waiting.remove(item)
             item.issued, item.unit, item.due = self.cycle, ADDRESS_PART, self.cycle + 1
+
+    @staticmethod
+    def lacks_address(store):
+        return ADDRESS_PART not in store.parts
 
     def shares(self, load, store):
         """Whether the two have a byte in common, which a trace doesn't tell: None."""
@@ -292,8 +342,15 @@ class Pipeline:
             self.waiting.append(item)
         if item.code.is_control:
             self.controls.append(item)
-        if item.code.is_control or self.description.model != SPECTRE and (kind in (LOAD, STORE) or item.code.at_once):
+        if self.hides(item):
             self.shadows.append(item)
+
+    def hides(self, item):
+        """Whether it keeps what is younger from being visible as it is renamed."""
+        if self.description.model == FUTURISTIC:
+            return item.code.is_control or item.code.at_once or item.code.kind in (LOAD, STORE)
+        unsettled = item.code.is_control or item.code.kind == STORE and not self.is_cleared(item)
+        return self.description.model == SPECTRE and unsettled
 
     def fetch(self, pc):
         item = Item(self.count, pc, self.image.instruction(pc), self.cycle)

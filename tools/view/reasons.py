@@ -1,4 +1,4 @@
-"""Why an instruction waits to issue or to be resolved, and why nothing retires.
+"""Why an instruction waits to issue, to be resolved or to be cleared, and why nothing retires.
 
 Each reason is a rule of docs/machine.md that forbids the step in that cycle, tested on the state that the phase finds. A
 wait that no rule asks for, and a step that a rule forbids, are told as unexplained. So this is also a check of the trace,
@@ -6,7 +6,7 @@ made from its text, the image and the description alone.
 """
 from collections import Counter
 
-from .description import FUTURISTIC
+from .description import FUTURISTIC, HOLD
 from .instruction import CALL, DIVISION, LOAD, MULTIPLICATION, STORE
 from .pipeline import PARTS
 
@@ -18,9 +18,12 @@ TWO_REGISTERS = "two miss registers"
 # to issue in version 2: a part of a store; a load
 BASE, DATA, ADDRESS_PORT, DATA_PORT = "base", "data", "address port", "data port"
 STORE_ADDRESS, STORE_DATA, STORE_TAINT = "older store's address", "older store's data", "older store's tainted address"
-# to be resolved
+# to issue under the defence `hold`
+HELD_BACK = "load held back"
+# to be resolved; a store that loads may have passed: to be cleared
 TAINTED_OUTCOME, ONE_A_CYCLE = "taint, to be resolved", "one resolved a cycle"
-HELD = (TAINT, STORE_TAINT, TAINTED_OUTCOME)
+TAINTED_CLEARING, ONE_CLEARED = "taint, to be cleared", "one cleared a cycle"
+HELD = (TAINT, STORE_TAINT, TAINTED_OUTCOME, TAINTED_CLEARING)
 
 # what each part of a store waits for: its operand, and its port
 PART_REASONS = dict(zip(PARTS, ((BASE, ADDRESS_PORT), (DATA, DATA_PORT))))
@@ -37,6 +40,11 @@ class Reasons:
         self.pipeline, self.description = pipeline, pipeline.description
         self.unexplained, self.idle = [], Counter()
         self.presumed, self.head, self.ports, self.last_load = set(), None, {}, -1
+
+    @property
+    def holds(self):
+        """What the description's defence does, in words."""
+        return "held back" if self.description.defence == HOLD else "held by taint"
 
     def tell(self, text):
         self.unexplained.append(f"cycle {self.pipeline.cycle}: {text}")
@@ -66,6 +74,25 @@ class Reasons:
         root = item.youngest_root
         return root if self.pipeline.is_hidden(root) else None
 
+    # ---- Clear
+
+    def clear(self, cleared):
+        """The oldest store that isn't cleared, with a known address that isn't tainted, is cleared: at most one a cycle."""
+        first = None
+        for store in list(self.pipeline.window) if self.description.depend else ():
+            if store.code.kind != STORE or self.pipeline.is_cleared(store) or self.pipeline.lacks_address(store):
+                continue
+            root = store.roots[0]
+            hidden = self.pipeline.is_hidden(root)
+            if not hidden and first is None and store.serial != cleared:
+                hidden = self.presume_fault(root)
+            if not hidden and first is None:
+                first = store.serial
+            elif store.issued is not None:
+                store.wait(self.pipeline.cycle, *((TAINTED_CLEARING, root) if hidden else (ONE_CLEARED, None)))
+        if first != cleared:
+            self.tell(f"{named(cleared)} is cleared, where {named(first)} may be")
+
     # ---- Issue
 
     def issue(self, issued):
@@ -85,9 +112,21 @@ class Reasons:
                 last.last = cycle
                 continue
             reason, cause = self.to_issue(item, goes)
-            if reason is None and not goes and self.presume_fault(item.youngest_root, item.code.kind):
+            if reason is None and not goes and any(map(self.presume_fault, self.roots_of_wait(item))):
                 reason, cause = self.to_issue(item, goes)
             self.keep(item, goes, reason, cause)
+
+    def roots_of_wait(self, item):
+        """The loads that have to be visible for this entry to issue: a load also asks for those of the addresses of stores without data."""
+        if self.description.defence == HOLD or item.code.kind in (LOAD, DIVISION):
+            yield item.youngest_root
+        if item.code.kind == LOAD and self.description.version != 1:
+            yield from (store.roots[0] for store in self.older_open_stores(item) if PARTS[1] not in store.parts)
+
+    def is_held_back(self, writer):
+        """Whether this writer is a load whose result isn't used until it is visible."""
+        held = self.description.defence == HOLD and writer is not None and writer.code.kind == LOAD
+        return held and self.pipeline.is_hidden(writer)
 
     def issue_parts(self, item, told):
         """Each part of a store goes as soon as its own source is there and its port is left. Told is what the first of them waits for."""
@@ -98,6 +137,8 @@ class Reasons:
             operand, port = PART_REASONS[part]
             if writer is not None and writer.done is None:
                 waits.append((operand, writer))
+            elif self.is_held_back(writer) or self.may_be_held_back(writer, part in told or not self.ports[part]):
+                waits.append((HELD_BACK, writer))
             elif not self.ports[part]:
                 waits.append((port, None))
             elif part in told:
@@ -110,6 +151,11 @@ class Reasons:
                 self.tell(f"store {item.serial} issues `{part}`, but has to wait: {waits[-1][0]}")
         if waits:
             item.wait(self.pipeline.cycle, *waits[0])
+
+    def may_be_held_back(self, writer, goes):
+        """Whether a fault that the trace doesn't tell holds this load back, where nothing else explains a wait for it."""
+        read = self.description.defence == HOLD and writer is not None and writer.code.kind == LOAD
+        return read and not goes and self.presume_fault(writer)
 
     def is_awaited(self, wait, cycle):
         """It waited for this writer in the cycle before, and the writer still isn't Done."""
@@ -133,6 +179,9 @@ class Reasons:
         kind = item.code.kind
         if item.awaits:
             return OPERAND, next((writer for writer in item.sources if writer is not None and writer.done is None), None)
+        held = next(filter(self.is_held_back, item.sources), None)
+        if held is not None:
+            return HELD_BACK, held
         if kind in (LOAD, DIVISION):
             root = self.tainted_root(item)
             if root is not None:
@@ -152,18 +201,22 @@ class Reasons:
     def behind_stores(self, load, taint=True):
         """What in the older stores keeps a load from issuing, and which store: as far as the trace tells it.
 
-        In version 1 a store that isn't Done. In version 2 one whose address isn't known; or whose data isn't, where its address is
-        tainted, or it covers a byte of the load. Without `taint`: what would keep it if nothing were tainted.
+        In version 1 a store that isn't Done. In version 2 one whose address isn't known, unless the load passes it; or whose data isn't,
+        where its address is tainted, or it covers a byte of the load. Without `taint`: what would keep it if nothing were tainted.
         """
         stores = self.older_open_stores(load)
         if self.description.version == 1:
             return (OLDER_STORE, stores[0]) if stores else (None, None)
         tests = [
-            (STORE_ADDRESS, lambda store: PARTS[0] not in store.parts),
-            (STORE_TAINT, lambda store: taint and self.pipeline.is_hidden(store.roots[0])),
-            (STORE_DATA, lambda store: self.pipeline.shares(load, store)),
+            (STORE_ADDRESS, lambda store: self.pipeline.lacks_address(store) and not self.pipeline.may_pass(load)),
+            (STORE_TAINT, lambda store: taint and PARTS[1] not in store.parts and self.pipeline.is_hidden(store.roots[0])),
+            (STORE_DATA, lambda store: PARTS[1] not in store.parts and self.shares(load, store)),
         ]
         return next(((reason, store) for reason, test in tests for store in stores if test(store)), (None, None))
+
+    def shares(self, load, store):
+        """Whether a store covers a byte of a load: one of unknown address covers nothing. None where that isn't known."""
+        return not self.pipeline.lacks_address(store) and self.pipeline.shares(load, store)
 
     def older_open_stores(self, load):
         """The older stores that aren't Done; in version 2, when Issue begins, these lack a part."""
@@ -197,7 +250,7 @@ class Reasons:
     def may_share(self, load):
         """The older stores without data of which it isn't known whether they cover a byte of the load."""
         return [store for store in self.older_open_stores(load)
-                if PARTS[1] not in store.parts and self.pipeline.shares(load, store) is None]
+                if PARTS[1] not in store.parts and self.shares(load, store) is None]
 
     def check_sharers(self, load, stores):
         """A load that waited for data doesn't go before one of the stores has it that can have kept it."""
@@ -206,13 +259,13 @@ class Reasons:
 
     # ---- stores that fault
 
-    def presume_fault(self, root, kind=LOAD):
+    def presume_fault(self, root):
         """Under futuristic a store that faults hides all behind it, and the trace doesn't tell that it faults.
 
         Where that alone can explain a wait, the youngest Done store older than the root is taken to fault: if it is an older one, that
         never lets it retire. It then must not retire: `retire` tells if it does.
         """
-        if self.description.model != FUTURISTIC or root is None or kind not in (LOAD, DIVISION):
+        if self.description.model != FUTURISTIC or root is None:
             return False
         for store in reversed(self.pipeline.window):
             if (store.serial < root.serial and store.code.kind == STORE and store.done is not None
@@ -226,7 +279,7 @@ class Reasons:
     # ---- Retire
 
     def retire(self, retired, ends):
-        """Up to the width the oldest entries retire that are Done and resolved, and one store at most."""
+        """Up to the width the oldest entries retire that are Done and resolved, and one store at most, which has to be cleared."""
         self.head = None
         for serial in retired:
             if serial in self.presumed:
@@ -243,6 +296,7 @@ class Reasons:
         for item in self.pipeline.window:
             stores += item.code.kind == STORE
             ready = item.code.kind == CALL or item.done is not None and not (item.code.is_control and item.resolved is None)
+            ready = ready and (item.code.kind != STORE or self.pipeline.is_cleared(item))
             if turns == self.description.retire_width or not ready or stores > 1:
                 break
             turns += 1
@@ -255,8 +309,9 @@ class Reasons:
         if ends:
             self.idle["the run ends by a trap", head.pc if head else None] += 1
         elif head is None:
-            after = squash is not None and squash.retired is not None
-            self.idle["window empty after a misprediction" if after else "window empty", squash.pc if after else None] += 1
+            after = squash is not None and (squash.violated or squash.retired is not None)
+            why = " after a violation" if after and squash.violated else " after a misprediction" if after else ""
+            self.idle["window empty" + why, squash.pc if after else None] += 1
         elif head.issued is None and not head.code.at_once:
             self.head = head
         elif head.done is None and head.issued is not None:

@@ -4,7 +4,7 @@ from .checks import Checks
 from .front_end import FrontEnd
 from .pipeline import PREFETCH, Pipeline
 from .reasons import Reasons
-from .trace import COMPLETE, FETCH, FILL, ISSUE, RENAME, RESOLVE, RETIRE
+from .trace import CLEAR, COMPLETE, FETCH, FILL, ISSUE, RENAME, RESOLVE, RETIRE
 
 
 class Replay:
@@ -58,16 +58,18 @@ class Replay:
             raise Fault(f"cycle {row.cycle}: a number is none in `{' '.join(row.events)}`") from None
 
     def take(self, row, phases):
-        """The seven phases. After an end in Retire no later phase acts."""
+        """The seven phases, and Clear behind Resolve. After an end in Retire no later phase acts."""
         self.fill([int(words[1], 16) for words in phases[FILL]])
         self.complete([self.pipeline.entry(words) for words in phases[COMPLETE]])
         squashed = self.resolve(phases[RESOLVE])
+        violated = self.clear(phases[CLEAR])
         self.retire(phases[RETIRE], row.ends)
         if not row.ends:
             self.issue(phases[ISSUE])
             self.rename(phases[RENAME])
             fetched = [self.pipeline.fetch(int(words[1], 16)) for words in phases[FETCH]]
-            self.front.after_fetch(fetched, squashed)
+            self.front.after_fetch(fetched, squashed or violated is not None)
+            self.front.after_violation(fetched, violated)
 
     def fill(self, lines):
         self.checks.fill(lines)
@@ -95,6 +97,23 @@ class Replay:
         if squashes:
             self.checks.squash(int(events[-1][1]), self.pipeline.squash(resolved))
         return squashes
+
+    def clear(self, events):
+        """Answers the load that is violated, or none."""
+        if not events and not self.pipeline.description.depend:
+            return None
+        if events and events[0][0] != "clr":
+            raise Fault(f"cycle {self.pipeline.cycle}: `{':'.join(events[0])}` doesn't follow a clr")
+        store = self.pipeline.entry(events[0]) if events else None
+        self.reasons.clear(store.serial if store else None)
+        if store is None:
+            return None
+        self.checks.clear(store, events)
+        violated = self.pipeline.entry(events[1]) if [words[0] for words in events[1:]] == ["vio", "dp", "sq"] else None
+        self.pipeline.clear(store)
+        if violated is not None:
+            self.checks.squash(int(events[-1][1]), self.pipeline.violate(violated))
+        return violated
 
     def retire(self, events, ends):
         self.reasons.retire([int(words[1]) for words in events if words[0] == "ret"], ends)

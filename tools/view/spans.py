@@ -1,11 +1,13 @@
 """What an instruction does in each cycle from its fetch until it is gone: the stages of pictures and of Konata's log."""
 from .reasons import (
-    ADDRESS_PORT, BASE, DATA, DATA_PORT, DIVIDER, MISS_REGISTER, OLDER_STORE, OPERAND, PORT, STORE_ADDRESS, STORE_DATA, STORE_TAINT, TAINT,
-    TAINTED_OUTCOME, TWO_REGISTERS)
+    ADDRESS_PORT, BASE, DATA, DATA_PORT, DIVIDER, HELD_BACK, MISS_REGISTER, OLDER_STORE, OPERAND, PORT, STORE_ADDRESS, STORE_DATA,
+    STORE_TAINT, TAINT, TAINTED_CLEARING, TAINTED_OUTCOME, TWO_REGISTERS)
 
 QUEUE, RENAMED, DONE, RETIRED, SQUASHED, TRAPPED = "queue", "renamed", "done", "retired", "squashed", "trapped"
-WAITS = (OPERAND, TAINT, OLDER_STORE, PORT, MISS_REGISTER, TWO_REGISTERS, DIVIDER, BASE, DATA, ADDRESS_PORT, DATA_PORT, STORE_ADDRESS, STORE_DATA,
-         STORE_TAINT)
+WAITS = (OPERAND, TAINT, HELD_BACK, OLDER_STORE, PORT, MISS_REGISTER, TWO_REGISTERS, DIVIDER, BASE, DATA, ADDRESS_PORT, DATA_PORT,
+         STORE_ADDRESS, STORE_DATA, STORE_TAINT)
+# what a Done entry may wait for, by taint
+OUTCOMES = (TAINTED_OUTCOME, TAINTED_CLEARING)
 UNITS = ("alu", "mul", "div", "agu", "hit", "miss", "join", "second", "forward", "fault")
 
 
@@ -40,6 +42,6 @@ def turns_of(item):
     if item.done is not None:
         yield item.done, DONE
     for wait in item.waits:
-        if wait.reason == TAINTED_OUTCOME:
-            yield wait.first, TAINTED_OUTCOME
+        if wait.reason in OUTCOMES:
+            yield wait.first, wait.reason
             yield wait.last + 1, DONE

@@ -2,8 +2,8 @@
 from collections import Counter
 
 from .front_end import QUEUE_EMPTY
-from .instruction import BRANCH, JALR
-from .reasons import HELD
+from .instruction import BRANCH, JALR, LOAD
+from .reasons import HELD, HELD_BACK, STORE_ADDRESS
 
 LOAD_KINDS = (("hit", "loads: hit"), ("miss", "loads: miss"), ("join", "loads: join a miss"), ("second", "loads: second level"),
               ("forward", "loads: forwarded"), ("fault", "loads: fault"))
@@ -21,6 +21,7 @@ class Counts:
         self.resolved, self.mispredicted = Counter(), Counter()
         self.stores, self.output, self.two_lines = Counter(), 0, 0
         self.held, self.held_cycles, self.held_dropped = Counter(), Counter(), Counter()
+        self.cleared, self.passed, self.violated, self.waited = 0, Counter(), Counter(), Counter()
 
     def add(self, item):
         self.fetched += 1
@@ -39,11 +40,16 @@ class Counts:
         if item.written:
             self.stores[all(found == "h" for _, found in item.written)] += 1
         self.output += item.output or 0
+        self.cleared += item.cleared is not None
+        if item.code.kind == LOAD:
+            self.passed[item.pc] += item.passed
+            self.violated[item.pc] += item.violated
+            self.waited[item.pc] += any(wait.reason == STORE_ADDRESS for wait in item.waits)
         self.add_held(item)
 
     def add_held(self, item):
-        """The cycles in which only taint kept it from issuing or from being resolved."""
-        cycles = sum(wait.last - wait.first + 1 for wait in item.waits if wait.reason in HELD)
+        """The cycles in which only the defence kept it from issuing, from being resolved or from being cleared."""
+        cycles = sum(wait.last - wait.first + 1 for wait in item.waits if wait.reason in (*HELD, HELD_BACK))
         if cycles:
             self.held[item.pc] += 1
             self.held_cycles[item.pc] += cycles
@@ -85,7 +91,12 @@ def lines_of(replay, disassembler):
     second = sum(answer == "2" for _, _, answer in pipeline.prefetches)
     rows += [("lines prefetched", f"{len(pipeline.prefetches)}, from the second level {second}")] * description.prefetch
     rows += [
-        ("held by taint", f"{sum(counts.held.values())} instructions, {sum(counts.held_cycles.values())} cycles; "
+        ("stores cleared", counts.cleared),
+        ("loads that passed stores", f"{counts.passed.total()}, violated {counts.violated.total()}"),
+        ("bits of dependence set", f"{len(pipeline.learnt)} of {description.depend}"),
+    ] * bool(description.depend)
+    rows += [
+        (reasons.holds, f"{sum(counts.held.values())} instructions, {sum(counts.held_cycles.values())} cycles; "
                           f"{sum(counts.held_dropped.values())} never went on"),
         ("unexplained", len(reasons.unexplained)),
     ]
@@ -93,7 +104,8 @@ def lines_of(replay, disassembler):
     yield from idle_lines(reasons, cycles)
     yield from stall_lines(replay.front)
     yield from cost_lines(reasons, disassembler)
-    yield from held_lines(counts, disassembler)
+    yield from passing_lines(counts, pipeline, disassembler)
+    yield from held_lines(counts, reasons, disassembler)
 
 
 def executed(counts, unit):
@@ -127,9 +139,20 @@ def cost_lines(reasons, disassembler):
     yield from (f"{number:8}  {disassembler.place(pc)}" for pc, number in costs.most_common(MOST))
 
 
-def held_lines(counts, disassembler):
+def passing_lines(counts, pipeline, disassembler):
+    """The loads that passed stores wrongly: how often before their bits were set, and how often they waited for addresses then."""
+    if counts.violated.total():
+        yield "\nloads that passed stores wrongly by place, the most first"
+        for pc, number in counts.violated.most_common(MOST):
+            if number:
+                bit = pc // 4 % pipeline.description.depend
+                yield (f"{number:8}  {disassembler.place(pc)}: passed stores {counts.passed[pc]} times; bit {bit} is set in cycle "
+                       f"{pipeline.learnt[bit]}; waited for an older store's address {counts.waited[pc]} times")
+
+
+def held_lines(counts, reasons, disassembler):
     if counts.held:
-        yield "\ncycles held by taint by place, the most first"
+        yield f"\ncycles {reasons.holds} by place, the most first"
         for pc, number in counts.held_cycles.most_common(MOST):
             yield (f"{number:8}  {disassembler.place(pc)}: {counts.held[pc]} times, "
                    f"{counts.held_dropped[pc]} never went on")

@@ -6,11 +6,12 @@ from typing import NamedTuple
 
 from . import Fault
 
-FILL, COMPLETE, RESOLVE, RETIRE, ISSUE, RENAME, FETCH = range(7)
+FILL, COMPLETE, RESOLVE, CLEAR, RETIRE, ISSUE, RENAME, FETCH = range(8)
 
 # the phase of each event, and how many words its text has: the name, and what stands behind colons
 EVENTS = {
     "fill": (FILL, 2), "done": (COMPLETE, 2), "res": (RESOLVE, 3), "bp": (RESOLVE, 3), "bt": (RESOLVE, 3), "sq": (RESOLVE, 2),
+    "clr": (CLEAR, 2), "vio": (CLEAR, 2), "dp": (CLEAR, 3),
     "ret": (RETIRE, 2), "st": (RETIRE, 4), "call": (RETIRE, 3), "alu": (ISSUE, 2), "mul": (ISSUE, 2), "div": (ISSUE, 3),
     "agu": (ISSUE, 2), "std": (ISSUE, 2), "ld": (ISSUE, 4), "pf": (ISSUE, 3), "ren": (RENAME, 3), "fet": (FETCH, 2),
 }
@@ -29,14 +30,17 @@ class Row(NamedTuple):
     ends: bool
 
     def phases(self):
-        """The events of each phase, as lists of their words: `["ld", "3", "0001fff0", "m"]`."""
-        phases = [[], [], [], [], [], [], []]
+        """The events of each phase, as lists of their words: `["ld", "3", "0001fff0", "m"]`. What is dropped behind a violation is
+        of Clear."""
+        phases = [[] for _ in range(FETCH + 1)]
         for text in self.events:
             words = text.split(":")
             phase, length = EVENTS.get(words[0], (None, 0))
             found = len(words) == length and words[-1] in FOUND.get(words[0], words)
             if not found and not (words[0] == "ld" and len(words) == 3 and words[2] in WITHOUT_LINE):
                 raise Fault(f"cycle {self.cycle}: `{text}` is no event of a trace")
+            if words[0] == "sq" and phases[CLEAR]:
+                phase = CLEAR
             phases[phase].append(words)
         return phases
 

@@ -2,7 +2,7 @@
 from collections import Counter
 
 from .pipeline import NEVER
-from .reasons import HELD, STORE_TAINT
+from .reasons import HELD, HELD_BACK, STORE_TAINT
 
 
 def lines_of(replay, disassembler, first, last, summary):
@@ -12,7 +12,7 @@ def lines_of(replay, disassembler, first, last, summary):
     for item in replay.items():
         for wait in item.waits:
             waits[wait.reason] += wait.last - wait.first + 1
-            if wait.reason in HELD:
+            if wait.reason in (*HELD, HELD_BACK):
                 held[item.pc, held_by(wait), wait.pc] += wait.last - wait.first + 1
             if not summary and wait.first <= last and wait.last >= first:
                 yield wait_line(item, wait, disassembler)
@@ -29,7 +29,7 @@ def cycles(span):
 
 
 def held_by(wait):
-    """What it is that taint holds it by: a load that isn't visible, or a store whose address flows from one."""
+    """What it is that holds it: a load that isn't visible, or a store whose address flows from one."""
     return "store" if wait.reason == STORE_TAINT else "load"
 
 
@@ -47,7 +47,7 @@ def sums(replay, waits, held, disassembler):
     yield listed("rename stops short, in cycles", replay.front.rename)
     yield listed("fetch stops short, in cycles", replay.front.fetch)
     for (pc, what, cause), number in held.most_common():
-        yield f"held by taint, in cycles: {number} at {disassembler.place(pc)}, by the {what} {disassembler.place(cause)}"
+        yield f"{replay.reasons.holds}, in cycles: {number} at {disassembler.place(pc)}, by the {what} {disassembler.place(cause)}"
     yield f"unexplained: {len(unexplained)}"
     yield from ("  " + text for text in unexplained)
 

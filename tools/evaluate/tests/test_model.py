@@ -2,9 +2,7 @@
 the parts of a store, of accesses at any address, of the second level and of the prefetch, of history and of the return
 stack is seen by a run."""
 import os
-import re
 import sys
-import types
 import unittest
 
 HERE = os.path.dirname(os.path.dirname(os.path.realpath(__file__)))
@@ -16,6 +14,7 @@ import model
 import wrong_memory
 import wrong_prediction
 from verdict.loaded import load
+from wrong import cell, changed, listed
 
 ASKED = "store.data_due is None and (tainted[store.serial][0] or any(map(store.covers, bytes_of_it)))"
 WHOLE = "            if None not in (entry.address_due, entry.data_due):\n"
@@ -87,16 +86,6 @@ def content(*path):
         return file.read()
 
 
-def changed(old, new):
-    """The model with this text in place of another, which it has once."""
-    source = content(HERE, "model.py")
-    assert source.count(old) == 1, old
-    wrong = types.ModuleType("wrong")
-    wrong.__file__ = model.__file__
-    exec(compile(source.replace(old, new), "wrong", "exec"), wrong.__dict__)
-    return wrong
-
-
 def run(name, written_by=model):
     """The trace of a run's folder, and its status."""
     numbers = written_by.read_numbers(content(RUNS, name, "core.toml"))
@@ -119,11 +108,10 @@ class Model(unittest.TestCase):
                     self.assertNotEqual(run(name, changed(old, new))[0], content(RUNS, name, "trace"))
 
     def test_the_readme_lists_each_wrong_rule(self):
-        with open(os.path.join(RUNS, "README.md"), encoding="utf-8") as file:
-            rows = dict(re.findall(r"^\| (.+?)(?: \(in the model alone\))? \| (.+) \|$", file.read(), re.M))
+        rows = listed()
         for what, _, _, names in WRONG:
             with self.subTest(what):
-                self.assertEqual(rows[what], ", ".join(f"`{name}`" for name in names))
+                self.assertEqual(rows[what], cell(names))
 
 
 if __name__ == "__main__":

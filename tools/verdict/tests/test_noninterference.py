@@ -14,7 +14,7 @@ from verdict.loaded import load
 from verdict.path import walk
 from view.description import read_description
 
-SIZE, PROGRAMS, CYCLES = 1024, 60, 20000
+SIZE, PROGRAMS, CYCLES = 1024, 100, 20000
 BASE, LOOP = 8, 12  # x8 points to the data, x12 counts the rounds
 
 
@@ -42,8 +42,9 @@ def random_program(draw):
 class Noninterference(unittest.TestCase):
     def test_random_programs(self):
         draw, loads, held = random.Random(1), 0, 0
+        descriptions = support.descriptions() + support.descriptions(2, depend=16) + support.descriptions(2, depend=16, defence='"hold"')
         for number in range(PROGRAMS):
-            description = draw.choice(support.descriptions())
+            description = draw.choice(descriptions)
             machine, words, data = read_description(description), random_program(draw), draw.randbytes(SIZE)
             first = machine.base + machine.size - 16 - SIZE
             one = self.image(number, words, first, data)

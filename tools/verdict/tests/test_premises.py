@@ -56,7 +56,7 @@ class Premises(unittest.TestCase):
 
     def test_models(self):
         images = pair("fault_shadow", BOUND_0)
-        self.assertEqual([met(*images, model).met for model in ("spectre", "futuristic")], [False, True])
+        self.assertEqual([met(*images, model).met for model in ("spectre", "off", "futuristic")], [False, False, True])
 
     def test_window_beyond_what_retired(self):
         """The path goes on for as many steps as the window may hold: 16 under core.toml."""

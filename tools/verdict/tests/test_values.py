@@ -1,4 +1,4 @@
-"""Values and marks of entries in flight, renamed by hand (docs/machine.md, "Entries")."""
+"""Values and marks of entries in flight, renamed and issued by hand (docs/machine.md, "Entries")."""
 import unittest
 
 import material  # finds the modules below
@@ -9,6 +9,7 @@ from verdict.path import walk
 from verdict.telling import arguments
 from verdict.values import Valued
 from view.description import FUTURISTIC, SPECTRE, read_description
+from view.instruction import LOAD, STORE
 
 
 def image(*numbers):
@@ -25,11 +26,33 @@ def renamed(numbers, model=SPECTRE):
     return pipeline, items
 
 
+def issue(pipeline, item):
+    """An entry issues in a cycle of its own; a load finds its lines."""
+    pipeline.cycle += 1
+    name = {LOAD: "ld", STORE: "agu"}.get(item.code.kind, "alu")
+    lines = pipeline.lines_of(pipeline.located(item)) if name == "ld" else []
+    pipeline.issue(item, [[name, str(item.serial), f"{line:08x}", "h"] for line in lines] or [[name, str(item.serial)]])
+
+
+def retire(pipeline, items):
+    for item in items:
+        pipeline.complete(item)
+        pipeline.retire(item)
+
+
 class Marks(unittest.TestCase):
     def marked(self, *numbers):
-        """The registers that are made of the secret, behind these words."""
-        pipeline, _ = renamed(numbers)
-        return [register for register, marked in enumerate(pipeline.marked_registers) if marked]
+        """The registers that are made of the secret, behind these words: also where each retires before the next issues."""
+        found = []
+        for at_once in (False, True):
+            pipeline, items = renamed(numbers)
+            for item in items:
+                issue(pipeline, item)
+                retire(pipeline, [item] if at_once else [])
+            retire(pipeline, [] if at_once else items)
+            found.append([register for register, marked in enumerate(pipeline.marked_registers) if marked])
+        self.assertEqual(found[0], found[1])
+        return found[0]
 
     def test_through_registers(self):
         self.assertEqual(self.marked(lbu(6, 8, 2), add(7, 5, 6), add(9, 5, 5)), [6, 7])
@@ -45,9 +68,13 @@ class Marks(unittest.TestCase):
         self.assertEqual(self.marked(lbu(6, 8, 2), add(6, 6, 2), lw(7, 0, 6), add(6, 5, 5)), [7])
 
     def test_dropped(self):
-        """Behind a squash registers, memory and marks are as they were."""
+        """What is dropped leaves no trace in registers, memory and marks."""
         pipeline, items = renamed([add(5, 2, 2), lbu(6, 8, 2), sw(6, 4, 2), add(5, 6, 6)])
+        for item in items:
+            issue(pipeline, item)
         pipeline.squash(items[0])
+        self.assertEqual(list(pipeline.values), [0])
+        retire(pipeline, items[:1])
         self.assertEqual((pipeline.registers[5], pipeline.registers[6]), (2 * DATA & 0xffffffff, 0))
         self.assertEqual((pipeline.memory.get(DATA + 4, 1), any(pipeline.marked_registers)), (b"\0", False))
         self.assertEqual([at for at, marked in pipeline.marked_bytes.items() if marked], [SECRET])
@@ -61,6 +88,20 @@ class Shadows(unittest.TestCase):
             pipeline.issue(item, [["agu", "0"]])
             pipeline.complete(item)
             self.assertEqual(pipeline.shadows, [] if safe else [item], (hex(store), model))
+
+
+class Passing(unittest.TestCase):
+    """A load that passes a store of unknown address finds what memory has; one that issues behind it finds the store's bytes."""
+
+    def test_what_a_load_finds(self):
+        words = [lbu(5, 8, 2), sw(5, 0, 2), lw(6, 0, 2)]
+        for first, found in [(2, (0, False)), (1, (4, True))]:
+            pipeline, items = renamed(words)
+            issue(pipeline, items[0])
+            for place in (first, 3 - first):
+                issue(pipeline, items[place])
+            value = pipeline.values[2]
+            self.assertEqual((value.result, value.mark), found)
 
 
 class Others(unittest.TestCase):

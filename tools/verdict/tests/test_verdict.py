@@ -5,6 +5,7 @@ from material import BOUND_0, BOUND_1, CODE, CORE, CORE_FUTURISTIC, command, gad
 from verdict import judge, report, simulator
 from view.description import read_description
 
+PASSING, UNPROTECTED, HOLD = (support.example(f"core_{name}.toml") for name in ("passing", "unprotected", "hold"))
 HIDES = [BOUND_0 + b"\x11", BOUND_0 + b"\x22"]                      # the secret differs
 LOADS = [bytes(9), b"\1" + bytes(8)]                                # the bound does, which the path loads
 SPARE = [bytes(9), bytes(7) + b"\1\0"]                              # a byte that nothing loads
@@ -13,27 +14,36 @@ OTHER = TEXT.replace("20 done:8 ret:8", "20 ret:8")
 
 
 class Words(unittest.TestCase):
-    """The five words: premises met or not, traces equal or not, something held or not."""
+    """The six words: premises met or not, traces equal or not, something held or not; under the model `off` nothing is promised."""
 
-    def case(self, data, premise=True, unequal=None):
+    def case(self, data, premise=True, unequal=None, model="spectre"):
         images = [gadget("bounds_check", each) for each in data]
         traces = [text.splitlines(keepends=True) for text in (TEXT, OTHER if unequal else TEXT)]
-        return judge.judged("core.toml", read_description(CORE), *images, simulator.Pair(*traces, premise, unequal))
+        machine = read_description(CORE)._replace(model=model)
+        return judge.judged("core.toml", machine, *images, simulator.Pair(*traces, premise, unequal))
 
     def test_words(self):
         for data, premise, unequal, word in [(HIDES, True, None, "hidden"), (SPARE, True, None, "vacuous"), (LOADS, False, None, "same"),
                                              (HIDES, True, 20, "refuted"), (LOADS, False, 20, "differs")]:
             self.assertEqual(self.case(data, premise, unequal).word(), word)
+        self.assertEqual(report.STATUS, {"hidden": 0, "differs": 1, "vacuous": 3, "same": 4, "refuted": 5, "leaks": 6})
+
+    def test_words_without_protection(self):
+        """Under `off` a pair that is unequal with the premises met is a leak, and no fault of what is proved."""
+        for premise, unequal, word in [(True, 20, "leaks"), (False, 20, "differs"), (True, None, "same"), (False, None, "same")]:
+            self.assertEqual(self.case(HIDES, premise, unequal, "off").word(), word)
+        told = list(report.lines(self.case(HIDES, model="off")))
+        self.assertIn("premises      met, and the model off promises nothing", told)
 
     def test_premise_of_the_simulator(self):
         """What the simulator says of the premises counts, and not what this tool finds."""
         self.assertEqual((self.case(HIDES, False).word(), self.case(LOADS, True).word()), ("same", "vacuous"))
 
-    def test_compared(self):
+    def test_answer(self):
         """The three lines of the simulator: docs/formats.md, "The comparison"."""
-        for lines, told in [("premise yes\nequal\n", (True, None)), ("premise no\nequal\n", (False, None)),
-                            ("premise no\nunequal 17\n", (False, 17)), ("premise no\nunequal end\n", (False, 28))]:
-            self.assertEqual(simulator.compared(lines + "retired 9 cycles 28\n"), told)
+        for lines, told in [("premise yes\nequal\n", (True, None, 28)), ("premise no\nequal\n", (False, None, 28)),
+                            ("premise no\nunequal 17\n", (False, 17, 28)), ("premise no\nunequal end\n", (False, 28, 28))]:
+            self.assertEqual(simulator.answer(lines + "retired 9 cycles 28\n"), told)
 
     def test_lines(self):
         told = list(report.lines(self.case(HIDES)))
@@ -59,6 +69,19 @@ class Gadgets(unittest.TestCase):
         ("tainted_divisor", 0x11, 0x22, CORE_FUTURISTIC, "hidden", (CODE + 0x10, "its time")),
         ("target_injection", 0x11, 0x22, CORE, "hidden", (CODE + 0x14, "its target")),
         ("target_injection", 0x11, 0x22, CORE_FUTURISTIC, "hidden", (CODE + 0x14, "its target")),
+        ("bounds_check", 0x11, 0x22, UNPROTECTED, "leaks", None),
+        ("bounds_check", 0x11, 0x22, HOLD, "hidden", (CODE + 0x18, "its access")),
+        ("fault_shadow", 0x11, 0x22, UNPROTECTED, "differs", None),
+        ("store_bypass", 0x11, 0x22, CORE, "vacuous", None),
+        ("store_bypass", 0x11, 0x22, UNPROTECTED, "leaks", None),
+        ("store_bypass", 0x11, 0x22, PASSING, "hidden", (CODE + 0x14, "its load of these bytes")),
+        ("store_bypass", 0x11, 0x22, HOLD, "hidden", (CODE + 0x14, "its load of these bytes")),
+        ("tainted_store", 0, 1, UNPROTECTED, "leaks", None),
+        ("tainted_store", 0, 1, HOLD, "hidden", (CODE + 0x14, "its address before a load")),
+        ("tainted_divisor", 0x11, 0x22, UNPROTECTED, "leaks", None),
+        ("tainted_divisor", 0x11, 0x22, HOLD, "hidden", (CODE + 0x10, "its time")),
+        ("target_injection", 0x11, 0x22, UNPROTECTED, "leaks", None),
+        ("target_injection", 0x11, 0x22, HOLD, "hidden", (CODE + 0x14, "its target")),
     ]
 
     def test_gadgets(self):

@@ -11,17 +11,28 @@ import unittest
 
 import material
 from material import needs_program, support
+from verdict import report
 
 FOLDER = support.example("c")
 COMPILERS = {"gcc": ("riscv64-unknown-elf-gcc",), "clang": ("clang", "ld.lld")}
 BUILT = []
 DESCRIPTIONS = ("medium.toml", "medium_futuristic.toml")
+ROW = r"^\| (?:`(\w+)`)? ?\| `(\w+\.toml)` \| (\w+) \|"
 
 
 def table():
     """Victim, compiler and verdict of each row and column."""
     rows = re.findall(r"^\| `(\w+)` \| (\w+) \| (\w+) \|", material.read("examples", "c", "README.md"), re.MULTILINE)
     return [(name, compiler, word) for name, *words in rows for compiler, word in zip(COMPILERS, words)]
+
+
+def attacks():
+    """Victim, description and verdict of the second table; a cell that is empty has what stands above it."""
+    found, victim = [], None
+    for name, description, word in re.findall(ROW, material.read("examples", "c", "README.md"), re.MULTILINE):
+        victim = name or victim
+        found.append((victim, description, word))
+    return found
 
 
 def missing(compiler):
@@ -50,14 +61,23 @@ class Victims(unittest.TestCase):
     def test_verdicts(self):
         for compiler, folder in self.each_compiler():
             cases = [(name, word) for name, by, word in table() if by == compiler]
-            self.assertEqual(len(cases), 9)
+            self.assertEqual(len(cases), 10)
             for name, word in cases:
-                images = [os.path.join(folder, f"{name}_{secret}.elf") for secret in "ab"]
                 for description in DESCRIPTIONS:
-                    with self.subTest(victim=name, description=description):
-                        told = material.command("verdict", support.example(description), *images)
-                        self.assertEqual(told.stderr, "")
-                        self.assertIn(f"\nverdict       {word}: ", told.stdout)
+                    self.verdict(folder, name, description, word)
+
+    def test_attacks_where_loads_pass_stores(self):
+        self.assertEqual(len(attacks()), 6)
+        for _, folder in self.each_compiler():
+            for name, description, word in attacks():
+                self.verdict(folder, name, description, word)
+
+    def verdict(self, folder, name, description, word):
+        images = [os.path.join(folder, f"{name}_{secret}.elf") for secret in "ab"]
+        with self.subTest(victim=name, description=description):
+            told = material.command("verdict", support.example(description), *images)
+            self.assertEqual((told.stderr, told.returncode), ("", report.STATUS[word]))
+            self.assertIn(f"\nverdict       {word}: ", told.stdout)
 
     def test_sample_of_the_page(self):
         """The verdict that docs/using.md shows is what the command writes for gcc's table lookup."""
@@ -74,10 +94,24 @@ class Victims(unittest.TestCase):
         """Each victim's run on the instruction set is the simulator's."""
         for _, folder in self.each_compiler():
             paths = glob.glob(os.path.join(folder, "*.elf"))
-            self.assertEqual(len(paths), 21)
+            self.assertEqual(len(paths), 24)
             for path in paths:
                 words = path, 100000, support.example(DESCRIPTIONS[0])
                 self.assertEqual(material.own_report(*words), material.isa_report(*words), path)
+
+    def test_aliases(self):
+        """Where no load passes a store none is violated; else two are, each once, and then they wait; and the run is shorter."""
+        for _, folder in self.each_compiler():
+            image, counts = os.path.join(folder, "aliases.elf"), []
+            for name in ("large.toml", "large_passing.toml"):
+                files = image, support.example(name)
+                run, _, items = support.replay(support.trace_of(files[1], image, 100000), *files)
+                self.assertEqual((run.trace.end.how.split()[0], run.reasons.unexplained), ("exit", []))
+                violated = [item.pc for item in items if item.violated]
+                passed = sum(item.passed for item in items)
+                counts.append((len(violated), len(set(violated)), passed > 0, run.trace.end.cycles))
+            self.assertEqual([count[:3] for count in counts], [(0, 0, False), (2, 2, True)])
+            self.assertLess(counts[1][3], counts[0][3])
 
     def test_output(self):
         for _, folder in self.each_compiler():

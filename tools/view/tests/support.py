@@ -18,7 +18,7 @@ from view.image import Image
 from view.replay import Replay
 from view.trace import Trace
 
-EXAMPLES = ("bounds_check", "fault_shadow", "tainted_store", "tainted_divisor", "target_injection")
+EXAMPLES = ("bounds_check", "fault_shadow", "store_bypass", "tainted_store", "tainted_divisor", "target_injection")
 PROGRAM = os.environ.get("STT_CLI", os.path.join(ROOT, "crates", "stt_cli", "out", "stt_cli"))
 NO_PROGRAM = None if os.path.isfile(PROGRAM) else "the program isn't built (crates/stt_cli/out/stt_cli, or STT_CLI)"
 FOLDER = tempfile.TemporaryDirectory()
@@ -72,11 +72,11 @@ def description(name, model, version=1, **changes):
     return file_of(f"{name}_{model}_{version}.toml", text.replace('"spectre"', f'"{model}"').encode())
 
 
-def descriptions(version=1, **more):
-    """The example description of a version, a small and a large one, each under both models; with more keys where they are given."""
+def descriptions(version=1, models=("spectre", "futuristic"), **more):
+    """The example description of a version, a small and a large one, each under these models; with more keys where they are given."""
     changes = {"example": {}, "smallest": SMALLEST, "largest": LARGEST if version == 1 else LARGEST | LARGER}
     return [description("_".join([name, *more]), model, version, **changes[name] | more)
-            for name in changes for model in ("spectre", "futuristic")]
+            for name in changes for model in models]
 
 
 def worked_trace(heading):

@@ -3,7 +3,7 @@ import unittest
 from xml.etree import ElementTree
 
 import support
-from view import difference, drawing, page
+from view import description, difference, drawing, instruction, konata, page, reasons, spans
 from view.spans import spans_of
 
 SVG = "{http://www.w3.org/2000/svg}"
@@ -33,6 +33,12 @@ class Spans(unittest.TestCase):
             self.assertEqual(spans[-1][1], 22 if item.gone is None else item.gone + 1)
             for (_, behind, _), (first, _, _) in zip(spans, spans[1:]):
                 self.assertEqual(behind, first)
+
+    def test_each_reason_is_drawn(self):
+        others = {*vars(instruction), *vars(description)}
+        told = {value for name, value in vars(reasons).items() if name.isupper() and isinstance(value, str) and name not in others}
+        self.assertEqual(told - {*spans.WAITS, *spans.OUTCOMES}, {reasons.ONE_A_CYCLE, reasons.ONE_CLEARED})
+        self.assertLessEqual({*spans.WAITS, *spans.OUTCOMES, *spans.UNITS}, set(drawing.STATES) & set(konata.STAGES))
 
     def test_the_load_that_is_held(self):
         _, entries, _ = support.bounds_check()

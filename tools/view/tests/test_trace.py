@@ -33,10 +33,13 @@ class Rows(unittest.TestCase):
             self.assertEqual([row.ends for row in rows], [False, ends], end)
 
     def test_phases(self):
-        text = "1 fill:0001fff0 done:0 res:2:T bp:2:2 sq:7 ret:2 ld:6:0001fff0:h ren:3:00010000 fet:00010004\n"
-        row = next(iter(Trace(lines(text))))
-        self.assertEqual([[words[0] for words in phase] for phase in row.phases()],
-                         [["fill"], ["done"], ["res", "bp", "sq"], ["ret"], ["ld"], ["ren"], ["fet"]])
+        for told, resolved, cleared in [("res:2:T bp:2:2 sq:7", ["res", "bp", "sq"], []), ("clr:1", [], ["clr"]),
+                                        ("clr:1 vio:3 dp:3:1 sq:4", [], ["clr", "vio", "dp", "sq"]),
+                                        ("res:2:T bp:2:2 sq:7 clr:1 vio:3 dp:3:1 sq:0", ["res", "bp", "sq"], ["clr", "vio", "dp", "sq"])]:
+            text = f"1 fill:0001fff0 done:0 {told} ret:2 ld:6:0001fff0:h ren:3:00010000 fet:00010004\n"
+            row = next(iter(Trace(lines(text))))
+            self.assertEqual([[words[0] for words in phase] for phase in row.phases()],
+                             [["fill"], ["done"], resolved, cleared, ["ret"], ["ld"], ["ren"], ["fet"]])
 
     def test_a_torn_trace_has_its_whole_lines(self):
         trace = Trace(lines("1 fet:00010000\n2 ren:0:000"))

@@ -1,0 +1,33 @@
+"""Wrong rules: the model with one of its texts changed, and what runs/README.md says refuses each."""
+import os
+import re
+import types
+
+import model
+
+HERE = os.path.dirname(os.path.dirname(os.path.realpath(__file__)))
+
+
+def text_of(*path):
+    with open(os.path.join(HERE, *path), encoding="utf-8") as file:
+        return file.read()
+
+
+def changed(old, new):
+    """The model with this text in place of another, which it has once."""
+    source = text_of("model.py")
+    assert source.count(old) == 1, old
+    wrong = types.ModuleType("wrong")
+    wrong.__file__ = model.__file__
+    exec(compile(source.replace(old, new), "wrong", "exec"), wrong.__dict__)
+    return wrong
+
+
+def listed():
+    """What refuses each wrong rule, as the tables have it."""
+    return dict(re.findall(r"^\| (.+?)(?: \(in the model alone\))? \| (.+) \|$", text_of("runs", "README.md"), re.M))
+
+
+def cell(names):
+    """These runs or facts as a table has them."""
+    return ", ".join(f"`{name}`" for name in names)
