@@ -234,6 +234,7 @@ impl RobRing {
     }
 
     /// The entry with this serial and its position, None where no entry has it.
+    #[inline(always)]
     pub fn find(&self, serial: u64) -> Option<Found<'_>>
         requires rise { Rise self.now.entries }
         ensures position { IfSome result (λ f. f.position ≡ length (below serial self.now.entries)) }
