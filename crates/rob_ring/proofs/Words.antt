@@ -1,6 +1,6 @@
 -- The bits of a word, one by one, as a bit is set, cleared, cut off or moved; and the marks of three words.
 use Rattle.std.proofs.Common.{◌≡◌, ◌≢◌, ℕ, zero, suc, ◌+◌, ◌*◌, ◌/◌, ◌%◌, ◌^◌, ◌-◌, ◌<◌, ◌≤◌, Bool, true, false, nat_lt, nat_eq, List, [], ◌∷◌, length, get_or, add-one, refl, ap, ap₂, sym, subst, ◌∙◌, arith, bit_and, ⊎_elim}
-use Rattle.std.specs.Prelude.{min, if◌then◌else◌}
+use Rattle.std.specs.Prelude.{min, if◌then◌else◌, slice_set}
 use Rattle.std.specs.Int.{bit_at}
 use Rattle.std.proofs.lemmas.Bool.{cases_lt}
 use Rattle.std.proofs.lemmas.Bool.Decides.{nat_tests}
@@ -127,3 +127,23 @@ dropped_low words x three middle high h =
 
     none : Down 0 0 0
     none b lt = bit_at-zero b ∙ either (nat_lt b 63) b
+
+-- the same, where the words are written one after the other
+pub dropped_in_place : (words : List ℕ) (x y z : ℕ) → length words ≡ 3 → Down (get_or words 0 0) (get_or words 1 0) x →
+    Down (get_or (slice_set words 0 x) 1 0) (get_or (slice_set words 0 x) 2 0) y → Down (get_or (slice_set (slice_set words 0 x) 1 y) 2 0) 0 z →
+    (k : ℕ) → mark_at (slice_set (slice_set (slice_set words 0 x) 1 y) 2 z) k ≡ mark_at words (k + 1)
+dropped_in_place [] x y z three hx hy hz = absurd (omega (arith, three))
+dropped_in_place (a ∷ []) x y z three hx hy hz = absurd (omega (arith, three))
+dropped_in_place (a ∷ b ∷ []) x y z three hx hy hz = absurd (omega (arith, three))
+dropped_in_place (a ∷ b ∷ c ∷ []) x y z three hx hy hz = dropped (a ∷ b ∷ c ∷ []) x y z three hx hy hz
+dropped_in_place (a ∷ b ∷ c ∷ d ∷ rest) x y z three hx hy hz = absurd (omega (arith, three))
+
+-- and where the first alone is written, since the others have none
+pub dropped_low_in_place : (words : List ℕ) (x : ℕ) → length words ≡ 3 → get_or words 1 0 ≡ 0 → get_or words 2 0 ≡ 0 → Down (get_or words 0 0) 0 x →
+    (k : ℕ) → mark_at (slice_set words 0 x) k ≡ mark_at words (k + 1)
+dropped_low_in_place [] x three middle high h = absurd (omega (arith, three))
+dropped_low_in_place (a ∷ []) x three middle high h = absurd (omega (arith, three))
+dropped_low_in_place (a ∷ b ∷ []) x three middle high h = absurd (omega (arith, three))
+dropped_low_in_place (a ∷ b ∷ c ∷ []) x three middle high h =
+    λ k. ap₂ (λ m n. mark_at (x ∷ m ∷ n ∷ []) k) middle high ∙ dropped_low (a ∷ b ∷ c ∷ []) x three middle high h k
+dropped_low_in_place (a ∷ b ∷ c ∷ d ∷ rest) x three middle high h = absurd (omega (arith, three))

@@ -10,7 +10,7 @@ ghost use Rattle.rob_ring.specs.Issued.{as_resolved, with_issued};
 ghost use Rattle.rob_ring.specs.Ring.{Next, Ring, in_execution, is_busy, is_open, is_unsafe};
 
 use crate::issued::Issued;
-use crate::marks::{drop_mark, keep_marks, next_mark, put_mark};
+use crate::marks::{add_mark, drop_mark, keep_marks, next_mark, put_mark};
 use circular_buffer::HeapCircularBuffer;
 use machine_desc::Desc;
 use rv_types::NoMemory;
@@ -81,9 +81,9 @@ impl RobRing {
         ensures { self.new ≡ record self.old { entries = self.old.entries ++ entry ∷ [] } }
     {
         let len = self.len();
-        put_mark(&mut self.busy, len, in_execution(entry.state));
-        put_mark(&mut self.unsettled, len, !entry.is_settled());
-        put_mark(&mut self.unsafes, len, !entry.is_safe());
+        add_mark(&mut self.busy, len, in_execution(entry.state));
+        add_mark(&mut self.unsettled, len, !entry.is_settled());
+        add_mark(&mut self.unsafes, len, !entry.is_safe());
         self.counted_from = entry.serial.wrapping_sub(len as u64);
         let _ = self.items.try_push_back(entry);
     }
@@ -183,9 +183,9 @@ impl RobRing {
         requires { 0 < length self.old.entries }
         ensures { self.new ≡ record self.old { entries = drop 1 self.old.entries } }
     {
-        self.busy = drop_mark(self.busy);
-        self.unsettled = drop_mark(self.unsettled);
-        self.unsafes = drop_mark(self.unsafes);
+        drop_mark(&mut self.busy);
+        drop_mark(&mut self.unsettled);
+        drop_mark(&mut self.unsafes);
         self.counted_from = self.counted_from.wrapping_add(1);
         let _ = self.items.pop_front();
     }
