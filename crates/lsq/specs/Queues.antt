@@ -16,8 +16,8 @@ pub record Queues : Type 0 where
   pub max_stores : ℕ
 
 -- serials rise from the oldest on
-abbrev pub Rise : List Load → Type 0
-Rise loads = AllPairs (λ a b. a.serial < b.serial) loads
+abbrev pub Rise : {X : Type 0} → (X → ℕ) → List X → Type 0
+Rise serial_of items = AllPairs (λ a b. serial_of a < serial_of b) items
 
 -- no loads and no stores, with a description's room
 abbrev pub empty : Desc → Queues

@@ -16,6 +16,7 @@ mod loads;
 mod merging;
 mod pending;
 mod queues;
+mod serials;
 mod store;
 
 pub use clearing::StoreInfo;

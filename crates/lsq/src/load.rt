@@ -1,4 +1,5 @@
 //! A load in flight.
+use crate::serials::Queued;
 use rv_types::{Cause, Width};
 
 /// What a load reads, and when it issued.
@@ -21,4 +22,12 @@ pub struct Load {
     pub serial: u64,
     /// What it reads, once that is noted as it issues.
     pub access: Option<Access>,
+}
+
+impl Queued for Load {
+    ghost serial = { λ l. l.serial };
+
+    fn serial(&self) -> u64 {
+        self.serial
+    }
 }

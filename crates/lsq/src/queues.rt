@@ -12,9 +12,10 @@ ghost use Rattle.lsq.specs.Pending.{bytes_asked, lacks_address, lacks_data_for};
 
 use crate::clearing::{StoreInfo, info_of, violated_by};
 use crate::load::{Access, Load};
-use crate::loads::{cut_loads, issue_load, pop_load, rises_with};
+use crate::loads::issue_load;
 use crate::merging::{Merged, merge};
 use crate::pending::{Pending, pending_in};
+use crate::serials::{cut_items, pop_item, rises_with};
 use crate::store::{Span, Store};
 use byte_ram::Ram;
 use machine_desc::Desc;
@@ -29,8 +30,10 @@ pub struct Lsq {
     stores: Vec<Store>,
     max_loads: u32,
     max_stores: u32,
-    // Whether the loads are known to rise, as they do where each is the youngest as it comes: then who retires is found at the head.
-    rising: bool,
+    // Whether the loads are known to rise, and whether the stores are, as they do where each is the youngest as it comes: then who
+    // retires is found at the head.
+    loads_rise: bool,
+    stores_rise: bool,
 }
 
 impl Model for Lsq {
@@ -47,7 +50,8 @@ impl Model for Lsq {
     } };
 
     ghost invariant = { λ q. (q.max_loads ≤ vec_capacity q.loads) × (q.max_stores ≤ vec_capacity q.stores)
-        × (q.rising ≡ true → Rise q.loads.items) };
+        × (q.loads_rise ≡ true → Rise (λ l. l.serial) q.loads.items)
+        × (q.stores_rise ≡ true → Rise (λ s. s.serial) q.stores.items) };
 }
 
 impl Lsq {
@@ -62,7 +66,8 @@ impl Lsq {
             stores,
             max_loads: desc.core_loads,
             max_stores: desc.core_stores,
-            rising: true,
+            loads_rise: true,
+            stores_rise: true,
         })
     }
 
@@ -87,14 +92,12 @@ impl Lsq {
           loads = self.old.loads ++ record { serial = serial; access = None } ∷ [];
         } }
     {
-        self.rising = rises_with(self.rising, self.loads.as_slice(), serial);
-        push_within(
-            &mut self.loads,
-            Load {
-                serial,
-                access: None,
-            },
-        );
+        let load = Load {
+            serial,
+            access: None,
+        };
+        self.loads_rise = rises_with(self.loads_rise, self.loads.as_slice(), &load);
+        push_within(&mut self.loads, load);
     }
 
     /// Appends a store of which nothing is known, and that isn't cleared, with the serial of the youngest load from which its
@@ -113,6 +116,7 @@ impl Lsq {
             stored: None,
             cleared: false,
         };
+        self.stores_rise = rises_with(self.stores_rise, self.stores.as_slice(), &store);
         push_within(&mut self.stores, store);
     }
 
@@ -234,16 +238,16 @@ impl Lsq {
     pub fn cut(&mut self, first: u64)
         ensures { self.new ≡ cut_at first self.old }
     {
-        cut_loads(&mut self.loads, first);
-        cut_stores(&mut self.stores, first);
+        cut_items(&mut self.loads, first);
+        cut_items(&mut self.stores, first);
     }
 
     /// Takes out the load or store with this serial, if there is one: it retired.
     pub fn pop(&mut self, serial: u64)
         ensures { self.new ≡ without serial self.old }
     {
-        pop_load(&mut self.loads, self.rising, serial);
-        pop_store(&mut self.stores, serial);
+        pop_item(&mut self.loads, self.loads_rise, serial);
+        pop_item(&mut self.stores, self.stores_rise, serial);
     }
 }
 
@@ -341,41 +345,4 @@ fn clear_store(stores: &mut Vec<Store>, serial: u64)
     ensures capacity { vec_capacity stores.new ≡ vec_capacity stores.old }
 {
     clear_in(stores.as_mut_slice(), serial);
-}
-
-// Takes out the stores from a serial on.
-fn cut_stores(stores: &mut Vec<Store>, first: u64)
-    ensures kept { stores.new.items ≡ filter (λ s. nat_lt s.serial first) stores.old.items }
-    ensures capacity { vec_capacity stores.new ≡ vec_capacity stores.old }
-{
-    stores.retain(|store| store.serial < first);
-}
-
-// Takes out the oldest store where it has this serial, as who retires has.
-fn pop_oldest_store(stores: &mut Vec<Store>, serial: u64)
-    ensures left { filter (λ s. not (s.serial == serial)) stores.new.items
-        ≡ filter (λ s. not (s.serial == serial)) stores.old.items }
-    ensures capacity { vec_capacity stores.new ≡ vec_capacity stores.old }
-{
-    if stores.len() > 0 && stores[0].serial == serial {
-        stores.remove(0);
-    }
-}
-
-// Whether there is a store with this serial.
-fn holds_store(stores: &[Store], serial: u64) -> bool
-    ensures { result ≡ list_any (λ s. s.serial == serial) stores.now }
-{
-    stores.iter().any(|store| store.serial == serial)
-}
-
-// Takes out the store with this serial, if there is one.
-fn pop_store(stores: &mut Vec<Store>, serial: u64)
-    ensures kept { stores.new.items ≡ filter (λ s. not (s.serial == serial)) stores.old.items }
-    ensures capacity { vec_capacity stores.new ≡ vec_capacity stores.old }
-{
-    pop_oldest_store(stores, serial);
-    if holds_store(stores.as_slice(), serial) {
-        stores.retain(|store| store.serial != serial);
-    }
 }

@@ -146,6 +146,44 @@ fn four_loads_have_room(rt: HostRuntime) -> Result<(), Fail> {
     Ok(())
 }
 
+// The serial of the store at a place, if there is one.
+fn serial_at(lsq: &Lsq, place: u32) -> Option<u64> {
+    match lsq.store_at(place) {
+        Some(store) => Some(store.serial),
+        None => None,
+    }
+}
+
+#[test]
+fn who_retires_leaves_its_queue(rt: HostRuntime) -> Result<(), Fail> {
+    let alloc = rt.alloc();
+    let mut lsq = Lsq::new(alloc, &read_desc(alloc, EXAMPLE.as_bytes())?)?;
+    lsq.pop(3);
+    for serial in [3, 5, 8, 12] {
+        assert_eq!(rt; add_store(&mut lsq, serial, None), true);
+    }
+    // Who isn't there, older than all or not, takes none; the oldest and another take themselves.
+    let rows: [(u64, [Option<u64>; 4]); 5] = [
+        (2, [Some(3), Some(5), Some(8), Some(12)]),
+        (3, [Some(5), Some(8), Some(12), None]),
+        (4, [Some(5), Some(8), Some(12), None]),
+        (8, [Some(5), Some(12), None, None]),
+        (9, [Some(5), Some(12), None, None]),
+    ];
+    for (serial, left) in rows {
+        lsq.pop(serial);
+        for (place, want) in (0..4).zip(left) {
+            assert_eq!(rt; serial_at(&lsq, place), want, "{place} after {serial}");
+        }
+    }
+    // Serials that fall: who is older than the first may be there.
+    assert_eq!(rt; add_store(&mut lsq, 4, None), true);
+    lsq.pop(4);
+    assert_eq!(rt; serial_at(&lsq, 1), Some(12));
+    assert_eq!(rt; serial_at(&lsq, 2), None);
+    Ok(())
+}
+
 fn told(serial: u64, root: Option<u64>, known: bool, cleared: bool) -> Option<StoreInfo> {
     Some(StoreInfo {
         serial,

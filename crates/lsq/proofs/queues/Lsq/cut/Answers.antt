@@ -1,14 +1,16 @@
-use Rattle.std.proofs.Common.{◌<◌, sym, subst, arith}
+use Rattle.std.proofs.Common.{arith}
 use Rattle.std.specs.Prelude.{nat_lt}
-use Rattle.std.proofs.lemmas.List.Kept.{AllPairs-filter}
-use Rattle.lsq.specs.Queues.{Rise}
+use Rattle.lsq.specs.declared.load.Load.{Load}
+use Rattle.lsq.specs.declared.store.Store.{Store}
+use Rattle.lsq.proofs.Rising.{rises_kept}
 use Rattle.lsq.proofs.queues.Lsq.cut.Goals as goal
 
 pub invariant_of-self : goal.invariant_of-self
 invariant_of-self c =
     let loads = c.self.invariant.0 in
     let stores = c.self.invariant.1 in (
-      omega (arith, loads, c.cut_loads.ensures.capacity),
-      omega (arith, stores, c.cut_stores.ensures.capacity),
-      λ rising. subst Rise (sym c.cut_loads.ensures.kept) (AllPairs-filter (λ a b. a.serial < b.serial) (λ l. nat_lt l.serial c.args.first) c.self.inside.loads.items (c.self.invariant.2 rising)),
+      omega (arith, loads, c.cut_items.ensures.capacity),
+      omega (arith, stores, c.cut_items-2.ensures.capacity),
+      λ rising. rises_kept (λ (l : Load). l.serial) (λ l. nat_lt l.serial c.args.first) _ _ (c.self.invariant.2 rising) c.cut_items.ensures.kept,
+      λ rising. rises_kept (λ (s : Store). s.serial) (λ s. nat_lt s.serial c.args.first) _ _ (c.self.invariant.3 rising) c.cut_items-2.ensures.kept,
     )

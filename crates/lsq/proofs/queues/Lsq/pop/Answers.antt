@@ -1,14 +1,16 @@
-use Rattle.std.proofs.Common.{◌<◌, not, sym, subst, arith}
+use Rattle.std.proofs.Common.{not, arith}
 use Rattle.std.specs.Prelude.{◌==◌}
-use Rattle.std.proofs.lemmas.List.Kept.{AllPairs-filter}
-use Rattle.lsq.specs.Queues.{Rise}
+use Rattle.lsq.specs.declared.load.Load.{Load}
+use Rattle.lsq.specs.declared.store.Store.{Store}
+use Rattle.lsq.proofs.Rising.{rises_kept}
 use Rattle.lsq.proofs.queues.Lsq.pop.Goals as goal
 
 pub invariant_of-self : goal.invariant_of-self
 invariant_of-self c =
     let loads = c.self.invariant.0 in
     let stores = c.self.invariant.1 in (
-      omega (arith, loads, c.pop_load.ensures.capacity),
-      omega (arith, stores, c.pop_store.ensures.capacity),
-      λ rising. subst Rise (sym c.pop_load.ensures.kept) (AllPairs-filter (λ a b. a.serial < b.serial) (λ l. not (l.serial == c.args.serial)) c.self.inside.loads.items (c.self.invariant.2 rising)),
+      omega (arith, loads, c.pop_item.ensures.capacity),
+      omega (arith, stores, c.pop_item-2.ensures.capacity),
+      λ rising. rises_kept (λ (l : Load). l.serial) (λ l. not (l.serial == c.args.serial)) _ _ (c.self.invariant.2 rising) c.pop_item.ensures.kept,
+      λ rising. rises_kept (λ (s : Store). s.serial) (λ s. not (s.serial == c.args.serial)) _ _ (c.self.invariant.3 rising) c.pop_item-2.ensures.kept,
     )

@@ -1,0 +1,13 @@
+use Rattle.std.proofs.Common.{refl, Some, arith}
+use Rattle.lsq.specs.declared.store.Store.{Store}
+use Rattle.lsq.proofs.Rising.{rises_changed}
+use Rattle.lsq.proofs.queues.Lsq.store_data.Goals as goal
+
+pub invariant_of-self : goal.invariant_of-self
+invariant_of-self c =
+    let stores = c.self.invariant.1 in (
+      c.self.invariant.0,
+      omega (arith, stores, c.fill_store.ensures.capacity),
+      c.self.invariant.2,
+      λ rising. rises_changed (λ (s : Store). s.serial) c.args.serial (λ s. record s { stored = Some c.args.stored }) (λ s. refl) _ _ (c.self.invariant.3 rising) c.fill_store.ensures.items,
+    )
