@@ -1,5 +1,5 @@
 //! The point itself.
-ghost use Rattle.std.specs.Prelude.{◌≡◌, ◌-◌, ◌<◌, ◌≤◌, ◌^◌, IsTrue, false, if◌then◌else◌, not, nat_le};
+ghost use Rattle.std.specs.Prelude.{◌≡◌, ◌+◌, ◌-◌, ◌<◌, ◌≤◌, ◌^◌, IsTrue, false, if◌then◌else◌, min, not, nat_le};
 ghost use Rattle.std.specs.List.{find, All};
 ghost use Rattle.std.specs.Option.{option_map};
 ghost use Rattle.window_model.specs.Serials.{Rise};
@@ -54,6 +54,15 @@ impl VisPoint {
         ensures every { protects self.now.model ≡ false → IsTrue result }
     {
         serial <= self.serial
+    }
+
+    /// The least serial that isn't visible: the one after the point's, or the last serial, 2^64 - 1, where the point stands there,
+    /// as it does where the model doesn't protect. No entry has the last serial, so each entry that isn't visible has this one
+    /// or a later one, and no other has.
+    pub fn hidden_from(&self) -> u64
+        ensures { result ≡ min (self.now.serial + 1) (2 ^ 64 - 1) }
+    {
+        self.serial.saturating_add(1)
     }
 
     /// Whether a value with this youngest root is tainted: the root is a load that isn't visible. A value without roots

@@ -83,9 +83,10 @@ fn load(state: Progress, fault: Option<Cause>) -> Entry
     entry(5, load, state, fault, false)
 }
 
-// The example, with this line for its model's.
+// The example in version 2, with this line for its model's.
 fn described(alloc: Global, model: &str) -> Result<Desc, Fail> {
     let mut text = String::new(alloc);
+    text.push_str("version = 2\n")?;
     for line in EXAMPLE.lines() {
         if line == "model = \"spectre\"" {
             text.push_str(model)?;
@@ -163,5 +164,14 @@ fn before_anything_serial_0_alone_is_visible(rt: HostRuntime) -> Result<(), Fail
     assert_eq!(rt; point.tainted(None), false);
     assert_eq!(rt; point.tainted(Some(0)), false);
     assert_eq!(rt; point.tainted(Some(1)), true);
+    assert_eq!(rt; point.hidden_from(), 1);
+    Ok(())
+}
+
+#[test]
+fn under_off_nothing_is_hidden_up_to_the_last_serial(rt: HostRuntime) -> Result<(), Fail> {
+    let point = VisPoint::new(&described(rt.alloc(), "model = \"off\"")?);
+    assert_eq!(rt; point.visible(u64::MAX), true);
+    assert_eq!(rt; point.hidden_from(), u64::MAX);
     Ok(())
 }
