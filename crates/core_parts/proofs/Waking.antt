@@ -1,12 +1,13 @@
 -- Which loads a move of the visibility point lets give their values.
-use Rattle.std.proofs.Common.{◌≡◌, ℕ, zero, suc, ◌+◌, ◌<◌, ◌≤◌, Bool, true, false, cond, not, ◌&&◌, List, [], ◌∷◌, ◌++◌, length, map, take, drop, Some, refl, ap, ap₂, sym, ◌∙◌, subst, arith, slice_get}
-use Rattle.std.specs.Prelude.{nat_le, if◌then◌else◌}
+use Rattle.std.proofs.Common.{◌≡◌, ℕ, zero, suc, ◌+◌, ◌-◌, ◌^◌, ◌<◌, ◌≤◌, Bool, true, false, cond, not, ◌&&◌, List, [], ◌∷◌, ◌++◌, length, map, take, drop, Some, refl, ap, ap₂, sym, ◌∙◌, arith, slice_get}
+use Rattle.std.specs.Prelude.{min, nat_le, if◌then◌else◌}
 use Rattle.std.specs.List.{All, filter}
 use Rattle.std.proofs.lemmas.Bool.Decides.{nat_tests}
-use Rattle.std.proofs.lemmas.List.Elements.{All-nil, All-cons, All-head, All-tail, All-weaker, filter-append}
+use Rattle.std.proofs.lemmas.List.Elements.{All-cons, All-drop, All-head, All-tail, All-weaker, filter-append}
 use Rattle.window_model.specs.declared.Entry.{Entry}
 use Rattle.window_model.specs.Order.{is_done, is_load}
-use Rattle.window_model.specs.Serials.{Rise}
+use Rattle.window_model.specs.Serials.{Rise, below}
+use Rattle.window_model.proofs.Positions.{above_of, below_of}
 use Rattle.window_model.proofs.Serials.{rise_head, rise_tail}
 use Rattle.stations.specs.Stations.{Stations, struck}
 use Rattle.parts_stand.specs.Parts.{Hold, gives_at}
@@ -21,24 +22,16 @@ Visible p es = All (λ e. e.serial ≤ p) es
 abbrev pub Hidden : ℕ → List Entry → Type 0
 Hidden p es = All (λ e. p < e.serial) es
 
-pub visible_none : (p : ℕ) → Visible p []
-visible_none p = All-nil (λ e. e.serial ≤ p)
+-- the oldest entries, as many as have a serial up to the point's
+pub visible_before : (p h n : ℕ) (es : List Entry) → Rise es → h ≡ min (p + 1) (2 ^ 64 - 1) → take n es ≡ below h es → Visible p (take n es)
+visible_before p h n es r q o = All-weaker (λ e. e.serial < h) (λ e. e.serial ≤ p) (λ e l. omega (arith, l, q)) (take n es) (below_of h es n r o)
 
-visible_then : (p : ℕ) (es : List Entry) (i : ℕ) (e : Entry) → slice_get es i ≡ Some e → nat_le e.serial p ≡ true → Visible p (take i es) → Visible p (take (suc i) es)
-visible_then p [] i e h v a = absurd (cc)
-visible_then p (x ∷ es) zero e h v a =
-    let q : x ≡ e = cc in
-    let n : x.serial ≡ e.serial = ap (λ (e : Entry). e.serial) q in
-    let l : e.serial ≤ p = grind (arith, nat_tests) in
-    All-cons (λ e. e.serial ≤ p) x [] (omega (arith, n, l)) (visible_none p)
-visible_then p (x ∷ es) (suc i) e h v a =
-    All-cons (λ e. e.serial ≤ p) x (take (suc i) es) (All-head (λ e. e.serial ≤ p) x (take i es) a) (visible_then p es i e h v (All-tail (λ e. e.serial ≤ p) x (take i es) a))
-
--- one more is visible
-pub visible_more : (p : ℕ) (es : List Entry) (i : ℕ) (e : Entry) → slice_get es i ≡ Some e → nat_le e.serial p ≡ true → Visible p (take i es) → Visible p (take (i + 1) es)
-visible_more p es i e h v a =
-    let n : suc i ≡ i + 1 = omega arith in
-    subst (λ n. Visible p (take n es)) n (visible_then p es i e h v a)
+-- and the others: no entry has the last serial
+pub hidden_behind : (p h n : ℕ) (es : List Entry) → Rise es → All (λ e. e.serial < 2 ^ 64 - 1) es → h ≡ min (p + 1) (2 ^ 64 - 1) → n ≤ length es → take n es ≡ below h es → Hidden p (drop n es)
+hidden_behind p h n es r few q w o =
+    let not_last = All-drop (λ e. e.serial < 2 ^ 64 - 1) n es few in
+    let above = above_of h es n r w o in
+    λ k d within. (let l = not_last k d within in let m = above k d within in omega (arith, l, m, q))
 
 -- behind one that isn't visible none is
 pub hidden_from : (p : ℕ) (es : List Entry) (i : ℕ) (e : Entry) → Rise es → slice_get es i ≡ Some e → nat_le e.serial p ≡ false → Hidden p (drop i es)
@@ -55,10 +48,6 @@ drop_past zero [] l = refl
 drop_past zero (e ∷ es) l = absurd (omega (arith, l))
 drop_past (suc i) [] l = refl
 drop_past (suc i) (e ∷ es) l = drop_past i es (omega (arith, l))
-
--- as far as a number that is another
-pub visible_all : (p i n : ℕ) (es : List Entry) → i ≡ n → Visible p (take i es) → Visible p (take n es)
-visible_all p i n es q a = subst (λ n. Visible p (take n es)) q a
 
 -- ---- those that are given
 

@@ -45,18 +45,15 @@ pub fn advance_and_wake(point: &mut VisPoint, rob: &RobRing, stations: &mut Stat
     wake_given(rob, point, from, stations);
 }
 
-// The position of the oldest entry that isn't visible, as many as there are where each is.
+// The position of the oldest entry that isn't visible, as many as there are where each is. The reorder buffer finds it by its serial,
+// so no walk over the entries is needed.
 fn first_hidden(rob: &RobRing, point: &VisPoint) -> u32
-    requires { Rise rob.now.entries }
+    requires rise { Rise rob.now.entries }
+    requires few { All (λ e. e.serial < 2 ^ 64 - 1) rob.now.entries }
     ensures visible { All (λ e. e.serial ≤ point.now.serial) (take result rob.now.entries) }
     ensures hidden { All (λ e. point.now.serial < e.serial) (drop result rob.now.entries) }
 {
-    for i in 0..rob.len() {
-        if !point.visible(rob.lend(i).serial) {
-            return i;
-        }
-    }
-    rob.len()
+    rob.position_of(point.hidden_from())
 }
 
 // From a position on, no station awaits a load that is Done and visible.
