@@ -3,23 +3,21 @@ use Rattle.std.proofs.Common.{◌≡◌, ℕ, zero, suc, ◌+◌, ◌<◌, true,
 use Rattle.std.specs.Prelude.{◌^◌, drop, if◌then◌else◌}
 use Rattle.std.specs.List.{find}
 use Rattle.std.specs.Option.{option_map}
-use Rattle.machine_desc.specs.declared.Desc.{Desc}
 use Rattle.machine_desc.proofs.Versions.{most_up_to}
 use Rattle.window_model.specs.Clear.{clear}
 use Rattle.window_model.specs.Dependence.{passing}
 use Rattle.window_model.specs.Row.{Row, with_events}
-use Rattle.window_model.proofs.Booleans.{is_below}
 use Rattle.window_model.specs.State.{After}
 use Rattle.std.proofs.lemmas.List.{append-nil}
 use Rattle.lsq.specs.Clearing.{info_of}
 use Rattle.lsq.specs.declared.clearing.StoreInfo.{StoreInfo}
 use Rattle.lsq.specs.declared.store.Store.{Store}
-use Rattle.parts_stand.specs.Addresses.{can_clear}
+use Rattle.parts_stand.specs.Addresses.{can_clear, may_clear_by}
 use Rattle.visibility.specs.Point.{HasAdvanced}
 use Rattle.core_parts.specs.Described.{Described}
 use Rattle.core_parts.specs.Held.{Held, Sizes, Whole, described, in_flight}
 use Rattle.core_parts.specs.Stands.{table_and_stations}
-use Rattle.clear.specs.Cleared.{clearing, may_clear_by}
+use Rattle.clear.specs.Cleared.{clearing}
 use Rattle.parts_stand.proofs.Clearing.{finds_clearable}
 use Rattle.queue_laws.proofs.Renaming.{room_is}
 use Rattle.clear.proofs.Effects.{none_is}
@@ -69,10 +67,6 @@ none_left point (s ∷ stores) (suc i) h = none_left point stores i h
 
 -- ---- what it finds
 
--- there are bits of dependence
-some_bits : (d : Desc) → (d.predictor_depend ≡ 0 → ⊥) → passing d ≡ true
-some_bits d n = is_below 0 d.predictor_depend (omega (arith, n))
-
 -- so many stores that their places can be counted
 pub few_stores : (h : Held) → Whole h → length h.queues.stores < 2 ^ 32
 few_stores h w =
@@ -82,13 +76,13 @@ few_stores h w =
     omega (arith, a, b, c)
 
 -- the store that the definition takes
-pub finds : (h : Held) (v : Described) (o : Option ℕ) → Whole h → described h ≡ v → (h.desc.predictor_depend ≡ 0 → ⊥) → HasAdvanced v.point v.machine.window →
+pub finds : (h : Held) (v : Described) (o : Option ℕ) → Whole h → described h ≡ v → passing v.desc ≡ true → HasAdvanced v.point v.machine.window →
     o ≡ option_map (λ s. s.serial) (find (can_clear h.point.serial) h.queues.stores) → o ≡ clearing v.desc v.machine
-finds h v o w s bits moved e =
+finds h v o w s a moved e =
     let here : HasAdvanced h.point h.rob.entries = subst (λ (v : Described). HasAdvanced v.point v.machine.window) (sym s) moved in
-    let tracks = w.stands.tracks (some_bits h.desc bits) in
+    let tracks = w.stands.tracks (ap (λ (v : Described). passing v.desc) s ∙ a) in
     e
-    ∙ finds_clearable h.desc (table_and_stations (in_flight h)) h.point h.queues w.stands.stand here (ap (λ (s : Sizes). s.model) w.made) w.stands.addresses w.stands.queues tracks
+    ∙ finds_clearable h.desc (table_and_stations (in_flight h)) h.point h.queues w.stands.stand here (ap (λ (s : Sizes). s.model) w.made) w.stands.addresses tracks
     ∙ ap (λ (v : Described). clearing v.desc v.machine) s
 
 -- ---- nothing happens

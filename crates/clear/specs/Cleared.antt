@@ -1,6 +1,6 @@
 -- Clear, step by step: the store that is found, what is left once it is cleared, and once the load that it violates goes
 -- (docs/machine.md, "Clear").
-use Rattle.std.specs.Prelude.{ℕ, Bool, not, ◌&&◌, List, [], ◌∷◌, Option, Some, None}
+use Rattle.std.specs.Prelude.{ℕ, List, [], ◌∷◌, Option, Some, None}
 use Rattle.std.specs.Option.{option_and_then, option_map}
 use Rattle.machine_desc.specs.declared.Desc.{Desc}
 use Rattle.window_model.specs.declared.Entry.{Entry}
@@ -10,13 +10,7 @@ use Rattle.window_model.specs.Clear.{clears, may_clear, violated_by}
 use Rattle.window_model.specs.Dependence.{bit_index, bit_set}
 use Rattle.window_model.specs.Order.{Place, first}
 use Rattle.window_model.specs.State.{Machine}
-use Rattle.lsq.specs.declared.clearing.StoreInfo.{StoreInfo}
-use Rattle.visibility.specs.Point.{is_hidden}
 use Rattle.core_parts.specs.Dropped.{count_from, cut_from}
-
--- what is told of a store says that it may be cleared, where entries up to the point are visible
-abbrev pub may_clear_by : ℕ → StoreInfo → Bool
-may_clear_by point s = s.known && not s.cleared && not (is_hidden point s.root)
 
 -- the serial of the oldest store that may be cleared
 abbrev pub clearing : Desc → Machine → Option ℕ

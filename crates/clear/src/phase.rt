@@ -27,10 +27,19 @@ pub fn clear<R: RenameTaint>(parts: &mut Parts<R>, row: &mut Row)
     if parts.desc.predictor_depend == 0 {
         return;
     }
-    let Some(serial) = clearable(&parts.lsq, &parts.point) else {
+    let Some(serial) = next_cleared(parts) else {
         return;
     };
     clear_store(serial, parts, row);
+}
+
+// The serial of the store that is cleared next, once the visibility point has moved over the window. None where none may be.
+fn next_cleared<R: RenameTaint>(parts: &Parts<R>) -> Option<u64>
+    requires passing { passing parts.now.desc ≡ true }
+    requires advanced { HasAdvanced parts.now.point parts.now.machine.window }
+    ensures { result ≡ clearing parts.now.desc parts.now.machine }
+{
+    clearable(&parts.lsq, &parts.point)
 }
 
 // The store with this serial is cleared, and the load that it violates is fetched anew.

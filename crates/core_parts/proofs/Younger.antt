@@ -1,10 +1,9 @@
 -- The parts once the youngest entries are gone.
-use Rattle.std.proofs.Common.{◌≡◌, ℕ, ◌+◌, ◌<◌, List, [], ◌∷◌, ◌++◌, length, take, Option, ap, sym, ◌∙◌, subst, arith, lit≤}
-use Rattle.std.specs.Prelude.{◌^◌, nat_lt}
+use Rattle.std.proofs.Common.{◌≡◌, ℕ, List, [], ◌∷◌, ◌++◌, length, take, Option, ap, sym, subst, arith}
+use Rattle.std.specs.Prelude.{nat_lt}
 use Rattle.std.specs.List.{AllByRecursion as Each, filter}
 use Rattle.circular_buffer.specs.Buffer.{Buffer, buffer}
 use Rattle.machine_desc.specs.declared.Desc.{Desc}
-use Rattle.machine_desc.proofs.Versions.{most_up_to}
 use Rattle.window_model.specs.declared.Entry.{Entry}
 use Rattle.window_model.specs.Resolve.{freed_from}
 use Rattle.window_model.specs.declared.Divider.{Divider}
@@ -25,7 +24,7 @@ use Rattle.fetch_unit.specs.Unit.{FetchUnit}
 use Rattle.window_model.proofs.Serials.{splits}
 use Rattle.core_parts.specs.Described.{Described}
 use Rattle.core_parts.specs.Held.{Held, Whole, described, in_flight, machine_of}
-use Rattle.core_parts.specs.Dropped.{StopsBelow, cut_from}
+use Rattle.core_parts.specs.Dropped.{StopsBelow}
 use Rattle.core_parts.proofs.Steps.{stands_dropped}
 
 -- ---- a window that is cut has no more of anything
@@ -100,23 +99,7 @@ module _ (h : Held) (first : ℕ) (next : Option ℕ) (rob : Ring) (sources : Bu
   pub drop_whole : StopsBelow first h.point h.rob.entries → Whole (record h { rob = rob; sources = sources; writes = writes; table_room = room; stations = stations; queues = q; ports = ports; fetch_unit = fetch_unit })
   drop_whole s = subst Whole (sym are) (dropped_whole h first next w s)
 
-  pub drop_shown : (v : Described) → described h ≡ v →
-      described (record h { rob = rob; sources = sources; writes = writes; table_room = room; stations = stations; queues = q; ports = ports; fetch_unit = fetch_unit })
-      ≡ record v { machine = cut_from first next v.machine }
-  drop_shown v s =
-      ap described are
-      ∙ ap (λ (v : Described). record v { machine = cut_from first next v.machine }) s
-
 -- ---- what is asked
 
 pub stops_here : (h : Held) (v : Described) (first : ℕ) → Whole h → described h ≡ v → StopsBelow first v.point v.machine.window → StopsBelow first h.point h.rob.entries
 stops_here h v first w s t = subst (λ (v : Described). StopsBelow first v.point v.machine.window) (sym s) t
-
--- all of them can be counted
-pub few_dropped : (h : Held) → Whole h → length h.rob.entries + length h.fetch_unit.queue < 2 ^ 32
-few_dropped h w =
-    let a = w.sized.entries in
-    let b = w.sized.queue in
-    let c = most_up_to 64 192 h.desc.version h.desc.core_rob (lit≤ tt) h.desc.few_entries in
-    let d = most_up_to 16 32 h.desc.version h.desc.core_queue (lit≤ tt) h.desc.short_queue in
-    omega (arith, a, b, c, d)

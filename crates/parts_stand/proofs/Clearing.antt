@@ -11,9 +11,10 @@ use Rattle.window_model.specs.Order.{Place, first_from, has_address, is_store}
 use Rattle.window_model.specs.Serials.{Rise}
 use Rattle.window_model.specs.Taint.{address_tainted}
 use Rattle.window_model.proofs.Serials.{Falls}
-use Rattle.lsq.specs.declared.store.Span.{Span}
 use Rattle.lsq.specs.declared.store.Store.{Store}
-use Rattle.queue_laws.specs.Window.{clearings_in, shown_cleared, shown_clearing}
+use Rattle.lsq.specs.Clearing.{info_of}
+use Rattle.queue_laws.specs.Window.{clearings_in, shown_cleared, shown_clearing, told_in, told_of}
+use Rattle.queue_laws.proofs.Clearing.{told_as}
 use Rattle.visibility.specs.Point.{Point, HasAdvanced, is_hidden}
 use Rattle.parts_stand.specs.Parts.{RootsStand, oldest_of}
 use Rattle.parts_stand.specs.Addresses.{FindsClearable, address_in, addresses_of, base_root, can_clear}
@@ -28,16 +29,13 @@ in_turn true false h = refl
 in_turn false true h = refl
 in_turn false false h = refl
 
-is_known : (o : Option Span) → is_some o ≡ is_some (option_map (λ (k : Span). k.known_from) o)
-is_known None = refl
-is_known (Some k) = refl
-
 -- the store of an entry may be cleared where the entry may
 can_as : (point : ℕ) (s : Store) (e : Entry) (root : Option ℕ) (t : Bool) → shown_cleared s ≡ shown_clearing e → address_in s ≡ record { serial = e.serial; root = root } → is_hidden point root ≡ t →
     can_clear point s ≡ (not e.cleared && has_address e && not t)
 can_as point s e root t c a h =
-    let known : is_some s.span ≡ has_address e = is_known s.span ∙ ap (λ v. is_some v.known_from) c in
-    let cleared : s.cleared ≡ e.cleared = ap (λ v. v.cleared) c in
+    let tells : told_of (info_of s) ≡ told_in e = told_as s e c in
+    let known : is_some s.span ≡ has_address e = ap (λ v. v.known) tells in
+    let cleared : s.cleared ≡ e.cleared = ap (λ v. v.cleared) tells in
     let hidden : is_hidden point s.root ≡ t = ap (λ v. is_hidden point v.root) a ∙ h in
     in_turn (is_some s.span) s.cleared (is_hidden point s.root)
     ∙ ap₂ (λ c k. not c && k && not (is_hidden point s.root)) cleared known
@@ -93,7 +91,7 @@ clear_by d point f before (e ∷ es) (rs ∷ roots) stores q old t u a b s ads c
     by_store false stores ads cs more = more stores ads cs
 
 pub finds_clearable : FindsClearable
-finds_clearable d p point q s m k ads f t = by_window p.window s.rise m s.roots ads t.stores
+finds_clearable d p point q s m k ads t = by_window p.window s.rise m s.roots ads t.stores
   where
     by_window : (es : List Entry) → Rise es → HasAdvanced point es → RootsStand (oldest_of p.next es) [] es p.roots → map address_in q.stores ≡ addresses_of es p.roots →
         map shown_cleared q.stores ≡ clearings_in es →

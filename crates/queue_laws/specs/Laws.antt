@@ -1,23 +1,22 @@
 -- What queues that stand for a window tell of it.
 use Rattle.std.specs.Prelude.{◌≡◌, ℕ, ◌≤◌, Bool, true, not, ◌&&◌, ◌||◌, List, ◌∷◌, ◌++◌, length, map, reverse, Option, is_some, slice_get}
-use Rattle.std.specs.List.{count_by, filter, find, list_any, list_all}
+use Rattle.std.specs.List.{count_by, filter, list_any, list_all}
 use Rattle.std.specs.Option.{option_map}
 use Rattle.rv_types.specs.Memory.{Ram, range}
 use Rattle.rv_types.specs.declared.Cause.{Cause}
-use Rattle.machine_desc.specs.declared.Desc.{Desc}
 use Rattle.machine_desc.specs.declared.SttModel.{SttModel}
 use Rattle.window_model.specs.declared.Entry.{Entry}
 use Rattle.window_model.specs.Order.{first, is_load, is_store}
 use Rattle.window_model.specs.Serials.{Rise}
 use Rattle.window_model.specs.Access.{all_covered, any_store_hidden, load_bytes}
-use Rattle.window_model.specs.Clear.{is_violated, may_clear}
+use Rattle.window_model.specs.Clear.{is_violated}
 use Rattle.window_model.specs.Issue.{stores_let}
 use Rattle.lsq.specs.declared.store.Store.{Store}
 use Rattle.lsq.specs.Queues.{Queues, is_known, older, youngest_root}
 use Rattle.lsq.specs.Clearing.{info_of, violated_by}
 use Rattle.lsq.specs.Merging.{all_forwarded, merged_bytes}
 use Rattle.lsq.specs.Pending.{bytes_asked, lacks_address, lacks_data_for}
-use Rattle.queue_laws.specs.Window.{NotOlder, Older, StandFor, StoresStandFor, Tracks, all_complete, hides, may_clear_by, tainted_stores, told_in, told_of}
+use Rattle.queue_laws.specs.Window.{NotOlder, Older, StandFor, StoresStandFor, Tracks, all_complete, hides, tainted_stores, told_in, told_of}
 
 -- as many loads and stores are held as the window has
 abbrev pub RoomAsCounted : Type 0
@@ -76,11 +75,3 @@ abbrev pub TellsInPlace : Type 0
 TellsInPlace = (q : Queues) (window : List Entry) (place : ℕ) → Tracks q window →
     option_map told_of (option_map info_of (slice_get q.stores place))
     ≡ option_map told_in (slice_get (filter (λ e. is_store e.item.kind) window) place)
-
--- the queue's oldest store that may be cleared by its root is the one that the machine finds, if each store's root isn't visible where
--- its own address is tainted
-abbrev pub ClearsAsFound : Type 0
-ClearsAsFound = (d : Desc) (visible : ℕ → Bool) (q : Queues) (window : List Entry) → Tracks q window →
-    map (λ s. hides visible s.root) (reverse q.stores) ≡ tainted_stores d.stt_model (reverse window) →
-    option_map (λ s. s.serial) (find (λ s. may_clear_by visible (info_of s)) q.stores)
-    ≡ option_map (λ p. p.entry.serial) (first (may_clear d) window)

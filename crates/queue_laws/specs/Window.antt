@@ -251,10 +251,6 @@ abbrev pub hides : (ℕ → Bool) → Option ℕ → Bool
 hides visible None = false
 hides visible (Some root) = not (visible root)
 
--- the store isn't cleared, its address is known, and its root, if it has one, is visible
-abbrev pub may_clear_by : (ℕ → Bool) → StoreInfo → Bool
-may_clear_by visible i = not i.cleared && i.known && not (hides visible i.root)
-
 -- of each store among these entries, youngest first, whether its address is tainted
 abbrev pub tainted_stores : SttModel → List Entry → List Bool
 tainted_stores model [] = []
