@@ -102,6 +102,7 @@ impl History {
 
     /// History and stack go on over an item: a branch, which goes this way, enters the history; a jump that links pushes, and a
     /// return pops.
+    #[inline(always)]
     pub fn follow(&mut self, item: &Item, taken: bool)
         ensures { self.new ≡ record self.old {
           mark = mark_after item.now.kind self.old.desc item.now.pc item.now.instr taken self.old.mark;

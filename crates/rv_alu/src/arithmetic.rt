@@ -32,6 +32,7 @@ fn shift_right_signed(a: u32, b: u32) -> u32
 /// its immediate: sums, differences and MUL modulo 2^32; shifts by the low five bits of `b`; MULH, MULHSU and MULHU the
 /// high half of the product; division rounds towards zero, by 0 it gives 2^32 - 1 and as remainder the dividend, and
 /// -2^31 by -1 gives -2^31, remainder 0. 0 for an operation that computes nothing: a branch, a load or a store.
+#[inline(always)]
 pub fn value(op: Op, a: u32, b: u32) -> u32
     ensures { result ≡ value op a b }
 {
