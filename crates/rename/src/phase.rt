@@ -65,10 +65,10 @@ fn enter_next<R: RenameTaint>(parts: &mut Parts<R>) -> Option<u32>
         parts.desc.stt_defence,
         &parts.point,
     );
-    add_write(serial, item, sources.roots, &mut parts.table);
     add_station(serial, item, &parts.desc, awaits, &mut parts.stations);
-    add_access(serial, item.kind, sources.roots, &mut parts.lsq);
     push_within(&mut parts.sources, sources);
+    add_write(serial, item, sources.roots, &mut parts.table);
+    add_access(serial, item.kind, sources.roots, &mut parts.lsq);
     add_entry(serial, item, &parts.desc, &mut parts.rob);
     let pc = item.pc;
     parts.fetch_unit.drop_oldest();
