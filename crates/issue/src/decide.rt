@@ -161,9 +161,9 @@ impl<'a> Seen<'a> {
             if !self.stations.is_marked(marks, station) {
                 continue;
             }
+            marks = self.stations.passed(marks, station);
             let place = self.place_at(station);
             self.decide_entry(&place, ports, decided, row);
-            marks = self.stations.passed(marks, station);
             if marks == 0 {
                 return;
             }
