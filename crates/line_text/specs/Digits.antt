@@ -16,3 +16,7 @@ hex8 w = hex2 (w / 2 ^ 24) ++ hex2 (w / 2 ^ 16 % 2 ^ 8) ++ hex2 (w / 2 ^ 8 % 2 ^
 -- the two decimal digits of a number below 100
 abbrev pub decimal2 : ℕ → List ℕ
 decimal2 n = (48 + n / 10) ∷ (48 + n % 10) ∷ []
+
+-- the four decimal digits of a number below 10,000
+abbrev pub decimal4 : ℕ → List ℕ
+decimal4 n = decimal2 (n / 100) ++ decimal2 (n % 100)

@@ -1,27 +1,27 @@
 //! A line of text that is built piece by piece.
-ghost use Rattle.std.specs.Prelude.{◌≡◌, ◌<◌, ◌≤◌, ◌+◌, ◌*◌, ◌/◌, ◌%◌, ◌∷◌, [], ◌++◌, length, decimal, flat_map};
-ghost use Rattle.line_text.specs.Digits.{hex2, hex8, decimal2};
+ghost use Rattle.std.specs.Prelude.{◌≡◌, ◌≤◌, ◌+◌, ◌*◌, [], ◌++◌, length, decimal, flat_map};
+ghost use Rattle.line_text.specs.Digits.{hex2, hex8};
 
-use crate::bytes::Bytes;
-use crate::digits::{decimal_pair, hex_pair};
-use itoa::Buffer;
+use crate::draft::{Draft, LINE_MAX};
 use std::marker::Model;
 
-/// The most bytes that a line has.
-pub const LINE_MAX: usize = 9600;
-
-/// A line of text: at most 9,600 bytes, seen as a list. It takes no memory.
+/// A line of text: at most 9,600 bytes, seen as a list. It takes no memory. What is appended is written on its draft, from
+/// its length on.
 #[derive(Drop)]
 pub struct Line {
-    bytes: Bytes<LINE_MAX>,
+    draft: Draft,
+    len: usize,
 }
 
 impl Model for Line {
-    ghost use Rattle.std.specs.Prelude.{List, ℕ};
+    ghost use Rattle.std.specs.Prelude.{List, ℕ, ◌≡◌, ◌≤◌, length, take};
+    ghost use Rattle.line_text.specs.declared.draft.TheConstants.{LINE_MAX};
 
     ghost Value = { List ℕ };
 
-    ghost view = { λ l. l.bytes };
+    ghost view = { λ l. take l.len l.draft };
+
+    ghost invariant = { λ l. (l.len ≤ LINE_MAX) × (length (take l.len l.draft) ≡ l.len) };
 }
 
 impl Line {
@@ -30,7 +30,8 @@ impl Line {
         ensures { result ≡ [] }
     {
         Line {
-            bytes: Bytes::new(),
+            draft: Draft::new(),
+            len: 0,
         }
     }
 
@@ -38,14 +39,14 @@ impl Line {
     pub fn clear(&mut self)
         ensures { self.new ≡ [] }
     {
-        self.bytes.clear();
+        self.len = 0;
     }
 
     /// The bytes.
     pub fn as_slice(&self) -> &[u8]
         ensures { result.now ≡ self.now }
     {
-        self.bytes.as_slice()
+        self.draft.before(self.len)
     }
 
     /// Appends the bytes of a text, where there is room for them.
@@ -54,95 +55,25 @@ impl Line {
         requires { length self.old + length text.now ≤ LINE_MAX }
         ensures { self.new ≡ self.old ++ text.now }
     {
-        self.bytes.add(text);
+        self.len = self.draft.put_slice(self.len, text);
     }
 
     /// Appends a number in decimal: at most 20 digits.
-    #[inline]
     pub fn add_decimal(&mut self, n: u64)
         requires { length self.old + 20 ≤ LINE_MAX }
         ensures text { self.new ≡ self.old ++ decimal n }
         ensures short { length self.new ≤ length self.old + 20 }
     {
-        self.add_number(n);
+        self.len = self.draft.put_decimal(self.len, n);
     }
 
     /// Appends a number of 32 bits in decimal: at most ten digits.
-    #[inline]
     pub fn add_decimal_word(&mut self, n: u32)
         requires { length self.old + 10 ≤ LINE_MAX }
         ensures text { self.new ≡ self.old ++ decimal n }
         ensures short { length self.new ≤ length self.old + 10 }
     {
-        self.add_number(n as u64);
-    }
-
-    // Appends a number in decimal: up to eight digits in pairs, where they stand.
-    fn add_number(&mut self, n: u64)
-        requires { length self.old + length (decimal n) ≤ LINE_MAX }
-        ensures { self.new ≡ self.old ++ decimal n }
-    {
-        if n < 10_000 {
-            self.add_four_digits(n);
-            return;
-        }
-        if n < 100_000_000 {
-            self.add_four_digits(n / 10_000);
-            self.add_pair(n % 10_000 / 100);
-            self.add_pair(n % 10_000 % 100);
-            return;
-        }
-        let mut buffer = Buffer::new();
-        self.add(buffer.format(n).as_bytes());
-    }
-
-    // Appends a number of up to four digits.
-    #[inline]
-    fn add_four_digits(&mut self, n: u64)
-        requires few { n < 10000 }
-        requires room { length self.old + length (decimal n) ≤ LINE_MAX }
-        ensures { self.new ≡ self.old ++ decimal n }
-    {
-        if n < 100 {
-            self.add_two_digits(n);
-            return;
-        }
-        self.add_two_digits(n / 100);
-        self.add_pair(n % 100);
-    }
-
-    // Appends a number of one digit or two.
-    #[inline]
-    fn add_two_digits(&mut self, n: u64)
-        requires few { n < 100 }
-        requires room { length self.old + length (decimal n) ≤ LINE_MAX }
-        ensures { self.new ≡ self.old ++ decimal n }
-    {
-        if n < 10 {
-            self.add_byte(b'0' + n as u8);
-            return;
-        }
-        self.add_pair(n);
-    }
-
-    // Appends the two decimal digits of a number below 100.
-    #[inline]
-    fn add_pair(&mut self, n: u64)
-        requires few { n < 100 }
-        requires room { length self.old + 2 ≤ LINE_MAX }
-        ensures text { self.new ≡ self.old ++ decimal2 n }
-        ensures len { length self.new ≡ length self.old + 2 }
-    {
-        self.add(&decimal_pair(n));
-    }
-
-    // Appends one byte.
-    #[inline]
-    fn add_byte(&mut self, byte: u8)
-        requires { length self.old < LINE_MAX }
-        ensures { self.new ≡ self.old ++ byte ∷ [] }
-    {
-        self.bytes.add_byte(byte);
+        self.len = self.draft.put_decimal_word(self.len, n);
     }
 
     /// Appends the two hexadecimal digits of a byte.
@@ -152,7 +83,7 @@ impl Line {
         ensures text { self.new ≡ self.old ++ hex2 byte }
         ensures len { length self.new ≡ length self.old + 2 }
     {
-        self.add(&hex_pair(byte));
+        self.len = self.draft.put_hex2(self.len, byte);
     }
 
     /// Appends the eight hexadecimal digits of a word.
@@ -162,12 +93,7 @@ impl Line {
         ensures text { self.new ≡ self.old ++ hex8 word }
         ensures len { length self.new ≡ length self.old + 8 }
     {
-        self.bytes.add_pairs(
-            hex_pair((word / 0x100_0000) as u8),
-            hex_pair((word / 0x1_0000 % 0x100) as u8),
-            hex_pair((word / 0x100 % 0x100) as u8),
-            hex_pair((word % 0x100) as u8),
-        );
+        self.len = self.draft.put_hex8(self.len, word);
     }
 
     /// Appends the two hexadecimal digits of each byte in turn.

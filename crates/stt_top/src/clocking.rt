@@ -6,7 +6,7 @@ ghost use Rattle.stt_top.specs.Clocking.{WritesRows, WritesPieces, TellsTrace, T
 
 use crate::outcome::{Ended, ended_of};
 use byte_ram::Ram;
-use line_text::Line;
+use line_text::Draft;
 use report_text::{write_piece, write_report};
 use rv_types::{Ending, Piece};
 use tool_io::{Failed, Sink};
@@ -21,13 +21,13 @@ fn write_rows<C: Clocked, S: Sink>(core: &mut C, cycles: u32, out: &mut S) -> Re
 {
     let mut row = empty_row();
     let mut piece = Piece::new();
-    let mut line = Line::new();
+    let mut draft = Draft::new();
     for _done in 0..cycles {
         if core.end().is_some() {
             return Ok(());
         }
         core.cycle(&mut row, &mut piece);
-        write_row_with(&row, &mut line, out)?;
+        write_row_with(&row, &mut draft, out)?;
     }
     Ok(())
 }

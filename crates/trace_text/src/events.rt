@@ -1,12 +1,14 @@
 //! The texts of events (`docs/formats.md`, "The trace").
 //!
-//! An event is written by few appends: its name with the blank before it and the colon behind, and each number with what
-//! stands between. What appends is inlined where the name is known, so that fixed texts cost no call.
-ghost use Rattle.std.specs.Prelude.{◌≡◌, ◌≤◌, ◌+◌, ◌++◌, length, codes, decimal};
+//! An event is written in few pieces: its name with the blank before it and the colon behind, and each number with what
+//! stands between. Each function writes on a draft from the place `at` on and answers the place behind: the place where
+//! the text goes on is handed along, and kept nowhere. What writes is inlined where the name is known, and a name is an
+//! array, so that fixed texts cost no call. Of an event only those parts are read that its text tells.
+ghost use Rattle.std.specs.Prelude.{◌≡◌, ◌≤◌, ◌+◌, ◌++◌, take, codes, decimal};
 ghost use Rattle.line_text.specs.Digits.{hex8};
 ghost use Rattle.trace_text.specs.TraceText.{and_number, and_address, way_text, found_text, look_text, event_text};
 
-use line_text::{LINE_MAX, Line};
+use line_text::{Draft, LINE_MAX};
 use window_model::{Event, Look, Way};
 
 /// The bytes of the longest name with a blank before it and a colon behind: `fill`, `done`, `call`.
@@ -27,103 +29,121 @@ const LETTER: usize = 2;
 /// The most bytes of an event's text with a blank before it: that of a call has a name, a serial, a colon and a number.
 pub(crate) const EVENT_MAX: usize = NAME + SERIAL + 1 + NUMBER;
 
-// Appends a colon and a number.
+// A colon and a number.
 #[inline(always)]
-fn add_number(line: &mut Line, number: u32)
-    requires { length line.old + 1 + NUMBER ≤ LINE_MAX }
-    ensures text { line.new ≡ line.old ++ and_number number }
-    ensures short { length line.new ≤ length line.old + 1 + NUMBER }
+fn add_number(draft: &mut Draft, at: usize, number: u32) -> usize
+    requires { at + 1 + NUMBER ≤ LINE_MAX }
+    ensures text { take result draft.new ≡ take at draft.old ++ and_number number }
+    ensures short { result ≤ at + 1 + NUMBER }
 {
-    line.add(b":");
-    line.add_decimal_word(number);
+    let behind = draft.put(at, *b":");
+    draft.put_decimal_word(behind, number)
 }
 
-// Appends a colon and an address.
+// A colon and an address.
 #[inline(always)]
-fn add_address(line: &mut Line, addr: u32)
-    requires { length line.old + 1 + ADDRESS ≤ LINE_MAX }
-    ensures text { line.new ≡ line.old ++ and_address addr }
-    ensures short { length line.new ≤ length line.old + 1 + ADDRESS }
+fn add_address(draft: &mut Draft, at: usize, addr: u32) -> usize
+    requires { at + 1 + ADDRESS ≤ LINE_MAX }
+    ensures text { take result draft.new ≡ take at draft.old ++ and_address addr }
+    ensures short { result ≤ at + 1 + ADDRESS }
 {
-    line.add(b":");
-    line.add_hex8(addr);
+    let behind = draft.put(at, *b":");
+    draft.put_hex8(behind, addr)
 }
 
 // The name of an event, and a serial.
 #[inline(always)]
-fn add_of(line: &mut Line, name: &[u8], serial: u64)
-    requires { length line.old + (length name.now + SERIAL) ≤ LINE_MAX }
-    ensures text { line.new ≡ line.old ++ (name.now ++ decimal serial) }
-    ensures short { length line.new ≤ length line.old + (length name.now + SERIAL) }
+fn add_of<const N: usize>(draft: &mut Draft, at: usize, name: [u8; N], serial: u64) -> usize
+    requires { at + (N + SERIAL) ≤ LINE_MAX }
+    ensures text { take result draft.new ≡ take at draft.old ++ (name.entry ++ decimal serial) }
+    ensures short { result ≤ at + (N + SERIAL) }
 {
-    line.add(name);
-    line.add_decimal(serial);
+    let behind = draft.put(at, name);
+    draft.put_decimal(behind, serial)
 }
 
 // The name of an event, and a number.
 #[inline(always)]
-fn add_count(line: &mut Line, name: &[u8], count: u32)
-    requires { length line.old + (length name.now + NUMBER) ≤ LINE_MAX }
-    ensures text { line.new ≡ line.old ++ (name.now ++ decimal count) }
-    ensures short { length line.new ≤ length line.old + (length name.now + NUMBER) }
+fn add_count<const N: usize>(draft: &mut Draft, at: usize, name: [u8; N], count: u32) -> usize
+    requires { at + (N + NUMBER) ≤ LINE_MAX }
+    ensures text { take result draft.new ≡ take at draft.old ++ (name.entry ++ decimal count) }
+    ensures short { result ≤ at + (N + NUMBER) }
 {
-    line.add(name);
-    line.add_decimal_word(count);
+    let behind = draft.put(at, name);
+    draft.put_decimal_word(behind, count)
 }
 
 // The name of an event, and an address.
 #[inline(always)]
-fn add_at(line: &mut Line, name: &[u8], addr: u32)
-    requires { length line.old + (length name.now + ADDRESS) ≤ LINE_MAX }
-    ensures text { line.new ≡ line.old ++ (name.now ++ hex8 addr) }
-    ensures short { length line.new ≤ length line.old + (length name.now + ADDRESS) }
+fn add_at<const N: usize>(draft: &mut Draft, at: usize, name: [u8; N], addr: u32) -> usize
+    requires { at + (N + ADDRESS) ≤ LINE_MAX }
+    ensures text { take result draft.new ≡ take at draft.old ++ (name.entry ++ hex8 addr) }
+    ensures short { result ≤ at + (N + ADDRESS) }
 {
-    line.add(name);
-    line.add_hex8(addr);
+    let behind = draft.put(at, name);
+    draft.put_hex8(behind, addr)
 }
 
 // The name of an event, a serial and an address.
 #[inline(always)]
-fn add_of_at(line: &mut Line, name: &[u8], serial: u64, addr: u32)
-    requires { length line.old + (length name.now + SERIAL + 1 + ADDRESS) ≤ LINE_MAX }
-    ensures text { line.new ≡ line.old ++ (name.now ++ decimal serial ++ and_address addr) }
-    ensures short { length line.new ≤ length line.old + (length name.now + SERIAL + 1 + ADDRESS) }
+fn add_of_at<const N: usize>(
+    draft: &mut Draft,
+    at: usize,
+    name: [u8; N],
+    serial: u64,
+    addr: u32,
+) -> usize
+    requires { at + (N + SERIAL + 1 + ADDRESS) ≤ LINE_MAX }
+    ensures text { take result draft.new ≡ take at draft.old ++ (name.entry ++ decimal serial ++ and_address addr) }
+    ensures short { result ≤ at + (N + SERIAL + 1 + ADDRESS) }
 {
-    add_of(line, name, serial);
-    add_address(line, addr);
+    let behind = add_of(draft, at, name, serial);
+    add_address(draft, behind, addr)
 }
 
 // The name of an event, a serial and a number.
 #[inline(always)]
-fn add_of_count(line: &mut Line, name: &[u8], serial: u64, count: u32)
-    requires { length line.old + (length name.now + SERIAL + 1 + NUMBER) ≤ LINE_MAX }
-    ensures text { line.new ≡ line.old ++ (name.now ++ decimal serial ++ and_number count) }
-    ensures short { length line.new ≤ length line.old + (length name.now + SERIAL + 1 + NUMBER) }
+fn add_of_count<const N: usize>(
+    draft: &mut Draft,
+    at: usize,
+    name: [u8; N],
+    serial: u64,
+    count: u32,
+) -> usize
+    requires { at + (N + SERIAL + 1 + NUMBER) ≤ LINE_MAX }
+    ensures text { take result draft.new ≡ take at draft.old ++ (name.entry ++ decimal serial ++ and_number count) }
+    ensures short { result ≤ at + (N + SERIAL + 1 + NUMBER) }
 {
-    add_of(line, name, serial);
-    add_number(line, count);
+    let behind = add_of(draft, at, name, serial);
+    add_number(draft, behind, count)
 }
 
 // What a place of a table holds now: its name, its index and its value.
 #[inline(always)]
-fn add_place(line: &mut Line, name: &[u8], index: u32, value: u8)
-    requires { length line.old + (length name.now + NUMBER + 1 + NUMBER) ≤ LINE_MAX }
-    ensures text { line.new ≡ line.old ++ (name.now ++ decimal index ++ and_number value) }
-    ensures short { length line.new ≤ length line.old + (length name.now + NUMBER + 1 + NUMBER) }
+fn add_place<const N: usize>(
+    draft: &mut Draft,
+    at: usize,
+    name: [u8; N],
+    index: u32,
+    value: u8,
+) -> usize
+    requires { at + (N + NUMBER + 1 + NUMBER) ≤ LINE_MAX }
+    ensures text { take result draft.new ≡ take at draft.old ++ (name.entry ++ decimal index ++ and_number value) }
+    ensures short { result ≤ at + (N + NUMBER + 1 + NUMBER) }
 {
-    add_count(line, name, index);
-    add_number(line, value as u32);
+    let behind = add_count(draft, at, name, index);
+    add_number(draft, behind, value as u32)
 }
 
 // A target of the table of jump targets: its name, its index and its address.
 #[inline(always)]
-fn add_target(line: &mut Line, index: u32, target: u32)
-    requires { length line.old + (NAME + NUMBER + 1 + ADDRESS) ≤ LINE_MAX }
-    ensures text { line.new ≡ line.old ++ (codes " bt:" ++ decimal index ++ and_address target) }
-    ensures short { length line.new ≤ length line.old + (NAME + NUMBER + 1 + ADDRESS) }
+fn add_target(draft: &mut Draft, at: usize, index: u32, target: u32) -> usize
+    requires { at + (NAME + NUMBER + 1 + ADDRESS) ≤ LINE_MAX }
+    ensures text { take result draft.new ≡ take at draft.old ++ (codes " bt:" ++ decimal index ++ and_address target) }
+    ensures short { result ≤ at + (NAME + NUMBER + 1 + ADDRESS) }
 {
-    add_count(line, b" bt:", index);
-    add_address(line, target);
+    let behind = add_count(draft, at, *b" bt:", index);
+    add_address(draft, behind, target)
 }
 
 fn way_text(way: Way) -> [u8; LETTER]
@@ -155,79 +175,101 @@ fn look_text(look: Look) -> [u8; LETTER]
 
 // The name of an event, a serial and one more text.
 #[inline(always)]
-fn add_of_text(line: &mut Line, name: &[u8], serial: u64, text: &[u8; LETTER])
-    requires { length line.old + (length name.now + SERIAL + LETTER) ≤ LINE_MAX }
-    ensures text { line.new ≡ line.old ++ (name.now ++ decimal serial ++ text.now) }
-    ensures short { length line.new ≤ length line.old + (length name.now + SERIAL + LETTER) }
+fn add_of_text<const N: usize>(
+    draft: &mut Draft,
+    at: usize,
+    name: [u8; N],
+    serial: u64,
+    text: [u8; LETTER],
+) -> usize
+    requires { at + (N + SERIAL + LETTER) ≤ LINE_MAX }
+    ensures text { take result draft.new ≡ take at draft.old ++ (name.entry ++ decimal serial ++ text) }
+    ensures short { result ≤ at + (N + SERIAL + LETTER) }
 {
-    add_of(line, name, serial);
-    line.add(text);
+    let behind = add_of(draft, at, name, serial);
+    draft.put(behind, text)
 }
 
 // The name of an event, an address and one more text.
 #[inline(always)]
-fn add_at_text(line: &mut Line, name: &[u8], addr: u32, text: &[u8; LETTER])
-    requires { length line.old + (length name.now + ADDRESS + LETTER) ≤ LINE_MAX }
-    ensures text { line.new ≡ line.old ++ (name.now ++ hex8 addr ++ text.now) }
-    ensures short { length line.new ≤ length line.old + (length name.now + ADDRESS + LETTER) }
+fn add_at_text<const N: usize>(
+    draft: &mut Draft,
+    at: usize,
+    name: [u8; N],
+    addr: u32,
+    text: [u8; LETTER],
+) -> usize
+    requires { at + (N + ADDRESS + LETTER) ≤ LINE_MAX }
+    ensures text { take result draft.new ≡ take at draft.old ++ (name.entry ++ hex8 addr ++ text) }
+    ensures short { result ≤ at + (N + ADDRESS + LETTER) }
 {
-    add_at(line, name, addr);
-    line.add(text);
+    let behind = add_at(draft, at, name, addr);
+    draft.put(behind, text)
 }
 
 // The name of an event, a serial, an address and one more text.
 #[inline(always)]
-fn add_of_at_text(line: &mut Line, name: &[u8], serial: u64, addr: u32, text: &[u8; LETTER])
-    requires { length line.old + (length name.now + SERIAL + 1 + ADDRESS + LETTER) ≤ LINE_MAX }
-    ensures text { line.new ≡ line.old ++ (name.now ++ decimal serial ++ and_address addr ++ text.now) }
-    ensures short { length line.new ≤ length line.old + (length name.now + SERIAL + 1 + ADDRESS + LETTER) }
+fn add_of_at_text<const N: usize>(
+    draft: &mut Draft,
+    at: usize,
+    name: [u8; N],
+    serial: u64,
+    addr: u32,
+    text: [u8; LETTER],
+) -> usize
+    requires { at + (N + SERIAL + 1 + ADDRESS + LETTER) ≤ LINE_MAX }
+    ensures text { take result draft.new
+        ≡ take at draft.old ++ (name.entry ++ decimal serial ++ and_address addr ++ text) }
+    ensures short { result ≤ at + (N + SERIAL + 1 + ADDRESS + LETTER) }
 {
-    add_of_at(line, name, serial, addr);
-    line.add(text);
+    let behind = add_of_at(draft, at, name, serial, addr);
+    draft.put(behind, text)
 }
 
-/// Appends a blank and the text of an event.
+/// Writes a blank and the text of an event.
 #[tactic(auto, unfolding(crate::specs::TraceText::event_text))]
-pub fn add_event(line: &mut Line, event: Event)
-    requires { length line.old + EVENT_MAX ≤ LINE_MAX }
-    ensures text { line.new ≡ line.old ++ (codes " " ++ event_text event) }
-    ensures short { length line.new ≤ length line.old + EVENT_MAX }
+pub fn add_event(draft: &mut Draft, at: usize, event: &Event) -> usize
+    requires { at + EVENT_MAX ≤ LINE_MAX }
+    ensures text { take result draft.new ≡ take at draft.old ++ (codes " " ++ event_text event.now) }
+    ensures short { result ≤ at + EVENT_MAX }
 {
-    match event {
-        Event::Fill(addr) => add_at(line, b" fill:", addr),
-        Event::Done(serial) => add_of(line, b" done:", serial),
-        Event::Res(serial, way) => add_of_text(line, b" res:", serial, &way_text(way)),
-        Event::Bp(index, value) => add_place(line, b" bp:", index, value),
-        Event::Bt(index, target) => add_target(line, index, target),
-        Event::Sq(count) => add_count(line, b" sq:", count),
-        Event::Clr(serial) => add_of(line, b" clr:", serial),
-        Event::Vio(serial) => add_of(line, b" vio:", serial),
-        Event::Dp(index, value) => add_place(line, b" dp:", index, value),
-        Event::Ret(serial) => add_of(line, b" ret:", serial),
+    match *event {
+        Event::Fill(addr) => add_at(draft, at, *b" fill:", addr),
+        Event::Done(serial) => add_of(draft, at, *b" done:", serial),
+        Event::Res(serial, way) => add_of_text(draft, at, *b" res:", serial, way_text(way)),
+        Event::Bp(index, value) => add_place(draft, at, *b" bp:", index, value),
+        Event::Bt(index, target) => add_target(draft, at, index, target),
+        Event::Sq(count) => add_count(draft, at, *b" sq:", count),
+        Event::Clr(serial) => add_of(draft, at, *b" clr:", serial),
+        Event::Vio(serial) => add_of(draft, at, *b" vio:", serial),
+        Event::Dp(index, value) => add_place(draft, at, *b" dp:", index, value),
+        Event::Ret(serial) => add_of(draft, at, *b" ret:", serial),
         Event::St(serial, addr, found) => add_of_at_text(
-            line,
-            b" st:",
+            draft,
+            at,
+            *b" st:",
             serial,
             addr,
-            &found_text(found),
+            found_text(found),
         ),
-        Event::Call(serial, count) => add_of_count(line, b" call:", serial, count),
-        Event::Alu(serial) => add_of(line, b" alu:", serial),
-        Event::Mul(serial) => add_of(line, b" mul:", serial),
-        Event::Div(serial, time) => add_of_count(line, b" div:", serial, time as u32),
-        Event::Agu(serial) => add_of(line, b" agu:", serial),
-        Event::Std(serial) => add_of(line, b" std:", serial),
+        Event::Call(serial, count) => add_of_count(draft, at, *b" call:", serial, count),
+        Event::Alu(serial) => add_of(draft, at, *b" alu:", serial),
+        Event::Mul(serial) => add_of(draft, at, *b" mul:", serial),
+        Event::Div(serial, time) => add_of_count(draft, at, *b" div:", serial, time as u32),
+        Event::Agu(serial) => add_of(draft, at, *b" agu:", serial),
+        Event::Std(serial) => add_of(draft, at, *b" std:", serial),
         Event::Ld(serial, addr, look) => add_of_at_text(
-            line,
-            b" ld:",
+            draft,
+            at,
+            *b" ld:",
             serial,
             addr,
-            &look_text(look),
+            look_text(look),
         ),
-        Event::LdForward(serial) => add_of_text(line, b" ld:", serial, b":f"),
-        Event::LdFault(serial) => add_of_text(line, b" ld:", serial, b":x"),
-        Event::Pf(addr, look) => add_at_text(line, b" pf:", addr, &look_text(look)),
-        Event::Ren(serial, pc) => add_of_at(line, b" ren:", serial, pc),
-        Event::Fet(pc) => add_at(line, b" fet:", pc),
+        Event::LdForward(serial) => add_of_text(draft, at, *b" ld:", serial, *b":f"),
+        Event::LdFault(serial) => add_of_text(draft, at, *b" ld:", serial, *b":x"),
+        Event::Pf(addr, look) => add_at_text(draft, at, *b" pf:", addr, look_text(look)),
+        Event::Ren(serial, pc) => add_of_at(draft, at, *b" ren:", serial, pc),
+        Event::Fet(pc) => add_at(draft, at, *b" fet:", pc),
     }
 }
