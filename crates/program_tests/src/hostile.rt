@@ -213,12 +213,9 @@ fn refuses_a_description_that_ends_in_no_text(rt: HostRuntime) -> Result<(), Fai
 
 /// The bytes, with zeros behind them up to this length.
 pub fn as_long_as(alloc: Global, bytes: &[u8], length: usize) -> Result<Vec<u8>, Fail> {
-    let mut longer = vec![in alloc; 0u8; length]?;
-    for (at, byte) in bytes.iter().enumerate() {
-        if let Some(place) = longer.get_mut(at) {
-            *place = *byte;
-        }
-    }
+    let zeros = vec![in alloc; 0u8; length.saturating_sub(bytes.len())]?;
+    let mut longer = Vec::from_slice(alloc, bytes)?;
+    longer.extend_from_slice(zeros.as_slice())?;
     Ok(longer)
 }
 
