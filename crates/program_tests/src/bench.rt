@@ -1,39 +1,40 @@
 //! Runs of generated images: one worked out, one that doesn't fit, and one beside the instruction set's.
-use crate::cases::{CASE, Case, all_go};
+use crate::cases::{CASE, Case, goes};
 use crate::running::{Left, NOTHING, Reads, run};
 use gen_image::generate;
 use machine_desc::EXAMPLE;
 use std::alloc::Global;
 use std::test::Fail;
 
-const GENERATED: [Case<'static>; 2] = [
-    Case {
-        words: &[
-            "bench", "d.toml", "--seed", "1", "--blocks", "1", "--cycles", "1000",
-        ],
-        registers: &[
-            ("x2 00000000", "x2 0001fff0"),
-            ("x8 00000000", "x8 0001fbf0"),
-            ("x17 00000000", "x17 0000005d"),
-        ],
-        out: "pc 00010024\nend exit 0 retired 23 cycles 25\n",
-        ..CASE
-    },
-    // no room for the image
-    Case {
-        words: &[
-            "bench", "d.toml", "--seed", "1", "--blocks", "4096", "--cycles", "10",
-        ],
-        changes: &[("size = 65536", "size = 4096")],
-        status: 5,
-        note: "image E14 0\n",
-        ..CASE
-    },
-];
+const ONE_BLOCK: Case<'static> = Case {
+    words: &[
+        "bench", "d.toml", "--seed", "1", "--blocks", "1", "--cycles", "1000",
+    ],
+    out: "\
+x0 00000000\nx1 00000000\nx2 0001fff0\nx3 00000000\nx4 00000000\nx5 00000000\nx6 00000000\nx7 00000000\n\
+x8 0001fbf0\nx9 00000000\nx10 00000000\nx11 00000000\nx12 00000000\nx13 00000000\nx14 00000000\nx15 00000000\n\
+x16 00000000\nx17 0000005d\nx18 00000000\nx19 00000000\nx20 00000000\nx21 00000000\nx22 00000000\nx23 00000000\n\
+x24 00000000\nx25 00000000\nx26 00000000\nx27 00000000\nx28 00000000\nx29 00000000\nx30 00000000\nx31 00000000\n\
+pc 00010024\n\
+end exit 0 retired 23 cycles 25\n\
+",
+    ..CASE
+};
+
+const NO_ROOM: Case<'static> = Case {
+    words: &[
+        "bench", "d.toml", "--seed", "1", "--blocks", "4096", "--cycles", "10",
+    ],
+    changes: &[("size = 65536", "size = 4096")],
+    status: 5,
+    note: "image E14 0\n",
+    ..CASE
+};
 
 #[test]
 fn of_generated_images(rt: HostRuntime) -> Result<(), Fail> {
-    all_go(&rt, rt.alloc(), &GENERATED)
+    goes(&rt, rt.alloc(), &ONE_BLOCK)?;
+    goes(&rt, rt.alloc(), &NO_ROOM)
 }
 
 // Runs these words on an image.

@@ -1,7 +1,7 @@
 //! A case: a run of the program, and how it ends.
 use crate::images::{FETCHED, file_of};
 use crate::running::{Failures, Left, NOTHING, Reads, run};
-use crate::texts::{Change, REGISTERS, changed};
+use crate::texts::{Change, changed};
 use machine_desc::EXAMPLE;
 use std::alloc::Global;
 use std::process::Abort;
@@ -21,9 +21,6 @@ pub struct Case<'a> {
     pub code2: &'a [u32],
     pub data2: &'a [u8],
     pub status: u8,
-    /// The registers' lines that are changed in a report; none where none is written.
-    pub registers: &'a [Change<'a>],
-    /// What is written, behind the registers where there are any.
     pub out: &'a str,
     pub note: &'a str,
 }
@@ -38,7 +35,6 @@ pub const CASE: Case<'static> = Case {
     code2: &test_programs::EXIT_IN_TWO,
     data2: b"",
     status: 0,
-    registers: &[],
     out: "",
     note: "",
 };
@@ -74,38 +70,26 @@ pub fn expect(rt: &impl Abort, left: &Left, status: u8, out: &[u8], note: &str) 
 /// The run of a case ends as it says.
 pub fn goes(rt: &impl Abort, alloc: Global, case: &Case<'_>) -> Result<(), Fail> {
     let left = left_by(rt, alloc, case, NOTHING)?;
-    if case.registers.is_empty() {
-        expect(rt, &left, case.status, case.out.as_bytes(), case.note);
-        return Ok(());
-    }
-    let mut report = changed(rt, alloc, REGISTERS, case.registers)?;
-    report.push_str(case.out)?;
-    expect(rt, &left, case.status, report.as_bytes(), case.note);
+    expect(rt, &left, case.status, case.out.as_bytes(), case.note);
     Ok(())
 }
 
-/// Each of these runs does.
-pub fn all_go(rt: &impl Abort, alloc: Global, cases: &[Case<'_>]) -> Result<(), Fail> {
-    for case in cases {
-        goes(rt, alloc, case)?;
-    }
-    Ok(())
-}
+/// A trace of 100 cycles: what is changed in the description, the code, the data, the status and the trace.
+pub type Traced<'a> = (&'a [Change<'a>], &'a [u32], &'a [u8], u8, &'a str);
 
-/// Each does under this model too, in the place of spectre.
-pub fn all_go_under(
-    rt: &impl Abort,
-    alloc: Global,
-    model: &str,
-    cases: &[Case<'_>],
-) -> Result<(), Fail> {
-    for case in cases {
-        let changes = [("spectre", model)];
-        let under = Case {
-            changes: &changes,
-            ..*case
+/// Each of these traces is so.
+pub fn all_traced(rt: &impl Abort, alloc: Global, rows: &[Traced<'_>]) -> Result<(), Fail> {
+    for (changes, code, data, status, out) in rows {
+        let case = Case {
+            words: TRACE,
+            changes: *changes,
+            code: *code,
+            data: *data,
+            status: *status,
+            out: *out,
+            ..CASE
         };
-        goes(rt, alloc, &under)?;
+        goes(rt, alloc, &case)?;
     }
     Ok(())
 }

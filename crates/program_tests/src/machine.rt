@@ -1,100 +1,101 @@
 //! The worked traces of the out-of-order machine (`docs/machine.md`, "Worked traces").
-use crate::cases::{CASE, Case, TRACE, all_go, all_go_under, expect, goes};
+use crate::cases::{CASE, Case, TRACE, Traced, all_traced, expect, goes};
 use crate::hostile::changed_image;
 use crate::running::{NOTHING, Reads, run};
-use crate::texts::{Change, REGISTERS, changed};
+use crate::texts::Change;
 use crate::traces;
 use machine_desc::EXAMPLE;
 use std::alloc::Global;
 use std::process::Abort;
 use std::test::Fail;
 
-// Of programs without a secret.
-const PLAIN: [Case<'static>; 12] = [
-    Case {
-        words: TRACE,
-        code: &test_programs::EXIT_IN_TWO,
-        out: traces::STRAIGHT_LINE,
-        ..CASE
-    },
-    Case {
-        words: &["trace", "d.toml", "p.elf", "--cycles", "4"],
-        code: &test_programs::EXIT_IN_TWO,
-        status: 3,
-        out: traces::CUT_SHORT,
-        ..CASE
-    },
-    Case {
-        words: &["trace", "d.toml", "p.elf", "--cycles", "5"],
-        code: &test_programs::EXIT_IN_TWO,
-        out: traces::STRAIGHT_LINE,
-        ..CASE
-    },
-    Case {
-        words: TRACE,
-        code: &test_programs::HIT_UNDER_MISS,
-        out: traces::HIT_UNDER_MISS,
-        ..CASE
-    },
-    Case {
-        words: TRACE,
-        code: &test_programs::FORWARDING,
-        out: traces::FORWARDING,
-        ..CASE
-    },
-    Case {
-        words: TRACE,
-        code: &test_programs::MISALIGNED_JUMP,
-        status: 1,
-        out: traces::MISALIGNED_JUMP,
-        ..CASE
-    },
-    Case {
-        words: TRACE,
-        code: &test_programs::WRONG_PATH,
-        out: traces::WRONG_PATH,
-        ..CASE
-    },
-    Case {
-        words: TRACE,
-        code: &test_programs::LOOP,
-        out: traces::LOOP,
-        ..CASE
-    },
-    Case {
-        words: TRACE,
-        code: &test_programs::JUMP,
-        out: traces::JUMP,
-        ..CASE
-    },
-    Case {
-        words: &["trace", "d.toml", "p.elf", "--cycles", "6"],
-        code: &test_programs::ENDLESS,
-        status: 3,
-        out: traces::ENDLESS,
-        ..CASE
-    },
-    Case {
-        words: TRACE,
-        code: &test_programs::DIVISIONS,
-        out: traces::DIVISIONS,
-        ..CASE
-    },
+// Traces that are the same under both models.
+const PLAIN: [Traced<'static>; 9] = [
+    (
+        &[],
+        &test_programs::EXIT_IN_TWO,
+        b"",
+        0,
+        traces::STRAIGHT_LINE,
+    ),
+    (
+        &[],
+        &test_programs::HIT_UNDER_MISS,
+        b"",
+        0,
+        traces::HIT_UNDER_MISS,
+    ),
+    (&[], &test_programs::FORWARDING, b"", 0, traces::FORWARDING),
+    (
+        &[],
+        &test_programs::MISALIGNED_JUMP,
+        b"",
+        1,
+        traces::MISALIGNED_JUMP,
+    ),
+    (&[], &test_programs::WRONG_PATH, b"", 0, traces::WRONG_PATH),
+    (&[], &test_programs::LOOP, b"", 0, traces::LOOP),
+    (&[], &test_programs::JUMP, b"", 0, traces::JUMP),
+    (&[], &test_programs::DIVISIONS, b"", 0, traces::DIVISIONS),
     // a branch on a secret that the program itself reads
-    Case {
-        words: TRACE,
-        code: &test_programs::TAINTED_BRANCH,
-        data: &[1, 0, 0, 0, 0, 0, 0, 0, 0x11],
-        out: traces::TAINTED_BRANCH,
-        ..CASE
-    },
+    (
+        &[],
+        &test_programs::TAINTED_BRANCH,
+        b"\x01\0\0\0\0\0\0\0\x11",
+        0,
+        traces::TAINTED_BRANCH,
+    ),
 ];
+
+// The cycles, the code, the status and the trace.
+const SHORT: [(&str, &[u32], u8, &str); 3] = [
+    ("4", &test_programs::EXIT_IN_TWO, 3, traces::CUT_SHORT),
+    ("5", &test_programs::EXIT_IN_TWO, 0, traces::STRAIGHT_LINE),
+    ("6", &test_programs::ENDLESS, 3, traces::ENDLESS),
+];
+
+// This case goes so under both models.
+fn goes_under_both(rt: &impl Abort, alloc: Global, case: &Case<'_>) -> Result<(), Fail> {
+    goes(rt, alloc, case)?;
+    let other = Case {
+        changes: FUTURISTIC,
+        ..*case
+    };
+    goes(rt, alloc, &other)
+}
+
+const FUTURISTIC: &[Change<'static>] = &[("spectre", "futuristic")];
 
 #[test]
 fn traces_under_both_models(rt: HostRuntime) -> Result<(), Fail> {
-    let cases: &[Case<'static>] = &PLAIN;
-    all_go(&rt, rt.alloc(), cases)?;
-    all_go_under(&rt, rt.alloc(), "futuristic", cases)
+    for (_, code, data, status, out) in &PLAIN {
+        let case = Case {
+            words: TRACE,
+            code: *code,
+            data: *data,
+            status: *status,
+            out: *out,
+            ..CASE
+        };
+        goes_under_both(&rt, rt.alloc(), &case)?;
+    }
+    Ok(())
+}
+
+#[test]
+fn short_traces_under_both_models(rt: HostRuntime) -> Result<(), Fail> {
+    for (cycles, code, status, out) in &SHORT {
+        let words = ["trace", "d.toml", "p.elf", "--cycles", *cycles];
+        let case = Case {
+            words: &words,
+            code: *code,
+            status: *status,
+            out: *out,
+            ..CASE
+        };
+        goes_under_both(&rt, rt.alloc(), &case)?;
+    }
+    Ok(())
 }
 
 // Programs of which no trace shows the secret, and the trace.
@@ -117,86 +118,74 @@ fn secrets_leave_no_mark(rt: HostRuntime) -> Result<(), Fail> {
                 out: *trace,
                 ..CASE
             };
-            all_go(&rt, rt.alloc(), &[case])?;
-            all_go_under(&rt, rt.alloc(), "futuristic", &[case])?;
+            goes_under_both(&rt, rt.alloc(), &case)?;
         }
     }
     Ok(())
 }
 
-// Programs that read the secret 0x11, and the data with the secret 0x22 in its place.
-const READING: [(Case<'static>, &[u8]); 4] = [
+// Programs that read the secret 0x11.
+const READING: [Traced<'static>; 4] = [
     (
-        Case {
-            words: TRACE,
-            code: &test_programs::BOUNDS_CHECK,
-            data: &[1, 0, 0, 0, 0, 0, 0, 0, 0x11],
-            out: traces::IN_BOUNDS,
-            ..CASE
-        },
-        &[1, 0, 0, 0, 0, 0, 0, 0, 0x22],
+        &[],
+        &test_programs::BOUNDS_CHECK,
+        b"\x01\0\0\0\0\0\0\0\x11",
+        0,
+        traces::IN_BOUNDS,
     ),
     (
-        Case {
-            words: TRACE,
-            changes: &[("spectre", "futuristic")],
-            code: &test_programs::BOUNDS_CHECK,
-            data: &[1, 0, 0, 0, 0, 0, 0, 0, 0x11],
-            out: traces::IN_BOUNDS,
-            ..CASE
-        },
-        &[1, 0, 0, 0, 0, 0, 0, 0, 0x22],
+        FUTURISTIC,
+        &test_programs::BOUNDS_CHECK,
+        b"\x01\0\0\0\0\0\0\0\x11",
+        0,
+        traces::IN_BOUNDS,
     ),
     (
-        Case {
-            words: TRACE,
-            code: &test_programs::FAULT_SHADOW,
-            data: &[0, 0, 0, 0, 0, 0, 0, 0, 0x11],
-            status: 1,
-            out: traces::SHADOW,
-            ..CASE
-        },
-        &[0, 0, 0, 0, 0, 0, 0, 0, 0x22],
+        &[],
+        &test_programs::FAULT_SHADOW,
+        b"\x00\0\0\0\0\0\0\0\x11",
+        1,
+        traces::SHADOW,
     ),
     (
-        Case {
-            words: TRACE,
-            changes: &[("spectre", "futuristic")],
-            code: &test_programs::FAULT_SHADOW,
-            data: &[0, 0, 0, 0, 0, 0, 0, 0, 0x11],
-            status: 1,
-            out: traces::NO_SHADOW,
-            ..CASE
-        },
-        &[0, 0, 0, 0, 0, 0, 0, 0, 0x22],
+        FUTURISTIC,
+        &test_programs::FAULT_SHADOW,
+        b"\x00\0\0\0\0\0\0\0\x11",
+        1,
+        traces::NO_SHADOW,
     ),
 ];
 
-// Where the first of the two lines that differ stands in the cache, by the secret.
-const LINES: Change<'static> = ("0001f900", "0001fa10");
-
-// The run with the other secret goes so too, with the line that the secret makes.
-fn shows(rt: &impl Abort, alloc: Global, case: &Case<'_>, data: &[u8]) -> Result<(), Fail> {
-    let out = case.out.replace(alloc, LINES.0, LINES.1)?;
-    let other = Case {
-        data,
+// With 0x22 in the place of 0x11 the trace is so too, but for where the line that the secret makes stands in the cache.
+fn shows(rt: &impl Abort, alloc: Global, row: Traced<'static>) -> Result<(), Fail> {
+    let (changes, code, data, status, out) = row;
+    let mut other = data.to_vec(alloc)?;
+    let _ = other.pop();
+    other.push(0x22)?;
+    let out = out.replace(alloc, "0001f900", "0001fa10")?;
+    let case = Case {
+        words: TRACE,
+        changes,
+        code,
+        data: other.as_slice(),
+        status,
         out: out.as_str(),
-        ..*case
+        ..CASE
     };
-    goes(rt, alloc, &other)
+    goes(rt, alloc, &case)
 }
 
 #[test]
 fn what_the_path_reads_shows(rt: HostRuntime) -> Result<(), Fail> {
-    for (case, data) in &READING {
-        goes(&rt, rt.alloc(), case)?;
-        shows(&rt, rt.alloc(), case, *data)?;
+    let rows: &[Traced<'static>] = &READING;
+    all_traced(&rt, rt.alloc(), rows)?;
+    for row in rows {
+        shows(&rt, rt.alloc(), *row)?;
     }
     Ok(())
 }
 
-// Words, how many bytes the image of an exit has, what is changed in it at which place, and the output behind the registers, if they
-// are written.
+// Words, how many bytes the image of an exit has, what is changed in it at which place, and the output.
 const NOTHING_THERE: [(&[&str], usize, (usize, &[u8]), &str); 3] = [
     // no program headers, in a file of the header alone
     (
@@ -209,39 +198,42 @@ const NOTHING_THERE: [(&[&str], usize, (usize, &[u8]), &str); 3] = [
         &["isa", "p.elf", "--steps", "9"],
         52,
         (44, &[0]),
-        "pc 00010000\nend trap 1 00010000 retired 0\n",
+        "\
+x0 00000000\nx1 00000000\nx2 0010fff0\nx3 00000000\nx4 00000000\nx5 00000000\nx6 00000000\nx7 00000000\n\
+x8 00000000\nx9 00000000\nx10 00000000\nx11 00000000\nx12 00000000\nx13 00000000\nx14 00000000\nx15 00000000\n\
+x16 00000000\nx17 00000000\nx18 00000000\nx19 00000000\nx20 00000000\nx21 00000000\nx22 00000000\nx23 00000000\n\
+x24 00000000\nx25 00000000\nx26 00000000\nx27 00000000\nx28 00000000\nx29 00000000\nx30 00000000\nx31 00000000\n\
+pc 00010000\n\
+end trap 1 00010000 retired 0\n\
+",
     ),
     // an entry between two instructions
     (
         &["isa", "p.elf", "--steps", "9"],
         92,
         (24, &[2]),
-        "pc 00010002\nend trap 1 00010002 retired 0\n",
+        "\
+x0 00000000\nx1 00000000\nx2 0010fff0\nx3 00000000\nx4 00000000\nx5 00000000\nx6 00000000\nx7 00000000\n\
+x8 00000000\nx9 00000000\nx10 00000000\nx11 00000000\nx12 00000000\nx13 00000000\nx14 00000000\nx15 00000000\n\
+x16 00000000\nx17 00000000\nx18 00000000\nx19 00000000\nx20 00000000\nx21 00000000\nx22 00000000\nx23 00000000\n\
+x24 00000000\nx25 00000000\nx26 00000000\nx27 00000000\nx28 00000000\nx29 00000000\nx30 00000000\nx31 00000000\n\
+pc 00010002\n\
+end trap 1 00010002 retired 0\n\
+",
     ),
 ];
 
-// x2 at the end of memory, where there are registers.
-const STACK: &[Change<'static>] = &[("x2 00000000", "x2 0010fff0")];
-
 #[test]
 fn nothing_to_fetch(rt: HostRuntime) -> Result<(), Fail> {
-    let alloc = rt.alloc();
-    let registers = changed(&rt, alloc, REGISTERS, STACK)?;
-    for (words, length, change, text) in &NOTHING_THERE {
-        let image = changed_image(alloc, *change)?;
+    for (words, length, change, out) in &NOTHING_THERE {
+        let image = changed_image(rt.alloc(), *change)?;
         let reads = Reads {
             image: image.as_slice().get(..*length).unwrap_or(b""),
             other: b"",
             description: EXAMPLE.as_bytes(),
         };
-        let left = run(alloc, *words, reads, NOTHING)?;
-        let before = if words.len() == 5 {
-            ""
-        } else {
-            registers.as_str()
-        };
-        let want = format!(in alloc; "{before}{text}")?;
-        expect(&rt, &left, 1, want.as_bytes(), "");
+        let left = run(rt.alloc(), *words, reads, NOTHING)?;
+        expect(&rt, &left, 1, out.as_bytes(), "");
     }
     Ok(())
 }

@@ -1,5 +1,5 @@
 //! Runs of two images, compared (`docs/formats.md`, "The comparison"), and two images of which either is refused.
-use crate::cases::{CASE, Case, all_go, expect, left_by};
+use crate::cases::{CASE, Case, expect, goes, left_by};
 use crate::hostile::{IMAGE_BYTES, as_long_as};
 use crate::images::exit_file;
 use crate::running::{NOTHING, Reads, run};
@@ -20,77 +20,98 @@ const PAIR: &[&str] = &["pair", "d.toml", "p.elf", "q.elf", "--cycles", "100"];
 
 const VERSION_2: Change<'static> = ("[core]", "version = 2\n[core]");
 
-const COMPARED: [Case<'static>; 7] = [
+// A bounds check: what is changed in the description, the bound and the secret of both images, the status and what is written.
+const BOUNDED: [(&[Change<'static>], &[u8], &[u8], u8, &str); 4] = [
     // past the bound the secret is loaded on a wrong path alone
-    Case {
-        words: PAIR,
-        changes: &[VERSION_2],
-        code: &test_programs::BOUNDS_CHECK,
-        data: b"\0\0\0\0\0\0\0\0\x11",
-        code2: &test_programs::BOUNDS_CHECK,
-        data2: b"\0\0\0\0\0\0\0\0\x22",
-        out: "premise yes\nequal\nretired 5 cycles 21\n",
-        ..CASE
-    },
-    Case {
-        words: PAIR,
-        changes: &[VERSION_2, ("spectre", "futuristic")],
-        code: &test_programs::BOUNDS_CHECK,
-        data: b"\0\0\0\0\0\0\0\0\x11",
-        code2: &test_programs::BOUNDS_CHECK,
-        data2: b"\0\0\0\0\0\0\0\0\x22",
-        out: "premise yes\nequal\nretired 5 cycles 21\n",
-        ..CASE
-    },
+    (
+        &[VERSION_2],
+        b"\0\0\0\0\0\0\0\0\x11",
+        b"\0\0\0\0\0\0\0\0\x22",
+        0,
+        "premise yes\nequal\nretired 5 cycles 21\n",
+    ),
+    (
+        &[VERSION_2, ("spectre", "futuristic")],
+        b"\0\0\0\0\0\0\0\0\x11",
+        b"\0\0\0\0\0\0\0\0\x22",
+        0,
+        "premise yes\nequal\nretired 5 cycles 21\n",
+    ),
     // under a model that doesn't protect the wrong path shows it
-    Case {
-        words: PAIR,
-        changes: &[VERSION_2, ("spectre", "off")],
-        code: &test_programs::BOUNDS_CHECK,
-        data: b"\0\0\0\0\0\0\0\0\x11",
-        code2: &test_programs::BOUNDS_CHECK,
-        data2: b"\0\0\0\0\0\0\0\0\x22",
-        status: 1,
-        out: "premise yes\nunequal 15\nretired 5 cycles 21\n",
-        ..CASE
-    },
+    (
+        &[VERSION_2, ("spectre", "off")],
+        b"\0\0\0\0\0\0\0\0\x11",
+        b"\0\0\0\0\0\0\0\0\x22",
+        1,
+        "premise yes\nunequal 15\nretired 5 cycles 21\n",
+    ),
     // within it the program loads the secret
-    Case {
-        words: PAIR,
-        changes: &[VERSION_2],
-        code: &test_programs::BOUNDS_CHECK,
-        data: b"\x01\0\0\0\0\0\0\0\x11",
-        code2: &test_programs::BOUNDS_CHECK,
-        data2: b"\x01\0\0\0\0\0\0\0\x22",
-        status: 1,
-        out: "premise no\nunequal 17\nretired 9 cycles 28\n",
-        ..CASE
-    },
-    // runs that end, and runs that don't
-    Case {
-        words: &["pair", "d.toml", "p.elf", "q.elf", "--cycles", "5"],
-        changes: &[VERSION_2],
-        out: "premise yes\nequal\nretired 2 cycles 5\n",
-        ..CASE
-    },
-    Case {
-        words: &["pair", "d.toml", "p.elf", "q.elf", "--cycles", "1"],
-        changes: &[VERSION_2],
-        out: "premise yes\nequal\nretired 0 cycles 1\n",
-        ..CASE
-    },
-    // no row shows by which call a run ends
-    Case {
-        words: PAIR,
-        code2: &EXIT_OF_ALL,
-        out: "premise no\nequal\nretired 2 cycles 5\n",
-        ..CASE
-    },
+    (
+        &[VERSION_2],
+        b"\x01\0\0\0\0\0\0\0\x11",
+        b"\x01\0\0\0\0\0\0\0\x22",
+        1,
+        "premise no\nunequal 17\nretired 9 cycles 28\n",
+    ),
 ];
 
 #[test]
-fn secrets_and_codes_compared(rt: HostRuntime) -> Result<(), Fail> {
-    all_go(&rt, rt.alloc(), &COMPARED)
+fn secrets_compared(rt: HostRuntime) -> Result<(), Fail> {
+    for (changes, data, data2, status, out) in &BOUNDED {
+        let case = Case {
+            words: PAIR,
+            changes: *changes,
+            code: &test_programs::BOUNDS_CHECK,
+            data: *data,
+            code2: &test_programs::BOUNDS_CHECK,
+            data2: *data2,
+            status: *status,
+            out: *out,
+            ..CASE
+        };
+        goes(&rt, rt.alloc(), &case)?;
+    }
+    Ok(())
+}
+
+// Exits: what is changed in the description, the cycles, the other code, and what is written.
+const EXITS: [(&[Change<'static>], &str, &[u32], &str); 3] = [
+    // runs that end, and runs that don't
+    (
+        &[VERSION_2],
+        "5",
+        &test_programs::EXIT_IN_TWO,
+        "premise yes\nequal\nretired 2 cycles 5\n",
+    ),
+    (
+        &[VERSION_2],
+        "1",
+        &test_programs::EXIT_IN_TWO,
+        "premise yes\nequal\nretired 0 cycles 1\n",
+    ),
+    // no row shows by which call a run ends
+    (
+        &[],
+        "100",
+        &EXIT_OF_ALL,
+        "premise no\nequal\nretired 2 cycles 5\n",
+    ),
+];
+
+#[test]
+fn exits_compared(rt: HostRuntime) -> Result<(), Fail> {
+    for (changes, cycles, code2, out) in &EXITS {
+        let words = ["pair", "d.toml", "p.elf", "q.elf", "--cycles", *cycles];
+        let case = Case {
+            words: &words,
+            changes: *changes,
+            code2: *code2,
+            out: *out,
+            ..CASE
+        };
+        goes(&rt, rt.alloc(), &case)?;
+    }
+    Ok(())
 }
 
 // The exit's value is the word that differs.

@@ -1,5 +1,5 @@
 //! Runs in version 2 with bits of dependence, under the model `off`, and under the defence `hold` (`docs/machine.md`, "Worked traces").
-use crate::cases::{CASE, Case, TRACE, all_go, left_by};
+use crate::cases::{CASE, Case, TRACE, Traced, all_traced, goes, left_by};
 use crate::running::{Left, NOTHING};
 use crate::texts::Change;
 use crate::traces;
@@ -39,39 +39,37 @@ const VERSION_2: Change<'static> = ("[core]", "version = 2\n[core]");
 // Loads pass stores.
 const PASSING: Change<'static> = ("[predictor]", "[predictor]\ndepend = 16");
 
-const PASSES: [Case<'static>; 3] = [
-    Case {
-        words: TRACE,
-        changes: &[VERSION_2, PASSING],
-        code: &LATE_ADDRESS,
-        out: WRONG_PASS,
-        ..CASE
-    },
-    Case {
-        words: TRACE,
-        changes: &[VERSION_2, ("[predictor]", "[predictor]\ndepend = 0")],
-        code: &LATE_ADDRESS,
-        out: NO_PASS,
-        ..CASE
-    },
-    Case {
-        words: &["run", "d.toml", "p.elf", "--cycles", "100"],
-        changes: &[VERSION_2, PASSING],
-        code: &LATE_ADDRESS,
-        registers: &[
-            ("x2 00000000", "x2 0001fff0"),
-            ("x5 00000000", "x5 0001fff0"),
-            ("x6 00000000", "x6 0001fff0"),
-            ("x17 00000000", "x17 0000005d"),
-        ],
-        out: "pc 00010018\nmem 0001fff0 f0ff0100000000000000000000000000\nend exit 0 retired 6 cycles 15\n",
-        ..CASE
-    },
+const PASSES: [Traced<'static>; 2] = [
+    (&[VERSION_2, PASSING], &LATE_ADDRESS, b"", 0, WRONG_PASS),
+    (
+        &[VERSION_2, ("[predictor]", "[predictor]\ndepend = 0")],
+        &LATE_ADDRESS,
+        b"",
+        0,
+        NO_PASS,
+    ),
 ];
+
+const PASSED: Case<'static> = Case {
+    words: &["run", "d.toml", "p.elf", "--cycles", "100"],
+    changes: &[VERSION_2, PASSING],
+    code: &LATE_ADDRESS,
+    out: "\
+x0 00000000\nx1 00000000\nx2 0001fff0\nx3 00000000\nx4 00000000\nx5 0001fff0\nx6 0001fff0\nx7 00000000\n\
+x8 00000000\nx9 00000000\nx10 00000000\nx11 00000000\nx12 00000000\nx13 00000000\nx14 00000000\nx15 00000000\n\
+x16 00000000\nx17 0000005d\nx18 00000000\nx19 00000000\nx20 00000000\nx21 00000000\nx22 00000000\nx23 00000000\n\
+x24 00000000\nx25 00000000\nx26 00000000\nx27 00000000\nx28 00000000\nx29 00000000\nx30 00000000\nx31 00000000\n\
+pc 00010018\n\
+mem 0001fff0 f0ff0100000000000000000000000000\n\
+end exit 0 retired 6 cycles 15\n\
+",
+    ..CASE
+};
 
 #[test]
 fn loads_that_pass_stores(rt: HostRuntime) -> Result<(), Fail> {
-    all_go(&rt, rt.alloc(), &PASSES)
+    all_traced(&rt, rt.alloc(), &PASSES)?;
+    goes(&rt, rt.alloc(), &PASSED)
 }
 
 // The trace of the store bypass with this data, whose last byte is the secret, under the description with these changes.
@@ -121,43 +119,46 @@ fn a_passed_store_shows_no_secret(rt: HostRuntime) -> Result<(), Fail> {
 // The results of loads are held back.
 const HELD: &[Change<'static>] = &[VERSION_2, ("[stt]", "[stt]\ndefence = \"hold\"")];
 
-const HELD_BACK: [Case<'static>; 4] = [
-    Case {
-        words: TRACE,
-        changes: HELD,
-        code: &test_programs::BOUNDS_CHECK,
-        data: b"\0\0\0\0\0\0\0\0\x11",
-        out: HELD_BYPASS,
-        ..CASE
-    },
-    Case {
-        words: TRACE,
-        changes: HELD,
-        code: &test_programs::BOUNDS_CHECK,
-        data: b"\0\0\0\0\0\0\0\0\x22",
-        out: HELD_BYPASS,
-        ..CASE
-    },
-    Case {
-        words: TRACE,
-        changes: HELD,
-        code: &test_programs::HIT_UNDER_MISS,
-        out: traces::HIT_UNDER_MISS,
-        ..CASE
-    },
-    // a defence without name
-    Case {
-        words: &["isa", "p.elf", "--steps", "5", "--desc", "d.toml"],
-        changes: &[VERSION_2, ("[stt]", "[stt]\ndefence = \"fence\"")],
-        status: 4,
-        note: "description K4 stt.defence\n",
-        ..CASE
-    },
+const HELD_BACK: [Traced<'static>; 3] = [
+    (
+        HELD,
+        &test_programs::BOUNDS_CHECK,
+        b"\0\0\0\0\0\0\0\0\x11",
+        0,
+        HELD_BYPASS,
+    ),
+    (
+        HELD,
+        &test_programs::BOUNDS_CHECK,
+        b"\0\0\0\0\0\0\0\0\x22",
+        0,
+        HELD_BYPASS,
+    ),
+    (
+        HELD,
+        &test_programs::HIT_UNDER_MISS,
+        b"",
+        0,
+        traces::HIT_UNDER_MISS,
+    ),
 ];
 
 #[test]
 fn results_that_are_held_back(rt: HostRuntime) -> Result<(), Fail> {
-    all_go(&rt, rt.alloc(), &HELD_BACK)
+    all_traced(&rt, rt.alloc(), &HELD_BACK)
+}
+
+const NO_DEFENCE: Case<'static> = Case {
+    words: &["isa", "p.elf", "--steps", "5", "--desc", "d.toml"],
+    changes: &[VERSION_2, ("[stt]", "[stt]\ndefence = \"fence\"")],
+    status: 4,
+    note: "description K4 stt.defence\n",
+    ..CASE
+};
+
+#[test]
+fn a_defence_without_name(rt: HostRuntime) -> Result<(), Fail> {
+    goes(&rt, rt.alloc(), &NO_DEFENCE)
 }
 
 // A load passes a store of unknown address, shares a byte with it, and is fetched anew.

@@ -1,67 +1,56 @@
 //! Stores that issue in two parts, in version 2 of the machine, and a large machine of that version. The traces are those of the runs of
 //! `tools/evaluate/runs`, which has where they come from.
-use crate::cases::{CASE, Case, TRACE, all_go, expect};
+use crate::cases::{Traced, all_traced, expect};
 use crate::images::{FETCHED, file_of};
 use crate::running::{NOTHING, Reads, run};
 use crate::texts::{Change, changed};
 use std::test::Fail;
 
 /// Version 2.
-const VERSION_2: &[Change<'static>] = &[("[core]", "version = 2\n[core]")];
+const VERSION_2: Change<'static> = ("[core]", "version = 2\n[core]");
 
-const CASES: [Case<'static>; 6] = [
-    Case {
-        words: TRACE,
-        changes: VERSION_2,
-        code: &test_programs::LATE_DATA,
-        out: LATE_DATA,
-        ..CASE
-    },
-    Case {
-        words: TRACE,
-        changes: &[("[core]", "version = 1\n[core]")],
-        code: &test_programs::LATE_DATA,
-        out: LATE_DATA_VERSION_1,
-        ..CASE
-    },
-    Case {
-        words: TRACE,
-        changes: VERSION_2,
-        code: &test_programs::PARTS_ALONE,
-        status: 1,
-        out: PARTS_ALONE,
-        ..CASE
-    },
-    Case {
-        words: TRACE,
-        changes: VERSION_2,
-        code: &test_programs::TWO_STORES,
-        out: ONE_PORT_EACH,
-        ..CASE
-    },
-    Case {
-        words: TRACE,
-        changes: &[
-            ("[core]", "version = 2\n[core]"),
-            ("stations = 8", "stations = 2"),
-        ],
-        code: &test_programs::HALF_ISSUED,
-        out: HALF_ISSUED,
-        ..CASE
-    },
-    Case {
-        words: TRACE,
-        changes: VERSION_2,
-        code: &test_programs::TAINTED_ADDRESS,
-        data: &[1, 0, 0, 0, 0, 0, 0, 0, 0, 0, 0, 0],
-        out: TAINTED_ADDRESS,
-        ..CASE
-    },
+const TRACES: [Traced<'static>; 6] = [
+    (&[VERSION_2], &test_programs::LATE_DATA, b"", 0, LATE_DATA),
+    (
+        &[("[core]", "version = 1\n[core]")],
+        &test_programs::LATE_DATA,
+        b"",
+        0,
+        LATE_DATA_VERSION_1,
+    ),
+    (
+        &[VERSION_2],
+        &test_programs::PARTS_ALONE,
+        b"",
+        1,
+        PARTS_ALONE,
+    ),
+    (
+        &[VERSION_2],
+        &test_programs::TWO_STORES,
+        b"",
+        0,
+        ONE_PORT_EACH,
+    ),
+    (
+        &[VERSION_2, ("stations = 8", "stations = 2")],
+        &test_programs::HALF_ISSUED,
+        b"",
+        0,
+        HALF_ISSUED,
+    ),
+    (
+        &[VERSION_2],
+        &test_programs::TAINTED_ADDRESS,
+        b"\x01\0\0\0\0\0\0\0\0\0\0\0",
+        0,
+        TAINTED_ADDRESS,
+    ),
 ];
 
 #[test]
 fn stores_in_two_parts(rt: HostRuntime) -> Result<(), Fail> {
-    all_go(&rt, rt.alloc(), &CASES)
+    all_traced(&rt, rt.alloc(), &TRACES)
 }
 
 #[test]
