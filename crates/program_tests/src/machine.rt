@@ -1,5 +1,5 @@
 //! The worked traces of the out-of-order machine (`docs/machine.md`, "Worked traces").
-use crate::cases::{CASE, Case, TRACE, Traced, all_traced, expect, goes};
+use crate::cases::{CASE, Case, TRACE, Traced, expect, goes};
 use crate::hostile::changed_image;
 use crate::running::{NOTHING, Reads, run};
 use crate::texts::Change;
@@ -124,63 +124,69 @@ fn secrets_leave_no_mark(rt: HostRuntime) -> Result<(), Fail> {
     Ok(())
 }
 
-// Programs that read the secret 0x11.
-const READING: [Traced<'static>; 4] = [
+// Programs that read a secret: what is changed in the description, the code, the data with the secrets 0x11 and 0x22, the status, and
+// the trace of the first.
+const READING: [(&[Change<'static>], &[u32], &[&[u8]; 2], u8, &str); 4] = [
     (
         &[],
         &test_programs::BOUNDS_CHECK,
-        b"\x01\0\0\0\0\0\0\0\x11",
+        &[b"\x01\0\0\0\0\0\0\0\x11", b"\x01\0\0\0\0\0\0\0\x22"],
         0,
         traces::IN_BOUNDS,
     ),
     (
         FUTURISTIC,
         &test_programs::BOUNDS_CHECK,
-        b"\x01\0\0\0\0\0\0\0\x11",
+        &[b"\x01\0\0\0\0\0\0\0\x11", b"\x01\0\0\0\0\0\0\0\x22"],
         0,
         traces::IN_BOUNDS,
     ),
     (
         &[],
         &test_programs::FAULT_SHADOW,
-        b"\x00\0\0\0\0\0\0\0\x11",
+        &[b"\x00\0\0\0\0\0\0\0\x11", b"\x00\0\0\0\0\0\0\0\x22"],
         1,
         traces::SHADOW,
     ),
     (
         FUTURISTIC,
         &test_programs::FAULT_SHADOW,
-        b"\x00\0\0\0\0\0\0\0\x11",
+        &[b"\x00\0\0\0\0\0\0\0\x11", b"\x00\0\0\0\0\0\0\0\x22"],
         1,
         traces::NO_SHADOW,
     ),
 ];
 
-// With 0x22 in the place of 0x11 the trace is so too, but for where the line that the secret makes stands in the cache.
-fn shows(rt: &impl Abort, alloc: Global, row: Traced<'static>) -> Result<(), Fail> {
-    let (changes, code, data, status, out) = row;
-    let mut other = data.to_vec(alloc)?;
-    let _ = other.pop();
-    other.push(0x22)?;
-    let out = out.replace(alloc, "0001f900", "0001fa10")?;
-    let case = Case {
-        words: TRACE,
-        changes,
-        code,
-        data: other.as_slice(),
-        status,
+// With the other secret a trace is so too, but for where the line that the secret makes stands in the cache.
+fn shows(
+    rt: &impl Abort,
+    alloc: Global,
+    case: &Case<'static>,
+    data: &'static [u8],
+) -> Result<(), Fail> {
+    let out = case.out.replace(alloc, "0001f900", "0001fa10")?;
+    let other = Case {
+        data,
         out: out.as_str(),
-        ..CASE
+        ..*case
     };
-    goes(rt, alloc, &case)
+    goes(rt, alloc, &other)
 }
 
 #[test]
 fn what_the_path_reads_shows(rt: HostRuntime) -> Result<(), Fail> {
-    let rows: &[Traced<'static>] = &READING;
-    all_traced(&rt, rt.alloc(), rows)?;
-    for row in rows {
-        shows(&rt, rt.alloc(), *row)?;
+    for (changes, code, [data, data2], status, out) in &READING {
+        let case = Case {
+            words: TRACE,
+            changes: *changes,
+            code: *code,
+            data: *data,
+            status: *status,
+            out: *out,
+            ..CASE
+        };
+        goes(&rt, rt.alloc(), &case)?;
+        shows(&rt, rt.alloc(), &case, *data2)?;
     }
     Ok(())
 }
