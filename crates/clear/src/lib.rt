@@ -9,6 +9,3 @@ mod finding;
 mod phase;
 
 pub use phase::clear;
-
-#[cfg(test)]
-mod tests;

@@ -10,15 +10,10 @@ mod fetching;
 mod giving;
 mod laws;
 mod lent;
-mod making;
 mod moves;
 mod parts;
 mod start;
 
 pub use giving::gives;
 pub use laws::parts_stay_with_window;
-pub use making::parts_of;
 pub use parts::Parts;
-
-#[cfg(test)]
-mod tests;

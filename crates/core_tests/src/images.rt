@@ -84,11 +84,27 @@ fn file_of(alloc: Global, entry: u32, code: &[u32], other: Part<'_>) -> Result<V
     Ok(file)
 }
 
-/// The image of this code and this other part in 64 KiB of memory, where fetch begins at the entry.
+// The image of a file in 64 KiB of memory, with accesses at any address or not.
+fn loaded(alloc: Global, file: &[u8], misaligned: bool) -> Result<Image, Fail> {
+    let ram = Ram::new(alloc, CODE, SIZE, misaligned)?;
+    Ok(load(alloc, &segments(file)?, ram)?)
+}
+
+/// The image of this code and this other part, where fetch begins at the entry.
 pub fn image_of(alloc: Global, entry: u32, code: &[u32], other: Part<'_>) -> Result<Image, Fail> {
     let file = file_of(alloc, entry, code, other)?;
-    let ram = Ram::new(alloc, CODE, SIZE, false)?;
-    Ok(load(alloc, &segments(file.as_slice())?, ram)?)
+    loaded(alloc, file.as_slice(), false)
+}
+
+/// The image of this code alone, which begins with its first word, with accesses at any address or not.
+pub fn code_image(alloc: Global, misaligned: bool, code: &[u32]) -> Result<Image, Fail> {
+    let none = Part {
+        address: DATA,
+        words: &[],
+        fetched: false,
+    };
+    let file = file_of(alloc, CODE, code, none)?;
+    loaded(alloc, file.as_slice(), misaligned)
 }
 
 /// The image of a program, which begins with its first word, and of its data.

@@ -231,9 +231,9 @@ fn after(isa: &mut Isa) -> (Stepped, u32, u32, Result<u32, Cause>, u32) {
 
 #[test]
 fn instructions_are_the_manuals(rt: HostRuntime) -> Result<(), Fail> {
-    for (word, a, b, x7, data, next) in ROWS {
-        let mut isa = before(rt.alloc(), word, &[(5, a), (6, b), (7, OLD)])?;
-        let wanted = (Stepped::Next, 0, x7, Ok(data), next);
+    for (word, a, b, x7, data, next) in &ROWS {
+        let mut isa = before(rt.alloc(), *word, &[(5, *a), (6, *b), (7, OLD)])?;
+        let wanted = (Stepped::Next, 0, *x7, Ok(*data), *next);
         assert_eq!(rt; after(&mut isa), wanted, "{word:#x} {a:#x} {b:#x}");
     }
     Ok(())
@@ -273,10 +273,10 @@ fn traps_change_nothing(rt: HostRuntime) -> Result<(), Fail> {
         (0x0062_a023, BASE + SIZE, Cause::store_outside()), // sw x6, 0(x5)
         (0x0062_a023, 0, Cause::store_outside()),
     ];
-    for (word, x5, cause) in rows {
-        let mut isa = before(rt.alloc(), word, &[(5, x5)])?;
+    for (word, x5, cause) in &rows {
+        let mut isa = before(rt.alloc(), *word, &[(5, *x5)])?;
         let found = trapped(rt.alloc(), &mut isa)?;
-        assert_eq!(rt; found, Some(cause), "{word:#x} {x5:#x}");
+        assert_eq!(rt; found, Some(*cause), "{word:#x} {x5:#x}");
     }
     Ok(())
 }
@@ -343,12 +343,18 @@ fn called(
 
 #[test]
 fn calls_answer(rt: HostRuntime) -> Result<(), Fail> {
-    let mut out = Piece::new();
-    for (a7, a0, a1, a2, stepped, answer, count) in CALLS {
-        let found = called(rt.alloc(), a7, a0, a1, a2, &mut out)?;
-        assert_eq!(rt; found, (stepped, answer, NEXT), "{a7} {a0} {a1:#x} {a2}");
-        assert_eq!(rt; out.as_slice().len(), count, "{a7} {a0} {a1:#x} {a2}");
+    for (a7, a0, a1, a2, stepped, answer, count) in &CALLS {
+        let mut out = Piece::new();
+        let found = called(rt.alloc(), *a7, *a0, *a1, *a2, &mut out)?;
+        assert_eq!(rt; found, (*stepped, *answer, NEXT), "{a7} {a0} {a1:#x} {a2}");
+        assert_eq!(rt; out.as_slice().len(), *count, "{a7} {a0} {a1:#x} {a2}");
     }
+    Ok(())
+}
+
+#[test]
+fn a_call_puts_out_what_memory_has(rt: HostRuntime) -> Result<(), Fail> {
+    let mut out = Piece::new();
     let _ = called(rt.alloc(), 64, 1, DATA, 4, &mut out)?;
     assert_eq!(rt; out.as_slice(), [0x01, 0xff, 0x80, 0x7f].as_slice());
     Ok(())
@@ -419,14 +425,24 @@ const DIVIDED: [u32; 32] = [
 const OVERWRITES: [u32; 4] = [0x0000_0297, 0x0002_a423, 0x05d0_0893, 0x0000_0073];
 
 #[test]
-fn runs_end(rt: HostRuntime) -> Result<(), Fail> {
+fn a_run_goes_on_and_exits(rt: HostRuntime) -> Result<(), Fail> {
     let mut isa = program_of(rt.alloc(), &DIVISIONS)?;
     assert_eq!(rt; ran(&mut isa, 8), (8, None, BASE + 32));
     assert_eq!(rt; ran(&mut isa, 5), (1, Some(End::Exit(0)), BASE + 36));
-    assert_eq!(rt; *isa.regs(), DIVIDED);
+    assert_eq!(rt; isa.regs().as_slice(), DIVIDED.as_slice());
+    Ok(())
+}
+
+#[test]
+fn a_word_of_code_is_overwritten_in_memory(rt: HostRuntime) -> Result<(), Fail> {
     let mut isa = program_of(rt.alloc(), &OVERWRITES)?;
     assert_eq!(rt; ran(&mut isa, 100), (4, Some(End::Exit(0)), BASE + 16));
     assert_eq!(rt; isa.ram().get(BASE + 8, Width::W), Ok(0));
+    Ok(())
+}
+
+#[test]
+fn a_trap_ends_a_run(rt: HostRuntime) -> Result<(), Fail> {
     let mut isa = program_of(rt.alloc(), &[0x0070_0293, 0x0010_0073])?;
     let trap = Some(End::Trap(Cause::breakpoint(), NEXT));
     assert_eq!(rt; ran(&mut isa, 5), (1, trap, NEXT));

@@ -21,6 +21,8 @@ mod pairs;
 #[cfg(test)]
 mod phases;
 #[cfg(test)]
+mod renaming;
+#[cfg(test)]
 mod settings;
 #[cfg(test)]
 mod stores;

@@ -5,12 +5,13 @@ ghost use Rattle.machine_facts.specs.Timely.{WaitsOrDone};
 
 use crate::cycles::with_model;
 use crate::flights::{COMPLETING, Flight, ISSUING, Phase, RESOLVING};
+use crate::images::code_image;
 use crate::lines::{ANY_ADDRESS, NEXT_LINE, OVER_TWO_LINES, PREFETCHING, SECOND_LEVEL, TWO_LEVELS};
 use crate::settings::{CLEARING, HOLDING, PASSING, RESULTS_HELD, SHOWN, UNPROTECTED};
 use crate::stores::STORES;
 use clear::clear;
 use complete::complete;
-use core_parts::{Parts, parts_of};
+use core_parts::Parts;
 use fill::fill;
 use issue::issue;
 use machine_desc::{Desc, EXAMPLE, SttModel, read_desc};
@@ -21,7 +22,17 @@ use rob_ring::RobRing;
 use std::alloc::Global;
 use std::process::Abort;
 use std::test::Fail;
-use window_model::{Entry, Progress, Row, empty_row};
+use window_model::{Entry, Event, Progress, Row, empty_row};
+
+/// The parts before the first cycle of a few words of code, at the base of memory, where fetch begins.
+pub fn parts_of<R: RenameTaint>(
+    alloc: Global,
+    desc: &Desc,
+    words: &[u32],
+) -> Result<Parts<R>, Fail> {
+    let image = code_image(alloc, desc.ram_misaligned == 1, words)?;
+    Ok(Parts::new(alloc, desc, image.code, image.entry, image.ram)?)
+}
 
 // The description with four words fetched a cycle, under this model.
 fn wide(desc: &Desc, model: SttModel) -> Desc {
@@ -52,8 +63,8 @@ fn are_settled(rob: &RobRing) -> bool
     true
 }
 
-// The phase goes in this cycle, on the visibility point that has moved over the window; the row has its events alone.
-fn perform<R: RenameTaint>(
+/// The phase goes in this cycle, on the visibility point that has moved over the window; the row has its events alone.
+pub fn perform<R: RenameTaint>(
     rt: &impl Abort,
     cycle: u32,
     phase: Phase,
@@ -112,10 +123,7 @@ fn goes_as_worked<R: RenameTaint + Drop>(
     desc: &Desc,
     flight: &Flight,
 ) -> Result<(), Fail> {
-    let made: Option<Parts<R>> = parts_of(alloc, &wide(desc, flight.model), flight.words)?;
-    let Some(mut parts) = made else {
-        panic!(rt; "the words are refused");
-    };
+    let mut parts: Parts<R> = parts_of(alloc, &wide(desc, flight.model), flight.words)?;
     let mut row = empty_row();
     perform(rt, 1, Phase::Fetch, &mut parts, &mut row);
     perform(rt, 1, Phase::Rename, &mut parts, &mut row);
@@ -125,6 +133,42 @@ fn goes_as_worked<R: RenameTaint + Drop>(
         assert_eq!(rt; row.events(), *events, "{phase:?} in {cycle}");
     }
     assert_left(rt, &parts, flight.left);
+    Ok(())
+}
+
+// Two words are fetched, and before they are renamed no phase finds anything.
+fn nothing_else_goes<R: RenameTaint + Drop>(
+    rt: &impl Abort,
+    alloc: Global,
+    text: &str,
+) -> Result<(), Fail> {
+    let desc = read_desc(alloc, text.as_bytes())?;
+    let mut parts: Parts<R> = parts_of(alloc, &desc, &[0x0002_a023, 0x0003_a303])?;
+    let mut row = empty_row();
+    perform(rt, 1, Phase::Fetch, &mut parts, &mut row);
+    let fetched = [Event::Fet(0x0001_0000), Event::Fet(0x0001_0004)];
+    assert_eq!(rt; row.events(), fetched.as_slice());
+    for phase in [
+        Phase::Fill,
+        Phase::Complete,
+        Phase::Resolve,
+        Phase::Clear,
+        Phase::Issue,
+    ] {
+        perform(rt, 1, phase, &mut parts, &mut row);
+        assert_eq!(rt; row.events().len(), 0);
+    }
+    assert!(rt; parts.point().visible(0));
+    assert_eq!(rt; (parts.rob().len(), parts.stations().len()), (0, 0));
+    Ok(())
+}
+
+#[test]
+fn nothing_is_in_flight_at_first(rt: HostRuntime) -> Result<(), Fail> {
+    for text in [EXAMPLE, PASSING] {
+        nothing_else_goes::<ByTable>(&rt, rt.alloc(), text)?;
+        nothing_else_goes::<ByScan>(&rt, rt.alloc(), text)?;
+    }
     Ok(())
 }
 

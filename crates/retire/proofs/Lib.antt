@@ -1,4 +1,3 @@
 pub mod Quiet
 pub mod Turns
 pub mod Leaving
-pub mod Taken

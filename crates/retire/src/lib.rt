@@ -9,6 +9,3 @@ mod phase;
 mod turn;
 
 pub use phase::retire;
-
-#[cfg(test)]
-mod tests;

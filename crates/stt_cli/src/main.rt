@@ -3,9 +3,6 @@
 //! `main` hands the words, the host's files and the standard streams to `stt_top`, which does all the rest.
 #![tactic(auto)]
 
-#[cfg(test)]
-mod tests;
-
 use std::alloc::Global;
 use std::io::ErrorKind;
 use std::process::ExitCode;

@@ -1,59 +1,75 @@
 //! Stores that issue in two parts, in version 2 of the machine, and a large machine of that version. The traces are those of the runs of
 //! `tools/evaluate/runs`, which has where they come from.
-use super::images::{image_of, image_with_data};
-use super::texts::replaced;
-use super::{expect, run};
-use machine_desc::EXAMPLE;
-use std::alloc::Global;
+use crate::cases::{Traced, all_traced, expect};
+use crate::images::{FETCHED, file_of};
+use crate::running::{NOTHING, Reads, run};
+use crate::texts::{Change, changed};
 use std::test::Fail;
 
-// The example description in this version, with so many stations.
-fn description(alloc: Global, version: u32, stations: u32) -> Result<Vec<u8>, Fail> {
-    let text = format!(in alloc; "version = {version}\n{EXAMPLE}")?;
-    let line = format!(in alloc; "stations = {stations}")?;
-    replaced(alloc, text.as_str(), "stations = 8", line.as_str())
-}
+/// Version 2.
+const VERSION_2: Change<'static> = ("[core]", "version = 2\n[core]");
+
+const TRACES: [Traced<'static>; 6] = [
+    (&[VERSION_2], &test_programs::LATE_DATA, b"", 0, LATE_DATA),
+    (
+        &[("[core]", "version = 1\n[core]")],
+        &test_programs::LATE_DATA,
+        b"",
+        0,
+        LATE_DATA_VERSION_1,
+    ),
+    (
+        &[VERSION_2],
+        &test_programs::PARTS_ALONE,
+        b"",
+        1,
+        PARTS_ALONE,
+    ),
+    (
+        &[VERSION_2],
+        &test_programs::TWO_STORES,
+        b"",
+        0,
+        ONE_PORT_EACH,
+    ),
+    (
+        &[VERSION_2, ("stations = 8", "stations = 2")],
+        &test_programs::HALF_ISSUED,
+        b"",
+        0,
+        HALF_ISSUED,
+    ),
+    (
+        &[VERSION_2],
+        &test_programs::TAINTED_ADDRESS,
+        b"\x01\0\0\0\0\0\0\0\0\0\0\0",
+        0,
+        TAINTED_ADDRESS,
+    ),
+];
 
 #[test]
 fn stores_in_two_parts(rt: HostRuntime) -> Result<(), Fail> {
-    let alloc = rt.alloc();
-    let words = ["trace", "d.toml", "p.elf", "--cycles", "100"];
-    // the version, the stations, the code, the data, and how the run ends
-    let rows: [(u32, u32, &[u32], &[u8], u8, &str); 6] = [
-        (2, 8, &test_programs::LATE_DATA, b"", 0, LATE_DATA),
-        (1, 8, &test_programs::LATE_DATA, b"", 0, LATE_DATA_VERSION_1),
-        (2, 8, &test_programs::PARTS_ALONE, b"", 1, PARTS_ALONE),
-        (2, 8, &test_programs::TWO_STORES, b"", 0, ONE_PORT_EACH),
-        (2, 2, &test_programs::HALF_ISSUED, b"", 0, HALF_ISSUED),
-        (
-            2,
-            8,
-            &test_programs::TAINTED_ADDRESS,
-            &[1, 0, 0, 0, 0, 0, 0, 0, 0, 0, 0, 0],
-            0,
-            TAINTED_ADDRESS,
-        ),
-    ];
-    for (version, stations, code, data, status, trace) in rows {
-        let image = image_with_data(alloc, code, data)?;
-        let text = description(alloc, version, stations)?;
-        let left = run(alloc, &words, image.as_slice(), text.as_slice())?;
-        expect(&rt, &left, status, trace.as_bytes(), "");
-    }
-    Ok(())
+    all_traced(&rt, rt.alloc(), &TRACES)
 }
 
 #[test]
 fn a_large_machine_ends_as_the_instruction_set_does(rt: HostRuntime) -> Result<(), Fail> {
     let alloc = rt.alloc();
-    let image = image_of(alloc, &test_programs::MANY_STORES, 5)?;
+    let image = file_of(alloc, &test_programs::MANY_STORES, FETCHED, b"")?;
+    let reads = Reads {
+        image: image.as_slice(),
+        other: b"",
+        description: LARGE.as_bytes(),
+    };
     let steps = ["isa", "p.elf", "--steps", "200", "--desc", "d.toml"];
-    let isa = run(alloc, &steps, image.as_slice(), LARGE.as_bytes())?;
+    let isa = run(alloc, &steps, reads, NOTHING)?;
     let report = std::str::from_utf8(isa.out.as_slice()).unwrap_or("");
-    let want = replaced(alloc, report, "retired 128\n", "retired 128 cycles 95\n")?;
+    let change = ("retired 128\n", "retired 128 cycles 95\n");
+    let want = changed(&rt, alloc, report, &[change])?;
     let cycles = ["run", "d.toml", "p.elf", "--cycles", "100"];
-    let left = run(alloc, &cycles, image.as_slice(), LARGE.as_bytes())?;
-    expect(&rt, &left, 0, want.as_slice(), "");
+    let left = run(alloc, &cycles, reads, NOTHING)?;
+    expect(&rt, &left, 0, want.as_bytes(), "");
     Ok(())
 }
 

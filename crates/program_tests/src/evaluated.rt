@@ -1,6 +1,10 @@
 //! Runs under descriptions of many kinds, with the traces that an independent model wrote (`tools/evaluate/runs/README.md`, which
 //! has these and more by the same names). `tools/evaluate/write --tests` makes a table of all.
-use super::{expect, run};
+use crate::cases::expect;
+use crate::lines;
+use crate::running::{NOTHING, Reads, run};
+use std::alloc::Global;
+use std::process::Abort;
 use std::test::Fail;
 
 /// A run, and what the command `trace` makes of it.
@@ -14,16 +18,26 @@ pub struct Run {
     pub trace: &'static str,
 }
 
-#[test]
-fn of_an_independent_model(rt: HostRuntime) -> Result<(), Fail> {
-    let alloc = rt.alloc();
-    for wanted in RUNS {
+// Each of these runs goes so.
+fn all_go(rt: &impl Abort, alloc: Global, runs: &[Run]) -> Result<(), Fail> {
+    for wanted in runs {
         let words = ["trace", "d.toml", "p.elf", "--cycles", wanted.cycles];
-        let left = run(alloc, &words, wanted.image, wanted.description.as_bytes())?;
+        let reads = Reads {
+            image: wanted.image,
+            other: b"",
+            description: wanted.description.as_bytes(),
+        };
+        let left = run(alloc, &words, reads, NOTHING)?;
         assert_eq!(rt; left.status, wanted.status, "{}", wanted.name);
-        expect(&rt, &left, wanted.status, wanted.trace.as_bytes(), "");
+        expect(rt, &left, wanted.status, wanted.trace.as_bytes(), "");
     }
     Ok(())
+}
+
+#[test]
+fn of_an_independent_model(rt: HostRuntime) -> Result<(), Fail> {
+    all_go(&rt, rt.alloc(), &RUNS)?;
+    all_go(&rt, rt.alloc(), &lines::RUNS)
 }
 
 const RUNS: [Run; 11] = [

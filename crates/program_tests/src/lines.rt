@@ -1,22 +1,9 @@
 //! Runs with stores and loads over two lines, a second level of the cache and the prefetch, with the traces that an independent model wrote
 //! (`tools/evaluate/runs/README.md`, which has these and more by the same names).
-use super::evaluated::Run;
-use super::{expect, run};
-use std::test::Fail;
+use crate::evaluated::Run;
 
-#[test]
-fn of_lines(rt: HostRuntime) -> Result<(), Fail> {
-    let alloc = rt.alloc();
-    for wanted in RUNS {
-        let words = ["trace", "d.toml", "p.elf", "--cycles", wanted.cycles];
-        let left = run(alloc, &words, wanted.image, wanted.description.as_bytes())?;
-        assert_eq!(rt; left.status, wanted.status, "{}", wanted.name);
-        expect(&rt, &left, wanted.status, wanted.trace.as_bytes(), "");
-    }
-    Ok(())
-}
-
-const RUNS: [Run; 3] = [
+/// The runs.
+pub const RUNS: [Run; 3] = [
     Run {
         name: "memory_and_second",
         description: "\
