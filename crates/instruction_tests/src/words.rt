@@ -1,5 +1,7 @@
 //! Words and their instructions, as an assembler of the RISC-V instruction set gives them.
-use Form::{Auipc, Branch, Immediate, Jal, Jalr, Load, Lui, Other, Registers, Store};
+use Form::{
+    Auipc, Branch, Ebreak, Ecall, Fence, Illegal, Immediate, Jal, Jalr, Load, Lui, Registers, Store,
+};
 use rv_decode::{decode, encode};
 use rv_types::{Instr, Op, Reg};
 
@@ -15,11 +17,14 @@ enum Form {
     Store(Op, u8, u8, i32),
     Immediate(Op, u8, u8, i32),
     Registers(Op, u8, u8, u8),
-    Other(Instr),
+    Fence(u32),
+    Ecall,
+    Ebreak,
+    Illegal(u32),
 }
 
 // Word and instruction.
-const WORDS: [(u32, Form); 56] = [
+static WORDS: [(u32, Form); 56] = [
     // branches: first and second source, offset
     (0x0003_0463, Branch(Op::Beq, 6, 0, 8)),
     (0x8020_9063, Branch(Op::Bne, 1, 2, -4096)),
@@ -79,13 +84,13 @@ const WORDS: [(u32, Form); 56] = [
     (0x7fff_f2ef, Jal(5, 0xf_fffe)),
     (0x0021_00e7, Jalr(1, 2, 2)),
     (0x800f_8067, Jalr(0, 31, -2048)),
-    (0x0ff0_000f, Other(Instr::Fence(0x0ff0_000f))),
-    (0x0000_0073, Other(Instr::Ecall)),
-    (0x0010_0073, Other(Instr::Ebreak)),
+    (0x0ff0_000f, Fence(0x0ff0_000f)),
+    (0x0000_0073, Ecall),
+    (0x0010_0073, Ebreak),
 ];
 
 // Words of no instruction: all zeros and all ones, FENCE.I, MRET, a CSR read, fields that no row of the table has.
-const ILLEGAL: [u32; 14] = [
+static ILLEGAL: [u32; 14] = [
     0,
     0xffff_ffff,
     0x0000_100f,
@@ -103,7 +108,7 @@ const ILLEGAL: [u32; 14] = [
 ];
 
 // Instructions that no word encodes: immediates out of range or of the wrong shape, operations of another form.
-const WITHOUT_WORD: [Form; 17] = [
+static WITHOUT_WORD: [Form; 17] = [
     Immediate(Op::Add, 1, 2, 2048),
     Immediate(Op::Add, 1, 2, -2049),
     Immediate(Op::Sll, 1, 2, 32),
@@ -119,8 +124,8 @@ const WITHOUT_WORD: [Form; 17] = [
     Jal(1, 0x10_0000),
     Jal(1, 3),
     Lui(1, 1),
-    Other(Instr::Fence(0)),
-    Other(Instr::Illegal(0x0000_0073)),
+    Fence(0),
+    Illegal(0x0000_0073),
 ];
 
 fn x(number: u8) -> Reg {
@@ -169,7 +174,10 @@ fn instr_of(form: Form) -> Instr {
             rs1: x(rs1),
             rs2: x(rs2),
         },
-        Other(instr) => instr,
+        Fence(word) => Instr::Fence(word),
+        Ecall => Instr::Ecall,
+        Ebreak => Instr::Ebreak,
+        Illegal(word) => Instr::Illegal(word),
     }
 }
 
