@@ -8,6 +8,3 @@ mod bytes;
 mod ram;
 
 pub use ram::Ram;
-
-#[cfg(test)]
-mod tests;

@@ -20,6 +20,3 @@ pub use headers::segments;
 pub use laws::instructions_stand_at_words;
 pub use loading::{Image, load};
 pub use parts::{Segment, Segments};
-
-#[cfg(test)]
-mod tests;

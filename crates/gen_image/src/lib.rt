@@ -9,6 +9,3 @@ mod draws;
 mod image;
 
 pub use image::generate;
-
-#[cfg(test)]
-mod tests;

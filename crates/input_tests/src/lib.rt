@@ -7,8 +7,12 @@
 #[cfg(test)]
 mod descriptions;
 #[cfg(test)]
+mod faults;
+#[cfg(test)]
 mod optional_keys;
 #[cfg(test)]
-mod settings;
+mod ranges;
+#[cfg(test)]
+mod reading;
 #[cfg(test)]
 mod words;

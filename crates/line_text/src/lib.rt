@@ -13,6 +13,3 @@ mod line;
 pub use draft::{Draft, LINE_MAX};
 pub use end::write_end;
 pub use line::Line;
-
-#[cfg(test)]
-mod tests;

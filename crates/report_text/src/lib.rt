@@ -10,6 +10,3 @@ mod state;
 
 pub use output::write_piece;
 pub use state::write_report;
-
-#[cfg(test)]
-mod tests;

@@ -9,8 +9,6 @@ mod branches;
 mod divisions;
 mod loads;
 mod products;
-#[cfg(test)]
-mod tests;
 
 pub use arithmetic::value;
 pub use branches::taken;

@@ -10,8 +10,6 @@ mod encoding;
 mod fields;
 mod opcodes;
 mod operations;
-#[cfg(test)]
-mod tests;
 
 pub use decoding::decode;
 pub use encoding::encode;

@@ -8,8 +8,6 @@ mod calls;
 mod effects;
 mod fields;
 mod registers;
-#[cfg(test)]
-mod tests;
 
 pub use calls::call;
 pub use effects::{effect, is_misaligned, relative};

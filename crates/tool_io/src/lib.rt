@@ -103,6 +103,3 @@ pub trait Sink {
     fn put(&mut self, piece: &[u8]) -> Result<(), Failed>
         ensures { Writes piece.now (told self.old) (told self.new) result };
 }
-
-#[cfg(test)]
-mod tests;

@@ -10,6 +10,3 @@ mod lines;
 pub use line_text::write_end;
 pub use lines::{write_row, write_row_with};
 pub use rv_types::{End, Ending};
-
-#[cfg(test)]
-mod tests;

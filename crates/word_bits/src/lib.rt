@@ -8,6 +8,3 @@ mod wide;
 
 pub use bits::{has_bit, next_bit, with_bit};
 pub use wide::{has_wide_bit, next_wide_bit, with_wide_bit};
-
-#[cfg(test)]
-mod tests;

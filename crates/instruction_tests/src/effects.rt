@@ -1,6 +1,6 @@
 //! One instruction of each form, and one call of each answer; the values are those of the manual's formulas.
-use crate::{Effect, call, effect};
 use byte_ram::Ram;
+use rv_effect::{Effect, call, effect};
 use rv_types::{Instr, Op, Piece, Reg, Width};
 use std::test::Fail;
 
@@ -185,8 +185,8 @@ const EFFECTS: [(Instr, u32, u32, u32, u32, u32, u32, bool); 15] = [
 ];
 
 #[test]
-fn effects_are_the_manuals(rt: HostRuntime) -> Result<(), Fail> {
-    for (instr, first, second, value, next, addr, stored, misaligned) in EFFECTS {
+fn effects_are_the_manuals(rt: HostRuntime) {
+    for &(instr, first, second, value, next, addr, stored, misaligned) in &EFFECTS {
         let wanted = Effect {
             value,
             next,
@@ -194,9 +194,8 @@ fn effects_are_the_manuals(rt: HostRuntime) -> Result<(), Fail> {
             stored,
             misaligned,
         };
-        assert_eq!(rt; effect(PC, &instr, first, second), wanted, "{instr:?}");
+        assert_eq!(rt; (instr, effect(PC, &instr, first, second)), (instr, wanted));
     }
-    Ok(())
 }
 
 // a7, a0, a1 and a2 of a call, the value with which it ends the run, its answer in a0, and how many bytes it puts out.
@@ -211,28 +210,26 @@ const CALLS: [(u32, u32, u32, u32, Option<u32>, u32, usize); 8] = [
     (94, 42, BASE, 4, Some(42), 42, 0),
 ];
 
+// What a call with these numbers leaves, with memory whose first word is 0x7f80_ff01.
+fn called(ram: &Ram, [a7, a0, a1, a2]: [u32; 4]) -> (Option<u32>, u32, u32, usize) {
+    let mut pc = PC;
+    let mut regs = [0u32; 32];
+    regs[10] = a0;
+    regs[11] = a1;
+    regs[12] = a2;
+    regs[17] = a7;
+    let mut out = Piece::new();
+    let ended = call(&mut pc, &mut regs, ram, &mut out);
+    (ended, pc, regs[10], out.as_slice().len())
+}
+
 #[test]
 fn calls_answer(rt: HostRuntime) -> Result<(), Fail> {
     let mut ram = Ram::new(rt.alloc(), BASE, SIZE, false)?;
-    let _ = ram.put(BASE, Width::W, 0x7f80_ff01);
-    for (a7, a0, a1, a2, ended, answer, count) in CALLS {
-        let mut pc = PC;
-        let mut regs = [0u32; 32];
-        regs[10] = a0;
-        regs[11] = a1;
-        regs[12] = a2;
-        regs[17] = a7;
-        let mut out = Piece::new();
-        assert_eq!(rt;
-            call(&mut pc, &mut regs, &ram, &mut out),
-            ended,
-            "{a7} {a0}"
-        );
-        assert_eq!(rt;
-            (pc, regs[10], out.as_slice().len()),
-            (NEXT, answer, count),
-            "{a7} {a0}"
-        );
+    assert_eq!(rt; ram.put(BASE, Width::W, 0x7f80_ff01), Ok(()));
+    for &(a7, a0, a1, a2, ended, answer, count) in &CALLS {
+        let got = called(&ram, [a7, a0, a1, a2]);
+        assert_eq!(rt; (a7, a0, got), (a7, a0, (ended, NEXT, answer, count)));
     }
     Ok(())
 }

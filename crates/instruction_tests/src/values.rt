@@ -1,5 +1,5 @@
 //! Worked values, at the corners of each operation.
-use crate::{div_time, extend, taken, value};
+use rv_alu::{div_time, extend, taken, value};
 use rv_types::Op;
 
 const LEAST: u32 = 0x8000_0000;
@@ -99,34 +99,41 @@ const TIMES: [(Op, u32, u8); 8] = [
     (Op::Remu, 7, 6),
 ];
 
+// Load, the bytes that memory has, and the value.
+const LOADS: [(Op, u32, u32); 7] = [
+    (Op::Lb, 0x7f, 0x7f),
+    (Op::Lb, 0x80, 0xffff_ff80),
+    (Op::Lbu, 0x80, 0x80),
+    (Op::Lh, 0x7fff, 0x7fff),
+    (Op::Lh, 0xfffe, 0xffff_fffe),
+    (Op::Lhu, 0xfffe, 0xfffe),
+    (Op::Lw, 0x8000_0001, 0x8000_0001),
+];
+
 #[test]
 fn values_are_the_manuals(rt: HostRuntime) {
-    for (op, a, b, wanted) in VALUES {
-        assert_eq!(rt; value(op, a, b), wanted, "{op:?} {a:#x} {b:#x}");
+    for &(op, a, b, wanted) in &VALUES {
+        assert_eq!(rt; (op, a, b, value(op, a, b)), (op, a, b, wanted));
     }
 }
 
 #[test]
 fn branches_are_the_manuals(rt: HostRuntime) {
-    for (op, a, b, wanted) in BRANCHES {
-        assert_eq!(rt; taken(op, a, b), wanted, "{op:?} {a:#x} {b:#x}");
+    for &(op, a, b, wanted) in &BRANCHES {
+        assert_eq!(rt; (op, a, b, taken(op, a, b)), (op, a, b, wanted));
     }
 }
 
 #[test]
 fn divisions_take_a_cycle_a_digit(rt: HostRuntime) {
-    for (op, a, wanted) in TIMES {
-        assert_eq!(rt; div_time(op, a), wanted, "{op:?} {a:#x}");
+    for &(op, a, wanted) in &TIMES {
+        assert_eq!(rt; (op, a, div_time(op, a)), (op, a, wanted));
     }
 }
 
 #[test]
 fn loads_extend_their_bytes(rt: HostRuntime) {
-    assert_eq!(rt; extend(Op::Lb, 0x7f), 0x7f);
-    assert_eq!(rt; extend(Op::Lb, 0x80), 0xffff_ff80);
-    assert_eq!(rt; extend(Op::Lbu, 0x80), 0x80);
-    assert_eq!(rt; extend(Op::Lh, 0x7fff), 0x7fff);
-    assert_eq!(rt; extend(Op::Lh, 0xfffe), 0xffff_fffe);
-    assert_eq!(rt; extend(Op::Lhu, 0xfffe), 0xfffe);
-    assert_eq!(rt; extend(Op::Lw, 0x8000_0001), 0x8000_0001);
+    for (op, bytes, wanted) in LOADS {
+        assert_eq!(rt; (op, bytes, extend(op, bytes)), (op, bytes, wanted));
+    }
 }
