@@ -105,7 +105,8 @@ fn text_arg<'a>(alloc: Global, id: &'a str) -> Arg<'a>
     Arg::new(alloc, id).long(id)
 }
 
-// A parser with one more argument.
+// A parser with one more argument. Where there is no parser the argument is let go whole: behind a `?` each of its fields would
+// be let go by itself, which takes the check of a call ten times as long.
 fn with_arg<'a>(
     parser: Result<Parser<'a>, AllocError>,
     arg: Arg<'a>,
@@ -113,10 +114,16 @@ fn with_arg<'a>(
     requires { arg.global ≡ false }
     ensures { (app : App) (rule : Rule) → rule_of arg.entry ≡ rule → IsParser app parser.entry → IsParser (with_rule app rule) result }
 {
-    parser?.arg(arg)
+    match parser {
+        Ok(parser) => parser.arg(arg),
+        Err(error) => {
+            drop(arg);
+            Err(error)
+        }
+    }
 }
 
-// A parser with one more command.
+// A parser with one more command. What isn't used is let go whole, as above.
 fn with_command<'a>(
     parser: Result<Parser<'a>, AllocError>,
     command: Result<Parser<'a>, AllocError>,
@@ -124,7 +131,19 @@ fn with_command<'a>(
     ensures { (app : App) (shape : Shape) → IsCommand shape command.entry → IsParser app parser.entry
         → IsParser (with_subcommand app shape) result }
 {
-    parser?.subcommand(command?)
+    match parser {
+        Ok(parser) => match command {
+            Ok(command) => parser.subcommand(command),
+            Err(error) => {
+                drop(parser);
+                Err(error)
+            }
+        },
+        Err(error) => {
+            drop(command);
+            Err(error)
+        }
+    }
 }
 
 fn isa_parser<'a>(alloc: Global) -> Result<Parser<'a>, AllocError>
