@@ -1,8 +1,8 @@
 -- Parsers that are made argument by argument.
-use Rattle.std.proofs.Common.{◌≡◌, Result, Ok, Err, false, ap}
+use Rattle.std.proofs.Common.{Result, ap}
 use Rattle.std.proofs.lemmas.Result.{IfOk-weaker}
 use Rattle.std.specs.declared.alloc.AllocError.{AllocError}
-use Rattle.clap.specs.Words.{App, app_of}
+use Rattle.clap.specs.Words.{App}
 use Rattle.clap.specs.declared.builder.command.Command.{Command as Parser}
 use Rattle.tool_words.specs.Words.{IsParser, IsCommand}
 

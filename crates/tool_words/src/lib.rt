@@ -105,8 +105,7 @@ fn text_arg<'a>(alloc: Global, id: &'a str) -> Arg<'a>
     Arg::new(alloc, id).long(id)
 }
 
-// A parser with one more argument. Where there is no parser the argument is let go whole: behind a `?` each of its fields would
-// be let go by itself, which takes the check of a call ten times as long.
+// A parser with one more argument.
 fn with_arg<'a>(
     parser: Result<Parser<'a>, AllocError>,
     arg: Arg<'a>,
@@ -114,16 +113,11 @@ fn with_arg<'a>(
     requires { arg.global ≡ false }
     ensures { (app : App) (rule : Rule) → rule_of arg.entry ≡ rule → IsParser app parser.entry → IsParser (with_rule app rule) result }
 {
-    match parser {
-        Ok(parser) => parser.arg(arg),
-        Err(error) => {
-            drop(arg);
-            Err(error)
-        }
-    }
+    parser?.arg(arg)
 }
 
-// A parser with one more command. What isn't used is let go whole, as above.
+// A parser with one more command. What isn't used is let go whole: behind a `?` each of its fields would be let go by itself,
+// which takes the proof three times as long.
 fn with_command<'a>(
     parser: Result<Parser<'a>, AllocError>,
     command: Result<Parser<'a>, AllocError>,
