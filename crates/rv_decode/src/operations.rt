@@ -8,9 +8,10 @@ ghost use Rattle.rv_decode.specs.Operations.{instr_of};
 
 use crate::decoding::decode;
 use rv_types::{Instr, Op, Reg};
+use std::fmt;
 
 /// An operation with its registers and its immediate, in the order of the fields of `Instr`: rd, rs1, rs2, imm.
-#[derive(Clone, Copy, Debug)]
+#[derive(Clone, Copy)]
 pub enum Operation {
     Lui(Reg, i32),
     Auipc(Reg, i32),
@@ -160,7 +161,7 @@ fn operation_of(instr: Instr) -> Operation
 }
 
 /// An instruction, and beside it the operation that stands for it.
-#[derive(Clone, Copy, Debug)]
+#[derive(Clone, Copy)]
 pub struct Decoded {
     pub instr: Instr,
     pub operation: Operation,
@@ -177,5 +178,12 @@ impl Decoded {
             instr,
             operation: operation_of(instr),
         }
+    }
+}
+
+// Shown as its instruction, which the operation only stands for.
+impl fmt::Debug for Decoded {
+    fn fmt<W: fmt::Write>(&self, f: &mut fmt::Formatter<W>) -> fmt::Result {
+        self.instr.fmt(f)
     }
 }

@@ -1,5 +1,6 @@
 -- What is marked of who awaits a serial, as entries come and wake.
 use Rattle.std.proofs.Common.{◌≡◌, ◌≢◌, ℕ, ◌%◌, ◌+◌, ◌<◌, ◌≤◌, Bool, true, false, List, length, get_or, set, Option, Some, None, slice_get, refl, ap, ap₂, sym, ◌∙◌, arith, inl, inr, ⊎_elim}
+use mathlib.Core.Bool.{true≢false}
 use Rattle.std.specs.Prelude.{not, ◌==◌, ◌||◌, if◌then◌else◌}
 use Rattle.std.specs.Int.{bit_at}
 use Rattle.std.specs.Option.{option_map}
@@ -56,6 +57,53 @@ waiting_push places waiting waiting2 place o lt m here others p few = elim (case
   | inl q ↦ ap (bit_at waiting2) q ∙ here ∙ ap (λ o. one_if (waits o)) (sym (ap (λ k. get_or (set places place o) k nobody) q ∙ get_or-set_same places place o nobody lt))
   | inr ne ↦ others p few ne ∙ m p few ∙ ap (λ o. one_if (waits o)) (sym (get_or-set_other places place p o nobody ne))
 ]
+
+or_less : (a b a2 b2 : Bool) → (a ≡ true → a2 ≡ true) → (b ≡ true → b2 ≡ true) → (a || b) ≡ true → (a2 || b2) ≡ true
+or_less true b a2 b2 f g h = ap (λ x. x || b2) (f refl)
+or_less false b true b2 f g h = refl
+or_less false b false b2 f g h = g h
+
+struck_by : (b : Bool) (group s : ℕ) → is_in group (if b then None else Some s) ≡ true → is_in group (Some s) ≡ true
+struck_by true group s h = absurd (cc)
+struck_by false group s h = h
+
+struck_less : (group serial : ℕ) (a : Option ℕ) → is_in group (strike serial a) ≡ true → is_in group a ≡ true
+struck_less group serial None h = h
+struck_less group serial (Some s) h = struck_by (s == serial) group s h
+
+-- what an entry awaits when it awaits a serial no longer it awaited before
+woken_less : (group serial : ℕ) (o : Occupant) → awaits_in group (woken serial o) ≡ true → awaits_in group o ≡ true
+woken_less group serial o h = or_less _ _ _ _ (struck_less group serial o.first) (struck_less group serial o.second) h
+
+-- an entry in its place awaits a serial no longer
+module _ (serial : ℕ) (places : List Occupant) (place : ℕ) (o : Occupant) (lt : place < length places) (woke : o ≡ woken serial (get_or places place nobody)) where
+  -- who was marked is enough
+  pub marked_woken : (waiters : List ℕ) → MarkWaiters places waiters → MarkWaiters (set places place o) waiters
+  marked_woken waiters m group p h = elim (cases_eq p place) [
+    | inl q ↦
+        let now : awaits_in group o ≡ true =
+        sym (ap (awaits_in group) (ap (λ k. get_or (set places place o) k nobody) q ∙ get_or-set_same places place o nobody lt)) ∙ h in
+        let was : awaits_in group (get_or places place nobody) ≡ true = woken_less group serial (get_or places place nobody) (sym (ap (awaits_in group) woke) ∙ now) in
+        m group p (ap (λ k. awaits_in group (get_or places k nobody)) q ∙ was)
+    | inr ne ↦ m group p (sym (ap (awaits_in group) (get_or-set_other places place p o nobody ne)) ∙ h)
+  ]
+
+  -- so is who is marked when its own mark goes from a group of which it awaits none
+  pub marked_out : (waiters : List ℕ) (group word : ℕ) → group < length waiters → length places ≤ 128 → awaits_in group o ≡ false →
+      ((p : ℕ) → p < 128 → p ≢ place → bit_at word p ≡ bit_at (get_or waiters group 0) p) → MarkWaiters places waiters →
+      MarkWaiters (set places place o) (set waiters group word)
+  marked_out waiters group word low few none others m g p h = elim (cases_eq g group) [
+    | inl same ↦
+        let there : awaits_in group (get_or (set places place o) p nobody) ≡ true = ap (λ k. awaits_in k (get_or (set places place o) p nobody)) (sym same) ∙ h in
+        let ne : p ≡ place → ⊥ = λ q.
+        let here : awaits_in group (get_or (set places place o) p nobody) ≡ awaits_in group o =
+        ap (awaits_in group) (ap (λ k. get_or (set places place o) k nobody) q ∙ get_or-set_same places place o nobody lt) in
+        true≢false (sym there ∙ here ∙ none) in
+        let p_low = in_place group p places (sym (ap (awaits_in group) (get_or-set_other places place p o nobody ne)) ∙ there) in
+        ap (λ w. bit_at w p) (ap (λ k. get_or (set waiters group word) k 0) same ∙ get_or-set_same waiters group word 0 low)
+        ∙ others p (omega (arith, p_low, few)) ne ∙ ap (λ k. bit_at (get_or waiters k 0) p) (sym same) ∙ marked_woken waiters m g p h
+    | inr other ↦ ap (λ w. bit_at w p) (get_or-set_other waiters group g word 0 other) ∙ marked_woken waiters m g p h
+  ]
 
 -- the places are woken up to one from which on they are as they were
 module _ (serial : ℕ) (old places : List Occupant) (waiters : List ℕ) (from room : ℕ) (long : room ≡ length places) (m : MarkWaiters places waiters)

@@ -1,6 +1,9 @@
 -- The commands of the tool, as clap's written definition takes them (docs/formats.md, "Words").
-use Rattle.std.specs.Prelude.{ℕ, if◌then◌else◌, option_map, option_and_then, List, [], ◌∷◌, Option, Some, None, true, false, codes}
-use Rattle.clap.specs.Words.{Kinds, fault_of, subcommand_of, first_of, Row, Rule, Text, App, Shape, new_rule, new_app, with_rule, with_subcommand}
+use Rattle.std.specs.Prelude.{◌≡◌, Result, IfOk, ℕ, if◌then◌else◌, option_map, option_and_then, List, [], ◌∷◌, Option, Some, None, true, false, codes}
+use Rattle.std.specs.declared.alloc.AllocError.{AllocError}
+use Rattle.clap.specs.declared.builder.command.Command.{Command as Parser}
+use Rattle.clap.specs.declared.builder.command.Command.TheViews.{out-Command}
+use Rattle.clap.specs.Words.{Kinds, app_of, shape_of, fault_of, subcommand_of, first_of, Row, Rule, Text, App, Shape, new_rule, new_app, with_rule, with_subcommand}
 use Rattle.std.specs.Str.{bytes_eq}
 use Rattle.std.specs.Str.Parse.{digits_value, without_leading_plus}
 use Rattle.clap.specs.ValueTests.{accepts}
@@ -59,6 +62,14 @@ abbrev pub tool_app : App
 tool_app =
     with_subcommand (with_subcommand (with_subcommand (with_subcommand (with_subcommand bare_app isa_shape) (cycles_shape (codes "run"))) (cycles_shape (codes "trace"))) bench_shape)
     pair_shape
+
+-- a parser that was made, where there was memory for it: what clap's definition takes by it, and that its commands share no argument
+abbrev pub IsParser : App → Result Parser AllocError → Type 0
+IsParser app made = IfOk made (λ parser. (app_of parser ≡ app) × ((out-Command parser).has_globals ≡ false))
+
+-- a parser that was made for a command of this shape
+abbrev pub IsCommand : Shape → Result Parser AllocError → Type 0
+IsCommand shape made = IfOk made (λ parser. (shape_of parser ≡ shape) × ((out-Command parser).has_globals ≡ false))
 
 -- the kinds of fault that clap finds in the words
 unfoldable pub faults : List Text → Kinds

@@ -5,9 +5,9 @@
 #![tactic(auto)]
 
 ghost use Rattle.std.specs.Prelude.{◌≡◌, IfOk, map, IfErr, ◌≢◌, None, Some, [], option_map, false};
-ghost use Rattle.clap.specs.Words.{rule_of, shape_of, app_of, subcommand_rows_of, rows_of, found_of, first_of};
+ghost use Rattle.clap.specs.Words.{App, Rule, Shape, rule_of, app_of, with_rule, with_subcommand, subcommand_rows_of, rows_of, found_of, first_of};
 ghost use Rattle.clap.specs.declared.builder.command.Command.TheViews.{out-Command};
-ghost use Rattle.tool_words.specs.Words.{name_rule, number_rule, text_rule, run_text, trace_text, isa_shape, cycles_rule, cycles_shape, bench_shape, pair_shape, bare_app, tool_app, faults, rows_in, command_text, number_of, number_in, word_of, word_in, blocks_of, blocks_in, isa_in, cycles_in, bench_in, pair_in, command_in, command_of};
+ghost use Rattle.tool_words.specs.Words.{name_rule, number_rule, text_rule, run_text, trace_text, cycles_rule, isa_shape, cycles_shape, bench_shape, pair_shape, bare_app, tool_app, IsParser, IsCommand, faults, rows_in, command_text, number_of, number_in, word_of, word_in, blocks_of, blocks_in, isa_in, cycles_in, bench_in, pair_in, command_in, command_of};
 
 mod blocks;
 
@@ -105,52 +105,84 @@ fn text_arg<'a>(alloc: Global, id: &'a str) -> Arg<'a>
     Arg::new(alloc, id).long(id)
 }
 
-fn isa_parser<'a>(alloc: Global) -> Result<Parser<'a>, AllocError>
-    ensures shape { IfOk result (λ c. shape_of c ≡ isa_shape) }
-    ensures here { IfOk result (λ c. (out-Command c).has_globals ≡ false) }
+// A parser with one more argument.
+fn with_arg<'a>(
+    parser: Result<Parser<'a>, AllocError>,
+    arg: Arg<'a>,
+) -> Result<Parser<'a>, AllocError>
+    requires { arg.global ≡ false }
+    ensures { (app : App) (rule : Rule) → rule_of arg.entry ≡ rule → IsParser app parser.entry → IsParser (with_rule app rule) result }
 {
-    Parser::new(alloc, "isa")
-        .arg(name_arg(alloc, "image"))?
-        .arg(number_arg(alloc, "steps", 1, STEPS_MAX))?
-        .arg(text_arg(alloc, "desc"))
+    parser?.arg(arg)
+}
+
+// A parser with one more command. What isn't used is let go whole: behind a `?` each of its fields would be let go by itself,
+// which takes the proof three times as long.
+fn with_command<'a>(
+    parser: Result<Parser<'a>, AllocError>,
+    command: Result<Parser<'a>, AllocError>,
+) -> Result<Parser<'a>, AllocError>
+    ensures { (app : App) (shape : Shape) → IsCommand shape command.entry → IsParser app parser.entry
+        → IsParser (with_subcommand app shape) result }
+{
+    match parser {
+        Ok(parser) => match command {
+            Ok(command) => parser.subcommand(command),
+            Err(error) => {
+                drop(parser);
+                Err(error)
+            }
+        },
+        Err(error) => {
+            drop(command);
+            Err(error)
+        }
+    }
+}
+
+fn isa_parser<'a>(alloc: Global) -> Result<Parser<'a>, AllocError>
+    ensures { IsCommand isa_shape result }
+{
+    let parser = Ok(Parser::new(alloc, "isa"));
+    let parser = with_arg(parser, name_arg(alloc, "image"));
+    let parser = with_arg(parser, number_arg(alloc, "steps", 1, STEPS_MAX));
+    with_arg(parser, text_arg(alloc, "desc"))
 }
 
 // The parser of `run` or of `trace`.
 fn cycles_parser<'a>(alloc: Global, name: &'a str) -> Result<Parser<'a>, AllocError>
-    ensures shape { IfOk result (λ c. shape_of c ≡ cycles_shape name.now) }
-    ensures here { IfOk result (λ c. (out-Command c).has_globals ≡ false) }
+    ensures { IsCommand (cycles_shape name.now) result }
 {
-    Parser::new(alloc, name)
-        .arg(name_arg(alloc, "description"))?
-        .arg(name_arg(alloc, "image"))?
-        .arg(cycles_arg(alloc))
+    let parser = Ok(Parser::new(alloc, name));
+    let parser = with_arg(parser, name_arg(alloc, "description"));
+    let parser = with_arg(parser, name_arg(alloc, "image"));
+    with_arg(parser, cycles_arg(alloc))
 }
 
 fn bench_parser<'a>(alloc: Global) -> Result<Parser<'a>, AllocError>
-    ensures shape { IfOk result (λ c. shape_of c ≡ bench_shape) }
-    ensures here { IfOk result (λ c. (out-Command c).has_globals ≡ false) }
+    ensures { IsCommand bench_shape result }
 {
-    Parser::new(alloc, "bench")
-        .arg(name_arg(alloc, "description"))?
-        .arg(number_arg(alloc, "seed", 0, u64::MAX))?
-        .arg(number_arg(alloc, "blocks", 1, BLOCKS_MAX as u64))?
-        .arg(cycles_arg(alloc))
+    let parser = Ok(Parser::new(alloc, "bench"));
+    let parser = with_arg(parser, name_arg(alloc, "description"));
+    let parser = with_arg(parser, number_arg(alloc, "seed", 0, u64::MAX));
+    let parser = with_arg(parser, number_arg(alloc, "blocks", 1, BLOCKS_MAX as u64));
+    with_arg(parser, cycles_arg(alloc))
 }
 
 fn pair_parser<'a>(alloc: Global) -> Result<Parser<'a>, AllocError>
-    ensures shape { IfOk result (λ c. shape_of c ≡ pair_shape) }
-    ensures here { IfOk result (λ c. (out-Command c).has_globals ≡ false) }
+    ensures { IsCommand pair_shape result }
 {
-    Parser::new(alloc, "pair")
-        .arg(name_arg(alloc, "description"))?
-        .arg(name_arg(alloc, "image"))?
-        .arg(name_arg(alloc, "image2"))?
-        .arg(cycles_arg(alloc))
+    let parser = Ok(Parser::new(alloc, "pair"));
+    let parser = with_arg(parser, name_arg(alloc, "description"));
+    let parser = with_arg(parser, name_arg(alloc, "image"));
+    let parser = with_arg(parser, name_arg(alloc, "image2"));
+    with_arg(parser, cycles_arg(alloc))
 }
 
 // A parser with no command so far: no help, no version, and the words begin with the command.
 fn bare_parser<'a>(alloc: Global) -> Parser<'a>
-    ensures { app_of result ≡ bare_app }
+    ensures app { app_of result ≡ bare_app }
+    ensures here { (out-Command result).has_globals ≡ false }
 {
     Parser::new(alloc, "stt")
         .no_binary_name(true)
@@ -163,12 +195,12 @@ fn bare_parser<'a>(alloc: Global) -> Parser<'a>
 fn tool_parser<'a>(alloc: Global) -> Result<Parser<'a>, AllocError>
     ensures { IfOk result (λ c. app_of c ≡ tool_app) }
 {
-    bare_parser(alloc)
-        .subcommand(isa_parser(alloc)?)?
-        .subcommand(cycles_parser(alloc, "run")?)?
-        .subcommand(cycles_parser(alloc, "trace")?)?
-        .subcommand(bench_parser(alloc)?)?
-        .subcommand(pair_parser(alloc)?)
+    let parser = Ok(bare_parser(alloc));
+    let parser = with_command(parser, isa_parser(alloc));
+    let parser = with_command(parser, cycles_parser(alloc, "run"));
+    let parser = with_command(parser, cycles_parser(alloc, "trace"));
+    let parser = with_command(parser, bench_parser(alloc));
+    with_command(parser, pair_parser(alloc))
 }
 
 // What clap finds in the words.
