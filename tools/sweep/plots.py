@@ -4,7 +4,7 @@ from html import escape
 
 from view.description import OFF
 
-from . import results
+from . import results, settings
 
 COLOURS = ["#555555", "#2e86c1", "#c0392b", "#7fb3d5", "#e6a49c"]
 HEIGHT, LEFT, TOP, BOTTOM, RIGHT = 190, 58, 46, 44, 16
@@ -185,3 +185,5 @@ def summary(found):
         means = [(defence, [row.slowdown for row in rows if row.defence == defence]) for defence in results.defences_of(rows)]
         if means:
             yield f"{title}: mean slowdown " + ", ".join(f"{percent(results.mean(each))} under {defence}" for defence, each in means)
+    if any(row.slowdown is not None and row.slowdown < 0 for row in found):
+        yield f"Some are faster than without protection. {settings.FASTER}"

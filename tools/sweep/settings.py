@@ -9,6 +9,10 @@ MODEL, DEFENCE = "stt.model", "stt.defence"
 # nothing protected; then each defence under each model
 DEFENCES = [{MODEL: OFF, DEFENCE: STT}, {MODEL: SPECTRE, DEFENCE: STT}, {MODEL: FUTURISTIC, DEFENCE: STT}, {MODEL: SPECTRE, DEFENCE: HOLD},
             {MODEL: FUTURISTIC, DEFENCE: HOLD}]
+# why a protected run may be the shorter one
+FASTER = ("A branch on a wrong path that is resolved teaches the predictor, and a load there brings lines and takes ports; a defence holds "
+          "some of them until they are dropped, so that the right path may find truer counters and freer ports. "
+          "`tools/view/view stats` counts both.")
 
 
 def told(values):
@@ -31,7 +35,7 @@ def parsed(text, name):
 
 def with_values(text, values, name):
     """The text of a description with these values, each in the place of the key's own or at the head of its table."""
-    for key, value in values.items():
+    for key, value in reversed(values.items()):
         text = with_value(text, key, value, name)
     found = parsed(text, name)
     wrong = [key for key, value in values.items() if found.get(key) != value]
