@@ -164,7 +164,7 @@ def write_file(lines, name):
     held = [next(lines, None)]
     try:
         with open(name, "w", encoding="utf-8") as file:
-            return write(chained(held, lines), file)
+            return write(chained(held, lines), file, name)
     except BrokenPipeError:
         raise
     except OSError as error:
@@ -176,7 +176,7 @@ def chained(held, lines):
     return (yield from lines)
 
 
-def write(lines, file):
+def write(lines, file, name="standard output"):
     """Writes the lines, and answers the status that stands behind them."""
     try:
         while True:
@@ -189,4 +189,4 @@ def write(lines, file):
     except BrokenPipeError:
         raise
     except OSError as error:
-        raise Fault(f"the output can't be written: {error.strerror}") from None
+        raise Fault(f"{name}: {error.strerror}") from None
