@@ -2,6 +2,7 @@
 import argparse
 import os
 import sys
+from itertools import islice
 
 from . import Fault, difference, drawing, konata, listing, o3, page, stats, why
 from .description import read_description
@@ -41,13 +42,20 @@ def parser():
         sub.add_argument("--notation", choices=(CALLERS, MANUAL, KINDS), default=CALLERS,
                          help="names of registers and aliases as compilers write them, x-numbers as in docs/, or kinds alone")
         if name in WINDOWED:
-            sub.add_argument("--from", dest="first", type=int, metavar="CYCLE", help="from this cycle on")
-            sub.add_argument("--to", dest="last", type=int, metavar="CYCLE", help="up to this cycle")
+            sub.add_argument("--from", dest="first", type=cycle_number, metavar="CYCLE", help="from this cycle on")
+            sub.add_argument("--to", dest="last", type=cycle_number, metavar="CYCLE", help="up to this cycle")
         if name == "why":
             sub.add_argument("--summary", action="store_true", help="the sums alone")
         if name in ("svg", "html"):
             sub.add_argument("--title", action="append", metavar="TEXT", help="a title for each trace; its name if left out")
     return whole
+
+
+def cycle_number(text):
+    """A cycle: 1 or more."""
+    if not text.isdecimal() or int(text) < 1:
+        raise argparse.ArgumentTypeError(f"`{text}` is no cycle; the first one is 1")
+    return int(text)
 
 
 class Inputs:
@@ -58,6 +66,9 @@ class Inputs:
         self.names = words.trace
         if len(self.names) > TWO.get(words.what, 1):
             raise Fault(f"{words.what} takes {TWO.get(words.what, 1)} traces at most")
+        first, last = getattr(words, "first", None), getattr(words, "last", None)
+        if first and last and first > last:
+            raise Fault(f"--from {first} is behind --to {last}")
         self.images = [Image(name) for name in words.image]
         self.disassemblers = [Disassembler(image, words.notation) for image in self.images]
         self.descriptions = [read_description(name) for name in words.description]
@@ -66,7 +77,7 @@ class Inputs:
         return values[min(side, len(values) - 1)]
 
     def trace(self, side):
-        return Trace(Progress(open_trace(self.names[side])))
+        return Trace(Progress(open_trace(self.names[side]), self.names[side]))
 
     def replay(self, side):
         return Replay(self.trace(side), self.of(self.images, side), self.of(self.descriptions, side))
@@ -83,15 +94,25 @@ def lines_of(words, inputs):
         yield from lines_of_picture(words, inputs)
         return 0
     replay, disassembler = inputs.replay(0), inputs.disassembler(0)
+    first = getattr(words, "first", None) or 1
     if words.what == "stats":
         yield from stats.lines_of(replay, disassembler)
     elif words.what == "why":
-        yield from why.lines_of(replay, disassembler, words.first or 1, words.last, words.summary)
+        yield from there(why.lines_of(replay, disassembler, first, words.last, words.summary), replay, first)
         return 1 if replay.reasons.unexplained else 0
     else:
         write = {"list": listing, "konata": konata, "o3": o3}[words.what]
-        yield from write.lines_of(replay, disassembler, words.first or 1, words.last)
+        yield from there(write.lines_of(replay, disassembler, first, words.last), replay, first)
     return 0
+
+
+def there(lines, replay, first):
+    """The lines of a span of cycles, once it is known that the trace reaches to the first of them: the header waits for that."""
+    held = list(islice(lines, 2))
+    if replay.pipeline.cycle < first:
+        raise Fault(f"--from {first} is behind the last cycle of the trace, {replay.pipeline.cycle}")
+    yield from held
+    yield from lines
 
 
 def lines_of_diff(inputs):
@@ -111,18 +132,21 @@ def lines_of_picture(words, inputs):
     for side in sides:
         title = words.title[side] if words.title and side < len(words.title) else os.path.basename(inputs.names[side])
         mark = marks[side] if marks else None
-        panels.append(drawing.Panel(title, inputs.replay(side), inputs.disassembler(side), (first, last), mark))
+        replay = inputs.replay(side)
+        panels.append(drawing.Panel(title, replay, inputs.disassembler(side), (first, last), mark))
+        if replay.pipeline.cycle < first:
+            raise Fault(f"--from {first} is behind the last cycle of the trace, {replay.pipeline.cycle}")
     yield (page.page if words.what == "html" else drawing.picture)(panels)
 
 
 def main(arguments=None):
-    """The command: its status is 0, or 1 where traces differ or a wait is unexplained, or 2 with a word on what is wrong."""
-    words = parser().parse_args(arguments)
+    """The command: its status is 0, or 1 where traces differ or a wait is unexplained, or 2 with a word on what is wrong, or 130 where it
+    is interrupted."""
     try:
+        words = parser().parse_args(arguments)
         lines = lines_of(words, Inputs(words))
         if words.output:
-            with open(words.output, "w", encoding="utf-8") as file:
-                return write(lines, file)
+            return write_file(lines, words.output)
         return write(lines, sys.stdout)
     except Fault as fault:
         print(f"view: {fault}", file=sys.stderr)
@@ -130,13 +154,39 @@ def main(arguments=None):
     except BrokenPipeError:
         os.dup2(os.open(os.devnull, os.O_WRONLY), sys.stdout.fileno())
         return 0
+    except KeyboardInterrupt:
+        print("view: interrupted", file=sys.stderr)
+        return 130
 
 
-def write(lines, file):
+def write_file(lines, name):
+    """Writes the lines to a file of this name, which is made once the first of them is there."""
+    held = [next(lines, None)]
+    try:
+        with open(name, "w", encoding="utf-8") as file:
+            return write(chained(held, lines), file, name)
+    except BrokenPipeError:
+        raise
+    except OSError as error:
+        raise Fault(f"{name}: {error.strerror}") from None
+
+
+def chained(held, lines):
+    yield from held
+    return (yield from lines)
+
+
+def write(lines, file, name="standard output"):
     """Writes the lines, and answers the status that stands behind them."""
-    while True:
-        try:
-            file.write(next(lines) + "\n")
-        except StopIteration as stop:
-            file.flush()
-            return stop.value
+    try:
+        while True:
+            try:
+                line = next(lines)
+            except StopIteration as stop:
+                file.flush()
+                return stop.value
+            file.write(line + "\n")
+    except BrokenPipeError:
+        raise
+    except OSError as error:
+        raise Fault(f"{name}: {error.strerror}") from None

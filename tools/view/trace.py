@@ -1,7 +1,9 @@
 """The text that `trace` writes, as rows (docs/formats.md, "The trace")."""
 import gzip
+import os
 import re
 import sys
+import zlib
 from typing import NamedTuple
 
 from . import Fault
@@ -58,7 +60,7 @@ class Trace:
     """The rows of a trace, to be read once and in order.
 
     `end` is the last line, once the rows are read; it is None where the text stops short of one, as a trace does that
-    couldn't be written whole. A line without its newline is such a torn end, and is left out.
+    couldn't be written whole. A line without its newline is such a torn end, and is left out. A text without any cycle is refused.
     """
 
     def __init__(self, lines):
@@ -77,6 +79,8 @@ class Trace:
                 yield row
             number += 1
             row = read_row(line, number)
+        if row is None:
+            raise Fault("the trace is empty: it has no cycle")
         if row:
             yield row._replace(ends=self.end is not None and self.end.how != "budget")
 
@@ -101,8 +105,23 @@ def open_trace(name):
     """The file of a trace, `-` for standard input; where the name ends in `.gz` it is unpacked."""
     try:
         if name == "-":
+            sys.stdin.reconfigure(encoding="ascii")
             return sys.stdin
-        return gzip.open(name, "rt") if name.endswith(".gz") else open(name, encoding="ascii")
+        return gzip.open(name, "rt", encoding="ascii") if name.endswith(".gz") else open(name, encoding="ascii")
+    except OSError as error:
+        raise Fault(f"{name}: {error.strerror}") from None
+
+
+def lines_of_file(file, name):
+    """The lines of a trace's file. A compressed file that is cut ends where it is cut, as a text does; what is no text is refused."""
+    try:
+        yield from file
+    except EOFError:
+        return
+    except UnicodeDecodeError as error:
+        raise Fault(f"{name}: no text of a trace: byte {error.object[error.start]:02x}") from None
+    except (gzip.BadGzipFile, zlib.error):
+        raise Fault(f"{name}: not compressed by gzip, or damaged") from None
     except OSError as error:
         raise Fault(f"{name}: {error.strerror}") from None
 
@@ -112,20 +131,30 @@ class Progress:
 
     EVERY = 20000
 
-    def __init__(self, file, screen=sys.stderr):
-        self.file, self.screen, self.shown = file, screen, screen.isatty()
+    def __init__(self, file, name="the trace", screen=sys.stderr):
+        self.file, self.lines, self.screen, self.shown = file, lines_of_file(file, name), screen, screen.isatty()
 
     def __iter__(self):
+        return self.with_progress() if self.shown else self.lines
+
+    def with_progress(self):
         try:
-            for number, line in enumerate(self.file):
-                if self.shown and number % self.EVERY == 0:
-                    self.show(f"cycle {number}")
+            for number, line in enumerate(self.lines):
+                if number % self.EVERY == 0:
+                    self.show(f"cycle {number}{self.share()}")
                 yield line
         finally:
-            if self.shown:
-                self.show("")
-                self.screen.write("\r")
+            self.show("")
+            self.screen.write("\r")
+
+    def share(self):
+        """How much of the file is read, where that is known."""
+        try:
+            raw = self.file.buffer.raw
+            return f", {100 * raw.tell() // max(os.fstat(raw.fileno()).st_size, 1)} % of the trace"
+        except (AttributeError, OSError):
+            return ""
 
     def show(self, text):
-        self.screen.write(f"\r{text:16}")
+        self.screen.write(f"\r{text:40}")
         self.screen.flush()
