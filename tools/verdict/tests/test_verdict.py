@@ -112,7 +112,7 @@ class Gadgets(unittest.TestCase):
                     self.assertEqual(case.pair.unequal, parted)
 
     def test_fault_shadow_parts(self):
-        """The first unequal event is the load behind the secret, in cycle 16: docs/machine.md, "Fault shadow"."""
+        """The first unequal event is the load behind the secret, in cycle 16: docs/traces.md, "Fault shadow"."""
         told = command("verdict", CORE, *(gadget_file("fault_shadow", data) for data in HIDES)).stdout
         self.assertIn("traces        first unequal cycle: 16\n", told)
         self.assertRegex(told, r"only A: ld:5:0001f900:m .*00010014")

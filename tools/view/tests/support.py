@@ -95,7 +95,7 @@ def worked_trace(heading):
 
 def worked_rows(heading):
     """The lines of a worked trace as the page has them, by cycle; the last one by `end`."""
-    with open(os.path.join(ROOT, "docs", "machine.md"), encoding="utf-8") as file:
+    with open(os.path.join(ROOT, "docs", "traces.md"), encoding="utf-8") as file:
         section = file.read().split(f"\n### {heading}\n")[1].split("\n### ")[0]
     rows = next(block for block in section.split("```")[1::2] if re.match(r"\n\d+ \w+:", block)).strip().splitlines()
     return {int(cycle) if cycle.isdigit() else cycle: row for cycle, row in ((row.split()[0], row) for row in rows)}

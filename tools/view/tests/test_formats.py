@@ -1,4 +1,4 @@
-"""What the subcommands write of the worked bounds check (docs/machine.md, "Worked traces"): a run of 21 cycles in which 13
+"""What the subcommands write of the worked bounds check (docs/traces.md): a run of 21 cycles in which 13
 items are fetched, 7 of them are dropped in cycle 17, and 5 instructions retire."""
 import re
 import unittest
