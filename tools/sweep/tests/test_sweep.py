@@ -4,6 +4,7 @@ import csv
 import json
 import os
 import re
+import shutil
 import signal
 import subprocess
 import sys
@@ -235,6 +236,36 @@ class WithProgram(Folder):
         told = self.sweep(self.out, "--programs", gadget, "--descriptions", os.path.join(ROOT, "examples", "core_passing.toml"), "--defences")
         self.assertEqual((told.returncode, told.stderr), (0, ""))
         self.assertEqual([(row["end"], row["cycles"]) for row in self.rows()], [("exit 0", "21")] * 5)
+
+
+GCC = "riscv64-unknown-elf-gcc"
+
+
+@unittest.skipUnless(PROGRAM, "the program isn't built")
+@unittest.skipUnless(shutil.which("make") and shutil.which(GCC), "no make or gcc for RISC-V")
+class Results(Folder):
+    """Rows of the table of docs/results.md are what its command finds, with the compiler that it names."""
+
+    NAMES = ("chacha", "compress", "matrix")
+
+    def test_rows(self):
+        version = subprocess.run([GCC, "-dumpversion"], capture_output=True, text=True, check=True).stdout.strip()
+        if not version.startswith("12.2"):
+            self.skipTest("the table is of gcc 12.2")
+        images = [os.path.join(self.folder, "gcc", "programs", f"{name}.elf") for name in self.NAMES]
+        subprocess.run(["make", "-s", "-C", os.path.join(ROOT, "examples", "c"), f"BUILD={self.folder}", *images], check=True)
+        told = self.sweep(self.out, "--programs", *images, "--descriptions", os.path.join(ROOT, "examples", "desktop.toml"), "--defences")
+        self.assertEqual((told.returncode, told.stderr), (0, ""))
+        found = {}
+        for row in self.rows():
+            cells = found.setdefault(row["program"], [row["retired"], row["cycles"]])
+            if row["defence"] != "off":
+                cells.append(f"{100 * float(row['slowdown']):+.1f}")
+        with open(os.path.join(ROOT, "docs", "results.md"), encoding="utf-8") as file:
+            page = file.read()
+        for name in self.NAMES:
+            cells = [cell.strip() for cell in re.search(rf"^\| `{name}` \|[^|]*\|(.*)\|$", page, re.M)[1].split("|")]
+            self.assertEqual([cell.replace("-0.0", "0.0").replace("+0.0", "0.0") for cell in found[name]], cells, name)
 
 
 if __name__ == "__main__":
