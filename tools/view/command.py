@@ -4,7 +4,7 @@ import os
 import sys
 from itertools import islice
 
-from . import Fault, difference, drawing, konata, listing, o3, page, stats, why
+from . import Fault, annotate, compare, difference, drawing, konata, listing, numbers, o3, page, stack, stats, why
 from .description import read_description
 from .disassembly import CALLERS, KINDS, MANUAL, Disassembler
 from .image import Image
@@ -12,7 +12,10 @@ from .replay import Replay
 from .trace import Progress, Trace, open_trace
 
 SUBCOMMANDS = {
-    "stats": "the numbers of the run: cycles, what was fetched, retired, squashed, held by taint, and where time went",
+    "stats": "the numbers of the run: cycles, what was fetched, retired, squashed, held by taint, and where time went; of two runs, how "
+             "they differ by reason and by function",
+    "stack": "the CPI stack, of one run or of several side by side: for each slot of retirement the reason that it has",
+    "annotate": "source lines or instructions, by function, with counts beside each: retired, cycles, waits, misses, mispredictions",
     "why": "the reason of each wait and of each cycle in which rename stops short; status 1 if anything is unexplained",
     "list": "one line an instruction with all its times",
     "diff": "the first unequal cycle of two traces and the events that only one has; status 1 if they differ",
@@ -21,8 +24,9 @@ SUBCOMMANDS = {
     "svg": "a picture, cycles against instructions; of two traces side by side, with the first unequal cycle framed",
     "html": "the same as a page, with a text for each instruction under the pointer",
 }
-TWO = {"diff": 2, "svg": 2, "html": 2}
-WINDOWED = ("why", "list", "konata", "o3", "svg", "html")
+# how many traces a subcommand takes at most, where it isn't one
+MOST = {"diff": 2, "svg": 2, "html": 2, "stats": 2, "stack": 32}
+WINDOWED = ("why", "list", "konata", "o3", "svg", "html", "stats", "stack", "annotate")
 
 
 def parser():
@@ -32,7 +36,7 @@ def parser():
     subs = whole.add_subparsers(dest="what", required=True, metavar="SUBCOMMAND")
     for name, text in SUBCOMMANDS.items():
         sub = subs.add_parser(name, help=text, description=text)
-        sub.add_argument("trace", nargs="+" if name in ("svg", "html") else TWO.get(name, 1), metavar="TRACE",
+        sub.add_argument("trace", nargs=2 if name == "diff" else "+" if name in MOST else 1, metavar="TRACE",
                          help="what `trace` wrote; - is standard input, a name in .gz is unpacked")
         sub.add_argument("-e", "--image", action="append", required=True, metavar="IMAGE",
                          help="the image of the run; given twice, the images of two traces")
@@ -46,7 +50,16 @@ def parser():
             sub.add_argument("--to", dest="last", type=cycle_number, metavar="CYCLE", help="up to this cycle")
         if name == "why":
             sub.add_argument("--summary", action="store_true", help="the sums alone")
-        if name in ("svg", "html"):
+        if name in ("stats", "annotate"):
+            sub.add_argument("--function", metavar="NAME", help="what is of this function alone")
+        if name == "stats":
+            sub.add_argument("--json", action="store_true", help="as a JSON object; of two runs, as a list of two")
+            sub.add_argument("--top", type=cycle_number, default=stats.MOST, metavar="N", help="this many places, and functions (default 10)")
+        if name == "annotate":
+            sub.add_argument("--instructions", action="store_true", help="instructions, also where the image tells source lines")
+        if name == "stack":
+            sub.add_argument("--svg", action="store_true", help="bars as SVG in place of a table")
+        if name in ("svg", "html", "stack"):
             sub.add_argument("--title", action="append", metavar="TEXT", help="a title for each trace; its name if left out")
     return whole
 
@@ -64,8 +77,8 @@ class Inputs:
     def __init__(self, words):
         self.words = words
         self.names = words.trace
-        if len(self.names) > TWO.get(words.what, 1):
-            raise Fault(f"{words.what} takes {TWO.get(words.what, 1)} traces at most")
+        if len(self.names) > MOST.get(words.what, 1):
+            raise Fault(f"{words.what} takes {MOST.get(words.what, 1)} traces at most")
         first, last = getattr(words, "first", None), getattr(words, "last", None)
         if first and last and first > last:
             raise Fault(f"--from {first} is behind --to {last}")
@@ -75,6 +88,11 @@ class Inputs:
 
     def of(self, values, side):
         return values[min(side, len(values) - 1)]
+
+    def title(self, side):
+        """The title of a trace, or its name."""
+        titles = getattr(self.words, "title", None) or []
+        return titles[side] if side < len(titles) else os.path.basename(self.names[side])
 
     def trace(self, side):
         return Trace(Progress(open_trace(self.names[side]), self.names[side]))
@@ -90,20 +108,36 @@ def lines_of(words, inputs):
     """The lines that a subcommand writes, and then its status."""
     if words.what == "diff":
         return (yield from lines_of_diff(inputs))
+    if words.what in ("stats", "stack", "annotate"):
+        yield from lines_of_runs(words, inputs)
+        return 0
     if words.what in ("svg", "html"):
         yield from lines_of_picture(words, inputs)
         return 0
     replay, disassembler = inputs.replay(0), inputs.disassembler(0)
     first = getattr(words, "first", None) or 1
-    if words.what == "stats":
-        yield from stats.lines_of(replay, disassembler)
-    elif words.what == "why":
+    if words.what == "why":
         yield from there(why.lines_of(replay, disassembler, first, words.last, words.summary), replay, first)
         return 1 if replay.reasons.unexplained else 0
     else:
         write = {"list": listing, "konata": konata, "o3": o3}[words.what]
         yield from there(write.lines_of(replay, disassembler, first, words.last), replay, first)
     return 0
+
+
+def lines_of_runs(words, inputs):
+    """What is told of whole runs: their numbers, their stacks, their lines."""
+    span, function = (words.first or 1, words.last), getattr(words, "function", None)
+    runs = [stats.Run(inputs.title(side), inputs.replay(side), inputs.disassembler(side), span, function)
+            for side in range(len(inputs.names))]
+    if words.what == "stack":
+        stacks = [stack.Run(run.name, run.slots) for run in runs]
+        return iter([stack.picture(stacks)]) if words.svg else stack.table(stacks)
+    if words.what == "annotate":
+        return annotate.lines_of(runs[0], not words.instructions)
+    if words.json:
+        return numbers.lines_of(runs, words.top)
+    return stats.lines_of(runs[0], words.top) if len(runs) == 1 else compare.lines_of(runs, words.top)
 
 
 def there(lines, replay, first):
@@ -130,10 +164,9 @@ def lines_of_picture(words, inputs):
     last = words.last or first + drawing.SPAN - 1
     panels = []
     for side in sides:
-        title = words.title[side] if words.title and side < len(words.title) else os.path.basename(inputs.names[side])
         mark = marks[side] if marks else None
         replay = inputs.replay(side)
-        panels.append(drawing.Panel(title, replay, inputs.disassembler(side), (first, last), mark))
+        panels.append(drawing.Panel(inputs.title(side), replay, inputs.disassembler(side), (first, last), mark))
         if replay.pipeline.cycle < first:
             raise Fault(f"--from {first} is behind the last cycle of the trace, {replay.pipeline.cycle}")
     yield (page.page if words.what == "html" else drawing.picture)(panels)

@@ -52,21 +52,22 @@ class FrontEnd:
             self.tell(f"entry {serial} is renamed, but has to wait: {reason}")
 
     def after_rename(self, count):
-        """Fewer than the width were renamed: nothing was left, or the front of the queue couldn't go."""
+        """Fewer than the width were renamed: nothing was left, or the front of the queue couldn't go. Answers why it couldn't."""
         if count > self.description.fetch_width:
             self.tell(f"{count} items are renamed")
         if count >= self.description.fetch_width:
-            return
+            return None
         if not self.pipeline.queue:
-            self.rename[QUEUE_EMPTY] += 1
-            return
+            self.rename[QUEUE_EMPTY] += self.pipeline.counts
+            return None
         front = self.pipeline.queue[0]
         reason = self.to_rename(front)
         if reason is None:
             self.tell(f"the item of {front.pc:08x} isn't renamed, and nothing tells why")
-            return
-        self.rename[reason] += 1
+            return None
+        self.rename[reason] += self.pipeline.counts
         self.keep_stall(reason, front.pc)
+        return reason
 
     def keep_stall(self, reason, pc):
         last, cycle = self.stalls[-1] if self.stalls else None, self.pipeline.cycle
@@ -96,6 +97,6 @@ class FrontEnd:
         if len(fetched) < width:
             full = len(queue) >= self.description.queue
             if full or not self.fetching:
-                self.fetch[QUEUE_FULL if full else NOTHING_TO_FETCH] += 1
+                self.fetch[QUEUE_FULL if full else NOTHING_TO_FETCH] += self.pipeline.counts
             else:
                 self.tell("fetch stops short, and nothing tells why")

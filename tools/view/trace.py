@@ -17,6 +17,7 @@ EVENTS = {
     "ret": (RETIRE, 2), "st": (RETIRE, 4), "call": (RETIRE, 3), "alu": (ISSUE, 2), "mul": (ISSUE, 2), "div": (ISSUE, 3),
     "agu": (ISSUE, 2), "std": (ISSUE, 2), "ld": (ISSUE, 4), "pf": (ISSUE, 3), "ren": (RENAME, 3), "fet": (FETCH, 2),
 }
+NONE = (None, 0)
 WITHOUT_LINE = ("f", "x")
 # how the line of a load, of a store, and one that is prefetched may be found
 FOUND = {"ld": ("h", "m", "j", "2"), "st": ("h", "m"), "pf": ("m", "2")}
@@ -34,14 +35,15 @@ class Row(NamedTuple):
     def phases(self):
         """The events of each phase, as lists of their words: `["ld", "3", "0001fff0", "m"]`. What is dropped behind a violation is
         of Clear."""
-        phases = [[] for _ in range(FETCH + 1)]
+        phases = [], [], [], [], [], [], [], []
         for text in self.events:
             words = text.split(":")
-            phase, length = EVENTS.get(words[0], (None, 0))
-            found = len(words) == length and words[-1] in FOUND.get(words[0], words)
-            if not found and not (words[0] == "ld" and len(words) == 3 and words[2] in WITHOUT_LINE):
-                raise Fault(f"cycle {self.cycle}: `{text}` is no event of a trace")
-            if words[0] == "sq" and phases[CLEAR]:
+            name = words[0]
+            phase, length = EVENTS.get(name, NONE)
+            if len(words) != length or name in FOUND and words[-1] not in FOUND[name]:
+                if not (name == "ld" and len(words) == 3 and words[2] in WITHOUT_LINE):
+                    raise Fault(f"cycle {self.cycle}: `{text}` is no event of a trace")
+            elif name == "sq" and phases[CLEAR]:
                 phase = CLEAR
             phases[phase].append(words)
         return phases

@@ -12,6 +12,7 @@ sys.path.insert(0, os.path.join(ROOT, "tools"))
 from evaluate import model
 from generate.generated import image
 from verdict.loaded import load
+from view import stats
 from view.description import OPTIONAL, read_description
 from view.disassembly import KINDS, Disassembler
 from view.image import Image
@@ -124,6 +125,11 @@ def fresh(lines, image_file, description_file):
     """A run that hasn't been taken through yet, and the texts of its instructions, which no disassembler changes."""
     loaded = Image(image_file)
     return Replay(Trace(iter(lines)), loaded, read_description(description_file)), Disassembler(loaded, KINDS)
+
+
+def taken(run, disassembler, **more):
+    """A run taken through, with its numbers."""
+    return stats.Run("a.trace", run, disassembler, **more)
 
 
 def fresh_bounds_check():

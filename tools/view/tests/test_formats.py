@@ -17,7 +17,7 @@ def lines(module, *more):
 
 class Statistics(unittest.TestCase):
     def setUp(self):
-        self.text = "\n".join(lines(stats))
+        self.text = "\n".join(stats.lines_of(support.taken(*support.fresh_bounds_check())))
 
     def has(self, *expected):
         for line in expected:
