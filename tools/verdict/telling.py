@@ -51,8 +51,21 @@ class Telling(Replay):
     def __init__(self, trace, image, description, differing):
         super().__init__(trace, image, description, Valued(image, description, differing))
         self.held, self.shown, self.loads = {}, {}, []
+        self.held_now, self.quiet = [], False
         for _ in self.items():
             pass
+
+    def step(self, row):
+        """One cycle. Behind a cycle without events another one changes nothing, and holds what that one held (docs/machine.md, "Cycles in
+        which nothing happens")."""
+        if self.quiet and not row.events and not row.ends:
+            self.pipeline.cycle = row.cycle
+            for held, item in self.held_now:
+                held.add(item)
+            return
+        self.held_now = []
+        super().step(row)
+        self.quiet = not row.events
 
     @property
     def wrong_loads(self):
@@ -195,7 +208,9 @@ class Telling(Replay):
         return bool(item.waits) and item.waits[-1].last == self.pipeline.cycle and item.waits[-1].reason == reason
 
     def holds(self, item, what):
-        self.held.setdefault((item.pc, what), Held()).add(item)
+        held = self.held.setdefault((item.pc, what), Held())
+        held.add(item)
+        self.held_now.append((held, item))
 
     def shows(self, item, marked, what=None):
         if marked:
