@@ -19,4 +19,4 @@ def case_of(program, description, one, two, cycles):
 def judged(description, machine, one, two, pair):
     """What follows from a pair of traces, and how they compare."""
     found = premises(one, two, machine, pair.ends[0].retired)
-    return Case(description, machine, one, two, pair, found, Telling(Trace(Progress(pair.one)), one, machine, found.memory))
+    return Case(description, machine, one, two, pair, found, Telling(Trace(Progress(pair.one)), one, machine, found.memory, thorough=False))

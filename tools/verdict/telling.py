@@ -45,11 +45,27 @@ class Shown(NamedTuple):
     cycle: int
 
 
-class Telling(Replay):
-    """`held` and `shown`, by an instruction's address and what of it shows; `loads` are the loads of differing bytes."""
+def nothing(*told):
+    return None
 
-    def __init__(self, trace, image, description, differing):
+
+class Unasked:
+    """Stands where a replay counts or checks what a verdict doesn't ask for: whatever it is told, it does nothing."""
+
+    due, behind = (), None
+
+    def __getattr__(self, name):
+        return nothing
+
+
+class Telling(Replay):
+    """`held` and `shown`, by an instruction's address and what of it shows; `loads` are the loads of differing bytes. Values are compared with
+    what the trace tells in any case; only where it is `thorough` also all that tools/view checks of a trace."""
+
+    def __init__(self, trace, image, description, differing, thorough=True):
         super().__init__(trace, image, description, Valued(image, description, differing))
+        if not thorough:
+            self.checks = self.front = self.slots = Unasked()
         self.held, self.shown, self.loads = {}, {}, []
         self.held_now, self.quiet = [], False
         for _ in self.items():

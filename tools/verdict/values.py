@@ -95,8 +95,9 @@ class Valued(Pipeline):
 
     def issue(self, item, step):
         told, computed = [words[2:] for words in step if words[0] != PREFETCH], self.told_by_issue(item, step)
-        texts = [" ".join(":".join(words) for words in events) for events in (told, computed)]
-        self.compare(item, f"tells {step[0][0]}:{texts[0]}", told == computed, texts[1])
+        if told != computed:
+            texts = [" ".join(":".join(words) for words in events) for events in (told, computed)]
+            self.differs(item, f"tells {step[0][0]}:{texts[0]}", texts[1])
         value = self.values[item.serial]
         if item.code.kind == LOAD:
             data, value.mark = self.found(item, self.located(item).bytes)
@@ -201,7 +202,8 @@ class Valued(Pipeline):
     def resolve(self, item, outcome):
         value = self.values[item.serial]
         computed = "J" if item.code.kind == JALR else "T" if value.taken else "N"
-        self.compare(item, f"is resolved as {outcome}", computed == outcome, computed)
+        if computed != outcome:
+            self.differs(item, f"is resolved as {outcome}", computed)
         super().resolve(item, outcome)
 
     def leave(self, item):
@@ -236,9 +238,9 @@ class Valued(Pipeline):
         """Each line of a store is one of those that it writes, in their order."""
         super().write(item, line, answer)
         right, place = self.to_write, len(item.written) - 1
-        self.compare(item, f"writes line {line:08x}", right[place:place + 1] == [line], " ".join(f"{line:08x}" for line in right))
+        if right[place:place + 1] != [line]:
+            self.differs(item, f"writes line {line:08x}", " ".join(f"{line:08x}" for line in right))
 
-    def compare(self, item, told, equal, computed):
-        if not equal:
-            raise Fault(f"cycle {self.cycle}: entry {item.serial} at {self.image.named(item.pc)} {told}, and {computed} is computed: "
-                        f"the trace isn't one of this image under this description")
+    def differs(self, item, told, computed):
+        raise Fault(f"cycle {self.cycle}: entry {item.serial} at {self.image.named(item.pc)} {told}, and {computed} is computed: "
+                    f"the trace isn't one of this image under this description")
