@@ -85,7 +85,7 @@ class Checks:
         """Entries issue oldest first, the address part of a store before its data part."""
         if len(steps) < 2:
             return
-        places = [(int(serial), name == DATA_PART) for (name, serial, *_), *_ in steps]
+        places = [2 * int(step[0][1]) + (step[0][0] == DATA_PART) for step in steps]
         if places != sorted(places):
             told = " ".join(":".join(words) for step in steps for words in step)
             self.tell(f"the events of Issue don't go from the oldest entry on: {told}")

@@ -1,10 +1,11 @@
 """The words of the command line, and what each subcommand does with them."""
 import argparse
+import gc
 import os
 import sys
 from itertools import islice
 
-from . import Fault, annotate, compare, difference, drawing, konata, listing, numbers, o3, page, stack, stats, why
+from . import Fault, annotate, compare, difference, drawing, index, konata, listing, numbers, o3, page, stack, stats, why
 from .description import read_description
 from .disassembly import CALLERS, KINDS, MANUAL, Disassembler
 from .image import Image
@@ -22,6 +23,7 @@ SUBCOMMANDS = {
     "konata": "the log that the viewer Konata opens (Kanata 0004)",
     "o3": "the text of gem5's O3PipeView, which o3-pipeview.py and Konata open",
     "svg": "a picture, cycles against instructions; of two traces side by side, with the first unequal cycle framed",
+    "index": "a file beside the trace, TRACE.index, by which list, konata, o3, svg and html begin at --from without what comes before",
     "html": "the same as a page, with a text for each instruction under the pointer",
 }
 # how many traces a subcommand takes at most, where it isn't one
@@ -97,8 +99,12 @@ class Inputs:
     def trace(self, side):
         return Trace(Progress(open_trace(self.names[side]), self.names[side]))
 
-    def replay(self, side):
-        return Replay(self.trace(side), self.of(self.images, side), self.of(self.descriptions, side))
+    def replay(self, side, first=1):
+        """The run; from a state before this cycle on, where the trace has an index."""
+        description = self.of(self.words.description, side)
+        image = self.of(self.images, side)
+        found = index.replay_from(self.names[side], image, description, first) if first > 1 else None
+        return found or Replay(self.trace(side), self.of(self.images, side), self.of(self.descriptions, side))
 
     def disassembler(self, side):
         return self.of(self.disassemblers, side)
@@ -114,8 +120,11 @@ def lines_of(words, inputs):
     if words.what in ("svg", "html"):
         yield from lines_of_picture(words, inputs)
         return 0
-    replay, disassembler = inputs.replay(0), inputs.disassembler(0)
-    first = getattr(words, "first", None) or 1
+    if words.what == "index":
+        yield index_made(inputs)
+        return 0
+    first, disassembler = words.first or 1, inputs.disassembler(0)
+    replay = inputs.replay(0, 1 if words.what == "why" else first)
     if words.what == "why":
         yield from there(why.lines_of(replay, disassembler, first, words.last, words.summary), replay, first)
         return 1 if replay.reasons.unexplained else 0
@@ -125,10 +134,22 @@ def lines_of(words, inputs):
     return 0
 
 
+def index_made(inputs):
+    """Makes the index of a trace, and tells what was made."""
+    name = inputs.names[0]
+    if name == "-" or not os.path.isfile(name):
+        raise Fault("index wants the file of a trace")
+    told = index.Told(Progress(open_trace(name), name))
+    replay = Replay(Trace(told), inputs.images[0], inputs.descriptions[0])
+    path, states = index.write(replay, inputs.images[0], inputs.words.description[0], name, told)
+    return f"{path}: {states} states of {replay.pipeline.cycle} cycles"
+
+
 def lines_of_runs(words, inputs):
     """What is told of whole runs: their numbers, their stacks, their lines."""
     span, function = (words.first or 1, words.last), getattr(words, "function", None)
-    runs = [stats.Run(inputs.title(side), inputs.replay(side), inputs.disassembler(side), span, function)
+    by_place = words.what == "annotate" or words.what == "stats" and (words.json or len(inputs.names) == 2)
+    runs = [stats.Run(inputs.title(side), inputs.replay(side), inputs.disassembler(side), span, function, by_place)
             for side in range(len(inputs.names))]
     if words.what == "stack":
         stacks = [stack.Run(run.name, run.slots) for run in runs]
@@ -165,7 +186,7 @@ def lines_of_picture(words, inputs):
     panels = []
     for side in sides:
         mark = marks[side] if marks else None
-        replay = inputs.replay(side)
+        replay = inputs.replay(side, first)
         panels.append(drawing.Panel(inputs.title(side), replay, inputs.disassembler(side), (first, last), mark))
         if replay.pipeline.cycle < first:
             raise Fault(f"--from {first} is behind the last cycle of the trace, {replay.pipeline.cycle}")
@@ -175,6 +196,9 @@ def lines_of_picture(words, inputs):
 def main(arguments=None):
     """The command: its status is 0, or 1 where traces differ or a wait is unexplained, or 2 with a word on what is wrong, or 130 where it
     is interrupted."""
+    # what is gone is let go of by `forget`, so nothing is left for a search of cycles of references
+    if sys.implementation.name == "cpython":
+        gc.disable()
     try:
         words = parser().parse_args(arguments)
         lines = lines_of(words, Inputs(words))

@@ -1,7 +1,7 @@
 """Why rename or fetch stops short of the width (docs/machine.md, "Rename" and "Fetch")."""
 from collections import Counter
 
-from .instruction import CALL, LOAD, STOP, STORE
+from .instruction import AT_ONCE, CALL, LOAD, STOP, STORE
 
 REORDER_BUFFER, CALL_IN_FLIGHT, LOADS, STORES, CALL_ALONE, STATIONS = (
     "reorder buffer", "call in flight", "loads", "stores", "call waits to be alone", "stations")
@@ -31,10 +31,10 @@ class FrontEnd:
 
     def to_rename(self, item):
         """The reason why the front of the queue can't go, None where it can."""
-        pipeline, description, kind = self.pipeline, self.description, item.code.kind
+        pipeline, description, kind = self.pipeline, self.description, item.kind
         if len(pipeline.window) >= description.rob:
             return REORDER_BUFFER
-        if pipeline.has_call:
+        if pipeline.window and pipeline.window[0].kind == CALL:
             return CALL_IN_FLIGHT
         if kind == LOAD and pipeline.loads >= description.loads:
             return LOADS
@@ -42,7 +42,7 @@ class FrontEnd:
             return STORES
         if kind == CALL and pipeline.window:
             return CALL_ALONE
-        if not item.code.at_once and len(pipeline.waiting) >= description.stations:
+        if len(pipeline.waiting) >= description.stations and kind not in AT_ONCE:
             return STATIONS
         return None
 

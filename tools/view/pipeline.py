@@ -5,7 +5,6 @@ This module does what the events say; whether they are what the machine's rules 
 """
 from collections import deque
 from operator import attrgetter
-from types import MappingProxyType
 
 from . import Fault
 from .description import FUTURISTIC, OFF, SPECTRE
@@ -18,6 +17,7 @@ PREFETCH = "pf"
 # the parts of a store, by the names of their events
 PARTS = ADDRESS_PART, DATA_PART = "agu", "std"
 NO_ROOTS = (), (None,), (None, None)
+NO_PARTS, NEVER_LACKING = {}, (None, 0)
 
 
 class Wait:
@@ -48,15 +48,19 @@ class Item:
     what had been charged to the defence when it was first held (`slots`).
     """
 
-    serial = renamed = ready = issued = unit = due = done = resolved = outcome = retired = squashed = trapped = output = cleared = None
-    mispredicted = passed = violated = False
-    lines = written = sources = roots = producers = sharers = consumers = waits = ()
-    awaits, parts, lacking = 0, MappingProxyType({}), (None, 0)
-    root = youngest_root = open = fill = late = since = None
+    __slots__ = ("number", "pc", "code", "kind", "serial", "fetched", "renamed", "ready", "issued", "unit", "due", "done", "resolved", "outcome",
+                 "mispredicted", "retired", "squashed", "trapped", "lines", "written", "output", "sources", "awaits", "consumers", "roots",
+                 "root", "youngest_root", "waits", "producers", "parts", "sharers", "lacking", "cleared", "passed", "violated", "open",
+                 "fill", "late", "since")
 
     def __init__(self, number, pc, code, cycle):
-        self.number, self.pc, self.code, self.fetched = number, pc, code, cycle
-        self.kind = code.kind
+        self.number, self.pc, self.code, self.kind, self.fetched = number, pc, code, code.kind, cycle
+        self.serial = self.renamed = self.ready = self.issued = self.unit = self.due = self.done = self.resolved = self.outcome = None
+        self.retired = self.squashed = self.trapped = self.output = self.cleared = None
+        self.root = self.youngest_root = self.open = self.fill = self.late = self.since = None
+        self.mispredicted = self.passed = self.violated = False
+        self.lines = self.written = self.sources = self.roots = self.producers = self.sharers = self.consumers = self.waits = ()
+        self.awaits, self.parts, self.lacking = 0, NO_PARTS, NEVER_LACKING
 
     @property
     def gone(self):
@@ -140,7 +144,7 @@ class Pipeline:
 
     def is_hidden(self, root):
         """The load isn't visible, and so what flows from it is tainted. One that has retired is."""
-        return root is not None and root.serial > self.point
+        return root is not None and bool(self.shadows) and root.serial > self.shadows[0].serial
 
     def entry(self, words):
         """The entry in flight of an event's serial."""
@@ -370,10 +374,12 @@ class Pipeline:
         """The writers of its sources, the roots of these, and how many aren't Done."""
         writers = [self.writers[register] if register else None for register in item.code.sources]
         item.sources = tuple(writers)
-        if any(writers):
+        if writers and (writers[0] is not None or writers[-1] is not None):
             item.producers = tuple([writer.number for writer in writers if writer is not None])
             item.roots = tuple([writer.root if writer is not None else None for writer in writers])
-            item.youngest_root = youngest(item.roots)
+            for root in item.roots:
+                if root is not None and (item.youngest_root is None or root.serial > item.youngest_root.serial):
+                    item.youngest_root = root
             for writer in writers:
                 if writer is not None and writer.done is None:
                     writer.consumers = writer.consumers or []

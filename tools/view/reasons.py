@@ -7,7 +7,7 @@ made from its text, the image and the description alone.
 from collections import Counter
 
 from .description import FUTURISTIC, HOLD
-from .instruction import CALL, DIVISION, LOAD, MULTIPLICATION, STORE
+from .instruction import CALL, CONTROLS, DIVISION, LOAD, MULTIPLICATION, STORE
 from .pipeline import PARTS, enter
 
 # to issue
@@ -41,6 +41,7 @@ class Reasons:
         self.pipeline, self.description = pipeline, pipeline.description
         self.unexplained, self.idle = [], Counter()
         self.presumed, self.head, self.ports, self.last_load = set(), None, {}, -1
+        self.futuristic, self.results_held = self.description.model == FUTURISTIC, self.description.defence == HOLD
         self.free_ports = {"load": 1, "store": 1, "multiplier": 1, "divider": 1, "arithmetic": self.description.alus, **dict.fromkeys(PARTS, 1)}
 
     @property
@@ -134,7 +135,7 @@ class Reasons:
             item.sleep()
             return False
         reason, cause = self.to_issue(item, goes)
-        if reason is None and not goes and any(map(self.presume_fault, self.roots_of_wait(item))):
+        if reason is None and not goes and self.futuristic and any(map(self.presume_fault, self.roots_of_wait(item))):
             reason, cause = self.to_issue(item, goes)
         self.keep(item, goes, reason, cause)
         return not goes
@@ -148,8 +149,7 @@ class Reasons:
 
     def is_held_back(self, writer):
         """Whether this writer is a load whose result isn't used until it is visible."""
-        held = self.description.defence == HOLD and writer is not None and writer.code.kind == LOAD
-        return held and self.pipeline.is_hidden(writer)
+        return self.results_held and writer is not None and writer.kind == LOAD and self.pipeline.is_hidden(writer)
 
     def issue_parts(self, item, told):
         """Each part of a store goes as soon as its own source is there and its port is left. Told is what the first of them waits for.
@@ -189,12 +189,12 @@ class Reasons:
 
     def may_be_held_back(self, writer, goes):
         """Whether a fault that the trace doesn't tell holds this load back, where nothing else explains a wait for it."""
-        read = self.description.defence == HOLD and writer is not None and writer.code.kind == LOAD
+        read = self.results_held and writer is not None and writer.kind == LOAD
         return read and not goes and self.presume_fault(writer)
 
     def keep(self, item, goes, reason, cause):
         """Takes the port of an entry that is tried, and keeps the reason of one that waits."""
-        port = PORT_OF.get(item.code.kind, "arithmetic")
+        port = PORT_OF.get(item.kind, "arithmetic")
         if reason in (None, MISS_REGISTER, TWO_REGISTERS):
             self.ports[port] -= 1
         if goes and reason is not None:
@@ -206,16 +206,17 @@ class Reasons:
 
     def to_issue(self, item, goes):
         """The reason why this entry can't issue, and the entry that it waits for; None and None where it can."""
-        kind = item.code.kind
+        kind = item.kind
         if item.awaits:
             return OPERAND, next((writer for writer in item.sources if writer is not None and writer.done is None), None)
-        held = next(filter(self.is_held_back, item.sources), None)
+        held = next(filter(self.is_held_back, item.sources), None) if self.results_held else None
         if held is not None:
             return HELD_BACK, held
-        if kind in (LOAD, DIVISION):
-            root = self.tainted_root(item)
-            if root is not None:
-                return TAINT, root
+        if kind not in (LOAD, DIVISION):
+            return (None, None) if self.ports[PORT_OF.get(kind, "arithmetic")] else (PORT, None)
+        root = item.youngest_root
+        if root is not None and self.pipeline.is_hidden(root):
+            return TAINT, root
         if kind == LOAD:
             reason, store = self.behind_stores(item)
             if reason is not None:
@@ -235,6 +236,8 @@ class Reasons:
         where its address is tainted, or it covers a byte of the load. Without `taint`: what would keep it if nothing were tainted.
         """
         stores = self.older_open_stores(load)
+        if not stores:
+            return None, None
         if self.description.version == 1:
             return (OLDER_STORE, stores[0]) if stores else (None, None)
         tests = [
@@ -250,7 +253,10 @@ class Reasons:
 
     def older_open_stores(self, load):
         """The older stores that aren't Done; in version 2, when Issue begins, these lack a part."""
-        return [store for store in self.pipeline.open_stores if store.serial < load.serial]
+        stores = self.pipeline.open_stores
+        if not stores or stores[0].serial > load.serial:
+            return []
+        return [store for store in stores if store.serial < load.serial]
 
     def tried(self, load, goes):
         """Why a load doesn't issue that no other rule keeps: it finds too few miss registers. Or, in version 2, an older store without
@@ -324,11 +330,15 @@ class Reasons:
         """How many turns find an entry that may retire, as far as no fault stands in the way."""
         turns = stores = 0
         for item in self.pipeline.window:
-            stores += item.code.kind == STORE
-            ready = item.code.kind == CALL or item.done is not None and not (item.code.is_control and item.resolved is None)
-            ready = ready and (item.code.kind != STORE or self.pipeline.is_cleared(item))
-            if turns == self.description.retire_width or not ready or stores > 1:
+            kind = item.kind
+            if turns == self.description.retire_width or item.done is None and kind != CALL:
                 break
+            if kind in CONTROLS and item.resolved is None:
+                break
+            if kind == STORE:
+                stores += 1
+                if stores > 1 or not self.pipeline.is_cleared(item):
+                    break
             turns += 1
         return turns
 

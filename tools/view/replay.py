@@ -8,6 +8,8 @@ from .reasons import Reasons
 from .slots import Slots
 from .trace import CLEAR, COMPLETE, FETCH, FILL, ISSUE, RENAME, RESOLVE, RETIRE
 
+LOAD_EVENTS = ("ld", PREFETCH)
+
 
 class Replay:
     """The run that a trace tells. `items` gives what became of each fetched instruction; then `reasons` is complete.
@@ -141,6 +143,9 @@ class Replay:
     def retire(self, events, ends):
         self.reasons.retire([int(words[1]) for words in events if words[0] == "ret"], ends)
         retired = []
+        if not events:
+            self.slots.retire(retired, ends)
+            return
         for words in events:
             if words[0] == "ret":
                 retired.append(self.pipeline.entry(words))
@@ -159,9 +164,13 @@ class Replay:
 
     def issue(self, events):
         told, steps = {}, self.steps(events) if events else []
-        for (name, serial, *_), *_ in steps:
-            told.setdefault(int(serial), []).append(name)
+        for step in steps:
+            words = step[0]
+            told.setdefault(int(words[1]), []).append(words[0])
         self.reasons.issue(told)
+        if not steps:
+            self.close()
+            return
         self.checks.order(steps)
         items = [self.pipeline.entry(step[0]) for step in steps]
         for item, step in zip(items, steps):
@@ -173,13 +182,22 @@ class Replay:
             self.checks.issued(item)
             if item.waits or item.kind == DIVISION:
                 self.slots.issue(item)
-        self.reasons.explain_head()
-        self.slots.close()
+        self.close()
+
+    def close(self):
+        """Issue is over: what it made of the oldest entry."""
+        if self.reasons.head is not None:
+            self.reasons.explain_head()
+        if self.slots.head is not None:
+            self.slots.close()
 
     def steps(self, events):
         """The events of Issue, those of one load together: one for each of its lines, and that of what is prefetched behind them."""
         steps = []
         for words in events:
+            if words[0] not in LOAD_EVENTS:
+                steps.append([words])
+                continue
             last = steps[-1][-1] if steps else [None, None]
             if words[0] == PREFETCH and last[0] == "ld" or words[0] == "ld" and last[:2] == words[:2]:
                 steps[-1].append(words)

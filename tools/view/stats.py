@@ -83,15 +83,15 @@ class Run:
     """A run taken through, and its numbers: of the cycles of a span, of the instructions that went in it, and of one function alone
     where that is asked for."""
 
-    def __init__(self, name, replay, disassembler, span=(1, None), function=None):
+    def __init__(self, name, replay, disassembler, span=(1, None), function=None, by_place=True):
         self.name, self.replay, self.disassembler, self.function = name, replay, disassembler, function
         self.image, self.span = disassembler.image, span
         replay.span, replay.occupancy = span, Occupancy(replay.pipeline.description.retire_width)
-        self.places = Places()
+        self.places = Places() if by_place else None
         self.counts = count(replay.items(span[1]), self.holds, self.places)
         if replay.pipeline.cycle < span[0]:
             raise Fault(f"--from {span[0]} is behind the last cycle of the trace, {replay.pipeline.cycle}")
-        if function is not None and not self.places.counts:
+        if function is not None and not self.counts.fetched:
             raise Fault(f"no instruction of <{function}> was fetched" + (" in these cycles" if span != (1, None) else ""))
         self.slots = self.slots_of_function() if function is not None else replay.slots
 

@@ -63,35 +63,37 @@ class Trace:
 
     `end` is the last line, once the rows are read; it is None where the text stops short of one, as a trace does that
     couldn't be written whole. A line without its newline is such a torn end, and is left out. A text without any cycle is refused.
+    Lines that come behind some cycle are the rest of a trace.
     """
 
-    def __init__(self, lines):
-        self.lines = lines
+    def __init__(self, lines, behind=0):
+        self.lines, self.behind = lines, behind
         self.end = None
 
     def __iter__(self):
-        number, row = 0, None
+        number, row = self.behind, None
         for line in self.lines:
             if not line.endswith("\n"):
                 break
             if line.startswith("end "):
                 self.end = read_end(line.rstrip("\n"))
                 break
-            if row:
+            if row is not None:
                 yield row
             number += 1
             row = read_row(line, number)
-        if row is None:
+        if number == 0:
             raise Fault("the trace is empty: it has no cycle")
-        if row:
+        if row is not None:
             yield row._replace(ends=self.end is not None and self.end.how != "budget")
 
 
 def read_row(line, number):
     """The row of a line, which has to be the one of this cycle."""
-    first, *events = line[:-1].split(" ")
-    if first != str(number):
+    events = line[:-1].split(" ")
+    if events[0] != str(number):
         raise Fault(f"line {number} is no line of cycle {number}: `{line.strip()[:60]}`")
+    del events[0]
     return Row(number, events, False)
 
 
