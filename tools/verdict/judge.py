@@ -9,9 +9,10 @@ from .report import Case
 from .telling import Telling
 
 
-def case_of(program, description, one, two, cycles):
-    """Two images under a description, by the names of their files, for so many cycles at most."""
+def case_of(program, description, one, two, cycles, look=lambda pair: None):
+    """Two images under a description, by the names of their files, for so many cycles at most. `look` is shown their traces first."""
     pair = simulator.compare(program, description, one, two, cycles)
+    look(pair)
     machine = read_description(description)
     return judged(description, machine, load(one, machine), load(two, machine), pair)
 

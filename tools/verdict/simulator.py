@@ -25,6 +25,7 @@ class Written:
         self.file.seek(max(size - TAIL, 0))
         lines = self.file.read().splitlines()
         self.last = lines[-1] if lines else ""
+        self.size = size
         if not self.last.startswith("end "):
             raise Fault(f"{program} writes no trace for `{' '.join(words)}`: is it the simulator? {note}".rstrip())
 
@@ -45,6 +46,11 @@ class Pair(NamedTuple):
     def ends(self):
         """The last lines of the two."""
         return tuple(read_end(lines.last if isinstance(lines, Written) else lines[-1].strip()) for lines in (self.one, self.two))
+
+    @property
+    def size(self):
+        """How many bytes the first trace has in its file."""
+        return self.one.size if isinstance(self.one, Written) else 0
 
     @property
     def is_cut(self):

@@ -3,6 +3,7 @@ import os
 import signal
 import subprocess
 import sys
+import tempfile
 import time
 import unittest
 
@@ -164,6 +165,19 @@ class OtherPrograms(unittest.TestCase):
                 told = command("verdict", *self.words(text))
                 self.assertEqual((told.returncode, told.stdout, told.stderr.count("\n")), (2, "", 1), told.stderr)
                 self.assertIn(note, told.stderr)
+
+    def test_long_traces(self):
+        """They are read by PyPy, where it is there: here by a stand-in that tells that it was asked."""
+        long = "#!/bin/sh\n[ $1 = pair ] && printf 'premise yes\\nequal\\nretired 5 cycles 21\\n' && exit 0\n" \
+               "head -c 20000001 /dev/zero\nprintf '\\nend exit 0 retired 1 cycles 1\\n'\n"
+        with tempfile.TemporaryDirectory() as folder:
+            pypy = os.path.join(folder, "pypy3")
+            with open(pypy, "w", encoding="utf-8") as file:
+                file.write("#!/bin/sh\nshift\necho by pypy: $1\n")
+            os.chmod(pypy, 0o755)
+            words = [sys.executable, os.path.join(TOOLS, "verdict", "verdict"), *self.words(long)]
+            told = subprocess.run(words, capture_output=True, text=True, check=False, env=os.environ | {"PATH": f"{folder}:{os.environ['PATH']}"})
+        self.assertEqual((told.returncode, told.stdout, told.stderr), (0, f"by pypy: {CORE}\n", ""))
 
     def test_interrupt(self):
         words = self.words("#!/bin/sh\nexec sleep 30\n")
