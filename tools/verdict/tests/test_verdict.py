@@ -180,10 +180,12 @@ class OtherPrograms(unittest.TestCase):
         self.assertEqual((told.returncode, told.stdout, told.stderr), (0, f"by pypy: {CORE}\n", ""))
 
     def test_interrupt(self):
-        words = self.words("#!/bin/sh\nexec sleep 30\n")
+        mark = os.path.join(support.FOLDER.name, "begun")
+        words = self.words(f"#!/bin/sh\ntouch {mark}\nexec sleep 60\n")
         child = subprocess.Popen([sys.executable, os.path.join(TOOLS, "verdict", "verdict"), *words], stderr=subprocess.PIPE, text=True,
                                  start_new_session=True)
-        time.sleep(1)
+        while not os.path.exists(mark) and child.poll() is None:
+            time.sleep(0.05)
         os.killpg(child.pid, signal.SIGINT)
         _, note = child.communicate(timeout=20)
         self.assertEqual((child.returncode, note), (130, "verdict: interrupted\n"))
