@@ -1,5 +1,5 @@
 # Bounds check bypass: a branch on a slow bound is passed over by prediction, and a secret makes an address behind it.
-# docs/machine.md, "Worked traces". Memory is that of core.toml; x2 points to the data.
+# docs/traces.md. Memory is that of core.toml; x2 points to the data.
     .text
     .globl _start
 _start:

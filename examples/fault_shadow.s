@@ -1,5 +1,5 @@
 # Fault shadow: a load that faults, and behind it a secret that makes an address.
-# docs/machine.md, "Worked traces". Memory is that of core.toml; x2 points to the data.
+# docs/traces.md. Memory is that of core.toml; x2 points to the data.
     .text
     .globl _start
 _start:

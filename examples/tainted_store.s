@@ -1,5 +1,5 @@
 # A store to an address made from a secret, and a load that it covers or not.
-# docs/machine.md, "Worked traces". Memory is that of core.toml; x2 points to the data.
+# docs/traces.md. Memory is that of core.toml; x2 points to the data.
     .text
     .globl _start
 _start:

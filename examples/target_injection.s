@@ -1,5 +1,5 @@
 # A jump to an address made from a secret, behind a branch that is passed over by prediction.
-# docs/machine.md, "Worked traces". Memory is that of core.toml; x2 points to the data.
+# docs/traces.md. Memory is that of core.toml; x2 points to the data.
     .text
     .globl _start
 _start:

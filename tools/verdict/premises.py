@@ -25,7 +25,15 @@ def premises(one, two, description, retired):
     """Of two images, where the machine retires so many instructions of the first: the path goes on for as many more as the window
     may hold."""
     path = walk(one, description.model, retired + description.rob)
-    memory = [one.base + at for at, (a, b) in enumerate(zip(one.memory, two.memory)) if a != b]
+    memory = [one.base + at for at in unequal(one.memory, two.memory)]
     code = sorted(address for address in one.words.keys() | two.words.keys() if one.words.get(address) != two.words.get(address))
     shown = {address: path.loads[address] for address in memory if address in path.loads}
     return Premises(one.entry == two.entry, code, memory, shown, path)
+
+
+def unequal(one, two, part=4096):
+    """The places at which two rows of bytes differ."""
+    for start in range(0, len(one), part):
+        a, b = one[start:start + part], two[start:start + part]
+        if a != b:
+            yield from (start + at for at, (x, y) in enumerate(zip(a, b)) if x != y)

@@ -71,7 +71,12 @@ def lines(case, notation=CALLERS):
     yield row("premises", "not met" if not case.met else "met" if case.promised else "met, and the model off promises nothing")
     yield from traces(case, texts)
     yield from transmitters(case.telling, texts[0])
-    yield row("verdict", f"{case.word()}: {MEANING[case.word()]}")
+    yield row("verdict", f"{case.word()}{within(case)}: {MEANING[case.word()]}")
+
+
+def within(case):
+    """Of how much of the runs the verdict speaks, where it isn't the whole."""
+    return f", in the first {plural(max(end.cycles for end in case.pair.ends), 'cycle')}, of runs that go on" if case.pair.is_cut else ""
 
 
 def row(name, text):
@@ -136,7 +141,8 @@ def path(case, texts):
 def traces(case, texts):
     """Whether the traces are equal, else their first unequal cycle."""
     if case.pair.unequal is None:
-        yield row("traces", f"equal in {plural(case.pair.ends[0].cycles, 'cycle')}")
+        first = "the first " if case.pair.is_cut else ""
+        yield row("traces", f"equal in {first}{plural(case.pair.ends[0].cycles, 'cycle')}")
         return
     both = [Trace(case.pair.one), Trace(case.pair.two)]
     replays = [Replay(trace, image, case.machine) for trace, image in zip(both, (case.one, case.two))]

@@ -45,14 +45,43 @@ class Shown(NamedTuple):
     cycle: int
 
 
-class Telling(Replay):
-    """`held` and `shown`, by an instruction's address and what of it shows; `loads` are the loads of differing bytes."""
+def nothing(*told):
+    return None
 
-    def __init__(self, trace, image, description, differing):
+
+class Unasked:
+    """Stands where a replay counts or checks what a verdict doesn't ask for: whatever it is told, it does nothing."""
+
+    due, behind = (), None
+
+    def __getattr__(self, name):
+        return nothing
+
+
+class Telling(Replay):
+    """`held` and `shown`, by an instruction's address and what of it shows; `loads` are the loads of differing bytes. Values are compared with
+    what the trace tells in any case; only where it is `thorough` also all that tools/view checks of a trace."""
+
+    def __init__(self, trace, image, description, differing, thorough=True):
         super().__init__(trace, image, description, Valued(image, description, differing))
+        if not thorough:
+            self.checks = self.front = self.slots = Unasked()
         self.held, self.shown, self.loads = {}, {}, []
+        self.held_now, self.quiet = [], False
         for _ in self.items():
             pass
+
+    def step(self, row):
+        """One cycle. Behind a cycle without events another one changes nothing, and holds what that one held (docs/machine.md, "Cycles in
+        which nothing happens")."""
+        if self.quiet and not row.events and not row.ends:
+            self.pipeline.cycle = row.cycle
+            for held, item in self.held_now:
+                held.add(item)
+            return
+        self.held_now = []
+        super().step(row)
+        self.quiet = not row.events
 
     @property
     def wrong_loads(self):
@@ -65,18 +94,28 @@ class Telling(Replay):
 
     def hidden(self, item):
         """Whether a source is made of the differing bytes, and tainted."""
-        return any(self.hidden_source(item, place) for place in range(len(item.roots)))
+        point = self.pipeline.point
+        for root, source in zip(item.roots, self.pipeline.values[item.serial].sources):
+            if root is not None and root.serial > point and source.mark:
+                return True
+        return False
 
     def hidden_source(self, item, place):
-        return self.marked(item)[place] and self.pipeline.is_hidden(item.roots[place])
+        return self.pipeline.is_hidden(item.roots[place]) and self.pipeline.values[item.serial].sources[place].mark
+
+    @property
+    def nothing_is_hidden(self):
+        """Whether everything in flight is visible: then nothing is held by taint, nor held back."""
+        window = self.pipeline.window
+        return not window or self.pipeline.point >= window[-1].serial
 
     # ---- Phases
 
     def resolve(self, events):
-        hidden = [item for item in self.pipeline.controls if self.hidden(item)]
+        hidden = [] if self.nothing_is_hidden else [item for item in self.pipeline.controls if self.hidden(item)]
         for words in events[:1]:
             item = self.pipeline.entry(words)
-            self.shows(item, any(self.marked(item)))
+            self.shows(item, self.pipeline.values[item.serial].is_marked)
         squashed = super().resolve(events)
         for item in hidden:
             if self.waited(item, TAINTED_OUTCOME):
@@ -84,7 +123,7 @@ class Telling(Replay):
         return squashed
 
     def clear(self, events):
-        stores = [item for item in self.pipeline.window if item.code.kind == STORE and self.hidden_source(item, 0)]
+        stores = [] if self.nothing_is_hidden else [item for item in self.pipeline.stores_in_flight if self.hidden_source(item, 0)]
         for words in events[:1]:
             store = self.pipeline.entry(words)
             self.shows(store, any(self.marked(store)[:1]), CLEARING)
@@ -105,20 +144,33 @@ class Telling(Replay):
         super().retire(events, ends)
 
     def issue(self, events):
-        ready = [item for item in self.pipeline.waiting if not item.awaits]
-        hidden = [item for item in ready if self.hidden(item)]
-        reaching = [item for item in ready if item.code.kind == LOAD and self.pipeline.is_hidden(item.roots[0])
-                    and item not in hidden and self.pipeline.loads_marked(item)]
-        kept = [item for item in hidden + reaching if self.is_kept(item)]
-        stores = {store.serial: store for store in self.pipeline.open_stores if self.hidden_source(store, 0)}
-        loads = [item for item in self.pipeline.waiting if item.code.kind == LOAD]
+        before = None if self.nothing_is_hidden else self.before_issue()
         for step in self.steps(events):
             item = self.pipeline.entry(step[0])
             if item.code.kind == LOAD:
                 self.load(item, bool(lines_of(step)))
             elif item.code.kind == DIVISION:
-                self.shows(item, any(self.marked(item)))
+                self.shows(item, self.pipeline.values[item.serial].is_marked)
         super().issue(events)
+        if before is not None:
+            self.after_issue(before)
+
+    def before_issue(self):
+        """What may be held in this cycle: entries with a hidden operand, loads that reach the bytes, those of them that stores keep anyway;
+        stores of hidden address, and the loads that may wait for them."""
+        pipeline = self.pipeline
+        ready = [item for item in pipeline.waiting if not item.awaits]
+        hidden = [item for item in ready if self.hidden(item)]
+        reaching = [item for item in ready if item.code.kind == LOAD and pipeline.is_hidden(item.roots[0])
+                    and item not in hidden and pipeline.loads_marked(item)]
+        kept = [item for item in hidden + reaching if self.is_kept(item)]
+        stores = {store.serial: store for store in pipeline.open_stores if self.hidden_source(store, 0)}
+        loads = [item for item in pipeline.waiting if item.code.kind == LOAD] if stores else []
+        return hidden, reaching, kept, stores, loads
+
+    def after_issue(self, before):
+        """Counts what of it was held."""
+        hidden, reaching, kept, stores, loads = before
         for item in hidden + reaching:
             if self.waited(item, TAINT) and item not in kept:
                 self.holds(item, SHOWS[item.code.kind] if item in hidden else LOAD_OF_THEM)
@@ -161,8 +213,8 @@ class Telling(Replay):
         self.shows(item, self.marked(item)[0])
         if self.pipeline.loads_marked(item):
             self.loads.append(item)
-        for store in self.pipeline.window:
-            if accesses and store.code.kind == STORE and store.serial < item.serial and self.hidden_source(store, 0):
+        for store in self.pipeline.stores_in_flight if accesses else ():
+            if store.serial < item.serial and self.hidden_source(store, 0):
                 self.holds(store, BEFORE_A_LOAD)
 
     # ---- Counting
@@ -172,7 +224,9 @@ class Telling(Replay):
         return bool(item.waits) and item.waits[-1].last == self.pipeline.cycle and item.waits[-1].reason == reason
 
     def holds(self, item, what):
-        self.held.setdefault((item.pc, what), Held()).add(item)
+        held = self.held.setdefault((item.pc, what), Held())
+        held.add(item)
+        self.held_now.append((held, item))
 
     def shows(self, item, marked, what=None):
         if marked:

@@ -21,31 +21,37 @@ class Retired(NamedTuple):
     mark: bool
 
 
+NOWHERE = range(0)
+
+
 class Value:
     """What an entry computes. `sources` are the values of its operands; `result` is its own, none until it issues, and `mark` whether it
-    comes from a marked byte. `address` is that of a load or store, once its base is known; `fault` is then why it would trap, or none.
-    `taken` is whether a branch is."""
+    comes from a marked byte. `address` is that of a load or store, once its base is known, `fault` is then why it would trap, or none, and
+    `bytes` the addresses of its access: none where it faults, or its base isn't known. `taken` is whether a branch is."""
 
-    __slots__ = ("operation", "pc", "sources", "result", "mark", "address", "stored", "fault", "taken")
+    __slots__ = ("operation", "pc", "sources", "result", "mark", "address", "stored", "fault", "taken", "bytes")
 
     def __init__(self, operation, pc, sources):
         self.operation, self.pc, self.sources = operation, pc, sources
         self.result = self.address = self.fault = self.taken = None
-        self.mark, self.stored = False, 0
+        self.mark, self.stored, self.bytes = False, 0, NOWHERE
 
     @property
     def size(self):
         return SIZES[self.operation.name]
 
     @property
-    def bytes(self):
-        """The addresses of its access; none where it faults, or its base isn't known."""
-        return range(self.address, self.address + self.size) if self.address is not None and self.fault is None else range(0)
-
-    @property
     def marked(self):
         """For each source whether its value comes from a marked byte."""
         return [source.mark for source in self.sources]
+
+    @property
+    def is_marked(self):
+        """Whether any source's value does."""
+        for source in self.sources:
+            if source.mark:
+                return True
+        return False
 
     def effect(self, *operands):
         return effect(self.operation, self.pc, *operands)
@@ -62,6 +68,7 @@ class Valued(Pipeline):
         self.registers[2] = image.base + len(image.memory) - 16 & WORD
         self.marked_bytes, self.marked_registers = dict.fromkeys(marks, True), [False] * 32
         self.values, self.to_write = {}, []
+        self.stores_in_flight = []
 
     # ---- Rename
 
@@ -70,6 +77,8 @@ class Valued(Pipeline):
         sources = [self.values[writer.serial] if writer is not None else Retired(self.registers[register], self.marked_registers[register])
                    for register, writer in zip(item.code.sources, item.sources)]
         self.values[serial] = Value(decode(self.image.words.get(pc)), pc, sources)
+        if item.code.kind == STORE:
+            self.stores_in_flight.append(item)
         return item
 
     def located(self, item):
@@ -79,18 +88,20 @@ class Valued(Pipeline):
         if value.address is None and base.result is not None:
             value.address = value.effect(base.result, *[0] * len(others)).address
             value.fault = self.memory.fault(item.code.kind, value.address, value.size)
+            value.bytes = NOWHERE if value.fault is not None else range(value.address, value.address + value.size)
         return value
 
     # ---- Issue executes
 
     def issue(self, item, step):
         told, computed = [words[2:] for words in step if words[0] != PREFETCH], self.told_by_issue(item, step)
-        texts = [" ".join(":".join(words) for words in events) for events in (told, computed)]
-        self.compare(item, f"tells {step[0][0]}:{texts[0]}", told == computed, texts[1])
+        if told != computed:
+            texts = [" ".join(":".join(words) for words in events) for events in (told, computed)]
+            self.differs(item, f"tells {step[0][0]}:{texts[0]}", texts[1])
         value = self.values[item.serial]
         if item.code.kind == LOAD:
             data, value.mark = self.found(item, self.located(item).bytes)
-            value.mark = value.mark or any(value.marked)
+            value.mark = value.mark or value.is_marked
             value.result = extend(value.operation.name, data) if data else 0
         elif item.code.kind == STORE:
             self.located(item)
@@ -102,20 +113,33 @@ class Valued(Pipeline):
 
     def execute(self, value):
         done = value.effect(*(source.result or 0 for source in value.sources))
-        value.result, value.mark, value.taken = done.value, any(value.marked), bool(done.value)
+        value.result, value.mark, value.taken = done.value, value.is_marked, bool(done.value)
         if done.misaligned:
             value.fault = JUMP_MISALIGNED
 
     def found(self, load, addresses):
         """What a load finds at these addresses before Issue, and whether a byte of it is marked: each from the youngest older store that
         covers it, as far as addresses are known, else from memory."""
-        stores = [self.values[store.serial] for store in self.window if store.serial < load.serial and store.code.kind == STORE
-                  and store.parts.get(ADDRESS_PART, self.cycle) < self.cycle]
-        sources = [next((store for store in reversed(stores) if address in store.bytes), None) for address in addresses]
+        stores = self.stores_before(load, addresses) if addresses else []
+        if not stores:
+            marks = self.marked_bytes
+            return self.memory.get(addresses.start, len(addresses)), bool(marks) and any(marks.get(address, False) for address in addresses)
+        sources = [next((store for store in stores if address in store.bytes), None) for address in addresses]
         data = [self.memory.get(address, 1)[0] if store is None else stored_bytes(store.stored, store.size)[address - store.address]
                 for address, store in zip(addresses, sources)]
-        marks = [self.marked_bytes.get(address, False) if store is None else store.marked[1] for address, store in zip(addresses, sources)]
+        marks = [self.marked_bytes.get(address, False) if store is None else store.sources[1].mark
+                 for address, store in zip(addresses, sources)]
         return bytes(data), any(marks)
+
+    def stores_before(self, load, addresses):
+        """The older stores of known address that cover one of these addresses, the youngest first."""
+        found, first, behind = [], addresses.start, addresses.stop
+        for store in reversed(self.stores_in_flight):
+            if store.serial < load.serial and store.parts.get(ADDRESS_PART, self.cycle) < self.cycle:
+                value = self.values[store.serial]
+                if value.bytes and value.bytes.start < behind and first < value.bytes.stop:
+                    found.append(value)
+        return found
 
     def loads_marked(self, load):
         """Whether a load whose base is known loads a marked byte, as memory and stores are before Issue."""
@@ -178,12 +202,15 @@ class Valued(Pipeline):
     def resolve(self, item, outcome):
         value = self.values[item.serial]
         computed = "J" if item.code.kind == JALR else "T" if value.taken else "N"
-        self.compare(item, f"is resolved as {outcome}", computed == outcome, computed)
+        if computed != outcome:
+            self.differs(item, f"is resolved as {outcome}", computed)
         super().resolve(item, outcome)
 
     def leave(self, item):
         super().leave(item)
         del self.values[item.serial]
+        if item.code.kind == STORE:
+            self.stores_in_flight.remove(item)
 
     def retire(self, item):
         value = self.values[item.serial]
@@ -197,15 +224,23 @@ class Valued(Pipeline):
         self.to_write = self.lines_of(value) if item.code.kind == STORE else []
         if item.code.kind == STORE and value.bytes:
             self.memory.put(value.address, stored_bytes(value.stored, value.size))
-            self.marked_bytes.update(dict.fromkeys(value.bytes, value.marked[1]))
+            self.mark_bytes(value.bytes, value.sources[1].mark)
+
+    def mark_bytes(self, addresses, mark):
+        """Bytes are written: from now on they are marked, or aren't."""
+        if mark:
+            self.marked_bytes.update(dict.fromkeys(addresses, True))
+        else:
+            for address in addresses:
+                self.marked_bytes.pop(address, None)
 
     def write(self, item, line, answer):
         """Each line of a store is one of those that it writes, in their order."""
         super().write(item, line, answer)
         right, place = self.to_write, len(item.written) - 1
-        self.compare(item, f"writes line {line:08x}", right[place:place + 1] == [line], " ".join(f"{line:08x}" for line in right))
+        if right[place:place + 1] != [line]:
+            self.differs(item, f"writes line {line:08x}", " ".join(f"{line:08x}" for line in right))
 
-    def compare(self, item, told, equal, computed):
-        if not equal:
-            raise Fault(f"cycle {self.cycle}: entry {item.serial} at {self.image.named(item.pc)} {told}, and {computed} is computed: "
-                        f"the trace isn't one of this image under this description")
+    def differs(self, item, told, computed):
+        raise Fault(f"cycle {self.cycle}: entry {item.serial} at {self.image.named(item.pc)} {told}, and {computed} is computed: "
+                    f"the trace isn't one of this image under this description")

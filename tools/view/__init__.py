@@ -4,7 +4,8 @@ The modules, from the bottom up:
 
     trace        the text of `trace` as rows of events
     instruction  what a word of code is to the pipeline: its kind, the registers it reads and writes
-    image        an ELF image: its code, its symbols
+    sources      the lines of source files, by the image's line table
+    image        an ELF image: its code, its symbols, its sources
     disassembly  instructions as people write them
     description  the sizes and latencies of the core
     memory_side  the cache, the miss registers and the divider, as the events move them

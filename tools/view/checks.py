@@ -1,7 +1,9 @@
 """Whether what happens is what the machine's rules ask for: when lines come, when results are there, what loads find."""
 from .instruction import BRANCH, CALL, LOAD, STORE
-from .pipeline import ADDRESS_PART, DATA_PART, PREFETCH, lines_of
+from .pipeline import ADDRESS_PART, BY_AGE, DATA_PART, PREFETCH, lines_of
 
+# the event of an entry's issue by its kind, where it isn't `alu`
+EVENT_OF = {"load": "ld", "store": "agu", "multiplication": "mul", "division": "div"}
 # the letters of a line that takes a miss register
 TAKES = ("m", "2")
 
@@ -15,14 +17,15 @@ class Checks:
 
     def fill(self, lines):
         """A line comes in the cycle that its miss was told, and only then."""
-        due = [line for line, miss in self.pipeline.misses.items() if miss.due == self.pipeline.cycle]
+        due = self.pipeline.dues.pop(self.pipeline.cycle, [])
         if lines != due:
             self.tell(f"lines {names(lines)} come, {names(due)} are due")
 
     def complete(self, items):
         """An entry is Done in the cycle that its issue told, unless it was squashed; oldest first."""
-        due = [item for item in self.due.pop(self.pipeline.cycle, ()) if item.squashed is None]
-        due.sort(key=lambda item: item.serial)
+        due = self.due.pop(self.pipeline.cycle, [])
+        if items != due:
+            due = sorted((item for item in due if item.squashed is None), key=BY_AGE)
         if items != due:
             self.tell(f"entries {[item.serial for item in items]} are done, {[item.serial for item in due]} are due")
 
@@ -80,7 +83,9 @@ class Checks:
 
     def order(self, steps):
         """Entries issue oldest first, the address part of a store before its data part."""
-        places = [(int(serial), name == DATA_PART) for (name, serial, *_), *_ in steps]
+        if len(steps) < 2:
+            return
+        places = [2 * int(step[0][1]) + (step[0][0] == DATA_PART) for step in steps]
         if places != sorted(places):
             told = " ".join(":".join(words) for step in steps for words in step)
             self.tell(f"the events of Issue don't go from the oldest entry on: {told}")
@@ -151,7 +156,7 @@ class Checks:
 
     def unit(self, item, name):
         """The event of an entry's issue is that of its kind. The data part of a store has one in version 2 alone."""
-        right = {"load": "ld", "store": "agu", "multiplication": "mul", "division": "div"}.get(item.code.kind, "alu")
+        right = EVENT_OF.get(item.kind, "alu")
         if name != right and (name, item.code.kind, self.pipeline.description.version) != (DATA_PART, STORE, 2):
             self.tell(f"entry {item.serial}: `{name}` for a {item.code.kind}")
 

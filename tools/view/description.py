@@ -2,10 +2,18 @@
 
 The simulator refuses what is no description; here only what the reasons need is asked for.
 """
-import tomllib
+import json
+import os
+import subprocess
 from typing import NamedTuple
 
 from . import Fault
+from .faster import DECIDED
+
+try:
+    import tomllib
+except ModuleNotFoundError:
+    tomllib = None
 
 SPECTRE, FUTURISTIC, OFF = "spectre", "futuristic", "off"
 STT, HOLD = "stt", "hold"
@@ -61,10 +69,10 @@ def read_description(name):
     """The description of a file."""
     try:
         with open(name, "rb") as file:
-            tables = tomllib.load(file)
+            tables = tables_of(file.read())
     except OSError as error:
         raise Fault(f"{name}: {error.strerror}") from None
-    except (tomllib.TOMLDecodeError, UnicodeDecodeError) as error:
+    except ValueError as error:
         raise Fault(f"{name}: no TOML text ({error})") from None
     try:
         values = {key: tables[table][key] for key, table in KEYS.items()}
@@ -75,3 +83,17 @@ def read_description(name):
         if values[key] not in texts:
             raise Fault(f"{name}: stt.{key} is none of {', '.join(texts)}")
     return Description(version=tables.get("version", 1), **values)
+
+
+AS_JSON = "import json, sys, tomllib; json.dump(tomllib.loads(sys.stdin.buffer.read().decode()), sys.stdout)"
+
+
+def tables_of(data):
+    """The tables of a TOML text. PyPy of Debian 12 is of Python 3.9, which has no library for that: another Python reads it there."""
+    if tomllib is not None:
+        return tomllib.loads(data.decode())
+    command = [os.environ.get(DECIDED, "/usr/bin/python3"), "-I", "-c", AS_JSON]
+    read = subprocess.run(command, input=data, capture_output=True, check=False)
+    if read.returncode:
+        raise ValueError((read.stderr.decode("utf-8", "replace").strip().splitlines() or ["no Python that reads it"])[-1])
+    return json.loads(read.stdout)

@@ -52,12 +52,12 @@ class Disassembler:
         return self.texts[pc]
 
     def place(self, pc):
-        """The address, the instruction, and the symbol if there is one: `00010018 lw x7, -2048(x6) <_start+0x18>`."""
-        symbol = self.image.symbol(pc)
-        return self.address_and_text(pc) + (f" <{symbol}>" if symbol else "")
+        """The address, the instruction, the symbol and the source's line if there are any: `00010018 lw x7, -2048(x6) <main+0x18> a.c:7`."""
+        symbol, line = self.image.symbol(pc), self.image.sources.told(pc)
+        return self.address_and_text(pc) + (f" <{symbol}>" if symbol else "") + (f" {line}" if line else "")
 
     def address_and_text(self, pc):
-        """The same without the symbol."""
+        """The same without symbol and line."""
         return f"{pc:08x} {self.text(pc)}"
 
     def by_objdump(self):

@@ -60,8 +60,10 @@ OUTCOMES = "T, N, J: resolved as taken, not taken, a jump; framed: mispredicted,
 class Panel:
     """One trace's part of a picture: the rows of its instructions in a span of cycles, from the first to the last.
 
-    `mark` is where it is first unequal to the other trace, if it is.
+    `mark` is where it is first unequal to the other trace, if it is. With `named_rows` a page finds its rows.
     """
+
+    named_rows = False
 
     def __init__(self, title, replay, disassembler, span, mark=None):
         first, last = span
@@ -80,6 +82,8 @@ class Panel:
         widest = max([len(label) for label in self.labels] + [len(self.title), 20])
         self.label_width = widest * CHARACTER + SERIAL + 2 * MARGIN
         self.chart_width = (self.last - first + 1) * CELL + MARGIN
+        if mark is not None:
+            self.chart_width = max(self.chart_width, len(self.mark_told()) * CHARACTER + MARGIN)
         self.height = TOP + ROW * len(self.items) + FOOT
 
     def only_symbol(self):
@@ -108,21 +112,22 @@ class Panel:
         lines = []
         for row, (item, label) in enumerate(zip(self.items, self.labels)):
             struck, y = ' class="struck"' if item.squashed is not None else "", self.y(row) + 11
+            lines.append(f'<g class="label" data-row="{row}">' if self.named_rows else "")
             if item.serial is not None:
                 lines.append(f'<text class="serial" x="{MARGIN + SERIAL - 6}" y="{y}">{item.serial}</text>')
-            lines.append(f'<text{struck} x="{MARGIN + SERIAL}" y="{y}">{escape(label)}</text>')
+            lines.append(f'<text{struck} x="{MARGIN + SERIAL}" y="{y}">{escape(label)}</text>' + "</g>" * self.named_rows)
         lines.append(f'<text class="faint" x="{MARGIN}" y="{self.y(len(self.items)) + 14}">lines that come to the cache</text>')
-        return "\n".join(lines)
+        return "\n".join(filter(None, lines))
 
-    def chart_drawn(self):
-        """The grid, the rows, the lines that come, and the frame of the first unequal cycle."""
+    def chart_drawn(self, framed=True):
+        """The grid, the rows, the lines that come, and the frame of the first unequal cycle, with what is told of it where it is asked for."""
         parts = [self.grid()]
         parts += [self.row_drawn(row, item) for row, item in enumerate(self.items)]
         y = self.y(len(self.items)) + 14
         parts += [f'<text class="fill" x="{self.x(cycle) + CELL / 2}" y="{y}">L<title>line {line:08x} comes in cycle {cycle}'
                   "</title></text>" for cycle, line in self.fills]
         if self.mark and self.first <= self.mark.cycle <= self.last:
-            parts.append(self.frame())
+            parts.append(self.frame() + (self.frame_told() if framed else ""))
         return "\n".join(parts)
 
     @property
@@ -131,7 +136,13 @@ class Panel:
 
     def numbers_drawn(self, y):
         """The number of every fifth cycle."""
-        return "".join(f'<text class="number" x="{self.x(cycle) + CELL / 2}" y="{y}">{cycle}</text>' for cycle in self.fifths)
+        return "".join(f'<text class="number" x="{self.within(cycle)}" y="{y}">{cycle}</text>' for cycle in self.fifths)
+
+    def within(self, cycle):
+        """The middle of a cycle's number: of its column, but so that no edge cuts it."""
+        half = len(str(cycle)) * CHARACTER / 2
+        middle = self.x(cycle) + CELL / 2
+        return middle if half <= middle <= self.chart_width - half else round(max(half, min(middle, self.chart_width - half)), 1)
 
     def grid(self):
         """Lines for every fifth cycle and row, and the numbers of these cycles above and below."""
@@ -143,12 +154,20 @@ class Panel:
 
     def row_drawn(self, row, item):
         y = self.y(row)
-        parts = ["<g>", f"<title>{escape(tip(item, self.disassembler))}</title>"]
+        parts = [self.row_named(row, item) if self.named_rows else "<g>", f"<title>{escape(tip(item, self.disassembler))}</title>"]
+        if self.named_rows:
+            parts.append(f'<rect class="row" x="0" y="{y}" width="{self.chart_width:.0f}" height="{ROW}"/>')
         for first, behind, name in spans_of(item, self.last + 1):
             parts.append(self.span(y, first, behind, name, item))
         if item.resolved is not None and self.first <= item.resolved <= self.last:
             parts.append(self.outcome(y, item))
         return "".join(parts) + "</g>"
+
+    def row_named(self, row, item):
+        """The beginning of a row that a page finds: by its place, its address, its serial, and the cycles in which it is there."""
+        serial = "" if item.serial is None else item.serial
+        return (f'<g data-row="{row}" data-n="{escape(self.disassembler.image.symbol(item.pc))}" data-a="{item.pc:08x}" data-s="{serial}" '
+                f'data-from="{item.fetched}" data-to="{self.last if item.gone is None else item.gone}">')
 
     def span(self, y, first, behind, name, item):
         """A box, and its letter in the first cell, unless the outcome of a branch stands there."""
@@ -172,15 +191,22 @@ class Panel:
         return (f'{wrong}<text class="letter" font-weight="bold" fill="{colour}" x="{x + CELL / 2}" y="{y + 11}">'
                 f"{item.outcome}</text>")
 
-    def frame(self):
-        """The first unequal cycle framed, and below it what this trace alone has there."""
-        bottom, x = self.y(len(self.items)) + 18, self.x(self.mark.cycle)
+    def mark_told(self):
+        """What is told of the first unequal cycle: what this trace alone has there."""
         here, more = " ".join(self.mark.only[:2]), " .." if len(self.mark.only) > 2 else ""
-        text = f"first unequal cycle: {self.mark.cycle}" + (f", only here: {here}{more}" if here else "")
+        return f"first unequal cycle: {self.mark.cycle}" + (f", only here: {here}{more}" if here else "")
+
+    def frame(self):
+        """The first unequal cycle framed."""
+        bottom, x = self.y(len(self.items)) + 18, self.x(self.mark.cycle)
+        return f'<rect class="frame" x="{x - 1}" y="{TOP - 4}" width="{CELL + 1}" height="{bottom - TOP + 4}"/>'
+
+    def frame_told(self):
+        """What is told of it, below it."""
+        text, x = self.mark_told(), self.x(self.mark.cycle)
         width = len(text) * CHARACTER + MARGIN
         left = max(0, min(x - width / 2, self.chart_width - width))
-        return (f'<rect class="frame" x="{x - 1}" y="{TOP - 4}" width="{CELL + 1}" height="{bottom - TOP + 4}"/>'
-                f'<text class="framed" x="{left:.0f}" y="{bottom + 25}">{text}</text>')
+        return f'<text class="framed" x="{left:.0f}" y="{self.y(len(self.items)) + 43}">{text}</text>'
 
 
 STYLE = """text{font:10px "DejaVu Sans Mono",Menlo,Consolas,monospace;fill:#111}
@@ -231,6 +257,6 @@ def picture(panels):
 
 def svg(inside, width, height, top=0, name=""):
     """A drawing of its own: what lies from `top` to `height`, with a name for a page's style."""
-    named = f' class="{name}"' if name else ""
+    named = f' class="{name}" preserveAspectRatio="xMinYMin slice"' if name else ""
     return (f'<svg xmlns="http://www.w3.org/2000/svg"{named} width="{width:.0f}" height="{height - top:.0f}" '
             f'viewBox="0 {top} {width:.0f} {height - top:.0f}">\n{inside}\n</svg>')

@@ -1,7 +1,7 @@
 """Why rename or fetch stops short of the width (docs/machine.md, "Rename" and "Fetch")."""
 from collections import Counter
 
-from .instruction import CALL, LOAD, STOP, STORE
+from .instruction import AT_ONCE, CALL, LOAD, STOP, STORE
 
 REORDER_BUFFER, CALL_IN_FLIGHT, LOADS, STORES, CALL_ALONE, STATIONS = (
     "reorder buffer", "call in flight", "loads", "stores", "call waits to be alone", "stations")
@@ -31,10 +31,10 @@ class FrontEnd:
 
     def to_rename(self, item):
         """The reason why the front of the queue can't go, None where it can."""
-        pipeline, description, kind = self.pipeline, self.description, item.code.kind
+        pipeline, description, kind = self.pipeline, self.description, item.kind
         if len(pipeline.window) >= description.rob:
             return REORDER_BUFFER
-        if pipeline.has_call:
+        if pipeline.window and pipeline.window[0].kind == CALL:
             return CALL_IN_FLIGHT
         if kind == LOAD and pipeline.loads >= description.loads:
             return LOADS
@@ -42,7 +42,7 @@ class FrontEnd:
             return STORES
         if kind == CALL and pipeline.window:
             return CALL_ALONE
-        if not item.code.at_once and len(pipeline.waiting) >= description.stations:
+        if len(pipeline.waiting) >= description.stations and kind not in AT_ONCE:
             return STATIONS
         return None
 
@@ -52,21 +52,22 @@ class FrontEnd:
             self.tell(f"entry {serial} is renamed, but has to wait: {reason}")
 
     def after_rename(self, count):
-        """Fewer than the width were renamed: nothing was left, or the front of the queue couldn't go."""
+        """Fewer than the width were renamed: nothing was left, or the front of the queue couldn't go. Answers why it couldn't."""
         if count > self.description.fetch_width:
             self.tell(f"{count} items are renamed")
         if count >= self.description.fetch_width:
-            return
+            return None
         if not self.pipeline.queue:
-            self.rename[QUEUE_EMPTY] += 1
-            return
+            self.rename[QUEUE_EMPTY] += self.pipeline.counts
+            return None
         front = self.pipeline.queue[0]
         reason = self.to_rename(front)
         if reason is None:
             self.tell(f"the item of {front.pc:08x} isn't renamed, and nothing tells why")
-            return
-        self.rename[reason] += 1
+            return None
+        self.rename[reason] += self.pipeline.counts
         self.keep_stall(reason, front.pc)
+        return reason
 
     def keep_stall(self, reason, pc):
         last, cycle = self.stalls[-1] if self.stalls else None, self.pipeline.cycle
@@ -96,6 +97,6 @@ class FrontEnd:
         if len(fetched) < width:
             full = len(queue) >= self.description.queue
             if full or not self.fetching:
-                self.fetch[QUEUE_FULL if full else NOTHING_TO_FETCH] += 1
+                self.fetch[QUEUE_FULL if full else NOTHING_TO_FETCH] += self.pipeline.counts
             else:
                 self.tell("fetch stops short, and nothing tells why")

@@ -1,5 +1,6 @@
-"""An ELF image: its code and its symbols (docs/formats.md, "Images")."""
+"""An ELF image: its code, its symbols and the lines of its sources (docs/formats.md, "Images")."""
 import bisect
+from functools import cached_property
 
 from elftools.common.exceptions import ELFError
 from elftools.elf.constants import P_FLAGS
@@ -7,12 +8,14 @@ from elftools.elf.elffile import ELFFile
 
 from . import Fault
 from .instruction import instruction_of
+from .sources import read_sources
 
 
 class Image:
     """The words of code by their addresses, and the names of addresses."""
 
     def __init__(self, name):
+        self.name = name
         try:
             with open(name, "rb") as file:
                 elf = ELFFile(file)
@@ -37,6 +40,11 @@ class Image:
         if address not in self.known:
             self.known[address] = self.find_symbol(address)
         return self.known[address]
+
+    @cached_property
+    def sources(self):
+        """File and line of each address; empty unless the image was built with `-g`. Read when it is first asked."""
+        return read_sources(self.name)
 
     def find_symbol(self, address):
         """The nearest symbol whose bytes have the address, else the nearest one before it that has no size, in its segment."""

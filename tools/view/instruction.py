@@ -8,6 +8,7 @@ from typing import NamedTuple
 
 ARITHMETIC, MULTIPLICATION, DIVISION = "arithmetic", "multiplication", "division"
 LOAD, STORE, BRANCH, JALR, JAL, CALL, STOP = "load", "store", "branch", "jalr", "jal", "call", "stop"
+CONTROLS, AT_ONCE = (BRANCH, JALR), (CALL, STOP)
 LINK = 1
 
 
@@ -21,7 +22,7 @@ class Instruction(NamedTuple):
     @property
     def is_control(self):
         """A branch or JALR: what is resolved."""
-        return self.kind in (BRANCH, JALR)
+        return self.kind in CONTROLS
 
     @property
     def is_return(self):
@@ -31,7 +32,7 @@ class Instruction(NamedTuple):
     @property
     def at_once(self):
         """A call or stop: Done from its renaming on, and never issued."""
-        return self.kind in (CALL, STOP)
+        return self.kind in AT_ONCE
 
 
 ILLEGAL = Instruction(STOP, (), 0)

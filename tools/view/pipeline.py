@@ -4,20 +4,25 @@ This module does what the events say; whether they are what the machine's rules 
 `checks`. The words are those of docs/machine.md.
 """
 from collections import deque
+from operator import attrgetter
 
 from . import Fault
-from .description import FUTURISTIC, SPECTRE
-from .instruction import CALL, LOAD, STORE
+from .description import FUTURISTIC, OFF, SPECTRE
+from .instruction import AT_ONCE, CALL, CONTROLS, LOAD, STORE
 from .memory_side import Cache, Divider, Miss
 
 NEVER = 1 << 62
+BY_AGE = attrgetter("serial")
 PREFETCH = "pf"
 # the parts of a store, by the names of their events
 PARTS = ADDRESS_PART, DATA_PART = "agu", "std"
+NO_ROOTS = (), (None,), (None, None)
+NO_PARTS, NEVER_LACKING = {}, (None, 0)
 
 
 class Wait:
-    """Cycles in a row in which an instruction waited for one reason: that, and the entry or line it waited for."""
+    """Cycles in a row in which an instruction waited for one reason: that, and the entry or line it waited for. `last` is NEVER as long as
+    it lasts until a writer is Done: its end is set then."""
 
     __slots__ = ("first", "last", "reason", "serial", "pc")
 
@@ -33,53 +38,74 @@ class Item:
     `unit` is how it issued: `alu`, `mul`, `div`, `agu`, or a load by its access: `hit`, `miss`, `join`, `second`, `forward`,
     `fault`; where it has two lines, by the one that comes later. `lines` are those of a load and `written` those of a store, each with
     the letter of how it was found. A store has issued once both of its parts have: `parts` has the cycle of each, by the name of its event.
-    `roots` are, for each source, the youngest load from which the value flows, or None. `ready` is the first cycle in which
-    it could have issued as far as its operands go. Of a load `sharers` are the stores of which one kept it for its data, and
+    `roots` are, for each source, the youngest load from which the value flows, or None; `youngest_root` is the youngest of these, the last
+    of them to become visible, and `root` what flows on from here. `ready` is the first cycle in which
+    it could have issued as far as its operands go; `open` is the wait that lasts until a writer is Done. Of a load `sharers` are the
+    stores of which one kept it for its data, and
     `lacking` is the last cycle in which it surely lacked miss registers, and how many of its lines then needed one; `passed` says
     whether an older store's address wasn't known as it issued, and `violated` whether it is dropped for that. `cleared` is when a store
-    is cleared, where loads pass stores.
+    is cleared, where loads pass stores. `fill` is why it was renamed no earlier, `late` what the defence took of its time, and `since`
+    what had been charged to the defence when it was first held (`slots`).
     """
 
-    __slots__ = ("number", "pc", "code", "serial", "fetched", "renamed", "ready", "issued", "unit", "due", "done",
-                 "resolved", "outcome", "mispredicted", "retired", "squashed", "trapped", "lines", "written", "output", "sources",
-                 "awaits", "consumers", "roots", "waits", "producers", "parts", "sharers", "lacking", "cleared", "passed", "violated")
+    __slots__ = ("number", "pc", "code", "kind", "serial", "fetched", "renamed", "ready", "issued", "unit", "due", "done", "resolved", "outcome",
+                 "mispredicted", "retired", "squashed", "trapped", "lines", "written", "output", "sources", "awaits", "consumers", "roots",
+                 "root", "youngest_root", "waits", "producers", "parts", "sharers", "lacking", "cleared", "passed", "violated", "open",
+                 "fill", "late", "since")
 
     def __init__(self, number, pc, code, cycle):
-        self.number, self.pc, self.code, self.fetched = number, pc, code, cycle
-        self.serial = self.renamed = self.ready = self.issued = self.unit = self.due = self.done = None
-        self.resolved = self.outcome = self.retired = self.squashed = self.trapped = self.output = None
-        self.mispredicted, self.lines, self.written = False, (), ()
-        self.cleared, self.passed, self.violated = None, False, False
-        self.sources, self.roots, self.consumers, self.awaits = (), (), [], 0
-        self.waits, self.producers, self.parts, self.sharers, self.lacking = [], (), {}, (), (None, 0)
+        self.number, self.pc, self.code, self.kind, self.fetched = number, pc, code, code.kind, cycle
+        self.serial = self.renamed = self.ready = self.issued = self.unit = self.due = self.done = self.resolved = self.outcome = None
+        self.retired = self.squashed = self.trapped = self.output = self.cleared = None
+        self.root = self.youngest_root = self.open = self.fill = self.late = self.since = None
+        self.mispredicted = self.passed = self.violated = False
+        self.lines = self.written = self.sources = self.roots = self.producers = self.sharers = self.consumers = self.waits = ()
+        self.awaits, self.parts, self.lacking = 0, NO_PARTS, NEVER_LACKING
 
     @property
     def gone(self):
         """The cycle in which it retired or was squashed."""
         return self.squashed if self.retired is None else self.retired
 
-    @property
-    def youngest_root(self):
-        """The youngest load from which any operand flows: the last one of them to become visible."""
-        return youngest(self.roots)
-
     def wait(self, cycle, reason, cause):
         """It waits in this cycle too, as before or for another reason."""
-        last = self.waits[-1] if self.waits else None
         serial = cause.serial if cause is not None else None
-        if last and last.last == cycle - 1 and last.reason == reason and last.serial == serial:
-            last.last = cycle
-        else:
+        if self.waits:
+            last = self.waits[-1]
+            if last.last == cycle - 1 and last.reason == reason and last.serial == serial:
+                last.last = cycle
+                return
             self.waits.append(Wait(cycle, reason, cause))
+        else:
+            self.waits = [Wait(cycle, reason, cause)]
+
+    def sleep(self):
+        """What it waits for in this cycle keeps it until a writer is Done."""
+        self.open = self.waits[-1]
+        self.open.last = NEVER
+
+    def wake(self, cycle):
+        """In this cycle it no longer waits as before."""
+        self.open.last = cycle - 1
+        self.open = None
 
     def forget(self):
         """Lets go of the other items that it names, so that a long trace takes no memory."""
-        self.sources, self.roots, self.consumers, self.sharers = (), (), [], ()
+        self.sources = self.roots = self.consumers = self.sharers = ()
+        self.root = self.youngest_root = self.late = None
 
 
 def youngest(items):
     """The youngest of these items, of which some may be None."""
-    return max((item for item in items if item is not None), key=lambda item: item.serial, default=None)
+    return max((item for item in items if item is not None), key=BY_AGE, default=None)
+
+
+def enter(entries, item):
+    """Puts an entry to its place by age."""
+    place = len(entries)
+    while place and entries[place - 1].serial > item.serial:
+        place -= 1
+    entries.insert(place, item)
 
 
 LOAD_UNITS = {"h": "hit", "m": "miss", "j": "join", "2": "second", "f": "forward", "x": "fault"}
@@ -89,22 +115,26 @@ class Pipeline:
     """The machine's state, as far as a trace tells it. `misses` are the miss registers that are taken, by their lines, and `learnt` the
     bits of dependence that are set, each with the cycle in which it was.
 
-    `waiting` are the entries that haven't issued, by age, `open_stores` the stores that aren't Done, and `shadows` the
-    entries that keep younger ones from being visible: what stands behind the first of them isn't.
+    `waiting` are the entries that haven't issued, by age, and `awake` those of them that don't wait for a writer alone; `open_stores` the
+    stores that aren't Done, and `shadows` the
+    entries that keep younger ones from being visible: what stands behind the first of them isn't. `outcomes` are the branches and JALRs
+    that are Done and not resolved, `clearable` the stores of known address that aren't cleared. `dues` are the lines that are to come, by
+    their cycles. In the cycles that are looked at `counts` is set, and what is counted of cycles is counted.
     """
 
     def __init__(self, image, description):
         self.image, self.description = image, description
         self.cycle = self.count = 0
         self.queue, self.window, self.flight, self.serials = deque(), deque(), deque(), {}
-        self.waiting, self.open_stores, self.shadows = [], [], []
-        self.controls = []
+        self.waiting, self.awake, self.open_stores, self.shadows = [], [], [], []
+        self.controls, self.outcomes, self.clearable = [], [], []
+        self.dues = {}
         self.writers = [None] * 32
         self.loads = self.stores = 0
         self.cache = Cache(description.line, description.sets, description.ways)
         self.second = Cache(description.line, description.second_sets, description.second_ways)
         self.divider, self.misses = Divider(), {}
-        self.learnt = {}
+        self.learnt, self.charged, self.counts = {}, 0, True
         self.fills, self.prefetches, self.last_squash = [], [], None
 
     @property
@@ -114,7 +144,7 @@ class Pipeline:
 
     def is_hidden(self, root):
         """The load isn't visible, and so what flows from it is tainted. One that has retired is."""
-        return root is not None and root.serial > self.point
+        return root is not None and bool(self.shadows) and root.serial > self.shadows[0].serial
 
     def entry(self, words):
         """The entry in flight of an event's serial."""
@@ -137,8 +167,14 @@ class Pipeline:
             consumer.awaits -= 1
             if not consumer.awaits:
                 consumer.ready = self.cycle
-        if item.code.kind == STORE:
+                consumer.late = item.late or consumer.late
+            if consumer.open is not None:
+                consumer.wake(self.cycle)
+                enter(self.awake, consumer)
+        if item.kind == STORE:
             self.open_stores.remove(item)
+        elif item.kind in CONTROLS and item.resolved is None:
+            enter(self.outcomes, item)
         self.leave_shadows(item)
 
     def faults(self, item):
@@ -151,18 +187,21 @@ class Pipeline:
 
     def leave_shadows(self, item):
         """A load or store that is safe hides nothing; under `spectre` a store hides nothing once it is cleared."""
-        if item not in self.shadows or item.code.kind == STORE and not self.is_cleared(item):
+        if item.kind != STORE and (item.kind != LOAD or self.description.model != FUTURISTIC):
+            return
+        if item not in self.shadows or item.kind == STORE and not self.is_cleared(item):
             return
         safe = item.done is not None and not self.faults(item)
-        if item.code.kind in (LOAD, STORE) and (safe or self.description.model == SPECTRE):
+        if safe or self.description.model == SPECTRE:
             self.shadows.remove(item)
 
     # ---- Resolve and Clear
 
     def resolve(self, item, outcome):
         item.resolved, item.outcome = self.cycle, outcome
-        if item in self.controls:
-            self.controls.remove(item)
+        for entries in (self.controls, self.outcomes):
+            if item in entries:
+                entries.remove(item)
         if item in self.shadows:
             self.shadows.remove(item)
 
@@ -174,6 +213,8 @@ class Pipeline:
 
     def clear(self, store):
         store.cleared = self.cycle
+        if store in self.clearable:
+            self.clearable.remove(store)
         self.leave_shadows(store)
 
     def bit_of(self, load):
@@ -200,9 +241,11 @@ class Pipeline:
             dropped.append(self.window.pop())
         for gone in dropped:
             gone.squashed = self.cycle
+            if gone.open is not None:
+                gone.wake(self.cycle)
             if gone.serial is not None:
                 self.leave(gone)
-        for entries in (self.waiting, self.open_stores, self.shadows, self.controls):
+        for entries in (self.waiting, self.awake, self.open_stores, self.shadows, self.controls, self.outcomes, self.clearable):
             entries[:] = [entry for entry in entries if entry.squashed is None]
         self.divider.drop_from(serial)
         self.writers = [None] * 32
@@ -213,8 +256,10 @@ class Pipeline:
     def leave(self, item):
         """The window has one entry less."""
         del self.serials[item.serial]
-        self.loads -= item.code.kind == LOAD
-        self.stores -= item.code.kind == STORE
+        if item.kind == LOAD:
+            self.loads -= 1
+        elif item.kind == STORE:
+            self.stores -= 1
 
     # ---- Retire
 
@@ -224,8 +269,10 @@ class Pipeline:
         self.window.popleft()
         item.retired = self.cycle
         self.leave(item)
-        if item in self.open_stores:
-            self.open_stores.remove(item)
+        if item.kind == STORE:
+            for entries in (self.open_stores, self.clearable):
+                if item in entries:
+                    entries.remove(item)
         if self.writers[item.code.destination] is item:
             self.writers[item.code.destination] = None
         if self.shadows and self.shadows[0] is item:
@@ -261,7 +308,9 @@ class Pipeline:
 
     def issue_parts(self, item, name):
         """A part of a store issues, in version 1 both with one event. It executes from the later one on."""
-        item.parts.update(dict.fromkeys(PARTS if self.description.version == 1 else (name,), self.cycle))
+        item.parts = {**item.parts, **dict.fromkeys(PARTS if self.description.version == 1 else (name,), self.cycle)}
+        if self.description.depend and name == ADDRESS_PART and item.kind == STORE and item.cleared is None:
+            enter(self.clearable, item)
         if len(item.parts) == len(PARTS):
             self.waiting.remove(item)
             item.issued, item.unit, item.due = self.cycle, ADDRESS_PART, self.cycle + 1
@@ -303,6 +352,7 @@ class Pipeline:
         self.second.touch(line)
         due = self.cycle + (self.description.miss_latency if from_memory else self.description.second_latency)
         self.misses[line] = Miss(due, from_memory)
+        self.dues.setdefault(due, []).append(line)
         return due
 
     # ---- Rename and Fetch
@@ -322,27 +372,38 @@ class Pipeline:
 
     def find_sources(self, item):
         """The writers of its sources, the roots of these, and how many aren't Done."""
-        item.sources = tuple(self.writers[register] if register else None for register in item.code.sources)
-        item.producers = tuple(writer.number for writer in item.sources if writer is not None)
-        item.roots = tuple(root_of(writer) for writer in item.sources)
-        for writer in item.sources:
-            if writer is not None and writer.done is None:
-                writer.consumers.append(item)
-                item.awaits += 1
-        if not item.awaits and not item.code.at_once:
+        writers = [self.writers[register] if register else None for register in item.code.sources]
+        item.sources = tuple(writers)
+        if writers and (writers[0] is not None or writers[-1] is not None):
+            item.producers = tuple([writer.number for writer in writers if writer is not None])
+            item.roots = tuple([writer.root if writer is not None else None for writer in writers])
+            for root in item.roots:
+                if root is not None and (item.youngest_root is None or root.serial > item.youngest_root.serial):
+                    item.youngest_root = root
+            for writer in writers:
+                if writer is not None and writer.done is None:
+                    writer.consumers = writer.consumers or []
+                    writer.consumers.append(item)
+                    item.awaits += 1
+        else:
+            item.roots = NO_ROOTS[len(writers)]
+        item.root = item if item.kind == LOAD else item.youngest_root
+        if not item.awaits and item.kind not in AT_ONCE:
             item.ready = self.cycle + 1
 
     def enter_lists(self, item):
-        kind = item.code.kind
-        self.loads += kind == LOAD
-        self.stores += kind == STORE
-        if kind == STORE:
+        kind = item.kind
+        if kind == LOAD:
+            self.loads += 1
+        elif kind == STORE:
+            self.stores += 1
             self.open_stores.append(item)
-        if not item.code.at_once:
-            self.waiting.append(item)
-        if item.code.is_control:
+        elif kind in CONTROLS:
             self.controls.append(item)
-        if self.hides(item):
+        if kind not in AT_ONCE:
+            self.waiting.append(item)
+            self.awake.append(item)
+        if self.description.model != OFF and self.hides(item):
             self.shadows.append(item)
 
     def hides(self, item):
@@ -363,13 +424,6 @@ class Pipeline:
     def has_call(self):
         """A call is in flight, and so alone."""
         return bool(self.window) and self.window[0].code.kind == CALL
-
-
-def root_of(writer):
-    """The youngest load from which a value flows, by who writes it; the load itself is younger than its own roots."""
-    if writer is None:
-        return None
-    return writer if writer.code.kind == LOAD else youngest(writer.roots)
 
 
 def lines_of(step):

@@ -7,8 +7,8 @@ made from its text, the image and the description alone.
 from collections import Counter
 
 from .description import FUTURISTIC, HOLD
-from .instruction import CALL, DIVISION, LOAD, MULTIPLICATION, STORE
-from .pipeline import PARTS
+from .instruction import CALL, CONTROLS, DIVISION, LOAD, MULTIPLICATION, STORE
+from .pipeline import PARTS, enter
 
 # to issue
 OPERAND, TAINT, OLDER_STORE, PORT, MISS_REGISTER, DIVIDER = (
@@ -24,6 +24,7 @@ HELD_BACK = "load held back"
 TAINTED_OUTCOME, ONE_A_CYCLE = "taint, to be resolved", "one resolved a cycle"
 TAINTED_CLEARING, ONE_CLEARED = "taint, to be cleared", "one cleared a cycle"
 HELD = (TAINT, STORE_TAINT, TAINTED_OUTCOME, TAINTED_CLEARING)
+DEFENCE = (*HELD, HELD_BACK)
 
 # what each part of a store waits for: its operand, and its port
 PART_REASONS = dict(zip(PARTS, ((BASE, ADDRESS_PORT), (DATA, DATA_PORT))))
@@ -40,6 +41,8 @@ class Reasons:
         self.pipeline, self.description = pipeline, pipeline.description
         self.unexplained, self.idle = [], Counter()
         self.presumed, self.head, self.ports, self.last_load = set(), None, {}, -1
+        self.futuristic, self.results_held = self.description.model == FUTURISTIC, self.description.defence == HOLD
+        self.free_ports = {"load": 1, "store": 1, "multiplier": 1, "divider": 1, "arithmetic": self.description.alus, **dict.fromkeys(PARTS, 1)}
 
     @property
     def holds(self):
@@ -49,19 +52,25 @@ class Reasons:
     def tell(self, text):
         self.unexplained.append(f"cycle {self.pipeline.cycle}: {text}")
 
+    def wait(self, item, reason, cause):
+        """The item waits in this cycle; where the defence holds it for the first time, what was charged to that before is kept."""
+        item.wait(self.pipeline.cycle, reason, cause)
+        if item.since is None and reason in DEFENCE:
+            item.since = self.pipeline.charged
+
     # ---- Resolve
 
     def resolve(self, resolved, squashes):
         """The oldest branch or JALR that is Done, with no tainted operand, is resolved: at most one a cycle."""
         first = None
-        for item in list(self.pipeline.controls):
-            if item.done is None or squashes and item.serial > resolved:
+        for item in list(self.pipeline.outcomes):
+            if squashes and item.serial > resolved:
                 continue
             root = self.tainted_root(item)
             if root is None and first is None and item.serial != resolved and self.presume_fault(item.youngest_root):
                 root = item.youngest_root
             if root is not None:
-                item.wait(self.pipeline.cycle, TAINTED_OUTCOME, root)
+                self.wait(item, TAINTED_OUTCOME, root)
             elif first is None:
                 first = item.serial
             else:
@@ -79,9 +88,7 @@ class Reasons:
     def clear(self, cleared):
         """The oldest store that isn't cleared, with a known address that isn't tainted, is cleared: at most one a cycle."""
         first = None
-        for store in list(self.pipeline.window) if self.description.depend else ():
-            if store.code.kind != STORE or self.pipeline.is_cleared(store) or self.pipeline.lacks_address(store):
-                continue
+        for store in list(self.pipeline.clearable):
             root = store.roots[0]
             hidden = self.pipeline.is_hidden(root)
             if not hidden and first is None and store.serial != cleared:
@@ -89,7 +96,7 @@ class Reasons:
             if not hidden and first is None:
                 first = store.serial
             elif store.issued is not None:
-                store.wait(self.pipeline.cycle, *((TAINTED_CLEARING, root) if hidden else (ONE_CLEARED, None)))
+                self.wait(store, *((TAINTED_CLEARING, root) if hidden else (ONE_CLEARED, None)))
         if first != cleared:
             self.tell(f"{named(cleared)} is cleared, where {named(first)} may be")
 
@@ -98,23 +105,40 @@ class Reasons:
     def issue(self, issued):
         """Each entry that may issue does, oldest first, as long as its port is left. `issued` has the names of the events of each
         serial."""
-        cycle, loads = self.pipeline.cycle, [serial for serial, told in issued.items() if "ld" in told]
-        self.last_load = max(loads, default=-1)
-        self.ports = {"load": 1, "store": 1, "multiplier": 1, "divider": 1, "arithmetic": self.description.alus}
-        self.ports.update(dict.fromkeys(PARTS, 1))
-        for item in self.pipeline.waiting:
-            if item.code.kind == STORE and self.description.version != 1:
-                self.issue_parts(item, issued.get(item.serial, ()))
-                continue
-            goes = item.serial in issued
-            last = item.waits[-1] if item.waits and not goes else None
-            if item.awaits and last and last.reason == OPERAND and self.is_awaited(last, cycle):
-                last.last = cycle
-                continue
+        pipeline, cycle = self.pipeline, self.pipeline.cycle
+        for serial in issued:
+            self.rouse(pipeline.serials.get(serial), cycle)
+        if not pipeline.awake:
+            return
+        self.last_load = max((serial for serial, told in issued.items() if "ld" in told), default=-1)
+        self.ports = dict(self.free_ports)
+        awake, pipeline.awake = pipeline.awake, []
+        for item in awake:
+            told = issued.get(item.serial, ())
+            if item.kind == STORE and self.description.version != 1:
+                stays = self.issue_parts(item, told)
+            else:
+                stays = self.issue_whole(item, bool(told), cycle)
+            if stays:
+                pipeline.awake.append(item)
+
+    def rouse(self, item, cycle):
+        """An entry issues that was known to wait: it is looked at as any other."""
+        if item is not None and item.open is not None:
+            item.wake(cycle)
+            enter(self.pipeline.awake, item)
+
+    def issue_whole(self, item, goes, cycle):
+        """What issues in one piece. Answers whether it has to be looked at in the next cycle too."""
+        if item.awaits and not goes:
+            item.wait(cycle, OPERAND, next((writer for writer in item.sources if writer is not None and writer.done is None), None))
+            item.sleep()
+            return False
+        reason, cause = self.to_issue(item, goes)
+        if reason is None and not goes and self.futuristic and any(map(self.presume_fault, self.roots_of_wait(item))):
             reason, cause = self.to_issue(item, goes)
-            if reason is None and not goes and any(map(self.presume_fault, self.roots_of_wait(item))):
-                reason, cause = self.to_issue(item, goes)
-            self.keep(item, goes, reason, cause)
+        self.keep(item, goes, reason, cause)
+        return not goes
 
     def roots_of_wait(self, item):
         """The loads that have to be visible for this entry to issue: a load also asks for those of the addresses of stores without data."""
@@ -125,67 +149,74 @@ class Reasons:
 
     def is_held_back(self, writer):
         """Whether this writer is a load whose result isn't used until it is visible."""
-        held = self.description.defence == HOLD and writer is not None and writer.code.kind == LOAD
-        return held and self.pipeline.is_hidden(writer)
+        return self.results_held and writer is not None and writer.kind == LOAD and self.pipeline.is_hidden(writer)
 
     def issue_parts(self, item, told):
-        """Each part of a store goes as soon as its own source is there and its port is left. Told is what the first of them waits for."""
-        waits = []
+        """Each part of a store goes as soon as its own source is there and its port is left. Told is what the first of them waits for.
+        Answers whether the store has to be looked at in the next cycle too."""
+        waits, lacks, asleep = [], False, True
         for part, writer in zip(PARTS, item.sources):
             if part in item.parts:
                 continue
-            operand, port = PART_REASONS[part]
-            if writer is not None and writer.done is None:
-                waits.append((operand, writer))
-            elif self.is_held_back(writer) or self.may_be_held_back(writer, part in told or not self.ports[part]):
-                waits.append((HELD_BACK, writer))
-            elif not self.ports[part]:
-                waits.append((port, None))
-            elif part in told:
-                self.ports[part] -= 1
-                continue
-            else:
-                self.tell(f"store {item.serial} lacks its `{part}`, and nothing tells why")
-                continue
-            if part in told:
-                self.tell(f"store {item.serial} issues `{part}`, but has to wait: {waits[-1][0]}")
+            reason = self.to_issue_part(item, part, writer, part in told)
+            if reason is not None and part in told:
+                self.tell(f"store {item.serial} issues `{part}`, but has to wait: {reason}")
+            if reason is not None:
+                waits.append((reason, None if reason in (ADDRESS_PORT, DATA_PORT) else writer))
+            if part not in told:
+                lacks, asleep = True, asleep and reason in (BASE, DATA)
         if waits:
-            item.wait(self.pipeline.cycle, *waits[0])
+            self.wait(item, *waits[0])
+        if lacks and asleep and waits and waits[0][0] in (BASE, DATA):
+            item.sleep()
+            return False
+        return lacks
+
+    def to_issue_part(self, item, part, writer, goes):
+        """The reason why a part of a store can't issue; None where it can. It takes its port then."""
+        operand, port = PART_REASONS[part]
+        if writer is not None and writer.done is None:
+            return operand
+        if self.is_held_back(writer) or self.may_be_held_back(writer, goes or not self.ports[part]):
+            return HELD_BACK
+        if not self.ports[part]:
+            return port
+        if goes:
+            self.ports[part] -= 1
+        else:
+            self.tell(f"store {item.serial} lacks its `{part}`, and nothing tells why")
+        return None
 
     def may_be_held_back(self, writer, goes):
         """Whether a fault that the trace doesn't tell holds this load back, where nothing else explains a wait for it."""
-        read = self.description.defence == HOLD and writer is not None and writer.code.kind == LOAD
+        read = self.results_held and writer is not None and writer.kind == LOAD
         return read and not goes and self.presume_fault(writer)
-
-    def is_awaited(self, wait, cycle):
-        """It waited for this writer in the cycle before, and the writer still isn't Done."""
-        writer = self.pipeline.serials.get(wait.serial)
-        return wait.last == cycle - 1 and writer is not None and writer.done is None
 
     def keep(self, item, goes, reason, cause):
         """Takes the port of an entry that is tried, and keeps the reason of one that waits."""
-        port = PORT_OF.get(item.code.kind, "arithmetic")
+        port = PORT_OF.get(item.kind, "arithmetic")
         if reason in (None, MISS_REGISTER, TWO_REGISTERS):
             self.ports[port] -= 1
         if goes and reason is not None:
             self.tell(f"entry {item.serial} issues, but has to wait: {reason}")
         elif reason is not None:
-            item.wait(self.pipeline.cycle, reason, cause)
+            self.wait(item, reason, cause)
         elif not goes:
             self.tell(f"entry {item.serial} waits, and nothing tells why")
 
     def to_issue(self, item, goes):
         """The reason why this entry can't issue, and the entry that it waits for; None and None where it can."""
-        kind = item.code.kind
+        kind = item.kind
         if item.awaits:
             return OPERAND, next((writer for writer in item.sources if writer is not None and writer.done is None), None)
-        held = next(filter(self.is_held_back, item.sources), None)
+        held = next(filter(self.is_held_back, item.sources), None) if self.results_held else None
         if held is not None:
             return HELD_BACK, held
-        if kind in (LOAD, DIVISION):
-            root = self.tainted_root(item)
-            if root is not None:
-                return TAINT, root
+        if kind not in (LOAD, DIVISION):
+            return (None, None) if self.ports[PORT_OF.get(kind, "arithmetic")] else (PORT, None)
+        root = item.youngest_root
+        if root is not None and self.pipeline.is_hidden(root):
+            return TAINT, root
         if kind == LOAD:
             reason, store = self.behind_stores(item)
             if reason is not None:
@@ -205,6 +236,8 @@ class Reasons:
         where its address is tainted, or it covers a byte of the load. Without `taint`: what would keep it if nothing were tainted.
         """
         stores = self.older_open_stores(load)
+        if not stores:
+            return None, None
         if self.description.version == 1:
             return (OLDER_STORE, stores[0]) if stores else (None, None)
         tests = [
@@ -220,7 +253,10 @@ class Reasons:
 
     def older_open_stores(self, load):
         """The older stores that aren't Done; in version 2, when Issue begins, these lack a part."""
-        return [store for store in self.pipeline.open_stores if store.serial < load.serial]
+        stores = self.pipeline.open_stores
+        if not stores or stores[0].serial > load.serial:
+            return []
+        return [store for store in stores if store.serial < load.serial]
 
     def tried(self, load, goes):
         """Why a load doesn't issue that no other rule keeps: it finds too few miss registers. Or, in version 2, an older store without
@@ -287,18 +323,22 @@ class Reasons:
         expected = self.to_retire()
         if len(retired) > expected or len(retired) < expected and not ends:
             self.tell(f"{len(retired)} entries retire, {expected} may")
-        if not retired:
+        if not retired and self.pipeline.counts:
             self.explain_idle(ends)
 
     def to_retire(self):
         """How many turns find an entry that may retire, as far as no fault stands in the way."""
         turns = stores = 0
         for item in self.pipeline.window:
-            stores += item.code.kind == STORE
-            ready = item.code.kind == CALL or item.done is not None and not (item.code.is_control and item.resolved is None)
-            ready = ready and (item.code.kind != STORE or self.pipeline.is_cleared(item))
-            if turns == self.description.retire_width or not ready or stores > 1:
+            kind = item.kind
+            if turns == self.description.retire_width or item.done is None and kind != CALL:
                 break
+            if kind in CONTROLS and item.resolved is None:
+                break
+            if kind == STORE:
+                stores += 1
+                if stores > 1 or not self.pipeline.is_cleared(item):
+                    break
             turns += 1
         return turns
 

@@ -2,23 +2,29 @@
 from . import Fault
 from .checks import Checks
 from .front_end import FrontEnd
+from .instruction import DIVISION
 from .pipeline import PREFETCH, Pipeline
 from .reasons import Reasons
+from .slots import Slots
 from .trace import CLEAR, COMPLETE, FETCH, FILL, ISSUE, RENAME, RESOLVE, RETIRE
+
+LOAD_EVENTS = ("ld", PREFETCH)
 
 
 class Replay:
     """The run that a trace tells. `items` gives what became of each fetched instruction; then `reasons` is complete.
 
-    Another tool may give a pipeline that keeps more of the run.
+    Another tool may give a pipeline that keeps more of the run. What is counted of cycles is counted of those of the span, from the first
+    to the last; `occupancy` is kept where it is asked for.
     """
 
-    def __init__(self, trace, image, description, pipeline=None):
+    def __init__(self, trace, image, description, pipeline=None, span=(1, None)):
         self.trace = trace
         self.pipeline = pipeline or Pipeline(image, description)
         self.reasons = Reasons(self.pipeline)
         self.front = FrontEnd(self.pipeline, self.reasons.tell)
         self.checks = Checks(self.pipeline, self.reasons.tell)
+        self.slots, self.occupancy, self.span = Slots(self.pipeline), None, span
         self.retired = 0
 
     def items(self, until=None):
@@ -26,13 +32,19 @@ class Replay:
 
         Those that are in flight at the end come last. With `until` only the cycles up to that one are read.
         """
+        flight, ends = self.pipeline.flight, False
         for row in self.trace:
             if until is not None and row.cycle > until:
                 break
             self.step(row)
-            yield from self.gone()
+            ends = row.ends
+            if flight and (flight[0].retired or flight[0].squashed):
+                yield from self.gone()
         self.end(self.trace.end)
-        yield from self.pipeline.flight
+        for item in flight:
+            if item.open is not None:
+                item.wake(self.pipeline.cycle + (not ends))
+        yield from flight
 
     def end(self, end):
         """What the last line says: the counts, and that the oldest entry traps."""
@@ -52,24 +64,35 @@ class Replay:
         """One cycle."""
         phases = row.phases()
         self.pipeline.cycle = row.cycle
+        self.pipeline.counts = self.span[0] <= row.cycle and (self.span[1] is None or row.cycle <= self.span[1])
         try:
             self.take(row, phases)
+            if self.occupancy is not None and self.pipeline.counts:
+                self.occupancy.add(self.pipeline, len(phases[RETIRE]) and sum(words[0] == "ret" for words in phases[RETIRE]))
         except ValueError:
             raise Fault(f"cycle {row.cycle}: a number is none in `{' '.join(row.events)}`") from None
+        except (LookupError, AttributeError, TypeError):
+            raise Fault(f"cycle {row.cycle}: `{' '.join(row.events)}` can't follow; is it the trace of this image and description?") from None
 
     def take(self, row, phases):
         """The seven phases, and Clear behind Resolve. After an end in Retire no later phase acts."""
-        self.fill([int(words[1], 16) for words in phases[FILL]])
-        self.complete([self.pipeline.entry(words) for words in phases[COMPLETE]])
+        pipeline, cycle = self.pipeline, row.cycle
+        if phases[FILL] or cycle in pipeline.dues:
+            self.fill([int(words[1], 16) for words in phases[FILL]])
+        if phases[COMPLETE] or cycle in self.checks.due:
+            self.complete([pipeline.entry(words) for words in phases[COMPLETE]])
         squashed = self.resolve(phases[RESOLVE])
         violated = self.clear(phases[CLEAR])
         self.retire(phases[RETIRE], row.ends)
         if not row.ends:
             self.issue(phases[ISSUE])
             self.rename(phases[RENAME])
-            fetched = [self.pipeline.fetch(int(words[1], 16)) for words in phases[FETCH]]
+            fetched = [pipeline.fetch(int(words[1], 16)) for words in phases[FETCH]]
+            if self.slots.behind is not None:
+                self.slots.fetch(fetched)
             self.front.after_fetch(fetched, squashed or violated is not None)
-            self.front.after_violation(fetched, violated)
+            if violated is not None:
+                self.front.after_violation(fetched, violated)
 
     def fill(self, lines):
         self.checks.fill(lines)
@@ -83,7 +106,7 @@ class Replay:
 
     def resolve(self, events):
         """Answers whether there was a squash."""
-        if not events and not self.pipeline.controls:
+        if not events and not self.pipeline.outcomes:
             return False
         if events and events[0][0] != "res":
             raise Fault(f"cycle {self.pipeline.cycle}: `{':'.join(events[0])}` doesn't follow a res")
@@ -96,11 +119,12 @@ class Replay:
         self.pipeline.resolve(resolved, events[0][2])
         if squashes:
             self.checks.squash(int(events[-1][1]), self.pipeline.squash(resolved))
+            self.slots.squash(resolved)
         return squashes
 
     def clear(self, events):
         """Answers the load that is violated, or none."""
-        if not events and not self.pipeline.description.depend:
+        if not events and not self.pipeline.clearable:
             return None
         if events and events[0][0] != "clr":
             raise Fault(f"cycle {self.pipeline.cycle}: `{':'.join(events[0])}` doesn't follow a clr")
@@ -113,11 +137,15 @@ class Replay:
         self.pipeline.clear(store)
         if violated is not None:
             self.checks.squash(int(events[-1][1]), self.pipeline.violate(violated))
+            self.slots.squash(violated)
         return violated
 
     def retire(self, events, ends):
         self.reasons.retire([int(words[1]) for words in events if words[0] == "ret"], ends)
         retired = []
+        if not events:
+            self.slots.retire(retired, ends)
+            return
         for words in events:
             if words[0] == "ret":
                 retired.append(self.pipeline.entry(words))
@@ -132,28 +160,44 @@ class Replay:
         for item in retired:
             self.checks.retired(item)
         self.retired += len(retired)
+        self.slots.retire(retired, ends)
 
     def issue(self, events):
-        told, steps = {}, self.steps(events)
-        for (name, serial, *_), *_ in steps:
-            told.setdefault(int(serial), set()).add(name)
-        self.reasons.issue(told)
-        self.checks.order(steps)
+        told, steps = {}, self.steps(events) if events else []
         for step in steps:
-            item = self.pipeline.entry(step[0])
+            words = step[0]
+            told.setdefault(int(words[1]), []).append(words[0])
+        self.reasons.issue(told)
+        if not steps:
+            self.close()
+            return
+        self.checks.order(steps)
+        items = [self.pipeline.entry(step[0]) for step in steps]
+        for item, step in zip(items, steps):
             self.checks.unit(item, step[0][0])
             if step[0][0] == "ld":
                 self.checks.access(item, step)
-        for step in steps:
-            item = self.pipeline.entry(step[0])
+        for item, step in zip(items, steps):
             self.pipeline.issue(item, step)
             self.checks.issued(item)
-        self.reasons.explain_head()
+            if item.waits or item.kind == DIVISION:
+                self.slots.issue(item)
+        self.close()
+
+    def close(self):
+        """Issue is over: what it made of the oldest entry."""
+        if self.reasons.head is not None:
+            self.reasons.explain_head()
+        if self.slots.head is not None:
+            self.slots.close()
 
     def steps(self, events):
         """The events of Issue, those of one load together: one for each of its lines, and that of what is prefetched behind them."""
         steps = []
         for words in events:
+            if words[0] not in LOAD_EVENTS:
+                steps.append([words])
+                continue
             last = steps[-1][-1] if steps else [None, None]
             if words[0] == PREFETCH and last[0] == "ld" or words[0] == "ld" and last[:2] == words[:2]:
                 steps[-1].append(words)
@@ -165,6 +209,9 @@ class Replay:
 
     def rename(self, events):
         for words in events:
-            self.front.before_rename(int(words[1]))
-            self.pipeline.rename(int(words[1]), int(words[2], 16))
-        self.front.after_rename(len(events))
+            serial = int(words[1])
+            self.front.before_rename(serial)
+            self.slots.rename(self.pipeline.rename(serial, int(words[2], 16)))
+        reason = self.front.after_rename(len(events))
+        if reason is not None:
+            self.slots.stall(reason, self.pipeline.queue[0].pc)

@@ -1,9 +1,12 @@
 """`stats`: the numbers of a run."""
 from collections import Counter
 
+from . import Fault
 from .front_end import QUEUE_EMPTY
 from .instruction import BRANCH, JALR, LOAD
-from .reasons import HELD, HELD_BACK, STORE_ADDRESS
+from .places import Places, function_of
+from .reasons import DEFENCE, STORE_ADDRESS
+from .slots import Occupancy, Slots
 
 LOAD_KINDS = (("hit", "loads: hit"), ("miss", "loads: miss"), ("join", "loads: join a miss"), ("second", "loads: second level"),
               ("forward", "loads: forwarded"), ("fault", "loads: fault"))
@@ -47,65 +50,139 @@ class Counts:
             self.waited[item.pc] += any(wait.reason == STORE_ADDRESS for wait in item.waits)
         self.add_held(item)
 
+    @property
+    def mispredictions(self):
+        return self.mispredicted[BRANCH] + self.mispredicted[JALR]
+
+    @property
+    def misses(self):
+        """The loads that found a line neither in the first level nor on its way."""
+        return self.units["miss"] + self.units["second"]
+
     def add_held(self, item):
         """The cycles in which only the defence kept it from issuing, from being resolved or from being cleared."""
-        cycles = sum(wait.last - wait.first + 1 for wait in item.waits if wait.reason in (*HELD, HELD_BACK))
+        cycles = sum(wait.last - wait.first + 1 for wait in item.waits if wait.reason in DEFENCE)
         if cycles:
             self.held[item.pc] += 1
             self.held_cycles[item.pc] += cycles
             self.held_dropped[item.pc] += item.retired is None
 
 
-def count(items):
+def count(items, holds=lambda item: True, places=None):
+    """The counts of these items, of those that the test takes; by address too where places are given."""
     counts = Counts()
     for item in items:
-        counts.add(item)
+        if holds(item):
+            counts.add(item)
+            if places is not None:
+                places.add(item)
     return counts
 
 
-def lines_of(replay, disassembler):
+class Run:
+    """A run taken through, and its numbers: of the cycles of a span, of the instructions that went in it, and of one function alone
+    where that is asked for."""
+
+    def __init__(self, name, replay, disassembler, span=(1, None), function=None, by_place=True):
+        self.name, self.replay, self.disassembler, self.function = name, replay, disassembler, function
+        self.image, self.span = disassembler.image, span
+        replay.span, replay.occupancy = span, Occupancy(replay.pipeline.description.retire_width)
+        self.places = Places() if by_place else None
+        self.counts = count(replay.items(span[1]), self.holds, self.places)
+        if replay.pipeline.cycle < span[0]:
+            raise Fault(f"--from {span[0]} is behind the last cycle of the trace, {replay.pipeline.cycle}")
+        if function is not None and not self.counts.fetched:
+            raise Fault(f"no instruction of <{function}> was fetched" + (" in these cycles" if span != (1, None) else ""))
+        self.slots = self.slots_of_function() if function is not None else replay.slots
+
+    def slots_of_function(self):
+        """The slots that are charged to the function's addresses."""
+        whole = self.replay.slots
+        part = Slots(self.replay.pipeline)
+        part.retired = {pc: number for pc, number in whole.retired.items() if function_of(self.image, pc) == self.function}
+        part.lost = {key: number for key, number in whole.lost.items() if function_of(self.image, key[1]) == self.function}
+        part.cycles = whole.cycles
+        return part
+
+    def holds(self, item):
+        first, last = self.span
+        inside = (item.gone is None or item.gone >= first) and (last is None or item.fetched <= last)
+        return inside and (self.function is None or function_of(self.image, item.pc) == self.function)
+
+    @property
+    def cycles(self):
+        return self.replay.slots.cycles
+
+    def by_reason(self):
+        """The cycles in which nothing retired, by reason and address; of one function, those that are charged to it."""
+        return {key: number for key, number in self.replay.reasons.idle.items()
+                if self.function is None or function_of(self.image, key[1]) == self.function}
+
+
+def lines_of(run, most=MOST):
     """The lines of `stats`."""
-    counts = count(replay.items())
-    pipeline, reasons, end = replay.pipeline, replay.reasons, replay.trace.end
-    cycles, description = pipeline.cycle, pipeline.description
-    rows = [
-        ("end", end.text if end else "none: the trace is cut"),
-        ("cycles", cycles),
-        ("retired", counts.retired),
-        ("instructions a cycle", f"{counts.retired / max(cycles, 1):.3f}"),
-        ("fetched", counts.fetched),
-        ("renamed", counts.renamed),
-        ("squashed", counts.squashed),
-    ]
-    rows += [(f"resolved: {name}", f"{counts.resolved[kind]}, mispredicted {counts.mispredicted[kind]}")
-             for name, kind in (("branches", BRANCH), ("JALRs", JALR), ("returns", RETURN))]
-    kinds = [kind for kind in LOAD_KINDS if kind[0] != "second" or description.second_sets]
-    rows += [(name, executed(counts, unit)) for unit, name in kinds]
-    rows += [("loads in two lines", counts.two_lines)] * description.misaligned
-    rows += [(name, executed(counts, unit)) for unit, name in OTHER_UNITS]
-    rows += [
-        ("stores retired", f"{sum(counts.stores.values())}, to a line in the cache {counts.stores[True]}"),
-        ("bytes put out", counts.output),
-        ("lines filled", f"{len(pipeline.fills)}, dropped for them {sum(drop is not None for _, _, drop in pipeline.fills)}"),
-    ]
-    second = sum(answer == "2" for _, _, answer in pipeline.prefetches)
-    rows += [("lines prefetched", f"{len(pipeline.prefetches)}, from the second level {second}")] * description.prefetch
-    rows += [
-        ("stores cleared", counts.cleared),
-        ("loads that passed stores", f"{counts.passed.total()}, violated {counts.violated.total()}"),
-        ("bits of dependence set", f"{len(pipeline.learnt)} of {description.depend}"),
-    ] * bool(description.depend)
-    rows += [
-        (reasons.holds, f"{sum(counts.held.values())} instructions, {sum(counts.held_cycles.values())} cycles; "
-                          f"{sum(counts.held_dropped.values())} never went on"),
-        ("unexplained", len(reasons.unexplained)),
-    ]
-    yield from (f"{name:26}{value}" for name, value in rows)
-    yield from idle_lines(reasons, cycles)
+    replay, reasons = run.replay, run.replay.reasons
+    yield from (f"{name:26}{value}" for name, value in rows_of(run))
+    idle = run.by_reason()
+    yield from idle_lines(idle, run.cycles)
+    yield from stack_lines(run)
+    yield from occupancy_lines(replay.occupancy)
     yield from stall_lines(replay.front)
-    yield from cost_lines(reasons, disassembler)
-    yield from passing_lines(counts, pipeline, disassembler)
-    yield from held_lines(counts, reasons, disassembler)
+    yield from cost_lines(idle, run.disassembler, most)
+    yield from passing_lines(run.counts, replay.pipeline, run.disassembler, most)
+    yield from held_lines(run.counts, reasons, run.disassembler, most)
+
+
+def rows_of(run):
+    """The names and values of the first lines."""
+    counts, pipeline, reasons, end = run.counts, run.replay.pipeline, run.replay.reasons, run.replay.trace.end
+    cycles, description = run.cycles, pipeline.description
+    yield "end", end.text if end else "not read so far" if run.span[1] is not None else "none: the trace is cut"
+    if run.function is not None:
+        yield "function", run.function
+    if run.span != (1, None):
+        yield "cycles from, to", f"{run.span[0]}, {pipeline.cycle}"
+    yield "cycles", cycles
+    yield "retired", counts.retired
+    yield "instructions a cycle", f"{counts.retired / max(cycles, 1):.3f}"
+    yield "fetched", counts.fetched
+    yield "renamed", counts.renamed
+    yield "squashed", counts.squashed
+    for name, kind in (("branches", BRANCH), ("JALRs", JALR), ("returns", RETURN)):
+        yield f"resolved: {name}", f"{counts.resolved[kind]}, mispredicted {counts.mispredicted[kind]}"
+    yield "mispredicted", per_thousand(counts.mispredictions, counts.retired)
+    for unit, name in LOAD_KINDS:
+        if unit != "second" or description.second_sets:
+            yield name, executed(counts, unit)
+    yield "loads that miss", per_thousand(counts.misses, counts.retired)
+    if description.misaligned:
+        yield "loads in two lines", counts.two_lines
+    for unit, name in OTHER_UNITS:
+        yield name, executed(counts, unit)
+    yield "stores retired", f"{sum(counts.stores.values())}, to a line in the cache {counts.stores[True]}"
+    yield "bytes put out", counts.output
+    yield from memory_rows(run, pipeline, description)
+    yield reasons.holds, (f"{sum(counts.held.values())} instructions, {sum(counts.held_cycles.values())} cycles; "
+                          f"{sum(counts.held_dropped.values())} never went on")
+    yield "unexplained", len(reasons.unexplained)
+
+
+def memory_rows(run, pipeline, description):
+    """What is told of lines and of loads that pass stores."""
+    counts, (first, last) = run.counts, run.span
+    fills = [drop for cycle, _, drop in pipeline.fills if first <= cycle and (last is None or cycle <= last)]
+    yield "lines filled", f"{len(fills)}, dropped for them {sum(drop is not None for drop in fills)}"
+    if description.prefetch:
+        answers = [answer for cycle, _, answer in pipeline.prefetches if first <= cycle and (last is None or cycle <= last)]
+        yield "lines prefetched", f"{len(answers)}, from the second level {answers.count('2')}"
+    if description.depend:
+        yield "stores cleared", counts.cleared
+        yield "loads that passed stores", f"{sum(counts.passed.values())}, violated {sum(counts.violated.values())}"
+        yield "bits of dependence set", f"{len(pipeline.learnt)} of {description.depend}"
+
+
+def per_thousand(number, retired):
+    return f"{number}, {1000 * number / max(retired, 1):.2f} a thousand retired"
 
 
 def executed(counts, unit):
@@ -114,13 +191,33 @@ def executed(counts, unit):
     return f"{counts.units[unit]}" + (f", not retired {wrong}" if wrong else "")
 
 
-def idle_lines(reasons, cycles):
+def idle_lines(by_place, cycles):
     idle = Counter()
-    for (reason, _), number in reasons.idle.items():
+    for (reason, _), number in by_place.items():
         idle[reason] += number
     total = sum(idle.values())
     yield f"\nnothing retired in {total} of {cycles} cycles"
     yield from (f"{number:8}  {reason}" for reason, number in idle.most_common())
+
+
+def stack_lines(run):
+    """The CPI stack: slots, cycles (slots divided by the width) and their share, cycles an instruction."""
+    slots, sums = run.slots, run.slots.sums()
+    total = sum(sums.values())
+    whole = f"{run.cycles} cycles of {slots.width} slots, {total} in all" if run.function is None else f"{total} that are charged to {run.function}"
+    yield f"\nslots of retirement: {whole}"
+    yield "   slots    cycles   share  cycles an instruction"
+    for reason, number in sums.items():
+        cycles = number / slots.width
+        yield f"{number:8}{cycles:10.2f}{100 * number / max(total, 1):7.1f}%  {cycles / max(run.counts.retired, 1):7.3f}  {reason}"
+
+
+def occupancy_lines(occupancy):
+    yield "\nentries at the end of a cycle: on average, at most"
+    for name, total, most in zip(occupancy.PLACES, occupancy.sums, occupancy.most):
+        yield f"{total / max(occupancy.cycles, 1):8.2f}{most:6}  {name}"
+    yield "\ncycles by how many retired in them"
+    yield from (f"{cycles:8}  {number}" for number, cycles in enumerate(occupancy.retired))
 
 
 def stall_lines(front):
@@ -129,30 +226,30 @@ def stall_lines(front):
     yield from (f"{number:8}  {reason}" for reason, number in front.rename.most_common() if reason != QUEUE_EMPTY)
 
 
-def cost_lines(reasons, disassembler):
+def cost_lines(idle, disassembler, most):
     """The places at which most cycles without retirement were spent: the oldest entry's, or the mispredicted jump's."""
     costs = Counter()
-    for (_, pc), number in reasons.idle.items():
+    for (_, pc), number in idle.items():
         if pc is not None:
             costs[pc] += number
     yield "\ncycles without retirement by place, the most first"
-    yield from (f"{number:8}  {disassembler.place(pc)}" for pc, number in costs.most_common(MOST))
+    yield from (f"{number:8}  {disassembler.place(pc)}" for pc, number in costs.most_common(most))
 
 
-def passing_lines(counts, pipeline, disassembler):
+def passing_lines(counts, pipeline, disassembler, most):
     """The loads that passed stores wrongly: how often before their bits were set, and how often they waited for addresses then."""
-    if counts.violated.total():
+    if sum(counts.violated.values()):
         yield "\nloads that passed stores wrongly by place, the most first"
-        for pc, number in counts.violated.most_common(MOST):
+        for pc, number in counts.violated.most_common(most):
             if number:
                 bit = pc // 4 % pipeline.description.depend
                 yield (f"{number:8}  {disassembler.place(pc)}: passed stores {counts.passed[pc]} times; bit {bit} is set in cycle "
                        f"{pipeline.learnt[bit]}; waited for an older store's address {counts.waited[pc]} times")
 
 
-def held_lines(counts, reasons, disassembler):
+def held_lines(counts, reasons, disassembler, most):
     if counts.held:
         yield f"\ncycles {reasons.holds} by place, the most first"
-        for pc, number in counts.held_cycles.most_common(MOST):
+        for pc, number in counts.held_cycles.most_common(most):
             yield (f"{number:8}  {disassembler.place(pc)}: {counts.held[pc]} times, "
                    f"{counts.held_dropped[pc]} never went on")

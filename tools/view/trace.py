@@ -1,7 +1,9 @@
 """The text that `trace` writes, as rows (docs/formats.md, "The trace")."""
 import gzip
+import os
 import re
 import sys
+import zlib
 from typing import NamedTuple
 
 from . import Fault
@@ -15,6 +17,7 @@ EVENTS = {
     "ret": (RETIRE, 2), "st": (RETIRE, 4), "call": (RETIRE, 3), "alu": (ISSUE, 2), "mul": (ISSUE, 2), "div": (ISSUE, 3),
     "agu": (ISSUE, 2), "std": (ISSUE, 2), "ld": (ISSUE, 4), "pf": (ISSUE, 3), "ren": (RENAME, 3), "fet": (FETCH, 2),
 }
+NONE = (None, 0)
 WITHOUT_LINE = ("f", "x")
 # how the line of a load, of a store, and one that is prefetched may be found
 FOUND = {"ld": ("h", "m", "j", "2"), "st": ("h", "m"), "pf": ("m", "2")}
@@ -32,14 +35,15 @@ class Row(NamedTuple):
     def phases(self):
         """The events of each phase, as lists of their words: `["ld", "3", "0001fff0", "m"]`. What is dropped behind a violation is
         of Clear."""
-        phases = [[] for _ in range(FETCH + 1)]
+        phases = [], [], [], [], [], [], [], []
         for text in self.events:
             words = text.split(":")
-            phase, length = EVENTS.get(words[0], (None, 0))
-            found = len(words) == length and words[-1] in FOUND.get(words[0], words)
-            if not found and not (words[0] == "ld" and len(words) == 3 and words[2] in WITHOUT_LINE):
-                raise Fault(f"cycle {self.cycle}: `{text}` is no event of a trace")
-            if words[0] == "sq" and phases[CLEAR]:
+            name = words[0]
+            phase, length = EVENTS.get(name, NONE)
+            if len(words) != length or name in FOUND and words[-1] not in FOUND[name]:
+                if not (name == "ld" and len(words) == 3 and words[2] in WITHOUT_LINE):
+                    raise Fault(f"cycle {self.cycle}: `{text}` is no event of a trace")
+            elif name == "sq" and phases[CLEAR]:
                 phase = CLEAR
             phases[phase].append(words)
         return phases
@@ -58,34 +62,38 @@ class Trace:
     """The rows of a trace, to be read once and in order.
 
     `end` is the last line, once the rows are read; it is None where the text stops short of one, as a trace does that
-    couldn't be written whole. A line without its newline is such a torn end, and is left out.
+    couldn't be written whole. A line without its newline is such a torn end, and is left out. A text without any cycle is refused.
+    Lines that come behind some cycle are the rest of a trace.
     """
 
-    def __init__(self, lines):
-        self.lines = lines
+    def __init__(self, lines, behind=0):
+        self.lines, self.behind = lines, behind
         self.end = None
 
     def __iter__(self):
-        number, row = 0, None
+        number, row = self.behind, None
         for line in self.lines:
             if not line.endswith("\n"):
                 break
             if line.startswith("end "):
                 self.end = read_end(line.rstrip("\n"))
                 break
-            if row:
+            if row is not None:
                 yield row
             number += 1
             row = read_row(line, number)
-        if row:
+        if number == 0:
+            raise Fault("the trace is empty: it has no cycle")
+        if row is not None:
             yield row._replace(ends=self.end is not None and self.end.how != "budget")
 
 
 def read_row(line, number):
     """The row of a line, which has to be the one of this cycle."""
-    first, *events = line[:-1].split(" ")
-    if first != str(number):
+    events = line[:-1].split(" ")
+    if events[0] != str(number):
         raise Fault(f"line {number} is no line of cycle {number}: `{line.strip()[:60]}`")
+    del events[0]
     return Row(number, events, False)
 
 
@@ -101,8 +109,23 @@ def open_trace(name):
     """The file of a trace, `-` for standard input; where the name ends in `.gz` it is unpacked."""
     try:
         if name == "-":
+            sys.stdin.reconfigure(encoding="ascii")
             return sys.stdin
-        return gzip.open(name, "rt") if name.endswith(".gz") else open(name, encoding="ascii")
+        return gzip.open(name, "rt", encoding="ascii") if name.endswith(".gz") else open(name, encoding="ascii")
+    except OSError as error:
+        raise Fault(f"{name}: {error.strerror}") from None
+
+
+def lines_of_file(file, name):
+    """The lines of a trace's file. A compressed file that is cut ends where it is cut, as a text does; what is no text is refused."""
+    try:
+        yield from file
+    except EOFError:
+        return
+    except UnicodeDecodeError as error:
+        raise Fault(f"{name}: no text of a trace: byte {error.object[error.start]:02x}") from None
+    except (gzip.BadGzipFile, zlib.error):
+        raise Fault(f"{name}: not compressed by gzip, or damaged") from None
     except OSError as error:
         raise Fault(f"{name}: {error.strerror}") from None
 
@@ -112,20 +135,30 @@ class Progress:
 
     EVERY = 20000
 
-    def __init__(self, file, screen=sys.stderr):
-        self.file, self.screen, self.shown = file, screen, screen.isatty()
+    def __init__(self, file, name="the trace", screen=sys.stderr):
+        self.file, self.lines, self.screen, self.shown = file, lines_of_file(file, name), screen, screen.isatty()
 
     def __iter__(self):
+        return self.with_progress() if self.shown else self.lines
+
+    def with_progress(self):
         try:
-            for number, line in enumerate(self.file):
-                if self.shown and number % self.EVERY == 0:
-                    self.show(f"cycle {number}")
+            for number, line in enumerate(self.lines):
+                if number % self.EVERY == 0:
+                    self.show(f"cycle {number}{self.share()}")
                 yield line
         finally:
-            if self.shown:
-                self.show("")
-                self.screen.write("\r")
+            self.show("")
+            self.screen.write("\r")
+
+    def share(self):
+        """How much of the file is read, where that is known."""
+        try:
+            raw = self.file.buffer.raw
+            return f", {100 * raw.tell() // max(os.fstat(raw.fileno()).st_size, 1)} % of the trace"
+        except (AttributeError, OSError):
+            return ""
 
     def show(self, text):
-        self.screen.write(f"\r{text:16}")
+        self.screen.write(f"\r{text:40}")
         self.screen.flush()

@@ -1,46 +1,78 @@
-"""The commands of README.md write what stands below them: each line in its place, where `..` stands for any lines."""
+"""The samples of the documents: how they are read, and what is told of one that is wrong. That those of this repository are right is asked by
+test_check.py."""
 import os
 import re
-import subprocess
+import sys
 import unittest
 
-TOP = os.path.dirname(os.path.dirname(os.path.dirname(os.path.dirname(os.path.abspath(__file__)))))
-PROGRAM = "crates/stt_cli/out/stt_cli"
+HERE = os.path.dirname(os.path.abspath(__file__))
+sys.path.append(os.path.dirname(HERE))
+
+import samples
+
+PAGE = """# A page
+
+    $ echo one
+    one
+
+    $ printf 'a b\\n' \\
+        && echo c
+    ..
+    c
+
+    echo no sample
+
+Text.
+
+    $ echo "two words" > /dev/null
+    $ echo two words
+    two ..
+"""
 
 
-def samples(text):
-    """Each command of the page with the lines below it."""
-    found = []
-    for block in re.findall(r"(?:^    .*\n)+", text, re.M):
-        lines = [line[4:] for line in block.splitlines()]
-        if lines[0].startswith("$ "):
-            found.append((lines[0][2:].split(), lines[1:]))
-    return found
+class Reading(unittest.TestCase):
+    def test_commands_and_lines(self):
+        self.assertEqual(samples.samples(PAGE), [
+            ("echo one", ["one"]), ("printf 'a b\\n' \\\n    && echo c", ["..", "c"]), ('echo "two words" > /dev/null', []),
+            ("echo two words", ["two .."])])
 
-
-def pattern(lines):
-    """A regular expression for the text in which `..` stands for any lines, none among them."""
-    return "".join("(?:.*\n)*?" if line == ".." else re.escape(line) + "\n" for line in lines)
-
-
-class Samples(unittest.TestCase):
-    def test_the_pattern(self):
+    def test_pattern(self):
         cases = [(["a", "..", "b"], "a\nb\n", True), (["a", "..", "b"], "a\nx\ny\nb\n", True), (["a", "b"], "a\nx\nb\n", False),
-                 (["..", "b"], "b\nc\n", False)]
+                 (["..", "b"], "b\nc\n", False), (["a .."], "a b c\n", True), (["a .."], "ab\n", False), (["a.."], "a..\n", False)]
         for lines, text, fits in cases:
             with self.subTest(lines=lines, text=text):
-                self.assertEqual(bool(re.fullmatch(pattern(lines), text)), fits)
+                self.assertEqual(bool(re.fullmatch(samples.pattern(lines), text)), fits)
 
-    @unittest.skipUnless(os.path.exists(os.path.join(TOP, PROGRAM)), "the program isn't built")
-    def test_readme(self):
-        with open(os.path.join(TOP, "README.md"), encoding="utf-8") as file:
-            found = samples(file.read())
-        self.assertEqual([command[1] for command, _ in found], ["isa", "run", "trace", "bench", "pair"])
-        for command, lines in found:
-            with self.subTest(command=" ".join(command)):
-                written = subprocess.run(command, cwd=TOP, capture_output=True, text=True, timeout=60)
-                self.assertEqual(written.returncode, 0)
-                self.assertRegex(written.stdout, "\\A" + pattern(lines) + "\\Z")
+    def test_what_is_wrong(self):
+        self.assertEqual(samples.wrong("page", PAGE, "/bin/true"), [])
+        cases = [("    one\n", "    two\n", "page: `echo one` doesn't write `two`"),
+                 ("$ echo one\n", "$ false\n", "page: `false` doesn't write `one`"),
+                 ("> /dev/null\n", "> /dev/null; exit 3\n", "page: `echo \"two words\" > /dev/null; exit 3` ends with status 3"),
+                 ("echo two words\n", "echo two words; echo three\n", "page: `echo two words; echo three` writes its lines in another order")]
+        for old, new, told in cases:
+            with self.subTest(new=new):
+                found = samples.wrong("page", PAGE.replace(old, new, 1), "/bin/true")
+                self.assertEqual([it[:len(told)] for it in found], [told])
+
+    def test_program(self):
+        """A command finds the program by STT_CLI, whatever that is here."""
+        self.assertEqual(samples.wrong("page", "    $ $STT_CLI && echo yes\n    yes\n", "/bin/true"), [])
+
+    def test_what_is_lacking(self):
+        self.assertIsNone(samples.lacking("echo one"))
+        kept, samples.NEEDS = samples.NEEDS, [("build/gcc", "no-such-compiler")]
+        self.addCleanup(setattr, samples, "NEEDS", kept)
+        self.assertEqual(samples.lacking("make build/gcc/x.elf"), "no-such-compiler")
+
+
+class ThisRepository(unittest.TestCase):
+    def test_there_are_samples(self):
+        """Each command of the program has one in README.md, and the verdict."""
+        with open(os.path.join(samples.TOP, "README.md"), encoding="utf-8") as file:
+            found = samples.samples(file.read())
+        words = [command.split()[1] for command, _ in found if command.startswith("$STT_CLI")]
+        self.assertEqual(words, ["isa", "run", "trace", "bench", "pair"])
+        self.assertTrue(any(command.startswith("tools/verdict/verdict") for command, _ in found))
 
 
 if __name__ == "__main__":

@@ -12,6 +12,7 @@ import re, sys
 text = open(sys.argv[2]).read()
 key = tuple(re.findall(r'^(?:model|defence) = "(\\w+)"', text, re.M))
 assert sys.argv[1] == "pair" and sys.argv[5:] == ["--cycles", "500"], sys.argv
+assert ("own" in sys.argv[3]) == ("rob = 24" in text), "the value that is set is for images of one's own"
 said = {("off", "stt"): "premise yes\\nunequal 15\\nretired 5 cycles 20\\n", ("spectre", "stt"): "{spectre}",
         ("futuristic", "stt"): "premise no\\nunequal end\\nretired 5 cycles 30\\n",
         ("spectre", "hold"): "premise yes\\nequal\\nretired 5 cycles 19\\n", ("futuristic", "hold"): "premise no\\nequal\\nretired 5 cycles 20\\n"}
@@ -41,7 +42,18 @@ class Table(unittest.TestCase):
         told = self.table("premise yes\nequal\nretired 5 cycles 20\n")
         row = ("| `tainted_divisor.s` | `spectre` | **unequal**, 20 | equal, 20 (+0) | **unequal**, 30 (+10) | equal, 19 (-1) | "
                "equal, 20 (+0) |")
-        self.assertEqual((told.returncode, told.stdout.splitlines(), told.stderr), (0, [*HEADING, row], ""))
+        self.assertEqual((told.returncode, told.stdout.splitlines()[:3], told.stderr), (0, [*HEADING, row], ""))
+
+    def test_images_of_ones_own(self):
+        """A row for each pair under one description, in which a value is set; what is faster than without protection is explained."""
+        one, two = support.file_of("own_1.elf", b"1"), support.file_of("own_2.elf", b"2")
+        words = "--program", stand_in("premise yes\nequal\nretired 5 cycles 20\n"), "--cycles", "500", "--set", "core.rob=24"
+        told = material.command("defences", one, two, two, two, *words)
+        self.assertEqual((told.returncode, told.stderr), (0, ""))
+        *table, _, why = told.stdout.splitlines()
+        self.assertEqual([row.split("|")[1:5] for row in table[2:]], [
+            [" `own_1` ", " `spectre` ", " **unequal**, 20 ", " equal, 20 (+0) "], [" `own_2` ", " no secret ", " 20 ", " 20 (+0) "]])
+        self.assertIn("Faster than without protection: own_1, own_2. A branch on a wrong path", why)
 
     def test_a_promise_that_is_not_kept(self):
         told = self.table("premise yes\nunequal 3\nretired 5 cycles 20\n")
@@ -49,7 +61,9 @@ class Table(unittest.TestCase):
         self.assertIn("tainted_divisor.s: traces that are proved equal aren't", told.stderr)
 
     def test_refusals(self):
-        for words, note in [(["--program", "/nowhere"], "no simulator"), (["--assembly", support.example("bounds_check.s")], "no table stt")]:
+        for words, note in [(["--program", "/nowhere"], "no simulator"), (["--assembly", support.example("bounds_check.s")], "no TOML text"),
+                            (["--set", "core.rob=16,32"], "one value"), (["--set", "stt.model=off"], "the table has each"),
+                            (["one.elf"], "images come in pairs")]:
             words = ["--compiler", "none", *(["--program", stand_in("")] if "/nowhere" not in words else []), *words]
             told = material.command("defences", *words)
             self.assertEqual(told.returncode, 2, words)

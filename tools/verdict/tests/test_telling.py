@@ -1,4 +1,4 @@
-"""What a trace tells of bytes that differ, on the worked traces (docs/machine.md, "Worked traces")."""
+"""What a trace tells of bytes that differ, on the worked traces (docs/traces.md)."""
 import os
 import unittest
 

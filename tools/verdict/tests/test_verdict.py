@@ -1,7 +1,13 @@
 """The command: verdicts on the gadgets, statuses, refusals (docs/using.md, "Read a verdict")."""
+import os
+import signal
+import subprocess
+import sys
+import tempfile
+import time
 import unittest
 
-from material import BOUND_0, BOUND_1, CODE, CORE, CORE_FUTURISTIC, command, gadget, gadget_file, needs_program, support
+from material import BOUND_0, BOUND_1, CODE, CORE, CORE_FUTURISTIC, TOOLS, command, gadget, gadget_file, needs_program, support
 from verdict import judge, report, simulator
 from view.description import read_description
 
@@ -107,7 +113,7 @@ class Gadgets(unittest.TestCase):
                     self.assertEqual(case.pair.unequal, parted)
 
     def test_fault_shadow_parts(self):
-        """The first unequal event is the load behind the secret, in cycle 16: docs/machine.md, "Fault shadow"."""
+        """The first unequal event is the load behind the secret, in cycle 16: docs/traces.md, "Fault shadow"."""
         told = command("verdict", CORE, *(gadget_file("fault_shadow", data) for data in HIDES)).stdout
         self.assertIn("traces        first unequal cycle: 16\n", told)
         self.assertRegex(told, r"only A: ld:5:0001f900:m .*00010014")
@@ -121,9 +127,12 @@ class Gadgets(unittest.TestCase):
         self.assertIn("memory        equal\n", told.stdout)
 
     def test_budget(self):
-        """A run that is cut is looked at as far as it goes."""
+        """A run that is cut is looked at as far as it goes, and the verdict says how far."""
         path = support.example("bounds_check.elf")
-        self.assertIn("traces        equal in 12 cycles\n", command("verdict", CORE, path, path, "--cycles", "12").stdout)
+        told = command("verdict", CORE, path, path, "--cycles", "12")
+        self.assertIn("traces        equal in the first 12 cycles\n", told.stdout)
+        self.assertIn("\nverdict       vacuous, in the first 12 cycles, of runs that go on: the traces are equal, ", told.stdout)
+        self.assertEqual(told.returncode, report.STATUS["vacuous"])
 
     def test_refusals(self):
         image, nothing = support.example("bounds_check.elf"), support.example("nothing.elf")
@@ -133,6 +142,53 @@ class Gadgets(unittest.TestCase):
             told = command("verdict", *words)
             self.assertEqual((told.returncode, told.stdout), (2, ""), words)
             self.assertIn(note, told.stderr)
+
+
+class OtherPrograms(unittest.TestCase):
+    """What isn't the simulator is told so in one line; an interrupt has a status of its own."""
+
+    def stand_in(self, text):
+        path = support.file_of("stand_in", text.encode())
+        os.chmod(path, 0o755)
+        return path
+
+    def words(self, text):
+        image = support.example("bounds_check.elf")
+        return CORE, image, image, "--program", self.stand_in(text)
+
+    def test_refusals(self):
+        answers = "#!/bin/sh\n[ $1 = pair ] && printf 'premise yes\\nequal\\nretired 5 cycles 21\\n'\n"
+        for text, note in [("#!/bin/sh\necho hello\n", "doesn't answer `pair`"), ("#!/bin/sh\nprintf '\\377\\0'\n", "doesn't answer `pair`"),
+                           ("#!/bin/sh\n", "doesn't answer `pair`"), (answers + "exit 0\n", "writes no trace"), ("", "stand_in"),
+                           (answers + "[ $1 = trace ] && printf '1 \\377\\nend exit 0 retired 1 cycles 1\\n'\nexit 0\n", "no event")]:
+            with self.subTest(note=note):
+                told = command("verdict", *self.words(text))
+                self.assertEqual((told.returncode, told.stdout, told.stderr.count("\n")), (2, "", 1), told.stderr)
+                self.assertIn(note, told.stderr)
+
+    def test_long_traces(self):
+        """They are read by PyPy, where it is there: here by a stand-in that tells that it was asked."""
+        long = "#!/bin/sh\n[ $1 = pair ] && printf 'premise yes\\nequal\\nretired 5 cycles 21\\n' && exit 0\n" \
+               "head -c 20000001 /dev/zero\nprintf '\\nend exit 0 retired 1 cycles 1\\n'\n"
+        with tempfile.TemporaryDirectory() as folder:
+            pypy = os.path.join(folder, "pypy3")
+            with open(pypy, "w", encoding="utf-8") as file:
+                file.write("#!/bin/sh\nshift\necho by pypy: $1\n")
+            os.chmod(pypy, 0o755)
+            words = [sys.executable, os.path.join(TOOLS, "verdict", "verdict"), *self.words(long)]
+            told = subprocess.run(words, capture_output=True, text=True, check=False, env=os.environ | {"PATH": f"{folder}:{os.environ['PATH']}"})
+        self.assertEqual((told.returncode, told.stdout, told.stderr), (0, f"by pypy: {CORE}\n", ""))
+
+    def test_interrupt(self):
+        mark = os.path.join(support.FOLDER.name, "begun")
+        words = self.words(f"#!/bin/sh\ntouch {mark}\nexec sleep 60\n")
+        child = subprocess.Popen([sys.executable, os.path.join(TOOLS, "verdict", "verdict"), *words], stderr=subprocess.PIPE, text=True,
+                                 start_new_session=True)
+        while not os.path.exists(mark) and child.poll() is None:
+            time.sleep(0.05)
+        os.killpg(child.pid, signal.SIGINT)
+        _, note = child.communicate(timeout=20)
+        self.assertEqual((child.returncode, note), (130, "verdict: interrupted\n"))
 
 
 class PathCommand(unittest.TestCase):

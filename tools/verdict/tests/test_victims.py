@@ -90,6 +90,17 @@ class Victims(unittest.TestCase):
         told = told.replace(folder, "examples/c/build/gcc").replace(support.example("medium.toml"), "examples/medium.toml")
         self.assertEqual(textwrap.dedent(sample), told)
 
+    def test_lines_of_the_source(self):
+        """An image with line numbers has file and line in what shows: here the line of the table that is looked up, or the brace behind."""
+        if missing("gcc"):
+            self.skipTest(missing("gcc"))
+        with tempfile.TemporaryDirectory() as folder:
+            images = [f"{folder}/gcc/table_{secret}.elf" for secret in "ab"]
+            subprocess.run(["make", "-C", FOLDER, f"BUILD={folder}", *images, "EXTRA=-g"], check=True, capture_output=True)
+            told = material.command("verdict", support.example("medium.toml"), *images).stdout
+        number = material.read("examples", "c", "table.c").splitlines().index("  return box[place];") + 1
+        self.assertRegex(told, rf"(?m)^shown .*<lookup\+0x8> table.c:({number}|{number + 1}): its access, 1 time")
+
     def test_runs(self):
         """Each victim's run on the instruction set is the simulator's."""
         for _, folder in self.each_compiler():

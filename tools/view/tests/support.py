@@ -12,6 +12,7 @@ sys.path.insert(0, os.path.join(ROOT, "tools"))
 from evaluate import model
 from generate.generated import image
 from verdict.loaded import load
+from view import stats
 from view.description import OPTIONAL, read_description
 from view.disassembly import KINDS, Disassembler
 from view.image import Image
@@ -95,7 +96,7 @@ def worked_trace(heading):
 
 def worked_rows(heading):
     """The lines of a worked trace as the page has them, by cycle; the last one by `end`."""
-    with open(os.path.join(ROOT, "docs", "machine.md"), encoding="utf-8") as file:
+    with open(os.path.join(ROOT, "docs", "traces.md"), encoding="utf-8") as file:
         section = file.read().split(f"\n### {heading}\n")[1].split("\n### ")[0]
     rows = next(block for block in section.split("```")[1::2] if re.match(r"\n\d+ \w+:", block)).strip().splitlines()
     return {int(cycle) if cycle.isdigit() else cycle: row for cycle, row in ((row.split()[0], row) for row in rows)}
@@ -124,6 +125,11 @@ def fresh(lines, image_file, description_file):
     """A run that hasn't been taken through yet, and the texts of its instructions, which no disassembler changes."""
     loaded = Image(image_file)
     return Replay(Trace(iter(lines)), loaded, read_description(description_file)), Disassembler(loaded, KINDS)
+
+
+def taken(run, disassembler, **more):
+    """A run taken through, with its numbers."""
+    return stats.Run("a.trace", run, disassembler, **more)
 
 
 def fresh_bounds_check():

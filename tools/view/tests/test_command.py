@@ -1,5 +1,7 @@
 """The command: its statuses, and what it tells of wrong words."""
+import gzip
 import os
+import signal
 import subprocess
 import sys
 import unittest
@@ -50,6 +52,47 @@ class Command(unittest.TestCase):
                       ["stats", self.files[3], *self.files]):
             answer = view(*words)
             self.assertEqual((answer.returncode, answer.stdout, answer.stderr.count("\n")), (2, "", 1), words)
+
+    def refused(self, *words, text=None):
+        """What is told of wrong input: one line, and the status of errors."""
+        answer = view(*words, text=text)
+        self.assertEqual((answer.returncode, answer.stdout, answer.stderr.count("\n")), (2, "", 1), (words, answer.stderr))
+        return answer.stderr
+
+    def test_what_is_no_trace(self):
+        packed = gzip.compress(self.text.encode())
+        for name, data, word in [("random", bytes(range(128, 256)), "byte 80"), ("byte", self.text.encode()[:90] + b"\xff\n", "byte ff"),
+                                 ("false.gz", self.text.encode(), "gzip"), ("damaged.gz", packed[:40] + bytes(60), "gzip"),
+                                 ("empty", b"", "empty"), ("empty.gz", gzip.compress(b""), "empty")]:
+            self.assertIn(word, self.refused("stats", support.file_of(name, data), *self.files))
+
+    def test_a_packed_trace_that_is_cut_is_read_up_to_there(self):
+        path = support.file_of("whole.gz", gzip.compress(self.text.encode()))
+        self.assertIn("end exit 0 retired 5 cycles 21", view("stats", path, *self.files).stdout)
+        for cut in (gzip.compress(self.text.encode())[:-12], gzip.compress(self.text.encode(), 0)[:500]):
+            self.assertIn("none: the trace is cut", view("stats", support.file_of("cut.gz", cut), *self.files).stdout)
+
+    def test_where_nothing_can_be_written(self):
+        for path in ("/nowhere/x.html", support.FOLDER.name, "/dev/full"):
+            self.assertIn(path, self.refused("html", self.trace, *self.files, "-o", path))
+
+    def test_cycles_that_are_none(self):
+        for what in ("why", "list", "konata", "o3", "svg", "html"):
+            self.assertIn("behind --to", self.refused(what, self.trace, *self.files, "--from", "9", "--to", "8"))
+            self.assertIn("behind the last cycle", self.refused(what, self.trace, *self.files, "--from", "22"))
+            self.assertEqual(view(what, self.trace, *self.files, "--from", "21").returncode, 0)
+            self.assertEqual(view(what, self.trace, *self.files, "--from", "0").returncode, 2)
+
+    def test_an_interrupt(self):
+        path = os.path.join(support.FOLDER.name, "fifo")
+        os.mkfifo(path)
+        ran = subprocess.Popen([sys.executable, VIEW, "stats", path, *self.files], stdout=subprocess.PIPE, stderr=subprocess.PIPE, text=True)
+        with open(path, "w", encoding="ascii") as fifo:
+            fifo.write(self.text[:60])
+            fifo.flush()
+            ran.send_signal(signal.SIGINT)
+            out, err = ran.communicate(timeout=60)
+        self.assertEqual((ran.returncode, out, err), (130, "", "view: interrupted\n"))
 
     def test_help(self):
         for words in (["--help"], ["svg", "--help"]):

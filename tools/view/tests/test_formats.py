@@ -1,4 +1,4 @@
-"""What the subcommands write of the worked bounds check (docs/machine.md, "Worked traces"): a run of 21 cycles in which 13
+"""What the subcommands write of the worked bounds check (docs/traces.md): a run of 21 cycles in which 13
 items are fetched, 7 of them are dropped in cycle 17, and 5 instructions retire."""
 import re
 import unittest
@@ -17,7 +17,7 @@ def lines(module, *more):
 
 class Statistics(unittest.TestCase):
     def setUp(self):
-        self.text = "\n".join(lines(stats))
+        self.text = "\n".join(stats.lines_of(support.taken(*support.fresh_bounds_check())))
 
     def has(self, *expected):
         for line in expected:

@@ -75,13 +75,13 @@ class Levels(Runs):
     def test_what_is_counted(self):
         lines, image, description = support.stored("mixed_memory_1")
         run, disassembler = support.fresh(lines, image, description)
-        told = list(lines_of(run, disassembler))
+        told = list(lines_of(support.taken(run, disassembler)))
         for name, value in [("loads: second level", "4"), ("loads in two lines", "4"),
                             ("lines prefetched", "5, from the second level 3"), ("unexplained", "0")]:
             self.assertIn(f"{name:26}{value}", told)
 
     def test_what_is_not_there_is_not_counted(self):
         run, disassembler = support.fresh(*support.stored("late_data"))
-        told = "\n".join(lines_of(run, disassembler))
+        told = "\n".join(lines_of(support.taken(run, disassembler)))
         for name in ("second level", "two lines", "prefetched"):
             self.assertNotIn(name, told)

@@ -77,7 +77,7 @@ class Violated(unittest.TestCase):
 
     def test_stats(self):
         run, disassembler = support.fresh(*violated())
-        told = list(lines_of(run, disassembler))
+        told = list(lines_of(support.taken(run, disassembler)))
         for name, value in [("stores cleared", "1"), ("loads that passed stores", "1, violated 1"), ("bits of dependence set", "1 of 16"),
                             ("held by taint", "0 instructions, 0 cycles; 0 never went on"), ("unexplained", "0")]:
             self.assertIn(f"{name:26}{value}", told)
@@ -91,7 +91,7 @@ class Violated(unittest.TestCase):
         run, entries, _ = support.replay(lines, image, description)
         self.assertEqual((waits(entries[3]), run.reasons.unexplained), ([("4..7", "older store's address", 2)], []))
         run, disassembler = support.fresh(lines, image, description)
-        self.assertNotIn("cleared", "\n".join(lines_of(run, disassembler)))
+        self.assertNotIn("cleared", "\n".join(lines_of(support.taken(run, disassembler))))
         self.assertTrue(any("store" in text or "is cleared, where nothing may be" in text for text in self.told(depend=0)))
 
     def test_wrong_events(self):
@@ -146,7 +146,7 @@ class Held(unittest.TestCase):
         self.assertEqual(waits(entries[4]), [("5..12", "operand", 3), ("13..16", HELD_BACK, 3)])
         self.assertEqual(waits(entries[5]), [("5..16", "operand", 4)])
         run, disassembler = support.fresh(lines, *files)
-        self.assertIn(f"{'held back':26}1 instructions, 4 cycles; 1 never went on", list(lines_of(run, disassembler)))
+        self.assertIn(f"{'held back':26}1 instructions, 4 cycles; 1 never went on", list(lines_of(support.taken(run, disassembler))))
         stt = support.description("not_held", "spectre", 2)
         self.assertEqual(support.replay(lines, files[0], stt)[0].reasons.unexplained[0], "cycle 13: entry 4 waits, and nothing tells why")
 

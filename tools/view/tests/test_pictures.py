@@ -1,4 +1,5 @@
 """Pictures: what an instruction does in each cycle, and that what is drawn shows it; the difference of two traces."""
+import re
 import unittest
 from xml.etree import ElementTree
 
@@ -97,7 +98,7 @@ class Pictures(unittest.TestCase):
         text = page.page(panels())
         self.assertEqual(text.count("http"), text.count("http://www.w3.org/2000/svg"))
         self.assertIn("under &lt;spectre&gt;", text)
-        ElementTree.fromstring(text.split("\n", 1)[1].replace('<meta charset="utf-8">', ""))
+        ElementTree.fromstring(re.sub(r"<(meta|input)[^>]*>|<script>.*?</script>", "", text.split("\n", 1)[1], flags=re.S))
 
 
 class Differences(unittest.TestCase):

@@ -1,0 +1,148 @@
+"""The programs of examples/c that are no victims: each built image writes what the same source writes as a program of the host, and what
+start code, memory functions, constructors and the C library are there for happens."""
+import functools
+import glob
+import os
+import shutil
+import subprocess
+import sys
+import tempfile
+import unittest
+
+FOLDER = os.path.dirname(os.path.dirname(os.path.abspath(__file__)))
+ROOT = os.path.dirname(os.path.dirname(FOLDER))
+sys.path.append(os.path.join(ROOT, "tools"))
+
+from verdict import simulator
+
+PROGRAM = simulator.found()
+PROGRAMS = sorted(os.path.splitext(os.path.basename(path))[0] for path in glob.glob(os.path.join(FOLDER, "programs", "*.c")))
+PICOLIBC = "/usr/lib/picolibc/riscv64-unknown-elf/include"
+GCC = bool(shutil.which("make") and shutil.which("riscv64-unknown-elf-gcc"))
+CLANG = bool(shutil.which("make") and shutil.which("clang") and shutil.which("ld.lld"))
+HOST = shutil.which("cc") or shutil.which("gcc")
+COMPILERS = [name for name, there in (("gcc", GCC), ("clang", CLANG)) if there]
+LIBRARIES = [name for name, there in (("picolibc", GCC), ("picolibc-clang", GCC and CLANG)) if there and os.path.isdir(PICOLIBC)]
+
+needs_program = unittest.skipUnless(PROGRAM, "the program isn't built")
+needs_gcc = unittest.skipUnless(GCC, "no make or gcc for RISC-V")
+
+CONSTRUCTED = "static volatile int first; static int x; __attribute__((constructor)) static void begin(void) { x = first + 5; }\n" \
+              "int main(void) { return x; }\n"
+# structures and arrays that compilers set and copy by memset and memcpy, some of them over one another
+COPIES = """
+struct big { int n[40]; } one, two;
+int places[50];
+void *memmove(void *, const void *, unsigned); int memcmp(const void *, const void *, unsigned);
+__attribute__((noinline)) struct big made(int seed) { struct big it = {{0}}; it.n[seed] = seed; return it; }
+int main(void) {
+  one = made(7); two = one;
+  for (int i = 0; i < 50; i++) places[i] = i;
+  memmove(places + 1, places, 40 * sizeof *places);
+  memmove(places, places + 2, 40 * sizeof *places);
+  return two.n[7] + (two.n[6] == 0) + (places[5] == 6) + (places[38] == 39) + (places[39] == 41)
+         + (memcmp("ab", "abc", 2) == 0) + (memcmp("b", "a", 1) > 0) + (memcmp("a", "\\xff", 1) < 0);
+}
+"""
+HEAP = """
+#include <errno.h>
+#include <stdio.h>
+#include <stdlib.h>
+int main(void) {
+  void *volatile kept;
+  int blocks = 0, answer;
+  while ((kept = malloc(10000))) blocks++;
+  answer = errno == ENOMEM && blocks > 90 && blocks < 104 && getchar() == EOF;
+  printf("no newline");
+  return answer;
+}
+"""
+
+
+@functools.cache
+def folder():
+    kept = tempfile.TemporaryDirectory()
+    folder.kept = kept
+    return kept.name
+
+
+def make(*targets):
+    targets = [target if "=" in target else os.path.join(folder(), target) for target in targets]
+    return subprocess.run(["make", "-s", "-C", FOLDER, f"BUILD={folder()}", f"VPATH={folder()}", *targets], capture_output=True,
+                          text=True, check=False)
+
+
+def written(image):
+    """The output of a run on the instruction set, and its last line without its counts."""
+    *lines, last = simulator.run(PROGRAM, "isa", os.path.join(folder(), image), "--steps", "20000000").splitlines()
+    output = b"".join(bytes.fromhex(line[4:]) for line in lines if line.startswith("out "))
+    return output.decode(), last.split(" retired ")[0]
+
+
+def source(name, text):
+    with open(os.path.join(folder(), name), "w", encoding="utf-8") as file:
+        file.write(text)
+
+
+@needs_program
+class Programs(unittest.TestCase):
+    @unittest.skipUnless(GCC and HOST, "no gcc for RISC-V and for this machine")
+    def test_as_on_the_host(self):
+        self.assertGreaterEqual(len(PROGRAMS), 12)
+        built = make(*(f"gcc/programs/{name}.elf" for name in PROGRAMS))
+        self.assertEqual((built.returncode, built.stderr), (0, ""))
+        for name in PROGRAMS:
+            with self.subTest(program=name):
+                host = os.path.join(folder(), name)
+                subprocess.run([HOST, "-w", "-fno-builtin", "-o", host, os.path.join(FOLDER, "programs", f"{name}.c")], check=True)
+                expected = subprocess.run([host], capture_output=True, text=True, check=True).stdout
+                self.assertRegex(expected, f"^{name} [0-9a-f]{{8}}\n$")
+                self.assertEqual(written(f"gcc/programs/{name}.elf"), (expected, "end exit 0"))
+
+    def test_what_compilers_call_by_themselves(self):
+        source("copies.c", COPIES)
+        for compiler in COMPILERS:
+            with self.subTest(compiler=compiler):
+                self.assertEqual(make(f"{compiler}/copies.elf").stderr, "")
+                self.assertEqual(written(f"{compiler}/copies.elf"), ("", "end exit 14"))
+
+    def test_cplusplus(self):
+        for compiler in [*COMPILERS, *LIBRARIES]:
+            with self.subTest(compiler=compiler):
+                self.assertEqual(make(f"{compiler}/shapes.elf").stderr, "")
+                self.assertEqual(written(f"{compiler}/shapes.elf"), ("29\n", "end exit 29"))
+
+    @needs_gcc
+    def test_constructors_are_never_skipped(self):
+        source("constructed.c", CONSTRUCTED)
+        refused = make("gcc/constructed.elf")
+        self.assertNotEqual(refused.returncode, 0)
+        self.assertIn("constructors would be skipped", refused.stderr)
+        self.assertEqual(make("gcc/constructed.elf", "CONSTRUCTORS=1").stderr, "")
+        self.assertEqual(written("gcc/constructed.elf"), ("", "end exit 5"))
+
+
+@needs_program
+@unittest.skipUnless(LIBRARIES, "no picolibc-riscv64-unknown-elf")
+class WithLibrary(unittest.TestCase):
+    @unittest.skipUnless(HOST, "no gcc for this machine")
+    def test_as_on_the_host(self):
+        host = os.path.join(folder(), "words_of_host")
+        subprocess.run([HOST, "-w", "-o", host, os.path.join(FOLDER, "words.c")], check=True)
+        ran = subprocess.run([host], capture_output=True, text=True, check=False)
+        for library in LIBRARIES:
+            with self.subTest(library=library):
+                self.assertEqual(make(f"{library}/words.elf").stderr, "")
+                self.assertEqual(written(f"{library}/words.elf"), (ran.stdout, f"end exit {ran.returncode}"))
+
+    def test_heap_and_streams(self):
+        """A heap of 1 MiB less image and stack, which ends with ENOMEM; no input; a line without its newline goes out at the end."""
+        source("heap.c", HEAP)
+        for library in LIBRARIES:
+            with self.subTest(library=library):
+                self.assertEqual(make(f"{library}/heap.elf").stderr, "")
+                self.assertEqual(written(f"{library}/heap.elf"), ("no newline", "end exit 1"))
+
+
+if __name__ == "__main__":
+    unittest.main()

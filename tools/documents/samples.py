@@ -1,0 +1,91 @@
+"""The printed samples of the documents: commands with what they write, in blocks of indented lines.
+
+A line that begins with `$ ` is a command, run by bash at the top of the repository, with `\\` at its end also the next line; the lines below
+it are what it writes, where a line `..` stands for any lines, and ` ..` at a line's end for its rest. A command without lines below it is
+run for those that follow. A blank line ends a block; other indented blocks are none of these."""
+import os
+import re
+import shutil
+import subprocess
+
+TOP = os.path.dirname(os.path.dirname(os.path.dirname(os.path.abspath(__file__))))
+BUILT = os.path.join(TOP, "crates", "stt_cli", "out", "stt_cli")
+DOCUMENTS = ("README.md", "docs/using.md", "docs/results.md")
+# what a command with such words asks for
+NEEDS = [("build/gcc", "riscv64-unknown-elf-gcc"), ("build/picolibc", "riscv64-unknown-elf-gcc"), ("build/clang", "clang"), ("xxd", "xxd"),
+         ("tools/verdict", "riscv64-unknown-elf-objdump")]
+PICOLIBC = "/usr/lib/picolibc"
+SECONDS = 120
+
+
+def program():
+    """The program that samples are held against: that of STT_CLI, or the built one; None where there is none."""
+    named = os.environ.get("STT_CLI") or BUILT
+    return os.path.abspath(named) if os.path.isfile(named) and os.access(named, os.X_OK) else None
+
+
+def samples(text):
+    """Each command of a page, as text, with the lines below it."""
+    found = []
+    for block in re.findall(r"(?:^    .*\n)+", text, re.M):
+        lines = [line[4:] for line in block.splitlines()]
+        if lines[0].startswith("$ "):
+            found += commands(lines)
+    return found
+
+
+def commands(lines):
+    found, goes_on = [], False
+    for line in lines:
+        if goes_on:
+            found[-1][0] += "\n" + line
+        elif line.startswith("$ "):
+            found.append([line[2:], []])
+        elif found:
+            found[-1][1].append(line)
+        goes_on = (goes_on or line.startswith("$ ")) and line.endswith("\\")
+    return [(command, lines) for command, lines in found]
+
+
+def pattern(lines):
+    """A regular expression for what these lines stand for."""
+    def of(line):
+        if line == "..":
+            return "(?:.*\n)*?"
+        return re.escape(line.removesuffix("..")) + (".*" if line.endswith(" ..") else "") + "\n"
+    return "".join(map(of, lines))
+
+
+def lacking(command):
+    """What a command asks for and isn't there, or None."""
+    names = [name for words, name in NEEDS if words in command and shutil.which(name) is None]
+    if "build/picolibc" in command and not os.path.isdir(PICOLIBC):
+        names.append("picolibc-riscv64-unknown-elf")
+    return names[0] if names else None
+
+
+def outcome(command, lines, path):
+    """What is wrong with a sample: a text, or None."""
+    try:
+        ran = subprocess.run(["bash", "-c", command], cwd=TOP, capture_output=True, text=True, timeout=SECONDS, check=False,
+                             env=os.environ | {"STT_CLI": path})
+    except subprocess.TimeoutExpired:
+        return f"takes more than {SECONDS} seconds"
+    if not lines:
+        return None if ran.returncode == 0 else f"ends with status {ran.returncode}"
+    if re.fullmatch(pattern(lines), ran.stdout):
+        return None
+    written = ran.stdout.splitlines()
+    first = next((line for line in lines if not any(re.fullmatch(pattern([line]), f"{one}\n") for one in written)), None)
+    said = ran.stderr.strip().split("\n")[0]
+    return f"doesn't write `{first}`" if first is not None else "writes its lines in another order, or others between them" + f" ({said})" * bool(said)
+
+
+def wrong(file, text, path):
+    """What is wrong with the samples of a document, a line each."""
+    told = []
+    for command, lines in samples(text):
+        problem = None if lacking(command) else outcome(command, lines, path)
+        if problem:
+            told.append(f"{file}: `{command.splitlines()[0]}` {problem}")
+    return told
