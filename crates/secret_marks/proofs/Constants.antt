@@ -1,6 +1,6 @@
 -- What an instruction computes, also of a constant, of words that are equal where no byte is marked.
 use Rattle.std.proofs.Common.{◌≡◌, ℕ, ◌+◌, ◌*◌, ◌/◌, ◌%◌, ◌^◌, ◌<◌, Bool, true, false, not, ◌&&◌, ◌||◌, List, [], ◌∷◌, refl, ap, ap₂, sym, ◌∙◌, subst, arith}
-use Rattle.std.proofs.lemmas.Nat.{and_mod, and_shr, mul-mod, shr-shr}
+use Rattle.std.proofs.lemmas.Nat.{and_mod, and_shr}
 use lib.Bits.{and_zero_r}
 use Rattle.std.proofs.lemmas.Bool.Decides.{nat_tests}
 use Rattle.std.specs.Prelude.{if◌then◌else◌, ◌==◌, bit_and}
@@ -14,9 +14,9 @@ use Rattle.rv_types.specs.declared.Op.{Op}
 use Rattle.rv_types.specs.declared.Op.TheVariants as op
 use Rattle.window_model.proofs.Booleans.{neither}
 use Rattle.secret_marks.specs.Words.{SameWord, WordMarks, any_byte, blanked, downward, either, every_byte, lowest_byte, unmarked, upward}
-use Rattle.secret_marks.specs.Results.{and_constant, left_by, of_constant, of_itself, of_operands, result_marks, right_by}
+use Rattle.secret_marks.specs.Results.{add_constant, and_constant, left_by, of_constant, of_itself, of_operands, result_marks, right_by}
 use Rattle.secret_marks.proofs.Words.{Parts, Within, from_parts, same_whole, same_within, to_parts}
-use Rattle.secret_marks.proofs.Results.{Lower, cut_one, cut_three, cut_two, equal_operands, lower_of, same_lowest, same_operation, same_twice, same_upward}
+use Rattle.secret_marks.proofs.Results.{equal_operands, same_lowest, same_operation, same_product, same_shifted, same_sum, same_twice}
 
 -- ---- AND with a constant
 
@@ -34,9 +34,6 @@ clears true c v v2 n h =
 module _ (w : WordMarks) (a a2 : ℕ) (h : SameWord w a a2) where
   p : Parts w a a2
   p = to_parts w a a2 h
-
-  l : Lower w a a2
-  l = lower_of w a a2 h
 
   and_byte : (a c k : ℕ) → bit_and a c / 2 ^ k % 2 ^ 8 ≡ bit_and (a / 2 ^ k % 2 ^ 8) (c / 2 ^ k % 2 ^ 8)
   and_byte a c k = ap (λ u. u % 2 ^ 8) (and_shr a c k) ∙ and_mod (a / 2 ^ k) (c / 2 ^ k) 8
@@ -97,16 +94,6 @@ module _ (w : WordMarks) (a a2 : ℕ) (h : SameWord w a a2) where
     part3 = λ n. let q = p.part3 n in omega (arith, q);
   })
 
-  left_any : (n : ℕ) → SameWord (upward w) (a * 2 ^ n % 2 ^ 32) (a2 * 2 ^ n % 2 ^ 32)
-  left_any n =
-      let c = 2 ^ n in
-      same_upward w (a * c % 2 ^ 32) (a2 * c % 2 ^ 32) (record {
-        one = λ n. cut_one (a * c) ∙ mul-mod a c 256 ∙ ap (λ a. a * (c % 256) % 256) (l.one n) ∙ sym (mul-mod a2 c 256) ∙ sym (cut_one (a2 * c));
-        two = λ n. cut_two (a * c) ∙ mul-mod a c 65536 ∙ ap (λ a. a * (c % 65536) % 65536) (l.two n) ∙ sym (mul-mod a2 c 65536) ∙ sym (cut_two (a2 * c));
-        three = λ n. cut_three (a * c) ∙ mul-mod a c 16777216 ∙ ap (λ a. a * (c % 16777216) % 16777216) (l.three n) ∙ sym (mul-mod a2 c 16777216) ∙ sym (cut_three (a2 * c));
-        all = λ n. ap (λ a. a * c % 2 ^ 32) (l.all n);
-      })
-
   same_left : (n : ℕ) → SameWord (left_by n w) (shl a n) (shl a2 n)
   unfolding shl
   same_left n =
@@ -114,7 +101,7 @@ module _ (w : WordMarks) (a a2 : ℕ) (h : SameWord w a a2) where
       (by_amount n 8 _ _ shl (λ q. subst (λ n. SameWord (record { byte0 = false; byte1 = w.byte0; byte2 = w.byte1; byte3 = w.byte2 }) (shl a n) (shl a2 n)) (sym q) left8)
       (by_amount n 16 _ _ shl (λ q. subst (λ n. SameWord (record { byte0 = false; byte1 = false; byte2 = w.byte0; byte3 = w.byte1 }) (shl a n) (shl a2 n)) (sym q) left16)
       (by_amount n 24 _ _ shl (λ q. subst (λ n. SameWord (record { byte0 = false; byte1 = false; byte2 = false; byte3 = w.byte0 }) (shl a n) (shl a2 n)) (sym q) left24)
-      (left_any n))))
+      (same_product w a a2 (2 ^ n) h))))
 
   right0 : SameWord w (a / 2 ^ 0) (a2 / 2 ^ 0)
   right0 = from_parts w (a / 2 ^ 0) (a2 / 2 ^ 0) (record {
@@ -148,35 +135,6 @@ module _ (w : WordMarks) (a a2 : ℕ) (h : SameWord w a a2) where
     part3 = λ n. let q = p.part3 n in omega (arith, q);
   })
 
-  -- the higher bytes together
-  record Higher : Type 0 where
-    one : w.byte3 ≡ false → a / 2 ^ 24 ≡ a2 / 2 ^ 24
-    two : (w.byte3 || w.byte2) ≡ false → a / 2 ^ 16 ≡ a2 / 2 ^ 16
-    three : (w.byte3 || w.byte2 || w.byte1) ≡ false → a / 2 ^ 8 ≡ a2 / 2 ^ 8
-    all : (w.byte3 || w.byte2 || w.byte1 || w.byte0) ≡ false → a ≡ a2
-
-  higher : Higher
-  higher =
-      let two : (w.byte3 || w.byte2) ≡ false → a / 2 ^ 16 ≡ a2 / 2 ^ 16 = λ n. let q = neither w.byte3 w.byte2 n in let u = p.part3 q.0 in let v = p.part2 q.1 in omega (arith, u, v) in
-      let three : (w.byte3 || w.byte2 || w.byte1) ≡ false → a / 2 ^ 8 ≡ a2 / 2 ^ 8 = λ n. let q = neither (w.byte3 || w.byte2) w.byte1 n in let u = two q.0 in let v = p.part1 q.1 in omega (arith, u, v) in
-      let all : (w.byte3 || w.byte2 || w.byte1 || w.byte0) ≡ false → a ≡ a2 = λ n. let q = neither (w.byte3 || w.byte2 || w.byte1) w.byte0 n in let u = three q.0 in let v = p.part0 q.1 in omega (arith, u, v) in
-      record { one = p.part3; two = two; three = three; all = all }
-
-  -- a shift is made of higher bytes alone
-  shifted : (n k : ℕ) → a / 2 ^ k ≡ a2 / 2 ^ k → a / 2 ^ n / 2 ^ k ≡ a2 / 2 ^ n / 2 ^ k
-  shifted n k q = turned a n k ∙ ap (λ u. u / 2 ^ n) q ∙ sym (turned a2 n k)
-    where
-      turned : (v n k : ℕ) → v / 2 ^ n / 2 ^ k ≡ v / 2 ^ k / 2 ^ n
-      turned v n k = let q : n + k ≡ k + n = omega arith in shr-shr v n k ∙ ap (λ j. v / 2 ^ j) q ∙ sym (shr-shr v k n)
-
-  right_any : (n : ℕ) → SameWord (downward w) (a / 2 ^ n) (a2 / 2 ^ n)
-  right_any n = from_parts (downward w) (a / 2 ^ n) (a2 / 2 ^ n) (record {
-    part0 = λ k. ap (λ v. v / 2 ^ n % 256) (higher.all k);
-    part1 = λ k. ap (λ v. v % 256) (shifted n 8 (higher.three k));
-    part2 = λ k. ap (λ v. v % 256) (shifted n 16 (higher.two k));
-    part3 = λ k. shifted n 24 (higher.one k);
-  })
-
   same_right : (n : ℕ) → SameWord (right_by n w) (shr a n) (shr a2 n)
   unfolding shr
   same_right n =
@@ -184,11 +142,27 @@ module _ (w : WordMarks) (a a2 : ℕ) (h : SameWord w a a2) where
       (by_amount n 8 _ _ shr (λ q. subst (λ n. SameWord (record { byte0 = w.byte1; byte1 = w.byte2; byte2 = w.byte3; byte3 = w.byte3 }) (shr a n) (shr a2 n)) (sym q) right8)
       (by_amount n 16 _ _ shr (λ q. subst (λ n. SameWord (record { byte0 = w.byte2; byte1 = w.byte3; byte2 = w.byte3; byte3 = w.byte3 }) (shr a n) (shr a2 n)) (sym q) right16)
       (by_amount n 24 _ _ shr (λ q. subst (λ n. SameWord (every_byte w.byte3) (shr a n) (shr a2 n)) (sym q) right24)
-      (right_any n))))
+      (same_shifted w a a2 n h))))
+
+  added0 : SameWord w ((a + 0) % 2 ^ 32) ((a2 + 0) % 2 ^ 32)
+  added0 = from_parts w ((a + 0) % 2 ^ 32) ((a2 + 0) % 2 ^ 32) (record {
+    part0 = λ n. let q = p.part0 n in omega (arith, q);
+    part1 = λ n. let q = p.part1 n in omega (arith, q);
+    part2 = λ n. let q = p.part2 n in omega (arith, q);
+    part3 = λ n. let q = p.part3 n in omega (arith, q);
+  })
+
+  sum : ℕ → ℕ → ℕ
+  sum a c = (a + c) % 2 ^ 32
+
+  same_add : (c : ℕ) → SameWord (add_constant c w) (sum a c) (sum a2 c)
+  unfolding sum
+  same_add c = by_amount c 0 w (upward w) sum (λ q. subst (λ c. SameWord w (sum a c) (sum a2 c)) (sym q) added0) (same_sum w a a2 c h)
 
   -- the result of an operation on a word and a constant
   pub same_constant : (o : Op) (c : ℕ) → SameWord (of_constant o c w) (value o a c) (value o a2 c)
-  unfolding shl shr
+  unfolding shl shr sum
+  same_constant op.Add c = same_add c
   same_constant op.And c = same_and c
   same_constant op.Sll c = same_left (c % 32)
   same_constant op.Srl c = same_right (c % 32)

@@ -9,7 +9,9 @@ lookup = 0x00814383 ∷ 0x002383b3 ∷ 0xf003c403 ∷ 0x00000513 ∷ 0x05d00893 
 -- one of two public words by a mask made of the secret's lowest bit: lbu x6,8(x2); andi x6,x6,1; sub x6,x0,x6; lw x7,0(x2); lw x8,4(x2);
 -- xor x9,x7,x8; and x9,x9,x6; xor x7,x7,x9; sw x7,4(x2); exit
 abbrev pub select : List ℕ
-select = 0x00814303 ∷ 0x00137313 ∷ 0x40600333 ∷ 0x00012383 ∷ 0x00412403 ∷ 0x0083c4b3 ∷ 0x0064f4b3 ∷ 0x0093c3b3 ∷ 0x00712223 ∷ 0x00000513 ∷ 0x05d00893 ∷ 0x00000073 ∷ []
+select =
+    0x00814303 ∷ 0x00137313 ∷ 0x40600333 ∷ 0x00012383 ∷ 0x00412403 ∷ 0x0083c4b3 ∷ 0x0064f4b3 ∷ 0x0093c3b3 ∷ 0x00712223 ∷
+    0x00000513 ∷ 0x05d00893 ∷ 0x00000073 ∷ []
 
 -- behind a slow division the secret is stored, loaded back from the store in flight, and looked up by: div x9,x2,x2; lbu x6,8(x2); sb
 -- x6,4(x2); lbu x7,4(x2); add x7,x7,x2; lbu x8,-256(x7); exit
@@ -19,27 +21,37 @@ forwarded = 0x022144b3 ∷ 0x00814303 ∷ 0x00610223 ∷ 0x00414383 ∷ 0x002383
 -- the secret is stored, and once memory has it loaded by a pointer that a division makes: lbu x6,8(x2); sb x6,4(x2); addi x9,x0,1; div
 -- x5,x2,x9; lbu x7,4(x5); add x7,x7,x2; lbu x8,-256(x7); exit
 abbrev pub stored : List ℕ
-stored = 0x00814303 ∷ 0x00610223 ∷ 0x00100493 ∷ 0x029142b3 ∷ 0x0042c383 ∷ 0x002383b3 ∷ 0xf003c403 ∷ 0x00000513 ∷ 0x05d00893 ∷ 0x00000073 ∷ []
+stored =
+    0x00814303 ∷ 0x00610223 ∷ 0x00100493 ∷ 0x029142b3 ∷ 0x0042c383 ∷ 0x002383b3 ∷ 0xf003c403 ∷ 0x00000513 ∷ 0x05d00893 ∷
+    0x00000073 ∷ []
 
 -- behind a slow division the secret is byte 2 of a word in flight to memory, and its upper half is looked up by: div x9,x2,x2; lbu
 -- x6,8(x2); slli x6,x6,16; sw x6,4(x2); lhu x7,6(x2); add x7,x7,x2; lbu x8,-256(x7); exit
 abbrev pub upper_half : List ℕ
-upper_half = 0x022144b3 ∷ 0x00814303 ∷ 0x01031313 ∷ 0x00612223 ∷ 0x00615383 ∷ 0x002383b3 ∷ 0xf003c403 ∷ 0x00000513 ∷ 0x05d00893 ∷ 0x00000073 ∷ []
+upper_half =
+    0x022144b3 ∷ 0x00814303 ∷ 0x01031313 ∷ 0x00612223 ∷ 0x00615383 ∷ 0x002383b3 ∷ 0xf003c403 ∷ 0x00000513 ∷ 0x05d00893 ∷
+    0x00000073 ∷ []
 
 -- the lower half of that word is looked up by: div x9,x2,x2; lbu x6,8(x2); slli x6,x6,16; sw x6,4(x2); lhu x7,4(x2); add x7,x7,x2; lbu
 -- x8,-256(x7); exit
 abbrev pub lower_half : List ℕ
-lower_half = 0x022144b3 ∷ 0x00814303 ∷ 0x01031313 ∷ 0x00612223 ∷ 0x00415383 ∷ 0x002383b3 ∷ 0xf003c403 ∷ 0x00000513 ∷ 0x05d00893 ∷ 0x00000073 ∷ []
+lower_half =
+    0x022144b3 ∷ 0x00814303 ∷ 0x01031313 ∷ 0x00612223 ∷ 0x00415383 ∷ 0x002383b3 ∷ 0xf003c403 ∷ 0x00000513 ∷ 0x05d00893 ∷
+    0x00000073 ∷ []
 
 -- the secret is the upper byte of a half word that is stored, and looked up by once memory has it: lbu x6,8(x2); slli x6,x6,8; sh
 -- x6,4(x2); addi x9,x0,1; div x5,x2,x9; lbu x7,5(x5); add x7,x7,x2; lbu x8,-256(x7); exit
 abbrev pub half_stored : List ℕ
-half_stored = 0x00814303 ∷ 0x00831313 ∷ 0x00611223 ∷ 0x00100493 ∷ 0x029142b3 ∷ 0x0052c383 ∷ 0x002383b3 ∷ 0xf003c403 ∷ 0x00000513 ∷ 0x05d00893 ∷ 0x00000073 ∷ []
+half_stored =
+    0x00814303 ∷ 0x00831313 ∷ 0x00611223 ∷ 0x00100493 ∷ 0x029142b3 ∷ 0x0052c383 ∷ 0x002383b3 ∷ 0xf003c403 ∷ 0x00000513 ∷
+    0x05d00893 ∷ 0x00000073 ∷ []
 
 -- the secret is in flight, behind a slow division, as a branch that was wrongly predicted drops what is younger: div x9,x2,x2; lbu
 -- x7,8(x2); lw x5,0(x2); beq x5,x0,+8; addi x7,x0,0; add x7,x7,x2; lbu x8,-256(x7); exit
 abbrev pub squashed : List ℕ
-squashed = 0x022144b3 ∷ 0x00814383 ∷ 0x00012283 ∷ 0x00028463 ∷ 0x00000393 ∷ 0x002383b3 ∷ 0xf003c403 ∷ 0x00000513 ∷ 0x05d00893 ∷ 0x00000073 ∷ []
+squashed =
+    0x022144b3 ∷ 0x00814383 ∷ 0x00012283 ∷ 0x00028463 ∷ 0x00000393 ∷ 0x002383b3 ∷ 0xf003c403 ∷ 0x00000513 ∷ 0x05d00893 ∷
+    0x00000073 ∷ []
 
 -- the secret is looked up by behind a call of an unknown number: lbu x7,8(x2); addi x17,x0,1; ecall; add x7,x7,x2; lbu x8,-256(x7); exit
 abbrev pub called : List ℕ
@@ -87,10 +99,21 @@ zeroed = 0x00814303 ∷ 0x006343b3 ∷ 0x002383b3 ∷ 0xf003c403 ∷ 0x00000513 
 abbrev pub compared : List ℕ
 compared = 0x00814303 ∷ 0x00603333 ∷ 0x00835393 ∷ 0x002383b3 ∷ 0xf003c403 ∷ 0x00000513 ∷ 0x05d00893 ∷ 0x00000073 ∷ []
 
+-- that word is copied, and its public bytes are looked up by: lw x6,8(x2); addi x6,x6,0; srli x7,x6,8; add x7,x7,x2; lbu x8,-256(x7); exit
+abbrev pub moved : List ℕ
+moved = 0x00812303 ∷ 0x00030313 ∷ 0x00835393 ∷ 0x002383b3 ∷ 0xf003c403 ∷ 0x00000513 ∷ 0x05d00893 ∷ 0x00000073 ∷ []
+
+-- a public number is taken from a word whose byte 2 is the secret, and the bytes below are looked up by: lbu x6,8(x2); slli x6,x6,16; sub
+-- x6,x6,x17; andi x7,x6,255; add x7,x7,x2; lbu x8,-256(x7); exit
+abbrev pub subtracted : List ℕ
+subtracted = 0x00814303 ∷ 0x01031313 ∷ 0x41130333 ∷ 0x0ff37393 ∷ 0x002383b3 ∷ 0xf003c403 ∷ 0x00000513 ∷ 0x05d00893 ∷ 0x00000073 ∷ []
+
 -- the secret is mixed, stored, loaded back by forwarding, multiplied and written over itself, and what was stored is overwritten: lbu
 -- x6,8(x2); xori x7,x6,0x5a; sw x7,4(x2); lw x8,4(x2); mul x9,x8,x6; sb x9,8(x2); sw x0,4(x2); lw x10,4(x2); addi x17,x0,93; ecall
 abbrev pub mixes : List ℕ
-mixes = 0x00814303 ∷ 0x05a34393 ∷ 0x00712223 ∷ 0x00412403 ∷ 0x026404b3 ∷ 0x00910423 ∷ 0x00012223 ∷ 0x00412503 ∷ 0x05d00893 ∷ 0x00000073 ∷ []
+mixes =
+    0x00814303 ∷ 0x05a34393 ∷ 0x00712223 ∷ 0x00412403 ∷ 0x026404b3 ∷ 0x00910423 ∷ 0x00012223 ∷ 0x00412503 ∷ 0x05d00893 ∷
+    0x00000073 ∷ []
 
 -- the secret is the value of the exit: lbu x10,8(x2); addi x17,x0,93; ecall
 abbrev pub exits : List ℕ

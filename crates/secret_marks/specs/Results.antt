@@ -1,21 +1,29 @@
 -- The marks of what an instruction computes, by those of its operands (docs/theorems.md, "Secrets that are loaded").
-use Rattle.std.specs.Prelude.{ℕ, ◌+◌, ◌/◌, ◌%◌, Bool, false, not, ◌&&◌, ◌==◌, if◌then◌else◌}
+use Rattle.std.specs.Prelude.{ℕ, ◌+◌, ◌/◌, ◌%◌, Bool, true, false, not, ◌&&◌, ◌==◌, if◌then◌else◌}
 use Rattle.rv_types.specs.Word.{word}
 use Rattle.rv_types.specs.declared.Op.{Op}
-use Rattle.rv_types.specs.declared.Op.TheVariants.{Lb, Lbu, Lh, Lhu, Add, Sll, Slt, Sltu, Xor, Srl, Sra, Or, And, Mul}
+use Rattle.rv_types.specs.declared.Op.TheVariants.{Lb, Lbu, Lh, Lhu, Add, Sub, Sll, Slt, Sltu, Xor, Srl, Or, And, Mul}
 use Rattle.rv_types.specs.declared.Instr.{Instr}
 use Rattle.rv_types.specs.declared.Instr.TheVariants.{Branch, OpImm, OpReg}
 use Rattle.secret_marks.specs.Words.{WordMarks, any_byte, downward, either, every_byte, lowest_byte, smeared, unmarked, upward}
 
 -- ---- two operands
 
--- bitwise operations keep bytes apart, a carry goes up, a comparison is 0 or 1, and any other operation mixes all bytes
+-- these marks where the second operand is unmarked, and else all
+abbrev pub by_known : WordMarks → WordMarks → WordMarks
+by_known b marks = if any_byte b then every_byte true else marks
+
+-- bitwise operations keep bytes apart; a carry goes up, and a difference or shift by a known number keeps the bytes on one side; a
+-- comparison is 0 or 1; any other operation mixes all bytes
 abbrev pub of_operands : Op → WordMarks → WordMarks → WordMarks
 of_operands And a b = either a b
 of_operands Or a b = either a b
 of_operands Xor a b = either a b
 of_operands Add a b = upward (either a b)
 of_operands Mul a b = upward (either a b)
+of_operands Sub a b = by_known b (upward a)
+of_operands Sll a b = by_known b (upward a)
+of_operands Srl a b = by_known b (downward a)
 of_operands Slt a b = lowest_byte (any_byte (either a b))
 of_operands Sltu a b = lowest_byte (any_byte (either a b))
 of_operands op a b = smeared (either a b)
@@ -28,6 +36,10 @@ of_itself Sltu a = unmarked
 of_itself op a = of_operands op a a
 
 -- ---- an operand and a constant
+
+-- ADD of 0 copies, as `mv` does, and any other sum carries
+abbrev pub add_constant : ℕ → WordMarks → WordMarks
+add_constant c a = if c == 0 then a else upward a
 
 -- AND clears where the constant has a byte 0
 abbrev pub and_constant : ℕ → WordMarks → WordMarks
@@ -58,6 +70,7 @@ right_by n a =
 
 -- an immediate is a constant, as is the amount of its shift
 abbrev pub of_constant : Op → ℕ → WordMarks → WordMarks
+of_constant Add c a = add_constant c a
 of_constant And c a = and_constant c a
 of_constant Sll c a = left_by (c % 32) a
 of_constant Srl c a = right_by (c % 32) a
