@@ -118,3 +118,44 @@ mixes =
 -- the secret is the value of the exit: lbu x10,8(x2); addi x17,x0,93; ecall
 abbrev pub exits : List ℕ
 exits = 0x00814503 ∷ 0x05d00893 ∷ 0x00000073 ∷ []
+
+-- ---- what shows, although the trace is one for all secrets
+
+-- a difference of the secret and itself: lbu x6,8(x2); sub x7,x6,x6; add x7,x7,x2; lbu x8,-256(x7); exit
+abbrev pub subtracted_from_itself : List ℕ
+subtracted_from_itself = 0x00814303 ∷ 0x406303b3 ∷ 0x002383b3 ∷ 0xf003c403 ∷ 0x00000513 ∷ 0x05d00893 ∷ 0x00000073 ∷ []
+
+-- the secret is masked off by a register: lbu x6,8(x2); addi x5,x0,-256; and x7,x6,x5; add x7,x7,x2; lbu x8,-256(x7); exit
+abbrev pub masked_by_register : List ℕ
+masked_by_register = 0x00814303 ∷ 0xf0000293 ∷ 0x005373b3 ∷ 0x002383b3 ∷ 0xf003c403 ∷ 0x00000513 ∷ 0x05d00893 ∷ 0x00000073 ∷ []
+
+-- ones cover the secret: lbu x6,8(x2); ori x7,x6,255; add x7,x7,x2; lbu x8,-256(x7); exit
+abbrev pub filled_by_ones : List ℕ
+filled_by_ones = 0x00814303 ∷ 0x0ff36393 ∷ 0x002383b3 ∷ 0xf003c403 ∷ 0x00000513 ∷ 0x05d00893 ∷ 0x00000073 ∷ []
+
+-- the secret times register 0: lbu x6,8(x2); mul x7,x6,x0; add x7,x7,x2; lbu x8,-256(x7); exit
+abbrev pub times_zero : List ℕ
+times_zero = 0x00814303 ∷ 0x020303b3 ∷ 0x002383b3 ∷ 0xf003c403 ∷ 0x00000513 ∷ 0x05d00893 ∷ 0x00000073 ∷ []
+
+-- a shift brings in zeros above the secret: lbu x6,8(x2); slli x6,x6,24; srli x6,x6,24; andi x7,x6,256; add x7,x7,x2; lbu x8,-256(x7);
+-- exit
+abbrev pub filled_by_zeros : List ℕ
+filled_by_zeros =
+    0x00814303 ∷ 0x01831313 ∷ 0x01835313 ∷ 0x10037393 ∷ 0x002383b3 ∷ 0xf003c403 ∷ 0x00000513 ∷ 0x05d00893 ∷ 0x00000073 ∷
+    []
+
+-- public bytes are shifted down with their sign: lw x6,8(x2); srai x7,x6,8; add x7,x7,x2; lbu x8,-256(x7); exit
+abbrev pub shifted_with_sign : List ℕ
+shifted_with_sign = 0x00812303 ∷ 0x40835393 ∷ 0x002383b3 ∷ 0xf003c403 ∷ 0x00000513 ∷ 0x05d00893 ∷ 0x00000073 ∷ []
+
+-- a branch on the secret that is always taken: lbu x6,8(x2); bgeu x6,x0,+8; addi x5,x0,1; exit
+abbrev pub one_way : List ℕ
+one_way = 0x00814303 ∷ 0x00037463 ∷ 0x00100293 ∷ 0x00000513 ∷ 0x05d00893 ∷ 0x00000073 ∷ []
+
+-- two addresses in one line, by a bit of the secret: lbu x6,8(x2); andi x7,x6,4; add x7,x7,x2; lw x8,0(x7); exit
+abbrev pub one_line : List ℕ
+one_line = 0x00814303 ∷ 0x00437393 ∷ 0x002383b3 ∷ 0x0003a403 ∷ 0x00000513 ∷ 0x05d00893 ∷ 0x00000073 ∷ []
+
+-- a dividend whose length is the same for each secret: lbu x6,8(x2); addi x7,x6,256; divu x8,x7,x2; exit
+abbrev pub one_length : List ℕ
+one_length = 0x00814303 ∷ 0x10030393 ∷ 0x0223d433 ∷ 0x00000513 ∷ 0x05d00893 ∷ 0x00000073 ∷ []
