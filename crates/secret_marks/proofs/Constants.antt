@@ -1,10 +1,10 @@
 -- What an instruction computes, also of a constant, of words that are equal where no byte is marked.
-use Rattle.std.proofs.Common.{◌≡◌, ℕ, ◌+◌, ◌*◌, ◌/◌, ◌%◌, ◌^◌, ◌<◌, Bool, true, false, not, ◌&&◌, ◌||◌, List, [], ◌∷◌, refl, ap, ap₂, sym, ◌∙◌, subst, arith}
+use Rattle.std.proofs.Common.{◌≡◌, ℕ, ◌+◌, ◌*◌, ◌/◌, ◌%◌, ◌^◌, ◌<◌, Bool, true, false, not, ◌&&◌, [], ◌∷◌, refl, ap, ap₂, sym, ◌∙◌, subst, arith}
 use Rattle.std.proofs.lemmas.Nat.{and_mod, and_shr}
 use lib.Bits.{and_zero_r}
 use Rattle.std.proofs.lemmas.Bool.Decides.{nat_tests}
 use Rattle.std.specs.Prelude.{if◌then◌else◌, ◌==◌, bit_and}
-use Rattle.rv_types.specs.Isa.{Effect, effect, jump, only, relative}
+use Rattle.rv_types.specs.Isa.{effect, jump, only, relative}
 use Rattle.rv_types.specs.Regs.{reads_of}
 use Rattle.rv_types.specs.Value.{taken, value}
 use Rattle.rv_types.specs.Word.{word}
@@ -12,10 +12,9 @@ use Rattle.rv_types.specs.declared.Instr.{Instr}
 use Rattle.rv_types.specs.declared.Instr.TheVariants as instr
 use Rattle.rv_types.specs.declared.Op.{Op}
 use Rattle.rv_types.specs.declared.Op.TheVariants as op
-use Rattle.window_model.proofs.Booleans.{neither}
-use Rattle.secret_marks.specs.Words.{SameWord, WordMarks, any_byte, blanked, downward, either, every_byte, lowest_byte, unmarked, upward}
+use Rattle.secret_marks.specs.Words.{SameWord, WordMarks, any_byte, either, every_byte, lowest_byte, unmarked, upward}
 use Rattle.secret_marks.specs.Results.{add_constant, and_constant, left_by, of_constant, of_itself, of_operands, result_marks, right_by}
-use Rattle.secret_marks.proofs.Words.{Parts, Within, from_parts, same_whole, same_within, to_parts}
+use Rattle.secret_marks.proofs.Words.{Parts, from_parts, to_parts}
 use Rattle.secret_marks.proofs.Results.{equal_operands, same_lowest, same_operation, same_product, same_shifted, same_sum, same_twice}
 
 -- ---- AND with a constant

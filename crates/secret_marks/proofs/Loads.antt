@@ -1,5 +1,5 @@
 -- What a load makes of bytes that are equal where they aren't marked.
-use Rattle.std.proofs.Common.{◌≡◌, ℕ, ◌+◌, ◌*◌, ◌/◌, ◌%◌, ◌-◌, ◌^◌, ◌<◌, Bool, true, false, List, [], ◌∷◌, map, refl, ap, ap₂, sym, ◌∙◌, subst, arith}
+use Rattle.std.proofs.Common.{◌≡◌, ℕ, ◌+◌, ◌*◌, ◌%◌, ◌-◌, ◌^◌, ◌<◌, Bool, true, false, map, refl, ap, sym, ◌∙◌, subst, arith}
 use Rattle.std.proofs.lemmas.Bool.Decides.{nat_tests}
 use Rattle.std.specs.Prelude.{if◌then◌else◌, nat_lt}
 use Rattle.rv_types.specs.Memory.{range}
@@ -7,7 +7,7 @@ use Rattle.rv_types.specs.Value.{extend, size_of}
 use Rattle.rv_types.specs.Word.{from_le}
 use Rattle.rv_types.specs.declared.Op.{Op}
 use Rattle.rv_types.specs.declared.Op.TheVariants as op
-use Rattle.secret_marks.specs.Words.{SameWord, WordMarks, blanked, every_byte, lowest_byte}
+use Rattle.secret_marks.specs.Words.{SameWord, blanked, every_byte, lowest_byte}
 use Rattle.secret_marks.specs.Results.{loaded_marks}
 use Rattle.secret_marks.specs.Alike.{SameByte}
 use Rattle.secret_marks.proofs.Words.{from_parts}

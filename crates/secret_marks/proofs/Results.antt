@@ -1,17 +1,17 @@
 -- What an operation computes of words that are equal where no byte is marked is so, too, under the marks of its result.
-use Rattle.std.proofs.Common.{◌≡◌, ℕ, ◌+◌, ◌-◌, ◌*◌, ◌/◌, ◌%◌, ◌^◌, ◌<◌, Bool, true, false, not, ◌&&◌, ◌||◌, List, [], ◌∷◌, refl, ap, ap₂, sym, ◌∙◌, subst, arith}
+use Rattle.std.proofs.Common.{◌≡◌, ℕ, ◌+◌, ◌-◌, ◌*◌, ◌/◌, ◌%◌, ◌^◌, ◌<◌, Bool, true, false, ◌||◌, refl, ap, ap₂, sym, ◌∙◌, subst, arith}
 use Rattle.std.proofs.lemmas.Nat.{and_mod, and_shr, mul-mod, or_mod, or_shr, shr-shr, xor_mod, xor_shr}
 use lib.Bits.{xor_self}
 use Rattle.std.proofs.lemmas.Bool.Decides.{nat_tests}
-use Rattle.std.specs.Prelude.{if◌then◌else◌, ◌==◌, ℤ, pos, negsuc, bit_and, bit_or, bit_xor, int_lt, nat_lt}
+use Rattle.std.specs.Prelude.{if◌then◌else◌, ℤ, pos, negsuc, bit_and, bit_or, bit_xor, int_lt, nat_lt}
 use Rattle.rv_types.specs.Value.{one_if, value}
 use Rattle.rv_types.specs.Word.{signed, word_sub}
 use Rattle.rv_types.specs.declared.Op.{Op}
 use Rattle.rv_types.specs.declared.Op.TheVariants as op
 use Rattle.window_model.proofs.Booleans.{neither}
-use Rattle.secret_marks.specs.Words.{SameWord, WordMarks, any_byte, blanked, downward, either, every_byte, lowest_byte, smeared, unmarked, upward}
+use Rattle.secret_marks.specs.Words.{SameWord, WordMarks, any_byte, blanked, downward, either, every_byte, lowest_byte, unmarked, upward}
 use Rattle.secret_marks.specs.Results.{by_known, of_itself, of_operands}
-use Rattle.secret_marks.proofs.Words.{Parts, from_parts, same_unmarked, same_whole, to_parts}
+use Rattle.secret_marks.proofs.Words.{Parts, from_parts, same_whole, to_parts}
 
 -- ---- values by their marks alone
 

@@ -1,8 +1,7 @@
 -- Words that are equal where no byte is marked.
-use Rattle.std.proofs.Common.{◌≡◌, ℕ, zero, suc, ◌+◌, ◌*◌, ◌/◌, ◌%◌, ◌<◌, ◌≤◌, Bool, true, false, ◌||◌, List, [], ◌∷◌, take, get_or, refl, ap, ap₂, sym, ◌∙◌, subst, arith}
-use Rattle.std.specs.Prelude.{if◌then◌else◌}
+use Rattle.std.proofs.Common.{◌≡◌, ℕ, zero, suc, ◌+◌, ◌*◌, ◌/◌, ◌%◌, ◌<◌, ◌≤◌, Bool, true, false, ◌||◌, take, refl, ap, ap₂, sym, ◌∙◌, subst, arith}
 use Rattle.rv_types.specs.Word.{to_le}
-use Rattle.secret_marks.specs.Words.{SameWord, WordMarks, any_byte, blank_if, blanked, either, in_order, mark_at, unmarked}
+use Rattle.secret_marks.specs.Words.{SameWord, WordMarks, any_byte, blank_if, blanked, either, in_order, unmarked}
 use Rattle.secret_marks.specs.Alike.{Beside, SameByte}
 use Rattle.window_model.proofs.Booleans.{neither}
 
@@ -71,7 +70,7 @@ from_parts w v v2 p =
     let e3 = blank_same w.byte3 (v / 16777216) (v2 / 16777216) p.part3 in
     ap₂ (λ a b. a + b) (ap₂ (λ a b. a + 65536 * b) (ap₂ (λ a b. a + 256 * b) e0 e1) e2) (ap (λ d. 16777216 * d) e3)
 
--- the other way round
+-- words that are equal where no byte is marked are so byte by byte
 pub to_parts : (w : WordMarks) (v v2 : ℕ) → SameWord w v v2 → Parts w v v2
 to_parts w v v2 h =
     let p = blanked_parts w v in
@@ -120,7 +119,7 @@ is_unmarked w h =
 pub same_unmarked : (v v2 : ℕ) → SameWord unmarked v v2 → v ≡ v2
 same_unmarked v v2 h = sym (blanked_unmarked v) ∙ h ∙ blanked_unmarked v2
 
--- so are words of which no byte is marked
+-- words of which no byte is marked, and that are equal under their marks, are equal
 pub same_whole : (w : WordMarks) (v v2 : ℕ) → any_byte w ≡ false → SameWord w v v2 → v ≡ v2
 same_whole w v v2 n h = same_unmarked v v2 (subst (λ w. SameWord w v v2) (is_unmarked w n) h)
 
@@ -148,9 +147,11 @@ blanked_more w u v i =
 pub same_within : (w u : WordMarks) (v v2 : ℕ) → Within w u → SameWord w v v2 → SameWord u v v2
 same_within w u v v2 i h = sym (blanked_more w u v i) ∙ ap (blanked u) h ∙ blanked_more w u v2 i
 
+-- marks are within themselves
 pub within_self : (w : WordMarks) → Within w w
 within_self w = record { in0 = λ n. n; in1 = λ n. n; in2 = λ n. n; in3 = λ n. n }
 
+-- the marks of the first of two words are within those of either
 pub within_left : (w u : WordMarks) → Within w (either w u)
 within_left w u = record {
   in0 = λ n. (neither w.byte0 u.byte0 n).0;
@@ -159,6 +160,7 @@ within_left w u = record {
   in3 = λ n. (neither w.byte3 u.byte3 n).0;
 }
 
+-- the marks of the second of two words are within those of either
 pub within_right : (w u : WordMarks) → Within u (either w u)
 within_right w u = record {
   in0 = λ n. (neither w.byte0 u.byte0 n).1;

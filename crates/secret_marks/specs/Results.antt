@@ -41,7 +41,7 @@ of_itself op a = of_operands op a a
 abbrev pub add_constant : ℕ → WordMarks → WordMarks
 add_constant c a = if c == 0 then a else upward a
 
--- AND clears where the constant has a byte 0
+-- AND with a constant clears where that has a byte 0
 abbrev pub and_constant : ℕ → WordMarks → WordMarks
 and_constant c a = record {
   byte0 = a.byte0 && not (c % 256 == 0);
@@ -78,7 +78,7 @@ of_constant op c a = of_operands op a unmarked
 
 -- ---- an instruction
 
--- its value, by the marks of its first and second source: a branch has 0 or 1, and a link value is no secret
+-- the value of an instruction, by the marks of its first and second source: a branch has 0 or 1, and a link value is no secret
 abbrev pub result_marks : Instr → WordMarks → WordMarks → WordMarks
 result_marks (OpImm op rd rs1 imm) a b = of_constant op (word imm) a
 result_marks (OpReg op rd rs1 rs2) a b = if rs1.number == rs2.number then of_itself op a else of_operands op a b
