@@ -48,7 +48,8 @@ module _ (w : WordMarks) (a a2 : ℕ) (h : SameWord w a a2) where
   -- ---- shifts
 
   -- one of two ways, by a test of the amount
-  by_amount : (n k : ℕ) (u v : WordMarks) (f : ℕ → ℕ → ℕ) → (n ≡ k → SameWord u (f a n) (f a2 n)) → SameWord v (f a n) (f a2 n) → SameWord (if n == k then u else v) (f a n) (f a2 n)
+  by_amount : (n k : ℕ) (u v : WordMarks) (f : ℕ → ℕ → ℕ) → (n ≡ k → SameWord u (f a n) (f a2 n)) → SameWord v (f a n) (f a2 n) →
+      SameWord (if n == k then u else v) (f a n) (f a2 n)
   by_amount n k u v f g e = by_test (n == k) refl
     where
       by_test : (b : Bool) → (n == k) ≡ b → SameWord (if b then u else v) (f a n) (f a2 n)
@@ -169,19 +170,22 @@ module _ (w : WordMarks) (a a2 : ℕ) (h : SameWord w a a2) where
 
 -- ---- an instruction
 
-branch_value : (pc t : ℕ) (mark b b2 : Bool) → (mark ≡ false → b ≡ b2) → SameWord (lowest_byte mark) (if b then jump 1 t else only pc 0).value (if b2 then jump 1 t else only pc 0).value
+branch_value : (pc t : ℕ) (mark b b2 : Bool) → (mark ≡ false → b ≡ b2) →
+    SameWord (lowest_byte mark) (if b then jump 1 t else only pc 0).value (if b2 then jump 1 t else only pc 0).value
 branch_value pc t mark b b2 h = same_lowest mark _ _ (small b) (small b2) (λ n. ap (λ b. (if b then jump 1 t else only pc 0).value) (h n))
   where
     small : (b : Bool) → (if b then jump 1 t else only pc 0).value < 256
     small true = omega arith
     small false = omega arith
 
-either_operation : (c : Bool) (u v : WordMarks) (x x2 : ℕ) → (c ≡ true → SameWord u x x2) → SameWord v x x2 → SameWord (if c then u else v) x x2
+either_operation : (c : Bool) (u v : WordMarks) (x x2 : ℕ) → (c ≡ true → SameWord u x x2) → SameWord v x x2 →
+    SameWord (if c then u else v) x x2
 either_operation true u v x x2 f g = f refl
 either_operation false u v x x2 f g = g
 
 -- the value that an instruction computes: where it reads one register twice, both operands are that register's value
-pub same_result : (wa wb : WordMarks) (a a2 b b2 : ℕ) → SameWord wa a a2 → SameWord wb b b2 → (pc : ℕ) (i : Instr) → ((r : ℕ) → reads_of i ≡ r ∷ r ∷ [] → (a ≡ b) × (a2 ≡ b2)) →
+pub same_result : (wa wb : WordMarks) (a a2 b b2 : ℕ) → SameWord wa a a2 → SameWord wb b b2 → (pc : ℕ) (i : Instr) →
+    ((r : ℕ) → reads_of i ≡ r ∷ r ∷ [] → (a ≡ b) × (a2 ≡ b2)) →
     SameWord (result_marks i wa wb) (effect pc i a b).value (effect pc i a2 b2).value
 same_result wa wb a a2 b b2 h k pc (instr.OpImm o rd rs1 imm) twice = same_constant wa a a2 h o (word imm)
 same_result wa wb a a2 b b2 h k pc (instr.OpReg o rd rs1 rs2) twice =

@@ -18,7 +18,8 @@ use Rattle.secret_marks.proofs.Results.{same_every, same_lowest}
 one_byte : (m : Bool) (b c : ℕ) → SameByte m b c → SameWord (lowest_byte m) (b + 256 * 0) (c + 256 * 0)
 one_byte m b c s = same_lowest m (b + 256 * 0) (c + 256 * 0) (let q = s.byte in omega (arith, q)) (let q = s.byte2 in omega (arith, q)) (λ n. ap (λ v. v + 256 * 0) (s.same n))
 
-four_bytes : (m0 m1 m2 m3 : Bool) (b0 b1 b2 b3 c0 c1 c2 c3 : ℕ) → SameByte m0 b0 c0 → SameByte m1 b1 c1 → SameByte m2 b2 c2 → SameByte m3 b3 c3 →
+four_bytes : (m0 m1 m2 m3 : Bool) (b0 b1 b2 b3 c0 c1 c2 c3 : ℕ) → SameByte m0 b0 c0 → SameByte m1 b1 c1 → SameByte m2 b2 c2 →
+    SameByte m3 b3 c3 →
     SameWord (record { byte0 = m0; byte1 = m1; byte2 = m2; byte3 = m3 }) (b0 + 256 * (b1 + 256 * (b2 + 256 * (b3 + 256 * 0)))) (c0 + 256 * (c1 + 256 * (c2 + 256 * (c3 + 256 * 0))))
 four_bytes m0 m1 m2 m3 b0 b1 b2 b3 c0 c1 c2 c3 s0 s1 s2 s3 =
     let p0 = s0.byte in
@@ -58,7 +59,8 @@ half_is : (l h : ℕ) → l < 256 → extend op.Lh (l + 256 * (h + 256 * 0)) ≡
 unfolding signed_byte
 half_is l h lt = by_sign (nat_lt h 128) (nat_lt (l + 256 * (h + 256 * 0)) 32768) refl refl
   where
-    by_sign : (s t : Bool) → nat_lt h 128 ≡ s → nat_lt (l + 256 * (h + 256 * 0)) 32768 ≡ t → (if t then l + 256 * (h + 256 * 0) else l + 256 * (h + 256 * 0) + (2 ^ 32 - 65536)) ≡ l + 256 * (if s then h else h + 16776960)
+    by_sign : (s t : Bool) → nat_lt h 128 ≡ s → nat_lt (l + 256 * (h + 256 * 0)) 32768 ≡ t →
+        (if t then l + 256 * (h + 256 * 0) else l + 256 * (h + 256 * 0) + (2 ^ 32 - 65536)) ≡ l + 256 * (if s then h else h + 16776960)
     by_sign true true p q = omega arith
     by_sign false false p q = omega arith
     by_sign true false p q = absurd (grind (arith, nat_tests))
@@ -84,7 +86,8 @@ whole_word f g g2 a s =
     let p3 : a + 3 ≡ a + 1 + 1 + 1 = omega arith in
     four_bytes (f a) (f (a + 1)) (f (a + 2)) (f (a + 3)) _ _ _ _ _ _ _ _ (s a) (s (a + 1)) (subst (λ i. SameByte (f (a + 2)) (g i) (g2 i)) p2 (s (a + 2))) (subst (λ i. SameByte (f (a + 3)) (g i) (g2 i)) p3 (s (a + 3)))
 
-lone_byte : (m0 m1 m2 m3 : Bool) (b c : ℕ) → SameByte m0 b c → SameWord (record { byte0 = m0; byte1 = m1; byte2 = m2; byte3 = m3 }) (b + 256 * 0) (c + 256 * 0)
+lone_byte : (m0 m1 m2 m3 : Bool) (b c : ℕ) → SameByte m0 b c →
+    SameWord (record { byte0 = m0; byte1 = m1; byte2 = m2; byte3 = m3 }) (b + 256 * 0) (c + 256 * 0)
 lone_byte m0 m1 m2 m3 b c s =
     let p = s.byte in
     let q = s.byte2 in
@@ -96,7 +99,8 @@ lone_byte m0 m1 m2 m3 b c s =
     })
 
 -- the value of a load from an address, of which these are the bytes' marks and the bytes
-pub same_loaded : (o : Op) (f : ℕ → Bool) (g g2 : ℕ → ℕ) (a : ℕ) → ((i : ℕ) → SameByte (f i) (g i) (g2 i)) → SameWord (loaded_marks o f a) (extend o (from_le (map g (range a (size_of o))))) (extend o (from_le (map g2 (range a (size_of o)))))
+pub same_loaded : (o : Op) (f : ℕ → Bool) (g g2 : ℕ → ℕ) (a : ℕ) → ((i : ℕ) → SameByte (f i) (g i) (g2 i)) →
+    SameWord (loaded_marks o f a) (extend o (from_le (map g (range a (size_of o))))) (extend o (from_le (map g2 (range a (size_of o)))))
 same_loaded op.Lb f g g2 a s = same_every (f a) _ _ (λ n. ap (λ b. extend op.Lb (b + 256 * 0)) ((s a).same n))
 same_loaded op.Lbu f g g2 a s = one_byte (f a) (g a) (g2 a) (s a)
 same_loaded op.Lh f g g2 a s =

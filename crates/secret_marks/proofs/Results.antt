@@ -150,7 +150,8 @@ three_lists a b e c d f n =
     let r = neither e f p.1 in
     (ap₂ (λ u v. u || v) q.0 r.0, ap₂ (λ u v. u || v) q.1 r.1)
 
-four_lists : (a b e g c d f i : Bool) → ((a || c) || (b || d) || (e || f) || (g || i)) ≡ false → ((a || b || e || g) ≡ false) × ((c || d || f || i) ≡ false)
+four_lists : (a b e g c d f i : Bool) → ((a || c) || (b || d) || (e || f) || (g || i)) ≡ false →
+    ((a || b || e || g) ≡ false) × ((c || d || f || i) ≡ false)
 four_lists a b e g c d f i n =
     let p = neither ((a || c) || (b || d) || (e || f)) (g || i) n in
     let q = three_lists a b e c d f p.0 in
@@ -167,7 +168,8 @@ module _ (wa wb : WordMarks) (a a2 b b2 : ℕ) (h : SameWord wa a a2) (k : SameW
   equal_operands n = let q = neither_marked wa wb n in (same_whole wa a a2 q.0 h, same_whole wb b b2 q.1 k)
 
   -- an operation that keeps bytes apart
-  bitwise : (f : ℕ → ℕ → ℕ) → ((a b k : ℕ) → f a b / 2 ^ k ≡ f (a / 2 ^ k) (b / 2 ^ k)) → ((a b k : ℕ) → f a b % 2 ^ k ≡ f (a % 2 ^ k) (b % 2 ^ k)) → SameWord (either wa wb) (f a b) (f a2 b2)
+  bitwise : (f : ℕ → ℕ → ℕ) → ((a b k : ℕ) → f a b / 2 ^ k ≡ f (a / 2 ^ k) (b / 2 ^ k)) →
+      ((a b k : ℕ) → f a b % 2 ^ k ≡ f (a % 2 ^ k) (b % 2 ^ k)) → SameWord (either wa wb) (f a b) (f a2 b2)
   bitwise f shr low = from_parts (either wa wb) (f a b) (f a2 b2) (record {
     part0 = λ n. let q = neither wa.byte0 wb.byte0 n in low a b 8 ∙ ap₂ f (p.part0 q.0) (r.part0 q.1) ∙ sym (low a2 b2 8);
     part1 = λ n. let q = neither wa.byte1 wb.byte1 n in byte_at a b 8 ∙ ap₂ f (p.part1 q.0) (r.part1 q.1) ∙ sym (byte_at a2 b2 8);
@@ -185,7 +187,10 @@ module _ (wa wb : WordMarks) (a a2 b b2 : ℕ) (h : SameWord wa a a2) (k : SameW
       byte_at a b k = ap (λ u. u % 2 ^ 8) (shr a b k) ∙ low (a / 2 ^ k) (b / 2 ^ k) 8
 
   -- an operation modulo 2 ^ 32 of which each byte depends on lower ones alone
-  carried : (f : ℕ → ℕ → ℕ) → ((a b : ℕ) → f a b % 256 ≡ f (a % 256) (b % 256) % 256) → ((a b : ℕ) → f a b % 65536 ≡ f (a % 65536) (b % 65536) % 65536) → ((a b : ℕ) → f a b % 16777216 ≡ f (a % 16777216) (b % 16777216) % 16777216) → SameWord (upward (either wa wb)) (f a b % 2 ^ 32) (f a2 b2 % 2 ^ 32)
+  carried : (f : ℕ → ℕ → ℕ) → ((a b : ℕ) → f a b % 256 ≡ f (a % 256) (b % 256) % 256) →
+      ((a b : ℕ) → f a b % 65536 ≡ f (a % 65536) (b % 65536) % 65536) →
+      ((a b : ℕ) → f a b % 16777216 ≡ f (a % 16777216) (b % 16777216) % 16777216) →
+      SameWord (upward (either wa wb)) (f a b % 2 ^ 32) (f a2 b2 % 2 ^ 32)
   carried f low1 low2 low3 = same_upward (either wa wb) (f a b % 2 ^ 32) (f a2 b2 % 2 ^ 32) (record {
     one = λ n. let q = neither wa.byte0 wb.byte0 n in
         cut_one (f a b) ∙ low1 a b ∙ ap₂ (λ a b. f a b % 256) (p.one q.0) (r.one q.1) ∙ sym (low1 a2 b2) ∙ sym (cut_one (f a2 b2));
