@@ -12,7 +12,7 @@ use Rattle.rv_types.specs.declared.Instr.{Instr}
 use Rattle.rv_types.specs.declared.Instr.TheVariants as instr
 use Rattle.rv_types.specs.declared.Op.{Op}
 use Rattle.rv_types.specs.declared.Op.TheVariants as op
-use Rattle.secret_marks.specs.Words.{SameWord, WordMarks, any_byte, either, every_byte, lowest_byte, unmarked, upward}
+use Rattle.secret_marks.specs.Words.{SameWord, WordMarks, any_byte, blanked, either, every_byte, lowest_byte, unmarked, upward}
 use Rattle.secret_marks.specs.Results.{add_constant, and_constant, left_by, of_constant, of_itself, of_operands, result_marks, right_by}
 use Rattle.secret_marks.proofs.Words.{Parts, from_parts, to_parts}
 use Rattle.secret_marks.proofs.Results.{equal_operands, same_lowest, same_operation, same_product, same_shifted, same_sum, same_twice}
@@ -159,10 +159,21 @@ module _ (w : WordMarks) (a a2 : ℕ) (h : SameWord w a a2) where
   unfolding sum
   same_add c = by_amount c 0 w (upward w) sum (λ q. subst (λ c. SameWord w (sum a c) (sum a2 c)) (sym q) added0) (same_sum w a a2 c h)
 
+  product : ℕ → ℕ → ℕ
+  product a c = a * c % 2 ^ 32
+
+  times0 : SameWord unmarked (a * 0 % 2 ^ 32) (a2 * 0 % 2 ^ 32)
+  times0 = let q : a * 0 % 2 ^ 32 ≡ a2 * 0 % 2 ^ 32 = omega arith in ap (blanked unmarked) q
+
+  same_times : (c : ℕ) → SameWord (if c == 0 then unmarked else upward w) (product a c) (product a2 c)
+  unfolding product
+  same_times c = by_amount c 0 unmarked (upward w) product (λ q. subst (λ c. SameWord unmarked (product a c) (product a2 c)) (sym q) times0) (same_product w a a2 c h)
+
   -- the result of an operation on a word and a constant
   pub same_constant : (o : Op) (c : ℕ) → SameWord (of_constant o c w) (value o a c) (value o a2 c)
-  unfolding shl shr sum
+  unfolding shl shr sum product
   same_constant op.Add c = same_add c
+  same_constant op.Mul c = same_times c
   same_constant op.And c = same_and c
   same_constant op.Sll c = same_left (c % 32)
   same_constant op.Srl c = same_right (c % 32)
@@ -183,19 +194,27 @@ either_operation : (c : Bool) (u v : WordMarks) (x x2 : ℕ) → (c ≡ true →
 either_operation true u v x x2 f g = f refl
 either_operation false u v x x2 f g = g
 
--- the value that an instruction computes: where it reads one register twice, both operands are that register's value
+-- the value that an instruction computes: where it reads one register twice, both operands are that register's value, and register
+-- 0 holds 0
 pub same_result : (wa wb : WordMarks) (a a2 b b2 : ℕ) → SameWord wa a a2 → SameWord wb b b2 → (pc : ℕ) (i : Instr) →
-    ((r : ℕ) → reads_of i ≡ r ∷ r ∷ [] → (a ≡ b) × (a2 ≡ b2)) →
+    ((r : ℕ) → reads_of i ≡ r ∷ r ∷ [] → (a ≡ b) × (a2 ≡ b2)) → ((r : ℕ) → reads_of i ≡ r ∷ 0 ∷ [] → (b ≡ 0) × (b2 ≡ 0)) →
     SameWord (result_marks i wa wb) (effect pc i a b).value (effect pc i a2 b2).value
-same_result wa wb a a2 b b2 h k pc (instr.OpImm o rd rs1 imm) twice = same_constant wa a a2 h o (word imm)
-same_result wa wb a a2 b b2 h k pc (instr.OpReg o rd rs1 rs2) twice =
-    either_operation (rs1.number == rs2.number) (of_itself o wa) (of_operands o wa wb) _ _ (λ q. one_register (grind (arith, nat_tests))) (same_operation wa wb a a2 b b2 h k o)
+same_result wa wb a a2 b b2 h k pc (instr.OpImm o rd rs1 imm) twice zero = same_constant wa a a2 h o (word imm)
+same_result wa wb a a2 b b2 h k pc (instr.OpReg o rd rs1 rs2) twice zero =
+    either_operation (rs2.number == 0) (of_constant o 0 wa) _ _ _ (λ q. no_register (grind (arith, nat_tests)))
+    (either_operation (rs1.number == rs2.number) (of_itself o wa) (of_operands o wa wb) _ _ (λ q. one_register (grind (arith, nat_tests))) (same_operation wa wb a a2 b b2 h k o))
   where
+    no_register : rs2.number ≡ 0 → SameWord (of_constant o 0 wa) (value o a b) (value o a2 b2)
+    no_register q =
+        let t = zero rs1.number (ap (λ n. rs1.number ∷ n ∷ []) q) in
+        subst (λ b. SameWord (of_constant o 0 wa) (value o a b) (value o a2 b2)) (sym t.0)
+        (subst (λ b2. SameWord (of_constant o 0 wa) (value o a 0) (value o a2 b2)) (sym t.1) (same_constant wa a a2 h o 0))
+
     one_register : rs1.number ≡ rs2.number → SameWord (of_itself o wa) (value o a b) (value o a2 b2)
     one_register q =
         let t = twice rs2.number (ap (λ n. n ∷ rs2.number ∷ []) q) in
         subst (λ b. SameWord (of_itself o wa) (value o a b) (value o a2 b2)) t.0
         (subst (λ b2. SameWord (of_itself o wa) (value o a a) (value o a2 b2)) t.1 (same_twice wa a a2 h o))
-same_result wa wb a a2 b b2 h k pc (instr.Branch o rs1 rs2 imm) twice =
+same_result wa wb a a2 b b2 h k pc (instr.Branch o rs1 rs2 imm) twice zero =
     branch_value pc (relative pc imm) (any_byte (either wa wb)) (taken o a b) (taken o a2 b2) (λ n. let q = equal_operands wa wb a a2 b b2 h k n in ap₂ (taken o) q.0 q.1)
-same_result wa wb a a2 b b2 h k pc _ twice = refl
+same_result wa wb a a2 b b2 h k pc _ twice zero = refl

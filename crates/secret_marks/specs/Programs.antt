@@ -94,6 +94,10 @@ carried = 0x00814303 ∷ 0x01031313 ∷ 0x00530313 ∷ 0x0ff37393 ∷ 0x002383b3
 abbrev pub zeroed : List ℕ
 zeroed = 0x00814303 ∷ 0x006343b3 ∷ 0x002383b3 ∷ 0xf003c403 ∷ 0x00000513 ∷ 0x05d00893 ∷ 0x00000073 ∷ []
 
+-- the secret times register 0 is looked up by: lbu x6,8(x2); mul x7,x6,x0; add x7,x7,x2; lbu x8,-256(x7); exit
+abbrev pub times_zero : List ℕ
+times_zero = 0x00814303 ∷ 0x020303b3 ∷ 0x002383b3 ∷ 0xf003c403 ∷ 0x00000513 ∷ 0x05d00893 ∷ 0x00000073 ∷ []
+
 -- the secret is compared, and the bytes above the 0 or 1 are looked up by: lbu x6,8(x2); sltu x6,x0,x6; srli x7,x6,8; add x7,x7,x2; lbu
 -- x8,-256(x7); exit
 abbrev pub compared : List ℕ
@@ -132,10 +136,6 @@ masked_by_register = 0x00814303 ∷ 0xf0000293 ∷ 0x005373b3 ∷ 0x002383b3 ∷
 -- ones cover the secret: lbu x6,8(x2); ori x7,x6,255; add x7,x7,x2; lbu x8,-256(x7); exit
 abbrev pub filled_by_ones : List ℕ
 filled_by_ones = 0x00814303 ∷ 0x0ff36393 ∷ 0x002383b3 ∷ 0xf003c403 ∷ 0x00000513 ∷ 0x05d00893 ∷ 0x00000073 ∷ []
-
--- the secret times register 0: lbu x6,8(x2); mul x7,x6,x0; add x7,x7,x2; lbu x8,-256(x7); exit
-abbrev pub times_zero : List ℕ
-times_zero = 0x00814303 ∷ 0x020303b3 ∷ 0x002383b3 ∷ 0xf003c403 ∷ 0x00000513 ∷ 0x05d00893 ∷ 0x00000073 ∷ []
 
 -- a shift brings in zeros above the secret: lbu x6,8(x2); slli x6,x6,24; srli x6,x6,24; andi x7,x6,256; add x7,x7,x2; lbu x8,-256(x7);
 -- exit

@@ -68,9 +68,10 @@ right_by n a =
     else if n == 24 then every_byte a.byte3
     else downward a
 
--- an immediate is a constant, as is the amount of its shift
+-- an immediate is a constant, and so is register 0, of which the product is 0
 abbrev pub of_constant : Op → ℕ → WordMarks → WordMarks
 of_constant Add c a = add_constant c a
+of_constant Mul c a = if c == 0 then unmarked else upward a
 of_constant And c a = and_constant c a
 of_constant Sll c a = left_by (c % 32) a
 of_constant Srl c a = right_by (c % 32) a
@@ -81,7 +82,10 @@ of_constant op c a = of_operands op a unmarked
 -- the value of an instruction, by the marks of its first and second source: a branch has 0 or 1, and a link value is no secret
 abbrev pub result_marks : Instr → WordMarks → WordMarks → WordMarks
 result_marks (OpImm op rd rs1 imm) a b = of_constant op (word imm) a
-result_marks (OpReg op rd rs1 rs2) a b = if rs1.number == rs2.number then of_itself op a else of_operands op a b
+result_marks (OpReg op rd rs1 rs2) a b =
+    if rs2.number == 0 then of_constant op 0 a
+    else if rs1.number == rs2.number then of_itself op a
+    else of_operands op a b
 result_marks (Branch op rs1 rs2 imm) a b = lowest_byte (any_byte (either a b))
 result_marks i a b = unmarked
 
