@@ -79,6 +79,3 @@ pub fn write_comparison<S: Sink>(answer: &PairAnswer, out: &mut S) -> Result<(),
     write_differ(answer.first, out)?;
     write_length(answer.retired, answer.cycles, out)
 }
-
-#[cfg(test)]
-mod tests;

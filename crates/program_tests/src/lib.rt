@@ -11,6 +11,8 @@ mod cases;
 #[cfg(test)]
 mod commands;
 #[cfg(test)]
+mod comparisons;
+#[cfg(test)]
 mod evaluated;
 #[cfg(test)]
 mod failing;

@@ -64,8 +64,8 @@ fn files_of(alloc: Global, reads: Reads<'_>, fail: u64) -> Result<MemFiles, Fail
     Ok(MemFiles::new(alloc, files, fails)?)
 }
 
-// A sink, with the number of a put that is to fail, and how many of its bytes go out before.
-fn sink_of(alloc: Global, call: u64, sent: usize) -> Result<MemSink, Fail> {
+/// A sink, with the number of a put that is to fail, 0 for none, and how many of its bytes go out before.
+pub fn sink_of(alloc: Global, call: u64, sent: usize) -> Result<MemSink, Fail> {
     let mut fails = Vec::new(alloc);
     fails.push(MemFail { call, sent })?;
     Ok(MemSink::new(alloc, ROOM, fails)?)
