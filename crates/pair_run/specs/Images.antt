@@ -30,6 +30,13 @@ images_code =
 abbrev pub image_at : Start → CodeText → Image
 image_at s code = record { ram = s.ram; code = code; entry = s.entry }
 
+-- where an image begins, and the instruction set's state there
+abbrev pub start_of : Image → Start
+start_of image = record { entry = image.entry; ram = image.ram }
+
+abbrev pub path_of : Image → IsaState
+path_of image = record { code = image.code; hart = start image.entry image.ram }
+
 -- a memory is the one of a description
 pub record Fits (d : Desc) (ram : Ram) : Type 0 where
   pub base : ram.base ≡ d.ram_base

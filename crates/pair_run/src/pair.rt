@@ -2,6 +2,7 @@
 ghost use Rattle.std.specs.Prelude.{◌≡◌, ◌<◌, ◌^◌, ◌+◌, ◌↔◌, length, true, IfOk, IsTrue};
 ghost use Rattle.window_model.specs.Cycle.{after_cycles};
 ghost use Rattle.window_model.specs.Taint.{protects};
+ghost use Rattle.pair_run.specs.Images.{Opened, image_at};
 ghost use Rattle.pair_run.specs.Starts.{loaded};
 ghost use Rattle.pair_run.specs.Answer.{Answers, Premise};
 ghost use Rattle.pair_run.specs.declared.answer.Differ.TheVariants.{Same};
@@ -9,10 +10,8 @@ ghost use Rattle.pair_run.specs.declared.answer.Differ.TheVariants.{Same};
 use crate::answer::PairAnswer;
 use crate::loaded::agree_for;
 use crate::running::{run_both, steps_of};
-use crate::starting::Start;
-use core_cycle::Core;
+use crate::starting::{Cores, Starts};
 use elf_loader::Image;
-use isa_step::Isa;
 use machine_desc::Desc;
 use rename_taint::RenameTaint;
 use rv_types::NoMemory;
@@ -24,13 +23,10 @@ use window_model::Clocked;
 #[derive(Drop)]
 pub struct Pair<R: RenameTaint + Drop> {
     desc: Desc,
-    one: Start,
-    two: Start,
     /// Whether both images have one code, which the cores and the path hold.
     same_code: bool,
-    first: Core<R>,
-    second: Core<R>,
-    path: Isa,
+    starts: Starts,
+    cores: Cores<R>,
 }
 
 impl<R: RenameTaint + Drop> Model for Pair<R> {
@@ -42,11 +38,12 @@ impl<R: RenameTaint + Drop> Model for Pair<R> {
 
     ghost view = { λ p. record {
       desc = p.desc;
-      one = image_at p.one p.first.code;
-      two = image_at p.two p.second.code;
+      one = image_at p.starts.one p.cores.first.code;
+      two = image_at p.starts.two p.cores.second.code;
     } };
 
-    ghost invariant = { λ p. Opened p.desc p.one p.two p.same_code p.first p.second p.path };
+    ghost invariant = { λ p.
+        Opened p.desc p.starts.one p.starts.two p.same_code p.cores.first p.cores.second p.starts.path };
 }
 
 impl<R: RenameTaint + Drop> Pair<R> {
@@ -60,17 +57,13 @@ impl<R: RenameTaint + Drop> Pair<R> {
         ensures { IfOk result (λ p. p ≡ record { desc = desc.now; one = one; two = two }) }
     {
         let same_code = two.code.same(&one.code);
-        let start = Start::of(alloc, &one)?;
-        let start2 = Start::of(alloc, &two)?;
-        let path = Isa::new(one.copy(alloc)?);
+        let starts = Starts::of(alloc, &one, &two)?;
+        let cores = Cores::of(alloc, desc, one, two)?;
         Ok(Pair {
             desc: *desc,
-            one: start,
-            two: start2,
             same_code,
-            first: Core::new(alloc, desc, one)?,
-            second: Core::new(alloc, desc, two)?,
-            path,
+            starts,
+            cores,
         })
     }
 
@@ -82,20 +75,35 @@ impl<R: RenameTaint + Drop> Pair<R> {
     {
         let Pair {
             desc,
-            one,
-            two,
             same_code,
-            first: mut core,
-            second: mut other,
-            mut path,
+            mut starts,
+            mut cores,
         } = self;
-        let first = run_both(&mut core, &mut other, cycles);
-        let steps = steps_of(&core, &desc);
-        PairAnswer {
-            premise: agree_for(&mut path, desc.stt_model, same_code, &one, &two, steps),
-            first,
-            retired: core.retired(),
-            cycles: core.cycles(),
-        }
+        answer_of(&desc, same_code, &mut starts, &mut cores, cycles)
+    }
+}
+
+// What is answered of two cores that stand at their beginnings, as the path does.
+fn answer_of<R: RenameTaint + Drop>(
+    desc: &Desc,
+    same_code: bool,
+    starts: &mut Starts,
+    cores: &mut Cores<R>,
+    cycles: u32,
+) -> PairAnswer
+    requires { Opened desc.now starts.old.one starts.old.two same_code
+        cores.old.first cores.old.second starts.old.path }
+    ensures answers { Answers desc.now (loaded (image_at starts.old.one cores.old.first.code))
+        (loaded (image_at starts.old.two cores.old.second.code)) cycles result }
+    ensures hides { protects desc.now.stt_model ≡ true → IsTrue result.premise → result.first ≡ Same }
+{
+    let first = run_both(&mut cores.first, &mut cores.second, cycles);
+    let steps = steps_of(&cores.first, desc);
+    let Starts { one, two, path } = starts;
+    PairAnswer {
+        premise: agree_for(path, desc.stt_model, same_code, one, two, steps),
+        first,
+        retired: cores.first.retired(),
+        cycles: cores.first.cycles(),
     }
 }
