@@ -1,4 +1,3 @@
-use Rattle.std.proofs.Common.{◌<◌, arith, get_or}
 use Rattle.stations.proofs.Marking.{marked_is, marked_low}
 use Rattle.stations.proofs.by_age.Stations.is_marked.Goals as goal
 

@@ -1,4 +1,4 @@
-use Rattle.std.proofs.Common.{◌<◌, arith, slice_get}
+use Rattle.std.proofs.Common.{slice_get}
 use Rattle.stations.proofs.Marking.{marked_low, marks_behind, unmarked}
 use Rattle.stations.proofs.by_age.Stations.passed.Goals as goal
 
