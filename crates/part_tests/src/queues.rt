@@ -174,21 +174,21 @@ fn has_room_for(
     rt: &impl Abort,
     alloc: Global,
     desc: &Desc,
-    loads: u64,
-    stores: u64,
+    loads: u32,
+    stores: u32,
 ) -> Result<(), Fail> {
     let mut lsq = Lsq::new(alloc, desc)?;
     for serial in 0..loads {
-        assert!(rt; add_load(&mut lsq, serial));
+        assert!(rt; add_load(&mut lsq, serial as u64));
     }
     for serial in 0..stores {
-        assert!(rt; add_store(&mut lsq, 100 + serial, None));
+        assert!(rt; add_store(&mut lsq, 100 + serial as u64, None));
     }
     assert!(rt; !add_load(&mut lsq, 200) && !add_store(&mut lsq, 200, None));
     // The oldest load and store retire, the youngest store is dropped.
     lsq.pop(0);
     lsq.pop(100);
-    lsq.cut(99 + stores);
+    lsq.cut(99 + stores as u64);
     assert!(rt; add_load(&mut lsq, 201) && !add_load(&mut lsq, 202));
     for serial in [203, 204] {
         assert!(rt; add_store(&mut lsq, serial, None));
