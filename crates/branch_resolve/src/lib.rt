@@ -10,6 +10,3 @@ mod effect;
 
 pub use choice::pick;
 pub use effect::{Resolution, resolve};
-
-#[cfg(test)]
-mod tests;

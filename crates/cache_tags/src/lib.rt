@@ -10,6 +10,3 @@ mod tags;
 
 pub use level::Level;
 pub use tags::Tags;
-
-#[cfg(test)]
-mod tests;

@@ -30,14 +30,7 @@ impl DepPred {
     pub fn new(alloc: Global, desc: &Desc) -> Result<DepPred, NoMemory>
         ensures { IfOk result (λ bits. bits ≡ replicate desc.now.predictor_depend false) }
     {
-        DepPred::unset(alloc, desc.predictor_depend)
-    }
-
-    // So many bits, none of them set.
-    pub(crate) fn unset(alloc: Global, count: u32) -> Result<DepPred, NoMemory>
-        ensures { IfOk result (λ bits. bits ≡ replicate count false) }
-    {
-        let bits = vec![in alloc; false; count as usize]?;
+        let bits = vec![in alloc; false; desc.predictor_depend as usize]?;
         Ok(DepPred { bits })
     }
 

@@ -8,6 +8,3 @@
 mod bits;
 
 pub use bits::DepPred;
-
-#[cfg(test)]
-mod tests;

@@ -8,6 +8,3 @@ mod item;
 mod unit;
 
 pub use unit::Fetch;
-
-#[cfg(test)]
-mod tests;

@@ -10,6 +10,3 @@ mod jump;
 mod stack;
 
 pub use history::History;
-
-#[cfg(test)]
-mod tests;

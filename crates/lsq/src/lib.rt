@@ -25,6 +25,3 @@ pub use merging::Merged;
 pub use pending::Pending;
 pub use queues::Lsq;
 pub use store::{Span, Store};
-
-#[cfg(test)]
-mod tests;

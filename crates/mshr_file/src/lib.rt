@@ -10,6 +10,3 @@ mod registers;
 
 pub use laws::due_one_by_one_is_fill;
 pub use registers::Mshrs;
-
-#[cfg(test)]
-mod tests;

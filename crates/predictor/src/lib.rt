@@ -9,6 +9,3 @@
 mod tables;
 
 pub use tables::Predictor;
-
-#[cfg(test)]
-mod tests;

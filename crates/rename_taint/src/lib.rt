@@ -84,6 +84,3 @@ pub trait RenameTaint: Sized {
         ensures left { writes self.new ≡ before_serial first (writes self.old) }
         ensures same_room { room self.new ≡ room self.old };
 }
-
-#[cfg(test)]
-mod tests;

@@ -14,6 +14,3 @@ mod ring;
 pub use beside::{Sources, sources_at};
 pub use issued::Issued;
 pub use ring::{Found, RobRing};
-
-#[cfg(test)]
-mod tests;

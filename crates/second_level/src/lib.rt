@@ -9,6 +9,3 @@
 mod second;
 
 pub use second::Second;
-
-#[cfg(test)]
-mod tests;

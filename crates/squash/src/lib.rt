@@ -11,6 +11,3 @@ mod laws;
 
 pub use dropping::squash_after;
 pub use laws::squashes_as_resolve;
-
-#[cfg(test)]
-mod tests;

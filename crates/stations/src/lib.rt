@@ -15,6 +15,3 @@ mod wants;
 
 pub use by_age::Stations;
 pub use wants::{Part, Wants};
-
-#[cfg(test)]
-mod tests;

@@ -22,6 +22,3 @@ pub fn may_transmit(kind: Kind, roots: [Option<u64>; 2], point: &VisPoint) -> bo
         _ => true,
     }
 }
-
-#[cfg(test)]
-mod tests;

@@ -12,6 +12,3 @@ mod ports;
 
 pub use laws::grants_as_issue_counts;
 pub use ports::Ports;
-
-#[cfg(test)]
-mod tests;

@@ -9,6 +9,3 @@
 mod point;
 
 pub use point::VisPoint;
-
-#[cfg(test)]
-mod tests;

@@ -229,6 +229,3 @@ pub trait Window {
         requires { i < length (entries self.now) }
         ensures { slice_get (entries self.now) i ≡ Some result.now };
 }
-
-#[cfg(test)]
-mod tests;

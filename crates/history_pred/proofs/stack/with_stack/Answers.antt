@@ -1,6 +1,5 @@
-use Rattle.std.proofs.Common.{◌≡◌, ap, ◌∙◌, ◌++◌, drop, length}
+use Rattle.std.proofs.Common.{ap, ◌∙◌, ◌++◌, drop, length}
 use Rattle.std.specs.Prelude.{replicate}
-use Rattle.window_model.specs.declared.Mark.{Mark}
 use Rattle.history_pred.proofs.Placed.{placed}
 use Rattle.history_pred.proofs.stack.with_stack.Goals as goal
 

@@ -1,0 +1,325 @@
+//! Queues that are filled, asked and emptied (`lsq`; `docs/machine.md`, "Loads", "Rename", "Issue" and "Clear").
+use crate::descriptions::{largest, small};
+use byte_ram::Ram;
+use lsq::{Access, Lsq, Merged, Pending, Span, StoreInfo};
+use machine_desc::Desc;
+use rv_types::{Cause, Width};
+use std::alloc::Global;
+use std::process::Abort;
+use std::test::Fail;
+
+const BASE: u32 = 65536;
+
+// A store: its serial and root, where it writes, and what, each if that is known.
+type Stored = (u64, Option<u64>, Option<Span>, Option<u32>);
+
+// Whether there was room for the load, which is then added.
+fn add_load(lsq: &mut Lsq, serial: u64) -> bool {
+    if !lsq.has_load_room() {
+        return false;
+    }
+    lsq.add_load(serial);
+    true
+}
+
+// Whether there was room for the store, which is then added.
+fn add_store(lsq: &mut Lsq, serial: u64, root: Option<u64>) -> bool {
+    if !lsq.has_store_room() {
+        return false;
+    }
+    lsq.add_store(serial, root);
+    true
+}
+
+// The load issues.
+fn issue(lsq: &mut Lsq, serial: u64, access: &Access) {
+    lsq.load_issued(
+        serial,
+        access.addr,
+        access.width,
+        access.fault,
+        access.cycle,
+    );
+}
+
+// What is known of the store is noted.
+fn note(lsq: &mut Lsq, serial: u64, span: Option<Span>, stored: Option<u32>) {
+    if let Some(span) = span {
+        lsq.store_addr(serial, span.addr, span.width, span.fault, span.known_from);
+    }
+    if let Some(stored) = stored {
+        lsq.store_data(serial, stored);
+    }
+}
+
+// Small queues with these stores.
+fn with_stores(rt: &impl Abort, alloc: Global, stores: &[Stored]) -> Result<Lsq, Fail> {
+    let mut lsq = Lsq::new(alloc, &small(alloc)?)?;
+    for (serial, root, span, stored) in stores {
+        assert!(rt; add_store(&mut lsq, *serial, *root));
+        note(&mut lsq, *serial, *span, *stored);
+    }
+    Ok(lsq)
+}
+
+// A store writes there, which is known from this cycle on.
+fn span(addr: u32, width: Width, fault: Option<Cause>, known_from: u64) -> Option<Span> {
+    Some(Span {
+        addr,
+        width,
+        fault,
+        known_from,
+    })
+}
+
+// What a load finds, None where the access has a fault.
+#[tactic(auto, using(crate::proofs::Faultless::answered))]
+fn found(lsq: &Lsq, serial: u64, ram: &Ram, addr: u32, width: Width) -> Option<Merged> {
+    match ram.get(addr, width) {
+        Ok(_) => Some(lsq.merge(serial, addr, width, ram)),
+        Err(_) => None,
+    }
+}
+
+fn merged(value: u32, covered: bool, root: Option<u64>) -> Option<Merged> {
+    Some(Merged {
+        value,
+        covered,
+        root,
+    })
+}
+
+#[test]
+fn a_load_finds_the_youngest_bytes_before_it(rt: HostRuntime) -> Result<(), Fail> {
+    let alloc = rt.alloc();
+    let mut ram = Ram::new(alloc, BASE, 64, false)?;
+    assert!(rt; ram.put(BASE, Width::W, 0x4433_2211).is_ok());
+    // A store with a fault gives nothing, but its address has a root as any other's.
+    let outside = Some(Cause::store_outside());
+    let stores = [
+        (3, None, span(BASE, Width::H, None, 20), Some(0xbeef)),
+        (5, Some(2), span(BASE + 1, Width::B, None, 20), Some(0x1cd)),
+        (
+            8,
+            Some(1),
+            span(BASE, Width::W, outside, 21),
+            Some(0x5566_7788),
+        ),
+        (12, Some(11), None, None),
+    ];
+    let mut lsq = with_stores(&rt, alloc, &stores)?;
+    assert!(rt; !add_store(&mut lsq, 13, None));
+    let rows: [(u64, u32, Width, Option<Merged>); 7] = [
+        (3, BASE, Width::W, merged(0x4433_2211, false, None)),
+        (5, BASE, Width::H, merged(0xbeef, true, None)),
+        (7, BASE, Width::H, merged(0xcdef, true, Some(2))),
+        (10, BASE, Width::W, merged(0x4433_cdef, false, Some(2))),
+        (10, BASE + 1, Width::B, merged(0xcd, true, Some(2))),
+        (13, BASE + 2, Width::B, merged(0x33, false, Some(11))),
+        (13, BASE + 1, Width::H, None),
+    ];
+    for (serial, addr, width, want) in rows {
+        let told = found(&lsq, serial, &ram, addr, width);
+        assert!(rt; told == want, "{serial} at {addr}");
+    }
+    lsq.cut(8);
+    lsq.pop(3);
+    let left = found(&lsq, 20, &ram, BASE, Width::H);
+    assert!(rt; left == merged(0xcd11, false, Some(2)));
+    Ok(())
+}
+
+fn waits(address: bool, overlap: bool, root: Option<u64>) -> Pending {
+    Pending {
+        address,
+        overlap,
+        root,
+    }
+}
+
+#[test]
+fn a_load_waits_for_parts_of_older_stores(rt: HostRuntime) -> Result<(), Fail> {
+    let alloc = rt.alloc();
+    // The first has both its parts; the second only its address, the third too, with a fault; the last only its data.
+    let outside = Some(Cause::store_outside());
+    let stores = [
+        (3, Some(1), span(BASE, Width::W, None, 20), Some(7)),
+        (5, Some(2), span(BASE + 2, Width::H, None, 20), None),
+        (8, Some(4), span(BASE + 4, Width::W, outside, 21), None),
+        (12, Some(11), None, Some(9)),
+    ];
+    let lsq = with_stores(&rt, alloc, &stores)?;
+    let fault = Some(Cause::load_misaligned());
+    let rows: [(u64, u32, Width, Option<Cause>, Pending); 8] = [
+        (4, BASE, Width::W, None, waits(false, false, None)),
+        (6, BASE + 3, Width::B, None, waits(false, true, Some(2))),
+        (6, BASE, Width::W, None, waits(false, true, Some(2))),
+        (6, BASE, Width::H, None, waits(false, false, Some(2))),
+        (6, BASE + 1, Width::W, fault, waits(false, false, Some(2))),
+        (9, BASE + 4, Width::B, None, waits(false, false, Some(4))),
+        (13, BASE + 2, Width::H, None, waits(true, true, Some(4))),
+        (13, BASE + 8, Width::W, None, waits(true, false, Some(4))),
+    ];
+    for (serial, addr, width, fault, want) in rows {
+        let told = lsq.pending(serial, addr, width, fault);
+        assert!(rt; told == want, "{serial} at {addr}");
+    }
+    // Up to the second store each has both its parts.
+    assert!(rt; lsq.all_older_known(5) && !lsq.all_older_known(6));
+    Ok(())
+}
+
+// The queues of a description have room for so many loads and stores, and again for as many as leave.
+fn has_room_for(
+    rt: &impl Abort,
+    alloc: Global,
+    desc: &Desc,
+    loads: u32,
+    stores: u32,
+) -> Result<(), Fail> {
+    let mut lsq = Lsq::new(alloc, desc)?;
+    for serial in 0..loads {
+        assert!(rt; add_load(&mut lsq, serial as u64));
+    }
+    for serial in 0..stores {
+        assert!(rt; add_store(&mut lsq, 100 + serial as u64, None));
+    }
+    assert!(rt; !add_load(&mut lsq, 200) && !add_store(&mut lsq, 200, None));
+    // The oldest load and store retire, the youngest store is dropped.
+    lsq.pop(0);
+    lsq.pop(100);
+    lsq.cut(99 + stores as u64);
+    assert!(rt; add_load(&mut lsq, 201) && !add_load(&mut lsq, 202));
+    for serial in [203, 204] {
+        assert!(rt; add_store(&mut lsq, serial, None));
+    }
+    assert!(rt; !add_store(&mut lsq, 205, None));
+    Ok(())
+}
+
+#[test]
+fn the_queues_have_room_for_four_and_for_64_and_48(rt: HostRuntime) -> Result<(), Fail> {
+    let alloc = rt.alloc();
+    has_room_for(&rt, alloc, &small(alloc)?, 4, 4)?;
+    has_room_for(&rt, alloc, &largest(alloc)?, 64, 48)
+}
+
+// The serial of the store at a place, if there is one.
+fn serial_at(lsq: &Lsq, place: u32) -> Option<u64> {
+    match lsq.store_at(place) {
+        Some(store) => Some(store.serial),
+        None => None,
+    }
+}
+
+// The serials of the first stores.
+fn serials(lsq: &Lsq) -> [Option<u64>; 4] {
+    [
+        serial_at(lsq, 0),
+        serial_at(lsq, 1),
+        serial_at(lsq, 2),
+        serial_at(lsq, 3),
+    ]
+}
+
+#[test]
+fn who_retires_leaves_its_queue(rt: HostRuntime) -> Result<(), Fail> {
+    let alloc = rt.alloc();
+    let mut lsq = Lsq::new(alloc, &small(alloc)?)?;
+    for serial in [3, 5, 8, 12] {
+        assert!(rt; add_store(&mut lsq, serial, None));
+    }
+    // Who isn't there, older than all or not, takes none; the oldest and another take themselves.
+    let rows: [(u64, [Option<u64>; 4]); 5] = [
+        (2, [Some(3), Some(5), Some(8), Some(12)]),
+        (3, [Some(5), Some(8), Some(12), None]),
+        (4, [Some(5), Some(8), Some(12), None]),
+        (8, [Some(5), Some(12), None, None]),
+        (9, [Some(5), Some(12), None, None]),
+    ];
+    for (serial, left) in rows {
+        lsq.pop(serial);
+        assert!(rt; serials(&lsq) == left, "after {serial}");
+    }
+    // Serials that fall: who is older than the first may be there.
+    assert!(rt; add_store(&mut lsq, 4, None));
+    lsq.pop(4);
+    assert!(rt; serials(&lsq) == [Some(5), Some(12), None, None]);
+    Ok(())
+}
+
+fn info(serial: u64, root: Option<u64>, known: bool, cleared: bool) -> Option<StoreInfo> {
+    Some(StoreInfo {
+        serial,
+        root,
+        known,
+        cleared,
+    })
+}
+
+// A load issues in this cycle.
+fn access(addr: u32, width: Width, fault: Option<Cause>, cycle: u64) -> Access {
+    Access {
+        addr,
+        width,
+        fault,
+        cycle,
+    }
+}
+
+// Stores of which three are known, one of them with a fault, from cycle 8 on; and a load before and three behind them.
+fn passed_stores(rt: &impl Abort, alloc: Global) -> Result<Lsq, Fail> {
+    let outside = Some(Cause::store_outside());
+    let stores = [
+        (3, None, span(BASE, Width::W, outside, 8), None),
+        (4, Some(2), span(BASE + 16, Width::W, None, 8), None),
+        (5, Some(2), span(BASE + 2, Width::H, None, 8), None),
+        (12, Some(9), None, None),
+    ];
+    let mut lsq = with_stores(rt, alloc, &stores)?;
+    let loads = [
+        (2, access(BASE, Width::W, None, 6)),
+        (6, access(BASE + 3, Width::B, None, 8)),
+        (
+            7,
+            access(BASE + 1, Width::W, Some(Cause::load_misaligned()), 6),
+        ),
+        (9, access(BASE, Width::W, None, 7)),
+    ];
+    for (serial, access) in loads {
+        assert!(rt; add_load(&mut lsq, serial));
+        issue(&mut lsq, serial, &access);
+    }
+    Ok(lsq)
+}
+
+#[test]
+fn the_oldest_load_that_passed_wrongly_is_violated(rt: HostRuntime) -> Result<(), Fail> {
+    let alloc = rt.alloc();
+    let mut lsq = passed_stores(&rt, alloc)?;
+    // Of the loads behind 5 the first issued once its address was known, and the second has a fault. Then a store with a fault,
+    // one that writes elsewhere, one of unknown address, and one that isn't there.
+    let rows = [(5, Some(9)), (3, None), (12, None), (8, None)];
+    for (serial, violated) in rows {
+        assert!(rt; lsq.clear(serial) == violated, "{serial}");
+    }
+    let stores = [
+        info(3, None, true, true),
+        info(4, Some(2), true, false),
+        info(5, Some(2), true, true),
+        info(12, Some(9), false, true),
+        None,
+    ];
+    for (place, info) in (0..5).zip(stores) {
+        assert!(rt; lsq.store_at(place) == info, "{place}");
+    }
+    assert!(rt; lsq.clear(4).is_none());
+    // Of two loads that passed it wrongly the oldest is violated, also where it issued last; a load that hasn't issued isn't.
+    lsq.cut(7);
+    assert!(rt; add_load(&mut lsq, 10) && add_load(&mut lsq, 11));
+    issue(&mut lsq, 11, &access(BASE + 2, Width::H, None, 3));
+    assert!(rt; lsq.clear(5) == Some(11));
+    issue(&mut lsq, 10, &access(BASE + 3, Width::B, None, 7));
+    assert!(rt; lsq.clear(5) == Some(10));
+    Ok(())
+}
