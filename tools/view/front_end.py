@@ -27,7 +27,14 @@ class FrontEnd:
     def __init__(self, pipeline, tell):
         self.pipeline, self.description, self.tell = pipeline, pipeline.description, tell
         self.rename, self.fetch, self.stalls = Counter(), Counter(), []
-        self.fetching = True
+        self.fetching, self.last_rename, self.last_fetch = True, None, None
+
+    def repeat(self, cycle):
+        """A cycle in which nothing happens, as in the one before: both stop short as they did."""
+        self.rename[self.last_rename] += self.pipeline.counts
+        self.fetch[self.last_fetch] += self.pipeline.counts
+        if self.stalls and self.stalls[-1].last == cycle - 1:
+            self.stalls[-1].last = cycle
 
     def to_rename(self, item):
         """The reason why the front of the queue can't go, None where it can."""
@@ -58,6 +65,7 @@ class FrontEnd:
         if count >= self.description.fetch_width:
             return None
         if not self.pipeline.queue:
+            self.last_rename = QUEUE_EMPTY
             self.rename[QUEUE_EMPTY] += self.pipeline.counts
             return None
         front = self.pipeline.queue[0]
@@ -65,6 +73,7 @@ class FrontEnd:
         if reason is None:
             self.tell(f"the item of {front.pc:08x} isn't renamed, and nothing tells why")
             return None
+        self.last_rename = reason
         self.rename[reason] += self.pipeline.counts
         self.keep_stall(reason, front.pc)
         return reason
@@ -97,6 +106,7 @@ class FrontEnd:
         if len(fetched) < width:
             full = len(queue) >= self.description.queue
             if full or not self.fetching:
-                self.fetch[QUEUE_FULL if full else NOTHING_TO_FETCH] += self.pipeline.counts
+                self.last_fetch = QUEUE_FULL if full else NOTHING_TO_FETCH
+                self.fetch[self.last_fetch] += self.pipeline.counts
             else:
                 self.tell("fetch stops short, and nothing tells why")

@@ -127,6 +127,7 @@ def going_on(replay, name, place, cycle):
     """The run with the rest of its trace."""
     if not isinstance(replay, Replay):
         raise Fault(f"{file_name(name)}: no index of a trace")
+    replay.quiet = False
     replay.front.tell = replay.checks.tell = replay.reasons.tell
     binary = open_trace(name).detach()
     binary.seek(place)

@@ -16,6 +16,7 @@ BY_AGE = attrgetter("serial")
 PREFETCH = "pf"
 # the parts of a store, by the names of their events
 PARTS = ADDRESS_PART, DATA_PART = "agu", "std"
+SHADOWING = (*CONTROLS, *AT_ONCE, LOAD, STORE)
 NO_ROOTS = (), (None,), (None, None)
 NO_PARTS, NEVER_LACKING = {}, (None, 0)
 
@@ -409,9 +410,8 @@ class Pipeline:
     def hides(self, item):
         """Whether it keeps what is younger from being visible as it is renamed."""
         if self.description.model == FUTURISTIC:
-            return item.code.is_control or item.code.at_once or item.code.kind in (LOAD, STORE)
-        unsettled = item.code.is_control or item.code.kind == STORE and not self.is_cleared(item)
-        return self.description.model == SPECTRE and unsettled
+            return item.kind in SHADOWING
+        return self.description.model == SPECTRE and (item.kind in CONTROLS or item.kind == STORE and not self.is_cleared(item))
 
     def fetch(self, pc):
         item = Item(self.count, pc, self.image.instruction(pc), self.cycle)

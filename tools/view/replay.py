@@ -26,6 +26,8 @@ class Replay:
         self.checks = Checks(self.pipeline, self.reasons.tell)
         self.slots, self.occupancy, self.span = Slots(self.pipeline), None, span
         self.retired = 0
+        # whether the last cycle had no event and was explained. A tool that looks at more of each cycle is shown all of them
+        self.quiet, self.skips = False, type(self) is Replay
 
     def items(self, until=None):
         """Each fetched instruction, in the order of fetching, as soon as it and all before it are gone.
@@ -64,17 +66,37 @@ class Replay:
 
     def step(self, row):
         """One cycle."""
+        pipeline, counted = self.pipeline, self.pipeline.counts
+        pipeline.cycle, told = row.cycle, len(self.reasons.unexplained) + len(self.reasons.presumed)
+        pipeline.counts = self.span[0] <= row.cycle and (self.span[1] is None or row.cycle <= self.span[1])
+        if self.quiet and not row.events and not row.ends and counted == pipeline.counts and self.nothing_due(row.cycle):
+            self.repeat(row.cycle)
+            return
         phases = row.phases()
-        self.pipeline.cycle = row.cycle
-        self.pipeline.counts = self.span[0] <= row.cycle and (self.span[1] is None or row.cycle <= self.span[1])
         try:
             self.take(row, phases)
-            if self.occupancy is not None and self.pipeline.counts:
-                self.occupancy.add(self.pipeline, len(phases[RETIRE]) and sum(words[0] == "ret" for words in phases[RETIRE]))
         except ValueError:
             raise Fault(f"cycle {row.cycle}: a number is none in `{' '.join(row.events)}`") from None
         except (LookupError, AttributeError, TypeError):
             raise Fault(f"cycle {row.cycle}: `{' '.join(row.events)}` can't follow; is it the trace of this image and description?") from None
+        if self.occupancy is not None and pipeline.counts:
+            self.occupancy.add(pipeline, sum(words[0] == "ret" for words in phases[RETIRE]) if phases[RETIRE] else 0)
+        self.quiet = self.skips and not row.events and told == len(self.reasons.unexplained) + len(self.reasons.presumed)
+
+    def nothing_due(self, cycle):
+        """No line and no result comes, and the divider isn't free from this cycle on: the phases find what they found in the cycle before
+        (docs/machine.md, "Cycles in which nothing happens")."""
+        return cycle not in self.pipeline.dues and cycle not in self.checks.due and self.pipeline.divider.free_from != cycle
+
+    def repeat(self, cycle):
+        """Nothing happens in this cycle, as in the one before."""
+        self.reasons.repeat(cycle)
+        self.front.repeat(cycle)
+        self.slots.retire((), False)
+        if self.slots.head is not None:
+            self.slots.close()
+        if self.occupancy is not None and self.pipeline.counts:
+            self.occupancy.add(self.pipeline, 0)
 
     def take(self, row, phases):
         """The seven phases, and Clear behind Resolve. After an end in Retire no later phase acts."""
