@@ -23,7 +23,7 @@ SUBCOMMANDS = {
     "konata": "the log that the viewer Konata opens (Kanata 0004)",
     "o3": "the text of gem5's O3PipeView, which o3-pipeview.py and Konata open",
     "svg": "a picture, cycles against instructions; of two traces side by side, with the first unequal cycle framed",
-    "index": "a file beside the trace, TRACE.index, by which list, konata, o3, svg and html begin at --from without what comes before",
+    "index": "a file beside the trace, TRACE.index, by which all that take --from begin there without what comes before, but why",
     "html": "the same as a page, with a text for each instruction under the pointer",
 }
 # how many traces a subcommand takes at most, where it isn't one
@@ -149,7 +149,7 @@ def lines_of_runs(words, inputs):
     """What is told of whole runs: their numbers, their stacks, their lines."""
     span, function = (words.first or 1, words.last), getattr(words, "function", None)
     by_place = words.what == "annotate" or words.what == "stats" and (words.json or len(inputs.names) == 2)
-    runs = [stats.Run(inputs.title(side), inputs.replay(side), inputs.disassembler(side), span, function, by_place)
+    runs = [stats.Run(inputs.title(side), inputs.replay(side, span[0]), inputs.disassembler(side), span, function, by_place)
             for side in range(len(inputs.names))]
     if words.what == "stack":
         stacks = [stack.Run(run.name, run.slots) for run in runs]

@@ -247,12 +247,22 @@ class Pipeline:
             if gone.serial is not None:
                 self.leave(gone)
         for entries in (self.waiting, self.awake, self.open_stores, self.shadows, self.controls, self.outcomes, self.clearable):
-            entries[:] = [entry for entry in entries if entry.squashed is None]
+            while entries and entries[-1].serial >= serial:
+                entries.pop()
         self.divider.drop_from(serial)
-        self.writers = [None] * 32
-        for entry in self.window:
-            self.writers[entry.code.destination] = entry
+        self.find_writers({gone.code.destination for gone in dropped if self.writers[gone.code.destination] is gone})
         return len(dropped)
+
+    def find_writers(self, registers):
+        """Who writes these registers, now that younger writers are dropped."""
+        for register in registers:
+            self.writers[register] = None
+        for entry in reversed(self.window) if registers else ():
+            if entry.code.destination in registers:
+                self.writers[entry.code.destination] = entry
+                registers.remove(entry.code.destination)
+                if not registers:
+                    return
 
     def leave(self, item):
         """The window has one entry less."""

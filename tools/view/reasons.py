@@ -317,7 +317,7 @@ class Reasons:
     def retire(self, retired, ends):
         """Up to the width the oldest entries retire that are Done and resolved, and one store at most, which has to be cleared."""
         self.head = None
-        for serial in retired:
+        for serial in retired if self.presumed else ():
             if serial in self.presumed:
                 self.tell(f"store {serial} retires; a wait was explained by its fault")
         expected = self.to_retire()

@@ -1,14 +1,16 @@
 """A whole trace taken through the pipeline, the reasons and the checks."""
 from . import Fault
-from .checks import Checks
+from .checks import EVENT_OF, Checks
 from .front_end import FrontEnd
-from .instruction import DIVISION
+from .instruction import CALL, DIVISION, STORE
 from .pipeline import PREFETCH, Pipeline
 from .reasons import Reasons
 from .slots import Slots
 from .trace import CLEAR, COMPLETE, FETCH, FILL, ISSUE, RENAME, RESOLVE, RETIRE
 
 LOAD_EVENTS = ("ld", PREFETCH)
+# what tells more as it retires
+EFFECTS = (STORE, CALL)
 
 
 class Replay:
@@ -167,22 +169,23 @@ class Replay:
     def retire(self, events, ends):
         self.reasons.retire([int(words[1]) for words in events if words[0] == "ret"], ends)
         retired = []
-        if not events:
-            self.slots.retire(retired, ends)
-            return
         for words in events:
-            if words[0] == "ret":
-                retired.append(self.pipeline.entry(words))
-                self.pipeline.retire(retired[-1])
-            elif not retired or retired[-1].serial != int(words[1]):
+            name = words[0]
+            if name == "ret":
+                item = self.pipeline.entry(words)
+                retired.append(item)
+                self.pipeline.retire(item)
+            elif not retired or item.serial != int(words[1]):
                 raise Fault(f"cycle {self.pipeline.cycle}: `{':'.join(words)}` doesn't follow its ret")
-            elif words[0] == "st":
-                self.checks.write(retired[-1], int(words[2], 16), words[3])
-                self.pipeline.write(retired[-1], int(words[2], 16), words[3])
+            elif name == "st":
+                line = int(words[2], 16)
+                self.checks.write(item, line, words[3])
+                self.pipeline.write(item, line, words[3])
             else:
-                retired[-1].output = int(words[2])
+                item.output = int(words[2])
         for item in retired:
-            self.checks.retired(item)
+            if item.kind in EFFECTS or item.written or item.output is not None:
+                self.checks.retired(item)
         self.retired += len(retired)
         self.slots.retire(retired, ends)
 
@@ -198,8 +201,10 @@ class Replay:
         self.checks.order(steps)
         items = [self.pipeline.entry(step[0]) for step in steps]
         for item, step in zip(items, steps):
-            self.checks.unit(item, step[0][0])
-            if step[0][0] == "ld":
+            name = step[0][0]
+            if EVENT_OF.get(item.kind, "alu") != name:
+                self.checks.unit(item, name)
+            if name == "ld":
                 self.checks.access(item, step)
         for item, step in zip(items, steps):
             self.pipeline.issue(item, step)
@@ -232,9 +237,11 @@ class Replay:
         return steps
 
     def rename(self, events):
+        roomy = bool(events) and len(events) <= self.pipeline.description.fetch_width and self.front.has_room()
         for words in events:
             serial = int(words[1])
-            self.front.before_rename(serial)
+            if not roomy or self.pipeline.queue and self.pipeline.queue[0].kind == CALL:
+                self.front.before_rename(serial)
             self.slots.rename(self.pipeline.rename(serial, int(words[2], 16)))
         reason = self.front.after_rename(len(events))
         if reason is not None:
