@@ -52,7 +52,7 @@ def parser():
             sub.add_argument("--to", dest="last", type=cycle_number, metavar="CYCLE", help="up to this cycle")
         if name == "why":
             sub.add_argument("--summary", action="store_true", help="the sums alone")
-        if name in ("stats", "annotate"):
+        if name in ("stats", "annotate", "why", "list"):
             sub.add_argument("--function", metavar="NAME", help="what is of this function alone")
         if name == "stats":
             sub.add_argument("--json", action="store_true", help="as a JSON object; of two runs, as a list of two")
@@ -126,11 +126,12 @@ def lines_of(words, inputs):
     first, disassembler = words.first or 1, inputs.disassembler(0)
     replay = inputs.replay(0, 1 if words.what == "why" else first)
     if words.what == "why":
-        yield from there(why.lines_of(replay, disassembler, first, words.last, words.summary), replay, first)
+        yield from there(why.lines_of(replay, disassembler, first, words.last, words.summary, words.function), replay, first)
         return 1 if replay.reasons.unexplained else 0
     else:
         write = {"list": listing, "konata": konata, "o3": o3}[words.what]
-        yield from there(write.lines_of(replay, disassembler, first, words.last), replay, first)
+        function = [words.function] if words.what == "list" else []
+        yield from there(write.lines_of(replay, disassembler, first, words.last, *function), replay, first)
     return 0
 
 

@@ -134,7 +134,7 @@ def lines_of_file(file, name):
 class Progress:
     """The lines of a file as they come; how far they are stands on standard error, if that is a terminal."""
 
-    EVERY = 20000
+    EVERY = 5000
 
     def __init__(self, file, name="the trace", screen=sys.stderr):
         self.file, self.lines, self.screen, self.shown = file, lines_of_file(file, name), screen, screen.isatty()

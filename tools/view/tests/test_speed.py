@@ -74,7 +74,8 @@ class ByPyPy(unittest.TestCase):
     def test_it_writes_the_same(self):
         trace = support.file_of("pypy.trace", "".join(support.worked_trace("Bounds check bypass")).encode())
         words = [VIEW, "stats", trace, "-e", support.example("bounds_check.elf"), "-D", support.example("core.toml"), "--json"]
-        texts = [subprocess.run([python, *words], capture_output=True, text=True, timeout=120, env={**os.environ, faster.DECIDED: sys.executable})
+        decided = {**os.environ, faster.DECIDED: sys.executable}
+        texts = [subprocess.run([python, *words], capture_output=True, text=True, timeout=120, env=decided)
                  for python in (sys.executable, PYPY)]
         self.assertEqual([(answer.stdout, answer.stderr, answer.returncode) for answer in texts], [(texts[0].stdout, "", 0)] * 2)
 
