@@ -53,6 +53,11 @@ class Command(unittest.TestCase):
             answer = view(*words)
             self.assertEqual((answer.returncode, answer.stdout, answer.stderr.count("\n")), (2, "", 1), words)
 
+    def test_an_image_or_description_too_many(self):
+        self.assertIn("-e is given 2 times", self.refused("list", self.trace, *self.files, *self.files[:2]))
+        self.assertIn("-D is given 2 times", self.refused("stack", *[self.trace] * 3, *self.files, *self.files[2:]))
+        self.assertEqual(view("stats", self.trace, self.other, *self.files, *self.files[2:]).returncode, 0)
+
     def refused(self, *words, text=None):
         """What is told of wrong input: one line, and the status of errors."""
         answer = view(*words, text=text)
