@@ -113,7 +113,9 @@ class Valued(Pipeline):
 
     def execute(self, value):
         done = value.effect(*(source.result or 0 for source in value.sources))
-        value.result, value.mark, value.taken = done.value, value.is_marked, bool(done.value)
+        value.result, value.taken = done.value, bool(done.value)
+        # what a JALR writes is its own address plus 4, wherever it goes
+        value.mark = value.operation.code.kind != JALR and value.is_marked
         if done.misaligned:
             value.fault = JUMP_MISALIGNED
 
