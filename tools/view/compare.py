@@ -27,7 +27,7 @@ def function_lines(runs, most):
     yield f"\n{'cycles by function':34}{'A':>12}{'B':>12}{'B - A':>12}  " + "  ".join(f"{name:>15}" for name in COUNTS)
     for name in order[:most]:
         counts = (f"{tables[0].get(name, {}).get(what, 0):>7}>{tables[1].get(name, {}).get(what, 0):<7}" for what in COUNTS)
-        yield row(name, *cycles[name]) + "  " + "  ".join(counts)
+        yield (row(name, *cycles[name]) + "  " + "  ".join(counts)).rstrip()
 
 
 def row(name, first, second):

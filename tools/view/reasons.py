@@ -40,7 +40,7 @@ class Reasons:
     def __init__(self, pipeline):
         self.pipeline, self.description = pipeline, pipeline.description
         self.unexplained, self.idle = [], Counter()
-        self.presumed, self.head, self.ports, self.last_load = set(), None, {}, -1
+        self.presumed, self.head, self.ports, self.issued = set(), None, {}, {}
         self.futuristic, self.results_held = self.description.model == FUTURISTIC, self.description.defence == HOLD
         self.free_ports = {"load": 1, "store": 1, "multiplier": 1, "divider": 1, "arithmetic": self.description.alus, **dict.fromkeys(PARTS, 1)}
 
@@ -110,7 +110,7 @@ class Reasons:
             self.rouse(pipeline.serials.get(serial), cycle)
         if not pipeline.awake:
             return
-        self.last_load = max((serial for serial, told in issued.items() if "ld" in told), default=-1)
+        self.issued = issued
         self.ports = dict(self.free_ports)
         awake, pipeline.awake = pipeline.awake, []
         for item in awake:
@@ -267,7 +267,7 @@ class Reasons:
         lacks = self.lacks(load)
         if goes:
             self.check_sharers(load, stores)
-        elif stores and (not lacks or load.serial < self.last_load):
+        elif stores and (not lacks or any(load.serial < serial for serial, told in self.issued.items() if "ld" in told)):
             load.sharers = stores
             return STORE_DATA, stores[-1]
         elif lacks:

@@ -38,8 +38,10 @@ class Replay:
                 break
             self.step(row)
             ends = row.ends
-            if flight and (flight[0].retired or flight[0].squashed):
-                yield from self.gone()
+            while flight and (flight[0].retired is not None or flight[0].squashed is not None):
+                item = flight.popleft()
+                item.forget()
+                yield item
         self.end(self.trace.end)
         for item in flight:
             if item.open is not None:

@@ -49,12 +49,13 @@ def picture(runs):
     parts = []
     for place, run in enumerate(runs):
         parts += bar(run, TOP + place * STEP, WIDE / max(most, 1))
-    columns = (LEFT + WIDE + 80) // LEGEND
+    columns = (LEFT + WIDE) // LEGEND
     below = TOP + len(runs) * STEP + 10
     for place, reason in enumerate(names):
         x, y = 10 + place % columns * LEGEND, below + place // columns * 20
         parts.append(f'<rect x="{x}" y="{y}" width="12" height="12" fill="{COLOURS[reason]}"/><text x="{x + 18}" y="{y + 10}">{escape(reason)}</text>')
-    width, height = LEFT + WIDE + 90, below + -(-len(names) // columns) * 20 + 10
+    width = LEFT + WIDE + 16 + round(max(len(told(run)) for run in runs) * CHARACTER)
+    height = below + -(-len(names) // columns) * 20 + 10
     return "\n".join([
         f'<svg xmlns="http://www.w3.org/2000/svg" width="{width}" height="{height}" viewBox="0 0 {width} {height}">',
         '<style>text{font:11px "DejaVu Sans",Arial,sans-serif;fill:#111}.title{font-weight:bold}.number{fill:#555}</style>',
@@ -72,5 +73,9 @@ def bar(run, y, scale):
         parts.append(f'<rect x="{x:.2f}" y="{y}" width="{wide:.2f}" height="{BAR}" fill="{COLOURS[reason]}"><title>{escape(reason)}: '
                      f'{run.cycles_of(reason):.2f} cycles, {100 * run.cycles_of(reason) / max(run.cycles, 1):.1f} %</title></rect>')
         x += wide
-    parts.append(f'<text class="number" x="{x + 6:.2f}" y="{y + 17}">{run.cycles} ({run.cycles / max(run.retired, 1):.2f} an instruction)</text>')
+    parts.append(f'<text class="number" x="{x + 6:.2f}" y="{y + 17}">{told(run)}</text>')
     return parts
+
+
+def told(run):
+    return f"{run.cycles} ({run.cycles / max(run.retired, 1):.2f} an instruction)"

@@ -20,9 +20,9 @@ def samples():
         lines = file.read().splitlines()
     for number, line in enumerate(lines):
         if line.startswith("    $ "):
-            below = [text[4:] for text in lines[number + 1:]]
-            end = next(place for place, text in enumerate(lines[number + 1:]) if not text.startswith("    "))
-            yield line[6:].split(), below[:end]
+            below = lines[number + 1:]
+            end = next(place for place, text in enumerate(below) if text and not text.startswith("    "))
+            yield line[6:].split(), "\n".join(text[4:] for text in below[:end]).rstrip().splitlines()
 
 
 def traces():
@@ -38,7 +38,7 @@ class Page(unittest.TestCase):
     def test_samples(self):
         files = traces()
         found = list(samples())
-        self.assertEqual([command[1] for command, _ in found], ["why", "diff"])
+        self.assertEqual([command[1] for command, _ in found], ["why", "stack", "stats", "annotate", "diff"])
         for command, below in found:
             words = [sys.executable, *(files.get(word, word) for word in command)]
             answer = subprocess.run(words, capture_output=True, text=True, cwd=support.ROOT, timeout=60)

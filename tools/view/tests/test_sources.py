@@ -5,7 +5,7 @@ import subprocess
 import unittest
 
 import support
-from view import Fault
+from view import Fault, annotate, listing, stats, why
 from view.disassembly import KINDS, Disassembler
 from view.image import Image
 from view.sources import Line, Sources, read_sources, short_names
@@ -74,6 +74,24 @@ class Tables(unittest.TestCase):
         image = Image(path)
         address = next(word for word in image.words if image.sources.told(word) == "inner.h:2")
         self.assertTrue(Disassembler(image, KINDS).place(address).endswith("> inner.h:2"))
+
+    @unittest.skipIf(support.NO_PROGRAM, support.NO_PROGRAM)
+    def test_each_subcommand_names_lines(self):
+        path = next(self.each(), None)
+        if path is None:
+            self.skipTest("no compiler of RISC-V: gcc-riscv64-unknown-elf, or clang and lld")
+        described = support.example("large_passing.toml")
+        lines = support.trace_of(described, path, 2000)
+        for write in (why.lines_of, listing.lines_of):
+            run, disassembler = support.fresh(lines, path, described)
+            text = "\n".join(write(run, disassembler, 1, None, *([False] if write is why.lines_of else [])))
+            self.assertRegex(text, r"<main\+0x[0-9a-f]+> inner\.h:2")
+        run = support.taken(*support.fresh(lines, path, described))
+        self.assertRegex("\n".join(stats.lines_of(run)), r"<main[^>]*> (outer\.c:[56]|inner\.h:2)")
+        text = "\n".join(annotate.lines_of(run, True))
+        self.assertRegex(text, r"(?m)^ +\d+ .*     6         all \+= twice\(table\[i\] / x\);$")
+        self.assertRegex(text, r"(?m)^ +\d+ .*     2     return x \* 2 \+ 1;$")
+        self.assertIn("outer.c:6", "\n".join(annotate.lines_of(run, False)))
 
     def test_a_cut_table_is_refused(self):
         path = next(self.each(), None)
