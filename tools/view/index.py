@@ -88,8 +88,9 @@ def state_of(replay, image):
     """The state of a run: what only grows is left behind."""
     pipeline = replay.pipeline
     pipeline.fills, pipeline.prefetches, replay.front.stalls = [], [], []
-    replay.reasons.unexplained, replay.slots.lost, replay.slots.retired = [], {}, {}
-    replay.reasons.idle.clear()
+    replay.reasons.unexplained, replay.slots.lost, replay.slots.retired, replay.slots.cycles = [], {}, {}, 0
+    for counted in (replay.reasons.idle, replay.front.rename, replay.front.fetch):
+        counted.clear()
     kept, trace, limit = io.BytesIO(), replay.trace, sys.getrecursionlimit()
     replay.trace = None
     sys.setrecursionlimit(20000)
@@ -127,6 +128,7 @@ def going_on(replay, name, place, cycle):
     """The run with the rest of its trace."""
     if not isinstance(replay, Replay):
         raise Fault(f"{file_name(name)}: no index of a trace")
+    replay.quiet = False
     replay.front.tell = replay.checks.tell = replay.reasons.tell
     binary = open_trace(name).detach()
     binary.seek(place)

@@ -24,7 +24,8 @@ def numbers(run, most):
         "resolved": {name: {"resolved": counts.resolved[kind], "mispredicted": counts.mispredicted[kind]}
                      for name, kind in (("branches", BRANCH), ("JALRs", JALR), ("returns", RETURN))},
         "issued": {name: {"issued": counts.units[unit], "not retired": counts.wrong[unit]} for unit, name in LOAD_KINDS + OTHER_UNITS},
-        "a thousand retired": {"mispredicted": share(counts.mispredictions, counts.retired), "loads that miss": share(counts.misses, counts.retired)},
+        "a thousand retired": {"mispredicted": share(counts.mispredictions, counts.retired),
+                               "loads that miss": share(counts.misses, counts.retired)},
         "defence": {"name": replay.reasons.holds, "instructions": sum(counts.held.values()), "cycles": sum(counts.held_cycles.values())},
         "loads that passed stores": {"passed": sum(counts.passed.values()), "violated": sum(counts.violated.values())},
         "slots": run.slots.sums(),

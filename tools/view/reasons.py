@@ -39,7 +39,7 @@ class Reasons:
 
     def __init__(self, pipeline):
         self.pipeline, self.description = pipeline, pipeline.description
-        self.unexplained, self.idle = [], Counter()
+        self.unexplained, self.idle, self.last_idle = [], Counter(), None
         self.presumed, self.head, self.ports, self.issued = set(), None, {}, {}
         self.futuristic, self.results_held = self.description.model == FUTURISTIC, self.description.defence == HOLD
         self.free_ports = {"load": 1, "store": 1, "multiplier": 1, "divider": 1, "arithmetic": self.description.alus, **dict.fromkeys(PARTS, 1)}
@@ -317,7 +317,7 @@ class Reasons:
     def retire(self, retired, ends):
         """Up to the width the oldest entries retire that are Done and resolved, and one store at most, which has to be cleared."""
         self.head = None
-        for serial in retired:
+        for serial in retired if self.presumed else ():
             if serial in self.presumed:
                 self.tell(f"store {serial} retires; a wait was explained by its fault")
         expected = self.to_retire()
@@ -347,24 +347,42 @@ class Reasons:
         head = self.pipeline.window[0] if self.pipeline.window else None
         squash = self.pipeline.last_squash
         if ends:
-            self.idle["the run ends by a trap", head.pc if head else None] += 1
+            self.count_idle("the run ends by a trap", head.pc if head else None)
         elif head is None:
             after = squash is not None and (squash.violated or squash.retired is not None)
             why = " after a violation" if after and squash.violated else " after a misprediction" if after else ""
-            self.idle["window empty" + why, squash.pc if after else None] += 1
+            self.count_idle("window empty" + why, squash.pc if after else None)
         elif head.issued is None and not head.code.at_once:
             self.head = head
         elif head.done is None and head.issued is not None:
             what = f"load {head.unit}" if head.code.kind == LOAD else head.code.kind
-            self.idle[f"oldest executes: {what}", head.pc] += 1
+            self.count_idle(f"oldest executes: {what}", head.pc)
         else:
-            self.idle["oldest waits to be resolved", head.pc] += 1
+            self.count_idle("oldest waits to be resolved", head.pc)
 
     def explain_head(self):
         """The oldest hadn't issued when nothing retired: what Issue then made of it."""
         if self.head is not None:
             waits = self.head.waits[-1:] if self.head.issued is None else []
-            self.idle[f"oldest waits: {waits[0].reason}" if waits else "oldest begins to execute", self.head.pc] += 1
+            self.count_idle(f"oldest waits: {waits[0].reason}" if waits else "oldest begins to execute", self.head.pc)
+
+    def count_idle(self, reason, pc):
+        self.last_idle = reason, pc
+        self.idle[reason, pc] += 1
+
+    # ---- a cycle in which nothing happens, as in the one before
+
+    def repeat(self, cycle):
+        """All waits go on, and nothing retires for what it did before."""
+        pipeline = self.pipeline
+        for entries in (pipeline.awake, pipeline.outcomes, pipeline.clearable):
+            for item in entries:
+                if item.waits and item.waits[-1].last == cycle - 1:
+                    item.waits[-1].last = cycle
+                if item.lacking[0] == cycle - 1:
+                    item.lacking = cycle, item.lacking[1]
+        if pipeline.counts:
+            self.idle[self.last_idle] += 1
 
 
 def named(serial):

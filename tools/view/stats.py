@@ -224,7 +224,9 @@ def stack_lines(run):
     """The CPI stack: slots, cycles (slots divided by the width) and their share, cycles an instruction."""
     slots, sums = run.slots, run.slots.sums()
     total = sum(sums.values())
-    whole = f"{run.cycles} cycles of {slots.width} slots, {total} in all" if run.function is None else f"{total} that are charged to {run.function}"
+    whole = f"{run.cycles} cycles of {slots.width} slots, {total} in all"
+    if run.function is not None:
+        whole = f"{total} that are charged to {run.function}"
     yield f"\nslots of retirement: {whole}"
     yield "   slots    cycles   share  cycles an instruction"
     for reason, number in sums.items():
