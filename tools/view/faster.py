@@ -23,7 +23,7 @@ def is_large(name):
 def by_pypy(script, words):
     """Goes on as PyPy where a word names a long trace; returns where nothing is gained."""
     pypy = shutil.which("pypy3")
-    if any(os.path.isfile(word + ".index") for word in words) and words[:1] != ["stats"]:
+    if any(os.path.isfile(word + ".index") for word in words) and any(word.startswith("--from") for word in words):
         return
     if DECIDED in os.environ or pypy is None or sys.implementation.name == "pypy" or not any(map(is_large, words)):
         return

@@ -117,10 +117,10 @@ class Parts(unittest.TestCase):
 
     def test_json(self):
         found = json.loads("\n".join(numbers.lines_of([bounds_check()], 3)))
-        self.assertEqual((found["slots"], found["cycles"], found["retire width"], found["unexplained"]), (BOUNDS_CHECK, 21, 2, 0))
-        self.assertEqual(found["cycles by number retired"], [16, 5, 0])
+        self.assertEqual((found["slots"], found["cycles"], found["retire_width"], found["unexplained"]), (BOUNDS_CHECK, 21, 2, 0))
+        self.assertEqual(found["cycles_by_number_retired"], [16, 5, 0])
         self.assertEqual(found["instructions"], {"fetched": 13, "renamed": 10, "squashed": 7, "retired": 5})
-        self.assertEqual(found["a thousand retired"], {"mispredicted": 200.0, "loads that miss": 200.0})
+        self.assertEqual(found["per_thousand_retired"], {"mispredicted": 200.0, "loads_that_miss": 200.0})
         self.assertEqual(sum(row["slots"] for row in found["functions"]), 42)
         self.assertEqual([(row["address"], row["lost"]) for row in found["places"]][0], (0x10000, {"front end": 2, "load: memory": 18}))
 
