@@ -81,6 +81,9 @@ class Inputs:
         self.names = words.trace
         if len(self.names) > MOST.get(words.what, 1):
             raise Fault(f"{words.what} takes {MOST.get(words.what, 1)} traces at most")
+        for option, given in (("-e", words.image), ("-D", words.description)):
+            if len(given) not in (1, len(self.names)):
+                raise Fault(f"{option} is given {len(given)} times, for {len(self.names)} traces: once serves all, else each has its own")
         first, last = getattr(words, "first", None), getattr(words, "last", None)
         if first and last and first > last:
             raise Fault(f"--from {first} is behind --to {last}")

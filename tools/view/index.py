@@ -130,10 +130,16 @@ def going_on(replay, name, place, cycle):
         raise Fault(f"{file_name(name)}: no index of a trace")
     replay.quiet = False
     replay.front.tell = replay.checks.tell = replay.reasons.tell
-    binary = open_trace(name).detach()
-    binary.seek(place)
-    replay.trace = Trace((line.decode("ascii", "replace") for line in lines_of_file(binary, name)), cycle)
+    replay.trace = Trace(rest(name, place), cycle)
     return replay
+
+
+def rest(name, place):
+    """The lines of a trace from this byte on."""
+    with open_trace(name).detach() as binary:
+        binary.seek(place)
+        for line in lines_of_file(binary, name):
+            yield line.decode("ascii", "replace")
 
 
 class Told:

@@ -86,9 +86,11 @@ class Item:
         self.open.last = NEVER
 
     def wake(self, cycle):
-        """In this cycle it no longer waits as before."""
+        """In this cycle it no longer waits as before; it didn't at all where it has only just been renamed."""
         self.open.last = cycle - 1
         self.open = None
+        if self.waits[-1].last < self.waits[-1].first:
+            self.waits.pop()
 
     def forget(self):
         """Lets go of the other items that it names, so that a long trace takes no memory."""

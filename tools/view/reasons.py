@@ -7,7 +7,7 @@ made from its text, the image and the description alone.
 from collections import Counter
 
 from .description import FUTURISTIC, HOLD
-from .instruction import CALL, CONTROLS, DIVISION, LOAD, MULTIPLICATION, STORE
+from .instruction import AT_ONCE, CALL, CONTROLS, DIVISION, LOAD, MULTIPLICATION, STORE
 from .pipeline import PARTS, enter
 
 # to issue
@@ -121,6 +121,20 @@ class Reasons:
                 stays = self.issue_whole(item, bool(told), cycle)
             if stays:
                 pipeline.awake.append(item)
+
+    def renamed(self, item):
+        """What waits for writers alone from its first cycle on isn't looked at before one of them is Done."""
+        if not item.awaits or item.kind in AT_ONCE:
+            return
+        if item.kind != STORE or self.description.version == 1:
+            reason, cause = OPERAND, next(writer for writer in item.sources if writer is not None and writer.done is None)
+        elif item.awaits == len(PARTS):
+            reason, cause = BASE, item.sources[0]
+        else:
+            return
+        item.wait(self.pipeline.cycle + 1, reason, cause)
+        item.sleep()
+        self.pipeline.awake.pop()
 
     def rouse(self, item, cycle):
         """An entry issues that was known to wait: it is looked at as any other."""

@@ -242,7 +242,10 @@ class Replay:
             serial = int(words[1])
             if not roomy or self.pipeline.queue and self.pipeline.queue[0].kind == CALL:
                 self.front.before_rename(serial)
-            self.slots.rename(self.pipeline.rename(serial, int(words[2], 16)))
+            item = self.pipeline.rename(serial, int(words[2], 16))
+            self.slots.rename(item)
+            if item.awaits:
+                self.reasons.renamed(item)
         reason = self.front.after_rename(len(events))
         if reason is not None:
             self.slots.stall(reason, self.pipeline.queue[0].pc)
