@@ -32,7 +32,7 @@ class SmallTree(unittest.TestCase):
         self.write("crates.txt", "# NAME: what it stands on\nlow:\nhigh staticlib: low\n")
         self.write("README.md", table("Crate by crate", "`low`, `high`"))
         self.write("docs/architecture.md", table("The map", "**A layer**", "`high`", "`low`"))
-        self.write("docs/theorems.md", table("The parts", "`low`", "`high`"))
+        self.write("docs/parts.md", table("The parts", "`low`", "`high`"))
 
     def write(self, name, text):
         with open(os.path.join(self.check.TOP, name), "w", encoding="utf-8") as file:
@@ -43,22 +43,22 @@ class SmallTree(unittest.TestCase):
 
     def test_rows(self):
         cases = [
-            (("`low`",), ["docs/theorems.md, \"The parts\": the crate high is left out"]),
-            (("`low`", "`high`", "`gone`"), ["docs/theorems.md, \"The parts\": the crate gone isn't there any more"]),
-            (("`low`", "`high`", "`low`"), ["docs/theorems.md, \"The parts\": the crate low stands twice"]),
+            (("`low`",), ["docs/parts.md, \"The parts\": the crate high is left out"]),
+            (("`low`", "`high`", "`gone`"), ["docs/parts.md, \"The parts\": the crate gone isn't there any more"]),
+            (("`low`", "`high`", "`low`"), ["docs/parts.md, \"The parts\": the crate low stands twice"]),
         ]
         for cells, wanted in cases:
             with self.subTest(cells=cells):
-                self.write("docs/theorems.md", table("The parts", *cells))
+                self.write("docs/parts.md", table("The parts", *cells))
                 self.assertEqual(self.check.found(), wanted)
 
     def test_names_of_files_and_headings(self):
         cases = [
             ("see `crates/low/src/lib.rt`", ["README.md: names crates/low/src/lib.rt, which isn't there"]),
             ("the program is `crates/low/out/low`", []),
-            ("`docs/theorems.md`, \"The\nparts\" has it", []),
-            ("`docs/theorems.md`, \"The part\" has it",
-             ["README.md: refers to docs/theorems.md, \"The part\", and there is no such heading"]),
+            ("`docs/parts.md`, \"The\nparts\" has it", []),
+            ("`docs/parts.md`, \"The part\" has it",
+             ["README.md: refers to docs/parts.md, \"The part\", and there is no such heading"]),
             ("## The end", ["README.md: has two headings \"The end\""]),
             ("a line\n" * 170, ["README.md has 182 lines, more than 170"]),
         ]
