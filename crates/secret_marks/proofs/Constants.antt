@@ -12,7 +12,8 @@ use Rattle.rv_types.specs.declared.Instr.{Instr}
 use Rattle.rv_types.specs.declared.Instr.TheVariants as instr
 use Rattle.rv_types.specs.declared.Op.{Op}
 use Rattle.rv_types.specs.declared.Op.TheVariants as op
-use Rattle.secret_marks.specs.Words.{SameWord, WordMarks, any_byte, blanked, either, every_byte, lowest_byte, unmarked, upward}
+use Rattle.secret_marks.specs.declared.WordMarks.{WordMarks}
+use Rattle.secret_marks.specs.Words.{SameWord, any_byte, blanked, either, every_byte, lowest_byte, unmarked, upward}
 use Rattle.secret_marks.specs.Results.{add_constant, and_constant, left_by, of_constant, of_itself, of_operands, result_marks, right_by}
 use Rattle.secret_marks.proofs.Words.{Parts, from_parts, to_parts}
 use Rattle.secret_marks.proofs.Results.{equal_operands, same_lowest, same_operation, same_product, same_shifted, same_sum, same_twice}

@@ -9,7 +9,8 @@ use Rattle.rv_types.specs.Word.{signed, word_sub}
 use Rattle.rv_types.specs.declared.Op.{Op}
 use Rattle.rv_types.specs.declared.Op.TheVariants as op
 use Rattle.window_model.proofs.Booleans.{neither}
-use Rattle.secret_marks.specs.Words.{SameWord, WordMarks, any_byte, blanked, downward, either, every_byte, lowest_byte, unmarked, upward}
+use Rattle.secret_marks.specs.declared.WordMarks.{WordMarks}
+use Rattle.secret_marks.specs.Words.{SameWord, any_byte, blanked, downward, either, every_byte, lowest_byte, unmarked, upward}
 use Rattle.secret_marks.specs.Results.{by_known, of_itself, of_operands}
 use Rattle.secret_marks.proofs.Words.{Parts, from_parts, same_whole, to_parts}
 

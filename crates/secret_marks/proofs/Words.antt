@@ -1,7 +1,8 @@
 -- Words that are equal where no byte is marked.
 use Rattle.std.proofs.Common.{◌≡◌, ℕ, zero, suc, ◌+◌, ◌*◌, ◌/◌, ◌%◌, ◌<◌, ◌≤◌, Bool, true, false, ◌||◌, take, refl, ap, ap₂, sym, ◌∙◌, subst, arith}
 use Rattle.rv_types.specs.Word.{to_le}
-use Rattle.secret_marks.specs.Words.{SameWord, WordMarks, any_byte, blank_if, blanked, either, in_order, unmarked}
+use Rattle.secret_marks.specs.declared.WordMarks.{WordMarks}
+use Rattle.secret_marks.specs.Words.{SameWord, any_byte, blank_if, blanked, either, in_order, unmarked}
 use Rattle.secret_marks.specs.Alike.{Beside, SameByte}
 use Rattle.window_model.proofs.Booleans.{neither}
 

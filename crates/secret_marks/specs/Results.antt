@@ -5,7 +5,8 @@ use Rattle.rv_types.specs.declared.Op.{Op}
 use Rattle.rv_types.specs.declared.Op.TheVariants.{Lb, Lbu, Lh, Lhu, Add, Sub, Sll, Slt, Sltu, Xor, Srl, Or, And, Mul}
 use Rattle.rv_types.specs.declared.Instr.{Instr}
 use Rattle.rv_types.specs.declared.Instr.TheVariants.{Branch, OpImm, OpReg}
-use Rattle.secret_marks.specs.Words.{WordMarks, any_byte, downward, either, every_byte, lowest_byte, smeared, unmarked, upward}
+use Rattle.secret_marks.specs.declared.WordMarks.{WordMarks}
+use Rattle.secret_marks.specs.Words.{any_byte, downward, either, every_byte, lowest_byte, smeared, unmarked, upward}
 
 -- ---- two operands
 

@@ -12,7 +12,8 @@ use Rattle.window_model.specs.Ready.{ready}
 use Rattle.window_model.specs.Issue.{AddressPort, part_may}
 use Rattle.window_model.specs.Rename.{is_call}
 use Rattle.secret_marks.specs.Words.{any_byte, unmarked}
-use Rattle.secret_marks.specs.Marks.{EntryMarks, Marks, any_marked}
+use Rattle.secret_marks.specs.declared.EntryMarks.{EntryMarks}
+use Rattle.secret_marks.specs.Marks.{Marks, any_marked}
 
 -- ---- Resolve: where a branch or JALR goes
 

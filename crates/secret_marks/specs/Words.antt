@@ -1,12 +1,6 @@
 -- Marks of a word, one for each byte: a marked byte may depend on the secret (docs/theorems.md, "Secrets that are loaded").
 use Rattle.std.specs.Prelude.{◌≡◌, ℕ, ◌+◌, ◌*◌, ◌/◌, ◌%◌, Bool, false, ◌||◌, List, [], ◌∷◌, slice_index_or, if◌then◌else◌}
-
--- one mark a byte, the lowest byte first
-pub record WordMarks : Type 0 where
-  pub byte0 : Bool
-  pub byte1 : Bool
-  pub byte2 : Bool
-  pub byte3 : Bool
+use Rattle.secret_marks.specs.declared.WordMarks.{WordMarks}
 
 -- each byte has this mark
 abbrev pub every_byte : Bool → WordMarks

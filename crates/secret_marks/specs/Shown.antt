@@ -1,0 +1,56 @@
+-- What shows first in a cycle (docs/theorems.md, "Secrets that are loaded"): by the order of the phases, and by age.
+use Rattle.std.specs.Prelude.{◌≡◌, ◌&&◌, List, [], ◌∷◌, Option, Some, None, is_some, if◌then◌else◌}
+use Rattle.rv_types.specs.Memory.{Code}
+use Rattle.machine_desc.specs.declared.Desc.{Desc}
+use Rattle.window_model.specs.declared.Entry.{Entry}
+use Rattle.window_model.specs.State.{Machine}
+use Rattle.window_model.specs.Rename.{is_call}
+use Rattle.window_model.specs.Retire.{unless_ended}
+use Rattle.window_model.specs.Cycle.{begins_cycle}
+use Rattle.secret_marks.specs.declared.EntryMarks.{EntryMarks}
+use Rattle.secret_marks.specs.declared.Shown.{Shown}
+use Rattle.secret_marks.specs.Marks.{Marks}
+use Rattle.secret_marks.specs.Shows.{call_shows, operand_shows, outcome_marked}
+use Rattle.secret_marks.specs.Watch.{watch_complete, watch_resolve, watch_clear, watch_retire, watch_cycle}
+
+-- the instruction of an entry
+abbrev pub shown_by : Entry → Shown
+shown_by e = record { kind = e.item.kind; serial = e.serial; pc = e.item.pc }
+
+-- this, and where there is none the other
+abbrev pub or_else : Option Shown → Option Shown → Option Shown
+or_else None other = other
+or_else (Some s) other = Some s
+
+-- the oldest branch or JALR that is resolved with a marked outcome
+abbrev pub resolved_shown : List Entry → List EntryMarks → Option Shown
+resolved_shown (e ∷ window) (mark ∷ marks) =
+    if e.resolved && outcome_marked mark then Some (shown_by e) else resolved_shown window marks
+resolved_shown _ _ = None
+
+-- the oldest entry, if it is a call that shows
+abbrev pub head_shown : List Entry → Machine → Marks → Option Shown
+head_shown [] x m = None
+head_shown (e ∷ window) x m = if is_call e.item.kind && call_shows x m then Some (shown_by e) else None
+
+-- the oldest of these entries whose first operand shows, behind others
+abbrev pub operands_shown : Desc → Marks → List Entry → List EntryMarks → List Entry → List EntryMarks → Option Shown
+operands_shown d m before marks (e ∷ window) (own ∷ owns) =
+    if operand_shows d m before marks e then Some (shown_by e) else operands_shown d m (e ∷ before) (own ∷ marks) window owns
+operands_shown d m before marks _ _ = None
+
+-- of a cycle
+abbrev pub shown_cycle : Desc → Machine → Marks → Option Shown
+shown_cycle d x m =
+    let c = watch_complete d (begins_cycle x) m in
+    let r = watch_resolve d c.machine c.marks in
+    let l = watch_clear d r.machine r.marks in
+    let t = watch_retire d l.machine l.marks in
+    or_else (resolved_shown r.machine.window r.marks.window)
+    (or_else (head_shown l.machine.window l.machine l.marks)
+    (unless_ended t.machine.end None (operands_shown d t.marks [] [] t.machine.window t.marks.window)))
+
+-- there is something exactly where the watched cycle says that something shows
+abbrev pub ShownWhereShows : Type 0
+ShownWhereShows = (d : Desc) (code : Code) (x : Machine) (m : Marks) →
+    is_some (shown_cycle d x m) ≡ (watch_cycle d code x m).shows
