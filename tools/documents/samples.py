@@ -3,6 +3,7 @@
 A line that begins with `$ ` is a command, run by bash at the top of the repository, with `\\` at its end also the next line; the lines below
 it are what it writes, where a line `..` stands for any lines, and ` ..` at a line's end for its rest. A command without lines below it is
 run for those that follow. A blank line ends a block; other indented blocks are none of these."""
+import functools
 import os
 import re
 import shutil
@@ -13,9 +14,14 @@ BUILT = os.path.join(TOP, "crates", "stt_cli", "out", "stt_cli")
 DOCUMENTS = ("README.md", "docs/using.md", "docs/results.md")
 # what a command with such words asks for
 NEEDS = [("build/gcc", "riscv64-unknown-elf-gcc"), ("build/picolibc", "riscv64-unknown-elf-gcc"), ("build/clang", "clang"), ("xxd", "xxd"),
-         ("tools/verdict", "riscv64-unknown-elf-objdump")]
+         ("tools/verdict", "riscv64-unknown-elf-objdump"),
+         ("examples/c programs", "riscv64-unknown-elf-gcc"), ("tools/view", "riscv64-unknown-elf-objdump")]
 PICOLIBC = "/usr/lib/picolibc"
+# what a compiler makes is its own: the samples are of this one
+GCC, GCC_VERSION = "riscv64-unknown-elf-gcc", "12.2"
 SECONDS = 120
+# of the program: an exit, a trap, a budget that is used up
+RAN = (0, 1, 3)
 
 
 def program():
@@ -56,11 +62,20 @@ def pattern(lines):
     return "".join(map(of, lines))
 
 
+@functools.cache
+def is_that_gcc():
+    if shutil.which(GCC) is None:
+        return False
+    return subprocess.run([GCC, "-dumpversion"], capture_output=True, text=True, check=False).stdout.startswith(GCC_VERSION)
+
+
 def lacking(command):
     """What a command asks for and isn't there, or None."""
     names = [name for words, name in NEEDS if words in command and shutil.which(name) is None]
     if "build/picolibc" in command and not os.path.isdir(PICOLIBC):
         names.append("picolibc-riscv64-unknown-elf")
+    if "examples/c" in command and not is_that_gcc():
+        names.append(f"gcc {GCC_VERSION}")
     return names[0] if names else None
 
 
@@ -72,7 +87,8 @@ def outcome(command, lines, path):
     except subprocess.TimeoutExpired:
         return f"takes more than {SECONDS} seconds"
     if not lines:
-        return None if ran.returncode == 0 else f"ends with status {ran.returncode}"
+        right = RAN if command.startswith("$STT_CLI") else (0,)
+        return None if ran.returncode in right else f"ends with status {ran.returncode}"
     if re.fullmatch(pattern(lines), ran.stdout):
         return None
     written = ran.stdout.splitlines()

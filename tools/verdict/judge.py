@@ -9,6 +9,19 @@ from .report import Case
 from .telling import Telling
 
 
+class Reading(Progress):
+    """How much of a trace is read, of so many cycles, on standard error if that is a terminal."""
+
+    EVERY = 1000
+
+    def __init__(self, lines, cycles):
+        super().__init__(lines)
+        self.cycles = cycles
+
+    def share(self):
+        return f" of {self.cycles}"
+
+
 def case_of(program, description, one, two, cycles, look=lambda pair: None):
     """Two images under a description, by the names of their files, for so many cycles at most. `look` is shown their traces first."""
     pair = simulator.compare(program, description, one, two, cycles)
@@ -19,5 +32,7 @@ def case_of(program, description, one, two, cycles, look=lambda pair: None):
 
 def judged(description, machine, one, two, pair):
     """What follows from a pair of traces, and how they compare."""
-    found = premises(one, two, machine, pair.ends[0].retired)
-    return Case(description, machine, one, two, pair, found, Telling(Trace(Progress(pair.one)), one, machine, found.memory, thorough=False))
+    end = pair.ends[0]
+    found = premises(one, two, machine, end.retired)
+    telling = Telling(Trace(Reading(pair.one, end.cycles)), one, machine, found.memory, thorough=False)
+    return Case(description, machine, one, two, pair, found, telling)

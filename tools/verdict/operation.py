@@ -153,6 +153,9 @@ def effect(operation, pc, a=0, b=0):
     """The effect of an operation at this pc whose first and second source hold a and b."""
     (kind, sources, _), name, imm = operation
     behind = pc + 4 & WORD
+    value = VALUES.get(name)
+    if value is not None:
+        return Effect(int(value(a, b if len(sources) == 2 else imm & WORD)) & WORD, behind)
     if name == "jal":
         return jump(behind, pc + imm & WORD)
     if name == "jalr":
@@ -165,6 +168,4 @@ def effect(operation, pc, a=0, b=0):
         return Effect(imm, behind)
     if name == "auipc":
         return Effect(pc + imm & WORD, behind)
-    if name in VALUES:
-        return Effect(int(VALUES[name](a, b if len(sources) == 2 else imm & WORD)) & WORD, behind)
     return Effect(0, behind)

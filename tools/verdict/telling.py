@@ -11,8 +11,8 @@ from typing import NamedTuple
 
 from view.description import HOLD
 from view.instruction import BRANCH, CALL, DIVISION, JALR, LOAD, STORE
-from view.pipeline import lines_of
-from view.reasons import HELD_BACK, STORE_TAINT, TAINT, TAINTED_CLEARING, TAINTED_OUTCOME
+from view.pipeline import PARTS, lines_of
+from view.reasons import STORE_TAINT, Reasons
 from view.replay import Replay
 
 from .hart import EXITS, WRITE
@@ -52,7 +52,8 @@ def nothing(*told):
 class Unasked:
     """Stands where a replay counts or checks what a verdict doesn't ask for: whatever it is told, it does nothing."""
 
-    due, behind = (), None
+    due = unexplained = presumed = ()
+    behind = None
 
     def __getattr__(self, name):
         return nothing
@@ -60,28 +61,32 @@ class Unasked:
 
 class Telling(Replay):
     """`held` and `shown`, by an instruction's address and what of it shows; `loads` are the loads of differing bytes. Values are compared with
-    what the trace tells in any case; only where it is `thorough` also all that tools/view checks of a trace."""
+    what the trace tells in any case; only where it is `thorough` also all that tools/view checks of a trace, and the reason of each wait. `rules`
+    are the rules of docs/machine.md by which a load waits for stores."""
 
     def __init__(self, trace, image, description, differing, thorough=True):
         super().__init__(trace, image, description, Valued(image, description, differing))
+        self.rules, self.thorough = Reasons(self.pipeline), thorough
         if not thorough:
-            self.checks = self.front = self.slots = Unasked()
+            self.reasons = self.checks = self.front = self.slots = Unasked()
         self.held, self.shown, self.loads = {}, {}, []
-        self.held_now, self.quiet = [], False
+        self.held_now, self.was_empty, self.skips = [], False, False
         for _ in self.items():
             pass
 
     def step(self, row):
         """One cycle. Behind a cycle without events another one changes nothing, and holds what that one held (docs/machine.md, "Cycles in
         which nothing happens")."""
-        if self.quiet and not row.events and not row.ends:
+        if self.was_empty and not row.events and not row.ends and not self.thorough:
             self.pipeline.cycle = row.cycle
             for held, item in self.held_now:
                 held.add(item)
             return
         self.held_now = []
         super().step(row)
-        self.quiet = not row.events
+        if not self.thorough:
+            self.pipeline.awake.clear()
+        self.was_empty = not row.events
 
     @property
     def wrong_loads(self):
@@ -118,19 +123,18 @@ class Telling(Replay):
             self.shows(item, self.pipeline.values[item.serial].is_marked)
         squashed = super().resolve(events)
         for item in hidden:
-            if self.waited(item, TAINTED_OUTCOME):
+            if item.done is not None and item.resolved is None and item.squashed is None:
                 self.holds(item, SHOWS[item.code.kind])
         return squashed
 
     def clear(self, events):
-        stores = [] if self.nothing_is_hidden else [item for item in self.pipeline.stores_in_flight if self.hidden_source(item, 0)]
+        stores = [item for item in self.pipeline.clearable if item.issued is not None and self.hidden_source(item, 0)]
         for words in events[:1]:
             store = self.pipeline.entry(words)
             self.shows(store, any(self.marked(store)[:1]), CLEARING)
         violated = super().clear(events)
         for store in stores:
-            if self.waited(store, TAINTED_CLEARING):
-                self.holds(store, CLEARING)
+            self.holds(store, CLEARING)
         return violated
 
     def retire(self, events, ends):
@@ -156,32 +160,44 @@ class Telling(Replay):
             self.after_issue(before)
 
     def before_issue(self):
-        """What may be held in this cycle: entries with a hidden operand, loads that reach the bytes, those of them that stores keep anyway;
-        stores of hidden address, and the loads that may wait for them."""
+        """What is held in this cycle unless it issues: entries with a hidden operand, and loads that reach the bytes, but for those that stores
+        keep anyway; and each load that waits for a store of hidden address, with that store."""
         pipeline = self.pipeline
         ready = [item for item in pipeline.waiting if not item.awaits]
         hidden = [item for item in ready if self.hidden(item)]
         reaching = [item for item in ready if item.code.kind == LOAD and pipeline.is_hidden(item.roots[0])
                     and item not in hidden and pipeline.loads_marked(item)]
-        kept = [item for item in hidden + reaching if self.is_kept(item)]
-        stores = {store.serial: store for store in pipeline.open_stores if self.hidden_source(store, 0)}
-        loads = [item for item in pipeline.waiting if item.code.kind == LOAD] if stores else []
-        return hidden, reaching, kept, stores, loads
+        held = [item for item in hidden + reaching if item.code.kind in (LOAD, DIVISION) and not self.uses_what_is_held_back(item)
+                and not self.is_kept(item)]
+        stores = {store.serial for store in pipeline.open_stores if self.hidden_source(store, 0)}
+        loads = [item for item in ready if item.code.kind == LOAD] if stores else []
+        behind = [(load, store) for load in loads for store in [self.awaited_store(load)] if store is not None and store.serial in stores]
+        return set(hidden), held, behind
+
+    def awaited_store(self, load):
+        """The store of hidden address without data for which this load waits, and for nothing before that."""
+        if self.pipeline.is_hidden(load.youngest_root) or self.uses_what_is_held_back(load):
+            return None
+        reason, store = self.rules.behind_stores(load)
+        return store if reason == STORE_TAINT else None
+
+    def uses_what_is_held_back(self, item):
+        return self.pipeline.description.defence == HOLD and any(map(self.rules.is_held_back, item.sources))
 
     def after_issue(self, before):
         """Counts what of it was held."""
-        hidden, reaching, kept, stores, loads = before
-        for item in hidden + reaching:
-            if self.waited(item, TAINT) and item not in kept:
+        hidden, held, behind = before
+        for item in held:
+            if item.issued is None:
                 self.holds(item, SHOWS[item.code.kind] if item in hidden else LOAD_OF_THEM)
         if self.pipeline.description.defence == HOLD:
             self.hold_back()
-        for store in {item.waits[-1].serial for item in loads if self.waited(item, STORE_TAINT)} & set(stores):
-            self.holds(stores[store], BEFORE_A_LOAD)
+        for store in {store.serial: store for load, store in behind if load.issued is None}.values():
+            self.holds(store, BEFORE_A_LOAD)
 
     def is_kept(self, item):
         """It is a load that older stores would keep, were nothing tainted."""
-        return item.code.kind == LOAD and self.reasons.behind_stores(item, taint=False)[0] is not None
+        return item.code.kind == LOAD and self.rules.behind_stores(item, taint=False)[0] is not None
 
     def hold_back(self):
         """Counts what would show the bytes, and waits for results that are held back, and for nothing else."""
@@ -206,7 +222,16 @@ class Telling(Replay):
     def is_held_back(self, item):
         """Whether nothing but results that are held back keeps it waiting, its own sources' or those of what it waits for."""
         awaited = [writer for writer in item.sources if writer is not None and writer.done is None]
-        return self.waited(item, HELD_BACK) or item.issued is None and bool(awaited) and all(map(self.is_held_back, awaited))
+        return item.issued is None and (self.waits_for_a_load(item) or bool(awaited) and all(map(self.is_held_back, awaited)))
+
+    def waits_for_a_load(self, item):
+        """Whether what it waits for itself is a result that is held back: of a store of version 2 the first part that didn't go."""
+        if item.code.kind != STORE or self.pipeline.description.version == 1:
+            return not item.awaits and self.uses_what_is_held_back(item)
+        for part, writer in zip(PARTS, item.sources):
+            if part not in item.parts:
+                return writer is not None and writer.done is not None and self.rules.is_held_back(writer)
+        return False
 
     def load(self, item, accesses):
         """A load that issues: what it shows, what it loads, and which stores it goes to the cache for, covered or not."""
@@ -218,10 +243,6 @@ class Telling(Replay):
                 self.holds(store, BEFORE_A_LOAD)
 
     # ---- Counting
-
-    def waited(self, item, reason):
-        """Whether it waited in this cycle, for this reason."""
-        return bool(item.waits) and item.waits[-1].last == self.pipeline.cycle and item.waits[-1].reason == reason
 
     def holds(self, item, what):
         held = self.held.setdefault((item.pc, what), Held())

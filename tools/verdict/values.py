@@ -84,9 +84,9 @@ class Valued(Pipeline):
     def located(self, item):
         """The value of a load or store, with its address as soon as its base is known."""
         value = self.values[item.serial]
-        base, *others = value.sources
+        base = value.sources[0]
         if value.address is None and base.result is not None:
-            value.address = value.effect(base.result, *[0] * len(others)).address
+            value.address = base.result + value.operation.imm & WORD
             value.fault = self.memory.fault(item.code.kind, value.address, value.size)
             value.bytes = NOWHERE if value.fault is not None else range(value.address, value.address + value.size)
         return value
@@ -94,16 +94,14 @@ class Valued(Pipeline):
     # ---- Issue executes
 
     def issue(self, item, step):
-        told, computed = [words[2:] for words in step if words[0] != PREFETCH], self.told_by_issue(item, step)
-        if told != computed:
-            texts = [" ".join(":".join(words) for words in events) for events in (told, computed)]
-            self.differs(item, f"tells {step[0][0]}:{texts[0]}", texts[1])
-        value = self.values[item.serial]
-        if item.code.kind == LOAD:
+        value, kind = self.values[item.serial], item.code.kind
+        if kind == LOAD or kind == DIVISION or len(step) > 1 or len(step[0]) > 2:
+            self.compare(item, step)
+        if kind == LOAD:
             data, value.mark = self.found(item, self.located(item).bytes)
             value.mark = value.mark or value.is_marked
             value.result = extend(value.operation.name, data) if data else 0
-        elif item.code.kind == STORE:
+        elif kind == STORE:
             self.located(item)
         else:
             self.execute(value)
@@ -111,9 +109,19 @@ class Valued(Pipeline):
         if DATA_PART in item.parts and value.sources[1].result is not None:
             value.stored = value.sources[1].result
 
+    def compare(self, item, step):
+        """What an entry's issue tells has to be what is computed."""
+        told, computed = [words[2:] for words in step if words[0] != PREFETCH], self.told_by_issue(item, step)
+        if told != computed:
+            texts = [" ".join(":".join(words) for words in events) for events in (told, computed)]
+            self.differs(item, f"tells {step[0][0]}:{texts[0]}", texts[1])
+
     def execute(self, value):
-        done = value.effect(*(source.result or 0 for source in value.sources))
-        value.result, value.mark, value.taken = done.value, value.is_marked, bool(done.value)
+        operands = [source.result or 0 for source in value.sources]
+        done = value.effect(*operands)
+        value.result, value.taken = done.value, bool(done.value)
+        # what a JALR writes is its own address plus 4, wherever it goes
+        value.mark = value.operation.code.kind != JALR and value.is_marked
         if done.misaligned:
             value.fault = JUMP_MISALIGNED
 

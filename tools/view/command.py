@@ -23,7 +23,7 @@ SUBCOMMANDS = {
     "konata": "the log that the viewer Konata opens (Kanata 0004)",
     "o3": "the text of gem5's O3PipeView, which o3-pipeview.py and Konata open",
     "svg": "a picture, cycles against instructions; of two traces side by side, with the first unequal cycle framed",
-    "index": "a file beside the trace, TRACE.index, by which list, konata, o3, svg and html begin at --from without what comes before",
+    "index": "a file beside the trace, TRACE.index, by which all that take --from begin there without what comes before, but why",
     "html": "the same as a page, with a text for each instruction under the pointer",
 }
 # how many traces a subcommand takes at most, where it isn't one
@@ -52,7 +52,7 @@ def parser():
             sub.add_argument("--to", dest="last", type=cycle_number, metavar="CYCLE", help="up to this cycle")
         if name == "why":
             sub.add_argument("--summary", action="store_true", help="the sums alone")
-        if name in ("stats", "annotate"):
+        if name in ("stats", "annotate", "why", "list"):
             sub.add_argument("--function", metavar="NAME", help="what is of this function alone")
         if name == "stats":
             sub.add_argument("--json", action="store_true", help="as a JSON object; of two runs, as a list of two")
@@ -81,6 +81,9 @@ class Inputs:
         self.names = words.trace
         if len(self.names) > MOST.get(words.what, 1):
             raise Fault(f"{words.what} takes {MOST.get(words.what, 1)} traces at most")
+        for option, given in (("-e", words.image), ("-D", words.description)):
+            if len(given) not in (1, len(self.names)):
+                raise Fault(f"{option} is given {len(given)} times, for {len(self.names)} traces: once serves all, else each has its own")
         first, last = getattr(words, "first", None), getattr(words, "last", None)
         if first and last and first > last:
             raise Fault(f"--from {first} is behind --to {last}")
@@ -126,11 +129,12 @@ def lines_of(words, inputs):
     first, disassembler = words.first or 1, inputs.disassembler(0)
     replay = inputs.replay(0, 1 if words.what == "why" else first)
     if words.what == "why":
-        yield from there(why.lines_of(replay, disassembler, first, words.last, words.summary), replay, first)
+        yield from there(why.lines_of(replay, disassembler, first, words.last, words.summary, words.function), replay, first)
         return 1 if replay.reasons.unexplained else 0
     else:
         write = {"list": listing, "konata": konata, "o3": o3}[words.what]
-        yield from there(write.lines_of(replay, disassembler, first, words.last), replay, first)
+        function = [words.function] if words.what == "list" else []
+        yield from there(write.lines_of(replay, disassembler, first, words.last, *function), replay, first)
     return 0
 
 
@@ -149,7 +153,7 @@ def lines_of_runs(words, inputs):
     """What is told of whole runs: their numbers, their stacks, their lines."""
     span, function = (words.first or 1, words.last), getattr(words, "function", None)
     by_place = words.what == "annotate" or words.what == "stats" and (words.json or len(inputs.names) == 2)
-    runs = [stats.Run(inputs.title(side), inputs.replay(side), inputs.disassembler(side), span, function, by_place)
+    runs = [stats.Run(inputs.title(side), inputs.replay(side, span[0]), inputs.disassembler(side), span, function, by_place)
             for side in range(len(inputs.names))]
     if words.what == "stack":
         stacks = [stack.Run(run.name, run.slots) for run in runs]

@@ -70,12 +70,12 @@ class Panel:
         self.title, self.disassembler, self.first, self.mark = title, disassembler, first, mark
         there = (item for item in replay.items(last) if item.gone is None or item.gone >= first)
         self.items = list(islice(there, MOST_ROWS))
-        more = next(there, None) is not None
+        more = next(there, None)
         end, pipeline = replay.trace.end, replay.pipeline
         self.only = self.only_symbol()
         self.subtitle = end.text if end else f"shown up to cycle {min(last, pipeline.cycle)}"
         self.subtitle += f", all in <{self.only}>" if self.only else ""
-        self.subtitle += f", the first {MOST_ROWS} instructions" if more else ""
+        self.subtitle += f", the first {MOST_ROWS} instructions; the next is fetched in cycle {more.fetched}" if more is not None else ""
         self.last = min(last, pipeline.cycle)
         self.fills = [(cycle, line) for cycle, line, _ in pipeline.fills if first <= cycle <= self.last]
         self.labels = [self.label(item) for item in self.items]
@@ -226,10 +226,12 @@ def used(panels):
 
 def legend(panels, width):
     """The legend's drawing and its height: the states that are there, and the letters of outcomes."""
-    columns = max(1, int(width // LEGEND_COLUMN))
+    longest = max((len(STATES[name][3]) for name in used(panels)), default=0)
+    column = max(LEGEND_COLUMN, round(CELL + 6 + longest * CHARACTER + 2 * MARGIN))
+    columns = max(1, int(width // column))
     parts = []
     for place, name in enumerate(used(panels)):
-        x, y = MARGIN + place % columns * LEGEND_COLUMN, place // columns * LEGEND_ROW
+        x, y = MARGIN + place % columns * column, place // columns * LEGEND_ROW
         letter, colour, dark, text = STATES[name]
         parts.append(f'<rect class="sample" x="{x}" y="{y}" width="{CELL}" height="{ROW - 2}" fill="{colour}"/>'
                      f'<text class="letter" fill="{dark}" x="{x + CELL / 2}" y="{y + 10}">{letter}</text>'

@@ -8,6 +8,8 @@ import sys
 # from so many bytes of traces on it is worth while: PyPy is slower at first
 LARGE, LARGE_PACKED = 20_000_000, 4_000_000
 DECIDED = "VIEW_PYTHON"
+# where PyPy lets new objects begin: as much as it takes by itself, some hundred MB, is slower and is no small memory
+NURSERY = {"PYPY_GC_NURSERY": "4M"}
 
 
 def is_large(name):
@@ -21,12 +23,12 @@ def is_large(name):
 def by_pypy(script, words):
     """Goes on as PyPy where a word names a long trace; returns where nothing is gained."""
     pypy = shutil.which("pypy3")
-    if any(os.path.isfile(word + ".index") for word in words) and words[:1] != ["stats"]:
+    if any(os.path.isfile(word + ".index") for word in words) and any(word.startswith("--from") for word in words):
         return
     if DECIDED in os.environ or pypy is None or sys.implementation.name == "pypy" or not any(map(is_large, words)):
         return
     sys.stdout.flush()
-    os.execve(pypy, [pypy, script, *words], {**os.environ, DECIDED: sys.executable})
+    os.execve(pypy, [pypy, script, *words], {**NURSERY, **os.environ, DECIDED: sys.executable})
 
 
 def back(script, words):

@@ -27,7 +27,18 @@ class FrontEnd:
     def __init__(self, pipeline, tell):
         self.pipeline, self.description, self.tell = pipeline, pipeline.description, tell
         self.rename, self.fetch, self.stalls = Counter(), Counter(), []
-        self.fetching = True
+        self.fetching, self.last_rename, self.last_fetch = True, None, None
+
+    def count(self, counter, reason):
+        if self.pipeline.counts:
+            counter[reason] += 1
+
+    def repeat(self, cycle):
+        """A cycle in which nothing happens, as in the one before: both stop short as they did."""
+        self.count(self.rename, self.last_rename)
+        self.count(self.fetch, self.last_fetch)
+        if self.stalls and self.stalls[-1].last == cycle - 1:
+            self.stalls[-1].last = cycle
 
     def to_rename(self, item):
         """The reason why the front of the queue can't go, None where it can."""
@@ -46,6 +57,14 @@ class FrontEnd:
             return STATIONS
         return None
 
+    def has_room(self):
+        """Whether all that may be renamed in a cycle finds room, whatever it is but a call: then no item is asked for."""
+        pipeline, description = self.pipeline, self.description
+        width, window = description.fetch_width, pipeline.window
+        return (len(window) + width <= description.rob and len(pipeline.waiting) + width <= description.stations
+                and pipeline.loads + width <= description.loads and pipeline.stores + width <= description.stores
+                and (not window or window[0].kind != CALL))
+
     def before_rename(self, serial):
         reason = self.to_rename(self.pipeline.queue[0]) if self.pipeline.queue else None
         if reason:
@@ -58,14 +77,16 @@ class FrontEnd:
         if count >= self.description.fetch_width:
             return None
         if not self.pipeline.queue:
-            self.rename[QUEUE_EMPTY] += self.pipeline.counts
+            self.last_rename = QUEUE_EMPTY
+            self.count(self.rename, QUEUE_EMPTY)
             return None
         front = self.pipeline.queue[0]
         reason = self.to_rename(front)
         if reason is None:
             self.tell(f"the item of {front.pc:08x} isn't renamed, and nothing tells why")
             return None
-        self.rename[reason] += self.pipeline.counts
+        self.last_rename = reason
+        self.count(self.rename, reason)
         self.keep_stall(reason, front.pc)
         return reason
 
@@ -97,6 +118,7 @@ class FrontEnd:
         if len(fetched) < width:
             full = len(queue) >= self.description.queue
             if full or not self.fetching:
-                self.fetch[QUEUE_FULL if full else NOTHING_TO_FETCH] += self.pipeline.counts
+                self.last_fetch = QUEUE_FULL if full else NOTHING_TO_FETCH
+                self.count(self.fetch, self.last_fetch)
             else:
                 self.tell("fetch stops short, and nothing tells why")

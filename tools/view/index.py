@@ -88,8 +88,9 @@ def state_of(replay, image):
     """The state of a run: what only grows is left behind."""
     pipeline = replay.pipeline
     pipeline.fills, pipeline.prefetches, replay.front.stalls = [], [], []
-    replay.reasons.unexplained, replay.slots.lost, replay.slots.retired = [], {}, {}
-    replay.reasons.idle.clear()
+    replay.reasons.unexplained, replay.slots.lost, replay.slots.retired, replay.slots.cycles = [], {}, {}, 0
+    for counted in (replay.reasons.idle, replay.front.rename, replay.front.fetch):
+        counted.clear()
     kept, trace, limit = io.BytesIO(), replay.trace, sys.getrecursionlimit()
     replay.trace = None
     sys.setrecursionlimit(20000)
@@ -127,11 +128,18 @@ def going_on(replay, name, place, cycle):
     """The run with the rest of its trace."""
     if not isinstance(replay, Replay):
         raise Fault(f"{file_name(name)}: no index of a trace")
+    replay.quiet = False
     replay.front.tell = replay.checks.tell = replay.reasons.tell
-    binary = open_trace(name).detach()
-    binary.seek(place)
-    replay.trace = Trace((line.decode("ascii", "replace") for line in lines_of_file(binary, name)), cycle)
+    replay.trace = Trace(rest(name, place), cycle)
     return replay
+
+
+def rest(name, place):
+    """The lines of a trace from this byte on."""
+    with open_trace(name).detach() as binary:
+        binary.seek(place)
+        for line in lines_of_file(binary, name):
+            yield line.decode("ascii", "replace")
 
 
 class Told:

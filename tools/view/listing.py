@@ -1,5 +1,6 @@
 """`list`: one line an instruction with all its times."""
 from .pipeline import LOAD_UNITS, NEVER
+from .places import function_of
 from .reasons import HELD, HELD_BACK
 from .why import cycles, held_by
 
@@ -8,12 +9,13 @@ PART_NAMES = {"agu": "address", "std": "data"}
 HEADER = f"{'serial':>8}" + "".join(f"{name:>9}" for name in TIMES) + "  instruction"
 
 
-def lines_of(replay, disassembler, first, last):
-    """A header, and each instruction that is there in the cycles from `first` to `last`."""
+def lines_of(replay, disassembler, first, last, function=None):
+    """A header, and each instruction that is there in the cycles from `first` to `last`, of one function where it is asked for."""
     yield HEADER
     last = NEVER if last is None else last
     for item in replay.items():
-        if item.fetched <= last and (item.gone is None or item.gone >= first):
+        here = function is None or function_of(disassembler.image, item.pc) == function
+        if here and item.fetched <= last and (item.gone is None or item.gone >= first):
             yield line_of(item, disassembler)
 
 

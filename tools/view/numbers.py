@@ -18,21 +18,22 @@ def numbers(run, most):
     counts, replay = run.counts, run.replay
     pipeline, end = replay.pipeline, replay.trace.end
     return {
-        "trace": run.name, "end": end.text if end else None, "first cycle": run.span[0], "last cycle": pipeline.cycle,
-        "function": run.function, "cycles": run.cycles, "retire width": run.slots.width,
+        "trace": run.name, "end": end.text if end else None, "first_cycle": run.span[0], "last_cycle": pipeline.cycle,
+        "function": run.function, "cycles": run.cycles, "retire_width": run.slots.width,
         "instructions": {"fetched": counts.fetched, "renamed": counts.renamed, "squashed": counts.squashed, "retired": counts.retired},
         "resolved": {name: {"resolved": counts.resolved[kind], "mispredicted": counts.mispredicted[kind]}
                      for name, kind in (("branches", BRANCH), ("JALRs", JALR), ("returns", RETURN))},
-        "issued": {name: {"issued": counts.units[unit], "not retired": counts.wrong[unit]} for unit, name in LOAD_KINDS + OTHER_UNITS},
-        "a thousand retired": {"mispredicted": share(counts.mispredictions, counts.retired), "loads that miss": share(counts.misses, counts.retired)},
+        "issued": {name: {"issued": counts.units[unit], "not_retired": counts.wrong[unit]} for unit, name in LOAD_KINDS + OTHER_UNITS},
+        "per_thousand_retired": {"mispredicted": share(counts.mispredictions, counts.retired),
+                                 "loads_that_miss": share(counts.misses, counts.retired)},
         "defence": {"name": replay.reasons.holds, "instructions": sum(counts.held.values()), "cycles": sum(counts.held_cycles.values())},
-        "loads that passed stores": {"passed": sum(counts.passed.values()), "violated": sum(counts.violated.values())},
+        "loads_that_passed_stores": {"passed": sum(counts.passed.values()), "violated": sum(counts.violated.values())},
         "slots": run.slots.sums(),
         "occupancy": {name: {"average": total / max(replay.occupancy.cycles, 1), "most": top} for name, total, top in
                       zip(replay.occupancy.PLACES, replay.occupancy.sums, replay.occupancy.most)},
-        "cycles by number retired": replay.occupancy.retired,
-        "nothing retired": summed(run.by_reason()),
-        "rename stopped short": dict(replay.front.rename), "fetch stopped short": dict(replay.front.fetch),
+        "cycles_by_number_retired": replay.occupancy.retired,
+        "nothing_retired": summed(run.by_reason()),
+        "rename_stopped_short": dict(replay.front.rename), "fetch_stopped_short": dict(replay.front.fetch),
         "unexplained": len(replay.reasons.unexplained),
         "functions": functions(run)[:most], "places": places(run)[:most],
     }

@@ -16,6 +16,7 @@ BY_AGE = attrgetter("serial")
 PREFETCH = "pf"
 # the parts of a store, by the names of their events
 PARTS = ADDRESS_PART, DATA_PART = "agu", "std"
+SHADOWING = (*CONTROLS, *AT_ONCE, LOAD, STORE)
 NO_ROOTS = (), (None,), (None, None)
 NO_PARTS, NEVER_LACKING = {}, (None, 0)
 
@@ -85,9 +86,11 @@ class Item:
         self.open.last = NEVER
 
     def wake(self, cycle):
-        """In this cycle it no longer waits as before."""
+        """In this cycle it no longer waits as before; it didn't at all where it has only just been renamed."""
         self.open.last = cycle - 1
         self.open = None
+        if self.waits[-1].last < self.waits[-1].first:
+            self.waits.pop()
 
     def forget(self):
         """Lets go of the other items that it names, so that a long trace takes no memory."""
@@ -246,12 +249,22 @@ class Pipeline:
             if gone.serial is not None:
                 self.leave(gone)
         for entries in (self.waiting, self.awake, self.open_stores, self.shadows, self.controls, self.outcomes, self.clearable):
-            entries[:] = [entry for entry in entries if entry.squashed is None]
+            while entries and entries[-1].serial >= serial:
+                entries.pop()
         self.divider.drop_from(serial)
-        self.writers = [None] * 32
-        for entry in self.window:
-            self.writers[entry.code.destination] = entry
+        self.find_writers({gone.code.destination for gone in dropped if self.writers[gone.code.destination] is gone})
         return len(dropped)
+
+    def find_writers(self, registers):
+        """Who writes these registers, now that younger writers are dropped."""
+        for register in registers:
+            self.writers[register] = None
+        for entry in reversed(self.window) if registers else ():
+            if entry.code.destination in registers:
+                self.writers[entry.code.destination] = entry
+                registers.remove(entry.code.destination)
+                if not registers:
+                    return
 
     def leave(self, item):
         """The window has one entry less."""
@@ -409,9 +422,8 @@ class Pipeline:
     def hides(self, item):
         """Whether it keeps what is younger from being visible as it is renamed."""
         if self.description.model == FUTURISTIC:
-            return item.code.is_control or item.code.at_once or item.code.kind in (LOAD, STORE)
-        unsettled = item.code.is_control or item.code.kind == STORE and not self.is_cleared(item)
-        return self.description.model == SPECTRE and unsettled
+            return item.kind in SHADOWING
+        return self.description.model == SPECTRE and (item.kind in CONTROLS or item.kind == STORE and not self.is_cleared(item))
 
     def fetch(self, pc):
         item = Item(self.count, pc, self.image.instruction(pc), self.cycle)

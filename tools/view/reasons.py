@@ -7,7 +7,7 @@ made from its text, the image and the description alone.
 from collections import Counter
 
 from .description import FUTURISTIC, HOLD
-from .instruction import CALL, CONTROLS, DIVISION, LOAD, MULTIPLICATION, STORE
+from .instruction import AT_ONCE, CALL, CONTROLS, DIVISION, LOAD, MULTIPLICATION, STORE
 from .pipeline import PARTS, enter
 
 # to issue
@@ -39,8 +39,8 @@ class Reasons:
 
     def __init__(self, pipeline):
         self.pipeline, self.description = pipeline, pipeline.description
-        self.unexplained, self.idle = [], Counter()
-        self.presumed, self.head, self.ports, self.last_load = set(), None, {}, -1
+        self.unexplained, self.idle, self.last_idle = [], Counter(), None
+        self.presumed, self.head, self.ports, self.issued = set(), None, {}, {}
         self.futuristic, self.results_held = self.description.model == FUTURISTIC, self.description.defence == HOLD
         self.free_ports = {"load": 1, "store": 1, "multiplier": 1, "divider": 1, "arithmetic": self.description.alus, **dict.fromkeys(PARTS, 1)}
 
@@ -110,7 +110,7 @@ class Reasons:
             self.rouse(pipeline.serials.get(serial), cycle)
         if not pipeline.awake:
             return
-        self.last_load = max((serial for serial, told in issued.items() if "ld" in told), default=-1)
+        self.issued = issued
         self.ports = dict(self.free_ports)
         awake, pipeline.awake = pipeline.awake, []
         for item in awake:
@@ -121,6 +121,20 @@ class Reasons:
                 stays = self.issue_whole(item, bool(told), cycle)
             if stays:
                 pipeline.awake.append(item)
+
+    def renamed(self, item):
+        """What waits for writers alone from its first cycle on isn't looked at before one of them is Done."""
+        if not item.awaits or item.kind in AT_ONCE:
+            return
+        if item.kind != STORE or self.description.version == 1:
+            reason, cause = OPERAND, next(writer for writer in item.sources if writer is not None and writer.done is None)
+        elif item.awaits == len(PARTS):
+            reason, cause = BASE, item.sources[0]
+        else:
+            return
+        item.wait(self.pipeline.cycle + 1, reason, cause)
+        item.sleep()
+        self.pipeline.awake.pop()
 
     def rouse(self, item, cycle):
         """An entry issues that was known to wait: it is looked at as any other."""
@@ -267,7 +281,7 @@ class Reasons:
         lacks = self.lacks(load)
         if goes:
             self.check_sharers(load, stores)
-        elif stores and (not lacks or load.serial < self.last_load):
+        elif stores and (not lacks or any(load.serial < serial for serial, told in self.issued.items() if "ld" in told)):
             load.sharers = stores
             return STORE_DATA, stores[-1]
         elif lacks:
@@ -317,7 +331,7 @@ class Reasons:
     def retire(self, retired, ends):
         """Up to the width the oldest entries retire that are Done and resolved, and one store at most, which has to be cleared."""
         self.head = None
-        for serial in retired:
+        for serial in retired if self.presumed else ():
             if serial in self.presumed:
                 self.tell(f"store {serial} retires; a wait was explained by its fault")
         expected = self.to_retire()
@@ -347,24 +361,42 @@ class Reasons:
         head = self.pipeline.window[0] if self.pipeline.window else None
         squash = self.pipeline.last_squash
         if ends:
-            self.idle["the run ends by a trap", head.pc if head else None] += 1
+            self.count_idle("the run ends by a trap", head.pc if head else None)
         elif head is None:
             after = squash is not None and (squash.violated or squash.retired is not None)
             why = " after a violation" if after and squash.violated else " after a misprediction" if after else ""
-            self.idle["window empty" + why, squash.pc if after else None] += 1
+            self.count_idle("window empty" + why, squash.pc if after else None)
         elif head.issued is None and not head.code.at_once:
             self.head = head
         elif head.done is None and head.issued is not None:
             what = f"load {head.unit}" if head.code.kind == LOAD else head.code.kind
-            self.idle[f"oldest executes: {what}", head.pc] += 1
+            self.count_idle(f"oldest executes: {what}", head.pc)
         else:
-            self.idle["oldest waits to be resolved", head.pc] += 1
+            self.count_idle("oldest waits to be resolved", head.pc)
 
     def explain_head(self):
         """The oldest hadn't issued when nothing retired: what Issue then made of it."""
         if self.head is not None:
             waits = self.head.waits[-1:] if self.head.issued is None else []
-            self.idle[f"oldest waits: {waits[0].reason}" if waits else "oldest begins to execute", self.head.pc] += 1
+            self.count_idle(f"oldest waits: {waits[0].reason}" if waits else "oldest begins to execute", self.head.pc)
+
+    def count_idle(self, reason, pc):
+        self.last_idle = reason, pc
+        self.idle[reason, pc] += 1
+
+    # ---- a cycle in which nothing happens, as in the one before
+
+    def repeat(self, cycle):
+        """All waits go on, and nothing retires for what it did before."""
+        pipeline = self.pipeline
+        for entries in (pipeline.awake, pipeline.outcomes, pipeline.clearable):
+            for item in entries:
+                if item.waits and item.waits[-1].last == cycle - 1:
+                    item.waits[-1].last = cycle
+                if item.lacking[0] == cycle - 1:
+                    item.lacking = cycle, item.lacking[1]
+        if pipeline.counts:
+            self.idle[self.last_idle] += 1
 
 
 def named(serial):

@@ -1,14 +1,16 @@
 """A whole trace taken through the pipeline, the reasons and the checks."""
 from . import Fault
-from .checks import Checks
+from .checks import EVENT_OF, Checks
 from .front_end import FrontEnd
-from .instruction import DIVISION
+from .instruction import CALL, DIVISION, STORE
 from .pipeline import PREFETCH, Pipeline
 from .reasons import Reasons
 from .slots import Slots
 from .trace import CLEAR, COMPLETE, FETCH, FILL, ISSUE, RENAME, RESOLVE, RETIRE
 
 LOAD_EVENTS = ("ld", PREFETCH)
+# what tells more as it retires
+EFFECTS = (STORE, CALL)
 
 
 class Replay:
@@ -26,6 +28,8 @@ class Replay:
         self.checks = Checks(self.pipeline, self.reasons.tell)
         self.slots, self.occupancy, self.span = Slots(self.pipeline), None, span
         self.retired = 0
+        # whether the last cycle had no event and was explained. A tool that looks at more of each cycle is shown all of them
+        self.quiet, self.skips = False, type(self) is Replay
 
     def items(self, until=None):
         """Each fetched instruction, in the order of fetching, as soon as it and all before it are gone.
@@ -38,8 +42,10 @@ class Replay:
                 break
             self.step(row)
             ends = row.ends
-            if flight and (flight[0].retired or flight[0].squashed):
-                yield from self.gone()
+            while flight and (flight[0].retired is not None or flight[0].squashed is not None):
+                item = flight.popleft()
+                item.forget()
+                yield item
         self.end(self.trace.end)
         for item in flight:
             if item.open is not None:
@@ -62,17 +68,37 @@ class Replay:
 
     def step(self, row):
         """One cycle."""
+        pipeline, counted = self.pipeline, self.pipeline.counts
+        pipeline.cycle, told = row.cycle, len(self.reasons.unexplained) + len(self.reasons.presumed)
+        pipeline.counts = self.span[0] <= row.cycle and (self.span[1] is None or row.cycle <= self.span[1])
+        if self.quiet and not row.events and not row.ends and counted == pipeline.counts and self.nothing_due(row.cycle):
+            self.repeat(row.cycle)
+            return
         phases = row.phases()
-        self.pipeline.cycle = row.cycle
-        self.pipeline.counts = self.span[0] <= row.cycle and (self.span[1] is None or row.cycle <= self.span[1])
         try:
             self.take(row, phases)
-            if self.occupancy is not None and self.pipeline.counts:
-                self.occupancy.add(self.pipeline, len(phases[RETIRE]) and sum(words[0] == "ret" for words in phases[RETIRE]))
         except ValueError:
             raise Fault(f"cycle {row.cycle}: a number is none in `{' '.join(row.events)}`") from None
         except (LookupError, AttributeError, TypeError):
             raise Fault(f"cycle {row.cycle}: `{' '.join(row.events)}` can't follow; is it the trace of this image and description?") from None
+        if self.occupancy is not None and pipeline.counts:
+            self.occupancy.add(pipeline, sum(words[0] == "ret" for words in phases[RETIRE]) if phases[RETIRE] else 0)
+        self.quiet = self.skips and not row.events and told == len(self.reasons.unexplained) + len(self.reasons.presumed)
+
+    def nothing_due(self, cycle):
+        """No line and no result comes, and the divider isn't free from this cycle on: the phases find what they found in the cycle before
+        (docs/machine.md, "Cycles in which nothing happens")."""
+        return cycle not in self.pipeline.dues and cycle not in self.checks.due and self.pipeline.divider.free_from != cycle
+
+    def repeat(self, cycle):
+        """Nothing happens in this cycle, as in the one before."""
+        self.reasons.repeat(cycle)
+        self.front.repeat(cycle)
+        self.slots.retire((), False)
+        if self.slots.head is not None:
+            self.slots.close()
+        if self.occupancy is not None and self.pipeline.counts:
+            self.occupancy.add(self.pipeline, 0)
 
     def take(self, row, phases):
         """The seven phases, and Clear behind Resolve. After an end in Retire no later phase acts."""
@@ -143,22 +169,23 @@ class Replay:
     def retire(self, events, ends):
         self.reasons.retire([int(words[1]) for words in events if words[0] == "ret"], ends)
         retired = []
-        if not events:
-            self.slots.retire(retired, ends)
-            return
         for words in events:
-            if words[0] == "ret":
-                retired.append(self.pipeline.entry(words))
-                self.pipeline.retire(retired[-1])
-            elif not retired or retired[-1].serial != int(words[1]):
+            name = words[0]
+            if name == "ret":
+                item = self.pipeline.entry(words)
+                retired.append(item)
+                self.pipeline.retire(item)
+            elif not retired or item.serial != int(words[1]):
                 raise Fault(f"cycle {self.pipeline.cycle}: `{':'.join(words)}` doesn't follow its ret")
-            elif words[0] == "st":
-                self.checks.write(retired[-1], int(words[2], 16), words[3])
-                self.pipeline.write(retired[-1], int(words[2], 16), words[3])
+            elif name == "st":
+                line = int(words[2], 16)
+                self.checks.write(item, line, words[3])
+                self.pipeline.write(item, line, words[3])
             else:
-                retired[-1].output = int(words[2])
+                item.output = int(words[2])
         for item in retired:
-            self.checks.retired(item)
+            if item.kind in EFFECTS or item.written or item.output is not None:
+                self.checks.retired(item)
         self.retired += len(retired)
         self.slots.retire(retired, ends)
 
@@ -174,8 +201,10 @@ class Replay:
         self.checks.order(steps)
         items = [self.pipeline.entry(step[0]) for step in steps]
         for item, step in zip(items, steps):
-            self.checks.unit(item, step[0][0])
-            if step[0][0] == "ld":
+            name = step[0][0]
+            if EVENT_OF.get(item.kind, "alu") != name:
+                self.checks.unit(item, name)
+            if name == "ld":
                 self.checks.access(item, step)
         for item, step in zip(items, steps):
             self.pipeline.issue(item, step)
@@ -208,10 +237,15 @@ class Replay:
         return steps
 
     def rename(self, events):
+        roomy = bool(events) and len(events) <= self.pipeline.description.fetch_width and self.front.has_room()
         for words in events:
             serial = int(words[1])
-            self.front.before_rename(serial)
-            self.slots.rename(self.pipeline.rename(serial, int(words[2], 16)))
+            if not roomy or self.pipeline.queue and self.pipeline.queue[0].kind == CALL:
+                self.front.before_rename(serial)
+            item = self.pipeline.rename(serial, int(words[2], 16))
+            self.slots.rename(item)
+            if item.awaits:
+                self.reasons.renamed(item)
         reason = self.front.after_rename(len(events))
         if reason is not None:
             self.slots.stall(reason, self.pipeline.queue[0].pc)

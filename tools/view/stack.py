@@ -53,7 +53,8 @@ def picture(runs):
     below = TOP + len(runs) * STEP + 10
     for place, reason in enumerate(names):
         x, y = 10 + place % columns * LEGEND, below + place // columns * 20
-        parts.append(f'<rect x="{x}" y="{y}" width="12" height="12" fill="{COLOURS[reason]}"/><text x="{x + 18}" y="{y + 10}">{escape(reason)}</text>')
+        parts.append(f'<rect x="{x}" y="{y}" width="12" height="12" fill="{COLOURS[reason]}"/>'
+                     f'<text x="{x + 18}" y="{y + 10}">{escape(reason)}</text>')
     width = LEFT + WIDE + 16 + round(max(len(told(run)) for run in runs) * CHARACTER)
     height = below + -(-len(names) // columns) * 20 + 10
     return "\n".join([

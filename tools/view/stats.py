@@ -3,7 +3,7 @@ from collections import Counter
 
 from . import Fault
 from .front_end import QUEUE_EMPTY
-from .instruction import BRANCH, JALR, LOAD
+from .instruction import BRANCH, JALR, LOAD, STORE
 from .places import Places, function_of
 from .reasons import DEFENCE, STORE_ADDRESS
 from .slots import Occupancy, Slots
@@ -27,28 +27,44 @@ class Counts:
         self.cleared, self.passed, self.violated, self.waited = 0, Counter(), Counter(), Counter()
 
     def add(self, item):
+        retired = item.retired is not None
         self.fetched += 1
         self.renamed += item.renamed is not None
         self.squashed += item.squashed is not None
-        self.retired += item.retired is not None
-        if item.unit:
-            self.units[item.unit] += 1
-            self.wrong[item.unit] += item.retired is None
+        self.retired += retired
+        unit = item.unit
+        if unit is not None:
+            self.units[unit] = self.units.get(unit, 0) + 1
+            if not retired:
+                self.wrong[unit] = self.wrong.get(unit, 0) + 1
         if item.resolved is not None:
-            self.resolved[item.code.kind] += 1
-            self.mispredicted[item.code.kind] += item.mispredicted
-            self.resolved[RETURN] += item.code.is_return
-            self.mispredicted[RETURN] += item.code.is_return and item.mispredicted
+            self.add_resolved(item)
+        if item.kind == STORE:
+            self.cleared += item.cleared is not None
+            if item.written:
+                self.stores[all(found == "h" for _, found in item.written)] += 1
+        elif item.kind == LOAD:
+            self.add_load(item)
+        if item.output is not None:
+            self.output += item.output
+        if item.waits:
+            self.add_held(item)
+
+    def add_resolved(self, item):
+        self.resolved[item.kind] += 1
+        self.mispredicted[item.kind] += item.mispredicted
+        if item.code.is_return:
+            self.resolved[RETURN] += 1
+            self.mispredicted[RETURN] += item.mispredicted
+
+    def add_load(self, item):
         self.two_lines += len(item.lines) > 1
-        if item.written:
-            self.stores[all(found == "h" for _, found in item.written)] += 1
-        self.output += item.output or 0
-        self.cleared += item.cleared is not None
-        if item.code.kind == LOAD:
-            self.passed[item.pc] += item.passed
-            self.violated[item.pc] += item.violated
-            self.waited[item.pc] += any(wait.reason == STORE_ADDRESS for wait in item.waits)
-        self.add_held(item)
+        if item.passed:
+            self.passed[item.pc] += 1
+        if item.violated:
+            self.violated[item.pc] += 1
+        if item.waits and any(wait.reason == STORE_ADDRESS for wait in item.waits):
+            self.waited[item.pc] += 1
 
     @property
     def mispredictions(self):
@@ -61,18 +77,21 @@ class Counts:
 
     def add_held(self, item):
         """The cycles in which only the defence kept it from issuing, from being resolved or from being cleared."""
-        cycles = sum(wait.last - wait.first + 1 for wait in item.waits if wait.reason in DEFENCE)
+        cycles = 0
+        for wait in item.waits:
+            if wait.reason in DEFENCE:
+                cycles += wait.last - wait.first + 1
         if cycles:
             self.held[item.pc] += 1
             self.held_cycles[item.pc] += cycles
             self.held_dropped[item.pc] += item.retired is None
 
 
-def count(items, holds=lambda item: True, places=None):
+def count(items, holds=None, places=None):
     """The counts of these items, of those that the test takes; by address too where places are given."""
     counts = Counts()
     for item in items:
-        if holds(item):
+        if holds is None or holds(item):
             counts.add(item)
             if places is not None:
                 places.add(item)
@@ -88,7 +107,8 @@ class Run:
         self.image, self.span = disassembler.image, span
         replay.span, replay.occupancy = span, Occupancy(replay.pipeline.description.retire_width)
         self.places = Places() if by_place else None
-        self.counts = count(replay.items(span[1]), self.holds, self.places)
+        whole = span == (1, None) and function is None
+        self.counts = count(replay.items(span[1]), None if whole else self.holds, self.places)
         if replay.pipeline.cycle < span[0]:
             raise Fault(f"--from {span[0]} is behind the last cycle of the trace, {replay.pipeline.cycle}")
         if function is not None and not self.counts.fetched:
@@ -204,7 +224,9 @@ def stack_lines(run):
     """The CPI stack: slots, cycles (slots divided by the width) and their share, cycles an instruction."""
     slots, sums = run.slots, run.slots.sums()
     total = sum(sums.values())
-    whole = f"{run.cycles} cycles of {slots.width} slots, {total} in all" if run.function is None else f"{total} that are charged to {run.function}"
+    whole = f"{run.cycles} cycles of {slots.width} slots, {total} in all"
+    if run.function is not None:
+        whole = f"{total} that are charged to {run.function}"
     yield f"\nslots of retirement: {whole}"
     yield "   slots    cycles   share  cycles an instruction"
     for reason, number in sums.items():

@@ -17,10 +17,11 @@ EVENTS = {
     "ret": (RETIRE, 2), "st": (RETIRE, 4), "call": (RETIRE, 3), "alu": (ISSUE, 2), "mul": (ISSUE, 2), "div": (ISSUE, 3),
     "agu": (ISSUE, 2), "std": (ISSUE, 2), "ld": (ISSUE, 4), "pf": (ISSUE, 3), "ren": (RENAME, 3), "fet": (FETCH, 2),
 }
-NONE = (None, 0)
 WITHOUT_LINE = ("f", "x")
 # how the line of a load, of a store, and one that is prefetched may be found
 FOUND = {"ld": ("h", "m", "j", "2"), "st": ("h", "m"), "pf": ("m", "2")}
+SHAPES = {name: (phase, length, FOUND.get(name)) for name, (phase, length) in EVENTS.items()}
+NONE = (None, 0, None)
 
 END = re.compile(r"end (exit \d+|trap [0-7] [0-9a-f]{8}|budget) retired (\d+) cycles (\d+)")
 
@@ -39,8 +40,8 @@ class Row(NamedTuple):
         for text in self.events:
             words = text.split(":")
             name = words[0]
-            phase, length = EVENTS.get(name, NONE)
-            if len(words) != length or name in FOUND and words[-1] not in FOUND[name]:
+            phase, length, found = SHAPES.get(name, NONE)
+            if len(words) != length or found is not None and words[-1] not in found:
                 if not (name == "ld" and len(words) == 3 and words[2] in WITHOUT_LINE):
                     raise Fault(f"cycle {self.cycle}: `{text}` is no event of a trace")
             elif name == "sq" and phases[CLEAR]:
@@ -133,7 +134,7 @@ def lines_of_file(file, name):
 class Progress:
     """The lines of a file as they come; how far they are stands on standard error, if that is a terminal."""
 
-    EVERY = 20000
+    EVERY = 5000
 
     def __init__(self, file, name="the trace", screen=sys.stderr):
         self.file, self.lines, self.screen, self.shown = file, lines_of_file(file, name), screen, screen.isatty()

@@ -2,14 +2,18 @@
 from collections import Counter
 
 from .pipeline import NEVER
+from .places import function_of
 from .reasons import HELD, HELD_BACK, STORE_TAINT
 
 
-def lines_of(replay, disassembler, first, last, summary):
-    """The lines of `why`: each wait that touches the cycles from `first` to `last`, each stall of rename, and the sums."""
+def lines_of(replay, disassembler, first, last, summary, function=None):
+    """The lines of `why`: each wait that touches the cycles from `first` to `last`, each stall of rename, and the sums; of the waits of one
+    function alone where it is asked for."""
     waits, held = Counter(), Counter()
     last = NEVER if last is None else last
     for item in replay.items():
+        if function is not None and function_of(disassembler.image, item.pc) != function:
+            continue
         for wait in item.waits:
             waits[wait.reason] += wait.last - wait.first + 1
             if wait.reason in (*HELD, HELD_BACK):
@@ -18,7 +22,8 @@ def lines_of(replay, disassembler, first, last, summary):
                 yield wait_line(item, wait, disassembler)
     if not summary:
         for stall in replay.front.stalls:
-            if stall.first <= last and stall.last >= first:
+            here = function is None or function_of(disassembler.image, stall.pc) == function
+            if here and stall.first <= last and stall.last >= first:
                 yield f"{cycles(stall):>13}  rename stops short of {disassembler.place(stall.pc)}: {stall.reason}"
     yield from sums(replay, waits, held, disassembler)
 

@@ -7,10 +7,8 @@ ghost use Rattle.core_parts.specs.Lent.{HasAddressRoots, HasRoots, NamesRoots, N
 ghost use Rattle.core_parts.specs.Lent.{ShowsOlder, TellsReady, TellsVisible};
 ghost use Rattle.core_cycle.specs.Waiting.{HoldsByPoint};
 
-use crate::cycle::{after_retire, before_retire};
-use crate::due::still_until;
+use crate::clocking::clock;
 use crate::lent::stations_of;
-use crate::phases::retire;
 use byte_ram::Ram;
 use core_parts::Parts;
 use elf_loader::Image;
@@ -30,7 +28,7 @@ use window_model::{Clocked, Row};
 /// no phase goes (`docs/machine.md`, "Cycles in which nothing happens").
 #[derive(Drop)]
 pub struct Core<R: RenameTaint> {
-    parts: Parts<R>,
+    parts: Box<Parts<R>>,
     /// Nothing happens in the cycles below this number. 0 where that is known of none.
     still_until: u32,
 }
@@ -44,12 +42,12 @@ impl<R: RenameTaint> Model for Core<R> {
 
     ghost coded = { programmed_code };
 
-    ghost view = { λ c. record { desc = c.parts.desc; code = c.parts.code; machine = c.parts.machine } };
+    ghost view = { λ c. record { desc = c.parts.value.desc; code = c.parts.value.code; machine = c.parts.value.machine } };
 
-    ghost invariant = { λ c. KeptUntil c.still_until (word_at c.parts.code) c.parts };
+    ghost invariant = { λ c. KeptUntil c.still_until (word_at c.parts.value.code) c.parts.value };
 }
 
-impl<R: RenameTaint> Core<R> {
+impl<R: RenameTaint + Drop> Core<R> {
     /// The core before its first cycle, with the image in a memory of the description's base and size. It takes all the
     /// memory that a run takes; the one error is want of it.
     pub fn new(alloc: Global, desc: &Desc, image: Image) -> Result<Core<R>, NoMemory>
@@ -60,12 +58,17 @@ impl<R: RenameTaint> Core<R> {
     {
         let Image { ram, code, entry } = image;
         let parts = Parts::new(alloc, desc, code, entry, ram)?;
-        Ok(Core {
-            parts,
-            still_until: 0,
-        })
+        match Box::new(alloc, parts) {
+            Ok(parts) => Ok(Core {
+                parts,
+                still_until: 0,
+            }),
+            Err(_) => Err(NoMemory),
+        }
     }
+}
 
+impl<R: RenameTaint> Core<R> {
     /// The reorder buffer: it has the window.
     pub fn rob(&self) -> &RobRing
         ensures { result.now.entries ≡ self.now.machine.window }
@@ -131,16 +134,7 @@ impl<R: RenameTaint> Clocked for Core<R> {
     ghost machine = { λ c. c.machine };
 
     fn cycle(&mut self, row: &mut Row, piece: &mut Piece) {
-        self.parts.begin();
-        row.begin(self.parts.cycle);
-        piece.clear();
-        if self.parts.cycle < self.still_until {
-            return;
-        }
-        before_retire(&mut self.parts, row);
-        retire(&mut self.parts, row, piece);
-        after_retire(&mut self.parts, row);
-        self.still_until = still_until(&self.parts, row);
+        self.still_until = clock(&mut self.parts, self.still_until, row, piece);
     }
 
     fn end(&self) -> Option<End> {

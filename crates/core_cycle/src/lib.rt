@@ -5,6 +5,7 @@
 #![tactic(auto)]
 
 mod by_parts;
+mod clocking;
 mod cycle;
 mod due;
 mod lent;

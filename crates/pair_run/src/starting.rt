@@ -40,7 +40,8 @@ pub struct Starts {
 }
 
 impl Starts {
-    /// Where the runs of these images begin. It takes five bytes for each byte of memory; the one error is want of them.
+    /// Where the runs of these images begin. It copies both memories, and the first image for the path; the one error is want of
+    /// memory.
     pub fn of(alloc: Global, one: &Image, two: &Image) -> Result<Starts, NoMemory>
         ensures one { IfOk result (λ s. s.one ≡ start_of one.now) }
         ensures two { IfOk result (λ s. s.two ≡ start_of two.now) }

@@ -39,7 +39,6 @@ fn answer<F: Files, O: Sink>(
 /// Statuses: 0 the run ended by an exit, 1 by a trap, 3 not within its budget; for two images 0 their runs are the same, 1
 /// they aren't; 2 the words are no command; 4 the description, 5 an image is too long or at fault; 6 a file couldn't be
 /// read; 7 the output couldn't be written whole; 8 there was no memory, which comes only before the first byte of output.
-#[tactic(auto, using(crate::proofs::Statuses::statuses_at, crate::proofs::Promised::promises_at))]
 pub fn stt_top<F: Files, O: Sink, N: Sink>(
     alloc: Global,
     words: &[&str],

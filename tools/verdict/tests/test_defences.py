@@ -87,6 +87,13 @@ class Victims(unittest.TestCase):
         expected["fault_shadow.s"] = ("`futuristic`", [True, True, False, True, False])
         self.assertEqual(found, expected)
 
+    def test_rows_of_the_page(self):
+        """docs/using.md, "Compare defences", has the rows of the victims in assembly as the command writes them."""
+        page = material.read("docs", "using.md")
+        written = material.command("defences", "--compiler", "none").stdout.splitlines()
+        self.assertEqual(len(written), 2 + len(self.ALL))
+        self.assertIn("\n".join(written) + "\n", page)
+
     def test_without_passing(self):
         """Where no load passes a store, nothing can be shown by that."""
         found = self.told("--compiler", "none", "--only", "store_bypass", "--assembly", support.example("core_version_2.toml"))

@@ -67,6 +67,14 @@ class Marks(unittest.TestCase):
         """What is loaded from a place made of the secret is made of it."""
         self.assertEqual(self.marked(lbu(6, 8, 2), add(6, 6, 2), lw(7, 0, 6), add(6, 5, 5)), [7])
 
+    def test_return_address(self):
+        """What a jump to a place made of the secret leaves in its register isn't made of it."""
+        jump = 0x000300e7  # jalr x1, 0(x6)
+        pipeline, items = renamed([lbu(6, 8, 2), jump])
+        for item in items:
+            issue(pipeline, item)
+        self.assertEqual((pipeline.values[1].is_marked, pipeline.values[1].mark, pipeline.values[1].result), (True, False, CODE + 8))
+
     def test_dropped(self):
         """What is dropped leaves no trace in registers, memory and marks."""
         pipeline, items = renamed([add(5, 2, 2), lbu(6, 8, 2), sw(6, 4, 2), add(5, 6, 6)])

@@ -53,6 +53,11 @@ class Command(unittest.TestCase):
             answer = view(*words)
             self.assertEqual((answer.returncode, answer.stdout, answer.stderr.count("\n")), (2, "", 1), words)
 
+    def test_an_image_or_description_too_many(self):
+        self.assertIn("-e is given 2 times", self.refused("list", self.trace, *self.files, *self.files[:2]))
+        self.assertIn("-D is given 2 times", self.refused("stack", *[self.trace] * 3, *self.files, *self.files[2:]))
+        self.assertEqual(view("stats", self.trace, self.other, *self.files, *self.files[2:]).returncode, 0)
+
     def refused(self, *words, text=None):
         """What is told of wrong input: one line, and the status of errors."""
         answer = view(*words, text=text)
@@ -77,11 +82,11 @@ class Command(unittest.TestCase):
             self.assertIn(path, self.refused("html", self.trace, *self.files, "-o", path))
 
     def test_cycles_that_are_none(self):
-        for what in ("why", "list", "konata", "o3", "svg", "html"):
-            self.assertIn("behind --to", self.refused(what, self.trace, *self.files, "--from", "9", "--to", "8"))
+        for what in ("why", "list", "konata", "o3", "svg", "html", "stats", "stack", "annotate"):
             self.assertIn("behind the last cycle", self.refused(what, self.trace, *self.files, "--from", "22"))
-            self.assertEqual(view(what, self.trace, *self.files, "--from", "21").returncode, 0)
-            self.assertEqual(view(what, self.trace, *self.files, "--from", "0").returncode, 2)
+        self.assertIn("behind --to", self.refused("list", self.trace, *self.files, "--from", "9", "--to", "8"))
+        for first, status in (("21", 0), ("0", 2), ("x", 2)):
+            self.assertEqual(view("list", self.trace, *self.files, "--from", first).returncode, status)
 
     def test_an_interrupt(self):
         path = os.path.join(support.FOLDER.name, "fifo")

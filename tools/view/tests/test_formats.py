@@ -53,7 +53,19 @@ class Reasons(unittest.TestCase):
         self.assertEqual(len([line for line in lines(why, 1, None, True) if line.startswith(" ")]), 0)
 
 
+    def test_one_function(self):
+        """All of it is of _start, and nothing of main."""
+        whole, part, none = lines(why, 1, None, False), lines(why, 1, None, False, "_start"), lines(why, 1, None, False, "main")
+        self.assertEqual(part, [line for line in whole if "(no code)" not in line])
+        self.assertEqual([line for line in none if line.startswith(" ")], [])
+        self.assertEqual(none[0], "waits of instructions, in cycles: none")
+
+
 class List(unittest.TestCase):
+    def test_one_function(self):
+        self.assertEqual(len(lines(listing, 1, None, "_start")), 1 + 11)
+        self.assertEqual(lines(listing, 1, None, "main"), [listing.HEADER])
+
     def test_one_line_an_instruction(self):
         text = lines(listing, 1, None)
         self.assertEqual(len(text), 1 + 13)

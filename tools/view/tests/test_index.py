@@ -1,4 +1,5 @@
 """The index of a long trace: a stretch of it is as that of the whole run, and an index of something else isn't used."""
+import json
 import os
 import pickle
 import unittest
@@ -6,7 +7,7 @@ import zipfile
 from unittest import mock
 
 import support
-from view import Fault, index, listing
+from view import Fault, index, listing, numbers, stats
 from view.description import read_description
 from view.disassembly import KINDS, Disassembler
 from view.image import Image
@@ -43,6 +44,14 @@ class Index(unittest.TestCase):
             whole = Replay(Trace(iter(self.lines)), Image(self.image), read_description(self.described))
             self.assertEqual(told, self.listed(whole, first), first)
             self.assertEqual((replay.reasons.unexplained, replay.trace.end.text), ([], self.lines[-1].strip()))
+
+    def test_numbers_of_a_part(self):
+        self.make(3)
+        for span in ((5, 9), (8, None), (len(self.lines) - 2, None)):
+            runs = [stats.Run("a", replay, Disassembler(Image(self.image), KINDS), span)
+                    for replay in (self.found(span[0], 3), Replay(Trace(iter(self.lines)), Image(self.image), read_description(self.described)))]
+            found, whole = [json.loads("".join(numbers.lines_of([run], 10))) for run in runs]
+            self.assertEqual(found, whole)
 
     def test_there_is_nothing_before_the_first_state(self):
         self.make(10)

@@ -24,7 +24,8 @@ def built(compiler, option):
     for name, text in PARTS.items():
         support.file_of(name, text.encode())
     path = os.path.join(support.FOLDER.name, f"{compiler}{option}.elf")
-    words = [compiler, *COMPILERS[compiler], *FLAGS, option, "-o", path, os.path.join(C, "start.S"), os.path.join(support.FOLDER.name, "outer.c")]
+    sources = [os.path.join(C, "start.S"), os.path.join(support.FOLDER.name, "outer.c")]
+    words = [compiler, *COMPILERS[compiler], *FLAGS, option, "-o", path, *sources]
     subprocess.run(words, check=True, capture_output=True, timeout=60)
     return path
 

@@ -1,0 +1,15 @@
+use Rattle.std.proofs.Common.{rules, sym, subst}
+use Rattle.elf_loader.specs.Code.{word_at}
+use Rattle.core_parts.specs.Described.{Described, opened}
+use Rattle.core_cycle.specs.Kept.{KeptUntil}
+use Rattle.core_cycle.proofs.by_parts.Core.new.Goals as goal
+
+-- what holds of parts that stand between two cycles
+abbrev Between : Described → Type 0
+Between p = KeptUntil 0 (word_at p.code) p
+
+-- src/by_parts.rt:64:26
+pub invariant_of-result : goal.invariant_of-result
+invariant_of-result g c =
+    let begun : Between (opened c.args.desc.now c.args.image.code c.args.image.entry c.args.image.ram) = search rules in
+    subst Between (sym c.in-Ok.ensures.ok) (subst Between (sym c.in_ok-parts.ensures) begun)

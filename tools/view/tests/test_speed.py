@@ -1,0 +1,93 @@
+"""What makes long traces fast changes no answer: cycles in which nothing happens are passed over, and PyPy does the work."""
+import os
+import random
+import shutil
+import subprocess
+import sys
+import unittest
+from unittest import mock
+
+import aliasing
+import support
+from programs import PROGRAMS
+from view import faster
+from view.description import read_description
+from view.image import Image
+from view.replay import Replay
+from view.slots import Occupancy
+from view.trace import Trace
+
+VIEW = os.path.join(support.ROOT, "tools", "view", "view")
+PYPY = shutil.which("pypy3")
+
+
+def taken(lines, image, described, skips):
+    """All that a run tells."""
+    run = Replay(Trace(iter(lines)), Image(image), read_description(described))
+    run.skips, run.occupancy = skips, Occupancy(4)
+    run.repeated, repeat = 0, run.repeat
+
+    def counting(cycle):
+        run.repeated += 1
+        repeat(cycle)
+    run.repeat = counting
+    waits = [[(wait.first, wait.last, wait.reason, wait.serial) for wait in item.waits] for item in run.items()]
+    stalls = [(stall.first, stall.last, stall.reason, stall.pc) for stall in run.front.stalls]
+    return run.repeated, (waits, stalls, run.reasons.idle, run.front.rename, run.front.fetch, run.slots.lost, run.reasons.unexplained,
+                          run.occupancy.sums, run.occupancy.most, run.occupancy.retired)
+
+
+class Quiet(unittest.TestCase):
+    def same(self, lines, image, described):
+        repeated, found = taken(lines, image, described, True)
+        self.assertEqual(found, taken(lines, image, described, False)[1])
+        return repeated
+
+    def test_small_programs(self):
+        repeated = 0
+        for name, words in PROGRAMS.items():
+            image = support.image_of_words("quiet", words)
+            for keys in ({"depend": 2}, {"depend": 2, "defence": '"hold"'}):
+                for described in support.descriptions(2, ("spectre", "futuristic"), **keys):
+                    with self.subTest(name=name, description=described):
+                        repeated += self.same(support.modelled(described, image, 1000), image, described)
+        self.assertGreater(repeated, 1000)
+
+    def test_random_programs(self):
+        draw = random.Random(3)
+        for number in range(12):
+            image, described = aliasing.image(draw, "quiet"), aliasing.description(draw, "quiet")
+            with self.subTest(number=number):
+                self.same(support.modelled(described, image, 2000), image, described)
+
+    def test_a_wait_that_nothing_explains_is_told_in_each_cycle(self):
+        lines = support.worked_trace("Fault shadow")
+        files = support.example("fault_shadow.elf"), support.example("core.toml")
+        lines[15] = "16 done:4\n"
+        told = taken(lines, *files, True)[1][6]
+        self.assertEqual(told, taken(lines, *files, False)[1][6])
+        self.assertGreater(len(told), 3)
+
+
+@unittest.skipUnless(PYPY, "no pypy3")
+class ByPyPy(unittest.TestCase):
+    def test_it_writes_the_same(self):
+        trace = support.file_of("pypy.trace", "".join(support.worked_trace("Bounds check bypass")).encode())
+        words = [VIEW, "stats", trace, "-e", support.example("bounds_check.elf"), "-D", support.example("core.toml"), "--json"]
+        decided = {**os.environ, faster.DECIDED: sys.executable}
+        texts = [subprocess.run([python, *words], capture_output=True, text=True, timeout=120, env=decided)
+                 for python in (sys.executable, PYPY)]
+        self.assertEqual([(answer.stdout, answer.stderr, answer.returncode) for answer in texts], [(texts[0].stdout, "", 0)] * 2)
+
+    def test_when_it_is_asked(self):
+        small = support.file_of("small.trace", b"1\n")
+        with mock.patch.dict(os.environ), mock.patch.object(os, "execve") as went:
+            os.environ.pop(faster.DECIDED, None)
+            faster.by_pypy(VIEW, ["stats", small])
+            went.assert_not_called()
+            with mock.patch.object(faster, "LARGE", 1):
+                faster.by_pypy(VIEW, ["stats", small])
+                self.assertEqual(went.call_args[0][:2], (PYPY, [PYPY, VIEW, "stats", small]))
+                os.environ[faster.DECIDED] = sys.executable
+                faster.by_pypy(VIEW, ["stats", small])
+                went.assert_called_once()
