@@ -200,7 +200,7 @@ calls : map (λ s. told (call s)) (
     asking 64 1 0xffffffff 0 ∷
     asking 64 0 0xffffffff 0 ∷
     [])
-  ≡ (1 ∷ 7 ∷ []) ∷
+    ≡ (1 ∷ 7 ∷ []) ∷
     (1 ∷ 0xffffffff ∷ []) ∷
     (0x14 ∷ 0xffffffda ∷ []) ∷
     (0x14 ∷ 0xffffffda ∷ []) ∷
