@@ -1,8 +1,8 @@
 //! Runs under descriptions of many kinds, with the traces that an independent model wrote (`tools/evaluate/runs/README.md`, which
 //! has these and more by the same names). `tools/evaluate/write --tests` makes a table of all.
 use crate::cases::expect;
-use crate::lines;
 use crate::running::{NOTHING, Reads, run};
+use crate::{lines, predicted};
 use std::alloc::Global;
 use std::process::Abort;
 use std::test::Fail;
@@ -37,10 +37,11 @@ fn all_go(rt: &impl Abort, alloc: Global, runs: &[Run]) -> Result<(), Fail> {
 #[test]
 fn of_an_independent_model(rt: HostRuntime) -> Result<(), Fail> {
     all_go(&rt, rt.alloc(), &RUNS)?;
-    all_go(&rt, rt.alloc(), &lines::RUNS)
+    all_go(&rt, rt.alloc(), &lines::RUNS)?;
+    all_go(&rt, rt.alloc(), &predicted::RUNS)
 }
 
-const RUNS: [Run; 11] = [
+static RUNS: [Run; 11] = [
     Run {
         name: "run_01",
         description: "[core]\nfetch_width = 4\nretire_width = 4\nrob = 46\nstations = 15\nloads = 5\nstores = 16\nqueue = 16\n[units]\nalus = 2\nmul_latency = 1\n[predictor]\ncounters = 4\nbtb = 2\n[cache]\nsets = 4\nways = 1\nline = 16\nhit_latency = 3\nmiss_latency = 6\nmshrs = 7\n[ram]\nbase = 65536\nsize = 4096\n[stt]\nmodel = \"futuristic\"\n",

@@ -27,6 +27,8 @@ mod machine;
 #[cfg(test)]
 mod pairs;
 #[cfg(test)]
+mod predicted;
+#[cfg(test)]
 mod running;
 #[cfg(test)]
 mod settings;

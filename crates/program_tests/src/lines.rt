@@ -3,7 +3,7 @@
 use crate::evaluated::Run;
 
 /// The runs.
-pub const RUNS: [Run; 3] = [
+pub static RUNS: [Run; 5] = [
     Run {
         name: "memory_and_second",
         description: "\
@@ -187,5 +187,75 @@ version = 2\n\
 50 done:9 ret:9 ret:10 ren:11:0001002c\n\
 51 ret:11 call:11:0\n\
 end exit 0 retired 12 cycles 51\n",
+    },
+    Run {
+        name: "across_two_lines",
+        description: "\
+version = 2\n\
+[core]\nfetch_width = 2\nretire_width = 2\nrob = 16\nstations = 8\nloads = 4\nstores = 4\nqueue = 8\n\
+[units]\nalus = 2\nmul_latency = 3\n\
+[predictor]\ncounters = 16\nbtb = 4\n\
+[cache]\nsets = 2\nways = 2\nline = 16\nhit_latency = 2\nmiss_latency = 10\nmshrs = 2\n\
+[ram]\nbase = 65536\nsize = 65536\nmisaligned = 1\n\
+[stt]\nmodel = \"spectre\"\n",
+        image: b"\
+\x7f\x45\x4c\x46\x01\x01\x01\x00\x00\x00\x00\x00\x00\x00\x00\x00\x02\x00\xf3\x00\x01\x00\x00\x00\
+\x00\x00\x01\x00\x34\x00\x00\x00\x00\x00\x00\x00\x00\x00\x00\x00\x34\x00\x20\x00\x01\x00\x00\x00\
+\x00\x00\x00\x00\x01\x00\x00\x00\x54\x00\x00\x00\x00\x00\x01\x00\x00\x00\x01\x00\x0c\x00\x00\x00\
+\x0c\x00\x00\x00\x05\x00\x00\x00\x04\x00\x00\x00\x83\x22\xe1\xff\x93\x08\xd0\x05\x73\x00\x00\x00",
+        cycles: "200",
+        status: 0,
+        trace: "\
+1 fet:00010000 fet:00010004\n\
+2 ren:0:00010000 ren:1:00010004 fet:00010008 fet:0001000c\n\
+3 ld:0:0001ffe0:m ld:0:0001fff0:m alu:1\n\
+4 done:1\n\
+5\n\
+6\n\
+7\n\
+8\n\
+9\n\
+10\n\
+11\n\
+12\n\
+13 fill:0001ffe0 fill:0001fff0 done:0 ret:0 ret:1 ren:2:00010008\n\
+14 ret:2 call:2:0\n\
+end exit 0 retired 3 cycles 14\n",
+    },
+    Run {
+        name: "next_line_fetched",
+        description: "\
+version = 2\n\
+[core]\nfetch_width = 2\nretire_width = 2\nrob = 16\nstations = 8\nloads = 4\nstores = 4\nqueue = 8\n\
+[units]\nalus = 2\nmul_latency = 3\n\
+[predictor]\ncounters = 16\nbtb = 4\n\
+[cache]\nsets = 2\nways = 2\nline = 16\nhit_latency = 2\nmiss_latency = 10\nmshrs = 2\nsecond_sets = 2\nsecond_ways = 2\nsecond_latency = 5\nprefetch = 1\n\
+[ram]\nbase = 65536\nsize = 65536\n\
+[stt]\nmodel = \"spectre\"\n",
+        image: b"\
+\x7f\x45\x4c\x46\x01\x01\x01\x00\x00\x00\x00\x00\x00\x00\x00\x00\x02\x00\xf3\x00\x01\x00\x00\x00\
+\x00\x00\x01\x00\x34\x00\x00\x00\x00\x00\x00\x00\x00\x00\x00\x00\x34\x00\x20\x00\x01\x00\x00\x00\
+\x00\x00\x00\x00\x01\x00\x00\x00\x54\x00\x00\x00\x00\x00\x01\x00\x00\x00\x01\x00\x10\x00\x00\x00\
+\x10\x00\x00\x00\x05\x00\x00\x00\x04\x00\x00\x00\x83\x22\x01\xfe\x03\x23\x01\xff\x93\x08\xd0\x05\
+\x73\x00\x00\x00",
+        cycles: "200",
+        status: 0,
+        trace: "\
+1 fet:00010000 fet:00010004\n\
+2 ren:0:00010000 ren:1:00010004 fet:00010008 fet:0001000c\n\
+3 ld:0:0001ffd0:m pf:0001ffe0:m ren:2:00010008 fet:00010010\n\
+4 ld:1:0001ffe0:j alu:2\n\
+5 done:2\n\
+6\n\
+7\n\
+8\n\
+9\n\
+10\n\
+11\n\
+12\n\
+13 fill:0001ffd0 fill:0001ffe0 done:0 done:1 ret:0 ret:1\n\
+14 ret:2 ren:3:0001000c\n\
+15 ret:3 call:3:0\n\
+end exit 0 retired 4 cycles 15\n",
     },
 ];

@@ -1,8 +1,8 @@
 -- Made by tools/evaluate/write: change what it reads, in tools/evaluate/runs, and run it again.
 use Rattle.std.proofs.Common.{refl, [], ◌∷◌}
 use Rattle.std.specs.List.{AllByRecursion as Each}
-use Rattle.machine_desc.specs.declared.SttModel.TheVariants.{Futuristic, Spectre}
-use Rattle.machine_desc.specs.declared.Defence.TheVariants.{Stt}
+use Rattle.machine_desc.specs.declared.SttModel.TheVariants.{Futuristic, Off, Spectre}
+use Rattle.machine_desc.specs.declared.Defence.TheVariants.{Hold, Stt}
 use lib.Count.{ones}
 use lib.Utf8.{encode}
 use Rattle.std.specs.Float.Numeral.{scan_numeral}
@@ -27,18 +27,37 @@ use Rattle.window_model.specs.Rename.{rename}
 use Rattle.window_model.specs.Retire.{retire}
 use Rattle.trace_text.specs.TraceText.{event_text, events_text, row_text, rows_text, trace_text}
 use Rattle.worked_runs.specs.AcrossTwoLines.{across_two_lines}
+use Rattle.worked_runs.specs.BitAsksForAddresses.{bit_asks_for_addresses}
+use Rattle.worked_runs.specs.BitAsksForNoClearing.{bit_asks_for_no_clearing}
+use Rattle.worked_runs.specs.BitsStaySet.{bits_stay_set}
 use Rattle.worked_runs.specs.BranchToTheNext.{branch_to_the_next}
 use Rattle.worked_runs.specs.ByteAtItsEndCovered.{byte_at_its_end_covered}
+use Rattle.worked_runs.specs.ClearedAtASquash.{cleared_at_a_squash}
 use Rattle.worked_runs.specs.CoveredLineIsAccessed.{covered_line_is_accessed}
+use Rattle.worked_runs.specs.DividerKeptAtAViolation.{divider_kept_at_a_violation}
+use Rattle.worked_runs.specs.DoneBranchIsUnsafe.{done_branch_is_unsafe}
+use Rattle.worked_runs.specs.FaultHeld.{fault_held}
+use Rattle.worked_runs.specs.FaultingBranchSquashes.{faulting_branch_squashes}
 use Rattle.worked_runs.specs.FaultingLoad.{faulting_load}
 use Rattle.worked_runs.specs.FaultingStore.{faulting_store}
+use Rattle.worked_runs.specs.FillLeavesSecond.{fill_leaves_second}
+use Rattle.worked_runs.specs.FillsAsTaken.{fills_as_taken}
+use Rattle.worked_runs.specs.FiveReturns.{five_returns}
+use Rattle.worked_runs.specs.FiveWaysInSecond.{five_ways_in_second}
 use Rattle.worked_runs.specs.ForwardedAcrossLines.{forwarded_across_lines}
+use Rattle.worked_runs.specs.ForwardedMovesNoLine.{forwarded_moves_no_line}
 use Rattle.worked_runs.specs.FoundInSecond.{found_in_second}
+use Rattle.worked_runs.specs.FourSets.{four_sets}
 use Rattle.worked_runs.specs.FullStack.{full_stack}
 use Rattle.worked_runs.specs.HalfIssued.{half_issued}
 use Rattle.worked_runs.specs.HalfIssuedData.{half_issued_data}
+use Rattle.worked_runs.specs.HeldUnderFuturistic.{held_under_futuristic}
 use Rattle.worked_runs.specs.HiddenBase.{hidden_base}
 use Rattle.worked_runs.specs.HistoryAsFetched.{history_as_fetched}
+use Rattle.worked_runs.specs.HistoryBehindAJalr.{history_behind_a_jalr}
+use Rattle.worked_runs.specs.HitAndJoin.{hit_and_join}
+use Rattle.worked_runs.specs.HitLeavesSecond.{hit_leaves_second}
+use Rattle.worked_runs.specs.JoinLeavesSecond.{join_leaves_second}
 use Rattle.worked_runs.specs.JoinedLineTakesNoRegister.{joined_line_takes_no_register}
 use Rattle.worked_runs.specs.JumpThatLinksElsewhere.{jump_that_links_elsewhere}
 use Rattle.worked_runs.specs.JumpsLeaveHistory.{jumps_leave_history}
@@ -48,11 +67,14 @@ use Rattle.worked_runs.specs.LateData.{late_data}
 use Rattle.worked_runs.specs.LateDataVersion1.{late_data_version_1}
 use Rattle.worked_runs.specs.LaterOfTwoLines.{later_of_two_lines}
 use Rattle.worked_runs.specs.LevelsDropApart.{levels_drop_apart}
+use Rattle.worked_runs.specs.LinkIsNoRoot.{link_is_no_root}
 use Rattle.worked_runs.specs.LinkThroughX1.{link_through_x1}
 use Rattle.worked_runs.specs.LinkingJump.{linking_jump}
+use Rattle.worked_runs.specs.LoadMovesTheLineThatHits.{load_moves_the_line_that_hits}
 use Rattle.worked_runs.specs.LoadReachesBehindMemory.{load_reaches_behind_memory}
 use Rattle.worked_runs.specs.LoopByHistory.{loop_by_history}
 use Rattle.worked_runs.specs.LowerLineComesLater.{lower_line_comes_later}
+use Rattle.worked_runs.specs.MarkOfTheLoad.{mark_of_the_load}
 use Rattle.worked_runs.specs.MemoryAndSecond.{memory_and_second}
 use Rattle.worked_runs.specs.MisalignedRefused.{misaligned_refused}
 use Rattle.worked_runs.specs.Mixed1.{mixed_1}
@@ -71,6 +93,7 @@ use Rattle.worked_runs.specs.MixedMemory1.{mixed_memory_1}
 use Rattle.worked_runs.specs.MixedMemory2.{mixed_memory_2}
 use Rattle.worked_runs.specs.MixedSecondLevel1.{mixed_second_level_1}
 use Rattle.worked_runs.specs.MixedSecondLevel2.{mixed_second_level_2}
+use Rattle.worked_runs.specs.MixedSettings.{mixed_settings}
 use Rattle.worked_runs.specs.MixedTogether1.{mixed_together_1}
 use Rattle.worked_runs.specs.MixedTogether2.{mixed_together_2}
 use Rattle.worked_runs.specs.NextLineFetched.{next_line_fetched}
@@ -81,6 +104,14 @@ use Rattle.worked_runs.specs.NoPrefetchOfAHeldLine.{no_prefetch_of_a_held_line}
 use Rattle.worked_runs.specs.NoPrefetchOfAddress0.{no_prefetch_of_address_0}
 use Rattle.worked_runs.specs.NoPrefetchOnItsWay.{no_prefetch_on_its_way}
 use Rattle.worked_runs.specs.NoPrefetchWithoutRegister.{no_prefetch_without_register}
+use Rattle.worked_runs.specs.OffClearsAtOnce.{off_clears_at_once}
+use Rattle.worked_runs.specs.OffDivides.{off_divides}
+use Rattle.worked_runs.specs.OffForwards.{off_forwards}
+use Rattle.worked_runs.specs.OffHoldsNothing.{off_holds_nothing}
+use Rattle.worked_runs.specs.OffViolates.{off_violates}
+use Rattle.worked_runs.specs.OlderLoadHidesNothing.{older_load_hides_nothing}
+use Rattle.worked_runs.specs.OlderStoreWithoutData.{older_store_without_data}
+use Rattle.worked_runs.specs.OlderTaintedAddress.{older_tainted_address}
 use Rattle.worked_runs.specs.OneByte.{one_byte}
 use Rattle.worked_runs.specs.OnePortEach.{one_port_each}
 use Rattle.worked_runs.specs.PartlyCovered.{partly_covered}
@@ -88,7 +119,10 @@ use Rattle.worked_runs.specs.PartsAlone.{parts_alone}
 use Rattle.worked_runs.specs.PrefetchAtTheEndOfMemory.{prefetch_at_the_end_of_memory}
 use Rattle.worked_runs.specs.PrefetchBehindBothLines.{prefetch_behind_both_lines}
 use Rattle.worked_runs.specs.PrefetchBehindTheLowerLine.{prefetch_behind_the_lower_line}
+use Rattle.worked_runs.specs.PrefetchBehindX0.{prefetch_behind_x0}
 use Rattle.worked_runs.specs.PrefetchFromSecond.{prefetch_from_second}
+use Rattle.worked_runs.specs.PrefetchMovesSecond.{prefetch_moves_second}
+use Rattle.worked_runs.specs.PrefetchedToTheFront.{prefetched_to_the_front}
 use Rattle.worked_runs.specs.RecentInSecond.{recent_in_second}
 use Rattle.worked_runs.specs.RegistersForBothLines.{registers_for_both_lines}
 use Rattle.worked_runs.specs.ReturnByAnotherRegister.{return_by_another_register}
@@ -135,25 +169,46 @@ use Rattle.worked_runs.specs.Run36.{run_36}
 use Rattle.worked_runs.specs.Run37.{run_37}
 use Rattle.worked_runs.specs.Run38.{run_38}
 use Rattle.worked_runs.specs.SecondFilledAtFill.{second_filled_at_fill}
+use Rattle.worked_runs.specs.SecondMovedAtOnce.{second_moved_at_once}
 use Rattle.worked_runs.specs.SetsOfSecond.{sets_of_second}
+use Rattle.worked_runs.specs.SevenDigitsOfHistory.{seven_digits_of_history}
 use Rattle.worked_runs.specs.ShortHistory.{short_history}
+use Rattle.worked_runs.specs.SixteenBits.{sixteen_bits}
 use Rattle.worked_runs.specs.SquashByHistory.{squash_by_history}
 use Rattle.worked_runs.specs.StackBehindASquash.{stack_behind_a_squash}
 use Rattle.worked_runs.specs.StoreBehindLoad.{store_behind_load}
 use Rattle.worked_runs.specs.StoreMovesBothLines.{store_moves_both_lines}
+use Rattle.worked_runs.specs.StoreMovesTheLineThatHits.{store_moves_the_line_that_hits}
 use Rattle.worked_runs.specs.StoreMovesTheLowerLine.{store_moves_the_lower_line}
 use Rattle.worked_runs.specs.StorePassesSecond.{store_passes_second}
 use Rattle.worked_runs.specs.StoreReachesBehindMemory.{store_reaches_behind_memory}
 use Rattle.worked_runs.specs.StoreWithoutDataShadows.{store_without_data_shadows}
+use Rattle.worked_runs.specs.TaintThroughDivision.{taint_through_division}
 use Rattle.worked_runs.specs.TaintedAddress.{tainted_address}
 use Rattle.worked_runs.specs.TaintedAddressFaultingLoad.{tainted_address_faulting_load}
 use Rattle.worked_runs.specs.TaintedAddressFaultingStore.{tainted_address_faulting_store}
 use Rattle.worked_runs.specs.TaintedAddressHidden.{tainted_address_hidden}
 use Rattle.worked_runs.specs.TaintedData.{tainted_data}
+use Rattle.worked_runs.specs.TaintedDataHidesNothing.{tainted_data_hides_nothing}
+use Rattle.worked_runs.specs.TaintedFaultHides.{tainted_fault_hides}
+use Rattle.worked_runs.specs.TaintedLink.{tainted_link}
+use Rattle.worked_runs.specs.TargetReplaced.{target_replaced}
+use Rattle.worked_runs.specs.TwoJoins.{two_joins}
+use Rattle.worked_runs.specs.UnclearedFaultHides.{uncleared_fault_hides}
+use Rattle.worked_runs.specs.ViolatedBehindAYoungerStore.{violated_behind_a_younger_store}
+use Rattle.worked_runs.specs.ViolatedWithoutData.{violated_without_data}
+use Rattle.worked_runs.specs.VisibleFaultGiven.{visible_fault_given}
+use Rattle.worked_runs.specs.WaitingFenceIsSafe.{waiting_fence_is_safe}
+use Rattle.worked_runs.specs.WaitingJalIsSafe.{waiting_jal_is_safe}
+use Rattle.worked_runs.specs.WaitingJalrIsUnsafe.{waiting_jalr_is_unsafe}
 use Rattle.worked_runs.specs.WaitingLoadMovesNothing.{waiting_load_moves_nothing}
+use Rattle.worked_runs.specs.WaitingLuiIsSafe.{waiting_lui_is_safe}
+use Rattle.worked_runs.specs.WaitingProductIsSafe.{waiting_product_is_safe}
+use Rattle.worked_runs.specs.WaitingStoreHidesNothing.{waiting_store_hides_nothing}
 use Rattle.worked_runs.specs.WrongReturnPops.{wrong_return_pops}
 use Rattle.worked_runs.specs.YoungerAddress.{younger_address}
 use Rattle.worked_runs.specs.YoungerStore.{younger_store}
+use Rattle.worked_runs.specs.YoungerStoreHidesNothing.{younger_store_hides_nothing}
 use Rattle.worked_runs.specs.Agreement.{Agrees}
 use Rattle.worked_runs.specs.Runs.{runs}
 use Rattle.worked_runs.proofs.Agreed.{agrees}
@@ -168,6 +223,33 @@ unfolding ones encode scan_numeral digits count_leading_zeros chars is_utf8 skip
     second_fault sections_fault top_fault half has_magic word header_fault code_of ram_after ram_fault segment_at
     end_line cycle fetch rename retire event_text events_text row_text rows_text trace_text
 across_two_lines_agrees = agrees across_two_lines (record { version = 2; numbers = 2 ∷ 2 ∷ 16 ∷ 8 ∷ 4 ∷ 4 ∷ 8 ∷ 2 ∷ 3 ∷ 16 ∷ 4 ∷ 2 ∷ 2 ∷ 16 ∷ 2 ∷ 10 ∷ 2 ∷ 65536 ∷ 65536 ∷ 1 ∷ 0 ∷ 0 ∷ 0 ∷ 0 ∷ 1 ∷ 2 ∷ 0 ∷ []; model = Spectre; defence = Stt }) refl refl refl refl refl
+
+bit_asks_for_addresses_agrees : Agrees bit_asks_for_addresses
+unfolding ones encode scan_numeral digits count_leading_zeros chars is_utf8 skip_from skip_ws decimal_number number
+    plain_number underscore_fits unquoted word_len word_value body key_after one_line quoted simple_key special atom
+    expression header_key key_equals line lines parse_document skip_bom val along_dots along_header at_key define
+    decode zeros description_of document_fault end_fault key_fault keys_fault latency_fault registers_fault
+    second_fault sections_fault top_fault half has_magic word header_fault code_of ram_after ram_fault segment_at
+    end_line cycle fetch rename retire event_text events_text row_text rows_text trace_text
+bit_asks_for_addresses_agrees = agrees bit_asks_for_addresses (record { version = 2; numbers = 2 ∷ 2 ∷ 16 ∷ 8 ∷ 4 ∷ 4 ∷ 8 ∷ 2 ∷ 3 ∷ 16 ∷ 4 ∷ 2 ∷ 2 ∷ 16 ∷ 2 ∷ 10 ∷ 2 ∷ 65536 ∷ 65536 ∷ 0 ∷ 1 ∷ 0 ∷ 0 ∷ 0 ∷ 1 ∷ 2 ∷ 0 ∷ []; model = Spectre; defence = Stt }) refl refl refl refl refl
+
+bit_asks_for_no_clearing_agrees : Agrees bit_asks_for_no_clearing
+unfolding ones encode scan_numeral digits count_leading_zeros chars is_utf8 skip_from skip_ws decimal_number number
+    plain_number underscore_fits unquoted word_len word_value body key_after one_line quoted simple_key special atom
+    expression header_key key_equals line lines parse_document skip_bom val along_dots along_header at_key define
+    decode zeros description_of document_fault end_fault key_fault keys_fault latency_fault registers_fault
+    second_fault sections_fault top_fault half has_magic word header_fault code_of ram_after ram_fault segment_at
+    end_line cycle fetch rename retire event_text events_text row_text rows_text trace_text
+bit_asks_for_no_clearing_agrees = agrees bit_asks_for_no_clearing (record { version = 2; numbers = 2 ∷ 2 ∷ 16 ∷ 8 ∷ 4 ∷ 4 ∷ 8 ∷ 2 ∷ 3 ∷ 16 ∷ 4 ∷ 2 ∷ 2 ∷ 16 ∷ 2 ∷ 10 ∷ 2 ∷ 65536 ∷ 65536 ∷ 0 ∷ 1 ∷ 0 ∷ 0 ∷ 0 ∷ 1 ∷ 2 ∷ 0 ∷ []; model = Spectre; defence = Stt }) refl refl refl refl refl
+
+bits_stay_set_agrees : Agrees bits_stay_set
+unfolding ones encode scan_numeral digits count_leading_zeros chars is_utf8 skip_from skip_ws decimal_number number
+    plain_number underscore_fits unquoted word_len word_value body key_after one_line quoted simple_key special atom
+    expression header_key key_equals line lines parse_document skip_bom val along_dots along_header at_key define
+    decode zeros description_of document_fault end_fault key_fault keys_fault latency_fault registers_fault
+    second_fault sections_fault top_fault half has_magic word header_fault code_of ram_after ram_fault segment_at
+    end_line cycle fetch rename retire event_text events_text row_text rows_text trace_text
+bits_stay_set_agrees = agrees bits_stay_set (record { version = 2; numbers = 2 ∷ 2 ∷ 16 ∷ 8 ∷ 4 ∷ 4 ∷ 8 ∷ 2 ∷ 3 ∷ 16 ∷ 4 ∷ 2 ∷ 2 ∷ 16 ∷ 2 ∷ 10 ∷ 2 ∷ 65536 ∷ 65536 ∷ 0 ∷ 2 ∷ 0 ∷ 0 ∷ 0 ∷ 1 ∷ 2 ∷ 0 ∷ []; model = Spectre; defence = Stt }) refl refl refl refl refl
 
 branch_to_the_next_agrees : Agrees branch_to_the_next
 unfolding ones encode scan_numeral digits count_leading_zeros chars is_utf8 skip_from skip_ws decimal_number number
@@ -187,6 +269,15 @@ unfolding ones encode scan_numeral digits count_leading_zeros chars is_utf8 skip
     end_line cycle fetch rename retire event_text events_text row_text rows_text trace_text
 byte_at_its_end_covered_agrees = agrees byte_at_its_end_covered (record { version = 2; numbers = 2 ∷ 2 ∷ 16 ∷ 8 ∷ 4 ∷ 4 ∷ 8 ∷ 2 ∷ 3 ∷ 16 ∷ 4 ∷ 2 ∷ 2 ∷ 16 ∷ 2 ∷ 10 ∷ 2 ∷ 65536 ∷ 65536 ∷ 1 ∷ 0 ∷ 0 ∷ 0 ∷ 0 ∷ 1 ∷ 2 ∷ 0 ∷ []; model = Spectre; defence = Stt }) refl refl refl refl refl
 
+cleared_at_a_squash_agrees : Agrees cleared_at_a_squash
+unfolding ones encode scan_numeral digits count_leading_zeros chars is_utf8 skip_from skip_ws decimal_number number
+    plain_number underscore_fits unquoted word_len word_value body key_after one_line quoted simple_key special atom
+    expression header_key key_equals line lines parse_document skip_bom val along_dots along_header at_key define
+    decode zeros description_of document_fault end_fault key_fault keys_fault latency_fault registers_fault
+    second_fault sections_fault top_fault half has_magic word header_fault code_of ram_after ram_fault segment_at
+    end_line cycle fetch rename retire event_text events_text row_text rows_text trace_text
+cleared_at_a_squash_agrees = agrees cleared_at_a_squash (record { version = 2; numbers = 2 ∷ 2 ∷ 16 ∷ 8 ∷ 4 ∷ 4 ∷ 8 ∷ 2 ∷ 3 ∷ 16 ∷ 4 ∷ 2 ∷ 2 ∷ 16 ∷ 2 ∷ 10 ∷ 2 ∷ 65536 ∷ 65536 ∷ 0 ∷ 16 ∷ 0 ∷ 0 ∷ 0 ∷ 1 ∷ 2 ∷ 0 ∷ []; model = Spectre; defence = Stt }) refl refl refl refl refl
+
 covered_line_is_accessed_agrees : Agrees covered_line_is_accessed
 unfolding ones encode scan_numeral digits count_leading_zeros chars is_utf8 skip_from skip_ws decimal_number number
     plain_number underscore_fits unquoted word_len word_value body key_after one_line quoted simple_key special atom
@@ -195,6 +286,42 @@ unfolding ones encode scan_numeral digits count_leading_zeros chars is_utf8 skip
     second_fault sections_fault top_fault half has_magic word header_fault code_of ram_after ram_fault segment_at
     end_line cycle fetch rename retire event_text events_text row_text rows_text trace_text
 covered_line_is_accessed_agrees = agrees covered_line_is_accessed (record { version = 2; numbers = 2 ∷ 2 ∷ 16 ∷ 8 ∷ 4 ∷ 4 ∷ 8 ∷ 2 ∷ 3 ∷ 16 ∷ 4 ∷ 2 ∷ 2 ∷ 16 ∷ 2 ∷ 10 ∷ 2 ∷ 65536 ∷ 65536 ∷ 1 ∷ 0 ∷ 0 ∷ 0 ∷ 0 ∷ 1 ∷ 2 ∷ 0 ∷ []; model = Spectre; defence = Stt }) refl refl refl refl refl
+
+divider_kept_at_a_violation_agrees : Agrees divider_kept_at_a_violation
+unfolding ones encode scan_numeral digits count_leading_zeros chars is_utf8 skip_from skip_ws decimal_number number
+    plain_number underscore_fits unquoted word_len word_value body key_after one_line quoted simple_key special atom
+    expression header_key key_equals line lines parse_document skip_bom val along_dots along_header at_key define
+    decode zeros description_of document_fault end_fault key_fault keys_fault latency_fault registers_fault
+    second_fault sections_fault top_fault half has_magic word header_fault code_of ram_after ram_fault segment_at
+    end_line cycle fetch rename retire event_text events_text row_text rows_text trace_text
+divider_kept_at_a_violation_agrees = agrees divider_kept_at_a_violation (record { version = 2; numbers = 2 ∷ 2 ∷ 16 ∷ 8 ∷ 4 ∷ 4 ∷ 8 ∷ 2 ∷ 3 ∷ 16 ∷ 4 ∷ 2 ∷ 2 ∷ 16 ∷ 2 ∷ 10 ∷ 2 ∷ 65536 ∷ 65536 ∷ 0 ∷ 16 ∷ 0 ∷ 0 ∷ 0 ∷ 1 ∷ 2 ∷ 0 ∷ []; model = Spectre; defence = Stt }) refl refl refl refl refl
+
+done_branch_is_unsafe_agrees : Agrees done_branch_is_unsafe
+unfolding ones encode scan_numeral digits count_leading_zeros chars is_utf8 skip_from skip_ws decimal_number number
+    plain_number underscore_fits unquoted word_len word_value body key_after one_line quoted simple_key special atom
+    expression header_key key_equals line lines parse_document skip_bom val along_dots along_header at_key define
+    decode zeros description_of document_fault end_fault key_fault keys_fault latency_fault registers_fault
+    second_fault sections_fault top_fault half has_magic word header_fault code_of ram_after ram_fault segment_at
+    end_line cycle fetch rename retire event_text events_text row_text rows_text trace_text
+done_branch_is_unsafe_agrees = agrees done_branch_is_unsafe (record { version = 2; numbers = 2 ∷ 2 ∷ 16 ∷ 8 ∷ 4 ∷ 4 ∷ 8 ∷ 2 ∷ 3 ∷ 16 ∷ 4 ∷ 2 ∷ 2 ∷ 16 ∷ 2 ∷ 10 ∷ 2 ∷ 65536 ∷ 65536 ∷ 0 ∷ 0 ∷ 0 ∷ 0 ∷ 0 ∷ 1 ∷ 2 ∷ 0 ∷ []; model = Futuristic; defence = Stt }) refl refl refl refl refl
+
+fault_held_agrees : Agrees fault_held
+unfolding ones encode scan_numeral digits count_leading_zeros chars is_utf8 skip_from skip_ws decimal_number number
+    plain_number underscore_fits unquoted word_len word_value body key_after one_line quoted simple_key special atom
+    expression header_key key_equals line lines parse_document skip_bom val along_dots along_header at_key define
+    decode zeros description_of document_fault end_fault key_fault keys_fault latency_fault registers_fault
+    second_fault sections_fault top_fault half has_magic word header_fault code_of ram_after ram_fault segment_at
+    end_line cycle fetch rename retire event_text events_text row_text rows_text trace_text
+fault_held_agrees = agrees fault_held (record { version = 2; numbers = 2 ∷ 2 ∷ 16 ∷ 8 ∷ 4 ∷ 4 ∷ 8 ∷ 2 ∷ 3 ∷ 16 ∷ 4 ∷ 2 ∷ 2 ∷ 16 ∷ 2 ∷ 10 ∷ 2 ∷ 65536 ∷ 65536 ∷ 0 ∷ 0 ∷ 0 ∷ 0 ∷ 0 ∷ 1 ∷ 2 ∷ 0 ∷ []; model = Spectre; defence = Hold }) refl refl refl refl refl
+
+faulting_branch_squashes_agrees : Agrees faulting_branch_squashes
+unfolding ones encode scan_numeral digits count_leading_zeros chars is_utf8 skip_from skip_ws decimal_number number
+    plain_number underscore_fits unquoted word_len word_value body key_after one_line quoted simple_key special atom
+    expression header_key key_equals line lines parse_document skip_bom val along_dots along_header at_key define
+    decode zeros description_of document_fault end_fault key_fault keys_fault latency_fault registers_fault
+    second_fault sections_fault top_fault half has_magic word header_fault code_of ram_after ram_fault segment_at
+    end_line cycle fetch rename retire event_text events_text row_text rows_text trace_text
+faulting_branch_squashes_agrees = agrees faulting_branch_squashes (record { version = 1; numbers = 2 ∷ 2 ∷ 16 ∷ 8 ∷ 4 ∷ 4 ∷ 8 ∷ 2 ∷ 3 ∷ 2 ∷ 4 ∷ 2 ∷ 2 ∷ 16 ∷ 2 ∷ 10 ∷ 2 ∷ 65536 ∷ 65536 ∷ 0 ∷ 0 ∷ 0 ∷ 0 ∷ 0 ∷ 1 ∷ 2 ∷ 0 ∷ []; model = Spectre; defence = Stt }) refl refl refl refl refl
 
 faulting_load_agrees : Agrees faulting_load
 unfolding ones encode scan_numeral digits count_leading_zeros chars is_utf8 skip_from skip_ws decimal_number number
@@ -214,6 +341,42 @@ unfolding ones encode scan_numeral digits count_leading_zeros chars is_utf8 skip
     end_line cycle fetch rename retire event_text events_text row_text rows_text trace_text
 faulting_store_agrees = agrees faulting_store (record { version = 2; numbers = 2 ∷ 2 ∷ 16 ∷ 8 ∷ 4 ∷ 4 ∷ 8 ∷ 2 ∷ 3 ∷ 16 ∷ 4 ∷ 2 ∷ 2 ∷ 16 ∷ 2 ∷ 10 ∷ 2 ∷ 65536 ∷ 65536 ∷ 0 ∷ 0 ∷ 0 ∷ 0 ∷ 0 ∷ 1 ∷ 2 ∷ 0 ∷ []; model = Spectre; defence = Stt }) refl refl refl refl refl
 
+fill_leaves_second_agrees : Agrees fill_leaves_second
+unfolding ones encode scan_numeral digits count_leading_zeros chars is_utf8 skip_from skip_ws decimal_number number
+    plain_number underscore_fits unquoted word_len word_value body key_after one_line quoted simple_key special atom
+    expression header_key key_equals line lines parse_document skip_bom val along_dots along_header at_key define
+    decode zeros description_of document_fault end_fault key_fault keys_fault latency_fault registers_fault
+    second_fault sections_fault top_fault half has_magic word header_fault code_of ram_after ram_fault segment_at
+    end_line cycle fetch rename retire event_text events_text row_text rows_text trace_text
+fill_leaves_second_agrees = agrees fill_leaves_second (record { version = 2; numbers = 2 ∷ 2 ∷ 16 ∷ 8 ∷ 4 ∷ 4 ∷ 8 ∷ 2 ∷ 3 ∷ 16 ∷ 4 ∷ 1 ∷ 1 ∷ 16 ∷ 2 ∷ 10 ∷ 2 ∷ 65536 ∷ 65536 ∷ 0 ∷ 0 ∷ 0 ∷ 0 ∷ 1 ∷ 2 ∷ 9 ∷ 0 ∷ []; model = Spectre; defence = Stt }) refl refl refl refl refl
+
+fills_as_taken_agrees : Agrees fills_as_taken
+unfolding ones encode scan_numeral digits count_leading_zeros chars is_utf8 skip_from skip_ws decimal_number number
+    plain_number underscore_fits unquoted word_len word_value body key_after one_line quoted simple_key special atom
+    expression header_key key_equals line lines parse_document skip_bom val along_dots along_header at_key define
+    decode zeros description_of document_fault end_fault key_fault keys_fault latency_fault registers_fault
+    second_fault sections_fault top_fault half has_magic word header_fault code_of ram_after ram_fault segment_at
+    end_line cycle fetch rename retire event_text events_text row_text rows_text trace_text
+fills_as_taken_agrees = agrees fills_as_taken (record { version = 2; numbers = 4 ∷ 2 ∷ 16 ∷ 8 ∷ 4 ∷ 4 ∷ 8 ∷ 2 ∷ 3 ∷ 16 ∷ 4 ∷ 1 ∷ 1 ∷ 16 ∷ 2 ∷ 10 ∷ 2 ∷ 65536 ∷ 65536 ∷ 0 ∷ 0 ∷ 0 ∷ 0 ∷ 1 ∷ 4 ∷ 6 ∷ 0 ∷ []; model = Spectre; defence = Stt }) refl refl refl refl refl
+
+five_returns_agrees : Agrees five_returns
+unfolding ones encode scan_numeral digits count_leading_zeros chars is_utf8 skip_from skip_ws decimal_number number
+    plain_number underscore_fits unquoted word_len word_value body key_after one_line quoted simple_key special atom
+    expression header_key key_equals line lines parse_document skip_bom val along_dots along_header at_key define
+    decode zeros description_of document_fault end_fault key_fault keys_fault latency_fault registers_fault
+    second_fault sections_fault top_fault half has_magic word header_fault code_of ram_after ram_fault segment_at
+    end_line cycle fetch rename retire event_text events_text row_text rows_text trace_text
+five_returns_agrees = agrees five_returns (record { version = 2; numbers = 2 ∷ 2 ∷ 16 ∷ 8 ∷ 4 ∷ 4 ∷ 8 ∷ 2 ∷ 3 ∷ 16 ∷ 4 ∷ 2 ∷ 2 ∷ 16 ∷ 2 ∷ 10 ∷ 2 ∷ 65536 ∷ 65536 ∷ 0 ∷ 0 ∷ 0 ∷ 5 ∷ 0 ∷ 1 ∷ 2 ∷ 0 ∷ []; model = Spectre; defence = Stt }) refl refl refl refl refl
+
+five_ways_in_second_agrees : Agrees five_ways_in_second
+unfolding ones encode scan_numeral digits count_leading_zeros chars is_utf8 skip_from skip_ws decimal_number number
+    plain_number underscore_fits unquoted word_len word_value body key_after one_line quoted simple_key special atom
+    expression header_key key_equals line lines parse_document skip_bom val along_dots along_header at_key define
+    decode zeros description_of document_fault end_fault key_fault keys_fault latency_fault registers_fault
+    second_fault sections_fault top_fault half has_magic word header_fault code_of ram_after ram_fault segment_at
+    end_line cycle fetch rename retire event_text events_text row_text rows_text trace_text
+five_ways_in_second_agrees = agrees five_ways_in_second (record { version = 2; numbers = 2 ∷ 2 ∷ 16 ∷ 8 ∷ 4 ∷ 4 ∷ 8 ∷ 2 ∷ 3 ∷ 16 ∷ 4 ∷ 1 ∷ 1 ∷ 16 ∷ 2 ∷ 10 ∷ 2 ∷ 65536 ∷ 65536 ∷ 0 ∷ 0 ∷ 0 ∷ 0 ∷ 1 ∷ 5 ∷ 5 ∷ 0 ∷ []; model = Spectre; defence = Stt }) refl refl refl refl refl
+
 forwarded_across_lines_agrees : Agrees forwarded_across_lines
 unfolding ones encode scan_numeral digits count_leading_zeros chars is_utf8 skip_from skip_ws decimal_number number
     plain_number underscore_fits unquoted word_len word_value body key_after one_line quoted simple_key special atom
@@ -223,6 +386,15 @@ unfolding ones encode scan_numeral digits count_leading_zeros chars is_utf8 skip
     end_line cycle fetch rename retire event_text events_text row_text rows_text trace_text
 forwarded_across_lines_agrees = agrees forwarded_across_lines (record { version = 2; numbers = 2 ∷ 2 ∷ 16 ∷ 8 ∷ 4 ∷ 4 ∷ 8 ∷ 2 ∷ 3 ∷ 16 ∷ 4 ∷ 2 ∷ 2 ∷ 16 ∷ 2 ∷ 10 ∷ 2 ∷ 65536 ∷ 65536 ∷ 1 ∷ 0 ∷ 0 ∷ 0 ∷ 0 ∷ 1 ∷ 2 ∷ 0 ∷ []; model = Spectre; defence = Stt }) refl refl refl refl refl
 
+forwarded_moves_no_line_agrees : Agrees forwarded_moves_no_line
+unfolding ones encode scan_numeral digits count_leading_zeros chars is_utf8 skip_from skip_ws decimal_number number
+    plain_number underscore_fits unquoted word_len word_value body key_after one_line quoted simple_key special atom
+    expression header_key key_equals line lines parse_document skip_bom val along_dots along_header at_key define
+    decode zeros description_of document_fault end_fault key_fault keys_fault latency_fault registers_fault
+    second_fault sections_fault top_fault half has_magic word header_fault code_of ram_after ram_fault segment_at
+    end_line cycle fetch rename retire event_text events_text row_text rows_text trace_text
+forwarded_moves_no_line_agrees = agrees forwarded_moves_no_line (record { version = 1; numbers = 2 ∷ 2 ∷ 16 ∷ 8 ∷ 4 ∷ 4 ∷ 8 ∷ 2 ∷ 3 ∷ 16 ∷ 4 ∷ 1 ∷ 2 ∷ 16 ∷ 2 ∷ 10 ∷ 2 ∷ 65536 ∷ 65536 ∷ 0 ∷ 0 ∷ 0 ∷ 0 ∷ 0 ∷ 1 ∷ 2 ∷ 0 ∷ []; model = Spectre; defence = Stt }) refl refl refl refl refl
+
 found_in_second_agrees : Agrees found_in_second
 unfolding ones encode scan_numeral digits count_leading_zeros chars is_utf8 skip_from skip_ws decimal_number number
     plain_number underscore_fits unquoted word_len word_value body key_after one_line quoted simple_key special atom
@@ -231,6 +403,15 @@ unfolding ones encode scan_numeral digits count_leading_zeros chars is_utf8 skip
     second_fault sections_fault top_fault half has_magic word header_fault code_of ram_after ram_fault segment_at
     end_line cycle fetch rename retire event_text events_text row_text rows_text trace_text
 found_in_second_agrees = agrees found_in_second (record { version = 2; numbers = 2 ∷ 2 ∷ 16 ∷ 8 ∷ 4 ∷ 4 ∷ 8 ∷ 2 ∷ 3 ∷ 16 ∷ 4 ∷ 1 ∷ 1 ∷ 16 ∷ 2 ∷ 10 ∷ 2 ∷ 65536 ∷ 65536 ∷ 0 ∷ 0 ∷ 0 ∷ 0 ∷ 1 ∷ 2 ∷ 5 ∷ 0 ∷ []; model = Spectre; defence = Stt }) refl refl refl refl refl
+
+four_sets_agrees : Agrees four_sets
+unfolding ones encode scan_numeral digits count_leading_zeros chars is_utf8 skip_from skip_ws decimal_number number
+    plain_number underscore_fits unquoted word_len word_value body key_after one_line quoted simple_key special atom
+    expression header_key key_equals line lines parse_document skip_bom val along_dots along_header at_key define
+    decode zeros description_of document_fault end_fault key_fault keys_fault latency_fault registers_fault
+    second_fault sections_fault top_fault half has_magic word header_fault code_of ram_after ram_fault segment_at
+    end_line cycle fetch rename retire event_text events_text row_text rows_text trace_text
+four_sets_agrees = agrees four_sets (record { version = 2; numbers = 2 ∷ 2 ∷ 16 ∷ 8 ∷ 4 ∷ 4 ∷ 8 ∷ 2 ∷ 3 ∷ 16 ∷ 4 ∷ 4 ∷ 1 ∷ 16 ∷ 2 ∷ 10 ∷ 2 ∷ 65536 ∷ 65536 ∷ 0 ∷ 0 ∷ 0 ∷ 0 ∷ 0 ∷ 1 ∷ 2 ∷ 0 ∷ []; model = Spectre; defence = Stt }) refl refl refl refl refl
 
 full_stack_agrees : Agrees full_stack
 unfolding ones encode scan_numeral digits count_leading_zeros chars is_utf8 skip_from skip_ws decimal_number number
@@ -259,6 +440,15 @@ unfolding ones encode scan_numeral digits count_leading_zeros chars is_utf8 skip
     end_line cycle fetch rename retire event_text events_text row_text rows_text trace_text
 half_issued_data_agrees = agrees half_issued_data (record { version = 2; numbers = 2 ∷ 2 ∷ 16 ∷ 3 ∷ 4 ∷ 4 ∷ 8 ∷ 2 ∷ 3 ∷ 16 ∷ 4 ∷ 2 ∷ 2 ∷ 16 ∷ 2 ∷ 10 ∷ 2 ∷ 65536 ∷ 65536 ∷ 0 ∷ 0 ∷ 0 ∷ 0 ∷ 0 ∷ 1 ∷ 2 ∷ 0 ∷ []; model = Spectre; defence = Stt }) refl refl refl refl refl
 
+held_under_futuristic_agrees : Agrees held_under_futuristic
+unfolding ones encode scan_numeral digits count_leading_zeros chars is_utf8 skip_from skip_ws decimal_number number
+    plain_number underscore_fits unquoted word_len word_value body key_after one_line quoted simple_key special atom
+    expression header_key key_equals line lines parse_document skip_bom val along_dots along_header at_key define
+    decode zeros description_of document_fault end_fault key_fault keys_fault latency_fault registers_fault
+    second_fault sections_fault top_fault half has_magic word header_fault code_of ram_after ram_fault segment_at
+    end_line cycle fetch rename retire event_text events_text row_text rows_text trace_text
+held_under_futuristic_agrees = agrees held_under_futuristic (record { version = 2; numbers = 2 ∷ 2 ∷ 16 ∷ 8 ∷ 4 ∷ 4 ∷ 8 ∷ 2 ∷ 3 ∷ 16 ∷ 4 ∷ 2 ∷ 2 ∷ 16 ∷ 2 ∷ 10 ∷ 2 ∷ 65536 ∷ 65536 ∷ 0 ∷ 0 ∷ 0 ∷ 0 ∷ 0 ∷ 1 ∷ 2 ∷ 0 ∷ []; model = Futuristic; defence = Hold }) refl refl refl refl refl
+
 hidden_base_agrees : Agrees hidden_base
 unfolding ones encode scan_numeral digits count_leading_zeros chars is_utf8 skip_from skip_ws decimal_number number
     plain_number underscore_fits unquoted word_len word_value body key_after one_line quoted simple_key special atom
@@ -276,6 +466,42 @@ unfolding ones encode scan_numeral digits count_leading_zeros chars is_utf8 skip
     second_fault sections_fault top_fault half has_magic word header_fault code_of ram_after ram_fault segment_at
     end_line cycle fetch rename retire event_text events_text row_text rows_text trace_text
 history_as_fetched_agrees = agrees history_as_fetched (record { version = 2; numbers = 2 ∷ 2 ∷ 16 ∷ 8 ∷ 4 ∷ 4 ∷ 8 ∷ 2 ∷ 3 ∷ 16 ∷ 4 ∷ 2 ∷ 2 ∷ 16 ∷ 2 ∷ 10 ∷ 2 ∷ 65536 ∷ 65536 ∷ 0 ∷ 0 ∷ 3 ∷ 0 ∷ 0 ∷ 1 ∷ 2 ∷ 0 ∷ []; model = Spectre; defence = Stt }) refl refl refl refl refl
+
+history_behind_a_jalr_agrees : Agrees history_behind_a_jalr
+unfolding ones encode scan_numeral digits count_leading_zeros chars is_utf8 skip_from skip_ws decimal_number number
+    plain_number underscore_fits unquoted word_len word_value body key_after one_line quoted simple_key special atom
+    expression header_key key_equals line lines parse_document skip_bom val along_dots along_header at_key define
+    decode zeros description_of document_fault end_fault key_fault keys_fault latency_fault registers_fault
+    second_fault sections_fault top_fault half has_magic word header_fault code_of ram_after ram_fault segment_at
+    end_line cycle fetch rename retire event_text events_text row_text rows_text trace_text
+history_behind_a_jalr_agrees = agrees history_behind_a_jalr (record { version = 2; numbers = 2 ∷ 2 ∷ 16 ∷ 8 ∷ 4 ∷ 4 ∷ 8 ∷ 2 ∷ 3 ∷ 16 ∷ 4 ∷ 2 ∷ 2 ∷ 16 ∷ 2 ∷ 10 ∷ 2 ∷ 65536 ∷ 65536 ∷ 0 ∷ 0 ∷ 1 ∷ 0 ∷ 0 ∷ 1 ∷ 2 ∷ 0 ∷ []; model = Spectre; defence = Stt }) refl refl refl refl refl
+
+hit_and_join_agrees : Agrees hit_and_join
+unfolding ones encode scan_numeral digits count_leading_zeros chars is_utf8 skip_from skip_ws decimal_number number
+    plain_number underscore_fits unquoted word_len word_value body key_after one_line quoted simple_key special atom
+    expression header_key key_equals line lines parse_document skip_bom val along_dots along_header at_key define
+    decode zeros description_of document_fault end_fault key_fault keys_fault latency_fault registers_fault
+    second_fault sections_fault top_fault half has_magic word header_fault code_of ram_after ram_fault segment_at
+    end_line cycle fetch rename retire event_text events_text row_text rows_text trace_text
+hit_and_join_agrees = agrees hit_and_join (record { version = 2; numbers = 2 ∷ 2 ∷ 16 ∷ 8 ∷ 4 ∷ 4 ∷ 8 ∷ 2 ∷ 3 ∷ 16 ∷ 4 ∷ 2 ∷ 2 ∷ 16 ∷ 2 ∷ 10 ∷ 4 ∷ 65536 ∷ 65536 ∷ 1 ∷ 0 ∷ 0 ∷ 0 ∷ 0 ∷ 1 ∷ 2 ∷ 0 ∷ []; model = Spectre; defence = Stt }) refl refl refl refl refl
+
+hit_leaves_second_agrees : Agrees hit_leaves_second
+unfolding ones encode scan_numeral digits count_leading_zeros chars is_utf8 skip_from skip_ws decimal_number number
+    plain_number underscore_fits unquoted word_len word_value body key_after one_line quoted simple_key special atom
+    expression header_key key_equals line lines parse_document skip_bom val along_dots along_header at_key define
+    decode zeros description_of document_fault end_fault key_fault keys_fault latency_fault registers_fault
+    second_fault sections_fault top_fault half has_magic word header_fault code_of ram_after ram_fault segment_at
+    end_line cycle fetch rename retire event_text events_text row_text rows_text trace_text
+hit_leaves_second_agrees = agrees hit_leaves_second (record { version = 2; numbers = 2 ∷ 2 ∷ 16 ∷ 8 ∷ 4 ∷ 4 ∷ 8 ∷ 2 ∷ 3 ∷ 16 ∷ 4 ∷ 1 ∷ 2 ∷ 16 ∷ 2 ∷ 10 ∷ 2 ∷ 65536 ∷ 65536 ∷ 0 ∷ 0 ∷ 0 ∷ 0 ∷ 1 ∷ 2 ∷ 5 ∷ 0 ∷ []; model = Spectre; defence = Stt }) refl refl refl refl refl
+
+join_leaves_second_agrees : Agrees join_leaves_second
+unfolding ones encode scan_numeral digits count_leading_zeros chars is_utf8 skip_from skip_ws decimal_number number
+    plain_number underscore_fits unquoted word_len word_value body key_after one_line quoted simple_key special atom
+    expression header_key key_equals line lines parse_document skip_bom val along_dots along_header at_key define
+    decode zeros description_of document_fault end_fault key_fault keys_fault latency_fault registers_fault
+    second_fault sections_fault top_fault half has_magic word header_fault code_of ram_after ram_fault segment_at
+    end_line cycle fetch rename retire event_text events_text row_text rows_text trace_text
+join_leaves_second_agrees = agrees join_leaves_second (record { version = 2; numbers = 2 ∷ 2 ∷ 16 ∷ 8 ∷ 4 ∷ 4 ∷ 8 ∷ 2 ∷ 3 ∷ 16 ∷ 4 ∷ 1 ∷ 1 ∷ 16 ∷ 2 ∷ 10 ∷ 2 ∷ 65536 ∷ 65536 ∷ 0 ∷ 0 ∷ 0 ∷ 0 ∷ 2 ∷ 2 ∷ 9 ∷ 0 ∷ []; model = Spectre; defence = Stt }) refl refl refl refl refl
 
 joined_line_takes_no_register_agrees : Agrees joined_line_takes_no_register
 unfolding ones encode scan_numeral digits count_leading_zeros chars is_utf8 skip_from skip_ws decimal_number number
@@ -358,6 +584,15 @@ unfolding ones encode scan_numeral digits count_leading_zeros chars is_utf8 skip
     end_line cycle fetch rename retire event_text events_text row_text rows_text trace_text
 levels_drop_apart_agrees = agrees levels_drop_apart (record { version = 2; numbers = 2 ∷ 2 ∷ 16 ∷ 8 ∷ 4 ∷ 4 ∷ 8 ∷ 2 ∷ 3 ∷ 16 ∷ 4 ∷ 1 ∷ 2 ∷ 16 ∷ 2 ∷ 10 ∷ 2 ∷ 65536 ∷ 65536 ∷ 0 ∷ 0 ∷ 0 ∷ 0 ∷ 1 ∷ 1 ∷ 5 ∷ 0 ∷ []; model = Spectre; defence = Stt }) refl refl refl refl refl
 
+link_is_no_root_agrees : Agrees link_is_no_root
+unfolding ones encode scan_numeral digits count_leading_zeros chars is_utf8 skip_from skip_ws decimal_number number
+    plain_number underscore_fits unquoted word_len word_value body key_after one_line quoted simple_key special atom
+    expression header_key key_equals line lines parse_document skip_bom val along_dots along_header at_key define
+    decode zeros description_of document_fault end_fault key_fault keys_fault latency_fault registers_fault
+    second_fault sections_fault top_fault half has_magic word header_fault code_of ram_after ram_fault segment_at
+    end_line cycle fetch rename retire event_text events_text row_text rows_text trace_text
+link_is_no_root_agrees = agrees link_is_no_root (record { version = 2; numbers = 2 ∷ 2 ∷ 16 ∷ 8 ∷ 4 ∷ 4 ∷ 8 ∷ 2 ∷ 3 ∷ 16 ∷ 4 ∷ 2 ∷ 2 ∷ 16 ∷ 2 ∷ 10 ∷ 2 ∷ 65536 ∷ 65536 ∷ 0 ∷ 1 ∷ 0 ∷ 0 ∷ 0 ∷ 1 ∷ 2 ∷ 0 ∷ []; model = Futuristic; defence = Stt }) refl refl refl refl refl
+
 link_through_x1_agrees : Agrees link_through_x1
 unfolding ones encode scan_numeral digits count_leading_zeros chars is_utf8 skip_from skip_ws decimal_number number
     plain_number underscore_fits unquoted word_len word_value body key_after one_line quoted simple_key special atom
@@ -375,6 +610,15 @@ unfolding ones encode scan_numeral digits count_leading_zeros chars is_utf8 skip
     second_fault sections_fault top_fault half has_magic word header_fault code_of ram_after ram_fault segment_at
     end_line cycle fetch rename retire event_text events_text row_text rows_text trace_text
 linking_jump_agrees = agrees linking_jump (record { version = 2; numbers = 2 ∷ 2 ∷ 16 ∷ 8 ∷ 4 ∷ 4 ∷ 8 ∷ 2 ∷ 3 ∷ 16 ∷ 4 ∷ 2 ∷ 2 ∷ 16 ∷ 2 ∷ 10 ∷ 2 ∷ 65536 ∷ 65536 ∷ 0 ∷ 0 ∷ 0 ∷ 4 ∷ 0 ∷ 1 ∷ 2 ∷ 0 ∷ []; model = Spectre; defence = Stt }) refl refl refl refl refl
+
+load_moves_the_line_that_hits_agrees : Agrees load_moves_the_line_that_hits
+unfolding ones encode scan_numeral digits count_leading_zeros chars is_utf8 skip_from skip_ws decimal_number number
+    plain_number underscore_fits unquoted word_len word_value body key_after one_line quoted simple_key special atom
+    expression header_key key_equals line lines parse_document skip_bom val along_dots along_header at_key define
+    decode zeros description_of document_fault end_fault key_fault keys_fault latency_fault registers_fault
+    second_fault sections_fault top_fault half has_magic word header_fault code_of ram_after ram_fault segment_at
+    end_line cycle fetch rename retire event_text events_text row_text rows_text trace_text
+load_moves_the_line_that_hits_agrees = agrees load_moves_the_line_that_hits (record { version = 2; numbers = 2 ∷ 2 ∷ 16 ∷ 8 ∷ 4 ∷ 4 ∷ 8 ∷ 2 ∷ 3 ∷ 16 ∷ 4 ∷ 1 ∷ 2 ∷ 16 ∷ 2 ∷ 10 ∷ 2 ∷ 65536 ∷ 65536 ∷ 1 ∷ 0 ∷ 0 ∷ 0 ∷ 0 ∷ 1 ∷ 2 ∷ 0 ∷ []; model = Spectre; defence = Stt }) refl refl refl refl refl
 
 load_reaches_behind_memory_agrees : Agrees load_reaches_behind_memory
 unfolding ones encode scan_numeral digits count_leading_zeros chars is_utf8 skip_from skip_ws decimal_number number
@@ -402,6 +646,15 @@ unfolding ones encode scan_numeral digits count_leading_zeros chars is_utf8 skip
     second_fault sections_fault top_fault half has_magic word header_fault code_of ram_after ram_fault segment_at
     end_line cycle fetch rename retire event_text events_text row_text rows_text trace_text
 lower_line_comes_later_agrees = agrees lower_line_comes_later (record { version = 2; numbers = 2 ∷ 2 ∷ 16 ∷ 8 ∷ 4 ∷ 4 ∷ 8 ∷ 2 ∷ 3 ∷ 16 ∷ 4 ∷ 2 ∷ 2 ∷ 16 ∷ 2 ∷ 10 ∷ 2 ∷ 65536 ∷ 65536 ∷ 1 ∷ 0 ∷ 0 ∷ 0 ∷ 0 ∷ 1 ∷ 2 ∷ 0 ∷ []; model = Spectre; defence = Stt }) refl refl refl refl refl
+
+mark_of_the_load_agrees : Agrees mark_of_the_load
+unfolding ones encode scan_numeral digits count_leading_zeros chars is_utf8 skip_from skip_ws decimal_number number
+    plain_number underscore_fits unquoted word_len word_value body key_after one_line quoted simple_key special atom
+    expression header_key key_equals line lines parse_document skip_bom val along_dots along_header at_key define
+    decode zeros description_of document_fault end_fault key_fault keys_fault latency_fault registers_fault
+    second_fault sections_fault top_fault half has_magic word header_fault code_of ram_after ram_fault segment_at
+    end_line cycle fetch rename retire event_text events_text row_text rows_text trace_text
+mark_of_the_load_agrees = agrees mark_of_the_load (record { version = 2; numbers = 2 ∷ 2 ∷ 16 ∷ 8 ∷ 4 ∷ 4 ∷ 8 ∷ 2 ∷ 3 ∷ 16 ∷ 4 ∷ 2 ∷ 2 ∷ 16 ∷ 2 ∷ 10 ∷ 2 ∷ 65536 ∷ 65536 ∷ 0 ∷ 16 ∷ 2 ∷ 0 ∷ 0 ∷ 1 ∷ 2 ∷ 0 ∷ []; model = Spectre; defence = Stt }) refl refl refl refl refl
 
 memory_and_second_agrees : Agrees memory_and_second
 unfolding ones encode scan_numeral digits count_leading_zeros chars is_utf8 skip_from skip_ws decimal_number number
@@ -565,6 +818,15 @@ unfolding ones encode scan_numeral digits count_leading_zeros chars is_utf8 skip
     end_line cycle fetch rename retire event_text events_text row_text rows_text trace_text
 mixed_second_level_2_agrees = agrees mixed_second_level_2 (record { version = 2; numbers = 1 ∷ 1 ∷ 32 ∷ 8 ∷ 4 ∷ 1 ∷ 1 ∷ 2 ∷ 4 ∷ 16 ∷ 4 ∷ 1 ∷ 1 ∷ 4 ∷ 1 ∷ 13 ∷ 2 ∷ 65536 ∷ 65536 ∷ 0 ∷ 0 ∷ 0 ∷ 0 ∷ 2 ∷ 2 ∷ 2 ∷ 1 ∷ []; model = Futuristic; defence = Stt }) refl refl refl refl refl
 
+mixed_settings_agrees : Agrees mixed_settings
+unfolding ones encode scan_numeral digits count_leading_zeros chars is_utf8 skip_from skip_ws decimal_number number
+    plain_number underscore_fits unquoted word_len word_value body key_after one_line quoted simple_key special atom
+    expression header_key key_equals line lines parse_document skip_bom val along_dots along_header at_key define
+    decode zeros description_of document_fault end_fault key_fault keys_fault latency_fault registers_fault
+    second_fault sections_fault top_fault half has_magic word header_fault code_of ram_after ram_fault segment_at
+    end_line cycle fetch rename retire event_text events_text row_text rows_text trace_text
+mixed_settings_agrees = agrees mixed_settings (record { version = 2; numbers = 4 ∷ 1 ∷ 113 ∷ 39 ∷ 64 ∷ 48 ∷ 6 ∷ 1 ∷ 1 ∷ 2 ∷ 1 ∷ 1 ∷ 1 ∷ 32 ∷ 6 ∷ 12 ∷ 1 ∷ 65536 ∷ 4096 ∷ 0 ∷ 4 ∷ 12 ∷ 2 ∷ 4 ∷ 1 ∷ 7 ∷ 1 ∷ []; model = Spectre; defence = Hold }) refl refl refl refl refl
+
 mixed_together_1_agrees : Agrees mixed_together_1
 unfolding ones encode scan_numeral digits count_leading_zeros chars is_utf8 skip_from skip_ws decimal_number number
     plain_number underscore_fits unquoted word_len word_value body key_after one_line quoted simple_key special atom
@@ -655,6 +917,78 @@ unfolding ones encode scan_numeral digits count_leading_zeros chars is_utf8 skip
     end_line cycle fetch rename retire event_text events_text row_text rows_text trace_text
 no_prefetch_without_register_agrees = agrees no_prefetch_without_register (record { version = 2; numbers = 2 ∷ 2 ∷ 16 ∷ 8 ∷ 4 ∷ 4 ∷ 8 ∷ 2 ∷ 3 ∷ 16 ∷ 4 ∷ 2 ∷ 2 ∷ 16 ∷ 2 ∷ 10 ∷ 2 ∷ 65536 ∷ 65536 ∷ 1 ∷ 0 ∷ 0 ∷ 0 ∷ 0 ∷ 1 ∷ 2 ∷ 1 ∷ []; model = Spectre; defence = Stt }) refl refl refl refl refl
 
+off_clears_at_once_agrees : Agrees off_clears_at_once
+unfolding ones encode scan_numeral digits count_leading_zeros chars is_utf8 skip_from skip_ws decimal_number number
+    plain_number underscore_fits unquoted word_len word_value body key_after one_line quoted simple_key special atom
+    expression header_key key_equals line lines parse_document skip_bom val along_dots along_header at_key define
+    decode zeros description_of document_fault end_fault key_fault keys_fault latency_fault registers_fault
+    second_fault sections_fault top_fault half has_magic word header_fault code_of ram_after ram_fault segment_at
+    end_line cycle fetch rename retire event_text events_text row_text rows_text trace_text
+off_clears_at_once_agrees = agrees off_clears_at_once (record { version = 2; numbers = 2 ∷ 2 ∷ 16 ∷ 8 ∷ 4 ∷ 4 ∷ 8 ∷ 2 ∷ 3 ∷ 16 ∷ 4 ∷ 2 ∷ 2 ∷ 16 ∷ 2 ∷ 10 ∷ 2 ∷ 65536 ∷ 65536 ∷ 0 ∷ 16 ∷ 0 ∷ 0 ∷ 0 ∷ 1 ∷ 2 ∷ 0 ∷ []; model = Off; defence = Stt }) refl refl refl refl refl
+
+off_divides_agrees : Agrees off_divides
+unfolding ones encode scan_numeral digits count_leading_zeros chars is_utf8 skip_from skip_ws decimal_number number
+    plain_number underscore_fits unquoted word_len word_value body key_after one_line quoted simple_key special atom
+    expression header_key key_equals line lines parse_document skip_bom val along_dots along_header at_key define
+    decode zeros description_of document_fault end_fault key_fault keys_fault latency_fault registers_fault
+    second_fault sections_fault top_fault half has_magic word header_fault code_of ram_after ram_fault segment_at
+    end_line cycle fetch rename retire event_text events_text row_text rows_text trace_text
+off_divides_agrees = agrees off_divides (record { version = 2; numbers = 2 ∷ 2 ∷ 16 ∷ 8 ∷ 4 ∷ 4 ∷ 8 ∷ 2 ∷ 3 ∷ 16 ∷ 4 ∷ 2 ∷ 2 ∷ 16 ∷ 2 ∷ 10 ∷ 2 ∷ 65536 ∷ 65536 ∷ 0 ∷ 0 ∷ 0 ∷ 0 ∷ 0 ∷ 1 ∷ 2 ∷ 0 ∷ []; model = Off; defence = Stt }) refl refl refl refl refl
+
+off_forwards_agrees : Agrees off_forwards
+unfolding ones encode scan_numeral digits count_leading_zeros chars is_utf8 skip_from skip_ws decimal_number number
+    plain_number underscore_fits unquoted word_len word_value body key_after one_line quoted simple_key special atom
+    expression header_key key_equals line lines parse_document skip_bom val along_dots along_header at_key define
+    decode zeros description_of document_fault end_fault key_fault keys_fault latency_fault registers_fault
+    second_fault sections_fault top_fault half has_magic word header_fault code_of ram_after ram_fault segment_at
+    end_line cycle fetch rename retire event_text events_text row_text rows_text trace_text
+off_forwards_agrees = agrees off_forwards (record { version = 2; numbers = 2 ∷ 2 ∷ 16 ∷ 8 ∷ 4 ∷ 4 ∷ 8 ∷ 2 ∷ 3 ∷ 16 ∷ 4 ∷ 2 ∷ 2 ∷ 16 ∷ 2 ∷ 10 ∷ 2 ∷ 65536 ∷ 65536 ∷ 0 ∷ 0 ∷ 0 ∷ 0 ∷ 0 ∷ 1 ∷ 2 ∷ 0 ∷ []; model = Off; defence = Stt }) refl refl refl refl refl
+
+off_holds_nothing_agrees : Agrees off_holds_nothing
+unfolding ones encode scan_numeral digits count_leading_zeros chars is_utf8 skip_from skip_ws decimal_number number
+    plain_number underscore_fits unquoted word_len word_value body key_after one_line quoted simple_key special atom
+    expression header_key key_equals line lines parse_document skip_bom val along_dots along_header at_key define
+    decode zeros description_of document_fault end_fault key_fault keys_fault latency_fault registers_fault
+    second_fault sections_fault top_fault half has_magic word header_fault code_of ram_after ram_fault segment_at
+    end_line cycle fetch rename retire event_text events_text row_text rows_text trace_text
+off_holds_nothing_agrees = agrees off_holds_nothing (record { version = 2; numbers = 2 ∷ 2 ∷ 16 ∷ 8 ∷ 4 ∷ 4 ∷ 8 ∷ 2 ∷ 3 ∷ 16 ∷ 4 ∷ 2 ∷ 2 ∷ 16 ∷ 2 ∷ 10 ∷ 2 ∷ 65536 ∷ 65536 ∷ 0 ∷ 0 ∷ 0 ∷ 0 ∷ 0 ∷ 1 ∷ 2 ∷ 0 ∷ []; model = Off; defence = Hold }) refl refl refl refl refl
+
+off_violates_agrees : Agrees off_violates
+unfolding ones encode scan_numeral digits count_leading_zeros chars is_utf8 skip_from skip_ws decimal_number number
+    plain_number underscore_fits unquoted word_len word_value body key_after one_line quoted simple_key special atom
+    expression header_key key_equals line lines parse_document skip_bom val along_dots along_header at_key define
+    decode zeros description_of document_fault end_fault key_fault keys_fault latency_fault registers_fault
+    second_fault sections_fault top_fault half has_magic word header_fault code_of ram_after ram_fault segment_at
+    end_line cycle fetch rename retire event_text events_text row_text rows_text trace_text
+off_violates_agrees = agrees off_violates (record { version = 2; numbers = 2 ∷ 2 ∷ 16 ∷ 8 ∷ 4 ∷ 4 ∷ 8 ∷ 2 ∷ 3 ∷ 16 ∷ 4 ∷ 2 ∷ 2 ∷ 16 ∷ 2 ∷ 10 ∷ 2 ∷ 65536 ∷ 65536 ∷ 0 ∷ 16 ∷ 0 ∷ 0 ∷ 0 ∷ 1 ∷ 2 ∷ 0 ∷ []; model = Off; defence = Stt }) refl refl refl refl refl
+
+older_load_hides_nothing_agrees : Agrees older_load_hides_nothing
+unfolding ones encode scan_numeral digits count_leading_zeros chars is_utf8 skip_from skip_ws decimal_number number
+    plain_number underscore_fits unquoted word_len word_value body key_after one_line quoted simple_key special atom
+    expression header_key key_equals line lines parse_document skip_bom val along_dots along_header at_key define
+    decode zeros description_of document_fault end_fault key_fault keys_fault latency_fault registers_fault
+    second_fault sections_fault top_fault half has_magic word header_fault code_of ram_after ram_fault segment_at
+    end_line cycle fetch rename retire event_text events_text row_text rows_text trace_text
+older_load_hides_nothing_agrees = agrees older_load_hides_nothing (record { version = 2; numbers = 2 ∷ 2 ∷ 16 ∷ 8 ∷ 4 ∷ 4 ∷ 8 ∷ 2 ∷ 3 ∷ 16 ∷ 4 ∷ 2 ∷ 2 ∷ 16 ∷ 2 ∷ 10 ∷ 2 ∷ 65536 ∷ 65536 ∷ 0 ∷ 0 ∷ 0 ∷ 0 ∷ 0 ∷ 1 ∷ 2 ∷ 0 ∷ []; model = Spectre; defence = Stt }) refl refl refl refl refl
+
+older_store_without_data_agrees : Agrees older_store_without_data
+unfolding ones encode scan_numeral digits count_leading_zeros chars is_utf8 skip_from skip_ws decimal_number number
+    plain_number underscore_fits unquoted word_len word_value body key_after one_line quoted simple_key special atom
+    expression header_key key_equals line lines parse_document skip_bom val along_dots along_header at_key define
+    decode zeros description_of document_fault end_fault key_fault keys_fault latency_fault registers_fault
+    second_fault sections_fault top_fault half has_magic word header_fault code_of ram_after ram_fault segment_at
+    end_line cycle fetch rename retire event_text events_text row_text rows_text trace_text
+older_store_without_data_agrees = agrees older_store_without_data (record { version = 2; numbers = 2 ∷ 2 ∷ 16 ∷ 8 ∷ 4 ∷ 4 ∷ 8 ∷ 2 ∷ 3 ∷ 16 ∷ 4 ∷ 2 ∷ 2 ∷ 16 ∷ 2 ∷ 10 ∷ 2 ∷ 65536 ∷ 65536 ∷ 0 ∷ 0 ∷ 0 ∷ 0 ∷ 0 ∷ 1 ∷ 2 ∷ 0 ∷ []; model = Spectre; defence = Stt }) refl refl refl refl refl
+
+older_tainted_address_agrees : Agrees older_tainted_address
+unfolding ones encode scan_numeral digits count_leading_zeros chars is_utf8 skip_from skip_ws decimal_number number
+    plain_number underscore_fits unquoted word_len word_value body key_after one_line quoted simple_key special atom
+    expression header_key key_equals line lines parse_document skip_bom val along_dots along_header at_key define
+    decode zeros description_of document_fault end_fault key_fault keys_fault latency_fault registers_fault
+    second_fault sections_fault top_fault half has_magic word header_fault code_of ram_after ram_fault segment_at
+    end_line cycle fetch rename retire event_text events_text row_text rows_text trace_text
+older_tainted_address_agrees = agrees older_tainted_address (record { version = 2; numbers = 4 ∷ 2 ∷ 16 ∷ 8 ∷ 4 ∷ 4 ∷ 8 ∷ 2 ∷ 3 ∷ 16 ∷ 4 ∷ 2 ∷ 2 ∷ 16 ∷ 2 ∷ 10 ∷ 2 ∷ 65536 ∷ 65536 ∷ 0 ∷ 16 ∷ 0 ∷ 0 ∷ 0 ∷ 1 ∷ 2 ∷ 0 ∷ []; model = Spectre; defence = Stt }) refl refl refl refl refl
+
 one_byte_agrees : Agrees one_byte
 unfolding ones encode scan_numeral digits count_leading_zeros chars is_utf8 skip_from skip_ws decimal_number number
     plain_number underscore_fits unquoted word_len word_value body key_after one_line quoted simple_key special atom
@@ -718,6 +1052,15 @@ unfolding ones encode scan_numeral digits count_leading_zeros chars is_utf8 skip
     end_line cycle fetch rename retire event_text events_text row_text rows_text trace_text
 prefetch_behind_the_lower_line_agrees = agrees prefetch_behind_the_lower_line (record { version = 2; numbers = 2 ∷ 2 ∷ 16 ∷ 8 ∷ 4 ∷ 4 ∷ 8 ∷ 2 ∷ 3 ∷ 16 ∷ 4 ∷ 2 ∷ 1 ∷ 16 ∷ 2 ∷ 10 ∷ 2 ∷ 65536 ∷ 65536 ∷ 1 ∷ 0 ∷ 0 ∷ 0 ∷ 0 ∷ 1 ∷ 2 ∷ 1 ∷ []; model = Spectre; defence = Stt }) refl refl refl refl refl
 
+prefetch_behind_x0_agrees : Agrees prefetch_behind_x0
+unfolding ones encode scan_numeral digits count_leading_zeros chars is_utf8 skip_from skip_ws decimal_number number
+    plain_number underscore_fits unquoted word_len word_value body key_after one_line quoted simple_key special atom
+    expression header_key key_equals line lines parse_document skip_bom val along_dots along_header at_key define
+    decode zeros description_of document_fault end_fault key_fault keys_fault latency_fault registers_fault
+    second_fault sections_fault top_fault half has_magic word header_fault code_of ram_after ram_fault segment_at
+    end_line cycle fetch rename retire event_text events_text row_text rows_text trace_text
+prefetch_behind_x0_agrees = agrees prefetch_behind_x0 (record { version = 2; numbers = 2 ∷ 2 ∷ 16 ∷ 8 ∷ 4 ∷ 4 ∷ 8 ∷ 2 ∷ 3 ∷ 16 ∷ 4 ∷ 2 ∷ 2 ∷ 16 ∷ 2 ∷ 10 ∷ 2 ∷ 65536 ∷ 65536 ∷ 0 ∷ 0 ∷ 0 ∷ 0 ∷ 0 ∷ 1 ∷ 2 ∷ 1 ∷ []; model = Spectre; defence = Stt }) refl refl refl refl refl
+
 prefetch_from_second_agrees : Agrees prefetch_from_second
 unfolding ones encode scan_numeral digits count_leading_zeros chars is_utf8 skip_from skip_ws decimal_number number
     plain_number underscore_fits unquoted word_len word_value body key_after one_line quoted simple_key special atom
@@ -726,6 +1069,24 @@ unfolding ones encode scan_numeral digits count_leading_zeros chars is_utf8 skip
     second_fault sections_fault top_fault half has_magic word header_fault code_of ram_after ram_fault segment_at
     end_line cycle fetch rename retire event_text events_text row_text rows_text trace_text
 prefetch_from_second_agrees = agrees prefetch_from_second (record { version = 2; numbers = 2 ∷ 2 ∷ 16 ∷ 8 ∷ 4 ∷ 4 ∷ 8 ∷ 2 ∷ 3 ∷ 16 ∷ 4 ∷ 1 ∷ 1 ∷ 16 ∷ 2 ∷ 10 ∷ 2 ∷ 65536 ∷ 65536 ∷ 0 ∷ 0 ∷ 0 ∷ 0 ∷ 1 ∷ 4 ∷ 5 ∷ 1 ∷ []; model = Spectre; defence = Stt }) refl refl refl refl refl
+
+prefetch_moves_second_agrees : Agrees prefetch_moves_second
+unfolding ones encode scan_numeral digits count_leading_zeros chars is_utf8 skip_from skip_ws decimal_number number
+    plain_number underscore_fits unquoted word_len word_value body key_after one_line quoted simple_key special atom
+    expression header_key key_equals line lines parse_document skip_bom val along_dots along_header at_key define
+    decode zeros description_of document_fault end_fault key_fault keys_fault latency_fault registers_fault
+    second_fault sections_fault top_fault half has_magic word header_fault code_of ram_after ram_fault segment_at
+    end_line cycle fetch rename retire event_text events_text row_text rows_text trace_text
+prefetch_moves_second_agrees = agrees prefetch_moves_second (record { version = 2; numbers = 2 ∷ 2 ∷ 16 ∷ 8 ∷ 4 ∷ 4 ∷ 8 ∷ 2 ∷ 3 ∷ 16 ∷ 4 ∷ 1 ∷ 1 ∷ 16 ∷ 2 ∷ 10 ∷ 4 ∷ 65536 ∷ 65536 ∷ 0 ∷ 0 ∷ 0 ∷ 0 ∷ 1 ∷ 5 ∷ 5 ∷ 1 ∷ []; model = Spectre; defence = Stt }) refl refl refl refl refl
+
+prefetched_to_the_front_agrees : Agrees prefetched_to_the_front
+unfolding ones encode scan_numeral digits count_leading_zeros chars is_utf8 skip_from skip_ws decimal_number number
+    plain_number underscore_fits unquoted word_len word_value body key_after one_line quoted simple_key special atom
+    expression header_key key_equals line lines parse_document skip_bom val along_dots along_header at_key define
+    decode zeros description_of document_fault end_fault key_fault keys_fault latency_fault registers_fault
+    second_fault sections_fault top_fault half has_magic word header_fault code_of ram_after ram_fault segment_at
+    end_line cycle fetch rename retire event_text events_text row_text rows_text trace_text
+prefetched_to_the_front_agrees = agrees prefetched_to_the_front (record { version = 2; numbers = 2 ∷ 2 ∷ 16 ∷ 8 ∷ 4 ∷ 4 ∷ 8 ∷ 2 ∷ 3 ∷ 16 ∷ 4 ∷ 1 ∷ 2 ∷ 16 ∷ 2 ∷ 10 ∷ 4 ∷ 65536 ∷ 65536 ∷ 0 ∷ 0 ∷ 0 ∷ 0 ∷ 0 ∷ 1 ∷ 2 ∷ 1 ∷ []; model = Spectre; defence = Stt }) refl refl refl refl refl
 
 recent_in_second_agrees : Agrees recent_in_second
 unfolding ones encode scan_numeral digits count_leading_zeros chars is_utf8 skip_from skip_ws decimal_number number
@@ -1141,6 +1502,15 @@ unfolding ones encode scan_numeral digits count_leading_zeros chars is_utf8 skip
     end_line cycle fetch rename retire event_text events_text row_text rows_text trace_text
 second_filled_at_fill_agrees = agrees second_filled_at_fill (record { version = 2; numbers = 2 ∷ 2 ∷ 16 ∷ 8 ∷ 4 ∷ 4 ∷ 8 ∷ 2 ∷ 3 ∷ 16 ∷ 4 ∷ 1 ∷ 1 ∷ 16 ∷ 2 ∷ 10 ∷ 2 ∷ 65536 ∷ 65536 ∷ 0 ∷ 0 ∷ 0 ∷ 0 ∷ 1 ∷ 2 ∷ 5 ∷ 0 ∷ []; model = Spectre; defence = Stt }) refl refl refl refl refl
 
+second_moved_at_once_agrees : Agrees second_moved_at_once
+unfolding ones encode scan_numeral digits count_leading_zeros chars is_utf8 skip_from skip_ws decimal_number number
+    plain_number underscore_fits unquoted word_len word_value body key_after one_line quoted simple_key special atom
+    expression header_key key_equals line lines parse_document skip_bom val along_dots along_header at_key define
+    decode zeros description_of document_fault end_fault key_fault keys_fault latency_fault registers_fault
+    second_fault sections_fault top_fault half has_magic word header_fault code_of ram_after ram_fault segment_at
+    end_line cycle fetch rename retire event_text events_text row_text rows_text trace_text
+second_moved_at_once_agrees = agrees second_moved_at_once (record { version = 2; numbers = 2 ∷ 2 ∷ 16 ∷ 8 ∷ 4 ∷ 4 ∷ 8 ∷ 2 ∷ 3 ∷ 16 ∷ 4 ∷ 1 ∷ 1 ∷ 16 ∷ 2 ∷ 10 ∷ 2 ∷ 65536 ∷ 65536 ∷ 0 ∷ 0 ∷ 0 ∷ 0 ∷ 1 ∷ 2 ∷ 9 ∷ 0 ∷ []; model = Spectre; defence = Stt }) refl refl refl refl refl
+
 sets_of_second_agrees : Agrees sets_of_second
 unfolding ones encode scan_numeral digits count_leading_zeros chars is_utf8 skip_from skip_ws decimal_number number
     plain_number underscore_fits unquoted word_len word_value body key_after one_line quoted simple_key special atom
@@ -1150,6 +1520,15 @@ unfolding ones encode scan_numeral digits count_leading_zeros chars is_utf8 skip
     end_line cycle fetch rename retire event_text events_text row_text rows_text trace_text
 sets_of_second_agrees = agrees sets_of_second (record { version = 2; numbers = 2 ∷ 2 ∷ 16 ∷ 8 ∷ 4 ∷ 4 ∷ 8 ∷ 2 ∷ 3 ∷ 16 ∷ 4 ∷ 1 ∷ 1 ∷ 16 ∷ 2 ∷ 10 ∷ 2 ∷ 65536 ∷ 65536 ∷ 0 ∷ 0 ∷ 0 ∷ 0 ∷ 2 ∷ 1 ∷ 5 ∷ 0 ∷ []; model = Spectre; defence = Stt }) refl refl refl refl refl
 
+seven_digits_of_history_agrees : Agrees seven_digits_of_history
+unfolding ones encode scan_numeral digits count_leading_zeros chars is_utf8 skip_from skip_ws decimal_number number
+    plain_number underscore_fits unquoted word_len word_value body key_after one_line quoted simple_key special atom
+    expression header_key key_equals line lines parse_document skip_bom val along_dots along_header at_key define
+    decode zeros description_of document_fault end_fault key_fault keys_fault latency_fault registers_fault
+    second_fault sections_fault top_fault half has_magic word header_fault code_of ram_after ram_fault segment_at
+    end_line cycle fetch rename retire event_text events_text row_text rows_text trace_text
+seven_digits_of_history_agrees = agrees seven_digits_of_history (record { version = 2; numbers = 2 ∷ 2 ∷ 16 ∷ 8 ∷ 4 ∷ 4 ∷ 8 ∷ 2 ∷ 3 ∷ 128 ∷ 4 ∷ 2 ∷ 2 ∷ 16 ∷ 2 ∷ 10 ∷ 2 ∷ 65536 ∷ 65536 ∷ 0 ∷ 0 ∷ 7 ∷ 0 ∷ 0 ∷ 1 ∷ 2 ∷ 0 ∷ []; model = Spectre; defence = Stt }) refl refl refl refl refl
+
 short_history_agrees : Agrees short_history
 unfolding ones encode scan_numeral digits count_leading_zeros chars is_utf8 skip_from skip_ws decimal_number number
     plain_number underscore_fits unquoted word_len word_value body key_after one_line quoted simple_key special atom
@@ -1158,6 +1537,15 @@ unfolding ones encode scan_numeral digits count_leading_zeros chars is_utf8 skip
     second_fault sections_fault top_fault half has_magic word header_fault code_of ram_after ram_fault segment_at
     end_line cycle fetch rename retire event_text events_text row_text rows_text trace_text
 short_history_agrees = agrees short_history (record { version = 2; numbers = 2 ∷ 2 ∷ 16 ∷ 8 ∷ 4 ∷ 4 ∷ 8 ∷ 2 ∷ 3 ∷ 16 ∷ 4 ∷ 2 ∷ 2 ∷ 16 ∷ 2 ∷ 10 ∷ 2 ∷ 65536 ∷ 65536 ∷ 0 ∷ 0 ∷ 1 ∷ 0 ∷ 0 ∷ 1 ∷ 2 ∷ 0 ∷ []; model = Spectre; defence = Stt }) refl refl refl refl refl
+
+sixteen_bits_agrees : Agrees sixteen_bits
+unfolding ones encode scan_numeral digits count_leading_zeros chars is_utf8 skip_from skip_ws decimal_number number
+    plain_number underscore_fits unquoted word_len word_value body key_after one_line quoted simple_key special atom
+    expression header_key key_equals line lines parse_document skip_bom val along_dots along_header at_key define
+    decode zeros description_of document_fault end_fault key_fault keys_fault latency_fault registers_fault
+    second_fault sections_fault top_fault half has_magic word header_fault code_of ram_after ram_fault segment_at
+    end_line cycle fetch rename retire event_text events_text row_text rows_text trace_text
+sixteen_bits_agrees = agrees sixteen_bits (record { version = 2; numbers = 4 ∷ 2 ∷ 16 ∷ 8 ∷ 4 ∷ 4 ∷ 8 ∷ 2 ∷ 3 ∷ 16 ∷ 4 ∷ 2 ∷ 2 ∷ 16 ∷ 2 ∷ 10 ∷ 2 ∷ 65536 ∷ 65536 ∷ 0 ∷ 16 ∷ 0 ∷ 0 ∷ 0 ∷ 1 ∷ 2 ∷ 0 ∷ []; model = Spectre; defence = Stt }) refl refl refl refl refl
 
 squash_by_history_agrees : Agrees squash_by_history
 unfolding ones encode scan_numeral digits count_leading_zeros chars is_utf8 skip_from skip_ws decimal_number number
@@ -1195,6 +1583,15 @@ unfolding ones encode scan_numeral digits count_leading_zeros chars is_utf8 skip
     end_line cycle fetch rename retire event_text events_text row_text rows_text trace_text
 store_moves_both_lines_agrees = agrees store_moves_both_lines (record { version = 2; numbers = 2 ∷ 2 ∷ 16 ∷ 8 ∷ 4 ∷ 4 ∷ 8 ∷ 2 ∷ 3 ∷ 16 ∷ 4 ∷ 1 ∷ 3 ∷ 16 ∷ 2 ∷ 10 ∷ 2 ∷ 65536 ∷ 65536 ∷ 1 ∷ 0 ∷ 0 ∷ 0 ∷ 0 ∷ 1 ∷ 2 ∷ 0 ∷ []; model = Spectre; defence = Stt }) refl refl refl refl refl
 
+store_moves_the_line_that_hits_agrees : Agrees store_moves_the_line_that_hits
+unfolding ones encode scan_numeral digits count_leading_zeros chars is_utf8 skip_from skip_ws decimal_number number
+    plain_number underscore_fits unquoted word_len word_value body key_after one_line quoted simple_key special atom
+    expression header_key key_equals line lines parse_document skip_bom val along_dots along_header at_key define
+    decode zeros description_of document_fault end_fault key_fault keys_fault latency_fault registers_fault
+    second_fault sections_fault top_fault half has_magic word header_fault code_of ram_after ram_fault segment_at
+    end_line cycle fetch rename retire event_text events_text row_text rows_text trace_text
+store_moves_the_line_that_hits_agrees = agrees store_moves_the_line_that_hits (record { version = 2; numbers = 2 ∷ 2 ∷ 16 ∷ 8 ∷ 4 ∷ 4 ∷ 8 ∷ 2 ∷ 3 ∷ 16 ∷ 4 ∷ 1 ∷ 2 ∷ 16 ∷ 2 ∷ 10 ∷ 2 ∷ 65536 ∷ 65536 ∷ 1 ∷ 0 ∷ 0 ∷ 0 ∷ 0 ∷ 1 ∷ 2 ∷ 0 ∷ []; model = Spectre; defence = Stt }) refl refl refl refl refl
+
 store_moves_the_lower_line_agrees : Agrees store_moves_the_lower_line
 unfolding ones encode scan_numeral digits count_leading_zeros chars is_utf8 skip_from skip_ws decimal_number number
     plain_number underscore_fits unquoted word_len word_value body key_after one_line quoted simple_key special atom
@@ -1230,6 +1627,15 @@ unfolding ones encode scan_numeral digits count_leading_zeros chars is_utf8 skip
     second_fault sections_fault top_fault half has_magic word header_fault code_of ram_after ram_fault segment_at
     end_line cycle fetch rename retire event_text events_text row_text rows_text trace_text
 store_without_data_shadows_agrees = agrees store_without_data_shadows (record { version = 2; numbers = 2 ∷ 2 ∷ 16 ∷ 8 ∷ 4 ∷ 4 ∷ 8 ∷ 2 ∷ 3 ∷ 16 ∷ 4 ∷ 2 ∷ 2 ∷ 16 ∷ 2 ∷ 10 ∷ 2 ∷ 65536 ∷ 65536 ∷ 0 ∷ 0 ∷ 0 ∷ 0 ∷ 0 ∷ 1 ∷ 2 ∷ 0 ∷ []; model = Futuristic; defence = Stt }) refl refl refl refl refl
+
+taint_through_division_agrees : Agrees taint_through_division
+unfolding ones encode scan_numeral digits count_leading_zeros chars is_utf8 skip_from skip_ws decimal_number number
+    plain_number underscore_fits unquoted word_len word_value body key_after one_line quoted simple_key special atom
+    expression header_key key_equals line lines parse_document skip_bom val along_dots along_header at_key define
+    decode zeros description_of document_fault end_fault key_fault keys_fault latency_fault registers_fault
+    second_fault sections_fault top_fault half has_magic word header_fault code_of ram_after ram_fault segment_at
+    end_line cycle fetch rename retire event_text events_text row_text rows_text trace_text
+taint_through_division_agrees = agrees taint_through_division (record { version = 2; numbers = 2 ∷ 2 ∷ 16 ∷ 8 ∷ 4 ∷ 4 ∷ 8 ∷ 2 ∷ 3 ∷ 16 ∷ 4 ∷ 2 ∷ 2 ∷ 16 ∷ 2 ∷ 10 ∷ 2 ∷ 65536 ∷ 65536 ∷ 0 ∷ 16 ∷ 0 ∷ 0 ∷ 0 ∷ 1 ∷ 2 ∷ 0 ∷ []; model = Futuristic; defence = Stt }) refl refl refl refl refl
 
 tainted_address_agrees : Agrees tainted_address
 unfolding ones encode scan_numeral digits count_leading_zeros chars is_utf8 skip_from skip_ws decimal_number number
@@ -1276,6 +1682,114 @@ unfolding ones encode scan_numeral digits count_leading_zeros chars is_utf8 skip
     end_line cycle fetch rename retire event_text events_text row_text rows_text trace_text
 tainted_data_agrees = agrees tainted_data (record { version = 2; numbers = 2 ∷ 2 ∷ 16 ∷ 8 ∷ 4 ∷ 4 ∷ 8 ∷ 2 ∷ 3 ∷ 16 ∷ 4 ∷ 2 ∷ 2 ∷ 16 ∷ 2 ∷ 10 ∷ 2 ∷ 65536 ∷ 65536 ∷ 0 ∷ 0 ∷ 0 ∷ 0 ∷ 0 ∷ 1 ∷ 2 ∷ 0 ∷ []; model = Spectre; defence = Stt }) refl refl refl refl refl
 
+tainted_data_hides_nothing_agrees : Agrees tainted_data_hides_nothing
+unfolding ones encode scan_numeral digits count_leading_zeros chars is_utf8 skip_from skip_ws decimal_number number
+    plain_number underscore_fits unquoted word_len word_value body key_after one_line quoted simple_key special atom
+    expression header_key key_equals line lines parse_document skip_bom val along_dots along_header at_key define
+    decode zeros description_of document_fault end_fault key_fault keys_fault latency_fault registers_fault
+    second_fault sections_fault top_fault half has_magic word header_fault code_of ram_after ram_fault segment_at
+    end_line cycle fetch rename retire event_text events_text row_text rows_text trace_text
+tainted_data_hides_nothing_agrees = agrees tainted_data_hides_nothing (record { version = 1; numbers = 4 ∷ 2 ∷ 16 ∷ 8 ∷ 4 ∷ 4 ∷ 8 ∷ 2 ∷ 3 ∷ 16 ∷ 4 ∷ 2 ∷ 2 ∷ 16 ∷ 2 ∷ 10 ∷ 2 ∷ 65536 ∷ 65536 ∷ 0 ∷ 0 ∷ 0 ∷ 0 ∷ 0 ∷ 1 ∷ 2 ∷ 0 ∷ []; model = Spectre; defence = Stt }) refl refl refl refl refl
+
+tainted_fault_hides_agrees : Agrees tainted_fault_hides
+unfolding ones encode scan_numeral digits count_leading_zeros chars is_utf8 skip_from skip_ws decimal_number number
+    plain_number underscore_fits unquoted word_len word_value body key_after one_line quoted simple_key special atom
+    expression header_key key_equals line lines parse_document skip_bom val along_dots along_header at_key define
+    decode zeros description_of document_fault end_fault key_fault keys_fault latency_fault registers_fault
+    second_fault sections_fault top_fault half has_magic word header_fault code_of ram_after ram_fault segment_at
+    end_line cycle fetch rename retire event_text events_text row_text rows_text trace_text
+tainted_fault_hides_agrees = agrees tainted_fault_hides (record { version = 2; numbers = 2 ∷ 2 ∷ 16 ∷ 8 ∷ 4 ∷ 4 ∷ 8 ∷ 2 ∷ 3 ∷ 16 ∷ 4 ∷ 2 ∷ 2 ∷ 16 ∷ 2 ∷ 10 ∷ 2 ∷ 65536 ∷ 65536 ∷ 0 ∷ 0 ∷ 0 ∷ 0 ∷ 0 ∷ 1 ∷ 2 ∷ 0 ∷ []; model = Spectre; defence = Stt }) refl refl refl refl refl
+
+tainted_link_agrees : Agrees tainted_link
+unfolding ones encode scan_numeral digits count_leading_zeros chars is_utf8 skip_from skip_ws decimal_number number
+    plain_number underscore_fits unquoted word_len word_value body key_after one_line quoted simple_key special atom
+    expression header_key key_equals line lines parse_document skip_bom val along_dots along_header at_key define
+    decode zeros description_of document_fault end_fault key_fault keys_fault latency_fault registers_fault
+    second_fault sections_fault top_fault half has_magic word header_fault code_of ram_after ram_fault segment_at
+    end_line cycle fetch rename retire event_text events_text row_text rows_text trace_text
+tainted_link_agrees = agrees tainted_link (record { version = 2; numbers = 2 ∷ 2 ∷ 16 ∷ 8 ∷ 4 ∷ 4 ∷ 8 ∷ 2 ∷ 3 ∷ 16 ∷ 4 ∷ 2 ∷ 2 ∷ 16 ∷ 2 ∷ 10 ∷ 2 ∷ 65536 ∷ 65536 ∷ 0 ∷ 0 ∷ 0 ∷ 0 ∷ 0 ∷ 1 ∷ 2 ∷ 0 ∷ []; model = Spectre; defence = Stt }) refl refl refl refl refl
+
+target_replaced_agrees : Agrees target_replaced
+unfolding ones encode scan_numeral digits count_leading_zeros chars is_utf8 skip_from skip_ws decimal_number number
+    plain_number underscore_fits unquoted word_len word_value body key_after one_line quoted simple_key special atom
+    expression header_key key_equals line lines parse_document skip_bom val along_dots along_header at_key define
+    decode zeros description_of document_fault end_fault key_fault keys_fault latency_fault registers_fault
+    second_fault sections_fault top_fault half has_magic word header_fault code_of ram_after ram_fault segment_at
+    end_line cycle fetch rename retire event_text events_text row_text rows_text trace_text
+target_replaced_agrees = agrees target_replaced (record { version = 1; numbers = 2 ∷ 2 ∷ 16 ∷ 8 ∷ 4 ∷ 4 ∷ 8 ∷ 2 ∷ 3 ∷ 16 ∷ 1 ∷ 2 ∷ 2 ∷ 16 ∷ 2 ∷ 10 ∷ 2 ∷ 65536 ∷ 65536 ∷ 0 ∷ 0 ∷ 0 ∷ 0 ∷ 0 ∷ 1 ∷ 2 ∷ 0 ∷ []; model = Spectre; defence = Stt }) refl refl refl refl refl
+
+two_joins_agrees : Agrees two_joins
+unfolding ones encode scan_numeral digits count_leading_zeros chars is_utf8 skip_from skip_ws decimal_number number
+    plain_number underscore_fits unquoted word_len word_value body key_after one_line quoted simple_key special atom
+    expression header_key key_equals line lines parse_document skip_bom val along_dots along_header at_key define
+    decode zeros description_of document_fault end_fault key_fault keys_fault latency_fault registers_fault
+    second_fault sections_fault top_fault half has_magic word header_fault code_of ram_after ram_fault segment_at
+    end_line cycle fetch rename retire event_text events_text row_text rows_text trace_text
+two_joins_agrees = agrees two_joins (record { version = 2; numbers = 2 ∷ 2 ∷ 16 ∷ 8 ∷ 4 ∷ 4 ∷ 8 ∷ 2 ∷ 3 ∷ 16 ∷ 4 ∷ 2 ∷ 2 ∷ 16 ∷ 2 ∷ 10 ∷ 4 ∷ 65536 ∷ 65536 ∷ 1 ∷ 0 ∷ 0 ∷ 0 ∷ 0 ∷ 1 ∷ 2 ∷ 0 ∷ []; model = Spectre; defence = Stt }) refl refl refl refl refl
+
+uncleared_fault_hides_agrees : Agrees uncleared_fault_hides
+unfolding ones encode scan_numeral digits count_leading_zeros chars is_utf8 skip_from skip_ws decimal_number number
+    plain_number underscore_fits unquoted word_len word_value body key_after one_line quoted simple_key special atom
+    expression header_key key_equals line lines parse_document skip_bom val along_dots along_header at_key define
+    decode zeros description_of document_fault end_fault key_fault keys_fault latency_fault registers_fault
+    second_fault sections_fault top_fault half has_magic word header_fault code_of ram_after ram_fault segment_at
+    end_line cycle fetch rename retire event_text events_text row_text rows_text trace_text
+uncleared_fault_hides_agrees = agrees uncleared_fault_hides (record { version = 2; numbers = 2 ∷ 2 ∷ 16 ∷ 8 ∷ 4 ∷ 4 ∷ 8 ∷ 2 ∷ 3 ∷ 16 ∷ 4 ∷ 2 ∷ 2 ∷ 16 ∷ 2 ∷ 10 ∷ 2 ∷ 65536 ∷ 65536 ∷ 0 ∷ 16 ∷ 0 ∷ 0 ∷ 0 ∷ 1 ∷ 2 ∷ 0 ∷ []; model = Spectre; defence = Stt }) refl refl refl refl refl
+
+violated_behind_a_younger_store_agrees : Agrees violated_behind_a_younger_store
+unfolding ones encode scan_numeral digits count_leading_zeros chars is_utf8 skip_from skip_ws decimal_number number
+    plain_number underscore_fits unquoted word_len word_value body key_after one_line quoted simple_key special atom
+    expression header_key key_equals line lines parse_document skip_bom val along_dots along_header at_key define
+    decode zeros description_of document_fault end_fault key_fault keys_fault latency_fault registers_fault
+    second_fault sections_fault top_fault half has_magic word header_fault code_of ram_after ram_fault segment_at
+    end_line cycle fetch rename retire event_text events_text row_text rows_text trace_text
+violated_behind_a_younger_store_agrees = agrees violated_behind_a_younger_store (record { version = 2; numbers = 2 ∷ 2 ∷ 16 ∷ 8 ∷ 4 ∷ 4 ∷ 8 ∷ 2 ∷ 3 ∷ 16 ∷ 4 ∷ 2 ∷ 2 ∷ 16 ∷ 2 ∷ 10 ∷ 2 ∷ 65536 ∷ 65536 ∷ 0 ∷ 16 ∷ 0 ∷ 0 ∷ 0 ∷ 1 ∷ 2 ∷ 0 ∷ []; model = Spectre; defence = Stt }) refl refl refl refl refl
+
+violated_without_data_agrees : Agrees violated_without_data
+unfolding ones encode scan_numeral digits count_leading_zeros chars is_utf8 skip_from skip_ws decimal_number number
+    plain_number underscore_fits unquoted word_len word_value body key_after one_line quoted simple_key special atom
+    expression header_key key_equals line lines parse_document skip_bom val along_dots along_header at_key define
+    decode zeros description_of document_fault end_fault key_fault keys_fault latency_fault registers_fault
+    second_fault sections_fault top_fault half has_magic word header_fault code_of ram_after ram_fault segment_at
+    end_line cycle fetch rename retire event_text events_text row_text rows_text trace_text
+violated_without_data_agrees = agrees violated_without_data (record { version = 2; numbers = 2 ∷ 2 ∷ 16 ∷ 8 ∷ 4 ∷ 4 ∷ 8 ∷ 2 ∷ 3 ∷ 16 ∷ 4 ∷ 2 ∷ 2 ∷ 16 ∷ 2 ∷ 10 ∷ 2 ∷ 65536 ∷ 65536 ∷ 1 ∷ 1 ∷ 0 ∷ 0 ∷ 0 ∷ 1 ∷ 2 ∷ 0 ∷ []; model = Spectre; defence = Stt }) refl refl refl refl refl
+
+visible_fault_given_agrees : Agrees visible_fault_given
+unfolding ones encode scan_numeral digits count_leading_zeros chars is_utf8 skip_from skip_ws decimal_number number
+    plain_number underscore_fits unquoted word_len word_value body key_after one_line quoted simple_key special atom
+    expression header_key key_equals line lines parse_document skip_bom val along_dots along_header at_key define
+    decode zeros description_of document_fault end_fault key_fault keys_fault latency_fault registers_fault
+    second_fault sections_fault top_fault half has_magic word header_fault code_of ram_after ram_fault segment_at
+    end_line cycle fetch rename retire event_text events_text row_text rows_text trace_text
+visible_fault_given_agrees = agrees visible_fault_given (record { version = 2; numbers = 2 ∷ 2 ∷ 16 ∷ 8 ∷ 4 ∷ 4 ∷ 8 ∷ 2 ∷ 3 ∷ 16 ∷ 4 ∷ 2 ∷ 2 ∷ 16 ∷ 2 ∷ 10 ∷ 2 ∷ 65536 ∷ 65536 ∷ 0 ∷ 0 ∷ 0 ∷ 0 ∷ 0 ∷ 1 ∷ 2 ∷ 0 ∷ []; model = Futuristic; defence = Hold }) refl refl refl refl refl
+
+waiting_fence_is_safe_agrees : Agrees waiting_fence_is_safe
+unfolding ones encode scan_numeral digits count_leading_zeros chars is_utf8 skip_from skip_ws decimal_number number
+    plain_number underscore_fits unquoted word_len word_value body key_after one_line quoted simple_key special atom
+    expression header_key key_equals line lines parse_document skip_bom val along_dots along_header at_key define
+    decode zeros description_of document_fault end_fault key_fault keys_fault latency_fault registers_fault
+    second_fault sections_fault top_fault half has_magic word header_fault code_of ram_after ram_fault segment_at
+    end_line cycle fetch rename retire event_text events_text row_text rows_text trace_text
+waiting_fence_is_safe_agrees = agrees waiting_fence_is_safe (record { version = 2; numbers = 4 ∷ 2 ∷ 16 ∷ 8 ∷ 4 ∷ 4 ∷ 8 ∷ 1 ∷ 3 ∷ 16 ∷ 4 ∷ 2 ∷ 2 ∷ 16 ∷ 2 ∷ 10 ∷ 2 ∷ 65536 ∷ 65536 ∷ 0 ∷ 0 ∷ 0 ∷ 0 ∷ 0 ∷ 1 ∷ 2 ∷ 0 ∷ []; model = Futuristic; defence = Stt }) refl refl refl refl refl
+
+waiting_jal_is_safe_agrees : Agrees waiting_jal_is_safe
+unfolding ones encode scan_numeral digits count_leading_zeros chars is_utf8 skip_from skip_ws decimal_number number
+    plain_number underscore_fits unquoted word_len word_value body key_after one_line quoted simple_key special atom
+    expression header_key key_equals line lines parse_document skip_bom val along_dots along_header at_key define
+    decode zeros description_of document_fault end_fault key_fault keys_fault latency_fault registers_fault
+    second_fault sections_fault top_fault half has_magic word header_fault code_of ram_after ram_fault segment_at
+    end_line cycle fetch rename retire event_text events_text row_text rows_text trace_text
+waiting_jal_is_safe_agrees = agrees waiting_jal_is_safe (record { version = 2; numbers = 4 ∷ 2 ∷ 16 ∷ 8 ∷ 4 ∷ 4 ∷ 8 ∷ 1 ∷ 3 ∷ 16 ∷ 4 ∷ 2 ∷ 2 ∷ 16 ∷ 2 ∷ 10 ∷ 2 ∷ 65536 ∷ 65536 ∷ 0 ∷ 0 ∷ 0 ∷ 0 ∷ 0 ∷ 1 ∷ 2 ∷ 0 ∷ []; model = Futuristic; defence = Stt }) refl refl refl refl refl
+
+waiting_jalr_is_unsafe_agrees : Agrees waiting_jalr_is_unsafe
+unfolding ones encode scan_numeral digits count_leading_zeros chars is_utf8 skip_from skip_ws decimal_number number
+    plain_number underscore_fits unquoted word_len word_value body key_after one_line quoted simple_key special atom
+    expression header_key key_equals line lines parse_document skip_bom val along_dots along_header at_key define
+    decode zeros description_of document_fault end_fault key_fault keys_fault latency_fault registers_fault
+    second_fault sections_fault top_fault half has_magic word header_fault code_of ram_after ram_fault segment_at
+    end_line cycle fetch rename retire event_text events_text row_text rows_text trace_text
+waiting_jalr_is_unsafe_agrees = agrees waiting_jalr_is_unsafe (record { version = 2; numbers = 4 ∷ 2 ∷ 16 ∷ 8 ∷ 4 ∷ 4 ∷ 8 ∷ 2 ∷ 3 ∷ 16 ∷ 4 ∷ 2 ∷ 2 ∷ 16 ∷ 2 ∷ 10 ∷ 2 ∷ 65536 ∷ 65536 ∷ 0 ∷ 0 ∷ 0 ∷ 0 ∷ 0 ∷ 1 ∷ 2 ∷ 0 ∷ []; model = Futuristic; defence = Stt }) refl refl refl refl refl
+
 waiting_load_moves_nothing_agrees : Agrees waiting_load_moves_nothing
 unfolding ones encode scan_numeral digits count_leading_zeros chars is_utf8 skip_from skip_ws decimal_number number
     plain_number underscore_fits unquoted word_len word_value body key_after one_line quoted simple_key special atom
@@ -1284,6 +1798,33 @@ unfolding ones encode scan_numeral digits count_leading_zeros chars is_utf8 skip
     second_fault sections_fault top_fault half has_magic word header_fault code_of ram_after ram_fault segment_at
     end_line cycle fetch rename retire event_text events_text row_text rows_text trace_text
 waiting_load_moves_nothing_agrees = agrees waiting_load_moves_nothing (record { version = 2; numbers = 2 ∷ 2 ∷ 16 ∷ 8 ∷ 4 ∷ 4 ∷ 8 ∷ 2 ∷ 3 ∷ 16 ∷ 4 ∷ 1 ∷ 2 ∷ 16 ∷ 2 ∷ 10 ∷ 2 ∷ 65536 ∷ 65536 ∷ 1 ∷ 0 ∷ 0 ∷ 0 ∷ 0 ∷ 1 ∷ 2 ∷ 0 ∷ []; model = Spectre; defence = Stt }) refl refl refl refl refl
+
+waiting_lui_is_safe_agrees : Agrees waiting_lui_is_safe
+unfolding ones encode scan_numeral digits count_leading_zeros chars is_utf8 skip_from skip_ws decimal_number number
+    plain_number underscore_fits unquoted word_len word_value body key_after one_line quoted simple_key special atom
+    expression header_key key_equals line lines parse_document skip_bom val along_dots along_header at_key define
+    decode zeros description_of document_fault end_fault key_fault keys_fault latency_fault registers_fault
+    second_fault sections_fault top_fault half has_magic word header_fault code_of ram_after ram_fault segment_at
+    end_line cycle fetch rename retire event_text events_text row_text rows_text trace_text
+waiting_lui_is_safe_agrees = agrees waiting_lui_is_safe (record { version = 2; numbers = 4 ∷ 2 ∷ 16 ∷ 8 ∷ 4 ∷ 4 ∷ 8 ∷ 1 ∷ 3 ∷ 16 ∷ 4 ∷ 2 ∷ 2 ∷ 16 ∷ 2 ∷ 10 ∷ 2 ∷ 65536 ∷ 65536 ∷ 0 ∷ 0 ∷ 0 ∷ 0 ∷ 0 ∷ 1 ∷ 2 ∷ 0 ∷ []; model = Futuristic; defence = Stt }) refl refl refl refl refl
+
+waiting_product_is_safe_agrees : Agrees waiting_product_is_safe
+unfolding ones encode scan_numeral digits count_leading_zeros chars is_utf8 skip_from skip_ws decimal_number number
+    plain_number underscore_fits unquoted word_len word_value body key_after one_line quoted simple_key special atom
+    expression header_key key_equals line lines parse_document skip_bom val along_dots along_header at_key define
+    decode zeros description_of document_fault end_fault key_fault keys_fault latency_fault registers_fault
+    second_fault sections_fault top_fault half has_magic word header_fault code_of ram_after ram_fault segment_at
+    end_line cycle fetch rename retire event_text events_text row_text rows_text trace_text
+waiting_product_is_safe_agrees = agrees waiting_product_is_safe (record { version = 2; numbers = 2 ∷ 2 ∷ 16 ∷ 8 ∷ 4 ∷ 4 ∷ 8 ∷ 2 ∷ 8 ∷ 16 ∷ 4 ∷ 2 ∷ 2 ∷ 16 ∷ 2 ∷ 10 ∷ 2 ∷ 65536 ∷ 65536 ∷ 0 ∷ 0 ∷ 0 ∷ 0 ∷ 0 ∷ 1 ∷ 2 ∷ 0 ∷ []; model = Futuristic; defence = Stt }) refl refl refl refl refl
+
+waiting_store_hides_nothing_agrees : Agrees waiting_store_hides_nothing
+unfolding ones encode scan_numeral digits count_leading_zeros chars is_utf8 skip_from skip_ws decimal_number number
+    plain_number underscore_fits unquoted word_len word_value body key_after one_line quoted simple_key special atom
+    expression header_key key_equals line lines parse_document skip_bom val along_dots along_header at_key define
+    decode zeros description_of document_fault end_fault key_fault keys_fault latency_fault registers_fault
+    second_fault sections_fault top_fault half has_magic word header_fault code_of ram_after ram_fault segment_at
+    end_line cycle fetch rename retire event_text events_text row_text rows_text trace_text
+waiting_store_hides_nothing_agrees = agrees waiting_store_hides_nothing (record { version = 2; numbers = 2 ∷ 2 ∷ 16 ∷ 8 ∷ 4 ∷ 4 ∷ 8 ∷ 2 ∷ 3 ∷ 16 ∷ 4 ∷ 2 ∷ 2 ∷ 16 ∷ 2 ∷ 10 ∷ 2 ∷ 65536 ∷ 65536 ∷ 0 ∷ 0 ∷ 0 ∷ 0 ∷ 0 ∷ 1 ∷ 2 ∷ 0 ∷ []; model = Spectre; defence = Hold }) refl refl refl refl refl
 
 wrong_return_pops_agrees : Agrees wrong_return_pops
 unfolding ones encode scan_numeral digits count_leading_zeros chars is_utf8 skip_from skip_ws decimal_number number
@@ -1312,5 +1853,14 @@ unfolding ones encode scan_numeral digits count_leading_zeros chars is_utf8 skip
     end_line cycle fetch rename retire event_text events_text row_text rows_text trace_text
 younger_store_agrees = agrees younger_store (record { version = 2; numbers = 2 ∷ 2 ∷ 16 ∷ 8 ∷ 2 ∷ 4 ∷ 8 ∷ 2 ∷ 3 ∷ 16 ∷ 4 ∷ 2 ∷ 2 ∷ 16 ∷ 2 ∷ 10 ∷ 2 ∷ 65536 ∷ 65536 ∷ 0 ∷ 0 ∷ 0 ∷ 0 ∷ 0 ∷ 1 ∷ 2 ∷ 0 ∷ []; model = Spectre; defence = Stt }) refl refl refl refl refl
 
+younger_store_hides_nothing_agrees : Agrees younger_store_hides_nothing
+unfolding ones encode scan_numeral digits count_leading_zeros chars is_utf8 skip_from skip_ws decimal_number number
+    plain_number underscore_fits unquoted word_len word_value body key_after one_line quoted simple_key special atom
+    expression header_key key_equals line lines parse_document skip_bom val along_dots along_header at_key define
+    decode zeros description_of document_fault end_fault key_fault keys_fault latency_fault registers_fault
+    second_fault sections_fault top_fault half has_magic word header_fault code_of ram_after ram_fault segment_at
+    end_line cycle fetch rename retire event_text events_text row_text rows_text trace_text
+younger_store_hides_nothing_agrees = agrees younger_store_hides_nothing (record { version = 2; numbers = 2 ∷ 2 ∷ 16 ∷ 8 ∷ 4 ∷ 4 ∷ 8 ∷ 2 ∷ 3 ∷ 16 ∷ 4 ∷ 2 ∷ 2 ∷ 16 ∷ 2 ∷ 10 ∷ 2 ∷ 65536 ∷ 65536 ∷ 0 ∷ 0 ∷ 0 ∷ 0 ∷ 0 ∷ 1 ∷ 2 ∷ 0 ∷ []; model = Spectre; defence = Stt }) refl refl refl refl refl
+
 pub each_agrees : Each Agrees runs
-each_agrees = (across_two_lines_agrees, (branch_to_the_next_agrees, (byte_at_its_end_covered_agrees, (covered_line_is_accessed_agrees, (faulting_load_agrees, (faulting_store_agrees, (forwarded_across_lines_agrees, (found_in_second_agrees, (full_stack_agrees, (half_issued_agrees, (half_issued_data_agrees, (hidden_base_agrees, (history_as_fetched_agrees, (joined_line_takes_no_register_agrees, (jump_that_links_elsewhere_agrees, (jumps_leave_history_agrees, (large_window_agrees, (late_address_agrees, (late_data_agrees, (late_data_version_1_agrees, (later_of_two_lines_agrees, (levels_drop_apart_agrees, (link_through_x1_agrees, (linking_jump_agrees, (load_reaches_behind_memory_agrees, (loop_by_history_agrees, (lower_line_comes_later_agrees, (memory_and_second_agrees, (misaligned_refused_agrees, (mixed_1_agrees, (mixed_2_agrees, (mixed_3_agrees, (mixed_4_agrees, (mixed_5_agrees, (mixed_6_agrees, (mixed_7_agrees, (mixed_8_agrees, (mixed_any_address_1_agrees, (mixed_any_address_2_agrees, (mixed_history_1_agrees, (mixed_history_2_agrees, (mixed_memory_1_agrees, (mixed_memory_2_agrees, (mixed_second_level_1_agrees, (mixed_second_level_2_agrees, (mixed_together_1_agrees, (mixed_together_2_agrees, (next_line_fetched_agrees, (no_prefetch_behind_memory_agrees, (no_prefetch_for_a_hit_agrees, (no_prefetch_for_a_join_agrees, (no_prefetch_of_a_held_line_agrees, (no_prefetch_of_address_0_agrees, (no_prefetch_on_its_way_agrees, (no_prefetch_without_register_agrees, (one_byte_agrees, (one_port_each_agrees, (partly_covered_agrees, (parts_alone_agrees, (prefetch_at_the_end_of_memory_agrees, (prefetch_behind_both_lines_agrees, (prefetch_behind_the_lower_line_agrees, (prefetch_from_second_agrees, (recent_in_second_agrees, (registers_for_both_lines_agrees, (return_by_another_register_agrees, (return_by_stack_agrees, (return_from_no_call_agrees, (return_that_links_agrees, (return_without_stack_agrees, (run_01_agrees, (run_02_agrees, (run_03_agrees, (run_04_agrees, (run_05_agrees, (run_06_agrees, (run_07_agrees, (run_08_agrees, (run_09_agrees, (run_10_agrees, (run_11_agrees, (run_12_agrees, (run_13_agrees, (run_14_agrees, (run_15_agrees, (run_16_agrees, (run_17_agrees, (run_18_agrees, (run_19_agrees, (run_20_agrees, (run_21_agrees, (run_22_agrees, (run_23_agrees, (run_24_agrees, (run_25_agrees, (run_26_agrees, (run_27_agrees, (run_28_agrees, (run_29_agrees, (run_30_agrees, (run_31_agrees, (run_32_agrees, (run_33_agrees, (run_34_agrees, (run_35_agrees, (run_36_agrees, (run_37_agrees, (run_38_agrees, (second_filled_at_fill_agrees, (sets_of_second_agrees, (short_history_agrees, (squash_by_history_agrees, (stack_behind_a_squash_agrees, (store_behind_load_agrees, (store_moves_both_lines_agrees, (store_moves_the_lower_line_agrees, (store_passes_second_agrees, (store_reaches_behind_memory_agrees, (store_without_data_shadows_agrees, (tainted_address_agrees, (tainted_address_faulting_load_agrees, (tainted_address_faulting_store_agrees, (tainted_address_hidden_agrees, (tainted_data_agrees, (waiting_load_moves_nothing_agrees, (wrong_return_pops_agrees, (younger_address_agrees, (younger_store_agrees, tt))))))))))))))))))))))))))))))))))))))))))))))))))))))))))))))))))))))))))))))))))))))))))))))))))))))))))))))))))))))))))))))))
+each_agrees = (across_two_lines_agrees, (bit_asks_for_addresses_agrees, (bit_asks_for_no_clearing_agrees, (bits_stay_set_agrees, (branch_to_the_next_agrees, (byte_at_its_end_covered_agrees, (cleared_at_a_squash_agrees, (covered_line_is_accessed_agrees, (divider_kept_at_a_violation_agrees, (done_branch_is_unsafe_agrees, (fault_held_agrees, (faulting_branch_squashes_agrees, (faulting_load_agrees, (faulting_store_agrees, (fill_leaves_second_agrees, (fills_as_taken_agrees, (five_returns_agrees, (five_ways_in_second_agrees, (forwarded_across_lines_agrees, (forwarded_moves_no_line_agrees, (found_in_second_agrees, (four_sets_agrees, (full_stack_agrees, (half_issued_agrees, (half_issued_data_agrees, (held_under_futuristic_agrees, (hidden_base_agrees, (history_as_fetched_agrees, (history_behind_a_jalr_agrees, (hit_and_join_agrees, (hit_leaves_second_agrees, (join_leaves_second_agrees, (joined_line_takes_no_register_agrees, (jump_that_links_elsewhere_agrees, (jumps_leave_history_agrees, (large_window_agrees, (late_address_agrees, (late_data_agrees, (late_data_version_1_agrees, (later_of_two_lines_agrees, (levels_drop_apart_agrees, (link_is_no_root_agrees, (link_through_x1_agrees, (linking_jump_agrees, (load_moves_the_line_that_hits_agrees, (load_reaches_behind_memory_agrees, (loop_by_history_agrees, (lower_line_comes_later_agrees, (mark_of_the_load_agrees, (memory_and_second_agrees, (misaligned_refused_agrees, (mixed_1_agrees, (mixed_2_agrees, (mixed_3_agrees, (mixed_4_agrees, (mixed_5_agrees, (mixed_6_agrees, (mixed_7_agrees, (mixed_8_agrees, (mixed_any_address_1_agrees, (mixed_any_address_2_agrees, (mixed_history_1_agrees, (mixed_history_2_agrees, (mixed_memory_1_agrees, (mixed_memory_2_agrees, (mixed_second_level_1_agrees, (mixed_second_level_2_agrees, (mixed_settings_agrees, (mixed_together_1_agrees, (mixed_together_2_agrees, (next_line_fetched_agrees, (no_prefetch_behind_memory_agrees, (no_prefetch_for_a_hit_agrees, (no_prefetch_for_a_join_agrees, (no_prefetch_of_a_held_line_agrees, (no_prefetch_of_address_0_agrees, (no_prefetch_on_its_way_agrees, (no_prefetch_without_register_agrees, (off_clears_at_once_agrees, (off_divides_agrees, (off_forwards_agrees, (off_holds_nothing_agrees, (off_violates_agrees, (older_load_hides_nothing_agrees, (older_store_without_data_agrees, (older_tainted_address_agrees, (one_byte_agrees, (one_port_each_agrees, (partly_covered_agrees, (parts_alone_agrees, (prefetch_at_the_end_of_memory_agrees, (prefetch_behind_both_lines_agrees, (prefetch_behind_the_lower_line_agrees, (prefetch_behind_x0_agrees, (prefetch_from_second_agrees, (prefetch_moves_second_agrees, (prefetched_to_the_front_agrees, (recent_in_second_agrees, (registers_for_both_lines_agrees, (return_by_another_register_agrees, (return_by_stack_agrees, (return_from_no_call_agrees, (return_that_links_agrees, (return_without_stack_agrees, (run_01_agrees, (run_02_agrees, (run_03_agrees, (run_04_agrees, (run_05_agrees, (run_06_agrees, (run_07_agrees, (run_08_agrees, (run_09_agrees, (run_10_agrees, (run_11_agrees, (run_12_agrees, (run_13_agrees, (run_14_agrees, (run_15_agrees, (run_16_agrees, (run_17_agrees, (run_18_agrees, (run_19_agrees, (run_20_agrees, (run_21_agrees, (run_22_agrees, (run_23_agrees, (run_24_agrees, (run_25_agrees, (run_26_agrees, (run_27_agrees, (run_28_agrees, (run_29_agrees, (run_30_agrees, (run_31_agrees, (run_32_agrees, (run_33_agrees, (run_34_agrees, (run_35_agrees, (run_36_agrees, (run_37_agrees, (run_38_agrees, (second_filled_at_fill_agrees, (second_moved_at_once_agrees, (sets_of_second_agrees, (seven_digits_of_history_agrees, (short_history_agrees, (sixteen_bits_agrees, (squash_by_history_agrees, (stack_behind_a_squash_agrees, (store_behind_load_agrees, (store_moves_both_lines_agrees, (store_moves_the_line_that_hits_agrees, (store_moves_the_lower_line_agrees, (store_passes_second_agrees, (store_reaches_behind_memory_agrees, (store_without_data_shadows_agrees, (taint_through_division_agrees, (tainted_address_agrees, (tainted_address_faulting_load_agrees, (tainted_address_faulting_store_agrees, (tainted_address_hidden_agrees, (tainted_data_agrees, (tainted_data_hides_nothing_agrees, (tainted_fault_hides_agrees, (tainted_link_agrees, (target_replaced_agrees, (two_joins_agrees, (uncleared_fault_hides_agrees, (violated_behind_a_younger_store_agrees, (violated_without_data_agrees, (visible_fault_given_agrees, (waiting_fence_is_safe_agrees, (waiting_jal_is_safe_agrees, (waiting_jalr_is_unsafe_agrees, (waiting_load_moves_nothing_agrees, (waiting_lui_is_safe_agrees, (waiting_product_is_safe_agrees, (waiting_store_hides_nothing_agrees, (wrong_return_pops_agrees, (younger_address_agrees, (younger_store_agrees, (younger_store_hides_nothing_agrees, tt)))))))))))))))))))))))))))))))))))))))))))))))))))))))))))))))))))))))))))))))))))))))))))))))))))))))))))))))))))))))))))))))))))))))))))))))))))))))))))))))))))))))))))))))))))))))

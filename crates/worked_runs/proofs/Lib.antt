@@ -12,3 +12,5 @@ pub mod PassedStores
 pub mod Violated
 pub mod Unprotected
 pub mod Held
+pub mod Values
+pub mod Paths

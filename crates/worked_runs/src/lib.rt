@@ -4,7 +4,7 @@
 //! machine's description in words (`tools/evaluate/runs/README.md`); `specs/Agreement.antt` says what it is to agree with one,
 //! from the description's text and the image's bytes to the trace's text. `proofs/` has further runs and corner cases, each
 //! worked out by hand from `docs/machine.md`. They refuse wrong rules in the definitions of the machine:
-//! `tools/evaluate/runs/README.md` has those that were tried.
+//! `tools/evaluate/runs/README.md` and `wrong_rules.md` beside it have those that were tried.
 #![tactic(auto)]
 
 ghost use Rattle.std.specs.Prelude.{All};

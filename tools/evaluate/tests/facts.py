@@ -1,4 +1,4 @@
-"""The facts of crates/worked_runs/proofs of which the model is asked too: loads that pass stores, the model `off`, the defence `hold`.
+"""The facts of crates/worked_runs/proofs of which the model is asked too: those that say what a whole run's rows are.
 
 A fact says what a run's rows are: NAME : trace DESCRIPTION (code_of CODE) 0x10000 (memory BOUND SECRET) CYCLES ≡ record { rows = ROWS; .. }.
 Here it is read as text, with the descriptions, words and rows that it names; an event's text is that of docs/formats.md, "The trace". What
@@ -12,7 +12,7 @@ from typing import NamedTuple
 CRATES = os.path.join(os.path.dirname(os.path.realpath(__file__)), "..", "..", "..", "crates")
 # what facts name and the files of facts, each with the facts of one matter
 SHARED = ["machine_desc/specs/Example", "rv_types/specs/Causes", "window_model/proofs/Worked", "worked_runs/proofs/Version2"]
-FILES = ["PassedStores", "Violated", "Unprotected", "Held"]
+FILES = ["Flow", "Accesses", "BoundsCheck", "Shadows", "PassedStores", "Violated", "Unprotected", "Held"]
 
 START, SIZE = 0x10000, 0x10000
 BOUND, SECRET = 0x1fff0, 0x1fff8
@@ -74,7 +74,7 @@ def event_text(event):
 
 def row_lines(rows):
     """The lines of a list of rows."""
-    for number, events, first, count in re.findall(r"row (\d+) \((.*)\[\]\)|quiet (\d+) (\d+)", rows):
+    for number, events, first, count in re.findall(r"row (\d+) \(?(.*)\[\]\)?|quiet (\d+) (\d+)", rows):
         if number:
             yield " ".join([number, *map(event_text, events.split(" ∷ ")[:-1])])
         else:

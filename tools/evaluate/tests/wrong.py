@@ -14,18 +14,21 @@ def text_of(*path):
 
 
 def changed(old, new):
-    """The model with this text in place of another, which it has once."""
+    """The model with this text in place of another, which it has once; or with several in place of as many."""
     source = text_of("model.py")
-    assert source.count(old) == 1, old
+    for here, there in [(old, new)] if isinstance(old, str) else zip(old, new):
+        assert source.count(here) == 1, here
+        source = source.replace(here, there)
     wrong = types.ModuleType("wrong")
     wrong.__file__ = model.__file__
-    exec(compile(source.replace(old, new), "wrong", "exec"), wrong.__dict__)
+    exec(compile(source, "wrong", "exec"), wrong.__dict__)
     return wrong
 
 
 def listed():
     """What refuses each wrong rule, as the tables have it."""
-    return dict(re.findall(r"^\| (.+?)(?: \(in the model alone\))? \| (.+) \|$", text_of("runs", "README.md"), re.M))
+    text = text_of("runs", "README.md") + text_of("runs", "wrong_rules.md")
+    return dict(re.findall(r"^\| (.+?)(?: \(in the model alone\))? \| (.+) \|$", text, re.M))
 
 
 def cell(names):
