@@ -1,0 +1,47 @@
+-- What the walks over marks look at, when it stands for a machine.
+use Rattle.std.specs.Prelude.{◌≡◌, ℕ, List, length, slice_get, Some}
+use Rattle.window_model.specs.declared.Entry.{Entry}
+use Rattle.window_model.specs.Order.{before_at}
+use Rattle.rob_ring.specs.Beside.{each_writers}
+use Rattle.rob_ring.specs.declared.beside.Sources.{Sources}
+use Rattle.parts_stand.specs.Parts.{Parts, Stand}
+use Rattle.parts_stand.specs.Writers.{WritersOf}
+use Rattle.secret_marks.specs.declared.EntryMarks.{EntryMarks}
+use Rattle.secret_marks.specs.Marks.{Marks}
+use Rattle.entry_marks.specs.declared.marks.Marks.{Marks as Beside}
+use Rattle.entry_marks.specs.declared.walk.Walk.{Walk}
+use Rattle.entry_marks.specs.Beside.{marks_before}
+
+-- parts stand for the window, the writers at each position too, and each entry has its marks
+pub record StandBeside (window : List Entry) (sources : List Sources) (marks : List EntryMarks) : Type 0 where
+  pub rest : Parts
+  pub stand : Stand (record rest { window = window })
+  pub writers : WritersOf rest.next window (each_writers sources)
+  pub step : length marks ≡ length window
+
+-- so they stand for what is looked at
+abbrev pub Stands : Walk → Type 0
+Stands w = StandBeside w.rob.now.entries w.sources.now.items w.marks.now.items
+
+-- the entry stands at this position
+abbrev pub StandsAt : Walk → ℕ → Entry → Type 0
+StandsAt w i e = slice_get w.rob.now.entries i ≡ Some e
+
+-- the entries before a position, and their marks
+abbrev pub entries_at : Walk → ℕ → List Entry
+entries_at w i = before_at w.rob.now.entries i
+
+abbrev pub marks_at : Walk → ℕ → List EntryMarks
+marks_at w i = marks_before w.marks.now.items i
+
+-- the marks of registers and memory, beside these of a window
+abbrev pub with_window : Walk → List EntryMarks → Marks
+with_window w window = record { regs = w.regs.now; bytes = w.bytes.now.items; window = window }
+
+-- the marks beside a machine, with these of a window in the place of their own
+abbrev pub marks_with : Beside → List EntryMarks → Marks
+marks_with b window = record { regs = b.regs; bytes = b.bytes.items; window = window }
+
+-- and with their own
+abbrev pub marks_of : Beside → Marks
+marks_of b = marks_with b b.window.items

@@ -1,0 +1,43 @@
+//! The marks beside the parts of a core.
+ghost use Rattle.std.specs.Prelude.{◌≡◌, ◌+◌, length, get_or};
+ghost use Rattle.circular_buffer.specs.Buffer.{buffer};
+ghost use Rattle.std.specs.Prelude.{◌++◌, ◌-◌, ◌<◌, ◌≤◌, replicate, take};
+ghost use Rattle.secret_marks.specs.Marks.{new_entry};
+
+use crate::words::UNMARKED;
+use circular_buffer::HeapCircularBuffer;
+use rv_types::REGISTERS;
+use secret_marks::{EntryMarks, WordMarks};
+
+/// Marks of registers and memory, as retired, and of the entries in flight. They are written as what they stand beside.
+#[derive(Drop)]
+pub struct Marks {
+    /// Of each register.
+    pub regs: [WordMarks; REGISTERS],
+    /// Of each byte of memory.
+    pub bytes: Vec<bool>,
+    /// Of each entry of the reorder buffer, oldest first.
+    pub window: HeapCircularBuffer<EntryMarks>,
+}
+
+/// The marks of the entries that are left, of which there are so many.
+pub fn cut(window: &mut HeapCircularBuffer<EntryMarks>, len: u32)
+    ensures { window.new ≡ buffer (take len window.old.items) window.old.capacity }
+{
+    window.truncate_back(len as usize);
+}
+
+/// Entries have come, so that there are so many: each comes unmarked.
+pub fn extend(window: &mut HeapCircularBuffer<EntryMarks>, len: u32)
+    requires room { len ≤ window.old.capacity }
+    ensures { window.new ≡ buffer (window.old.items ++ replicate (len - length window.old.items) new_entry)
+        window.old.capacity }
+{
+    for _k in window.len()..len as usize {
+        let _ = window.try_push_back(EntryMarks {
+            result: UNMARKED,
+            goes: false,
+            stored: UNMARKED,
+        });
+    }
+}

@@ -1,0 +1,162 @@
+//! The marks of what an instruction computes (`docs/theorems.md`, "Secrets that are loaded").
+ghost use Rattle.std.specs.Prelude.{◌≡◌};
+ghost use Rattle.secret_marks.specs.Results.{
+  add_constant,
+  and_constant,
+  by_known,
+  left_by,
+  of_constant,
+  of_itself,
+  of_operands,
+  result_marks,
+  right_by,
+};
+
+use crate::words::{
+    UNMARKED, any_byte, downward, either, every_byte, lowest_byte, smeared, upward,
+};
+use rv_types::{Instr, Op};
+use secret_marks::WordMarks;
+
+// These marks where the second operand is unmarked, and else all.
+fn by_known(b: WordMarks, marks: WordMarks) -> WordMarks
+    ensures { result ≡ by_known b marks }
+{
+    if any_byte(b) { every_byte(true) } else { marks }
+}
+
+// Of two operands.
+fn of_operands(op: Op, a: WordMarks, b: WordMarks) -> WordMarks
+    ensures { result ≡ of_operands op a b }
+{
+    match op {
+        Op::And | Op::Or | Op::Xor => either(a, b),
+        Op::Add | Op::Mul => upward(either(a, b)),
+        Op::Sub | Op::Sll => by_known(b, upward(a)),
+        Op::Srl => by_known(b, downward(a)),
+        Op::Slt | Op::Sltu => lowest_byte(any_byte(either(a, b))),
+        _ => smeared(either(a, b)),
+    }
+}
+
+// Of one register twice.
+fn of_itself(op: Op, a: WordMarks) -> WordMarks
+    ensures { result ≡ of_itself op a }
+{
+    match op {
+        Op::Xor | Op::Slt | Op::Sltu => UNMARKED,
+        _ => of_operands(op, a, a),
+    }
+}
+
+// Of a sum with a constant.
+fn add_constant(c: u32, a: WordMarks) -> WordMarks
+    ensures { result ≡ add_constant c a }
+{
+    if c == 0 { a } else { upward(a) }
+}
+
+// Of AND with a constant.
+fn and_constant(c: u32, a: WordMarks) -> WordMarks
+    ensures { result ≡ and_constant c a }
+{
+    WordMarks {
+        byte0: a.byte0 && c % 256 != 0,
+        byte1: a.byte1 && c / 256 % 256 != 0,
+        byte2: a.byte2 && c / 65536 % 256 != 0,
+        byte3: a.byte3 && c / 16777216 != 0,
+    }
+}
+
+// Of a shift to the left.
+fn left_by(n: u32, a: WordMarks) -> WordMarks
+    ensures { result ≡ left_by n a }
+{
+    if n == 0 {
+        a
+    } else if n == 8 {
+        WordMarks {
+            byte0: false,
+            byte1: a.byte0,
+            byte2: a.byte1,
+            byte3: a.byte2,
+        }
+    } else if n == 16 {
+        WordMarks {
+            byte0: false,
+            byte1: false,
+            byte2: a.byte0,
+            byte3: a.byte1,
+        }
+    } else if n == 24 {
+        WordMarks {
+            byte0: false,
+            byte1: false,
+            byte2: false,
+            byte3: a.byte0,
+        }
+    } else {
+        upward(a)
+    }
+}
+
+// Of a shift to the right.
+fn right_by(n: u32, a: WordMarks) -> WordMarks
+    ensures { result ≡ right_by n a }
+{
+    if n == 0 {
+        a
+    } else if n == 8 {
+        WordMarks {
+            byte0: a.byte1,
+            byte1: a.byte2,
+            byte2: a.byte3,
+            byte3: a.byte3,
+        }
+    } else if n == 16 {
+        WordMarks {
+            byte0: a.byte2,
+            byte1: a.byte3,
+            byte2: a.byte3,
+            byte3: a.byte3,
+        }
+    } else if n == 24 {
+        every_byte(a.byte3)
+    } else {
+        downward(a)
+    }
+}
+
+// Of an operand and a constant.
+fn of_constant(op: Op, c: u32, a: WordMarks) -> WordMarks
+    ensures { result ≡ of_constant op c a }
+{
+    match op {
+        Op::Add => add_constant(c, a),
+        Op::Mul => { if c == 0 { UNMARKED } else { upward(a) } }
+        Op::And => and_constant(c, a),
+        Op::Sll => left_by(c % 32, a),
+        Op::Srl => right_by(c % 32, a),
+        _ => of_operands(op, a, UNMARKED),
+    }
+}
+
+/// The marks of an instruction's value, by those of its first and second source.
+pub(crate) fn result_marks(instr: &Instr, a: WordMarks, b: WordMarks) -> WordMarks
+    ensures { result ≡ result_marks instr.now a b }
+{
+    match *instr {
+        Instr::OpImm { op, imm, .. } => of_constant(op, imm.cast_unsigned(), a),
+        Instr::OpReg { op, rs1, rs2, .. } => {
+            if rs2.number == 0 {
+                of_constant(op, 0, a)
+            } else if rs1.number == rs2.number {
+                of_itself(op, a)
+            } else {
+                of_operands(op, a, b)
+            }
+        }
+        Instr::Branch { .. } => lowest_byte(any_byte(either(a, b))),
+        _ => UNMARKED,
+    }
+}

@@ -1,0 +1,24 @@
+//! What is looked at for the marks of an entry.
+use circular_buffer::HeapCircularBuffer;
+use rob_ring::{RobRing, Sources};
+use rv_types::REGISTERS;
+use secret_marks::{EntryMarks, WordMarks};
+
+/// The entries and their sources, and the marks beside them.
+#[derive(Drop)]
+pub struct Walk<'a> {
+    /// The entries in flight.
+    pub rob: &'a RobRing,
+    /// At each entry's position the writers of its sources.
+    pub sources: &'a HeapCircularBuffer<Sources>,
+    /// At each entry's position its marks.
+    pub marks: &'a HeapCircularBuffer<EntryMarks>,
+    /// The marks of the registers, as retired.
+    pub regs: &'a [WordMarks; REGISTERS],
+    /// Those of memory's bytes, as retired.
+    pub bytes: &'a Vec<bool>,
+    /// The address of memory's first byte.
+    pub base: u32,
+    /// The cycle.
+    pub cycle: u32,
+}

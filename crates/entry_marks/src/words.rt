@@ -1,0 +1,100 @@
+//! What becomes of the marks of words (`docs/theorems.md`, "Secrets that are loaded").
+ghost use Rattle.std.specs.Prelude.{◌≡◌, ◌||◌};
+ghost use Rattle.secret_marks.specs.Words.{any_byte, downward, either, every_byte, lowest_byte, mark_at, smeared, upward};
+
+use secret_marks::WordMarks;
+
+/// No byte is marked.
+pub(crate) const UNMARKED: WordMarks = WordMarks {
+    byte0: false,
+    byte1: false,
+    byte2: false,
+    byte3: false,
+};
+
+/// Each byte has this mark.
+pub(crate) fn every_byte(mark: bool) -> WordMarks
+    ensures { result ≡ every_byte mark }
+{
+    WordMarks {
+        byte0: mark,
+        byte1: mark,
+        byte2: mark,
+        byte3: mark,
+    }
+}
+
+/// The lowest byte has this mark, and no other has one.
+pub(crate) fn lowest_byte(mark: bool) -> WordMarks
+    ensures { result ≡ lowest_byte mark }
+{
+    WordMarks {
+        byte0: mark,
+        byte1: false,
+        byte2: false,
+        byte3: false,
+    }
+}
+
+/// Whether some byte is marked.
+pub(crate) fn any_byte(w: WordMarks) -> bool
+    ensures { result ≡ any_byte w }
+{
+    w.byte0 || w.byte1 || w.byte2 || w.byte3
+}
+
+/// A byte is marked where it is in either word.
+pub(crate) fn either(w: WordMarks, u: WordMarks) -> WordMarks
+    ensures { result ≡ either w u }
+{
+    WordMarks {
+        byte0: w.byte0 || u.byte0,
+        byte1: w.byte1 || u.byte1,
+        byte2: w.byte2 || u.byte2,
+        byte3: w.byte3 || u.byte3,
+    }
+}
+
+/// From the lowest marked byte upward.
+pub(crate) fn upward(w: WordMarks) -> WordMarks
+    ensures { result ≡ upward w }
+{
+    WordMarks {
+        byte0: w.byte0,
+        byte1: w.byte0 || w.byte1,
+        byte2: w.byte0 || w.byte1 || w.byte2,
+        byte3: w.byte0 || w.byte1 || w.byte2 || w.byte3,
+    }
+}
+
+/// From the highest marked byte downward.
+pub(crate) fn downward(w: WordMarks) -> WordMarks
+    ensures { result ≡ downward w }
+{
+    WordMarks {
+        byte0: w.byte3 || w.byte2 || w.byte1 || w.byte0,
+        byte1: w.byte3 || w.byte2 || w.byte1,
+        byte2: w.byte3 || w.byte2,
+        byte3: w.byte3,
+    }
+}
+
+/// Each byte, where any is marked.
+pub(crate) fn smeared(w: WordMarks) -> WordMarks
+    ensures { result ≡ smeared w }
+{
+    every_byte(any_byte(w))
+}
+
+/// The mark of a byte of the word, by its place: none where it has no such byte.
+pub(crate) fn mark_at(w: WordMarks, i: u64) -> bool
+    ensures { result ≡ mark_at w i }
+{
+    match i {
+        0 => w.byte0,
+        1 => w.byte1,
+        2 => w.byte2,
+        3 => w.byte3,
+        _ => false,
+    }
+}
