@@ -25,7 +25,7 @@ fn by_known(b: WordMarks, marks: WordMarks) -> WordMarks
     if any_byte(b) { every_byte(true) } else { marks }
 }
 
-// Of two operands.
+// The marks of a value made of two operands.
 fn of_operands(op: Op, a: WordMarks, b: WordMarks) -> WordMarks
     ensures { result ≡ of_operands op a b }
 {
@@ -39,7 +39,7 @@ fn of_operands(op: Op, a: WordMarks, b: WordMarks) -> WordMarks
     }
 }
 
-// Of one register twice.
+// The marks of a value made of one register twice.
 fn of_itself(op: Op, a: WordMarks) -> WordMarks
     ensures { result ≡ of_itself op a }
 {
@@ -49,14 +49,14 @@ fn of_itself(op: Op, a: WordMarks) -> WordMarks
     }
 }
 
-// Of a sum with a constant.
+// The marks of a sum of an operand and a constant.
 fn add_constant(c: u32, a: WordMarks) -> WordMarks
     ensures { result ≡ add_constant c a }
 {
     if c == 0 { a } else { upward(a) }
 }
 
-// Of AND with a constant.
+// The marks of an operand of which AND with a constant clears bytes.
 fn and_constant(c: u32, a: WordMarks) -> WordMarks
     ensures { result ≡ and_constant c a }
 {
@@ -68,7 +68,7 @@ fn and_constant(c: u32, a: WordMarks) -> WordMarks
     }
 }
 
-// Of a shift to the left.
+// The marks of an operand that is shifted to the left by a known amount.
 fn left_by(n: u32, a: WordMarks) -> WordMarks
     ensures { result ≡ left_by n a }
 {
@@ -100,7 +100,7 @@ fn left_by(n: u32, a: WordMarks) -> WordMarks
     }
 }
 
-// Of a shift to the right.
+// The marks of an operand that is shifted to the right by a known amount.
 fn right_by(n: u32, a: WordMarks) -> WordMarks
     ensures { result ≡ right_by n a }
 {
@@ -127,7 +127,7 @@ fn right_by(n: u32, a: WordMarks) -> WordMarks
     }
 }
 
-// Of an operand and a constant.
+// The marks of a value made of an operand and a constant.
 fn of_constant(op: Op, c: u32, a: WordMarks) -> WordMarks
     ensures { result ≡ of_constant op c a }
 {

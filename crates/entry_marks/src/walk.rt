@@ -15,7 +15,7 @@ pub struct Walk<'a> {
     pub marks: &'a HeapCircularBuffer<EntryMarks>,
     /// The marks of the registers, as retired.
     pub regs: &'a [WordMarks; REGISTERS],
-    /// Those of memory's bytes, as retired.
+    /// The marks of memory's bytes, as retired.
     pub bytes: &'a Vec<bool>,
     /// The address of memory's first byte.
     pub base: u32,

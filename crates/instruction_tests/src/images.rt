@@ -126,7 +126,7 @@ fn fault_of(alloc: Global, file: &[u8]) -> Option<ElfFault> {
     }
 }
 
-// So many bytes of the first program's file, with these in the place of those from a place on.
+// The first bytes of the first program's file, as many as are asked for, with other bytes written over them from a place on.
 fn changed(alloc: Global, size: usize, at: usize, new: &[u8]) -> Result<Vec<u8>, Fail> {
     let mut file = Vec::new(alloc);
     for (i, byte) in FIRST.iter().enumerate() {

@@ -21,7 +21,7 @@ pub enum Word {
     Sum,
 }
 
-/// Its instruction.
+/// The instruction of an entry of a kind.
 pub fn instr_of(word: Word) -> Instr {
     let rs1 = Reg { number: 1 };
     match word {
