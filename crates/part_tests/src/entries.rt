@@ -21,7 +21,7 @@ pub enum Word {
     Sum,
 }
 
-/// The instruction of an entry of a kind.
+/// Its instruction.
 pub fn instr_of(word: Word) -> Instr {
     let rs1 = Reg { number: 1 };
     match word {
