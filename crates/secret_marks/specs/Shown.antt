@@ -1,5 +1,6 @@
--- What shows first in a cycle (docs/theorems.md, "Secrets that are loaded"): by the order of the phases, and by age.
-use Rattle.std.specs.Prelude.{◌≡◌, ◌&&◌, List, [], ◌∷◌, Option, Some, None, is_some, if◌then◌else◌}
+-- What shows first, in a cycle (docs/theorems.md, "Secrets that are loaded"): by the order of the phases, and by age; and in a run.
+use Rattle.std.specs.Prelude.{◌≡◌, ℕ, zero, suc, ◌+◌, ◌&&◌, List, [], ◌∷◌, Option, Some, None, is_some, if◌then◌else◌}
+use Rattle.std.specs.Option.{option_map}
 use Rattle.rv_types.specs.Memory.{Code}
 use Rattle.machine_desc.specs.declared.Desc.{Desc}
 use Rattle.window_model.specs.declared.Entry.{Entry}
@@ -8,10 +9,11 @@ use Rattle.window_model.specs.Rename.{is_call}
 use Rattle.window_model.specs.Retire.{unless_ended}
 use Rattle.window_model.specs.Cycle.{begins_cycle}
 use Rattle.secret_marks.specs.declared.EntryMarks.{EntryMarks}
+use Rattle.secret_marks.specs.declared.FirstShown.{FirstShown}
 use Rattle.secret_marks.specs.declared.Shown.{Shown}
 use Rattle.secret_marks.specs.Marks.{Marks}
 use Rattle.secret_marks.specs.Shows.{call_shows, operand_shows, outcome_marked}
-use Rattle.secret_marks.specs.Watch.{watch_complete, watch_resolve, watch_clear, watch_retire, watch_cycle}
+use Rattle.secret_marks.specs.Watch.{first_show, watch_complete, watch_resolve, watch_clear, watch_retire, watch_cycle}
 
 -- the instruction of an entry
 abbrev pub shown_by : Entry → Shown
@@ -54,3 +56,22 @@ shown_cycle d x m =
 abbrev pub ShownWhereShows : Type 0
 ShownWhereShows = (d : Desc) (code : Code) (x : Machine) (m : Marks) →
     is_some (shown_cycle d x m) ≡ (watch_cycle d code x m).shows
+
+-- ---- of a run
+
+-- what shows in the cycle with this number, and where nothing does what shows in later ones
+abbrev pub in_cycle : ℕ → Option Shown → Option FirstShown → Option FirstShown
+in_cycle k None later = later
+in_cycle k (Some s) later = Some (record { cycle = k; shown = s })
+
+-- what shows first within n cycles, and in which
+abbrev pub first_shown : Desc → Code → ℕ → Machine → Marks → Option FirstShown
+first_shown d code zero x m = None
+first_shown d code (suc n) x m =
+    unless_ended x.end None
+    (let w = watch_cycle d code x m in in_cycle (x.cycle + 1) (shown_cycle d x m) (first_shown d code n w.machine w.marks))
+
+-- it is told in the first cycle in which something shows, and only where there is one
+abbrev pub FirstShownWhereFirstShows : Type 0
+FirstShownWhereFirstShows = (d : Desc) (code : Code) (n : ℕ) (x : Machine) (m : Marks) →
+    option_map (λ s. s.cycle) (first_shown d code n x m) ≡ first_show d code n x m
