@@ -18,7 +18,8 @@ use Rattle.window_model.specs.Committed.{Aligned}
 use Rattle.window_model.specs.Path.{path as path_of}
 use Rattle.window_model.specs.Taint.{protects}
 use Rattle.noninterference.proofs.Runs.{same_trace}
-use Rattle.pair_run.specs.Starts.{loaded, trace_of}
+use Rattle.run_inputs.specs.Loaded.{loaded}
+use Rattle.pair_run.specs.Starts.{trace_of}
 use Rattle.core_cycle.specs.Programmed.{Programmed}
 use Rattle.pair_run.specs.Images.{CoreStarts, Opened, image_at}
 use Rattle.pair_run.specs.Answer.{Answers, Differs, Premise}

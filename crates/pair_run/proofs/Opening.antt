@@ -6,7 +6,8 @@ use Rattle.machine_desc.specs.declared.Desc.{Desc}
 use Rattle.window_model.specs.State.{opening}
 use Rattle.core_cycle.specs.Programmed.{Programmed}
 use Rattle.isa_step.specs.State.{IsaState}
-use Rattle.pair_run.specs.Images.{CoreStarts, Fits, Opened, start_of, path_of}
+use Rattle.pair_run.specs.Images.{CoreStarts, Opened, start_of, path_of}
+use Rattle.run_inputs.specs.Loaded.{Fits}
 use Rattle.pair_run.specs.declared.starting.Start.{Start}
 
 -- the core that begins where an image does

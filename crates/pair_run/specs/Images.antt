@@ -1,16 +1,16 @@
 -- Two images, with the description of the core that is run on both.
-use Rattle.std.specs.Prelude.{◌≡◌, ◌↔◌, Bool, IsTrue, length, refl}
+use Rattle.std.specs.Prelude.{◌≡◌, ◌↔◌, Bool, IsTrue, refl}
 use Rattle.std.specs.Coded.{Coded, code_by, coded×}
 use Rattle.elf_loader.specs.contracts.loading.Image as image
 use Rattle.machine_desc.specs.contracts.Desc as desc
 use Rattle.rv_types.specs.Isa.{start}
-use Rattle.rv_types.specs.Memory.{Ram}
 use Rattle.elf_loader.specs.Code.{CodeText, word_at}
 use Rattle.elf_loader.specs.declared.loading.Image.{Image}
 use Rattle.isa_step.specs.State.{IsaState}
 use Rattle.core_cycle.specs.Programmed.{Programmed}
 use Rattle.window_model.specs.State.{opening}
 use Rattle.machine_desc.specs.declared.Desc.{Desc}
+use Rattle.run_inputs.specs.Loaded.{Fits}
 use Rattle.pair_run.specs.declared.starting.Start.{Start}
 
 pub record Images : Type 0 where
@@ -36,11 +36,6 @@ start_of image = record { entry = image.entry; ram = image.ram }
 
 abbrev pub path_of : Image → IsaState
 path_of image = record { code = image.code; hart = start image.entry image.ram }
-
--- a memory is the one of a description
-pub record Fits (d : Desc) (ram : Ram) : Type 0 where
-  pub base : ram.base ≡ d.ram_base
-  pub size : length ram.bytes ≡ d.ram_size
 
 -- a core before its first cycle, with the image in its memory
 abbrev pub CoreStarts : Desc → Image → Programmed → Type 0

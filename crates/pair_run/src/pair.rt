@@ -3,7 +3,7 @@ ghost use Rattle.std.specs.Prelude.{◌≡◌, ◌<◌, ◌^◌, ◌+◌, ◌↔
 ghost use Rattle.window_model.specs.Cycle.{after_cycles};
 ghost use Rattle.window_model.specs.Taint.{protects};
 ghost use Rattle.pair_run.specs.Images.{Opened, image_at};
-ghost use Rattle.pair_run.specs.Starts.{loaded};
+ghost use Rattle.run_inputs.specs.Loaded.{loaded};
 ghost use Rattle.pair_run.specs.Answer.{Answers, Premise};
 ghost use Rattle.pair_run.specs.declared.answer.Differ.TheVariants.{Same};
 

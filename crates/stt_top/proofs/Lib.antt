@@ -1,9 +1,6 @@
-pub mod Images
 pub mod Turns
 pub mod Cycles
 pub mod CoreTexts
-pub mod Told
-pub mod InTurn
 pub mod Tasks
 pub mod Outcomes
 pub mod Statuses

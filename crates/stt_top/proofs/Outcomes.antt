@@ -9,7 +9,7 @@ use Rattle.elf_loader.specs.declared.loading.Image.{Image}
 use Rattle.pair_run.specs.Answer.{Answers}
 use Rattle.pair_run.specs.Images.{Images}
 use Rattle.pair_run.specs.Running.{trace_from}
-use Rattle.pair_run.specs.Starts.{loaded}
+use Rattle.run_inputs.specs.Loaded.{loaded}
 use Rattle.pair_run.specs.declared.answer.PairAnswer.{PairAnswer}
 use Rattle.pair_text.specs.Comparison.{comparison}
 use Rattle.tool_io.specs.Outside.{Told, Shelf, Wrote, WrotePart}
@@ -17,20 +17,14 @@ use Rattle.trace_text.specs.TraceText.{trace_text}
 use Rattle.window_model.specs.State.{Machine}
 use Rattle.tool_words.specs.Words.{CommandText, command_of}
 use Rattle.stt_top.specs.declared.outcome.Ended.{Ended}
-use Rattle.stt_top.specs.declared.outcome.Refusal.{Refusal}
-use Rattle.stt_top.specs.declared.outcome.Refusal.TheVariants.{Write, Memory}
+use Rattle.run_inputs.specs.declared.refusal.Refusal.{Refusal}
+use Rattle.run_inputs.specs.declared.refusal.Refusal.TheVariants.{Write, Memory}
 use Rattle.stt_top.specs.Clocking.{report_from}
 use Rattle.stt_top.specs.Outcome.{compared_of}
 use Rattle.stt_top.specs.Running.{Starts, opening_of}
 use Rattle.stt_top.specs.Work.{TaskText, report_task, trace_task, pair_task, Performs, run_work, trace_work, pair_work}
-use Rattle.stt_top.specs.Top.{world, Runs, Ends}
-
--- what the exit of a `?` returns
-pub at_exit : {T E : Type 0} (P : Result T E → Type 0) (r : Result T E) (e : E) → IsErrAnd r (λ y. y ≡ e) → P (Err e) → P r
-at_exit P r e h p = let q = err_from_is_err_and r h in subst P (sym (q.1 ∙ ap Err q.2)) p
-
-pub at_err : {T E : Type 0} (r : Result T E) (P : T → Type 0) (Q : E → Type 0) (e : E) → IsErrAnd r (λ y. y ≡ e) → Q e → MatchResult r P Q
-at_err r P Q e h q = at_exit (λ x. MatchResult x P Q) r e h q
+use Rattle.run_inputs.specs.Told.{world}
+use Rattle.stt_top.specs.Top.{Runs, Ends}
 
 -- ---- Tasks
 

@@ -23,10 +23,11 @@ use Rattle.pair_text.specs.Comparison.{comparison}
 use Rattle.stt_top.specs.Clocking.{run_from}
 use Rattle.stt_top.specs.Running.{opening_of}
 use Rattle.stt_top.specs.declared.outcome.Ended.{Ended}
-use Rattle.stt_top.specs.declared.outcome.Refusal.{Refusal}
+use Rattle.run_inputs.specs.declared.refusal.Refusal.{Refusal}
 use Rattle.stt_top.specs.Outcome.{status_of}
 use Rattle.stt_top.specs.Work.{TaskText, isa_task, report_task, trace_task, pair_task, Work, ComesTo, run_work}
-use Rattle.stt_top.specs.Top.{World, Ends, Statuses}
+use Rattle.run_inputs.specs.Told.{World}
+use Rattle.stt_top.specs.Top.{Ends, Statuses}
 use Rattle.stt_top.specs.Promises.{Commits, MovesOn, Hides, Compares, Keeps, Promises, TracesAgree, retired_run, state_at}
 use Rattle.stt_top.proofs.Tasks.{SuitedTask, task_suited}
 use Rattle.stt_top.proofs.Statuses.{statuses_at}

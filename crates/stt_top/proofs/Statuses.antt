@@ -8,16 +8,18 @@ use Rattle.machine_desc.specs.declared.Desc.{Desc}
 use Rattle.machine_desc.specs.declared.fault.DescFault.{DescFault}
 use Rattle.tool_io.specs.Outside.{Shelf, Told, Wrote, WrotePart, SameCounts, NameFailed, Rose}
 use Rattle.tool_words.specs.Words.{CommandText, command_of}
-use Rattle.stt_top.specs.declared.outcome.Which.{Which}
+use Rattle.run_inputs.specs.declared.refusal.Which.{Which}
 use Rattle.stt_top.specs.declared.outcome.Ended.{Ended}
 use Rattle.stt_top.specs.declared.outcome.Ended.TheVariants.{Exit, Trap, Budget, Alike, Unlike}
-use Rattle.stt_top.specs.declared.outcome.Refusal.{Refusal}
-use Rattle.stt_top.specs.declared.outcome.Refusal.TheVariants.{Words, ReadDescription, DescriptionTooLong, Description, ReadImage, ImageTooLong, Image, Write, Memory}
-use Rattle.stt_top.specs.Outcome.{status_of, place_of}
-use Rattle.stt_top.specs.Input.{description_max, ImageFrom, from_file, from_seed, MayHold, MayBeLonger, DescriptionRefused, NamedRefused, RefusedAt, FailsToRead, HasTooMany, HasFault}
+use Rattle.run_inputs.specs.declared.refusal.Refusal.{Refusal}
+use Rattle.run_inputs.specs.declared.refusal.Refusal.TheVariants.{Words, ReadDescription, DescriptionTooLong, Description, ReadImage, ImageTooLong, Image, Write, Memory}
+use Rattle.stt_top.specs.Outcome.{status_of}
+use Rattle.run_inputs.specs.Refused.{place_of}
+use Rattle.run_inputs.specs.Input.{description_max, ImageFrom, from_file, from_seed, MayHold, MayBeLonger, DescriptionRefused, NamedRefused, RefusedAt, FailsToRead, HasTooMany, HasFault}
 use Rattle.stt_top.specs.Work.{TaskText, task_of, Work, ComesTo}
-use Rattle.stt_top.specs.Top.{Asks, World, Done, CommandRefused, Ends, Statuses, sources, description_name, IsFaultyDescription, IsFaultyImage, TellsDesc, TellsBytes, TellsImages, IsAt, Names, MayBeFaulty, ImageRefusedAt, IsRun, IsRefusal}
-use Rattle.stt_top.proofs.Told.{told_desc, no_desc, not_longer, not_refused, told_at, none_faulty, same_images, no_fault, not_too_many}
+use Rattle.stt_top.specs.Top.{Asks, Done, CommandRefused, Ends, Statuses, sources, description_name, IsAt, Names, ImageRefusedAt, IsRun, IsRefusal}
+use Rattle.run_inputs.specs.Told.{World, IsFaultyDescription, IsFaultyImage, TellsDesc, TellsBytes, TellsImages, MayBeFaulty}
+use Rattle.run_inputs.proofs.Told.{told_desc, no_desc, not_longer, not_refused, told_at, none_faulty, same_images, no_fault, not_too_many}
 
 -- words that are a command aren't none
 clash : {o : Option CommandText} {c : CommandText} → o ≡ Some c → o ≡ None → ⊥

@@ -1,6 +1,4 @@
 pub mod Outcome
-pub mod Note
-pub mod Input
 pub mod Clocking
 pub mod Running
 pub mod Work

@@ -9,12 +9,13 @@ use Rattle.machine_desc.specs.declared.Desc.{Desc}
 use Rattle.machine_desc.specs.declared.fault.DescFault.{DescFault}
 use Rattle.tool_io.specs.Outside.{Told, Shelf, Wrote, WrotePart, SameCounts, NameFailed, Rose}
 use Rattle.tool_words.specs.Words.{CommandText, command_of, isa_text, run_text, trace_text, bench_text, pair_text}
-use Rattle.stt_top.specs.declared.outcome.Which.{Which}
+use Rattle.run_inputs.specs.declared.refusal.Which.{Which}
 use Rattle.stt_top.specs.declared.outcome.Ended.{Ended}
-use Rattle.stt_top.specs.declared.outcome.Refusal.{Refusal}
-use Rattle.stt_top.specs.declared.outcome.Refusal.TheVariants.{Words, Write, Memory}
-use Rattle.stt_top.specs.Outcome.{status_of, place_of}
-use Rattle.stt_top.specs.Input.{description_max, image_max, ImageFrom, from_file, from_seed, MayHold, MayBeLonger, IsRead, RefusedAt, FailsToRead, HasTooMany, HasFault, Refuses, base_of, size_of, misaligned_of}
+use Rattle.run_inputs.specs.declared.refusal.Refusal.{Refusal}
+use Rattle.run_inputs.specs.declared.refusal.Refusal.TheVariants.{Words, Write, Memory}
+use Rattle.stt_top.specs.Outcome.{status_of}
+use Rattle.run_inputs.specs.Refused.{place_of}
+use Rattle.run_inputs.specs.Input.{description_max, image_max, ImageFrom, from_file, from_seed, MayHold, MayBeLonger, IsRead, RefusedAt, FailsToRead, HasTooMany, HasFault, Refuses, base_of, size_of, misaligned_of}
 use Rattle.stt_top.specs.declared.task.Task.{Task}
 use Rattle.stt_top.specs.Work.{TaskText, task_of, task_text, Work, ComesTo}
 
@@ -35,14 +36,6 @@ description_name (run_text description image cycles) = Some description
 description_name (trace_text description image cycles) = Some description
 description_name (bench_text description seed blocks cycles) = Some description
 description_name (pair_text description image image2 cycles) = Some description
-
--- what the files and the sink tell at one time
-pub record World : Type 0 where
-  pub files : Shelf
-  pub out : Told
-
-abbrev pub world : Shelf → Told → World
-world files out = record { files = files; out = out }
 
 -- what a command reads makes this task of it
 pub record Runs (command : CommandText) (old new : Shelf) (task : TaskText) : Type 0 where
@@ -81,44 +74,6 @@ Ends words old new (Err refusal) = Asks words (λ command. CommandRefused comman
 
 -- ---- The statuses
 
--- a text is longer than a description may be, or is none
-abbrev pub IsFaultyDescription : List ℕ → Type 0
-IsFaultyDescription text = (description_max < length text) ⊎ ((fault : DescFault) × (description_of text ≡ Err fault))
-
--- a file is longer than an image may be; a generated image never is
-abbrev pub IsTooLong : ImageFrom → List ℕ → Type 0
-IsTooLong (from_file name) file = image_max < length file
-IsTooLong (from_seed seed blocks) file = ⊥
-
--- these bytes are too many for an image, or are none for the memory of this description
-abbrev pub IsFaultyImage : ImageFrom → List ℕ → Option Desc → Type 0
-IsFaultyImage from file desc = IsTooLong from file ⊎ ((fault : ElfFault) × (image_of file (base_of desc) (size_of desc) (misaligned_of desc) ≡ Err fault))
-
--- the files tell that a run has this description
-abbrev pub TellsDesc : Shelf → Option (List ℕ) → Option Desc → Type 0
-TellsDesc shelf None desc = desc ≡ None
-TellsDesc shelf (Some name) desc =
-    (text : List ℕ) × (d : Desc) × (shelf.content name ≡ Some text) × (length text ≤ description_max) × Describes text d × (desc ≡ Some d)
-
--- these are an image's bytes, as the files tell, or as they are generated
-abbrev pub TellsBytes : Shelf → ImageFrom → List ℕ → Type 0
-TellsBytes shelf (from_file name) file = shelf.content name ≡ Some file
-TellsBytes shelf (from_seed seed blocks) file = file ≡ generated_image seed blocks
-
--- they tell that this image is there
-pub record TellsImage (shelf : Shelf) (desc : Option Desc) (from : ImageFrom) (image : ImageText) : Type 0 where
-  pub file : List ℕ
-  pub told : TellsBytes shelf from file
-  pub short : ¬ IsTooLong from file
-  pub loads : image_of file (base_of desc) (size_of desc) (misaligned_of desc) ≡ Ok image
-
--- and so at each of these places
-abbrev pub TellsImages : Shelf → Option Desc → List ImageFrom → List ImageText → Type 0
-TellsImages shelf desc [] [] = Unit {0}
-TellsImages shelf desc (from ∷ rest) (image ∷ images) = TellsImage shelf desc from image × TellsImages shelf desc rest images
-TellsImages shelf desc [] (image ∷ images) = ⊥
-TellsImages shelf desc (from ∷ rest) [] = ⊥
-
 -- the image at this place of a command comes from there
 abbrev pub IsAt : CommandText → ℕ → ImageFrom → Type 0
 IsAt command place from = slice_get (sources command) place ≡ Some from
@@ -126,10 +81,6 @@ IsAt command place from = slice_get (sources command) place ≡ Some from
 -- a name that the words give as the description's or as an image's
 abbrev pub Names : CommandText → List ℕ → Type 0
 Names command name = (description_name command ≡ Some name) ⊎ ((place : ℕ) × IsAt command place (from_file name))
-
--- an image may be too long, or may have a fault
-abbrev pub MayBeFaulty : Shelf → Option Desc → ImageFrom → Type 0
-MayBeFaulty shelf desc from = HasTooMany shelf from ⊎ ((fault : ElfFault) × HasFault shelf desc from fault)
 
 -- the image at a place of a command is refused for this cause; the description and the images before it aren't
 abbrev pub ImageRefusedAt : CommandText → Shelf → ℕ → (Option Desc → ImageFrom → Type 0) → Type 0

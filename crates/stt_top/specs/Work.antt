@@ -4,8 +4,9 @@ use Rattle.rv_types.specs.Isa.{Run, isa, start}
 use Rattle.elf_loader.specs.Image.{ImageText}
 use Rattle.machine_desc.specs.declared.Desc.{Desc}
 use Rattle.pair_run.specs.Answer.{Answers}
-use Rattle.pair_run.specs.Starts.{loaded, trace_of}
-use Rattle.pair_run.specs.Images.{Fits}
+use Rattle.run_inputs.specs.Loaded.{loaded}
+use Rattle.pair_run.specs.Starts.{trace_of}
+use Rattle.run_inputs.specs.Loaded.{Fits}
 use Rattle.pair_run.specs.declared.answer.PairAnswer.{PairAnswer}
 use Rattle.pair_text.specs.Comparison.{comparison}
 use Rattle.report_text.specs.Report.{report_text}
@@ -13,8 +14,8 @@ use Rattle.trace_text.specs.TraceText as trace
 use Rattle.tool_io.specs.Outside.{Told, Wrote, WrotePart}
 use Rattle.tool_words.specs.Words.{CommandText, isa_text, run_text, trace_text, bench_text, pair_text}
 use Rattle.stt_top.specs.declared.outcome.Ended.{Ended}
-use Rattle.stt_top.specs.declared.outcome.Refusal.{Refusal}
-use Rattle.stt_top.specs.declared.outcome.Refusal.TheVariants.{Write, Memory}
+use Rattle.run_inputs.specs.declared.refusal.Refusal.{Refusal}
+use Rattle.run_inputs.specs.declared.refusal.Refusal.TheVariants.{Write, Memory}
 use Rattle.stt_top.specs.declared.task.Task.{Task}
 use Rattle.stt_top.specs.declared.task.Task.TheVariants.{Isa, Report, Trace, Pair}
 use Rattle.stt_top.specs.Outcome.{ended_of, compared_of}

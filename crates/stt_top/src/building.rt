@@ -1,8 +1,8 @@
 //! How cores are made of images.
 ghost use Rattle.std.specs.Prelude.{◌≡◌, IfOk};
 ghost use Rattle.elf_loader.specs.Code.{word_at};
-ghost use Rattle.pair_run.specs.Images.{Fits};
-ghost use Rattle.pair_run.specs.Starts.{loaded};
+ghost use Rattle.run_inputs.specs.Loaded.{Fits};
+ghost use Rattle.run_inputs.specs.Loaded.{loaded};
 ghost use Rattle.stt_top.specs.Running.{Starts};
 
 use elf_loader::Image;

@@ -1,6 +1,6 @@
 //! The instruction set's state in which a run begins.
 ghost use Rattle.std.specs.Prelude.{◌≡◌, IfOk};
-ghost use Rattle.pair_run.specs.Starts.{loaded};
+ghost use Rattle.run_inputs.specs.Loaded.{loaded};
 ghost use Rattle.stt_top.specs.Running.{Begins};
 
 use byte_ram::Ram;

@@ -1,17 +1,18 @@
 //! What a task comes to. All memory is taken before the first step or cycle, and nothing is written before.
 ghost use Rattle.std.specs.Prelude.{◌≡◌};
-ghost use Rattle.pair_run.specs.Images.{Fits};
-ghost use Rattle.pair_run.specs.Starts.{loaded};
+ghost use Rattle.run_inputs.specs.Loaded.{Fits};
+ghost use Rattle.run_inputs.specs.Loaded.{loaded};
 ghost use Rattle.stt_top.specs.Work.{isa_task, report_task, trace_task, pair_task, task_text, InMemory, Performs};
 
 use crate::building::{build, build_pair};
 use crate::loading::Machine;
-use crate::outcome::{Ended, Refusal, compared_of};
-use crate::task::{Described, Task};
+use crate::outcome::{Ended, compared_of};
+use crate::task::Task;
 use crate::{clocking, running};
 use elf_loader::Image;
 use machine_desc::Desc;
 use pair_text::write_comparison;
+use run_inputs::{Described, Refusal};
 use std::alloc::Global;
 use tool_io::Sink;
 

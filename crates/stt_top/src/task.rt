@@ -1,19 +1,16 @@
 //! What a command asks for, with all that it reads.
-ghost use Rattle.std.specs.Prelude.{◌≡◌, ◌∷◌, [], Some, Result, MatchResult, IfOk};
+ghost use Rattle.std.specs.Prelude.{◌≡◌, Result, IfOk};
 ghost use Rattle.std.specs.Option.{option_map};
-ghost use Rattle.pair_run.specs.Images.{Fits};
-ghost use Rattle.pair_run.specs.Starts.{loaded};
 ghost use Rattle.tool_io.specs.Outside.{SameContents};
 ghost use Rattle.tool_words.specs.Words.{command_text, isa_text, pair_text};
-ghost use Rattle.stt_top.specs.Input.{source_of, IsRead, Refuses};
 ghost use Rattle.stt_top.specs.Work.{task_text, InMemory};
 ghost use Rattle.stt_top.specs.Top.{ReadsTask};
 
-use crate::description::{read_description, read_named};
-use crate::outcome::{Refusal, Which};
-use crate::sources::{Source, read_image};
 use elf_loader::Image;
 use machine_desc::Desc;
+use run_inputs::{
+    Described, Refusal, Source, Which, read_described, read_description, read_image, read_named,
+};
 use std::alloc::Global;
 use tool_io::Files;
 use tool_words::Command;
@@ -43,32 +40,6 @@ pub enum Task {
         two: Image,
         cycles: u32,
     },
-}
-
-/// A description, and an image in its memory.
-#[derive(Drop)]
-pub struct Described {
-    pub desc: Desc,
-    pub image: Image,
-}
-
-// Reads a description and then the one image of a run under it. Nothing of the image is read where the description is refused.
-fn read_described<F: Files>(
-    alloc: Global,
-    description: &str,
-    source: Source<'_>,
-    files: &mut F,
-) -> Result<Described, Refusal>
-    ensures answer { MatchResult result
-        (λ i. IsRead (F.shelf files.old) (F.shelf files.new) (Some description.now) (source_of source.entry ∷ [])
-        (Some i.desc) (loaded i.image ∷ []))
-        (λ e. Refuses (Some description.now) (source_of source.entry ∷ []) (F.shelf files.old) (F.shelf files.new) e) }
-    ensures fits { IfOk result (λ i. Fits i.desc i.image.ram) }
-    ensures stays { SameContents (F.shelf files.old) (F.shelf files.new) }
-{
-    let desc = read_description(alloc, description, files)?;
-    let image = read_image(alloc, source, Which::First, Some(desc), files)?;
-    Ok(Described { desc, image })
 }
 
 // What `pair` asks for: reads a description and then two images under it, the second one only where the first has no fault.

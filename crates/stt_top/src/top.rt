@@ -4,15 +4,16 @@
 ghost use Rattle.std.specs.Prelude.{◌≡◌, map};
 ghost use Rattle.tool_io.specs.Outside.{SameContents};
 ghost use Rattle.stt_top.specs.Outcome.{status_of};
-ghost use Rattle.stt_top.specs.Note.{Notes};
+ghost use Rattle.run_inputs.specs.Note.{Notes};
 ghost use Rattle.stt_top.specs.Work.{OneWork};
-ghost use Rattle.stt_top.specs.Top.{world, Ends, Statuses};
+ghost use Rattle.run_inputs.specs.Told.{world};
+ghost use Rattle.stt_top.specs.Top.{Ends, Statuses};
 ghost use Rattle.stt_top.specs.Promises.{Promises, TracesAgree};
 
-use crate::note::note_line;
-use crate::outcome::{Ended, Refusal, status_of};
+use crate::outcome::{Ended, status_of};
 use crate::performing::perform;
 use crate::task::read_task;
+use run_inputs::{Refusal, note_line};
 use std::alloc::Global;
 use tool_io::{Files, Sink};
 use tool_words::read_words;

@@ -1,6 +1,7 @@
 -- What is written is the comparison of what the pair answers.
-use Rattle.stt_top.proofs.Outcomes.{at_exit, pair_answers, compared, compared_part}
-use Rattle.pair_run.specs.Starts.{loaded}
+use Rattle.run_inputs.proofs.Exits.{at_exit}
+use Rattle.stt_top.proofs.Outcomes.{pair_answers, compared, compared_part}
+use Rattle.run_inputs.specs.Loaded.{loaded}
 use Rattle.stt_top.specs.Work.{pair_task, Performs}
 use Rattle.stt_top.proofs.performing.pair.Goals as goal
 

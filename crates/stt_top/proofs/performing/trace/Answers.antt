@@ -1,7 +1,8 @@
 -- What a failing sink has taken is a part of the trace of the machine where the image begins.
-use Rattle.pair_run.specs.Starts.{loaded}
+use Rattle.run_inputs.specs.Loaded.{loaded}
 use Rattle.stt_top.specs.Work.{trace_task, Performs}
-use Rattle.stt_top.proofs.Outcomes.{at_exit, trace_part}
+use Rattle.run_inputs.proofs.Exits.{at_exit}
+use Rattle.stt_top.proofs.Outcomes.{trace_part}
 use Rattle.stt_top.proofs.performing.trace.Goals as goal
 
 pub returns-in_err-ended : goal.returns-in_err-ended

@@ -1,10 +1,10 @@
 -- The image is refused behind its description, or both are read.
 use Rattle.std.proofs.Common.{[], ◌∷◌, option_map, refl}
-use Rattle.stt_top.specs.declared.outcome.Which.TheVariants.{First}
-use Rattle.pair_run.specs.Starts.{loaded}
-use Rattle.stt_top.specs.Input.{from_file}
-use Rattle.stt_top.proofs.InTurn.{image_refused, one_read}
-use Rattle.stt_top.proofs.Outcomes.{at_err}
+use Rattle.run_inputs.specs.declared.refusal.Which.TheVariants.{First}
+use Rattle.run_inputs.specs.Loaded.{loaded}
+use Rattle.run_inputs.specs.Input.{from_file}
+use Rattle.run_inputs.proofs.InTurn.{image_refused, one_read}
+use Rattle.run_inputs.proofs.Exits.{at_err}
 use Rattle.stt_top.proofs.task.read_isa.Goals as goal
 
 pub returns-in_err-image-clause-answer : goal.returns-in_err-image-clause-answer

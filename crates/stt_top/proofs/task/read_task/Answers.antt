@@ -1,6 +1,6 @@
 -- The machine's run of an image asks for the task of what was read.
 use Rattle.std.proofs.Common.{[], ◌∷◌, Some, refl}
-use Rattle.pair_run.specs.Starts.{loaded}
+use Rattle.run_inputs.specs.Loaded.{loaded}
 use Rattle.stt_top.proofs.task.read_task.Goals as goal
 
 pub returns-in_ok-read-in-Run-clause-answer : goal.returns-in_ok-read-in-Run-clause-answer

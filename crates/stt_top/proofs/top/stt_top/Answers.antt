@@ -1,6 +1,6 @@
 -- What each status says, and what is promised besides, follows from how the program ends.
 use Rattle.std.proofs.Common.{List, ℕ, map, rules}
-use Rattle.stt_top.specs.Top.{World, world}
+use Rattle.run_inputs.specs.Told.{World, world}
 use Rattle.stt_top.proofs.Statuses.{statuses_at}
 use Rattle.stt_top.proofs.Promised.{promises_at}
 use Rattle.stt_top.proofs.top.stt_top.Goals as goal

@@ -1,7 +1,7 @@
 //! Reading a file whole, up to a limit.
 ghost use Rattle.std.specs.Prelude.{◌≡◌, MatchResult};
 ghost use Rattle.tool_io.specs.Outside.{SameContents, SameCounts};
-ghost use Rattle.stt_top.specs.Input.{MayHold, UnreadBy};
+ghost use Rattle.run_inputs.specs.Input.{MayHold, UnreadBy};
 
 use std::alloc::Global;
 use thiserror::Error;

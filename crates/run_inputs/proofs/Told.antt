@@ -9,9 +9,9 @@ use Rattle.tool_io.specs.Outside.{Shelf, GetsTold}
 use Rattle.machine_desc.proofs.SameDesc.{one_description}
 use Rattle.elf_loader.specs.Image.{ImageText, image_of}
 use Rattle.elf_loader.specs.declared.faults.ElfFault.{ElfFault}
-use Rattle.stt_top.specs.declared.outcome.Refusal.TheVariants.{DescriptionTooLong, Description}
-use Rattle.stt_top.specs.Input.{description_max, image_max, base_of, size_of, misaligned_of, ImageFrom, from_file, from_seed, HasBytes, HasDesc, NamedRefused, IsImage, AreImages, HasFault, HasTooMany}
-use Rattle.stt_top.specs.Top.{IsFaultyDescription, IsTooLong, IsFaultyImage, TellsDesc, TellsBytes, TellsImage, TellsImages}
+use Rattle.run_inputs.specs.declared.refusal.Refusal.TheVariants.{DescriptionTooLong, Description}
+use Rattle.run_inputs.specs.Input.{description_max, image_max, base_of, size_of, misaligned_of, ImageFrom, from_file, from_seed, HasBytes, HasDesc, NamedRefused, IsImage, AreImages, HasFault, HasTooMany}
+use Rattle.run_inputs.specs.Told.{IsFaultyDescription, IsTooLong, IsFaultyImage, TellsDesc, TellsBytes, TellsImage, TellsImages}
 
 -- what was read is what is told
 pub told_bytes : (o : Option (List ℕ)) (max : ℕ) (told read : List ℕ) → o ≡ Some told → GetsTold o max (Bytes read) → (read ≡ told) × (length told ≤ max)

@@ -5,11 +5,11 @@ use Rattle.elf_loader.specs.Image.{ImageText}
 use Rattle.machine_desc.specs.declared.Desc.{Desc}
 use Rattle.tool_io.specs.declared.Got.TheVariants.{Bytes, TooLong}
 use Rattle.tool_io.specs.Outside.{Shelf, GetsTold, SameCounts, SameContents, NameFailed, Rose}
-use Rattle.stt_top.specs.declared.outcome.Which.{Which}
-use Rattle.stt_top.specs.declared.outcome.Refusal.{Refusal}
-use Rattle.stt_top.specs.declared.outcome.Refusal.TheVariants.{ReadImage, ImageTooLong, Image, Memory}
-use Rattle.stt_top.specs.Outcome.{place_of}
-use Rattle.stt_top.specs.Input.{image_max, ImageFrom, from_file, from_seed, HasBytes, HasDesc, IsImage, FailsToRead, HasTooMany, ImageRefused, AreImages, IsRead, Refuses}
+use Rattle.run_inputs.specs.declared.refusal.Which.{Which}
+use Rattle.run_inputs.specs.declared.refusal.Refusal.{Refusal}
+use Rattle.run_inputs.specs.declared.refusal.Refusal.TheVariants.{ReadImage, ImageTooLong, Image, Memory}
+use Rattle.run_inputs.specs.Refused.{place_of}
+use Rattle.run_inputs.specs.Input.{image_max, ImageFrom, from_file, from_seed, HasBytes, HasDesc, IsImage, FailsToRead, HasTooMany, ImageRefused, AreImages, IsRead, Refuses}
 
 -- ---- What the files tell before and after
 

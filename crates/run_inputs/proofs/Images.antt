@@ -11,11 +11,10 @@ use Rattle.elf_loader.specs.declared.faults.ElfFault.{ElfFault}
 use Rattle.elf_loader.specs.declared.loading.Image.{Image}
 use Rattle.elf_loader.specs.Code.{word_at}
 use Rattle.elf_loader.specs.declared.faults.ElfFault.TheVariants as elf
-use Rattle.window_model.specs.Shape.{SameShape}
-use Rattle.pair_run.specs.Starts.{loaded}
-use Rattle.stt_top.specs.declared.outcome.Which.{Which}
-use Rattle.stt_top.specs.declared.outcome.Refusal.{Refusal}
-use Rattle.stt_top.specs.Input.{refusal_of, LoadRefused}
+use Rattle.run_inputs.specs.Loaded.{loaded}
+use Rattle.run_inputs.specs.declared.refusal.Which.{Which}
+use Rattle.run_inputs.specs.declared.refusal.Refusal.{Refusal}
+use Rattle.run_inputs.specs.Input.{refusal_of, LoadRefused}
 
 -- memory that is all 0
 abbrev pub empty : ℕ → ℕ → Bool → Ram
@@ -57,26 +56,34 @@ by_fault : (o : Option ElfFault) (i x : ImageText) → unless o i ≡ Ok x → i
 by_fault None i x e = cc
 by_fault (Some f) i x e = absurd (cc)
 
+-- a memory with this base, size and rule for addresses
+pub record LiesAt (base size : ℕ) (misaligned : Bool) (ram : Ram) : Type 0 where
+  pub base_is : ram.base ≡ base
+  pub size_is : length ram.bytes ≡ size
+  pub misaligned_is : ram.misaligned ≡ misaligned
+
 -- loading leaves memory in its place, and what it takes of accesses
-ram_stays : (file : List ℕ) (ram : Ram) → SameShape ram (ram_after file ram)
+ram_stays : (file : List ℕ) (ram : Ram) → LiesAt ram.base (length ram.bytes) ram.misaligned (ram_after file ram)
 unfolding ram_after
-ram_stays file ram = record { base = refl; size = length-map-range_with_len _ 0 (length ram.bytes); misaligned = refl }
+ram_stays file ram = record { base_is = refl; size_is = length-map-range_with_len _ 0 (length ram.bytes); misaligned_is = refl }
 
 -- an image lies in the memory that it was loaded into
-pub image_stays : (file : List ℕ) (base size : ℕ) (misaligned : Bool) (i : ImageText) → image_of file base size misaligned ≡ Ok i → SameShape (empty base size misaligned) i.ram
+pub image_stays : (file : List ℕ) (base size : ℕ) (misaligned : Bool) (i : ImageText) → image_of file base size misaligned ≡ Ok i → LiesAt base size misaligned i.ram
 unfolding image_of
 image_stays file base size misaligned i e =
     let ram = empty base size misaligned in
     let same : image_in file ram ≡ i = by_fault (first_some (header_fault file ∷ ram_fault file ram ∷ [])) (image_in file ram) i e in
-    subst (SameShape ram) (ap (λ (x : ImageText). x.ram) same) (ram_stays file ram)
+    let stays = ram_stays file ram in
+    subst (λ (x : ImageText). LiesAt base size misaligned x.ram) same
+    (record { base_is = stays.base_is; size_is = stays.size_is ∙ length_zeros size; misaligned_is = stays.misaligned_is })
 
 -- so does one that is loaded, if any is
 pub loaded_base : (file : List ℕ) (base size : ℕ) (misaligned : Bool) (r : Result Image Refusal) (Q : Refusal → Type 0)
     → MatchResult r (λ i. image_of file base size misaligned ≡ Ok (loaded i)) Q → IfOk r (λ i. i.ram.base ≡ base)
-loaded_base file base size misaligned (Ok i) Q h = (image_stays file base size misaligned (loaded i) h).base
+loaded_base file base size misaligned (Ok i) Q h = (image_stays file base size misaligned (loaded i) h).base_is
 loaded_base file base size misaligned (Err e) Q h = tt
 
 pub loaded_size : (file : List ℕ) (base size : ℕ) (misaligned : Bool) (r : Result Image Refusal) (Q : Refusal → Type 0)
     → MatchResult r (λ i. image_of file base size misaligned ≡ Ok (loaded i)) Q → IfOk r (λ i. length i.ram.bytes ≡ size)
-loaded_size file base size misaligned (Ok i) Q h = (image_stays file base size misaligned (loaded i) h).size ∙ length_zeros size
+loaded_size file base size misaligned (Ok i) Q h = (image_stays file base size misaligned (loaded i) h).size_is
 loaded_size file base size misaligned (Err e) Q h = tt

@@ -1,13 +1,13 @@
 //! The images of a command: where each comes from, its bytes, and the image that is loaded from them.
 ghost use Rattle.std.specs.Prelude.{◌≡◌, Ok, Result, MatchResult, IfOk, length};
 ghost use Rattle.elf_loader.specs.Image.{image_of};
-ghost use Rattle.pair_run.specs.Starts.{loaded};
+ghost use Rattle.run_inputs.specs.Loaded.{loaded};
 ghost use Rattle.tool_io.specs.Outside.{SameContents};
-ghost use Rattle.stt_top.specs.Input.{source_of, ReadsBytes, ReadsImage, LoadRefused, refusal_of};
-ghost use Rattle.stt_top.specs.Input.{base_of, size_of, misaligned_of};
+ghost use Rattle.run_inputs.specs.Input.{source_of, ReadsBytes, ReadsImage, LoadRefused, refusal_of};
+ghost use Rattle.run_inputs.specs.Input.{base_of, size_of, misaligned_of};
 
-use crate::outcome::{Refusal, Which};
 use crate::reading::{IMAGE_MAX, Unread, read_file};
+use crate::refusal::{Refusal, Which};
 use crate::region::Region;
 use byte_ram::Ram;
 use elf_loader::{ElfFault, Image, load, segments};

@@ -22,7 +22,7 @@ pub struct Region {
 }
 
 impl Region {
-    ghost use Rattle.stt_top.specs.Input.{base_of, size_of, misaligned_of};
+    ghost use Rattle.run_inputs.specs.Input.{base_of, size_of, misaligned_of};
 
     /// The memory of a run, by its description if it has one.
     pub fn of(desc: Option<Desc>) -> Self

@@ -1,10 +1,10 @@
 -- The image is refused behind its description.
 use Rattle.std.proofs.Common.{[], ◌∷◌, Some, refl}
-use Rattle.stt_top.specs.declared.outcome.Which.TheVariants.{First}
-use Rattle.stt_top.specs.Input.{source_of}
-use Rattle.stt_top.proofs.InTurn.{image_refused}
-use Rattle.stt_top.proofs.Outcomes.{at_err}
-use Rattle.stt_top.proofs.task.read_described.Goals as goal
+use Rattle.run_inputs.specs.declared.refusal.Which.TheVariants.{First}
+use Rattle.run_inputs.specs.Input.{source_of}
+use Rattle.run_inputs.proofs.InTurn.{image_refused}
+use Rattle.run_inputs.proofs.Exits.{at_err}
+use Rattle.run_inputs.proofs.described.read_described.Goals as goal
 
 pub returns-in_err-image-clause-answer : goal.returns-in_err-image-clause-answer
 returns-in_err-image-clause-answer g c =

@@ -1,8 +1,8 @@
 -- What is loaded is the file's image, and what is refused is its first fault.
 use Rattle.std.proofs.Common.{refl}
 use Rattle.elf_loader.proofs.Images.{image_headers}
-use Rattle.stt_top.proofs.Images.{load_refused, loads}
-use Rattle.stt_top.proofs.sources.image_in.Goals as goal
+use Rattle.run_inputs.proofs.Images.{load_refused, loads}
+use Rattle.run_inputs.proofs.sources.image_in.Goals as goal
 
 pub returns-in-Err : goal.returns-in-Err
 returns-in-Err c = (refl, image_headers _ _ _ _ _ c.in-Err.ensures)

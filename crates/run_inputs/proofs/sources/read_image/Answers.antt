@@ -1,7 +1,7 @@
 -- An image lies in the memory of its description.
-use Rattle.stt_top.specs.Input.{LoadRefused, base_of, size_of, misaligned_of}
-use Rattle.stt_top.proofs.Images.{loaded_base, loaded_size}
-use Rattle.stt_top.proofs.sources.read_image.Goals as goal
+use Rattle.run_inputs.specs.Input.{LoadRefused, base_of, size_of, misaligned_of}
+use Rattle.run_inputs.proofs.Images.{loaded_base, loaded_size}
+use Rattle.run_inputs.proofs.sources.read_image.Goals as goal
 
 pub returns-clause-base : goal.returns-clause-base
 returns-clause-base g c =

@@ -1,9 +1,9 @@
 //! The line that a refusal writes to the note (`docs/formats.md`, "Notes").
 ghost use Rattle.std.specs.Prelude.{◌≡◌, ◌≤◌, ◌+◌, ◌++◌, length, codes};
-ghost use Rattle.stt_top.specs.Note.{numbered, image_fault, printable, printed, description_fault, image_word, refusal_words, note_line};
+ghost use Rattle.run_inputs.specs.Note.{numbered, image_fault, printable, printed, description_fault, image_word, refusal_words, note_line};
 ghost use Rattle.std.specs.Fmt.{signed_decimal};
 
-use crate::outcome::{Refusal, Which};
+use crate::refusal::{Refusal, Which};
 use elf_loader::ElfFault;
 use line_text::Line;
 use machine_desc::DescFault;

@@ -7,11 +7,10 @@ use Rattle.machine_desc.specs.Table.{key_text, subject_text}
 use Rattle.machine_desc.specs.declared.fault.DescFault.{DescFault}
 use Rattle.machine_desc.specs.declared.fault.DescFault.TheVariants as desc
 use Rattle.tool_io.specs.Outside.{Told, Wrote, WrotePart}
-use Rattle.stt_top.specs.declared.outcome.Which.{Which}
-use Rattle.stt_top.specs.declared.outcome.Which.TheVariants.{First, Second}
-use Rattle.stt_top.specs.declared.outcome.Ended.{Ended}
-use Rattle.stt_top.specs.declared.outcome.Refusal.{Refusal}
-use Rattle.stt_top.specs.declared.outcome.Refusal.TheVariants.{Words, ReadDescription, DescriptionTooLong, Description, ReadImage, ImageTooLong, Image, Write, Memory}
+use Rattle.run_inputs.specs.declared.refusal.Which.{Which}
+use Rattle.run_inputs.specs.declared.refusal.Which.TheVariants.{First, Second}
+use Rattle.run_inputs.specs.declared.refusal.Refusal.{Refusal}
+use Rattle.run_inputs.specs.declared.refusal.Refusal.TheVariants.{Words, ReadDescription, DescriptionTooLong, Description, ReadImage, ImageTooLong, Image, Write, Memory}
 
 -- a text, and then a number in decimal
 abbrev pub numbered : List ℕ → ℕ → List ℕ
@@ -75,6 +74,6 @@ unfoldable pub note_line : Refusal → List ℕ
 note_line refusal = refusal_words refusal ++ codes "\n"
 
 -- the note gets the line of a refusal, all of it or, where it fails, a part; nothing else
-abbrev pub Notes : Result Ended Refusal → Told → Told → Type 0
-Notes (Ok ended) old new = new ≡ old
+abbrev pub Notes : {T : Type 0} → Result T Refusal → Told → Told → Type 0
+Notes (Ok done) old new = new ≡ old
 Notes (Err refusal) old new = Wrote (note_line refusal) old new ⊎ WrotePart (note_line refusal) old new

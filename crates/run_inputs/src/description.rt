@@ -3,10 +3,10 @@ ghost use Rattle.std.specs.Prelude.{◌≡◌, Option, Some, Result, MatchResult
 ghost use Rattle.std.specs.Option.{option_map};
 ghost use Rattle.machine_desc.specs.Description.{Describes};
 ghost use Rattle.tool_io.specs.Outside.{SameContents, SameCounts};
-ghost use Rattle.stt_top.specs.Input.{TextRefused, HasDesc, DescriptionRefused, ReadsDesc};
+ghost use Rattle.run_inputs.specs.Input.{TextRefused, HasDesc, DescriptionRefused, ReadsDesc};
 
-use crate::outcome::Refusal;
 use crate::reading::{DESCRIPTION_MAX, Unread, read_file};
+use crate::refusal::Refusal;
 use machine_desc::{Desc, DescFault, read_desc};
 use std::alloc::Global;
 use tool_io::Files;

@@ -1,7 +1,7 @@
 -- The text that was read is described.
 use Rattle.std.proofs.Common.{ℕ, List, refl, subst}
 use Rattle.machine_desc.specs.Description.{Describes}
-use Rattle.stt_top.proofs.description.read_description.Goals as goal
+use Rattle.run_inputs.proofs.description.read_description.Goals as goal
 
 pub returns-in-Ok-desc_in-clause-answer : goal.returns-in-Ok-desc_in-clause-answer
 returns-in-Ok-desc_in-clause-answer g c =

@@ -8,17 +8,17 @@ use Rattle.elf_loader.specs.declared.loading.Image.{Image}
 use Rattle.gen_image.specs.Generated.{generated_image}
 use Rattle.machine_desc.specs.Description.{description_of, Describes}
 use Rattle.machine_desc.specs.declared.Desc.{Desc}
-use Rattle.pair_run.specs.Starts.{loaded}
+use Rattle.run_inputs.specs.Loaded.{loaded}
 use Rattle.tool_io.specs.declared.Got.TheVariants.{Bytes, TooLong}
 use Rattle.tool_io.specs.Outside.{Shelf, GetsTold, SameCounts, NameFailed}
-use Rattle.stt_top.specs.Outcome.{place_of}
-use Rattle.stt_top.specs.declared.sources.Source.{Source}
-use Rattle.stt_top.specs.declared.sources.Source.TheVariants.{File, Seed}
-use Rattle.stt_top.specs.declared.reading.Unread.{Unread}
-use Rattle.stt_top.specs.declared.reading.Unread.TheVariants.{Failed as ReadFailed, TooLong as TooMany, NoMemory}
-use Rattle.stt_top.specs.declared.outcome.Which.{Which}
-use Rattle.stt_top.specs.declared.outcome.Refusal.{Refusal}
-use Rattle.stt_top.specs.declared.outcome.Refusal.TheVariants.{ReadDescription, DescriptionTooLong, Description, ReadImage, ImageTooLong, Image as NoImage, Memory}
+use Rattle.run_inputs.specs.Refused.{place_of}
+use Rattle.run_inputs.specs.declared.sources.Source.{Source}
+use Rattle.run_inputs.specs.declared.sources.Source.TheVariants.{File, Seed}
+use Rattle.run_inputs.specs.declared.reading.Unread.{Unread}
+use Rattle.run_inputs.specs.declared.reading.Unread.TheVariants.{Failed as ReadFailed, TooLong as TooMany, NoMemory}
+use Rattle.run_inputs.specs.declared.refusal.Which.{Which}
+use Rattle.run_inputs.specs.declared.refusal.Refusal.{Refusal}
+use Rattle.run_inputs.specs.declared.refusal.Refusal.TheVariants.{ReadDescription, DescriptionTooLong, Description, ReadImage, ImageTooLong, Image as NoImage, Memory}
 
 -- the most bytes of a description, and of an image (docs/formats.md, "Words")
 abbrev pub description_max : ℕ

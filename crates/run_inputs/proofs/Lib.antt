@@ -1,0 +1,4 @@
+pub mod Exits
+pub mod Images
+pub mod InTurn
+pub mod Told

@@ -1,0 +1,5 @@
+pub mod Loaded
+pub mod Refused
+pub mod Input
+pub mod Told
+pub mod Note

@@ -1,0 +1,39 @@
+//! A description, and then an image in its memory.
+ghost use Rattle.std.specs.Prelude.{◌≡◌, ◌∷◌, [], Some, MatchResult, IfOk};
+ghost use Rattle.tool_io.specs.Outside.{SameContents};
+ghost use Rattle.run_inputs.specs.Loaded.{Fits, loaded};
+ghost use Rattle.run_inputs.specs.Input.{source_of, IsRead, Refuses};
+
+use crate::description::read_description;
+use crate::refusal::{Refusal, Which};
+use crate::sources::{Source, read_image};
+use elf_loader::Image;
+use machine_desc::Desc;
+use std::alloc::Global;
+use tool_io::Files;
+
+/// A description, and an image in its memory.
+#[derive(Drop)]
+pub struct Described {
+    pub desc: Desc,
+    pub image: Image,
+}
+
+/// Reads a description and then the one image of a run under it. Nothing of the image is read where the description is refused.
+pub fn read_described<F: Files>(
+    alloc: Global,
+    description: &str,
+    source: Source<'_>,
+    files: &mut F,
+) -> Result<Described, Refusal>
+    ensures answer { MatchResult result
+        (λ i. IsRead (F.shelf files.old) (F.shelf files.new) (Some description.now) (source_of source.entry ∷ [])
+        (Some i.desc) (loaded i.image ∷ []))
+        (λ e. Refuses (Some description.now) (source_of source.entry ∷ []) (F.shelf files.old) (F.shelf files.new) e) }
+    ensures fits { IfOk result (λ i. Fits i.desc i.image.ram) }
+    ensures stays { SameContents (F.shelf files.old) (F.shelf files.new) }
+{
+    let desc = read_description(alloc, description, files)?;
+    let image = read_image(alloc, source, Which::First, Some(desc), files)?;
+    Ok(Described { desc, image })
+}
