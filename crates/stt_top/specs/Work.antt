@@ -7,7 +7,7 @@ use Rattle.pair_run.specs.Answer.{Answers}
 use Rattle.pair_run.specs.Starts.{loaded, trace_of}
 use Rattle.pair_run.specs.Images.{Fits}
 use Rattle.pair_run.specs.declared.answer.PairAnswer.{PairAnswer}
-use Rattle.pair_text.specs.Comparison.{comparison}
+use Rattle.pair_run.specs.Comparison.{comparison}
 use Rattle.report_text.specs.Report.{report_text}
 use Rattle.trace_text.specs.TraceText as trace
 use Rattle.tool_io.specs.Outside.{Told, Wrote, WrotePart}

@@ -1,15 +1,13 @@
-//! The text that tells how the runs of two images compare: three lines.
+//! The text of an answer: three lines.
 //!
 //! What each line says stands in `specs/Comparison.antt` (`docs/formats.md`, "The comparison"). A put has one line, and
 //! nothing here takes memory.
-#![tactic(auto)]
-
 ghost use Rattle.std.specs.Prelude.{◌≡◌};
 ghost use Rattle.tool_io.specs.Outside.{Writes};
-ghost use Rattle.pair_text.specs.Comparison.{premise_line, differ_line, length_line, comparison};
+ghost use Rattle.pair_run.specs.Comparison.{premise_line, differ_line, length_line, comparison};
 
+use crate::answer::{Differ, PairAnswer};
 use line_text::Line;
-use pair_run::{Differ, PairAnswer};
 use tool_io::{Failed, Sink};
 
 fn premise_line(premise: bool) -> &'static [u8]

@@ -1,7 +1,7 @@
 -- The lines in turn are the text.
 use Rattle.tool_io.proofs.Writing.{wrote_then_part, part_more, writes_then, writes_part}
-use Rattle.pair_text.specs.Comparison.{comparison}
-use Rattle.pair_text.proofs.write_comparison.Goals as goal
+use Rattle.pair_run.specs.Comparison.{comparison}
+use Rattle.pair_run.proofs.text.write_comparison.Goals as goal
 
 pub returns-in_err-write_premise : goal.returns-in_err-write_premise
 unfolding comparison
