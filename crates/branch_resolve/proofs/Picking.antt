@@ -12,7 +12,7 @@ use Rattle.window_model.specs.Taint.{settled_as}
 use Rattle.visibility.specs.Point.{is_hidden}
 use Rattle.rob_ring.specs.Ring.{IsNext, is_open}
 use Rattle.rob_ring.proofs.Gaps.{to_end, to_next}
-use Rattle.branch_resolve.specs.Pick.{pick_from, can_resolve}
+use Rattle.visibility.specs.Pick.{pick_from, can_resolve}
 
 -- ---- at a position
 

@@ -1,7 +1,7 @@
 //! Which entry is resolved.
 ghost use Rattle.std.specs.Prelude.{◌≡◌, ◌<◌, length, slice_get, Some};
 ghost use Rattle.rob_ring.specs.Beside.{each_roots};
-ghost use Rattle.branch_resolve.specs.Pick.{can_resolve, pick_from};
+ghost use Rattle.visibility.specs.Pick.{can_resolve, pick_from};
 
 use circular_buffer::HeapCircularBuffer;
 use rob_ring::{RobRing, Sources, sources_at};

@@ -31,7 +31,7 @@ fn next_due<R: RenameTaint>(parts: &Parts<R>) -> u32
     entries_due(&parts.rob, cycle, comes) as u32
 }
 
-// The sooner of the two, where the first is due after this cycle.
+// The sooner of a cycle in which something is due and the least so far; the least where it isn't due after this cycle.
 fn sooner(due: u64, cycle: u64, least: u64) -> u64
     ensures due { NotDueBefore result cycle due }
     ensures sooner { result ≤ least }
@@ -43,7 +43,7 @@ fn sooner(due: u64, cycle: u64, least: u64) -> u64
     }
 }
 
-// The same of what an entry is busy with.
+// The sooner of the cycle until which an entry is busy and the least so far; the least where it isn't busy, or not past this cycle.
 fn done_sooner(state: Progress, cycle: u64, least: u64) -> u64
     ensures done { NotDoneBefore result cycle state }
     ensures sooner { result ≤ least }

@@ -18,7 +18,7 @@ use Rattle.window_model.specs.Ready.{all_known, ready}
 use Rattle.stations.specs.Stations.{is_able, ready_part}
 use Rattle.stations.specs.declared.wants.Part.{Part}
 use Rattle.rob_ring.specs.Beside.{each_roots}
-use Rattle.transmit_gate.specs.Gate.{may_transmit}
+use Rattle.visibility.specs.Gate.{may_transmit}
 use Rattle.unit_ports.specs.Ports.{Ports, left_at, port_for, taken_at}
 use Rattle.unit_ports.specs.Laws.{LeftAfter, asked, if_asked}
 use Rattle.unit_ports.proofs.Granting.{granted_is, left_more}

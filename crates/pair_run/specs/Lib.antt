@@ -4,3 +4,4 @@ pub mod Running
 pub mod Loaded
 pub mod Images
 pub mod Laws
+pub mod Comparison

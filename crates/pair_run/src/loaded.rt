@@ -32,7 +32,7 @@ fn same_byte(one: &Ram, two: &[u8], addr: u64) -> bool
     byte_or_zero(two, place) == byte_or_zero(one.bytes(), place)
 }
 
-// Whether they have all of those from an address on.
+// Whether these bytes, from the memory's first address on, have the memory's byte at each of so many addresses from one on.
 fn same_bytes(one: &Ram, two: &[u8], from: u32, len: u32) -> bool
     ensures { IsTrue result ↔ All (SameByte one.now two.now) (range from len) }
 {
@@ -57,8 +57,8 @@ fn ends_path(model: SttModel, stepped: Stepped, passed: Option<Cause>) -> bool
     }
 }
 
-// Whether they have the memory's byte at each address that a model's path loads from, in so many steps from a state. The
-// state goes on as far as that takes.
+// Whether these bytes, from the memory's first address on, have the memory's byte at each address that a model's path loads from,
+// in so many steps from a state. The state goes on as far as that takes.
 fn loads_agree(state: &mut Isa, model: SttModel, one: &Ram, two: &[u8], steps: u64) -> bool
     ensures { IsTrue result
         ↔ All (SameByte one.now two.now) (reads (path model) (word_at state.old.code) state.old.hart steps) }
@@ -81,7 +81,8 @@ fn loads_agree(state: &mut Isa, model: SttModel, one: &Ram, two: &[u8], steps: u
     true
 }
 
-// The same of as many bytes as the memory has, taken for those of a second one at its place that takes the same accesses.
+// Whether a memory and a second one at its place, with one rule for addresses and these bytes, agree on each byte that a model's
+// path loads in so many steps from a state. The state goes on as far as that takes.
 fn memories_agree(state: &mut Isa, model: SttModel, one: &Ram, two: &[u8], steps: u64) -> bool
     requires { length two.now ≡ length one.now.bytes }
     ensures { IsTrue result ↔ Agree one.now (record one.now { bytes = two.now })

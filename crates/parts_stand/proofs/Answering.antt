@@ -29,8 +29,8 @@ use Rattle.stations.specs.declared.wants.Part.TheVariants as part
 use Rattle.stations.specs.declared.wants.Wants.{Wants}
 use Rattle.stations.specs.declared.wants.Wants.TheVariants as wants
 use Rattle.visibility.specs.Point.{Point, HasAdvanced, HasMoved, is_hidden}
-use Rattle.branch_resolve.specs.Pick.{can_resolve, pick_from}
-use Rattle.transmit_gate.specs.Gate.{may_transmit}
+use Rattle.visibility.specs.Pick.{can_resolve, pick_from}
+use Rattle.visibility.specs.Gate.{may_transmit}
 use Rattle.parts_stand.specs.Roots.{youngest_root, root_of_source, source_roots, unretired}
 use Rattle.parts_stand.specs.Parts.{Hold, Parts, RootsStand, Waiter, awaited, awaited_of, gives_at, oldest_of, waiter_in, waiter_of, waiters_from, wants_of, writes_in}
 use Rattle.parts_stand.specs.Steps.{station_of}

@@ -22,8 +22,8 @@ use Rattle.stations.specs.declared.wants.Part.TheVariants as part
 use Rattle.stations.specs.declared.wants.Wants.{Wants}
 use Rattle.stations.specs.declared.wants.Wants.TheVariants as wants
 use Rattle.visibility.specs.Point.{Point, HasAdvanced, is_hidden}
-use Rattle.branch_resolve.specs.Pick.{pick_from}
-use Rattle.transmit_gate.specs.Gate.{may_transmit}
+use Rattle.visibility.specs.Pick.{pick_from}
+use Rattle.visibility.specs.Gate.{may_transmit}
 use Rattle.parts_stand.specs.Roots.{youngest_root, unretired}
 use Rattle.parts_stand.specs.Parts.{Hold, Parts, Stand, awaited, awaited_of, gives_at, oldest_of, waiter_in, waiter_of, wants_of}
 use Rattle.parts_stand.specs.Steps.{station_of}

@@ -1,7 +1,6 @@
 //! The three lines of each answer of two runs, and a put that fails at each of them.
 use crate::running::sink_of;
-use pair_run::{Differ, PairAnswer};
-use pair_text::write_comparison;
+use pair_run::{Differ, PairAnswer, write_comparison};
 use std::test::Fail;
 use tool_io::Failed;
 

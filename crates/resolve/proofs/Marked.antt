@@ -31,7 +31,7 @@ use Rattle.history_pred.specs.Past.{Past}
 use Rattle.visibility.specs.Point.{HasAdvanced, NotPast}
 use Rattle.branch_resolve.specs.Effect.{resolution_of, taught, told}
 use Rattle.branch_resolve.specs.declared.effect.Resolution.TheVariants.{Right}
-use Rattle.branch_resolve.specs.Pick.{pick_from}
+use Rattle.visibility.specs.Pick.{pick_from}
 use Rattle.parts_stand.proofs.Answering.{picks_first}
 use Rattle.rob_ring.specs.Beside.{each_roots}
 use Rattle.core_parts.specs.Described.{Described}

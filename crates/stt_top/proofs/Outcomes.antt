@@ -11,7 +11,7 @@ use Rattle.pair_run.specs.Images.{Images}
 use Rattle.pair_run.specs.Running.{trace_from}
 use Rattle.run_inputs.specs.Loaded.{loaded}
 use Rattle.pair_run.specs.declared.answer.PairAnswer.{PairAnswer}
-use Rattle.pair_text.specs.Comparison.{comparison}
+use Rattle.pair_run.specs.Comparison.{comparison}
 use Rattle.tool_io.specs.Outside.{Told, Shelf, Wrote, WrotePart}
 use Rattle.trace_text.specs.TraceText.{trace_text}
 use Rattle.window_model.specs.State.{Machine}

@@ -19,7 +19,7 @@ use Rattle.pair_run.specs.Answer.{Answers}
 use Rattle.pair_run.specs.Starts.{trace_of}
 use Rattle.pair_run.specs.declared.answer.PairAnswer.{PairAnswer}
 use Rattle.pair_run.proofs.Answering.{one_trace, premise_traces}
-use Rattle.pair_text.specs.Comparison.{comparison}
+use Rattle.pair_run.specs.Comparison.{comparison}
 use Rattle.stt_top.specs.Clocking.{run_from}
 use Rattle.stt_top.specs.Running.{opening_of}
 use Rattle.stt_top.specs.declared.outcome.Ended.{Ended}

@@ -18,7 +18,7 @@ use Rattle.pair_run.specs.Answer.{Answers}
 use Rattle.pair_run.specs.Starts.{trace_of}
 use Rattle.pair_run.specs.declared.answer.Differ.TheVariants.{Same}
 use Rattle.pair_run.specs.declared.answer.PairAnswer.{PairAnswer}
-use Rattle.pair_text.specs.Comparison.{comparison}
+use Rattle.pair_run.specs.Comparison.{comparison}
 use Rattle.stt_top.specs.Work.{TaskText, isa_task, report_task, trace_task, pair_task, run_of}
 use Rattle.stt_top.specs.Top.{Asks, Runs, IsRun}
 use Rattle.run_inputs.specs.Told.{World}

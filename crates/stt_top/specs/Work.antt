@@ -8,7 +8,7 @@ use Rattle.run_inputs.specs.Loaded.{loaded}
 use Rattle.pair_run.specs.Starts.{trace_of}
 use Rattle.run_inputs.specs.Loaded.{Fits}
 use Rattle.pair_run.specs.declared.answer.PairAnswer.{PairAnswer}
-use Rattle.pair_text.specs.Comparison.{comparison}
+use Rattle.pair_run.specs.Comparison.{comparison}
 use Rattle.report_text.specs.Report.{report_text}
 use Rattle.trace_text.specs.TraceText as trace
 use Rattle.tool_io.specs.Outside.{Told, Wrote, WrotePart}

@@ -11,7 +11,7 @@ use crate::task::Task;
 use crate::{clocking, running};
 use elf_loader::Image;
 use machine_desc::Desc;
-use pair_text::write_comparison;
+use pair_run::write_comparison;
 use run_inputs::{Described, Refusal};
 use std::alloc::Global;
 use tool_io::Sink;

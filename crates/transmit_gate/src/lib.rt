@@ -5,7 +5,7 @@
 #![tactic(auto)]
 
 ghost use Rattle.std.specs.Prelude.{◌≡◌};
-ghost use Rattle.transmit_gate.specs.Gate.{may_transmit};
+ghost use Rattle.visibility.specs.Gate.{may_transmit};
 
 use rv_types::Kind;
 use visibility::VisPoint;

@@ -3,9 +3,6 @@ pub mod Shadows
 pub mod Accesses
 pub mod Flow
 pub mod Corners
-pub mod Described
-pub mod Agreed
-pub mod Agreeing
 pub mod Marks
 pub mod Version2
 pub mod PassedStores

@@ -58,7 +58,7 @@ class Evaluate(unittest.TestCase):
     def test_definitions_have_what_the_folders_have(self):
         for name in NAMES:
             module = "".join(part.capitalize() for part in name.split("_"))
-            text = content(ROOT, "crates", "worked_runs", "specs", module + ".antt").decode()
+            text = content(ROOT, "crates", "generated_runs", "specs", module + ".antt").decode()
             image = b"".join(struct.pack("<I", int(word, 16)) for word in re.findall(r"0x([0-9a-f]{8}) ∷", text))
             with self.subTest(name):
                 self.assertEqual(lines_of(text, "description"), content(RUNS, name, "core.toml"))

@@ -1,6 +1,6 @@
 use Rattle.std.proofs.Common.{◌≡◌, ◌≤◌, ◌-◌, drop, length}
 use Rattle.rob_ring.specs.Beside.{each_roots}
-use Rattle.branch_resolve.specs.Pick.{pick_from}
+use Rattle.visibility.specs.Pick.{pick_from}
 use Rattle.branch_resolve.proofs.choice.pick.Given as goal
 
 abbrev pub invariant-loop-i : goal.invariant-loop-i

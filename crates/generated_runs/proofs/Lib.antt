@@ -1,0 +1,3 @@
+pub mod Described
+pub mod Agreed
+pub mod Agreeing

@@ -1,0 +1,143 @@
+-- Made by tools/evaluate/write: change what it reads, in tools/evaluate/runs, and run it again.
+use Rattle.std.specs.Prelude.{[], ◌∷◌}
+use Rattle.generated_runs.specs.Agreement.{Run, lines}
+
+-- its code:
+-- 00010000 lw x5,0(x2)
+-- 00010004 add x6,x5,x2
+-- 00010008 lw x5,-32(x6)
+-- 0001000c add x6,x5,x2
+-- 00010010 lw x5,-16(x6)
+-- 00010014 add x6,x5,x2
+-- 00010018 lw x7,0(x6)
+-- 0001001c lw x8,-32(x6)
+-- 00010020 lw x5,0(x6)
+-- 00010024 add x6,x5,x8
+-- 00010028 add x6,x6,x2
+-- 0001002c lw x5,-64(x6)
+-- 00010030 add x6,x5,x2
+-- 00010034 lw x5,0(x6)
+-- 00010038 addi x17,x0,93
+-- 0001003c ecall
+abbrev pub join_leaves_second : Run
+join_leaves_second = record {
+  description = lines (
+      "version = 2" ∷
+      "[core]" ∷
+      "fetch_width = 2" ∷
+      "retire_width = 2" ∷
+      "rob = 16" ∷
+      "stations = 8" ∷
+      "loads = 4" ∷
+      "stores = 4" ∷
+      "queue = 8" ∷
+      "[units]" ∷
+      "alus = 2" ∷
+      "mul_latency = 3" ∷
+      "[predictor]" ∷
+      "counters = 16" ∷
+      "btb = 4" ∷
+      "depend = 0" ∷
+      "history = 0" ∷
+      "returns = 0" ∷
+      "[cache]" ∷
+      "sets = 1" ∷
+      "ways = 1" ∷
+      "line = 16" ∷
+      "hit_latency = 2" ∷
+      "miss_latency = 10" ∷
+      "mshrs = 2" ∷
+      "second_sets = 2" ∷
+      "second_ways = 2" ∷
+      "second_latency = 9" ∷
+      "prefetch = 0" ∷
+      "[ram]" ∷
+      "base = 65536" ∷
+      "size = 65536" ∷
+      "misaligned = 0" ∷
+      "[stt]" ∷
+      "model = \"spectre\"" ∷
+      "defence = \"stt\"" ∷
+      []);
+  image =
+      0x464c457f ∷ 0x00010101 ∷ 0x00000000 ∷ 0x00000000 ∷ 0x00f30002 ∷ 0x00000001 ∷ 0x00010000 ∷ 0x00000034 ∷
+      0x00000000 ∷ 0x00000000 ∷ 0x00200034 ∷ 0x00000001 ∷ 0x00000000 ∷ 0x00000001 ∷ 0x00000054 ∷ 0x00010000 ∷
+      0x00010000 ∷ 0x00000040 ∷ 0x00000040 ∷ 0x00000005 ∷ 0x00000004 ∷ 0x00012283 ∷ 0x00228333 ∷ 0xfe032283 ∷
+      0x00228333 ∷ 0xff032283 ∷ 0x00228333 ∷ 0x00032383 ∷ 0xfe032403 ∷ 0x00032283 ∷ 0x00828333 ∷ 0x00230333 ∷
+      0xfc032283 ∷ 0x00228333 ∷ 0x00032283 ∷ 0x05d00893 ∷ 0x00000073 ∷
+      [];
+  cycles = 200;
+  trace = lines (
+      "1 fet:00010000 fet:00010004" ∷
+      "2 ren:0:00010000 ren:1:00010004 fet:00010008 fet:0001000c" ∷
+      "3 ld:0:0001fff0:m ren:2:00010008 ren:3:0001000c fet:00010010 fet:00010014" ∷
+      "4 ren:4:00010010 ren:5:00010014 fet:00010018 fet:0001001c" ∷
+      "5 ren:6:00010018 fet:00010020 fet:00010024" ∷
+      "6 fet:00010028 fet:0001002c" ∷
+      "7 fet:00010030 fet:00010034" ∷
+      "8 fet:00010038" ∷
+      "9" ∷
+      "10" ∷
+      "11" ∷
+      "12" ∷
+      "13 fill:0001fff0 done:0 ret:0 alu:1 ren:7:0001001c fet:0001003c" ∷
+      "14 done:1 ret:1 ld:2:0001ffd0:m" ∷
+      "15" ∷
+      "16" ∷
+      "17" ∷
+      "18" ∷
+      "19" ∷
+      "20" ∷
+      "21" ∷
+      "22" ∷
+      "23" ∷
+      "24 fill:0001ffd0 done:2 ret:2 alu:3 ren:8:00010020 ren:9:00010024 fet:00010040" ∷
+      "25 done:3 ret:3 ld:4:0001ffe0:m ren:10:00010028" ∷
+      "26" ∷
+      "27" ∷
+      "28" ∷
+      "29" ∷
+      "30" ∷
+      "31" ∷
+      "32" ∷
+      "33" ∷
+      "34" ∷
+      "35 fill:0001ffe0 done:4 ret:4 alu:5 ren:11:0001002c ren:12:00010030" ∷
+      "36 done:5 ret:5 ld:6:0001fff0:2" ∷
+      "37 ld:7:0001ffd0:2" ∷
+      "38 ld:8:0001fff0:j" ∷
+      "39" ∷
+      "40" ∷
+      "41" ∷
+      "42" ∷
+      "43" ∷
+      "44" ∷
+      "45 fill:0001fff0 done:6 done:8 ret:6 ren:13:00010034 ren:14:00010038" ∷
+      "46 fill:0001ffd0 done:7 ret:7 ret:8 alu:9 alu:14" ∷
+      "47 done:9 done:14 ret:9 alu:10" ∷
+      "48 done:10 ret:10 ld:11:0001ffb0:m" ∷
+      "49" ∷
+      "50" ∷
+      "51" ∷
+      "52" ∷
+      "53" ∷
+      "54" ∷
+      "55" ∷
+      "56" ∷
+      "57" ∷
+      "58 fill:0001ffb0 done:11 ret:11 alu:12" ∷
+      "59 done:12 ret:12 ld:13:0001fff0:m" ∷
+      "60" ∷
+      "61" ∷
+      "62" ∷
+      "63" ∷
+      "64" ∷
+      "65" ∷
+      "66" ∷
+      "67" ∷
+      "68" ∷
+      "69 fill:0001fff0 done:13 ret:13 ret:14 ren:15:0001003c" ∷
+      "70 ret:15 call:15:0" ∷
+      "end exit 0 retired 16 cycles 70" ∷
+      []);
+}

@@ -1,0 +1,62 @@
+-- Made by tools/evaluate/write: change what it reads, in tools/evaluate/runs, and run it again.
+use Rattle.std.specs.Prelude.{[], ◌∷◌}
+use Rattle.generated_runs.specs.Agreement.{Run, lines}
+
+-- its code:
+-- 00010000 auipc x5,0x0
+-- 00010004 jalr x1,16(x5)
+-- 00010008 addi x17,x0,93
+-- 0001000c ecall
+-- 00010010 jalr x0,0(x1)
+abbrev pub linking_jump : Run
+linking_jump = record {
+  description = lines (
+      "version = 2" ∷
+      "[core]" ∷
+      "fetch_width = 2" ∷
+      "retire_width = 2" ∷
+      "rob = 16" ∷
+      "stations = 8" ∷
+      "loads = 4" ∷
+      "stores = 4" ∷
+      "queue = 8" ∷
+      "[units]" ∷
+      "alus = 2" ∷
+      "mul_latency = 3" ∷
+      "[predictor]" ∷
+      "counters = 16" ∷
+      "btb = 4" ∷
+      "returns = 4" ∷
+      "[cache]" ∷
+      "sets = 2" ∷
+      "ways = 2" ∷
+      "line = 16" ∷
+      "hit_latency = 2" ∷
+      "miss_latency = 10" ∷
+      "mshrs = 2" ∷
+      "[ram]" ∷
+      "base = 65536" ∷
+      "size = 65536" ∷
+      "[stt]" ∷
+      "model = \"spectre\"" ∷
+      []);
+  image =
+      0x464c457f ∷ 0x00010101 ∷ 0x00000000 ∷ 0x00000000 ∷ 0x00f30002 ∷ 0x00000001 ∷ 0x00010000 ∷ 0x00000034 ∷
+      0x00000000 ∷ 0x00000000 ∷ 0x00200034 ∷ 0x00000001 ∷ 0x00000000 ∷ 0x00000001 ∷ 0x00000054 ∷ 0x00010000 ∷
+      0x00010000 ∷ 0x00000014 ∷ 0x00000014 ∷ 0x00000005 ∷ 0x00000004 ∷ 0x00000297 ∷ 0x010280e7 ∷ 0x05d00893 ∷
+      0x00000073 ∷ 0x00008067 ∷
+      [];
+  cycles = 200;
+  trace = lines (
+      "1 fet:00010000 fet:00010004" ∷
+      "2 ren:0:00010000 ren:1:00010004 fet:00010008 fet:0001000c" ∷
+      "3 alu:0 ren:2:00010008 fet:00010010 fet:00010008" ∷
+      "4 done:0 ret:0 alu:1 alu:2 fet:0001000c fet:00010010" ∷
+      "5 done:1 done:2 res:1:J bt:1:00010010 sq:6 ret:1 fet:00010010 fet:00010008" ∷
+      "6 ren:3:00010010 ren:4:00010008 fet:0001000c fet:00010010" ∷
+      "7 alu:3 alu:4 fet:00010014" ∷
+      "8 done:3 done:4 res:3:J bt:0:00010008 ret:3 ret:4 ren:5:0001000c" ∷
+      "9 ret:5 call:5:0" ∷
+      "end exit 0 retired 5 cycles 9" ∷
+      []);
+}

@@ -1,0 +1,82 @@
+-- Made by tools/evaluate/write: change what it reads, in tools/evaluate/runs, and run it again.
+use Rattle.std.specs.Prelude.{[], ◌∷◌}
+use Rattle.generated_runs.specs.Agreement.{Run, lines}
+
+-- its code:
+-- 00010000 div x9,x2,x2
+-- 00010004 mul x5,x2,x2
+-- 00010008 sb x5,9(x2)
+-- 0001000c sw x2,12(x2)
+-- 00010010 lw x10,8(x2)
+-- 00010014 addi x17,x0,93
+-- 00010018 ecall
+abbrev pub partly_covered : Run
+partly_covered = record {
+  description = lines (
+      "version = 2" ∷
+      "[core]" ∷
+      "fetch_width = 2" ∷
+      "retire_width = 2" ∷
+      "rob = 16" ∷
+      "stations = 8" ∷
+      "loads = 4" ∷
+      "stores = 4" ∷
+      "queue = 8" ∷
+      "[units]" ∷
+      "alus = 2" ∷
+      "mul_latency = 3" ∷
+      "[predictor]" ∷
+      "counters = 16" ∷
+      "btb = 4" ∷
+      "[cache]" ∷
+      "sets = 2" ∷
+      "ways = 2" ∷
+      "line = 16" ∷
+      "hit_latency = 2" ∷
+      "miss_latency = 10" ∷
+      "mshrs = 2" ∷
+      "[ram]" ∷
+      "base = 65536" ∷
+      "size = 65536" ∷
+      "[stt]" ∷
+      "model = \"spectre\"" ∷
+      []);
+  image =
+      0x464c457f ∷ 0x00010101 ∷ 0x00000000 ∷ 0x00000000 ∷ 0x00f30002 ∷ 0x00000001 ∷ 0x00010000 ∷ 0x00000034 ∷
+      0x00000000 ∷ 0x00000000 ∷ 0x00200034 ∷ 0x00000002 ∷ 0x00000000 ∷ 0x00000001 ∷ 0x00000074 ∷ 0x00010000 ∷
+      0x00010000 ∷ 0x0000001c ∷ 0x0000001c ∷ 0x00000005 ∷ 0x00000004 ∷ 0x00000001 ∷ 0x00000090 ∷ 0x0001fff0 ∷
+      0x0001fff0 ∷ 0x0000000c ∷ 0x0000000c ∷ 0x00000006 ∷ 0x00000004 ∷ 0x022144b3 ∷ 0x022102b3 ∷ 0x005104a3 ∷
+      0x00212623 ∷ 0x00812503 ∷ 0x05d00893 ∷ 0x00000073 ∷ 0x00000001 ∷ 0x00000000 ∷ 0x0000005a ∷
+      [];
+  cycles = 100;
+  trace = lines (
+      "1 fet:00010000 fet:00010004" ∷
+      "2 ren:0:00010000 ren:1:00010004 fet:00010008 fet:0001000c" ∷
+      "3 div:0:20 mul:1 ren:2:00010008 ren:3:0001000c fet:00010010 fet:00010014" ∷
+      "4 agu:2 std:3 ren:4:00010010 ren:5:00010014 fet:00010018 fet:0001001c" ∷
+      "5 agu:3 alu:5" ∷
+      "6 done:1 done:3 done:5 std:2" ∷
+      "7 done:2 ld:4:0001fff0:m" ∷
+      "8" ∷
+      "9" ∷
+      "10" ∷
+      "11" ∷
+      "12" ∷
+      "13" ∷
+      "14" ∷
+      "15" ∷
+      "16" ∷
+      "17 fill:0001fff0 done:4" ∷
+      "18" ∷
+      "19" ∷
+      "20" ∷
+      "21" ∷
+      "22" ∷
+      "23 done:0 ret:0 ret:1" ∷
+      "24 ret:2 st:2:0001fff0:h" ∷
+      "25 ret:3 st:3:0001fff0:h ret:4" ∷
+      "26 ret:5 ren:6:00010018" ∷
+      "27 ret:6 call:6:0" ∷
+      "end exit 90 retired 7 cycles 27" ∷
+      []);
+}

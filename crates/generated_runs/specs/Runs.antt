@@ -1,0 +1,374 @@
+-- Made by tools/evaluate/write: change what it reads, in tools/evaluate/runs, and run it again.
+use Rattle.std.specs.Prelude.{List, [], ◌∷◌}
+use Rattle.generated_runs.specs.Agreement.{Run}
+use Rattle.generated_runs.specs.AcrossTwoLines.{across_two_lines}
+use Rattle.generated_runs.specs.BitAsksForAddresses.{bit_asks_for_addresses}
+use Rattle.generated_runs.specs.BitAsksForNoClearing.{bit_asks_for_no_clearing}
+use Rattle.generated_runs.specs.BitsStaySet.{bits_stay_set}
+use Rattle.generated_runs.specs.BranchToTheNext.{branch_to_the_next}
+use Rattle.generated_runs.specs.ByteAtItsEndCovered.{byte_at_its_end_covered}
+use Rattle.generated_runs.specs.ClearedAtASquash.{cleared_at_a_squash}
+use Rattle.generated_runs.specs.CoveredLineIsAccessed.{covered_line_is_accessed}
+use Rattle.generated_runs.specs.DividerKeptAtAViolation.{divider_kept_at_a_violation}
+use Rattle.generated_runs.specs.DoneBranchIsUnsafe.{done_branch_is_unsafe}
+use Rattle.generated_runs.specs.FaultHeld.{fault_held}
+use Rattle.generated_runs.specs.FaultingBranchSquashes.{faulting_branch_squashes}
+use Rattle.generated_runs.specs.FaultingLoad.{faulting_load}
+use Rattle.generated_runs.specs.FaultingStore.{faulting_store}
+use Rattle.generated_runs.specs.FillLeavesSecond.{fill_leaves_second}
+use Rattle.generated_runs.specs.FillsAsTaken.{fills_as_taken}
+use Rattle.generated_runs.specs.FiveReturns.{five_returns}
+use Rattle.generated_runs.specs.FiveWaysInSecond.{five_ways_in_second}
+use Rattle.generated_runs.specs.ForwardedAcrossLines.{forwarded_across_lines}
+use Rattle.generated_runs.specs.ForwardedMovesNoLine.{forwarded_moves_no_line}
+use Rattle.generated_runs.specs.FoundInSecond.{found_in_second}
+use Rattle.generated_runs.specs.FourSets.{four_sets}
+use Rattle.generated_runs.specs.FullStack.{full_stack}
+use Rattle.generated_runs.specs.HalfIssued.{half_issued}
+use Rattle.generated_runs.specs.HalfIssuedData.{half_issued_data}
+use Rattle.generated_runs.specs.HeldUnderFuturistic.{held_under_futuristic}
+use Rattle.generated_runs.specs.HiddenBase.{hidden_base}
+use Rattle.generated_runs.specs.HistoryAsFetched.{history_as_fetched}
+use Rattle.generated_runs.specs.HistoryBehindAJalr.{history_behind_a_jalr}
+use Rattle.generated_runs.specs.HitAndJoin.{hit_and_join}
+use Rattle.generated_runs.specs.HitLeavesSecond.{hit_leaves_second}
+use Rattle.generated_runs.specs.JoinLeavesSecond.{join_leaves_second}
+use Rattle.generated_runs.specs.JoinedLineTakesNoRegister.{joined_line_takes_no_register}
+use Rattle.generated_runs.specs.JumpThatLinksElsewhere.{jump_that_links_elsewhere}
+use Rattle.generated_runs.specs.JumpsLeaveHistory.{jumps_leave_history}
+use Rattle.generated_runs.specs.LargeWindow.{large_window}
+use Rattle.generated_runs.specs.LateAddress.{late_address}
+use Rattle.generated_runs.specs.LateData.{late_data}
+use Rattle.generated_runs.specs.LateDataVersion1.{late_data_version_1}
+use Rattle.generated_runs.specs.LaterOfTwoLines.{later_of_two_lines}
+use Rattle.generated_runs.specs.LevelsDropApart.{levels_drop_apart}
+use Rattle.generated_runs.specs.LinkIsNoRoot.{link_is_no_root}
+use Rattle.generated_runs.specs.LinkThroughX1.{link_through_x1}
+use Rattle.generated_runs.specs.LinkingJump.{linking_jump}
+use Rattle.generated_runs.specs.LoadMovesTheLineThatHits.{load_moves_the_line_that_hits}
+use Rattle.generated_runs.specs.LoadReachesBehindMemory.{load_reaches_behind_memory}
+use Rattle.generated_runs.specs.LoopByHistory.{loop_by_history}
+use Rattle.generated_runs.specs.LowerLineComesLater.{lower_line_comes_later}
+use Rattle.generated_runs.specs.MarkOfTheLoad.{mark_of_the_load}
+use Rattle.generated_runs.specs.MemoryAndSecond.{memory_and_second}
+use Rattle.generated_runs.specs.MisalignedRefused.{misaligned_refused}
+use Rattle.generated_runs.specs.Mixed1.{mixed_1}
+use Rattle.generated_runs.specs.Mixed2.{mixed_2}
+use Rattle.generated_runs.specs.Mixed3.{mixed_3}
+use Rattle.generated_runs.specs.Mixed4.{mixed_4}
+use Rattle.generated_runs.specs.Mixed5.{mixed_5}
+use Rattle.generated_runs.specs.Mixed6.{mixed_6}
+use Rattle.generated_runs.specs.Mixed7.{mixed_7}
+use Rattle.generated_runs.specs.Mixed8.{mixed_8}
+use Rattle.generated_runs.specs.MixedAnyAddress1.{mixed_any_address_1}
+use Rattle.generated_runs.specs.MixedAnyAddress2.{mixed_any_address_2}
+use Rattle.generated_runs.specs.MixedHistory1.{mixed_history_1}
+use Rattle.generated_runs.specs.MixedHistory2.{mixed_history_2}
+use Rattle.generated_runs.specs.MixedMemory1.{mixed_memory_1}
+use Rattle.generated_runs.specs.MixedMemory2.{mixed_memory_2}
+use Rattle.generated_runs.specs.MixedSecondLevel1.{mixed_second_level_1}
+use Rattle.generated_runs.specs.MixedSecondLevel2.{mixed_second_level_2}
+use Rattle.generated_runs.specs.MixedSettings.{mixed_settings}
+use Rattle.generated_runs.specs.MixedTogether1.{mixed_together_1}
+use Rattle.generated_runs.specs.MixedTogether2.{mixed_together_2}
+use Rattle.generated_runs.specs.NextLineFetched.{next_line_fetched}
+use Rattle.generated_runs.specs.NoPrefetchBehindMemory.{no_prefetch_behind_memory}
+use Rattle.generated_runs.specs.NoPrefetchForAHit.{no_prefetch_for_a_hit}
+use Rattle.generated_runs.specs.NoPrefetchForAJoin.{no_prefetch_for_a_join}
+use Rattle.generated_runs.specs.NoPrefetchOfAHeldLine.{no_prefetch_of_a_held_line}
+use Rattle.generated_runs.specs.NoPrefetchOfAddress0.{no_prefetch_of_address_0}
+use Rattle.generated_runs.specs.NoPrefetchOnItsWay.{no_prefetch_on_its_way}
+use Rattle.generated_runs.specs.NoPrefetchWithoutRegister.{no_prefetch_without_register}
+use Rattle.generated_runs.specs.OffClearsAtOnce.{off_clears_at_once}
+use Rattle.generated_runs.specs.OffDivides.{off_divides}
+use Rattle.generated_runs.specs.OffForwards.{off_forwards}
+use Rattle.generated_runs.specs.OffHoldsNothing.{off_holds_nothing}
+use Rattle.generated_runs.specs.OffViolates.{off_violates}
+use Rattle.generated_runs.specs.OlderLoadHidesNothing.{older_load_hides_nothing}
+use Rattle.generated_runs.specs.OlderStoreWithoutData.{older_store_without_data}
+use Rattle.generated_runs.specs.OlderTaintedAddress.{older_tainted_address}
+use Rattle.generated_runs.specs.OneByte.{one_byte}
+use Rattle.generated_runs.specs.OnePortEach.{one_port_each}
+use Rattle.generated_runs.specs.PartlyCovered.{partly_covered}
+use Rattle.generated_runs.specs.PartsAlone.{parts_alone}
+use Rattle.generated_runs.specs.PrefetchAtTheEndOfMemory.{prefetch_at_the_end_of_memory}
+use Rattle.generated_runs.specs.PrefetchBehindBothLines.{prefetch_behind_both_lines}
+use Rattle.generated_runs.specs.PrefetchBehindTheLowerLine.{prefetch_behind_the_lower_line}
+use Rattle.generated_runs.specs.PrefetchBehindX0.{prefetch_behind_x0}
+use Rattle.generated_runs.specs.PrefetchFromSecond.{prefetch_from_second}
+use Rattle.generated_runs.specs.PrefetchMovesSecond.{prefetch_moves_second}
+use Rattle.generated_runs.specs.PrefetchedToTheFront.{prefetched_to_the_front}
+use Rattle.generated_runs.specs.RecentInSecond.{recent_in_second}
+use Rattle.generated_runs.specs.RegistersForBothLines.{registers_for_both_lines}
+use Rattle.generated_runs.specs.ReturnByAnotherRegister.{return_by_another_register}
+use Rattle.generated_runs.specs.ReturnByStack.{return_by_stack}
+use Rattle.generated_runs.specs.ReturnFromNoCall.{return_from_no_call}
+use Rattle.generated_runs.specs.ReturnThatLinks.{return_that_links}
+use Rattle.generated_runs.specs.ReturnWithoutStack.{return_without_stack}
+use Rattle.generated_runs.specs.Run01.{run_01}
+use Rattle.generated_runs.specs.Run02.{run_02}
+use Rattle.generated_runs.specs.Run03.{run_03}
+use Rattle.generated_runs.specs.Run04.{run_04}
+use Rattle.generated_runs.specs.Run05.{run_05}
+use Rattle.generated_runs.specs.Run06.{run_06}
+use Rattle.generated_runs.specs.Run07.{run_07}
+use Rattle.generated_runs.specs.Run08.{run_08}
+use Rattle.generated_runs.specs.Run09.{run_09}
+use Rattle.generated_runs.specs.Run10.{run_10}
+use Rattle.generated_runs.specs.Run11.{run_11}
+use Rattle.generated_runs.specs.Run12.{run_12}
+use Rattle.generated_runs.specs.Run13.{run_13}
+use Rattle.generated_runs.specs.Run14.{run_14}
+use Rattle.generated_runs.specs.Run15.{run_15}
+use Rattle.generated_runs.specs.Run16.{run_16}
+use Rattle.generated_runs.specs.Run17.{run_17}
+use Rattle.generated_runs.specs.Run18.{run_18}
+use Rattle.generated_runs.specs.Run19.{run_19}
+use Rattle.generated_runs.specs.Run20.{run_20}
+use Rattle.generated_runs.specs.Run21.{run_21}
+use Rattle.generated_runs.specs.Run22.{run_22}
+use Rattle.generated_runs.specs.Run23.{run_23}
+use Rattle.generated_runs.specs.Run24.{run_24}
+use Rattle.generated_runs.specs.Run25.{run_25}
+use Rattle.generated_runs.specs.Run26.{run_26}
+use Rattle.generated_runs.specs.Run27.{run_27}
+use Rattle.generated_runs.specs.Run28.{run_28}
+use Rattle.generated_runs.specs.Run29.{run_29}
+use Rattle.generated_runs.specs.Run30.{run_30}
+use Rattle.generated_runs.specs.Run31.{run_31}
+use Rattle.generated_runs.specs.Run32.{run_32}
+use Rattle.generated_runs.specs.Run33.{run_33}
+use Rattle.generated_runs.specs.Run34.{run_34}
+use Rattle.generated_runs.specs.Run35.{run_35}
+use Rattle.generated_runs.specs.Run36.{run_36}
+use Rattle.generated_runs.specs.Run37.{run_37}
+use Rattle.generated_runs.specs.Run38.{run_38}
+use Rattle.generated_runs.specs.SecondFilledAtFill.{second_filled_at_fill}
+use Rattle.generated_runs.specs.SecondMovedAtOnce.{second_moved_at_once}
+use Rattle.generated_runs.specs.SetsOfSecond.{sets_of_second}
+use Rattle.generated_runs.specs.SevenDigitsOfHistory.{seven_digits_of_history}
+use Rattle.generated_runs.specs.ShortHistory.{short_history}
+use Rattle.generated_runs.specs.SixteenBits.{sixteen_bits}
+use Rattle.generated_runs.specs.SquashByHistory.{squash_by_history}
+use Rattle.generated_runs.specs.StackBehindASquash.{stack_behind_a_squash}
+use Rattle.generated_runs.specs.StoreBehindLoad.{store_behind_load}
+use Rattle.generated_runs.specs.StoreMovesBothLines.{store_moves_both_lines}
+use Rattle.generated_runs.specs.StoreMovesTheLineThatHits.{store_moves_the_line_that_hits}
+use Rattle.generated_runs.specs.StoreMovesTheLowerLine.{store_moves_the_lower_line}
+use Rattle.generated_runs.specs.StorePassesSecond.{store_passes_second}
+use Rattle.generated_runs.specs.StoreReachesBehindMemory.{store_reaches_behind_memory}
+use Rattle.generated_runs.specs.StoreWithoutDataShadows.{store_without_data_shadows}
+use Rattle.generated_runs.specs.TaintThroughDivision.{taint_through_division}
+use Rattle.generated_runs.specs.TaintedAddress.{tainted_address}
+use Rattle.generated_runs.specs.TaintedAddressFaultingLoad.{tainted_address_faulting_load}
+use Rattle.generated_runs.specs.TaintedAddressFaultingStore.{tainted_address_faulting_store}
+use Rattle.generated_runs.specs.TaintedAddressHidden.{tainted_address_hidden}
+use Rattle.generated_runs.specs.TaintedData.{tainted_data}
+use Rattle.generated_runs.specs.TaintedDataHidesNothing.{tainted_data_hides_nothing}
+use Rattle.generated_runs.specs.TaintedFaultHides.{tainted_fault_hides}
+use Rattle.generated_runs.specs.TaintedLink.{tainted_link}
+use Rattle.generated_runs.specs.TargetReplaced.{target_replaced}
+use Rattle.generated_runs.specs.TwoJoins.{two_joins}
+use Rattle.generated_runs.specs.UnclearedFaultHides.{uncleared_fault_hides}
+use Rattle.generated_runs.specs.ViolatedBehindAYoungerStore.{violated_behind_a_younger_store}
+use Rattle.generated_runs.specs.ViolatedWithoutData.{violated_without_data}
+use Rattle.generated_runs.specs.VisibleFaultGiven.{visible_fault_given}
+use Rattle.generated_runs.specs.WaitingFenceIsSafe.{waiting_fence_is_safe}
+use Rattle.generated_runs.specs.WaitingJalIsSafe.{waiting_jal_is_safe}
+use Rattle.generated_runs.specs.WaitingJalrIsUnsafe.{waiting_jalr_is_unsafe}
+use Rattle.generated_runs.specs.WaitingLoadMovesNothing.{waiting_load_moves_nothing}
+use Rattle.generated_runs.specs.WaitingLuiIsSafe.{waiting_lui_is_safe}
+use Rattle.generated_runs.specs.WaitingProductIsSafe.{waiting_product_is_safe}
+use Rattle.generated_runs.specs.WaitingStoreHidesNothing.{waiting_store_hides_nothing}
+use Rattle.generated_runs.specs.WrongReturnPops.{wrong_return_pops}
+use Rattle.generated_runs.specs.YoungerAddress.{younger_address}
+use Rattle.generated_runs.specs.YoungerStore.{younger_store}
+use Rattle.generated_runs.specs.YoungerStoreHidesNothing.{younger_store_hides_nothing}
+
+-- the runs of the independent models
+abbrev pub runs : List Run
+runs =
+    across_two_lines ∷
+    bit_asks_for_addresses ∷
+    bit_asks_for_no_clearing ∷
+    bits_stay_set ∷
+    branch_to_the_next ∷
+    byte_at_its_end_covered ∷
+    cleared_at_a_squash ∷
+    covered_line_is_accessed ∷
+    divider_kept_at_a_violation ∷
+    done_branch_is_unsafe ∷
+    fault_held ∷
+    faulting_branch_squashes ∷
+    faulting_load ∷
+    faulting_store ∷
+    fill_leaves_second ∷
+    fills_as_taken ∷
+    five_returns ∷
+    five_ways_in_second ∷
+    forwarded_across_lines ∷
+    forwarded_moves_no_line ∷
+    found_in_second ∷
+    four_sets ∷
+    full_stack ∷
+    half_issued ∷
+    half_issued_data ∷
+    held_under_futuristic ∷
+    hidden_base ∷
+    history_as_fetched ∷
+    history_behind_a_jalr ∷
+    hit_and_join ∷
+    hit_leaves_second ∷
+    join_leaves_second ∷
+    joined_line_takes_no_register ∷
+    jump_that_links_elsewhere ∷
+    jumps_leave_history ∷
+    large_window ∷
+    late_address ∷
+    late_data ∷
+    late_data_version_1 ∷
+    later_of_two_lines ∷
+    levels_drop_apart ∷
+    link_is_no_root ∷
+    link_through_x1 ∷
+    linking_jump ∷
+    load_moves_the_line_that_hits ∷
+    load_reaches_behind_memory ∷
+    loop_by_history ∷
+    lower_line_comes_later ∷
+    mark_of_the_load ∷
+    memory_and_second ∷
+    misaligned_refused ∷
+    mixed_1 ∷
+    mixed_2 ∷
+    mixed_3 ∷
+    mixed_4 ∷
+    mixed_5 ∷
+    mixed_6 ∷
+    mixed_7 ∷
+    mixed_8 ∷
+    mixed_any_address_1 ∷
+    mixed_any_address_2 ∷
+    mixed_history_1 ∷
+    mixed_history_2 ∷
+    mixed_memory_1 ∷
+    mixed_memory_2 ∷
+    mixed_second_level_1 ∷
+    mixed_second_level_2 ∷
+    mixed_settings ∷
+    mixed_together_1 ∷
+    mixed_together_2 ∷
+    next_line_fetched ∷
+    no_prefetch_behind_memory ∷
+    no_prefetch_for_a_hit ∷
+    no_prefetch_for_a_join ∷
+    no_prefetch_of_a_held_line ∷
+    no_prefetch_of_address_0 ∷
+    no_prefetch_on_its_way ∷
+    no_prefetch_without_register ∷
+    off_clears_at_once ∷
+    off_divides ∷
+    off_forwards ∷
+    off_holds_nothing ∷
+    off_violates ∷
+    older_load_hides_nothing ∷
+    older_store_without_data ∷
+    older_tainted_address ∷
+    one_byte ∷
+    one_port_each ∷
+    partly_covered ∷
+    parts_alone ∷
+    prefetch_at_the_end_of_memory ∷
+    prefetch_behind_both_lines ∷
+    prefetch_behind_the_lower_line ∷
+    prefetch_behind_x0 ∷
+    prefetch_from_second ∷
+    prefetch_moves_second ∷
+    prefetched_to_the_front ∷
+    recent_in_second ∷
+    registers_for_both_lines ∷
+    return_by_another_register ∷
+    return_by_stack ∷
+    return_from_no_call ∷
+    return_that_links ∷
+    return_without_stack ∷
+    run_01 ∷
+    run_02 ∷
+    run_03 ∷
+    run_04 ∷
+    run_05 ∷
+    run_06 ∷
+    run_07 ∷
+    run_08 ∷
+    run_09 ∷
+    run_10 ∷
+    run_11 ∷
+    run_12 ∷
+    run_13 ∷
+    run_14 ∷
+    run_15 ∷
+    run_16 ∷
+    run_17 ∷
+    run_18 ∷
+    run_19 ∷
+    run_20 ∷
+    run_21 ∷
+    run_22 ∷
+    run_23 ∷
+    run_24 ∷
+    run_25 ∷
+    run_26 ∷
+    run_27 ∷
+    run_28 ∷
+    run_29 ∷
+    run_30 ∷
+    run_31 ∷
+    run_32 ∷
+    run_33 ∷
+    run_34 ∷
+    run_35 ∷
+    run_36 ∷
+    run_37 ∷
+    run_38 ∷
+    second_filled_at_fill ∷
+    second_moved_at_once ∷
+    sets_of_second ∷
+    seven_digits_of_history ∷
+    short_history ∷
+    sixteen_bits ∷
+    squash_by_history ∷
+    stack_behind_a_squash ∷
+    store_behind_load ∷
+    store_moves_both_lines ∷
+    store_moves_the_line_that_hits ∷
+    store_moves_the_lower_line ∷
+    store_passes_second ∷
+    store_reaches_behind_memory ∷
+    store_without_data_shadows ∷
+    taint_through_division ∷
+    tainted_address ∷
+    tainted_address_faulting_load ∷
+    tainted_address_faulting_store ∷
+    tainted_address_hidden ∷
+    tainted_data ∷
+    tainted_data_hides_nothing ∷
+    tainted_fault_hides ∷
+    tainted_link ∷
+    target_replaced ∷
+    two_joins ∷
+    uncleared_fault_hides ∷
+    violated_behind_a_younger_store ∷
+    violated_without_data ∷
+    visible_fault_given ∷
+    waiting_fence_is_safe ∷
+    waiting_jal_is_safe ∷
+    waiting_jalr_is_unsafe ∷
+    waiting_load_moves_nothing ∷
+    waiting_lui_is_safe ∷
+    waiting_product_is_safe ∷
+    waiting_store_hides_nothing ∷
+    wrong_return_pops ∷
+    younger_address ∷
+    younger_store ∷
+    younger_store_hides_nothing ∷
+    []

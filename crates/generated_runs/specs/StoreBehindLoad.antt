@@ -1,0 +1,69 @@
+-- Made by tools/evaluate/write: change what it reads, in tools/evaluate/runs, and run it again.
+use Rattle.std.specs.Prelude.{[], ◌∷◌}
+use Rattle.generated_runs.specs.Agreement.{Run, lines}
+
+-- its code:
+-- 00010000 lw x10,0(x2)
+-- 00010004 sw x10,0(x2)
+-- 00010008 sw x2,4(x2)
+-- 0001000c addi x17,x0,93
+-- 00010010 ecall
+abbrev pub store_behind_load : Run
+store_behind_load = record {
+  description = lines (
+      "version = 2" ∷
+      "[core]" ∷
+      "fetch_width = 2" ∷
+      "retire_width = 2" ∷
+      "rob = 16" ∷
+      "stations = 8" ∷
+      "loads = 4" ∷
+      "stores = 4" ∷
+      "queue = 8" ∷
+      "[units]" ∷
+      "alus = 2" ∷
+      "mul_latency = 3" ∷
+      "[predictor]" ∷
+      "counters = 16" ∷
+      "btb = 4" ∷
+      "[cache]" ∷
+      "sets = 2" ∷
+      "ways = 2" ∷
+      "line = 16" ∷
+      "hit_latency = 2" ∷
+      "miss_latency = 10" ∷
+      "mshrs = 2" ∷
+      "[ram]" ∷
+      "base = 65536" ∷
+      "size = 65536" ∷
+      "[stt]" ∷
+      "model = \"spectre\"" ∷
+      []);
+  image =
+      0x464c457f ∷ 0x00010101 ∷ 0x00000000 ∷ 0x00000000 ∷ 0x00f30002 ∷ 0x00000001 ∷ 0x00010000 ∷ 0x00000034 ∷
+      0x00000000 ∷ 0x00000000 ∷ 0x00200034 ∷ 0x00000002 ∷ 0x00000000 ∷ 0x00000001 ∷ 0x00000074 ∷ 0x00010000 ∷
+      0x00010000 ∷ 0x00000014 ∷ 0x00000014 ∷ 0x00000005 ∷ 0x00000004 ∷ 0x00000001 ∷ 0x00000088 ∷ 0x0001fff0 ∷
+      0x0001fff0 ∷ 0x0000000c ∷ 0x0000000c ∷ 0x00000006 ∷ 0x00000004 ∷ 0x00012503 ∷ 0x00a12023 ∷ 0x00212223 ∷
+      0x05d00893 ∷ 0x00000073 ∷ 0x00000001 ∷ 0x00000000 ∷ 0x00000000 ∷
+      [];
+  cycles = 100;
+  trace = lines (
+      "1 fet:00010000 fet:00010004" ∷
+      "2 ren:0:00010000 ren:1:00010004 fet:00010008 fet:0001000c" ∷
+      "3 ld:0:0001fff0:m agu:1 ren:2:00010008 ren:3:0001000c fet:00010010 fet:00010014" ∷
+      "4 agu:2 std:2 alu:3" ∷
+      "5 done:2 done:3" ∷
+      "6" ∷
+      "7" ∷
+      "8" ∷
+      "9" ∷
+      "10" ∷
+      "11" ∷
+      "12" ∷
+      "13 fill:0001fff0 done:0 ret:0 std:1" ∷
+      "14 done:1 ret:1 st:1:0001fff0:h" ∷
+      "15 ret:2 st:2:0001fff0:h ret:3 ren:4:00010010" ∷
+      "16 ret:4 call:4:0" ∷
+      "end exit 1 retired 5 cycles 16" ∷
+      []);
+}

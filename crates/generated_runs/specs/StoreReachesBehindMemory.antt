@@ -1,0 +1,54 @@
+-- Made by tools/evaluate/write: change what it reads, in tools/evaluate/runs, and run it again.
+use Rattle.std.specs.Prelude.{[], ◌∷◌}
+use Rattle.generated_runs.specs.Agreement.{Run, lines}
+
+-- its code:
+-- 00010000 sw x5,14(x2)
+-- 00010004 addi x17,x0,93
+-- 00010008 ecall
+abbrev pub store_reaches_behind_memory : Run
+store_reaches_behind_memory = record {
+  description = lines (
+      "version = 2" ∷
+      "[core]" ∷
+      "fetch_width = 2" ∷
+      "retire_width = 2" ∷
+      "rob = 16" ∷
+      "stations = 8" ∷
+      "loads = 4" ∷
+      "stores = 4" ∷
+      "queue = 8" ∷
+      "[units]" ∷
+      "alus = 2" ∷
+      "mul_latency = 3" ∷
+      "[predictor]" ∷
+      "counters = 16" ∷
+      "btb = 4" ∷
+      "[cache]" ∷
+      "sets = 2" ∷
+      "ways = 2" ∷
+      "line = 16" ∷
+      "hit_latency = 2" ∷
+      "miss_latency = 10" ∷
+      "mshrs = 2" ∷
+      "[ram]" ∷
+      "base = 65536" ∷
+      "size = 65536" ∷
+      "misaligned = 1" ∷
+      "[stt]" ∷
+      "model = \"spectre\"" ∷
+      []);
+  image =
+      0x464c457f ∷ 0x00010101 ∷ 0x00000000 ∷ 0x00000000 ∷ 0x00f30002 ∷ 0x00000001 ∷ 0x00010000 ∷ 0x00000034 ∷
+      0x00000000 ∷ 0x00000000 ∷ 0x00200034 ∷ 0x00000001 ∷ 0x00000000 ∷ 0x00000001 ∷ 0x00000054 ∷ 0x00010000 ∷
+      0x00010000 ∷ 0x0000000c ∷ 0x0000000c ∷ 0x00000005 ∷ 0x00000004 ∷ 0x00512723 ∷ 0x05d00893 ∷ 0x00000073 ∷
+      [];
+  cycles = 200;
+  trace = lines (
+      "1 fet:00010000 fet:00010004" ∷
+      "2 ren:0:00010000 ren:1:00010004 fet:00010008 fet:0001000c" ∷
+      "3 agu:0 std:0 alu:1" ∷
+      "4 done:0 done:1" ∷
+      "end trap 7 00010000 retired 0 cycles 4" ∷
+      []);
+}

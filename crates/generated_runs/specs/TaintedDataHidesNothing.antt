@@ -1,0 +1,79 @@
+-- Made by tools/evaluate/write: change what it reads, in tools/evaluate/runs, and run it again.
+use Rattle.std.specs.Prelude.{[], ◌∷◌}
+use Rattle.generated_runs.specs.Agreement.{Run, lines}
+
+-- its code:
+-- 00010000 div x9,x2,x2
+-- 00010004 sw x2,0(x2)
+-- 00010008 beq x9,x0,+8
+-- 0001000c lw x5,8(x2)
+-- 00010010 sw x5,16(x2)
+-- 00010014 lw x6,0(x2)
+-- 00010018 addi x17,x0,93
+-- 0001001c ecall
+abbrev pub tainted_data_hides_nothing : Run
+tainted_data_hides_nothing = record {
+  description = lines (
+      "[core]" ∷
+      "fetch_width = 4" ∷
+      "retire_width = 2" ∷
+      "rob = 16" ∷
+      "stations = 8" ∷
+      "loads = 4" ∷
+      "stores = 4" ∷
+      "queue = 8" ∷
+      "[units]" ∷
+      "alus = 2" ∷
+      "mul_latency = 3" ∷
+      "[predictor]" ∷
+      "counters = 16" ∷
+      "btb = 4" ∷
+      "[cache]" ∷
+      "sets = 2" ∷
+      "ways = 2" ∷
+      "line = 16" ∷
+      "hit_latency = 2" ∷
+      "miss_latency = 10" ∷
+      "mshrs = 2" ∷
+      "[ram]" ∷
+      "base = 65536" ∷
+      "size = 65536" ∷
+      "[stt]" ∷
+      "model = \"spectre\"" ∷
+      []);
+  image =
+      0x464c457f ∷ 0x00010101 ∷ 0x00000000 ∷ 0x00000000 ∷ 0x00f30002 ∷ 0x00000001 ∷ 0x00010000 ∷ 0x00000034 ∷
+      0x00000000 ∷ 0x00000000 ∷ 0x00200034 ∷ 0x00000001 ∷ 0x00000000 ∷ 0x00000001 ∷ 0x00000054 ∷ 0x00010000 ∷
+      0x00010000 ∷ 0x00000020 ∷ 0x00000020 ∷ 0x00000005 ∷ 0x00000004 ∷ 0x022144b3 ∷ 0x00212023 ∷ 0x00048463 ∷
+      0x00812283 ∷ 0x00512823 ∷ 0x00012303 ∷ 0x05d00893 ∷ 0x00000073 ∷
+      [];
+  cycles = 60;
+  trace = lines (
+      "1 fet:00010000 fet:00010004 fet:00010008 fet:0001000c" ∷
+      "2 ren:0:00010000 ren:1:00010004 ren:2:00010008 ren:3:0001000c fet:00010010 fet:00010014 fet:00010018 fet:0001001c" ∷
+      "3 div:0:20 agu:1 ren:4:00010010 ren:5:00010014 ren:6:00010018 fet:00010020" ∷
+      "4 done:1 ld:3:0001fff0:m alu:6" ∷
+      "5 done:6" ∷
+      "6" ∷
+      "7" ∷
+      "8" ∷
+      "9" ∷
+      "10" ∷
+      "11" ∷
+      "12" ∷
+      "13" ∷
+      "14 fill:0001fff0 done:3 agu:4" ∷
+      "15 done:4 ld:5:f" ∷
+      "16 done:5" ∷
+      "17" ∷
+      "18" ∷
+      "19" ∷
+      "20" ∷
+      "21" ∷
+      "22" ∷
+      "23 done:0 ret:0 ret:1 st:1:0001fff0:h alu:2" ∷
+      "24 done:2 res:2:N bp:2:0 ret:2 ret:3" ∷
+      "25" ∷
+      "end trap 7 00010010 retired 4 cycles 25" ∷
+      []);
+}

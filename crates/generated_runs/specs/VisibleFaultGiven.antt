@@ -1,0 +1,84 @@
+-- Made by tools/evaluate/write: change what it reads, in tools/evaluate/runs, and run it again.
+use Rattle.std.specs.Prelude.{[], ◌∷◌}
+use Rattle.generated_runs.specs.Agreement.{Run, lines}
+
+-- its code:
+-- 00010000 div x9,x2,x2
+-- 00010004 lw x6,0(x0)
+-- 00010008 addi x7,x6,0
+-- 0001000c addi x17,x0,93
+-- 00010010 ecall
+abbrev pub visible_fault_given : Run
+visible_fault_given = record {
+  description = lines (
+      "version = 2" ∷
+      "[core]" ∷
+      "fetch_width = 2" ∷
+      "retire_width = 2" ∷
+      "rob = 16" ∷
+      "stations = 8" ∷
+      "loads = 4" ∷
+      "stores = 4" ∷
+      "queue = 8" ∷
+      "[units]" ∷
+      "alus = 2" ∷
+      "mul_latency = 3" ∷
+      "[predictor]" ∷
+      "counters = 16" ∷
+      "btb = 4" ∷
+      "depend = 0" ∷
+      "history = 0" ∷
+      "returns = 0" ∷
+      "[cache]" ∷
+      "sets = 2" ∷
+      "ways = 2" ∷
+      "line = 16" ∷
+      "hit_latency = 2" ∷
+      "miss_latency = 10" ∷
+      "mshrs = 2" ∷
+      "second_sets = 0" ∷
+      "second_ways = 1" ∷
+      "second_latency = 2" ∷
+      "prefetch = 0" ∷
+      "[ram]" ∷
+      "base = 65536" ∷
+      "size = 65536" ∷
+      "misaligned = 0" ∷
+      "[stt]" ∷
+      "model = \"futuristic\"" ∷
+      "defence = \"hold\"" ∷
+      []);
+  image =
+      0x464c457f ∷ 0x00010101 ∷ 0x00000000 ∷ 0x00000000 ∷ 0x00f30002 ∷ 0x00000001 ∷ 0x00010000 ∷ 0x00000034 ∷
+      0x00000000 ∷ 0x00000000 ∷ 0x00200034 ∷ 0x00000001 ∷ 0x00000000 ∷ 0x00000001 ∷ 0x00000054 ∷ 0x00010000 ∷
+      0x00010000 ∷ 0x00000014 ∷ 0x00000014 ∷ 0x00000005 ∷ 0x00000004 ∷ 0x022144b3 ∷ 0x00002303 ∷ 0x00030393 ∷
+      0x05d00893 ∷ 0x00000073 ∷
+      [];
+  cycles = 60;
+  trace = lines (
+      "1 fet:00010000 fet:00010004" ∷
+      "2 ren:0:00010000 ren:1:00010004 fet:00010008 fet:0001000c" ∷
+      "3 div:0:20 ld:1:x ren:2:00010008 ren:3:0001000c fet:00010010 fet:00010014" ∷
+      "4 done:1 alu:2 alu:3" ∷
+      "5 done:2 done:3" ∷
+      "6" ∷
+      "7" ∷
+      "8" ∷
+      "9" ∷
+      "10" ∷
+      "11" ∷
+      "12" ∷
+      "13" ∷
+      "14" ∷
+      "15" ∷
+      "16" ∷
+      "17" ∷
+      "18" ∷
+      "19" ∷
+      "20" ∷
+      "21" ∷
+      "22" ∷
+      "23 done:0 ret:0" ∷
+      "end trap 5 00010004 retired 1 cycles 23" ∷
+      []);
+}

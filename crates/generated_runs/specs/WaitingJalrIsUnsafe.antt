@@ -1,0 +1,67 @@
+-- Made by tools/evaluate/write: change what it reads, in tools/evaluate/runs, and run it again.
+use Rattle.std.specs.Prelude.{[], ◌∷◌}
+use Rattle.generated_runs.specs.Agreement.{Run, lines}
+
+-- its code:
+-- 00010000 auipc x6,0x0
+-- 00010004 jalr x0,8(x6)
+-- 00010008 lw x6,-8(x8)
+-- 0001000c lw x8,0(x6)
+-- 00010010 addi x17,x0,93
+-- 00010014 ecall
+abbrev pub waiting_jalr_is_unsafe : Run
+waiting_jalr_is_unsafe = record {
+  description = lines (
+      "version = 2" ∷
+      "[core]" ∷
+      "fetch_width = 4" ∷
+      "retire_width = 2" ∷
+      "rob = 16" ∷
+      "stations = 8" ∷
+      "loads = 4" ∷
+      "stores = 4" ∷
+      "queue = 8" ∷
+      "[units]" ∷
+      "alus = 2" ∷
+      "mul_latency = 3" ∷
+      "[predictor]" ∷
+      "counters = 16" ∷
+      "btb = 4" ∷
+      "depend = 0" ∷
+      "history = 0" ∷
+      "returns = 0" ∷
+      "[cache]" ∷
+      "sets = 2" ∷
+      "ways = 2" ∷
+      "line = 16" ∷
+      "hit_latency = 2" ∷
+      "miss_latency = 10" ∷
+      "mshrs = 2" ∷
+      "second_sets = 0" ∷
+      "second_ways = 1" ∷
+      "second_latency = 2" ∷
+      "prefetch = 0" ∷
+      "[ram]" ∷
+      "base = 65536" ∷
+      "size = 65536" ∷
+      "misaligned = 0" ∷
+      "[stt]" ∷
+      "model = \"futuristic\"" ∷
+      "defence = \"stt\"" ∷
+      []);
+  image =
+      0x464c457f ∷ 0x00010101 ∷ 0x00000000 ∷ 0x00000000 ∷ 0x00f30002 ∷ 0x00000001 ∷ 0x00010000 ∷ 0x00000034 ∷
+      0x00000000 ∷ 0x00000000 ∷ 0x00200034 ∷ 0x00000001 ∷ 0x00000000 ∷ 0x00000001 ∷ 0x00000054 ∷ 0x00010000 ∷
+      0x00010000 ∷ 0x00000018 ∷ 0x00000018 ∷ 0x00000005 ∷ 0x00000004 ∷ 0x00000317 ∷ 0x00830067 ∷ 0xff842303 ∷
+      0x00032403 ∷ 0x05d00893 ∷ 0x00000073 ∷
+      [];
+  cycles = 200;
+  trace = lines (
+      "1 fet:00010000 fet:00010004 fet:00010008 fet:0001000c" ∷
+      "2 ren:0:00010000 ren:1:00010004 ren:2:00010008 ren:3:0001000c fet:00010010 fet:00010014 fet:00010018" ∷
+      "3 alu:0 ld:2:x ren:4:00010010" ∷
+      "4 done:0 done:2 ret:0 alu:1 alu:4" ∷
+      "5 done:1 done:4 res:1:J bt:1:00010008 ret:1" ∷
+      "end trap 5 00010008 retired 2 cycles 5" ∷
+      []);
+}
