@@ -33,7 +33,6 @@ module _ (window : List Entry) (marks : List EntryMarks) where
         let same : i ≡ k = h.0 ∙ count in
         let entry : e ≡ e2 = cc in
         let its : mark ≡ mark2 = cc in
-        let P : Entry → EntryMarks → LeavingEntry → Type 0 = λ e mark copy. IsCopied e mark copy in
         subst (λ e. IsCopied e mark2 copy2) entry (subst (λ mark. IsCopied e mark copy2) its (subst (λ copy. IsCopied e mark copy) (h.1) it))
   ]
 
@@ -49,5 +48,11 @@ leaves_next base count window marks m k e mark lt here here2 =
     ∙ ap₂ (λ w o. left base (suc (count - (k + 1))) w m o) (drop_step window k (k + 1) e refl here) (drop_step marks k (k + 1) mark refl here2)
 
 -- all have left
-pub none_left : (base n : ℕ) (window : List Entry) (m : Marks) (marks : List EntryMarks) → n ≡ 0 → left base n window m marks ≡ m
-none_left base n window m marks none = ap (λ n. left base n window m marks) none
+all_left : (base : ℕ) (window : List Entry) (m : Marks) (marks : List EntryMarks) → left base 0 window m marks ≡ m
+all_left base [] m [] = refl
+all_left base [] m (mark ∷ marks) = refl
+all_left base (e ∷ window) m [] = refl
+all_left base (e ∷ window) m (mark ∷ marks) = refl
+
+pub none_leaves : (base n : ℕ) (window : List Entry) (m : Marks) (marks : List EntryMarks) → n ≡ 0 → left base n window m marks ≡ m
+none_leaves base n window m marks none = ap (λ n. left base n window m marks) none ∙ all_left base window m marks

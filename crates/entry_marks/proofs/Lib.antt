@@ -5,3 +5,4 @@ pub mod Getting
 pub mod Exposed
 pub mod YoungestFirst
 pub mod Copies
+pub mod Fitting

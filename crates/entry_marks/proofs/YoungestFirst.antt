@@ -12,6 +12,7 @@ use Rattle.secret_marks.specs.Words.{either}
 use Rattle.secret_marks.specs.Marks.{Marks, goes_mark, is_at, issued_from, issued_marks, second_marks, value_marks}
 use Rattle.entry_marks.specs.Beside.{marks_before}
 use Rattle.entry_marks.proofs.Before.{before_step, drop_step, found_at}
+use Rattle.entry_marks.proofs.Getting.{same_marks}
 
 -- ---- an entry that hasn't issued keeps its marks
 
@@ -41,7 +42,7 @@ module _ (cycle base : ℕ) (m : Marks) where
       let r = kept_word (is_at cycle e.issued) (either own.result (value_marks e.item.kind cycle base m before marks e)) own.result issued in
       let g = kept_mark own.goes (is_at cycle e.issued) (goes_mark m before marks e) issued in
       let s = kept_word (is_at (cycle + 1) e.data_due) (either own.stored (second_marks m.regs before marks (sources e))) own.stored stored in
-      cc
+      same_marks _ _ _ _ _ _ r g s
 
 -- ---- the seam of what is walked and what isn't
 
@@ -60,13 +61,19 @@ module _ (cycle base : ℕ) (m : Marks) (window : List Entry) (owns : List Entry
   abbrev pub left_from : ℕ → List EntryMarks
   left_from k = take k owns ++ issued_from cycle base m (before_at window k) (marks_before owns k) (drop k window) (drop k owns)
 
+  nothing_from : (before : List Entry) (marks owns : List EntryMarks) → issued_from cycle base m before marks [] owns ≡ owns
+  nothing_from before marks [] = refl
+  nothing_from before marks (o ∷ owns) = refl
+
   pub none_walked : (n : ℕ) → length window ≤ n → owns ≡ left_from n
   none_walked n le =
-      sym (ap (λ es. take n owns ++ issued_from cycle base m (before_at window n) (marks_before owns n) es (drop n owns)) (drop_all n window le) ∙ take-append-drop n owns)
+      sym (ap (λ es. take n owns ++ issued_from cycle base m (before_at window n) (marks_before owns n) es (drop n owns)) (drop_all n window le)
+      ∙ ap (λ os. take n owns ++ os) (nothing_from (before_at window n) (marks_before owns n) (drop n owns))
+      ∙ take-append-drop n owns)
 
   module _ (step : length owns ≡ length window) (n k : ℕ) (next : n ≡ k + 1) (e : Entry) (here : slice_get window k ≡ Some e) where
     -- those of the entry at the position before, and of those behind it
-    rest : List EntryMarks
+    abbrev rest : List EntryMarks
     rest = issued_from cycle base m (before_at window n) (marks_before owns n) (drop n window) (drop n owns)
 
     own_here : (own : EntryMarks) × (slice_get owns k ≡ Some own)
