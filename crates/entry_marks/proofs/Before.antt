@@ -35,7 +35,7 @@ drop_step xs i n x e h =
 index_is : {A : Type 0} (xs : List A) (k : ℕ) (x : A) → k < length xs → x ≡ get_or xs k x → slice_get xs k ≡ Some x
 index_is xs k x lt h =
     let (y, at) = found_at xs k lt in
-    at ∙ ap Some (sym (h ∙ get_or_from_slice_get xs k x y at))
+    at ∙ ap Some (sym (h ∙ get_or_from_slice_get xs k y x at))
 
 pub indexed : {A : Type 0} (xs ys : List A) (k : ℕ) (x : A) → k < length xs → ys ≡ xs → x ≡ get_or ys k x → slice_get xs k ≡ Some x
 indexed xs ys k x lt same h = index_is xs k x lt (h ∙ ap (λ zs. get_or zs k x) same)

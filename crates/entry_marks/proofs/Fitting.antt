@@ -1,5 +1,5 @@
 -- The stores that retire lie within memory, where memory takes each Done store without a fault.
-use Rattle.std.proofs.Common.{◌≡◌, ℕ, zero, suc, ◌+◌, ◌-◌, ◌<◌, ◌≤◌, Bool, true, false, not, ◌&&◌, ◌||◌, List, [], ◌∷◌, ◌++◌, length, Option, Some, None, slice_get, refl, ap, sym, subst, ◌∙◌, ◌⊎◌, inl, inr, arith, length-append}
+use Rattle.std.proofs.Common.{◌≡◌, ℕ, zero, suc, ◌+◌, ◌-◌, ◌≤◌, Bool, true, false, ◌&&◌, ◌||◌, List, [], ◌∷◌, ◌++◌, length, Option, Some, None, slice_get, refl, ap, sym, subst, ◌∙◌, ◌⊎◌, inl, inr, arith, length-append}
 use Rattle.std.specs.Prelude.{if◌then◌else◌}
 use Rattle.std.specs.List.{AllByRecursion as Each}
 use Rattle.rv_types.specs.Isa.{Step, Goes, Exits, Traps, call}
@@ -16,7 +16,7 @@ use Rattle.window_model.specs.Order.{is_done, is_store, fault_of}
 use Rattle.window_model.specs.Retire.{Retired, addr_of, call_leaves, hart_of, head_leaves, head_turn, may_leave, retire, stays, store_waits, then_retires, trap_as, trap_of, turn, turns, unless_ended, width_of}
 use Rattle.secret_marks.specs.declared.EntryMarks.{EntryMarks}
 use Rattle.entry_marks.specs.declared.oldest.LeavingEntry.{LeavingEntry}
-use Rattle.entry_marks.specs.Oldest.{Inside, InsideEach, IsCopied, IsCopiedFrom}
+use Rattle.entry_marks.specs.Oldest.{InsideEach, IsCopiedFrom}
 use Rattle.entry_marks.proofs.Before.{found_at}
 use Rattle.std.proofs.lemmas.Option.{slice_get_within}
 use Rattle.window_model.proofs.Memory.{inside}
