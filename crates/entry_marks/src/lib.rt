@@ -18,3 +18,4 @@ pub use marks::{Marks, cut, extend};
 pub use operands::Operands;
 pub use shows::{call_shows, resolved_shown, shown_by};
 pub use walk::Walk;
+pub use words::any_byte;
