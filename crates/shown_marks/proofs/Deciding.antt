@@ -1,6 +1,6 @@
 -- Whose first operand tells an address or the time of a division: what the parts tell of an entry in its place, and who is passed.
-use Rattle.std.proofs.Common.{◌≡◌, ℕ, ◌<◌, Bool, true, false, not, ◌&&◌, ◌||◌, List, [], ◌∷◌, Option, Some, refl, ap, ap₂, sym, subst, ◌∙◌, slice_get, slice_set}
-use Rattle.std.specs.Prelude.{◌==◌, if◌then◌else◌, take}
+use Rattle.std.proofs.Common.{◌≡◌, inl, inr, ℕ, Bool, true, false, not, ◌&&◌, ◌||◌, List, [], ◌∷◌, Option, Some, refl, ap, ap₂, sym, subst, ◌∙◌, slice_get}
+use Rattle.std.specs.Prelude.{◌==◌, ◌⊎◌, if◌then◌else◌}
 use Rattle.std.specs.List.{list_any}
 use Rattle.std.specs.Option.{option_map}
 use Rattle.std.proofs.Math.Bool.{and-false}
@@ -11,7 +11,7 @@ use Rattle.machine_desc.specs.declared.SttModel.{SttModel}
 use Rattle.window_model.specs.declared.Entry.{Entry}
 use Rattle.window_model.specs.Around.{Around}
 use Rattle.window_model.specs.Issue.{AddressPort, part_may}
-use Rattle.window_model.specs.Order.{base_of, before_at, has_address, is_store, is_waiting, sources}
+use Rattle.window_model.specs.Order.{base_of, has_address, has_data, is_store, is_waiting, sources}
 use Rattle.window_model.specs.Ready.{all_known, ready}
 use Rattle.window_model.specs.Taint.{address_tainted, any_tainted}
 use Rattle.window_model.proofs.Booleans.{or_false}
@@ -37,7 +37,7 @@ use Rattle.shown_marks.specs.State.{HasTurn, Stands, before_of, parts_of, window
 
 -- what a store asks at the port of its address doesn't depend on what is around it
 nothing_around : Around
-nothing_around = record { cycle = 0; regs = []; ram = record { base = 0; bytes = [] }; dependence = []; cache = []; second = []; misses = []; free_from = 0 }
+nothing_around = record { cycle = 0; regs = []; ram = record { base = 0; bytes = []; misaligned = false }; dependence = []; cache = []; second = []; misses = []; free_from = 0 }
 
 module _ (d : Desc) (before : List Entry) (e : Entry) where
   silent_as : (k : Kind) → (is_store k ≡ false → (is_waiting e.state && ready d before e) ≡ false) → (is_store k ≡ true → part_may AddressPort d before e ≡ false) → decides_as k d before e ≡ false
@@ -84,7 +84,7 @@ module _ (s : Seen) (p : Place) (t : HasTurn s p) where
   is_ready n = whole_ready d before e n t.able
 
   -- a load tells its address where its base is untainted
-  pub load_decides : (roots : List (Option ℕ)) (b : Bool) → e.item.kind ≡ Load → slice_get (each_roots s.walk.sources.now.items) p.position ≡ Some roots →
+  load_decides : (roots : List (Option ℕ)) (b : Bool) → e.item.kind ≡ Load → slice_get (each_roots s.walk.sources.now.items) p.position ≡ Some roots →
       b ≡ may_transmit e.item.kind s.point.now.serial roots → b ≡ decides_as e.item.kind d before e
   load_decides roots b is k q =
       q ∙ ap (λ k. may_transmit k s.point.now.serial roots) is
@@ -93,13 +93,18 @@ module _ (s : Seen) (p : Place) (t : HasTurn s p) where
       ∙ ap (λ k. decides_as k d before e) (sym is)
 
   -- a division its time where both operands are
-  pub division_decides : (roots : List (Option ℕ)) (b : Bool) → e.item.kind ≡ Div → slice_get (each_roots s.walk.sources.now.items) p.position ≡ Some roots →
+  division_decides : (roots : List (Option ℕ)) (b : Bool) → e.item.kind ≡ Div → slice_get (each_roots s.walk.sources.now.items) p.position ≡ Some roots →
       b ≡ may_transmit e.item.kind s.point.now.serial roots → b ≡ decides_as e.item.kind d before e
   division_decides roots b is k q =
       q ∙ ap (λ k. may_transmit k s.point.now.serial roots) is
       ∙ ap not ((told roots k).any ∙ ap (λ (model : SttModel). any_tainted model before e) t.stands.model)
       ∙ sym (ap₂ (λ w r. w && r && not (any_tainted d.stt_model before e)) t.waits (is_ready (ap is_store is)))
       ∙ ap (λ k. decides_as k d before e) (sym is)
+
+  pub untainted_decides : (roots : List (Option ℕ)) (b : Bool) → (e.item.kind ≡ Load) ⊎ (e.item.kind ≡ Div) → slice_get (each_roots s.walk.sources.now.items) p.position ≡ Some roots →
+      b ≡ may_transmit e.item.kind s.point.now.serial roots → b ≡ decides_as e.item.kind d before e
+  untainted_decides roots b (inl is) k q = load_decides roots b is k q
+  untainted_decides roots b (inr is) k q = division_decides roots b is k q
 
   -- ---- a store's address part
 
@@ -128,6 +133,6 @@ module _ (s : Seen) (p : Place) (t : HasTurn s p) where
 -- ---- the marks of the first operand
 
 -- where there is one
-pub base_marked : (regs : List WordMarks) (before : List Entry) (marks : List EntryMarks) (rs : List ℕ) → any_byte (first_marks regs before marks rs) ≡ any_marked regs before marks (base_of rs)
-base_marked regs before marks [] = refl
-base_marked regs before marks (r ∷ rs) = sym (or_false (any_byte (first_marks regs before marks (r ∷ rs))))
+pub base_marked : (regs : List WordMarks) (older : List Entry) (marks : List EntryMarks) (rs : List ℕ) → any_byte (first_marks regs older marks rs) ≡ any_marked regs older marks (base_of rs)
+base_marked regs older marks [] = refl
+base_marked regs older marks (r ∷ rs) = sym (or_false (any_byte (first_marks regs older marks (r ∷ rs))))
