@@ -1,13 +1,11 @@
 -- What the program does: the words, what the files and the sink tell before and after, and the status
 -- (docs/theorems.md, "The program").
 use Rattle.std.specs.Prelude.{◌≡◌, ◌≢◌, ◌≤◌, ◌<◌, ◌⊎◌, ℕ, List, [], ◌∷◌, length, slice_get, Option, Some, None, Result, Ok, Err, MatchResult}
-use Rattle.elf_loader.specs.Image.{ImageText, image_of}
-use Rattle.elf_loader.specs.declared.faults.ElfFault.{ElfFault}
-use Rattle.gen_image.specs.Generated.{generated_image}
-use Rattle.machine_desc.specs.Description.{description_of, Describes}
+use Rattle.elf_loader.specs.Image.{ImageText}
+use Rattle.machine_desc.specs.Description.{description_of}
 use Rattle.machine_desc.specs.declared.Desc.{Desc}
 use Rattle.machine_desc.specs.declared.fault.DescFault.{DescFault}
-use Rattle.tool_io.specs.Outside.{Told, Shelf, Wrote, WrotePart, SameCounts, NameFailed, Rose}
+use Rattle.tool_io.specs.Outside.{Shelf, Wrote, WrotePart, SameCounts, NameFailed, Rose}
 use Rattle.tool_words.specs.Words.{CommandText, command_of, isa_text, run_text, trace_text, bench_text, pair_text}
 use Rattle.run_inputs.specs.declared.refusal.Which.{Which}
 use Rattle.stt_top.specs.declared.outcome.Ended.{Ended}
@@ -15,7 +13,8 @@ use Rattle.run_inputs.specs.declared.refusal.Refusal.{Refusal}
 use Rattle.run_inputs.specs.declared.refusal.Refusal.TheVariants.{Words, Write, Memory}
 use Rattle.stt_top.specs.Outcome.{status_of}
 use Rattle.run_inputs.specs.Refused.{place_of}
-use Rattle.run_inputs.specs.Input.{description_max, image_max, ImageFrom, from_file, from_seed, MayHold, MayBeLonger, IsRead, RefusedAt, FailsToRead, HasTooMany, HasFault, Refuses, base_of, size_of, misaligned_of}
+use Rattle.run_inputs.specs.Input.{description_max, ImageFrom, from_file, from_seed, MayHold, MayBeLonger, IsRead, RefusedAt, FailsToRead, Refuses}
+use Rattle.run_inputs.specs.Told.{World, IsFaultyDescription, TellsDesc, TellsBytes, IsFaultyImage, TellsImages, MayBeFaulty}
 use Rattle.stt_top.specs.declared.task.Task.{Task}
 use Rattle.stt_top.specs.Work.{TaskText, task_of, task_text, Work, ComesTo}
 
