@@ -1,7 +1,7 @@
 //! Reads descriptions: looks for the faults in their order, and then takes the numbers.
 //!
 //! `specs/Description.antt` has the order; `docs/formats.md` tells it.
-ghost use Rattle.std.specs.Prelude.{◌≡◌, ◌≢◌, IsTrue, Ok, Err, IfOk, IfErr, MatchResult, Some, None, map};
+ghost use Rattle.std.specs.Prelude.{◌≡◌, ◌≢◌, IsTrue, IsUtf8, Ok, Err, IfOk, IfErr, MatchResult, Some, None, map};
 ghost use Rattle.toml.specs.View.{table_view, view};
 ghost use Rattle.toml.specs.Data.{get_member};
 ghost use Rattle.machine_desc.specs.Table.{number_keys};
@@ -301,11 +301,12 @@ fn read_document(document: &Table) -> Result<Desc, DescFault>
 /// # Errors
 ///
 /// The first fault of the text in the order that `docs/formats.md` gives; `NoMemory` where there is no memory to read
-/// it.
+/// it, and never where the bytes aren't UTF-8, since that is found before memory is taken.
 #[tactic(auto, unfolding(crate::specs::Description::description_of))]
 pub fn read_desc(alloc: Global, bytes: &[u8]) -> Result<Desc, DescFault>
     ensures ok { IfOk result (Describes bytes.now) }
     ensures err { IfErr result (λ e. e ≢ DescFault.NoMemory → description_of bytes.now ≡ Err e) }
+    ensures wanting { IfErr result (λ e. e ≡ DescFault.NoMemory → IsUtf8 bytes.now) }
 {
     let text = match std::str::from_utf8(bytes) {
         Ok(text) => text,

@@ -14,7 +14,6 @@ use Rattle.window_model.specs.Issue.{issue}
 use Rattle.window_model.specs.Rename.{rename}
 use Rattle.window_model.specs.Fetch.{fetch}
 use Rattle.window_model.specs.Cycle.{after_retire, at, before_retire, begins_cycle, cycle}
-use Rattle.window_model.specs.Row.{most_events}
 use Rattle.window_model.proofs.Quiet.{at_retire}
 use Rattle.window_model.proofs.Telling.{retire_few}
 use Rattle.window_model.proofs.Walks.{run_keep}
@@ -71,7 +70,7 @@ after_adds d code None x =
 
 -- ---- a cycle
 
-pub few_events : (d : Desc) (code : Code) (x : Machine) → IsDesc d → Sized d x → length (cycle d code x).row.events ≤ most_events
+pub few_events : (d : Desc) (code : Code) (x : Machine) → IsDesc d → Sized d x → length (cycle d code x).row.events ≤ 232
 unfolding cycle
 few_events d code x i s =
     let x1 = begins_cycle x in
@@ -86,7 +85,7 @@ few_events d code x i s =
     small (length ((f.events ++ r.events) ++ k.events)) (length x.misses) (length x.window) d.core_retire_width d.units_alus d.core_fetch_width all
     (omega (arith, s.misses, i.mshrs.1)) (omega (arith, s.entries, rob)) i.retire_width.1 i.alus.1 i.fetch_width.1
   where
-    small : (n m w r u f : ℕ) → n ≤ m + (w + 7) + (r + 2) + (u + 7 + (f + f)) → m ≤ 8 → w ≤ 192 → r ≤ 4 → u ≤ 4 → f ≤ 4 → n ≤ most_events
+    small : (n m w r u f : ℕ) → n ≤ m + (w + 7) + (r + 2) + (u + 7 + (f + f)) → m ≤ 8 → w ≤ 192 → r ≤ 4 → u ≤ 4 → f ≤ 4 → n ≤ 232
     small n m w r u f h a b c e g = omega arith
 
 pub cycle_number : (d : Desc) (code : Code) (x : Machine) → (cycle d code x).machine.cycle ≡ x.cycle + 1

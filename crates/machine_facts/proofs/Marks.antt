@@ -10,7 +10,6 @@ use Rattle.rv_types.specs.declared.Instr.{Instr}
 use Rattle.rv_types.specs.declared.Kind.{Kind}
 use Rattle.rv_types.specs.declared.Kind.TheVariants.{Branch, Jal, Jalr}
 use Rattle.machine_desc.specs.declared.Desc.{Desc}
-use Rattle.machine_desc.specs.Ranges.{IsDesc}
 use Rattle.window_model.specs.declared.Divider.{Divider}
 use Rattle.window_model.specs.declared.Entry.{Entry}
 use Rattle.window_model.specs.declared.Item.{Item}
@@ -137,5 +136,5 @@ module _ (d : Desc) where
       cycle_keep d (Marked d) code marked_issue marked_rename (marked_fetch code) marked_resolve (marked_clear d) marked_retire
       (λ x h. record { next = h.next; entries = h.entries; items = h.items }) (λ x h. record { next = h.next; entries = h.entries; items = h.items }) marked_complete x h
 
-pub marked_at : (d : Desc) (code : Code) (entry : ℕ) (ram : Ram) (k : ℕ) → IsDesc d → Marked d (at d code entry ram k)
-marked_at d code entry ram k i = run_keep d (Marked d) code (marked_cycle d code) k (opening d entry ram) (marked_opening d entry ram)
+pub marked_at : (d : Desc) (code : Code) (entry : ℕ) (ram : Ram) (k : ℕ) → Marked d (at d code entry ram k)
+marked_at d code entry ram k = run_keep d (Marked d) code (marked_cycle d code) k (opening d entry ram) (marked_opening d entry ram)

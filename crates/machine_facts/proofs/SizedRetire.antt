@@ -106,5 +106,5 @@ module _ (d : Desc) (ram : Ram) where
 pub sized_retire : (d : Desc) (x : Machine) → IsDesc d → Sized d x → Sized d (retire d x).machine
 sized_retire d x i s = (retire_lies d x.ram x (record { sized = s; shape = same_shape x.ram })).sized
 
-pub memory_stays_retire : (d : Desc) (x : Machine) → IsDesc d → Sized d x → SameShape x.ram (retire d x).machine.ram
-memory_stays_retire d x i s = (retire_lies d x.ram x (record { sized = s; shape = same_shape x.ram })).shape
+pub memory_stays_retire : (d : Desc) (x : Machine) → Sized d x → SameShape x.ram (retire d x).machine.ram
+memory_stays_retire d x s = (retire_lies d x.ram x (record { sized = s; shape = same_shape x.ram })).shape

@@ -42,7 +42,7 @@ memory_stays_cycle d code x i s =
     let z = (retire d y).machine in
     let before = ap (λ (h : Hart). h.ram) (before_quiet d x).hart in
     let after = ap (λ (h : Hart). h.ram) (after_quiet d code z).hart in
-    let stays = subst (λ m. SameShape m z.ram) before (memory_stays_retire d y i (sized_at_retire d x i s)) in
+    let stays = subst (λ m. SameShape m z.ram) before (memory_stays_retire d y (sized_at_retire d x i s)) in
     subst (λ (u : Machine). SameShape x.ram u.ram) (sym (cycle_is d code x)) (subst (SameShape x.ram) (sym after) stays)
 
 -- sizes, and memory where it was at first

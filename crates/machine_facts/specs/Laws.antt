@@ -11,7 +11,6 @@ use Rattle.window_model.specs.Resolve.{resolve}
 use Rattle.window_model.specs.Clear.{clear}
 use Rattle.window_model.specs.Retire.{retire}
 use Rattle.window_model.specs.Cycle.{at, cycle}
-use Rattle.window_model.specs.Row.{most_events}
 use Rattle.machine_facts.specs.Sized.{Sized}
 use Rattle.machine_facts.specs.Timely.{Timely, Counted, WaitsOrDone}
 use Rattle.machine_facts.specs.Marks.{Marked}
@@ -26,7 +25,7 @@ StatesAreTimely = (d : Desc) (code : Code) (entry : ℕ) (ram : Ram) (k : ℕ) �
 
 -- in every state of a run history and stack are as large as the description says
 abbrev pub StatesAreMarked : Type 0
-StatesAreMarked = (d : Desc) (code : Code) (entry : ℕ) (ram : Ram) (k : ℕ) → IsDesc d → Marked d (at d code entry ram k)
+StatesAreMarked = (d : Desc) (code : Code) (entry : ℕ) (ram : Ram) (k : ℕ) → Marked d (at d code entry ram k)
 
 -- from a state between two cycles on, a store takes one cycle to execute: so none is busy in what Issue finds
 abbrev pub NoStoreIsBusy : Type 0
@@ -40,11 +39,11 @@ StatesAreCounted = (d : Desc) (code : Code) (entry : ℕ) (ram : Ram) (k : ℕ) 
 
 -- no cycle has more events (docs/machine.md, "Events")
 abbrev pub RowsAreShort : Type 0
-RowsAreShort = (d : Desc) (code : Code) (x : Machine) → IsDesc d → Sized d x → length (cycle d code x).row.events ≤ most_events
+RowsAreShort = (d : Desc) (code : Code) (x : Machine) → IsDesc d → Sized d x → length (cycle d code x).row.events ≤ 232
 
 -- Retire leaves memory where it is
 abbrev pub RetireKeepsShape : Type 0
-RetireKeepsShape = (d : Desc) (x : Machine) → IsDesc d → Sized d x → SameShape x.ram (retire d x).machine.ram
+RetireKeepsShape = (d : Desc) (x : Machine) → Sized d x → SameShape x.ram (retire d x).machine.ram
 
 -- and so does a cycle
 abbrev pub CycleKeepsShape : Type 0

@@ -1,5 +1,6 @@
--- A piece that a stream takes in several writes.
-use Rattle.std.proofs.Common.{◌≡◌, ◌<◌, ℕ, List, ◌++◌, length, take, sym, ap, ◌∙◌, subst, append-nil, Option, None, Some, arith}
+-- A piece that a stream takes in several writes, and what a read gives.
+use Rattle.std.proofs.Common.{◌≡◌, ◌<◌, ◌≤◌, ℕ, zero, suc, List, ◌++◌, length, take, refl, sym, ap, ◌∙◌, subst, append-nil, Option, None, Some, arith}
+use Rattle.std.proofs.lemmas.List.{length-append, length-take-le}
 use Rattle.std.proofs.lemmas.Grind.{common_steps}
 use Rattle.std.specs.Io.KnownBytes.{Appends, Keeps}
 use Rattle.tool_io.specs.Streams.{AppendsPart}
@@ -15,3 +16,11 @@ pub front_is_part : (piece front rest : List ℕ) (a b : Option (List ℕ)) → 
 front_is_part piece front rest a b split left taken =
     let whole : take (length front) piece ≡ front = grind (arith, common_steps) in
     record { sent = length front; short = grind (arith, common_steps); appended = subst (Appends a b) (sym whole) taken }
+
+-- what a read gives is some, where it isn't none
+pub some_given : (gathered buffer : List ℕ) (n : ℕ) → n ≤ length buffer → (n ≡ 0 → ⊥) → 0 < length (gathered ++ take n buffer)
+some_given gathered buffer zero few some = absurd (some refl)
+some_given gathered buffer (suc n) few some =
+    let whole = length-append gathered (take (suc n) buffer) in
+    let taken = length-take-le (suc n) buffer few in
+    omega (arith, whole, taken)

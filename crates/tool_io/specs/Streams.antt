@@ -1,6 +1,6 @@
--- What a put leaves of a stream that tells the bytes that it holds.
-use Rattle.std.specs.Prelude.{◌<◌, ℕ, List, length, take, Option, Result, MatchResult}
-use Rattle.std.specs.Io.KnownBytes.{Appends}
+-- What a put leaves of a stream that tells the bytes that it holds, and what a read takes of one that tells those that are left.
+use Rattle.std.specs.Prelude.{◌<◌, ℕ, List, length, take, Option, Some, None, Result, MatchResult}
+use Rattle.std.specs.Io.KnownBytes.{Appends, Consumes}
 use Rattle.tool_io.specs.declared.Failed.{Failed}
 
 -- The bytes that a stream holds, where it tells them, and how often a put on it has failed.
@@ -17,3 +17,12 @@ pub record AppendsPart (piece : List ℕ) (old new : Option (List ℕ)) : Type 0
 -- A put of the whole piece: all of it stands behind what the stream held, or a write failed before that.
 abbrev pub PutsAll : List ℕ → Option (List ℕ) → Option (List ℕ) → Result (Unit {0}) Failed → Type 0
 PutsAll piece old new result = MatchResult result (λ _. Appends old new piece) (λ _. AppendsPart piece old new)
+
+-- A stream that tells what is left has given some of it.
+abbrev pub HasGiven : Option (List ℕ) → Option (List ℕ) → Type 0
+HasGiven old new = (given : List ℕ) × (0 < length given) × Consumes old new given
+
+-- A stream that tells what is left has something to give.
+abbrev pub GivesSome : Option (List ℕ) → Type 0
+GivesSome None = Unit {0}
+GivesSome (Some bytes) = 0 < length bytes

@@ -5,7 +5,7 @@ ghost use Rattle.std.specs.Prelude.{◌≡◌, None};
 ghost use Rattle.tool_io.specs.Outside.{Writes};
 ghost use Rattle.tool_io.specs.Streams.{StreamState, PutsAll};
 
-use crate::streams::{put_all, read_up_to};
+use crate::streams::{put_all, read_opened};
 use crate::{Failed, Files, Got, ReadFail, Sink};
 use std::alloc::Global;
 use std::io::Write;
@@ -83,10 +83,7 @@ impl<'a, R: rt::Files> Files for RealFiles<'a, R> {
     ghost shelf = { λ faults. record { content = λ name. None; faults = λ name. faults } };
 
     fn read(&mut self, alloc: Global, name: &str, max: usize) -> Result<Got, ReadFail> {
-        let answer = match std::fs::open(self.host, name) {
-            Ok(mut file) => read_up_to(alloc, &mut file, max),
-            Err(_) => Err(ReadFail::Failed),
-        };
+        let answer = read_opened(alloc, std::fs::open(self.host, name), max);
         if let Err(ReadFail::Failed) = answer {
             self.count = self.count.saturating_add(1);
         }

@@ -8,7 +8,7 @@ use Rattle.clap.specs.declared.parser.matches.ArgMatches.{ArgMatches}
 use Rattle.std.proofs.Common.{ℕ, ◌<◌, ◌≤◌, ◌^◌, Bool, false, if◌then◌else◌, Option, Some, None, Ok, Err, arith}
 use Rattle.std.specs.Str.Parse.{ParsesUnsigned, digits_value, without_leading_plus}
 use Rattle.std.proofs.lemmas.Result.{OkIff-at_ok, OkIff-at_err}
-use Rattle.std.proofs.Common.{codes}
+use Rattle.std.proofs.Common.{codes, length, map}
 use Rattle.clap.proofs.OnLiterals.{clap_on_literals}
 use Rattle.clap.proofs.ValueTestLemmas.{accepts-Accepts, Accepts-accepts}
 use Rattle.clap.specs.declared.builder.value_parser.ValueParser.TheVariants as parser
@@ -134,6 +134,16 @@ help_is_refused = refl
 no_words : faults [] ≡ kind.MissingSubcommand ∷ []
 unfolding faults clap_on_literals
 no_words = refl
+
+-- so no words are no command
+pub no_words_no_command : command_of [] ≡ None
+unfolding command_of
+no_words_no_command = rw no_words refl
+
+-- nor are words of which there are none
+pub empty_words : {A : Type 0} (f : A → Text) (ws : List A) → length ws ≡ 0 → command_of (map f ws) ≡ None
+empty_words f [] n = no_words_no_command
+empty_words f (w ∷ ws) n = absurd (omega (arith, n))
 
 -- a command computes
 isa_is_read : command_of (codes "isa" ∷ codes "p.elf" ∷ codes "--steps" ∷ codes "5" ∷ []) ≡ Some (isa_text (codes "p.elf") 5 None)

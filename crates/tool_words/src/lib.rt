@@ -374,11 +374,16 @@ fn command_in<'a>(matches: &ArgMatches<'a>) -> Option<Command<'a>>
     }
 }
 
-/// The command of the words after the program's name. Errors: `Words`, only where they are no command; `Memory`.
+/// The command of the words after the program's name. Errors: `Words`, only where they are no command; `Memory`, never where
+/// there are no words, since that is found before memory is taken.
 pub fn read_words<'a>(alloc: Global, words: &'a [&'a str]) -> Result<Command<'a>, Refused>
     ensures ok { IfOk result (λ c. command_of (map (λ w. w.now) words.now) ≡ Some (command_text c)) }
     ensures refused { IfErr result (λ e. e ≡ Refused.Words → command_of (map (λ w. w.now) words.now) ≡ None) }
+    ensures wanting { IfErr result (λ e. e ≡ Refused.Memory → map (λ w. w.now) words.now ≢ []) }
 {
+    if words.is_empty() {
+        return Err(Refused::Words);
+    }
     let matches = match parse(alloc, words) {
         Ok(matches) => matches,
         Err(refused) => return Err(refused),

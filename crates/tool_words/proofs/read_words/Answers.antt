@@ -1,5 +1,9 @@
-use Rattle.tool_words.proofs.Tool.{words_are, words_faulty}
+use Rattle.std.proofs.Common.{rules}
+use Rattle.tool_words.proofs.Tool.{empty_words, words_are, words_faulty}
 use Rattle.tool_words.proofs.read_words.Goals as goal
+
+pub returns-then-is_empty-clause-refused : goal.returns-then-is_empty-clause-refused
+returns-then-is_empty-clause-refused c = λ _. empty_words _ _ (search rules)
 
 pub returns-in-Some-clause-ok : goal.returns-in-Some-clause-ok
 returns-in-Some-clause-ok c = words_are _ c.in-Ok.matches _ c.in-Ok.ensures.ok.0 c.in-Ok.ensures.ok.1 c.in-Some.ensures

@@ -1,0 +1,144 @@
+"""The built program, once for each status and each way to it: the status, standard output and standard error (docs/formats.md,
+"Statuses" and "Notes"). No proof says what `main` does with them."""
+import os
+import resource
+import subprocess
+import sys
+import tempfile
+import unittest
+
+ROOT = os.path.dirname(os.path.dirname(os.path.dirname(os.path.dirname(os.path.abspath(__file__)))))
+sys.path.insert(0, os.path.join(ROOT, "tools"))
+
+from generate.generated import addi, image, jal, lw
+
+PROGRAM = os.environ.get("STT_CLI", os.path.join(ROOT, "crates", "stt_cli", "out", "stt_cli"))
+EXIT = [addi(17, 0, 93), 0x00000073]
+TRAP = [lw(5, 1, 0)]
+LOOP = [jal(0, 0)]
+DESCRIPTION_MAX, IMAGE_MAX = 65536, 32 * 1024 * 1024
+
+
+def example(name):
+    return os.path.join(ROOT, "examples", name)
+
+
+def bytes_of(path):
+    with open(path, "rb") as file:
+        return file.read()
+
+
+@unittest.skipUnless(os.path.isfile(PROGRAM), "the program isn't built (crates/stt_cli/out/stt_cli, or STT_CLI)")
+class Statuses(unittest.TestCase):
+    def setUp(self):
+        folder = tempfile.TemporaryDirectory()
+        self.addCleanup(folder.cleanup)
+        self.folder = folder.name
+        self.core = example("core.toml")
+        self.exit = self.file("exit.elf", image(EXIT))
+        self.trap = self.file("trap.elf", image(TRAP))
+        self.loop = self.file("loop.elf", image(LOOP))
+
+    def file(self, name, data, length=None):
+        """A file of these bytes, with zero bytes behind them up to a length."""
+        path = os.path.join(self.folder, name)
+        with open(path, "wb") as file:
+            file.write(data)
+            if length is not None:
+                file.truncate(length)
+        return path
+
+    def ran(self, *words, **more):
+        done = subprocess.run([PROGRAM, *words], stdout=subprocess.PIPE, stderr=subprocess.PIPE, timeout=60, check=False, **more)
+        return done.returncode, done.stdout, done.stderr
+
+    def refused(self, status, note, *words):
+        """A refusal writes its line to standard error, and nothing to standard output."""
+        self.assertEqual(self.ran(*words), (status, b"", note), words)
+
+    def written(self, status, last_line, *words):
+        """A text goes whole to standard output, and nothing to standard error."""
+        got, out, note = self.ran(*words)
+        self.assertEqual((got, out.splitlines()[-1:], note), (status, [last_line], b""), words)
+
+    def test_texts(self):
+        self.written(0, b"end exit 0 retired 2", "isa", self.exit, "--steps", "9")
+        self.written(1, b"end trap 4 00010000 retired 0", "isa", self.trap, "--steps", "9")
+        self.written(3, b"end budget retired 9", "isa", self.loop, "--steps", "9")
+        for command in ("run", "trace"):
+            with self.subTest(command=command):
+                for status, file, end in ((0, self.exit, b"end exit 0 retired 2 cycles "),
+                                          (1, self.trap, b"end trap 4 00010000 retired 0 cycles ")):
+                    got, out, note = self.ran(command, self.core, file, "--cycles", "100")
+                    self.assertEqual((got, out.splitlines()[-1][:len(end)], note), (status, end, b""))
+                got, out, note = self.ran(command, self.core, self.loop, "--cycles", "9")
+                self.assertEqual((got, out.splitlines()[-1].split()[:2], note), (3, [b"end", b"budget"], b""))
+
+    def test_two_images(self):
+        one, other = example("bounds_check.elf"), example("bounds_check_other.elf")
+        for name, status, line in (("core.toml", 0, b"equal"), ("core_unprotected.toml", 1, b"unequal 15")):
+            with self.subTest(description=name):
+                got, out, note = self.ran("pair", example(name), one, other, "--cycles", "100")
+                self.assertEqual((got, out.splitlines()[1:2], note), (status, [line], b""))
+
+    def test_words(self):
+        texts = [], ["walk"], ["isa"], ["--help"], ["isa", self.exit, "--steps", "0"]
+        no_texts = [b"\xff"], ["isa", b"\xff\xfe", "--steps", "9"], ["isa", self.exit, "--steps", b"\xff"]
+        for words in (*texts, *no_texts):
+            self.refused(2, b"words\n", *words)
+
+    def test_descriptions(self):
+        known = bytes_of(self.core)
+        for name, data, note in (("empty", b"", b"K3 core.fetch_width"), ("bytes", b"\xff", b"K1"), ("text", b"version", b"K1")):
+            self.refused(4, b"description " + note + b"\n", "run", self.file(name, data), self.exit, "--cycles", "9")
+        longest = known + b"#" * (DESCRIPTION_MAX - len(known))
+        self.written(0, b"end exit 0 retired 2", "isa", self.exit, "--steps", "9", "--desc", self.file("longest", longest))
+        self.refused(4, b"description too long\n", "run", self.file("longer", longest + b"#"), self.exit, "--cycles", "9")
+
+    def test_images(self):
+        self.refused(5, b"image E1 52 0\n", "isa", self.file("none", b""), "--steps", "9")
+        self.refused(5, b"image E2\n", "run", self.core, self.file("zeros", b"", 52), "--cycles", "9")
+        self.refused(5, b"image2 E2\n", "pair", self.core, self.exit, self.file("zeros", b"", 52), "--cycles", "9")
+        longest = self.file("longest", image(EXIT), IMAGE_MAX)
+        self.written(0, b"end exit 0 retired 2", "isa", longest, "--steps", "9")
+        longer = self.file("longer", image(EXIT), IMAGE_MAX + 1)
+        self.refused(5, b"image too long\n", "isa", longer, "--steps", "9")
+        self.refused(5, b"image2 too long\n", "pair", self.core, self.exit, longer, "--cycles", "9")
+
+    def test_files_that_are_not_there(self):
+        none = os.path.join(self.folder, "none")
+        for path in (none, self.folder, ""):
+            self.refused(6, b"read description\n", "run", path, self.exit, "--cycles", "9")
+            self.refused(6, b"read image\n", "isa", path, "--steps", "9")
+            self.refused(6, b"read image2\n", "pair", self.core, self.exit, path, "--cycles", "9")
+
+    def test_output_that_fails(self):
+        with open("/dev/full", "wb") as full:
+            done = subprocess.run([PROGRAM, "isa", self.exit, "--steps", "9"], stdout=full, stderr=subprocess.PIPE, timeout=60, check=False)
+        self.assertEqual((done.returncode, done.stderr), (7, b"write\n"))
+
+    def test_a_note_that_fails_changes_no_status(self):
+        with open("/dev/full", "wb") as full:
+            done = subprocess.run([PROGRAM, "isa"], stdout=subprocess.PIPE, stderr=full, timeout=60, check=False)
+        self.assertEqual((done.returncode, done.stdout), (2, b""))
+
+    def test_memory(self):
+        """Under a rising limit of memory the program can't start, then refuses with 8, then writes its text."""
+        ways = []
+        for size in [2**k for k in range(20, 40)]:
+            def limit():
+                resource.setrlimit(resource.RLIMIT_AS, (size, size))
+            try:
+                ran = self.ran("run", self.core, self.exit, "--cycles", "100", preexec_fn=limit)
+            except subprocess.SubprocessError:
+                continue
+            ways.append((ran[0], ran[1] == b"", ran[2]))
+            if ran[0] == 0:
+                break
+        started = [way for way in ways if way[0] >= 0 and way[0] != 127]
+        self.assertEqual(started[-1], (0, False, b""))
+        self.assertLessEqual(set(started[:-1]), {(8, True, b"memory\n"), (8, True, b"")})
+
+
+if __name__ == "__main__":
+    unittest.main()
