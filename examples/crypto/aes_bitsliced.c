@@ -144,6 +144,7 @@ static void add(bits *state, const bits *round_key) {
     state->bit[p] ^= round_key->bit[p];
 }
 
+/* Puts out the block that is encrypted: ten rounds, of which the last doesn't mix. */
 int main(void) {
   static const u8 constant[10] = {0x01, 0x02, 0x04, 0x08, 0x10, 0x20, 0x40, 0x80, 0x1b, 0x36};
   bits state, round_key;

@@ -62,6 +62,7 @@ static void add(u8 *state, const u8 *round_key) {
     state[i] ^= round_key[i];
 }
 
+/* Puts out the block that is encrypted: ten rounds, of which the last doesn't mix. */
 int main(void) {
   u8 state[16], turned[16], round_key[16], constant = 1;
   for (int i = 0; i < 16; i++)

@@ -47,6 +47,7 @@ static void rounds(u32 *x) {
   }
 }
 
+/* Puts out one block: the state after the rounds, and added to it the state before them. */
 int main(void) {
   u32 state[16], x[16];
   u8 block[64];

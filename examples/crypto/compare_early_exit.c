@@ -16,6 +16,7 @@ __attribute__((noinline)) static u32 equal(const u8 *a, const u8 *b) {
   return 1;
 }
 
+/* Puts out both answers. */
 int main(void) {
   u8 answers[2] = {equal(secret, right), equal(secret, wrong)};
   return told(answers, sizeof answers);

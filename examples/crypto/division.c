@@ -13,6 +13,7 @@ __attribute__((noinline)) static u32 compress(u32 x) {
   return (2 * x + modulus / 2) / modulus & 1;
 }
 
+/* Puts out a bit for each coefficient. */
 int main(void) {
   u8 bits[4];
   for (int i = 0; i < 4; i++)

@@ -93,6 +93,7 @@ static void finish(u8 *tag, const u32 *h) {
   }
 }
 
+/* Puts out the tag. */
 int main(void) {
   u32 h[5] = {0}, r[5];
   u8 tag[16];

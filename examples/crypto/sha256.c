@@ -46,6 +46,7 @@ static void take(u32 *hash, const u8 *block) {
   hash[4] += e, hash[5] += f, hash[6] += g, hash[7] += h;
 }
 
+/* Puts out the hash: the message is padded by a one, by zeros and by its length in bits. */
 int main(void) {
   /* fractions of the square roots of the first eight primes */
   u32 hash[8] = {0x6a09e667, 0xbb67ae85, 0x3c6ef372, 0xa54ff53a, 0x510e527f, 0x9b05688c, 0x1f83d9ab, 0x5be0cd19};

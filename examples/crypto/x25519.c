@@ -57,20 +57,9 @@ static void subtract(number *to, const number *a, const number *b) {
   to->word[0] -= 38 * decrease(to, 38 * borrow);
 }
 
-/* The product: sixteen words, of which the higher eight count 38 times. */
-static void multiply(number *to, const number *a, const number *b) {
-  u32 product[16] = {0};
+/* Brings a product of sixteen words into eight: the higher eight count 38 times. */
+static void fold(number *to, const u32 *product) {
   u64 carry = 0;
-  for (int i = 0; i < 8; i++) {
-    carry = 0;
-    for (int j = 0; j < 8; j++) {
-      carry += (u64)a->word[i] * b->word[j] + product[i + j];
-      product[i + j] = carry;
-      carry >>= 32;
-    }
-    product[i + 8] = carry;
-  }
-  carry = 0;
   for (int i = 0; i < 8; i++) {
     carry += (u64)product[i + 8] * 38 + product[i];
     to->word[i] = carry;
@@ -79,29 +68,31 @@ static void multiply(number *to, const number *a, const number *b) {
   to->word[0] += 38 * increase(to, 38 * (u32)carry);
 }
 
-/* Squares a number so many times, and multiplies what comes of it. */
-static void square(number *to, const number *a, int times, const number *by) {
-  number square = *a;
-  for (int i = 0; i < times; i++)
-    multiply(&square, &square, &square);
-  multiply(to, &square, by);
+/* The product. */
+static void multiply(number *to, const number *a, const number *b) {
+  u32 product[16] = {0};
+  for (int i = 0; i < 8; i++) {
+    u64 carry = 0;
+    for (int j = 0; j < 8; j++) {
+      carry += (u64)a->word[i] * b->word[j] + product[i + j];
+      product[i + j] = carry;
+      carry >>= 32;
+    }
+    product[i + 8] = carry;
+  }
+  fold(to, product);
 }
 
-/* The inverse: the power 2^255 - 21. Names tell exponents, and how many ones they have in binary digits. */
+/* The inverse: the power 2^255 - 21, whose digits are public. */
 static void invert(number *to, const number *a) {
-  number two, nine, eleven, ones5, ones10, ones20, ones50, ones;
-  multiply(&two, a, a);
-  square(&nine, &two, 2, a);
-  multiply(&eleven, &nine, &two);
-  square(&ones5, &eleven, 1, &nine);
-  square(&ones10, &ones5, 5, &ones5);
-  square(&ones20, &ones10, 10, &ones10);
-  square(&ones, &ones20, 20, &ones20);
-  square(&ones50, &ones, 10, &ones10);
-  square(&ones, &ones50, 50, &ones50);
-  square(&ones, &ones, 100, &ones);
-  square(&ones, &ones, 50, &ones50);
-  square(to, &ones, 5, &eleven);
+  static const u32 exponent[8] = {0xffffffeb, 0xffffffff, 0xffffffff, 0xffffffff, 0xffffffff, 0xffffffff, 0xffffffff, 0x7fffffff};
+  number power = {{1}};
+  for (int i = 254; i >= 0; i--) {
+    multiply(&power, &power, &power);
+    if (exponent[i / 32] >> i % 32 & 1)
+      multiply(&power, &power, a);
+  }
+  *to = power;
 }
 
 /* Swaps two numbers where the bit is 1. */
@@ -160,6 +151,7 @@ static u32 bit_of(int i) {
   return i < 3 ? 0 : i == 254 ? 1 : secret[i / 8] >> i % 8 & 1;
 }
 
+/* Puts out the first coordinate of the secret multiple of the point. */
 int main(void) {
   number x;
   points p = {.x2 = {{1}}, .z3 = {{1}}};
