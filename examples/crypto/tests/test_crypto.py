@@ -1,0 +1,208 @@
+"""The programs of examples/crypto, as each compiler builds them: they put out what their standards have, also for other secrets, and what
+README.md says of each secret is so: where it stands, and whether two of them have unequal traces."""
+import functools
+import hashlib
+import os
+import re
+import shutil
+import subprocess
+import sys
+import tempfile
+import unittest
+
+from elftools.elf.elffile import ELFFile
+
+FOLDER = os.path.dirname(os.path.dirname(os.path.abspath(__file__)))
+ROOT = os.path.dirname(os.path.dirname(FOLDER))
+sys.path.append(os.path.join(ROOT, "tools"))
+
+from verdict import simulator
+
+PROGRAM = simulator.found()
+NEEDS = {"gcc": ("make", "riscv64-unknown-elf-gcc"), "clang": ("make", "clang", "ld.lld")}
+LEVELS = ("O1", "O2")
+ROW = r"^\| `(\w+)` \| `(key|secret)` \| (\d+) \| (hidden|shown) \| (hidden|shown) \|"
+DESCRIPTIONS = [os.path.join(ROOT, "examples", f"large_{name}.toml") for name in ("unprotected", "passing", "futuristic", "hold")]
+CYCLES = "100000000"
+MERSENNE = 2**31 - 1
+FIELD = 2**130 - 5
+MODULUS = 3329
+# a run of these takes more than a million cycles
+LONG = ("x25519",)
+
+
+def read(name):
+    with open(os.path.join(FOLDER, name), encoding="utf-8") as file:
+        return file.read()
+
+
+@functools.cache
+def rows():
+    """Of each program of README.md's first table: its secret's symbol and bytes, and the word for each compiler."""
+    found = re.findall(ROW, read("README.md"), re.MULTILINE)
+    return {name: (symbol, int(size), dict(zip(NEEDS, words))) for name, symbol, size, *words in found}
+
+
+def vectors():
+    return dict(line.split() for line in read("vectors.txt").splitlines() if line and not line.startswith("#"))
+
+
+def missing(compiler):
+    names = [name for name in NEEDS[compiler] if shutil.which(name) is None]
+    return f"no {names[0]}: the programs of examples/crypto aren't built with {compiler}" if names else None
+
+
+@functools.cache
+def folder():
+    folder.kept = tempfile.TemporaryDirectory()
+    return folder.kept.name
+
+
+def make(*words):
+    return subprocess.run(["make", "-C", FOLDER, f"BUILD={folder()}", *words], capture_output=True, text=True, check=False)
+
+
+@functools.cache
+def built(compiler):
+    """The folders of the images that this compiler builds, by level."""
+    ended = make("-s", f"COMPILERS={compiler}")
+    assert (ended.returncode, ended.stderr) == (0, ""), ended.stderr
+    return {level: os.path.join(folder(), f"{compiler}-{level}") for level in LEVELS}
+
+
+class Secret:
+    """The secret of an image: where its bytes stand in memory and in the file."""
+
+    def __init__(self, path, symbol):
+        self.path = path
+        with open(path, "rb") as file:
+            elf = ELFFile(file)
+            self.found = elf.get_section_by_name(".symtab").get_symbol_by_name(symbol)
+            self.address, self.size = self.found[0]["st_value"], self.found[0]["st_size"]
+            holders = [load for load in elf.iter_segments("PT_LOAD") if 0 <= self.address - load["p_vaddr"] < load["p_filesz"]]
+            self.executable = any(load["p_flags"] & 1 for load in holders)
+            self.at = self.address - holders[0]["p_vaddr"] + holders[0]["p_offset"]
+            file.seek(0)
+            self.image = file.read()
+
+    def other(self, value):
+        """The file of the same image with another secret."""
+        path = os.path.join(folder(), "other.elf")
+        with open(path, "wb") as file:
+            file.write(self.image[:self.at] + value + self.image[self.at + self.size:])
+        return path
+
+
+def written(image):
+    """What a run on the instruction set puts out, and how it ends."""
+    *lines, last = simulator.run(PROGRAM, "isa", image, "--steps", CYCLES).splitlines()
+    return b"".join(bytes.fromhex(line[4:]) for line in lines if line.startswith("out ")), last.split(" retired ")[0]
+
+
+def poly1305(key, message):
+    """The tag of a message, by numbers of any length."""
+    place, total = int.from_bytes(key[:16], "little") & 0x0ffffffc0ffffffc0ffffffc0fffffff, 0
+    for at in range(0, len(message), 16):
+        total = (total + int.from_bytes(message[at:at + 16] + b"\1", "little")) * place % FIELD
+    return (total + int.from_bytes(key[16:], "little") & 2**128 - 1).to_bytes(16, "little")
+
+
+def rounded(secret):
+    """The lowest bit of 2 x / 3329, to the nearest whole number, of each coefficient."""
+    coefficients = [int.from_bytes(secret[at:at + 4], "little") for at in range(0, 16, 4)]
+    return bytes((4 * x + MODULUS) // (2 * MODULUS) & 1 for x in coefficients)
+
+
+TAG = bytes.fromhex("a8061dc1305136c6c22b8baf0c0127a9")
+# what else than the program's own C tells the output for a secret
+TELLS = {
+    "ladder": lambda secret: pow(16807, int.from_bytes(secret, "little"), MERSENNE).to_bytes(4, "big"),
+    "sha256": lambda secret: hashlib.sha256(secret).digest(),
+    "poly1305": lambda secret: poly1305(secret, b"Cryptographic Forum Research Group"),
+    "division": rounded,
+    "division_by_product": rounded,
+    "compare_constant_time": lambda secret: bytes((secret == TAG, secret == TAG[:15] + b"\xa8")),
+    "compare_early_exit": lambda secret: bytes((secret == TAG, secret == TAG[:15] + b"\xa8")),
+}
+COEFFICIENTS = [0, 1, 831, 832, 833, 2495, 2496, 2497, 2498, 3328, 1664, 1665]
+
+
+def others(name, size):
+    """Other secrets of a program, of ordinary and of outermost values."""
+    if name.startswith("division"):
+        return [b"".join(x.to_bytes(4, "little") for x in COEFFICIENTS[at:at + 4]) for at in range(0, 12, 4)]
+    near = [TAG[:15] + b"\xa8", b"\xa9" + TAG[1:]] if name.startswith("compare") else []
+    return [bytes(size), b"\xff" * size, bytes(range(101, 101 + size)), *near]
+
+
+@unittest.skipUnless(PROGRAM, "the program isn't built")
+class Crypto(unittest.TestCase):
+    def each_compiler(self):
+        """Each compiler that is there, with the folders of its images; one that isn't is skipped with a word."""
+        for compiler in NEEDS:
+            with self.subTest(compiler=compiler):
+                if missing(compiler):
+                    self.skipTest(missing(compiler))
+                yield compiler, built(compiler)
+
+    def each_image(self):
+        """Program, compiler, and the secret of each image."""
+        for compiler, folders in self.each_compiler():
+            for name, (symbol, _, _) in rows().items():
+                for level, path in folders.items():
+                    with self.subTest(program=name, level=level):
+                        yield name, compiler, Secret(os.path.join(path, f"{name}.elf"), symbol)
+
+    def test_tables(self):
+        programs = sorted(name[:-2] for name in os.listdir(FOLDER) if name.endswith(".c"))
+        self.assertEqual(len(programs), 11)
+        self.assertEqual(sorted(rows()), programs)
+        self.assertEqual(sorted(vectors()), programs)
+
+    def test_vectors(self):
+        for compiler, _ in self.each_compiler():
+            ended = make("-s", "test", f"COMPILERS={compiler}", f"STT_CLI={os.path.abspath(PROGRAM)}")
+            self.assertEqual((ended.returncode, ended.stderr), (0, ""))
+            self.assertEqual(ended.stdout.splitlines()[-1], "22 images put out their vectors")
+
+    def test_wrong_vector_is_told(self):
+        wrong = os.path.join(folder(), "wrong.txt")
+        with open(wrong, "w", encoding="utf-8") as file:
+            file.write(read("vectors.txt").replace("3e345911", "3e345910"))
+        for compiler, folders in self.each_compiler():
+            image = os.path.join(folders["O2"], "ladder.elf")
+            ended = make("-s", f"{image}.tested", f"VECTORS={wrong}", f"STT_CLI={os.path.abspath(PROGRAM)}")
+            self.assertNotEqual(ended.returncode, 0)
+            self.assertEqual(ended.stdout, f"{image}: wrote '3e345911', and the vector is '3e345910'\n")
+
+    def test_secrets(self):
+        """The symbol, its bytes, and that they aren't code."""
+        for name, _, secret in self.each_image():
+            self.assertEqual((len(secret.found), secret.size), (1, rows()[name][1]))
+            self.assertFalse(secret.executable)
+
+    def test_other_secrets(self):
+        """What is put out is a function of the secret, and the right one: no compiler has worked it out before the run."""
+        for name, _, secret in self.each_image():
+            for value in others(name, secret.size) if name in TELLS else ():
+                self.assertEqual(written(secret.other(value)), (TELLS[name](value), "end exit 0"))
+
+    def test_traces(self):
+        """Two secrets have unequal traces exactly where README.md says that the secret shows."""
+        for name, compiler, secret in self.each_image():
+            descriptions, values = DESCRIPTIONS, others(name, secret.size)
+            if name in LONG:
+                descriptions, values = descriptions[:1], values[2:3]
+            for description in descriptions:
+                with self.subTest(description=os.path.basename(description)):
+                    unequal = [self.unequal(description, secret, value) for value in values]
+                    self.assertEqual("shown" if any(unequal) else "hidden", rows()[name][2][compiler])
+
+    def unequal(self, description, secret, value):
+        """The first unequal cycle of the traces with the image's own secret and with another; none where they are equal."""
+        words = ("pair", description, secret.path, secret.other(value), "--cycles", CYCLES)
+        return simulator.answer(simulator.run(PROGRAM, *words)).unequal
+
+
+if __name__ == "__main__":
+    unittest.main()
