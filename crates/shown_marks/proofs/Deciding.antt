@@ -1,7 +1,6 @@
 -- Whose first operand tells an address or the time of a division: what the parts tell of an entry in its place, and who is passed.
-use Rattle.std.proofs.Common.{◌≡◌, inl, inr, ℕ, Bool, true, false, not, ◌&&◌, ◌||◌, List, [], ◌∷◌, Option, Some, refl, ap, ap₂, sym, subst, ◌∙◌, slice_get}
+use Rattle.std.proofs.Common.{◌≡◌, inl, inr, ℕ, Bool, true, false, not, ◌&&◌, List, [], ◌∷◌, Option, Some, refl, ap, ap₂, sym, ◌∙◌, slice_get}
 use Rattle.std.specs.Prelude.{◌==◌, ◌⊎◌, if◌then◌else◌}
-use Rattle.std.specs.List.{list_any}
 use Rattle.std.specs.Option.{option_map}
 use Rattle.std.proofs.Math.Bool.{and-false}
 use Rattle.rv_types.specs.declared.Kind.{Kind}
@@ -21,7 +20,7 @@ use Rattle.stations.specs.declared.wants.Wants.TheVariants as wants
 use Rattle.rob_ring.specs.Beside.{each_roots}
 use Rattle.transmit_gate.specs.Gate.{may_transmit}
 use Rattle.parts_stand.specs.Parts.{wants_by, wants_of}
-use Rattle.parts_stand.specs.Telling.{HoldsBy, OperandsTold, has_sources, own_of}
+use Rattle.parts_stand.specs.Telling.{HoldsBy, OperandsTold, has_sources}
 use Rattle.parts_stand.proofs.Answering.{tells_operands, tells_part}
 use Rattle.issue.proofs.Asking.{InStep, first_ready, not_able, not_waiting, part_asks, part_gone, part_may_by, second_ready, step_at, whole_ready}
 use Rattle.secret_marks.specs.declared.EntryMarks.{EntryMarks}
@@ -31,7 +30,7 @@ use Rattle.secret_marks.specs.Marks.{Marks, any_marked, first_marks}
 use Rattle.secret_marks.specs.Shows.{decides_as, operand_shows}
 use Rattle.shown_marks.specs.declared.seen.Place.{Place}
 use Rattle.shown_marks.specs.declared.seen.Seen.{Seen}
-use Rattle.shown_marks.specs.State.{HasTurn, Stands, before_of, parts_of, window_of}
+use Rattle.shown_marks.specs.State.{HasTurn, before_of, parts_of, window_of}
 
 -- ---- who is passed
 
@@ -125,7 +124,7 @@ module _ (s : Seen) (p : Place) (t : HasTurn s p) where
       let held_by : HoldsBy d (parts_of t.stands.next t.stands.writes s) s.point.now = record { advanced = t.stands.advanced; model = t.stands.model; hold = refl } in
       let known = tells_part part.Base d (parts_of t.stands.next t.stands.writes s) s.point.now p.position e t.stands.parts held_by t.at t.waits in
       let here : option_map (ready_part part.Base) (slice_get s.stations.now.held p.station) ≡ Some (all_known d before (base_of (sources e))) =
-          ap (λ n. option_map (ready_part part.Base) (slice_get s.stations.now.held n)) t.station ∙ known in
+      ap (λ n. option_map (ready_part part.Base) (slice_get s.stations.now.held n)) t.station ∙ known in
       let both : Some b ≡ Some (all_known d before (base_of (sources e))) = sym k ∙ here in
       let same : b ≡ all_known d before (base_of (sources e)) = cc in
       sym (part_may_by part.Base d before e b f (second_ready d before e (base_of (sources e)) other ∙ sym same))
