@@ -1,5 +1,5 @@
 -- What stands before a position, youngest first, one position on.
-use Rattle.std.proofs.Common.{◌≡◌, ℕ, zero, suc, ◌+◌, ◌<◌, List, [], ◌∷◌, length, take, drop, get_or, Some, slice_get, refl, ap, ◌∙◌, arith}
+use Rattle.std.proofs.Common.{◌≡◌, ℕ, zero, suc, ◌+◌, ◌<◌, List, [], ◌∷◌, length, take, drop, get_or, Some, slice_get, refl, ap, sym, ◌∙◌, arith}
 use Rattle.std.specs.Prelude.{reverse}
 use Rattle.std.proofs.lemmas.List.{take_more, reverse-append}
 use Rattle.std.proofs.lemmas.Option.{get_or_from_slice_get, slice_get_within}
@@ -30,3 +30,12 @@ pub drop_step : {A : Type 0} (xs : List A) (i n : ℕ) (x : A) → n ≡ i + 1 �
 drop_step xs i n x e h =
     let same : suc i ≡ n = omega (arith, e) in
     drop_next xs i x h ∙ ap (λ n. x ∷ drop n xs) same
+
+-- what is read at a position
+index_is : {A : Type 0} (xs : List A) (k : ℕ) (x : A) → k < length xs → x ≡ get_or xs k x → slice_get xs k ≡ Some x
+index_is xs k x lt h =
+    let (y, at) = found_at xs k lt in
+    at ∙ ap Some (sym (h ∙ get_or_from_slice_get xs k y x at))
+
+pub indexed : {A : Type 0} (xs ys : List A) (k : ℕ) (x : A) → k < length xs → ys ≡ xs → x ≡ get_or ys k x → slice_get xs k ≡ Some x
+indexed xs ys k x lt same h = index_is xs k x lt (h ∙ ap (λ zs. get_or zs k x) same)

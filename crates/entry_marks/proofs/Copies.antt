@@ -1,0 +1,58 @@
+-- What is copied of the oldest entries, and how their marks move once they have left.
+use Rattle.std.proofs.Common.{◌≡◌, ℕ, zero, suc, ◌+◌, ◌-◌, ◌<◌, List, [], ◌∷◌, ◌++◌, length, drop, Some, slice_get, refl, ap, ap₂, subst, ◌∙◌, ◌⊎◌, inl, inr, arith}
+use Rattle.window_model.specs.declared.Entry.{Entry}
+use Rattle.secret_marks.specs.declared.EntryMarks.{EntryMarks}
+use Rattle.secret_marks.specs.Marks.{Marks, leaves_as, left}
+use Rattle.entry_marks.specs.declared.oldest.LeavingEntry.{LeavingEntry}
+use Rattle.entry_marks.specs.Oldest.{IsCopied}
+use Rattle.entry_marks.proofs.Before.{drop_step}
+
+-- ---- copies are added one by one
+
+-- what stands in a list with one more is older, or it
+one_more : {A : Type 0} (xs : List A) (x : A) (i : ℕ) (y : A) → slice_get (xs ++ x ∷ []) i ≡ Some y → (slice_get xs i ≡ Some y) ⊎ ((i ≡ length xs) × (x ≡ y))
+one_more [] x zero y h = inr (refl, cc)
+one_more [] x (suc i) y h = absurd (cc)
+one_more (z ∷ xs) x zero y h = inl h
+one_more (z ∷ xs) x (suc i) y h = elim (one_more xs x i y h) [
+  | inl older ↦ inl older
+  | inr it ↦ inr (ap suc it.0, it.1)
+]
+
+module _ (window : List Entry) (marks : List EntryMarks) where
+  -- each is the copy of the entry at its position
+  abbrev pub Copies : List LeavingEntry → Type 0
+  Copies copies = (i : ℕ) (e : Entry) (mark : EntryMarks) (copy : LeavingEntry) →
+      slice_get window i ≡ Some e → slice_get marks i ≡ Some mark → slice_get copies i ≡ Some copy → IsCopied e mark copy
+
+  pub copied_more : (copies : List LeavingEntry) (k : ℕ) (e : Entry) (mark : EntryMarks) (copy : LeavingEntry) → length copies ≡ k →
+      slice_get window k ≡ Some e → slice_get marks k ≡ Some mark → IsCopied e mark copy → Copies copies → Copies (copies ++ copy ∷ [])
+  copied_more copies k e mark copy count here here2 it older = λ i e2 mark2 copy2 at at2 at3. elim (one_more copies copy i copy2 at3) [
+    | inl h ↦ older i e2 mark2 copy2 at at2 h
+    | inr h ↦
+        let same : i ≡ k = h.0 ∙ count in
+        let entry : e ≡ e2 = cc in
+        let its : mark ≡ mark2 = cc in
+        subst (λ e. IsCopied e mark2 copy2) entry (subst (λ mark. IsCopied e mark copy2) its (subst (λ copy. IsCopied e mark copy) (h.1) it))
+  ]
+
+-- ---- the oldest leaves first
+
+pub leaves_next : (base count : ℕ) (window : List Entry) (marks : List EntryMarks) (m : Marks) (k : ℕ) (e : Entry) (mark : EntryMarks) → k < count →
+    slice_get window k ≡ Some e → slice_get marks k ≡ Some mark →
+    left base (count - k) (drop k window) m (drop k marks)
+    ≡ left base (count - (k + 1)) (drop (k + 1) window) (leaves_as e.item.kind base e mark (drop (k + 1) marks) m) (drop (k + 1) marks)
+leaves_next base count window marks m k e mark lt here here2 =
+    let more : count - k ≡ suc (count - (k + 1)) = omega (arith, lt) in
+    ap (λ n. left base n (drop k window) m (drop k marks)) more
+    ∙ ap₂ (λ w o. left base (suc (count - (k + 1))) w m o) (drop_step window k (k + 1) e refl here) (drop_step marks k (k + 1) mark refl here2)
+
+-- all have left
+all_left : (base : ℕ) (window : List Entry) (m : Marks) (marks : List EntryMarks) → left base 0 window m marks ≡ m
+all_left base [] m [] = refl
+all_left base [] m (mark ∷ marks) = refl
+all_left base (e ∷ window) m [] = refl
+all_left base (e ∷ window) m (mark ∷ marks) = refl
+
+pub none_leaves : (base n : ℕ) (window : List Entry) (m : Marks) (marks : List EntryMarks) → n ≡ 0 → left base n window m marks ≡ m
+none_leaves base n window m marks none = ap (λ n. left base n window m marks) none ∙ all_left base window m marks

@@ -1,0 +1,62 @@
+//! What is copied of the oldest entries before Retire, so that those that leave can move their marks after it.
+ghost use Rattle.std.specs.Prelude.{◌≡◌};
+ghost use Rattle.rv_types.specs.Causes.{illegal};
+ghost use Rattle.rv_types.specs.declared.Instr.TheVariants as instr;
+ghost use Rattle.rv_types.specs.declared.Kind.TheVariants as kind;
+ghost use Rattle.rv_types.specs.declared.Width.TheVariants as width;
+ghost use Rattle.secret_marks.specs.Marks.{new_entry};
+
+use crate::words::UNMARKED;
+use arrayvec::ArrayVec;
+use rv_types::{Cause, Instr, Kind, Width};
+use secret_marks::EntryMarks;
+
+/// How many entries retire in a cycle at most: the widest `core.retire_width`.
+pub const LEAVING_MAX: usize = 4;
+
+/// What of an entry moves marks as it retires.
+#[derive(Clone, Copy, Debug, PartialEq, Eq)]
+pub struct LeavingEntry {
+    /// Its kind.
+    pub kind: Kind,
+    /// Its instruction, which names the register that it writes.
+    pub instr: Instr,
+    /// The address of its access of memory.
+    pub addr: u32,
+    /// How much that access moves.
+    pub width: Width,
+    /// Its marks.
+    pub marks: EntryMarks,
+}
+
+impl Default for LeavingEntry {
+    /// A stop, unmarked.
+    fn default() -> Self
+        ensures { result ≡ record {
+          kind = kind.Stop illegal;
+          instr = instr.Illegal 0;
+          addr = 0;
+          width = width.B;
+          marks = new_entry;
+        } }
+    {
+        LeavingEntry {
+            kind: Kind::Stop(Cause::illegal()),
+            instr: Instr::Illegal(0),
+            addr: 0,
+            width: Width::B,
+            marks: EntryMarks {
+                result: UNMARKED,
+                goes: false,
+                stored: UNMARKED,
+            },
+        }
+    }
+}
+
+/// The oldest entries, as many as may retire in a cycle.
+#[derive(Drop)]
+pub struct Leaving {
+    /// They, oldest first.
+    pub entries: ArrayVec<LeavingEntry, LEAVING_MAX>,
+}

@@ -1,0 +1,110 @@
+//! Retire moves marks: each entry that leaves hands those of its value to its register, and a store those of what it stores to memory.
+ghost use Rattle.std.specs.Prelude.{◌≡◌, ◌+◌, ◌-◌, ◌<◌, ◌≤◌, List, drop, length, slice_set};
+ghost use Rattle.std.specs.Option.{option_map};
+ghost use Rattle.circular_buffer.specs.Buffer.{buffer};
+ghost use Rattle.rv_types.specs.Regs.{writes_of};
+ghost use Rattle.rv_types.specs.Value.{bytes_in};
+ghost use Rattle.window_model.specs.declared.Entry.{Entry};
+ghost use Rattle.secret_marks.specs.declared.EntryMarks.{EntryMarks};
+ghost use Rattle.secret_marks.specs.Marks.{leaves_as, left, with_byte_marks, with_marks};
+ghost use Rattle.entry_marks.specs.Oldest.{Inside, InsideEach, IsCopied, IsCopiedFrom};
+ghost use Rattle.entry_marks.specs.Walk.{marks_of, marks_with};
+
+use crate::beside::marks_at;
+use crate::marks::Marks;
+use crate::oldest::{LEAVING_MAX, Leaving, LeavingEntry};
+use crate::words::UNMARKED;
+use arrayvec::ArrayVec;
+use circular_buffer::HeapCircularBuffer;
+use rob_ring::RobRing;
+use rv_types::{Instr, Kind, REGISTERS, writes_of};
+use secret_marks::{EntryMarks, WordMarks};
+use window_model::Entry;
+
+/// Copies what of the oldest entries moves marks, before Retire: of as many as may retire in a cycle.
+pub fn leaving(rob: &RobRing, marks: &HeapCircularBuffer<EntryMarks>) -> Leaving
+    requires step { length marks.now.items ≡ length rob.now.entries }
+    ensures { IsCopiedFrom rob.now.entries marks.now.items result.entries.items }
+{
+    let mut entries = ArrayVec::new();
+    for i in 0..rob.len().min(LEAVING_MAX as u32) {
+        entries.push(copy_of(rob.lend(i), marks_at(marks, i)));
+    }
+    Leaving { entries }
+}
+
+// What of an entry with these marks moves marks.
+fn copy_of(entry: &Entry, marks: &EntryMarks) -> LeavingEntry
+    ensures { IsCopied entry.now marks.now result }
+{
+    LeavingEntry {
+        kind: entry.item.kind,
+        instr: entry.item.instr,
+        addr: entry.addr(),
+        width: entry.width(),
+        marks: *marks,
+    }
+}
+
+/// So many of the copied entries have retired, over memory that begins at the base: their marks move to registers and memory, oldest
+/// first. It asks that each store among them lies within the marks of memory.
+pub fn leave(marks: &mut Marks, leaving: &Leaving, base: u32, count: u32)
+    requires copied { count ≤ length leaving.now.entries.items }
+    requires inside { InsideEach base (length marks.old.bytes.items) count leaving.now.entries.items }
+    ensures marks { (window : List Entry) → IsCopiedFrom window marks.old.window.items leaving.now.entries.items
+        → marks_of marks.new ≡ left base count window (marks_of marks.old) marks.old.window.items }
+    ensures window { marks.new.window ≡ buffer (drop count marks.old.window.items) marks.old.window.capacity }
+    ensures memory { length marks.new.bytes.items ≡ length marks.old.bytes.items }
+{
+    let entries = leaving.entries.as_slice();
+    for k in 0..count {
+        move_marks(marks, &entries[k as usize], base);
+    }
+    let stay = marks.window.len().saturating_sub(count as usize);
+    marks.window.truncate_front(stay);
+}
+
+// The oldest entry's marks move, those beside the window stay where they are.
+fn move_marks(marks: &mut Marks, entry: &LeavingEntry, base: u32)
+    requires inside { Inside base (length marks.old.bytes.items) entry.now }
+    ensures marks { (e : Entry) (mark : EntryMarks) (before rest : List EntryMarks) → IsCopied e mark entry.now
+        → marks_with marks.new rest ≡ leaves_as e.item.kind base e mark rest (marks_with marks.old before) }
+    ensures window { marks.new.window ≡ marks.old.window }
+    ensures memory { length marks.new.bytes.items ≡ length marks.old.bytes.items }
+{
+    match entry.kind {
+        Kind::Call => marks.regs[10] = UNMARKED,
+        Kind::Store => {
+            write_register(&mut marks.regs, &entry.instr, entry.marks.result);
+            let at = entry.addr.saturating_sub(base) as usize;
+            write_memory(
+                &mut marks.bytes,
+                at,
+                entry.width.bytes(),
+                entry.marks.stored,
+            );
+        }
+        _ => write_register(&mut marks.regs, &entry.instr, entry.marks.result),
+    }
+}
+
+// The register that an instruction writes gets these marks, if there is one.
+fn write_register(regs: &mut [WordMarks; REGISTERS], instr: &Instr, marks: WordMarks)
+    ensures { regs.new ≡ with_marks regs.old (writes_of instr.now) marks }
+{
+    if let Some(register) = writes_of(instr) {
+        regs[register.number as usize] = marks;
+    }
+}
+
+// So many bytes of memory, from a position on, get the marks of a word's lowest bytes.
+fn write_memory(bytes: &mut Vec<bool>, at: usize, count: u32, marks: WordMarks)
+    requires inside { at + count ≤ length bytes.old.items }
+    requires few { count ≤ 4 }
+    ensures marks { bytes.new.items ≡ with_byte_marks bytes.old.items at count marks }
+    ensures memory { length bytes.new.items ≡ length bytes.old.items }
+{
+    let new = [marks.byte0, marks.byte1, marks.byte2, marks.byte3];
+    let count = count as usize;
+    bytes[at..at + count].copy_from_slice(&new[..count]);
+}
