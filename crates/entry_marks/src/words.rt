@@ -37,7 +37,7 @@ pub(crate) fn lowest_byte(mark: bool) -> WordMarks
 }
 
 /// Whether some byte is marked.
-pub(crate) fn any_byte(w: WordMarks) -> bool
+pub fn any_byte(w: WordMarks) -> bool
     ensures { result ≡ any_byte w }
 {
     w.byte0 || w.byte1 || w.byte2 || w.byte3

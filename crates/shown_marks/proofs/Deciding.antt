@@ -1,0 +1,133 @@
+-- Whose first operand tells an address or the time of a division: what the parts tell of an entry in its place, and who is passed.
+use Rattle.std.proofs.Common.{◌≡◌, ℕ, ◌<◌, Bool, true, false, not, ◌&&◌, ◌||◌, List, [], ◌∷◌, Option, Some, refl, ap, ap₂, sym, subst, ◌∙◌, slice_get, slice_set}
+use Rattle.std.specs.Prelude.{◌==◌, if◌then◌else◌, take}
+use Rattle.std.specs.List.{list_any}
+use Rattle.std.specs.Option.{option_map}
+use Rattle.std.proofs.Math.Bool.{and-false}
+use Rattle.rv_types.specs.declared.Kind.{Kind}
+use Rattle.rv_types.specs.declared.Kind.TheVariants.{Load, Store, Div}
+use Rattle.machine_desc.specs.declared.Desc.{Desc}
+use Rattle.machine_desc.specs.declared.SttModel.{SttModel}
+use Rattle.window_model.specs.declared.Entry.{Entry}
+use Rattle.window_model.specs.Around.{Around}
+use Rattle.window_model.specs.Issue.{AddressPort, part_may}
+use Rattle.window_model.specs.Order.{base_of, before_at, has_address, is_store, is_waiting, sources}
+use Rattle.window_model.specs.Ready.{all_known, ready}
+use Rattle.window_model.specs.Taint.{address_tainted, any_tainted}
+use Rattle.window_model.proofs.Booleans.{or_false}
+use Rattle.stations.specs.Stations.{ready_part}
+use Rattle.stations.specs.declared.wants.Part.TheVariants as part
+use Rattle.stations.specs.declared.wants.Wants.TheVariants as wants
+use Rattle.rob_ring.specs.Beside.{each_roots}
+use Rattle.transmit_gate.specs.Gate.{may_transmit}
+use Rattle.parts_stand.specs.Parts.{wants_by, wants_of}
+use Rattle.parts_stand.specs.Telling.{HoldsBy, OperandsTold, has_sources, own_of}
+use Rattle.parts_stand.proofs.Answering.{tells_operands, tells_part}
+use Rattle.issue.proofs.Asking.{InStep, first_ready, not_able, not_waiting, part_asks, part_gone, part_may_by, second_ready, step_at, whole_ready}
+use Rattle.secret_marks.specs.declared.EntryMarks.{EntryMarks}
+use Rattle.secret_marks.specs.declared.WordMarks.{WordMarks}
+use Rattle.secret_marks.specs.Words.{any_byte}
+use Rattle.secret_marks.specs.Marks.{Marks, any_marked, first_marks}
+use Rattle.secret_marks.specs.Shows.{decides_as, operand_shows}
+use Rattle.shown_marks.specs.declared.seen.Place.{Place}
+use Rattle.shown_marks.specs.declared.seen.Seen.{Seen}
+use Rattle.shown_marks.specs.State.{HasTurn, Stands, before_of, parts_of, window_of}
+
+-- ---- who is passed
+
+-- what a store asks at the port of its address doesn't depend on what is around it
+nothing_around : Around
+nothing_around = record { cycle = 0; regs = []; ram = record { base = 0; bytes = [] }; dependence = []; cache = []; second = []; misses = []; free_from = 0 }
+
+module _ (d : Desc) (before : List Entry) (e : Entry) where
+  silent_as : (k : Kind) → (is_store k ≡ false → (is_waiting e.state && ready d before e) ≡ false) → (is_store k ≡ true → part_may AddressPort d before e ≡ false) → decides_as k d before e ≡ false
+  silent_as Load w p = ap (λ b. b && not (address_tainted d.stt_model before e)) (w refl)
+  silent_as Div w p = ap (λ b. b && not (any_tainted d.stt_model before e)) (w refl)
+  silent_as Store w p = p refl
+  silent_as _ w p = refl
+
+  -- one that doesn't wait
+  pub unwaiting_silent : InStep d e → is_waiting e.state ≡ false → decides_as e.item.kind d before e ≡ false
+  unwaiting_silent t w =
+      silent_as e.item.kind (λ s. ap (λ b. b && ready d before e) w)
+      (λ s. sym (part_asks d nothing_around before e AddressPort s) ∙ not_waiting d nothing_around before e t w AddressPort)
+
+  -- one that waits, and lacks what it wants
+  pub unable_silent : is_waiting e.state ≡ true → has_sources (wants_of d.version e) d before e ≡ false → decides_as e.item.kind d before e ≡ false
+  unable_silent w h =
+      silent_as e.item.kind (λ s. ap (λ r. is_waiting e.state && r) (unready s) ∙ and-false (is_waiting e.state))
+      (λ s. sym (part_asks d nothing_around before e AddressPort s) ∙ not_able d nothing_around before e w h AddressPort)
+    where
+      unready : is_store e.item.kind ≡ false → ready d before e ≡ false
+      unready s = sym (ap (λ s. has_sources (if s && not (d.version == 1) then wants_by (has_address e) (has_data e) else wants.Whole) d before e) s) ∙ h
+
+  -- whose operand tells nothing shows nothing
+  pub silent : (m : Marks) (marks : List EntryMarks) → decides_as e.item.kind d before e ≡ false → operand_shows d m before marks e ≡ false
+  silent m marks h = ap (λ b. b && any_marked m.regs before marks (base_of (sources e))) h
+
+-- ---- an entry in its place
+
+module _ (s : Seen) (p : Place) (t : HasTurn s p) where
+  abbrev d : Desc
+  d = s.desc.now
+
+  abbrev e : Entry
+  e = p.entry.now
+
+  abbrev before : List Entry
+  before = before_of s p
+
+  told : (roots : List (Option ℕ)) → slice_get (each_roots s.walk.sources.now.items) p.position ≡ Some roots → OperandsTold s.point.now before e roots
+  told roots k = tells_operands (parts_of t.stands.next t.stands.writes s) s.point.now p.position e roots t.stands.parts t.stands.advanced t.at k
+
+  is_ready : is_store e.item.kind ≡ false → ready d before e ≡ true
+  is_ready n = whole_ready d before e n t.able
+
+  -- a load tells its address where its base is untainted
+  pub load_decides : (roots : List (Option ℕ)) (b : Bool) → e.item.kind ≡ Load → slice_get (each_roots s.walk.sources.now.items) p.position ≡ Some roots →
+      b ≡ may_transmit e.item.kind s.point.now.serial roots → b ≡ decides_as e.item.kind d before e
+  load_decides roots b is k q =
+      q ∙ ap (λ k. may_transmit k s.point.now.serial roots) is
+      ∙ ap not ((told roots k).base ∙ ap (λ (model : SttModel). address_tainted model before e) t.stands.model)
+      ∙ sym (ap₂ (λ w r. w && r && not (address_tainted d.stt_model before e)) t.waits (is_ready (ap is_store is)))
+      ∙ ap (λ k. decides_as k d before e) (sym is)
+
+  -- a division its time where both operands are
+  pub division_decides : (roots : List (Option ℕ)) (b : Bool) → e.item.kind ≡ Div → slice_get (each_roots s.walk.sources.now.items) p.position ≡ Some roots →
+      b ≡ may_transmit e.item.kind s.point.now.serial roots → b ≡ decides_as e.item.kind d before e
+  division_decides roots b is k q =
+      q ∙ ap (λ k. may_transmit k s.point.now.serial roots) is
+      ∙ ap not ((told roots k).any ∙ ap (λ (model : SttModel). any_tainted model before e) t.stands.model)
+      ∙ sym (ap₂ (λ w r. w && r && not (any_tainted d.stt_model before e)) t.waits (is_ready (ap is_store is)))
+      ∙ ap (λ k. decides_as k d before e) (sym is)
+
+  -- ---- a store's address part
+
+  in_step : InStep d e
+  in_step = step_at d (window_of s) p.position e t.stands.store_parts t.stands.together t.at
+
+  -- it has issued
+  pub address_issued : has_address e ≡ true → false ≡ part_may AddressPort d before e
+  address_issued h = sym (part_gone part.Base d before e h)
+
+  -- it goes with the other part in version 1
+  pub address_with_data : has_address e ≡ false → d.version ≡ 1 → is_store e.item.kind ≡ true → true ≡ part_may AddressPort d before e
+  address_with_data f one n = sym (part_may_by part.Base d before e true f (first_ready d before e (base_of (sources e)) in_step one n t.waits t.able))
+
+  -- else it asks for the base alone
+  pub address_alone : (b : Bool) → has_address e ≡ false → (d.version ≡ 1 → ⊥) → option_map (ready_part part.Base) (slice_get s.stations.now.held p.station) ≡ Some b → b ≡ part_may AddressPort d before e
+  address_alone b f other k =
+      let held_by : HoldsBy d (parts_of t.stands.next t.stands.writes s) s.point.now = record { advanced = t.stands.advanced; model = t.stands.model; hold = refl } in
+      let known = tells_part part.Base d (parts_of t.stands.next t.stands.writes s) s.point.now p.position e t.stands.parts held_by t.at t.waits in
+      let here : option_map (ready_part part.Base) (slice_get s.stations.now.held p.station) ≡ Some (all_known d before (base_of (sources e))) =
+          ap (λ n. option_map (ready_part part.Base) (slice_get s.stations.now.held n)) t.station ∙ known in
+      let both : Some b ≡ Some (all_known d before (base_of (sources e))) = sym k ∙ here in
+      let same : b ≡ all_known d before (base_of (sources e)) = cc in
+      sym (part_may_by part.Base d before e b f (second_ready d before e (base_of (sources e)) other ∙ sym same))
+
+-- ---- the marks of the first operand
+
+-- where there is one
+pub base_marked : (regs : List WordMarks) (before : List Entry) (marks : List EntryMarks) (rs : List ℕ) → any_byte (first_marks regs before marks rs) ≡ any_marked regs before marks (base_of rs)
+base_marked regs before marks [] = refl
+base_marked regs before marks (r ∷ rs) = sym (or_false (any_byte (first_marks regs before marks (r ∷ rs))))

@@ -1,0 +1,4 @@
+pub mod Walking
+pub mod Deciding
+pub mod Standing
+pub mod Lending

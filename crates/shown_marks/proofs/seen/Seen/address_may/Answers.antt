@@ -1,0 +1,24 @@
+use Rattle.std.proofs.Common.{◌∙◌, sym, arith}
+use Rattle.parts_stand.proofs.Answering.{has_station}
+use Rattle.shown_marks.specs.State.{parts_of}
+use Rattle.shown_marks.proofs.Deciding.{address_alone, address_issued, address_with_data}
+use Rattle.shown_marks.proofs.seen.Seen.address_may.Goals as goal
+
+pub returns-then-is_some : goal.returns-then-is_some
+returns-then-is_some c = address_issued c.args.self.now c.args.place.now c.requires.turn (sym c.is_some.ensures ∙ c.if-is_some.true)
+
+pub returns-then-self-eq1 : goal.returns-then-self-eq1
+returns-then-self-eq1 c =
+    address_with_data c.args.self.now c.args.place.now c.requires.turn (sym c.is_some.ensures ∙ c.if-is_some.false) c.if-self-eq1.true c.requires.store
+
+pub ready_part-requires : goal.ready_part-requires
+ready_part-requires c =
+    let s = c.args.self.now in
+    let t = c.requires.turn in
+    let within = (has_station (parts_of t.stands.next t.stands.writes s) c.args.place.now.position c.args.place.now.entry.now t.stands.parts t.at t.waits).within in
+    let is = t.station in
+    omega (arith, within, is)
+
+pub returns : goal.returns
+returns c =
+    address_alone c.args.self.now c.args.place.now c.requires.turn c.ready_part.result (sym c.is_some.ensures ∙ c.if-is_some.false) c.if-self-eq1.false c.ready_part.ensures

@@ -1,0 +1,67 @@
+use Rattle.std.proofs.Common.{◌≡◌, ◌+◌, ◌≤◌, length, ap, refl, subst, sym, ◌∙◌, arith, Some}
+use Rattle.stations.specs.Stations.{MarksAble}
+use Rattle.issue.proofs.Skipping.{one_unable, unable_by}
+use Rattle.shown_marks.proofs.Standing.{reached_end, reached_first, reached_next, reached_past, reached_shows}
+use Rattle.shown_marks.proofs.seen.Seen.operands_shown.Goals as goal
+
+pub loop-station-init : goal.loop-station-init
+loop-station-init c = record {
+  reached = reached_first c.args.self.now c.requires.stands;
+  marks = c.able_marks-marks.ensures;
+}
+
+-- ---- none is left
+
+pub returns-then-marks-eq0 : goal.returns-then-marks-eq0
+returns-then-marks-eq0 c =
+    let s = c.args.self.now in
+    let k = c.loop-station.station in
+    let held = s.stations.now.held in
+    let len : c.len-station-end.result ≡ length held = c.len-station-end.ensures.len in
+    let in_range = c.loop-station-test.true in
+    let stands = c.requires.stands in
+    let none = subst (λ marks. MarksAble held k marks) c.if-marks-eq0.true c.loop-station.invariant.marks in
+    reached_end s stands (length held) refl
+    (reached_past s stands k (length held) (omega (arith, len, in_range)) (omega arith) (λ j low high. unable_by held k j none low high) c.loop-station.invariant.reached)
+
+pub is_marked-requires-clause-marks : goal.is_marked-requires-clause-marks
+is_marked-requires-clause-marks c = c.loop-station.invariant.marks
+
+-- ---- one that isn't able
+
+pub loop-station-preserved-then-not-is_marked : goal.loop-station-preserved-then-not-is_marked
+loop-station-preserved-then-not-is_marked c =
+    let k = c.loop-station.station in
+    let len : c.len-station-end.result ≡ length c.args.self.now.stations.now.held = c.len-station-end.ensures.len in
+    let in_range = c.loop-station-test.true in
+    record {
+      reached = reached_past c.args.self.now c.requires.stands k (k + 1) (omega arith) (omega (arith, len, in_range))
+          (one_unable c.args.self.now.stations.now.held k (c.is_marked.ensures ∙ ap Some c.if-not-is_marked.true)) c.loop-station.invariant.reached;
+      marks = λ i s low is. c.loop-station.invariant.marks i s (omega (arith, low)) is;
+    }
+
+-- ---- one that is
+
+pub place_at-place-requires-clause-able : goal.place_at-place-requires-clause-able
+place_at-place-requires-clause-able c = c.is_marked.ensures ∙ ap Some c.if-not-is_marked.false
+
+pub returns-then-operand_shows : goal.returns-then-operand_shows
+returns-then-operand_shows c =
+    reached_shows c.args.self.now c.requires.stands c.loop-station.station c.place_at-place.result c.place_at-place.ensures.turn c.place_at-place.ensures.station
+    c.shown_by.result (sym c.operand_shows.ensures ∙ c.if-operand_shows.true) c.shown_by.ensures c.loop-station.invariant.reached
+
+pub loop-station-preserved : goal.loop-station-preserved
+loop-station-preserved c = record {
+  reached = reached_next c.args.self.now c.requires.stands c.loop-station.station c.place_at-place.result c.place_at-place.ensures.turn c.place_at-place.ensures.station
+      (sym c.operand_shows.ensures ∙ c.if-operand_shows.false) c.loop-station.invariant.reached;
+  marks = c.passed-marks.ensures.later;
+}
+
+-- ---- all are passed
+
+pub returns : goal.returns
+returns c =
+    let len : c.len-station-end.result ≡ length c.args.self.now.stations.now.held = c.len-station-end.ensures.len in
+    let end : c.len-station-end.result ≤ c.loop-station.station = c.loop-station-test.false in
+    let up_to : c.loop-station.station ≤ c.len-station-end.result = c.loop-station.auto.station-end in
+    reached_end c.args.self.now c.requires.stands c.loop-station.station (omega (arith, len, end, up_to)) c.loop-station.invariant.reached

@@ -1,0 +1,65 @@
+-- What is looked at, when it stands for a machine, and an entry in its place (docs/architecture.md, "How they stand for it").
+use Rattle.std.specs.Prelude.{◌≡◌, ℕ, true, List, length, slice_get, Some}
+use Rattle.std.specs.List.{AllByRecursion as Each}
+use Rattle.machine_facts.specs.Sized.{HasParts, Together}
+use Rattle.window_model.specs.declared.Entry.{Entry}
+use Rattle.window_model.specs.Order.{before_at, is_waiting}
+use Rattle.rob_ring.specs.Beside.{each_roots, each_writers}
+use Rattle.rename_taint.specs.declared.Write.{Write}
+use Rattle.visibility.specs.Point.{HasAdvanced}
+use Rattle.parts_stand.specs.Parts.{Parts, Stand, wants_of}
+use Rattle.parts_stand.specs.Telling.{has_sources, hold_of}
+use Rattle.parts_stand.specs.Steps.{station_of}
+use Rattle.parts_stand.specs.Writers.{WritersOf}
+use Rattle.secret_marks.specs.declared.EntryMarks.{EntryMarks}
+use Rattle.secret_marks.specs.Marks.{Marks}
+use Rattle.entry_marks.specs.Beside.{marks_before}
+use Rattle.entry_marks.specs.Walk.{with_window}
+use Rattle.shown_marks.specs.declared.seen.Place.{Place}
+use Rattle.shown_marks.specs.declared.seen.Seen.{Seen}
+
+-- the window
+abbrev pub window_of : Seen → List Entry
+window_of s = s.walk.rob.now.entries
+
+-- the marks of its entries
+abbrev pub each_marks : Seen → List EntryMarks
+each_marks s = s.walk.marks.now.items
+
+-- the marks beside the machine
+abbrev pub marks_in : Seen → Marks
+marks_in s = with_window s.walk (each_marks s)
+
+-- what stands for the window, with the next serial and the writes of the rename table
+abbrev pub parts_of : ℕ → List Write → Seen → Parts
+parts_of next writes s = record { version = s.desc.now.version; hold = hold_of s.desc.now s.point.now; next = next; window = window_of s; roots = each_roots s.walk.sources.now.items; writes = writes; held = s.stations.now.held }
+
+-- the parts stand for the window, the point has just moved, each entry has its marks, and of a store that waits a part hasn't issued
+pub record Stands (s : Seen) : Type 0 where
+  pub next : ℕ
+  pub writes : List Write
+  pub parts : Stand (parts_of next writes s)
+  pub writers : WritersOf next (window_of s) (each_writers s.walk.sources.now.items)
+  pub step : length (each_marks s) ≡ length (window_of s)
+  pub store_parts : Each HasParts (window_of s)
+  pub together : Each (Together s.desc.now) (window_of s)
+  pub advanced : HasAdvanced s.point.now (window_of s)
+  pub model : s.point.now.model ≡ s.desc.now.stt_model
+
+-- ---- an entry in its place
+
+-- the older ones, youngest first
+abbrev pub before_of : Seen → Place → List Entry
+before_of s p = before_at (window_of s) p.position
+
+-- and their marks
+abbrev pub marks_before_of : Seen → Place → List EntryMarks
+marks_before_of s p = marks_before (each_marks s) p.position
+
+-- it stands there, it waits at its station, and what it wants is there
+pub record HasTurn (s : Seen) (p : Place) : Type 0 where
+  pub stands : Stands s
+  pub at : slice_get (window_of s) p.position ≡ Some p.entry.now
+  pub waits : is_waiting p.entry.now.state ≡ true
+  pub able : has_sources (wants_of s.desc.now.version p.entry.now) s.desc.now (before_of s p) p.entry.now ≡ true
+  pub station : p.station ≡ station_of p.position (window_of s)

@@ -1,0 +1,65 @@
+//! Whether the first operand of an entry tells an address or the time of a division (`docs/theorems.md`, "Secrets that are loaded"),
+//! and whether it is marked.
+use crate::seen::{Place, Seen};
+use entry_marks::any_byte;
+use rob_ring::sources_at;
+use rv_types::Kind;
+use stations::Part;
+use transmit_gate::may_transmit;
+
+impl<'a> Seen<'a> {
+    ghost use Rattle.std.specs.Prelude.{◌≡◌, Some, slice_get, true};
+    ghost use Rattle.window_model.specs.Issue.{AddressPort, part_may};
+    ghost use Rattle.window_model.specs.Order.{is_store};
+    ghost use Rattle.rob_ring.specs.Beside.{each_roots};
+    ghost use Rattle.secret_marks.specs.Shows.{decides_as, operand_shows};
+    ghost use Rattle.shown_marks.specs.State.{HasTurn, before_of, marks_before_of, marks_in};
+
+    // The youngest roots of the entry's sources.
+    fn roots_of(&self, place: &Place) -> [Option<u64>; 2]
+        requires turn { HasTurn self.now place.now }
+        ensures { slice_get (each_roots self.now.walk.sources.now.items) place.now.position ≡ Some result }
+    {
+        sources_at(self.walk.sources, place.position).roots
+    }
+
+    // Whether a store's address part may issue: it hasn't issued, and its source is there; in version 1 both sources are.
+    fn address_may(&self, place: &Place) -> bool
+        requires turn { HasTurn self.now place.now }
+        requires store { is_store place.now.entry.now.item.kind ≡ true }
+        ensures { result ≡ part_may AddressPort self.now.desc.now (before_of self.now place.now) place.now.entry.now }
+    {
+        if place.entry.addr_due.is_some() {
+            return false;
+        }
+        if self.desc.version == 1 {
+            return true;
+        }
+        self.stations.ready_part(place.station, Part::Base)
+    }
+
+    // Whether the first operand tells an address or the time of a division.
+    fn decides(&self, place: &Place) -> bool
+        requires turn { HasTurn self.now place.now }
+        ensures { result ≡ decides_as place.now.entry.now.item.kind self.now.desc.now (before_of self.now place.now)
+            place.now.entry.now }
+    {
+        match place.entry.item.kind {
+            Kind::Load | Kind::Div => may_transmit(place.entry.item.kind, self.roots_of(place), self.point),
+            Kind::Store => self.address_may(place),
+            _ => false,
+        }
+    }
+
+    /// Whether it does, and is marked.
+    pub(crate) fn operand_shows(&self, place: &Place) -> bool
+        requires turn { HasTurn self.now place.now }
+        ensures { result ≡ operand_shows self.now.desc.now (marks_in self.now) (before_of self.now place.now)
+            (marks_before_of self.now place.now) place.now.entry.now }
+    {
+        if !self.decides(place) {
+            return false;
+        }
+        any_byte(self.walk.operands(place.position, place.entry).first)
+    }
+}

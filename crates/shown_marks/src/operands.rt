@@ -1,0 +1,85 @@
+//! The oldest operand that shows, on a walk over the entries of which something may issue, oldest first.
+ghost use Rattle.std.specs.Prelude.{◌≡◌, [], length};
+ghost use Rattle.visibility.specs.Point.{HasAdvanced};
+ghost use Rattle.secret_marks.specs.Shown.{operands_shown};
+ghost use Rattle.entry_marks.specs.Walk.{marks_of};
+
+use crate::seen::{Place, Seen};
+use core_parts::Parts;
+use entry_marks::{Marks, Walk, shown_by};
+use rename_taint::RenameTaint;
+use secret_marks::Shown;
+
+impl<'a> Seen<'a> {
+    ghost use Rattle.std.specs.Prelude.{◌≡◌, ◌<◌, [], length, slice_get, Some, true};
+    ghost use Rattle.std.specs.Option.{option_map};
+    ghost use Rattle.stations.specs.Stations.{is_able};
+    ghost use Rattle.secret_marks.specs.Shown.{operands_shown};
+    ghost use Rattle.shown_marks.specs.State.{HasTurn, Stands, each_marks, marks_in, window_of};
+
+    // The place of the entry that waits at a station, where what it wants is there.
+    fn place_at(&self, station: u32) -> Place<'_>
+        requires stands { Stands self.now }
+        requires within { station < length self.now.stations.now.held }
+        requires able { option_map is_able (slice_get self.now.stations.now.held station) ≡ Some true }
+        ensures turn { HasTurn self.now result }
+        ensures station { result.station ≡ station }
+    {
+        match self.walk.rob.find(self.stations.serial(station)) {
+            Some(found) => Place {
+                position: found.position,
+                station,
+                entry: found.entry,
+            },
+            None => unreachable!(),
+        }
+    }
+
+    // The oldest entry whose first operand shows. Entries that don't wait, or lack what they want, are passed.
+    fn operands_shown(&self) -> Option<Shown>
+        requires stands { Stands self.now }
+        ensures { result ≡ operands_shown self.now.desc.now (marks_in self.now) [] [] (window_of self.now)
+            (each_marks self.now) }
+    {
+        let mut marks = self.stations.able_marks();
+        for station in 0..self.stations.len() {
+            if marks == 0 {
+                return None;
+            }
+            if !self.stations.is_marked(marks, station) {
+                continue;
+            }
+            marks = self.stations.passed(marks, station);
+            let place = self.place_at(station);
+            if self.operand_shows(&place) {
+                return Some(shown_by(place.entry));
+            }
+        }
+        None
+    }
+}
+
+/// The oldest entry whose first operand tells, now or soon, an address or the time of a division, and is marked: on the state that
+/// Issue finds, once the visibility point has moved over the window. None where no entry has one.
+pub fn operands_shown<R: RenameTaint>(parts: &Parts<R>, marks: &Marks) -> Option<Shown>
+    requires advanced { HasAdvanced parts.now.point parts.now.machine.window }
+    requires step { length marks.now.window.items ≡ length parts.now.machine.window }
+    ensures { result ≡ operands_shown parts.now.desc (marks_of marks.now) [] [] parts.now.machine.window
+        marks.now.window.items }
+{
+    let seen = Seen {
+        walk: Walk {
+            rob: &parts.rob,
+            sources: &parts.sources,
+            marks: &marks.window,
+            regs: &marks.regs,
+            bytes: &marks.bytes,
+            base: parts.ram.base(),
+            cycle: parts.cycle,
+        },
+        stations: &parts.stations,
+        point: &parts.point,
+        desc: &parts.desc,
+    };
+    seen.operands_shown()
+}
