@@ -122,7 +122,7 @@ done_store ram e k it takes =
     fits ram (addr_of e.outcome) (width_of e)
     (takes (ap is_store k) (first_of (is_done e.state) _ it.0) (sym (ap (λ k. trap_as k e) k) ∙ it.1))
 
--- so marks of memory have a place for each
+-- marks of memory have a place for each byte of the stores that retire
 pub stores_inside : (d : Desc) (x : Machine) (marks : List EntryMarks) (copies : List LeavingEntry) (n : ℕ) → IsCopiedFrom x.window marks copies →
     Each (Takes x.ram) x.window → n ≡ length x.window - length (retire d x).machine.window → InsideEach x.ram.base (length x.ram.bytes) n copies
 stores_inside d x marks copies n copied takes count i copy lt at = λ k.

@@ -72,14 +72,14 @@ module _ (cycle base : ℕ) (m : Marks) (window : List Entry) (owns : List Entry
       ∙ take-append-drop n owns)
 
   module _ (step : length owns ≡ length window) (n k : ℕ) (next : n ≡ k + 1) (e : Entry) (here : slice_get window k ≡ Some e) where
-    -- those of the entry at the position before, and of those behind it
+    -- the marks behind the position
     abbrev rest : List EntryMarks
     rest = issued_from cycle base m (before_at window n) (marks_before owns n) (drop n window) (drop n owns)
 
     own_here : (own : EntryMarks) × (slice_get owns k ≡ Some own)
     own_here = let within = slice_get_within window k e here in found_at owns k (omega (arith, within, step))
 
-    -- what it is given
+    -- the marks that the entry there is given
     abbrev given : EntryMarks → EntryMarks
     given own = issued_marks cycle base m (before_at window k) (marks_before owns k) e own
 
@@ -104,7 +104,7 @@ module _ (cycle base : ℕ) (m : Marks) (window : List Entry) (owns : List Entry
         ∙ ap (λ x. take k owns ++ x ∷ rest) (sym (keeps cycle base m (before_at window k) (marks_before owns k) e own h))
         ∙ sym (walked own own_is)
 
-    -- one that has gets its own
+    -- an entry that has issued gets the marks with which Issue leaves it
     pub gets : (now : List EntryMarks) → now ≡ left_from n →
         (own : EntryMarks) × (slice_get now k ≡ Some own) × (slice_set now k (issued_marks cycle base m (before_at window k) (marks_before now k) e own) ≡ left_from k)
     gets now is =

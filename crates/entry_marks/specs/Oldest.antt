@@ -26,6 +26,6 @@ pub record IsCopiedFrom (window : List Entry) (marks : List EntryMarks) (copies 
 abbrev pub Inside : ℕ → ℕ → LeavingEntry → Type 0
 Inside base bytes copy = copy.kind ≡ Store → (copy.addr - base) + bytes_in copy.width ≤ bytes
 
--- so do those of the oldest n
+-- each of the first n copies, if it is a store, lies so
 abbrev pub InsideEach : ℕ → ℕ → ℕ → List LeavingEntry → Type 0
 InsideEach base bytes n copies = (i : ℕ) (copy : LeavingEntry) → i < n → slice_get copies i ≡ Some copy → Inside base bytes copy

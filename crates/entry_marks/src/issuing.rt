@@ -15,8 +15,8 @@ use crate::walk::Walk;
 use circular_buffer::HeapCircularBuffer;
 use rob_ring::{RobRing, Sources};
 
-/// Each entry has the marks with which Issue leaves it in this cycle, over memory that begins at the base. They come from those that
-/// older entries had before, so it goes from the youngest entry on.
+/// Gives each entry the marks with which Issue leaves it in this cycle; memory's first byte has the address `base`. They come from the
+/// marks that older entries had before, so it goes from the youngest entry on.
 pub fn mark_issued(
     rob: &RobRing,
     sources: &HeapCircularBuffer<Sources>,

@@ -19,11 +19,11 @@ pub const LEAVING_MAX: usize = 4;
 pub struct LeavingEntry {
     /// Its kind.
     pub kind: Kind,
-    /// Its instruction, which names the register that it writes.
+    /// Its instruction, which says which register it writes.
     pub instr: Instr,
-    /// The address of its access of memory.
+    /// The address of its access, if it is a load or store.
     pub addr: u32,
-    /// How much that access moves.
+    /// How many bytes that access moves.
     pub width: Width,
     /// Its marks.
     pub marks: EntryMarks,
@@ -57,6 +57,6 @@ impl Default for LeavingEntry {
 /// The oldest entries, as many as may retire in a cycle.
 #[derive(Drop)]
 pub struct Leaving {
-    /// They, oldest first.
+    /// What is copied of each, oldest first.
     pub entries: ArrayVec<LeavingEntry, LEAVING_MAX>,
 }

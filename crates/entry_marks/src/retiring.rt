@@ -46,8 +46,8 @@ fn copy_of(entry: &Entry, marks: &EntryMarks) -> LeavingEntry
     }
 }
 
-/// So many of the copied entries have retired, over memory that begins at the base: their marks move to registers and memory, oldest
-/// first. It asks that each store among them lies within the marks of memory.
+/// Moves the marks of the copied entries that have retired, the `count` oldest, to registers and memory, oldest first; memory's first
+/// byte has the address `base`. It asks that the bytes of each store among them have their marks there.
 pub fn leave(marks: &mut Marks, leaving: &Leaving, base: u32, count: u32)
     requires copied { count ≤ length leaving.now.entries.items }
     requires inside { InsideEach base (length marks.old.bytes.items) count leaving.now.entries.items }
@@ -64,7 +64,7 @@ pub fn leave(marks: &mut Marks, leaving: &Leaving, base: u32, count: u32)
     marks.window.truncate_front(stay);
 }
 
-// The oldest entry's marks move, those beside the window stay where they are.
+// Moves the marks of an entry that has retired to its register and to memory.
 fn move_marks(marks: &mut Marks, entry: &LeavingEntry, base: u32)
     requires inside { Inside base (length marks.old.bytes.items) entry.now }
     ensures marks { (e : Entry) (mark : EntryMarks) (before rest : List EntryMarks) → IsCopied e mark entry.now
