@@ -1,7 +1,6 @@
 -- Whose first operand tells an address or the time of a division: what the parts tell of an entry in its place, and who is passed.
-use Rattle.std.proofs.Common.{◌≡◌, ℕ, ◌<◌, Bool, true, false, not, ◌&&◌, ◌||◌, List, [], ◌∷◌, Option, Some, refl, ap, ap₂, sym, subst, ◌∙◌, slice_get, slice_set}
-use Rattle.std.specs.Prelude.{◌==◌, if◌then◌else◌, take}
-use Rattle.std.specs.List.{list_any}
+use Rattle.std.proofs.Common.{◌≡◌, inl, inr, ℕ, Bool, true, false, not, ◌&&◌, List, [], ◌∷◌, Option, Some, refl, ap, ap₂, sym, ◌∙◌, slice_get}
+use Rattle.std.specs.Prelude.{◌==◌, ◌⊎◌, if◌then◌else◌}
 use Rattle.std.specs.Option.{option_map}
 use Rattle.std.proofs.Math.Bool.{and-false}
 use Rattle.rv_types.specs.declared.Kind.{Kind}
@@ -11,7 +10,7 @@ use Rattle.machine_desc.specs.declared.SttModel.{SttModel}
 use Rattle.window_model.specs.declared.Entry.{Entry}
 use Rattle.window_model.specs.Around.{Around}
 use Rattle.window_model.specs.Issue.{AddressPort, part_may}
-use Rattle.window_model.specs.Order.{base_of, before_at, has_address, is_store, is_waiting, sources}
+use Rattle.window_model.specs.Order.{base_of, has_address, has_data, is_store, is_waiting, sources}
 use Rattle.window_model.specs.Ready.{all_known, ready}
 use Rattle.window_model.specs.Taint.{address_tainted, any_tainted}
 use Rattle.window_model.proofs.Booleans.{or_false}
@@ -21,7 +20,7 @@ use Rattle.stations.specs.declared.wants.Wants.TheVariants as wants
 use Rattle.rob_ring.specs.Beside.{each_roots}
 use Rattle.transmit_gate.specs.Gate.{may_transmit}
 use Rattle.parts_stand.specs.Parts.{wants_by, wants_of}
-use Rattle.parts_stand.specs.Telling.{HoldsBy, OperandsTold, has_sources, own_of}
+use Rattle.parts_stand.specs.Telling.{HoldsBy, OperandsTold, has_sources}
 use Rattle.parts_stand.proofs.Answering.{tells_operands, tells_part}
 use Rattle.issue.proofs.Asking.{InStep, first_ready, not_able, not_waiting, part_asks, part_gone, part_may_by, second_ready, step_at, whole_ready}
 use Rattle.secret_marks.specs.declared.EntryMarks.{EntryMarks}
@@ -31,13 +30,13 @@ use Rattle.secret_marks.specs.Marks.{Marks, any_marked, first_marks}
 use Rattle.secret_marks.specs.Shows.{decides_as, operand_shows}
 use Rattle.shown_marks.specs.declared.seen.Place.{Place}
 use Rattle.shown_marks.specs.declared.seen.Seen.{Seen}
-use Rattle.shown_marks.specs.State.{HasTurn, Stands, before_of, parts_of, window_of}
+use Rattle.shown_marks.specs.State.{HasTurn, before_of, parts_of, window_of}
 
 -- ---- who is passed
 
--- what a store asks at the port of its address doesn't depend on what is around it
+-- whether a store asks at the port of its address doesn't depend on what is around it, as this
 nothing_around : Around
-nothing_around = record { cycle = 0; regs = []; ram = record { base = 0; bytes = [] }; dependence = []; cache = []; second = []; misses = []; free_from = 0 }
+nothing_around = record { cycle = 0; regs = []; ram = record { base = 0; bytes = []; misaligned = false }; dependence = []; cache = []; second = []; misses = []; free_from = 0 }
 
 module _ (d : Desc) (before : List Entry) (e : Entry) where
   silent_as : (k : Kind) → (is_store k ≡ false → (is_waiting e.state && ready d before e) ≡ false) → (is_store k ≡ true → part_may AddressPort d before e ≡ false) → decides_as k d before e ≡ false
@@ -84,7 +83,7 @@ module _ (s : Seen) (p : Place) (t : HasTurn s p) where
   is_ready n = whole_ready d before e n t.able
 
   -- a load tells its address where its base is untainted
-  pub load_decides : (roots : List (Option ℕ)) (b : Bool) → e.item.kind ≡ Load → slice_get (each_roots s.walk.sources.now.items) p.position ≡ Some roots →
+  load_decides : (roots : List (Option ℕ)) (b : Bool) → e.item.kind ≡ Load → slice_get (each_roots s.walk.sources.now.items) p.position ≡ Some roots →
       b ≡ may_transmit e.item.kind s.point.now.serial roots → b ≡ decides_as e.item.kind d before e
   load_decides roots b is k q =
       q ∙ ap (λ k. may_transmit k s.point.now.serial roots) is
@@ -93,13 +92,19 @@ module _ (s : Seen) (p : Place) (t : HasTurn s p) where
       ∙ ap (λ k. decides_as k d before e) (sym is)
 
   -- a division its time where both operands are
-  pub division_decides : (roots : List (Option ℕ)) (b : Bool) → e.item.kind ≡ Div → slice_get (each_roots s.walk.sources.now.items) p.position ≡ Some roots →
+  division_decides : (roots : List (Option ℕ)) (b : Bool) → e.item.kind ≡ Div → slice_get (each_roots s.walk.sources.now.items) p.position ≡ Some roots →
       b ≡ may_transmit e.item.kind s.point.now.serial roots → b ≡ decides_as e.item.kind d before e
   division_decides roots b is k q =
       q ∙ ap (λ k. may_transmit k s.point.now.serial roots) is
       ∙ ap not ((told roots k).any ∙ ap (λ (model : SttModel). any_tainted model before e) t.stands.model)
       ∙ sym (ap₂ (λ w r. w && r && not (any_tainted d.stt_model before e)) t.waits (is_ready (ap is_store is)))
       ∙ ap (λ k. decides_as k d before e) (sym is)
+
+  -- either where what it asks of taint is so
+  pub untainted_decides : (roots : List (Option ℕ)) (b : Bool) → (e.item.kind ≡ Load) ⊎ (e.item.kind ≡ Div) → slice_get (each_roots s.walk.sources.now.items) p.position ≡ Some roots →
+      b ≡ may_transmit e.item.kind s.point.now.serial roots → b ≡ decides_as e.item.kind d before e
+  untainted_decides roots b (inl is) k q = load_decides roots b is k q
+  untainted_decides roots b (inr is) k q = division_decides roots b is k q
 
   -- ---- a store's address part
 
@@ -120,7 +125,7 @@ module _ (s : Seen) (p : Place) (t : HasTurn s p) where
       let held_by : HoldsBy d (parts_of t.stands.next t.stands.writes s) s.point.now = record { advanced = t.stands.advanced; model = t.stands.model; hold = refl } in
       let known = tells_part part.Base d (parts_of t.stands.next t.stands.writes s) s.point.now p.position e t.stands.parts held_by t.at t.waits in
       let here : option_map (ready_part part.Base) (slice_get s.stations.now.held p.station) ≡ Some (all_known d before (base_of (sources e))) =
-          ap (λ n. option_map (ready_part part.Base) (slice_get s.stations.now.held n)) t.station ∙ known in
+      ap (λ n. option_map (ready_part part.Base) (slice_get s.stations.now.held n)) t.station ∙ known in
       let both : Some b ≡ Some (all_known d before (base_of (sources e))) = sym k ∙ here in
       let same : b ≡ all_known d before (base_of (sources e)) = cc in
       sym (part_may_by part.Base d before e b f (second_ready d before e (base_of (sources e)) other ∙ sym same))
@@ -128,6 +133,6 @@ module _ (s : Seen) (p : Place) (t : HasTurn s p) where
 -- ---- the marks of the first operand
 
 -- where there is one
-pub base_marked : (regs : List WordMarks) (before : List Entry) (marks : List EntryMarks) (rs : List ℕ) → any_byte (first_marks regs before marks rs) ≡ any_marked regs before marks (base_of rs)
-base_marked regs before marks [] = refl
-base_marked regs before marks (r ∷ rs) = sym (or_false (any_byte (first_marks regs before marks (r ∷ rs))))
+pub base_marked : (regs : List WordMarks) (older : List Entry) (marks : List EntryMarks) (rs : List ℕ) → any_byte (first_marks regs older marks rs) ≡ any_marked regs older marks (base_of rs)
+base_marked regs older marks [] = refl
+base_marked regs older marks (r ∷ rs) = sym (or_false (any_byte (first_marks regs older marks (r ∷ rs))))

@@ -1,18 +1,14 @@
 -- The walk from station to station, and what the parts of a core tell as it begins.
-use Rattle.std.proofs.Common.{◌≡◌, ℕ, zero, suc, ◌+◌, ◌-◌, ◌<◌, ◌≤◌, Bool, true, false, List, [], length, Option, Some, None, refl, ap, sym, subst, ◌∙◌, arith, slice_get}
+use Rattle.std.proofs.Common.{◌≡◌, ℕ, zero, suc, ◌+◌, ◌-◌, ◌<◌, ◌≤◌, Bool, true, false, [], length, Some, None, refl, ap, sym, subst, ◌∙◌, arith, slice_get}
 use Rattle.std.specs.Option.{option_map}
-use Rattle.machine_desc.specs.declared.Desc.{Desc}
 use Rattle.window_model.specs.declared.Entry.{Entry}
 use Rattle.window_model.specs.Order.{before_at, is_waiting}
 use Rattle.stations.specs.Stations.{is_able}
-use Rattle.visibility.specs.Point.{HasAdvanced}
 use Rattle.parts_stand.specs.Parts.{wants_of}
 use Rattle.parts_stand.specs.Steps.{station_of}
 use Rattle.parts_stand.specs.Telling.{HoldsBy, has_sources}
 use Rattle.parts_stand.proofs.Answering.{tells_able}
-use Rattle.core_parts.specs.Described.{Described}
-use Rattle.core_parts.specs.Held.{Held, Sizes, Whole, described}
-use Rattle.issue.proofs.Asking.{InStep, step_at}
+use Rattle.issue.proofs.Asking.{step_at}
 use Rattle.issue.proofs.Waiting.{Keeps, Reaches, all_wait, at_end, at_next, goes_on, waits_at}
 use Rattle.secret_marks.specs.declared.Shown.{Shown}
 use Rattle.secret_marks.specs.Shows.{operand_shows}
@@ -37,7 +33,7 @@ module _ (s : Seen) (stands : Stands s) where
       let held_by : HoldsBy s.desc.now parts s.point.now = record { advanced = stands.advanced; model = stands.model; hold = refl } in
       let told = tells_able s.desc.now parts s.point.now i e stands.parts held_by h w in
       let both : Some b ≡ Some (has_sources (wants_of s.desc.now.version e) s.desc.now (before_at (window_of s) i) e) =
-          sym k ∙ ap (λ n. option_map is_able (slice_get s.stations.now.held n)) q ∙ told in
+      sym k ∙ ap (λ n. option_map is_able (slice_get s.stations.now.held n)) q ∙ told in
       cc
 
   -- one that doesn't wait is passed

@@ -56,4 +56,4 @@ module _ (d : Desc) (m : Marks) (window : List Entry) (owns : List EntryMarks) w
   pub shows_nowhere : ShowsFrom d m window owns (length window) → None ≡ operands_shown d m [] [] window owns
   shows_nowhere t =
       let n = length window in
-      sym (ap (λ es. operands_shown d m (before_at window n) (marks_before owns n) es (drop n owns)) (drop_all n window (omega arith)) ∙ none_left _ _ (drop n owns)) ∙ t
+      sym (ap (λ es. operands_shown d m (before_at window n) (marks_before owns n) es (drop n owns)) (drop_all n window (omega arith)) ∙ none_left (before_at window n) (marks_before owns n) (drop n owns)) ∙ t

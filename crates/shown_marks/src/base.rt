@@ -45,7 +45,11 @@ impl<'a> Seen<'a> {
             place.now.entry.now }
     {
         match place.entry.item.kind {
-            Kind::Load | Kind::Div => may_transmit(place.entry.item.kind, self.roots_of(place), self.point),
+            Kind::Load | Kind::Div => may_transmit(
+                place.entry.item.kind,
+                self.roots_of(place),
+                self.point,
+            ),
             Kind::Store => self.address_may(place),
             _ => false,
         }

@@ -8,16 +8,18 @@ pub operands_shown-requires : goal.operands_shown-requires
 operands_shown-requires g c =
     let w = c.parts.invariant in
     record {
-      next = _;
-      writes = _;
-      parts = w.stands.stand;
-      writers = w.stands.writers;
-      step = lent_step _ _ _ c.parts.view_is c.requires.step;
-      store_parts = w.sized.parts;
-      together = w.sized.together;
-      advanced = lent_advanced _ _ c.parts.view_is c.requires.advanced;
-      model = ap (λ (s : Sizes). s.model) w.made;
+      stands = record {
+        next = _;
+        writes = _;
+        parts = w.stands.stand;
+        writers = w.stands.writers;
+        step = lent_step _ _ w c.parts.view_is c.args.marks.now.window.items c.requires.step;
+        store_parts = w.sized.parts;
+        together = w.sized.together;
+        advanced = lent_advanced _ _ w c.parts.view_is c.requires.advanced;
+        model = ap (λ (s : Sizes). s.model) w.made;
+      };
     }
 
 pub returns : goal.returns
-returns g c = operands_lent _ _ (marks_of c.args.marks.now) _ _ c.parts.view_is c.operands_shown.ensures
+returns g c = operands_lent _ _ c.parts.invariant c.parts.view_is (marks_of c.args.marks.now) c.args.marks.now.window.items _ c.operands_shown.ensures

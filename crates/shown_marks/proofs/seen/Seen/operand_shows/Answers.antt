@@ -1,4 +1,4 @@
-use Rattle.std.proofs.Common.{◌∙◌, ◌&&◌, ap, ap₂, sym}
+use Rattle.std.proofs.Common.{◌∙◌, ◌&&◌, ap, sym}
 use Rattle.window_model.specs.Order.{base_of, sources}
 use Rattle.secret_marks.specs.Words.{any_byte}
 use Rattle.secret_marks.specs.Marks.{any_marked}
