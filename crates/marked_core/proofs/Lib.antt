@@ -4,3 +4,4 @@ pub mod Taken
 pub mod Watching
 pub mod Looking
 pub mod Secrets
+pub mod Stamps

@@ -14,7 +14,7 @@ ghost use Rattle.window_model.specs.Row.{
 };
 ghost use Rattle.core_cycle.specs.Phases.{phases_after, phases_before};
 ghost use Rattle.entry_marks.specs.Walk.{marks_of};
-ghost use Rattle.marked_core.specs.InStep.{InStep};
+ghost use Rattle.marked_core.specs.InStep.{InStep, NotYet};
 ghost use Rattle.marked_core.specs.Watched.{from_issue, shown_from_issue, shown_to_clear, to_clear};
 
 use crate::phases::{clear_marked, issue_marked, rename_marked, resolve_marked};
@@ -66,6 +66,7 @@ pub(crate) fn after_retire<R: RenameTaint>(
 ) -> Option<Shown>
     requires advanced { HasAdvanced parts.old.point parts.old.machine.window }
     requires settled { Each WaitsOrDone parts.old.machine.window }
+    requires fresh { Each (NotYet parts.old.machine.cycle) parts.old.machine.window }
     requires serials { parts.old.machine.next_serial + most_fetched < 2 ^ 64 }
     requires room { HasRoom most_after_retire row.old }
     requires step { InStep parts.old marks.old }

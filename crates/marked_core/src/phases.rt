@@ -24,7 +24,7 @@ ghost use Rattle.window_model.specs.Row.{
 ghost use Rattle.secret_marks.specs.Marks.{after_issue_marks, after_retire_marks, cut, extended};
 ghost use Rattle.secret_marks.specs.Shown.{head_shown, operands_shown, resolved_shown};
 ghost use Rattle.entry_marks.specs.Walk.{marks_of};
-ghost use Rattle.marked_core.specs.InStep.{InStep};
+ghost use Rattle.marked_core.specs.InStep.{InStep, NotYet};
 
 use clear::clear;
 use core_cycle::retire;
@@ -136,8 +136,9 @@ fn mark<R: RenameTaint>(parts: &Parts<R>, marks: &mut Marks)
     mark_issued(&parts.rob, &parts.sources, marks, base(parts), parts.cycle);
 }
 
-/// Phase Issue. What issues gets the marks of its operands. What shows is the oldest operand that tells an address or the time of a
-/// division and is marked, as the phase finds it.
+/// Phase Issue, in a cycle in which nothing has issued yet. What issues gets the marks of its operands: where the phase has no event
+/// nothing issues, and no mark moves. What shows is the oldest operand that tells an address or the time of a division and is marked, as
+/// the phase finds it.
 pub(crate) fn issue_marked<R: RenameTaint>(
     parts: &mut Parts<R>,
     marks: &mut Marks,
@@ -145,6 +146,7 @@ pub(crate) fn issue_marked<R: RenameTaint>(
 ) -> Option<Shown>
     requires advanced { HasAdvanced parts.old.point parts.old.machine.window }
     requires settled { Each WaitsOrDone parts.old.machine.window }
+    requires fresh { Each (NotYet parts.old.machine.cycle) parts.old.machine.window }
     requires room { HasRoom most_issued row.old }
     requires step { InStep parts.old marks.old }
     ensures machine { parts.new ≡ record parts.old { machine = (issue parts.old.desc parts.old.machine).machine } }
@@ -157,7 +159,11 @@ pub(crate) fn issue_marked<R: RenameTaint>(
     ensures step { InStep parts.new marks.new }
 {
     let shown = operands_shown(parts, marks);
+    let before = row.events().len();
     issue(parts, row);
+    if row.events().len() == before {
+        return shown;
+    }
     mark(parts, marks);
     shown
 }

@@ -1,11 +1,17 @@
 use Rattle.std.proofs.Common.{◌∙◌, ap, arith, refl, subst, sym}
+use Rattle.std.specs.List.{AllByRecursion as Each}
 use Rattle.elf_loader.specs.Code.{word_at}
+use Rattle.machine_facts.proofs.FewEvents.{cycle_number}
+use Rattle.window_model.specs.Cycle.{cycle}
+use Rattle.window_model.specs.State.{Machine}
+use Rattle.marked_core.specs.InStep.{IssuedBy, NotYet}
 use Rattle.quiet_cycles.specs.Still.{empty_row}
 use Rattle.secret_marks.specs.Shown.{or_else}
 use Rattle.core_parts.specs.Described.{Described}
 use Rattle.core_cycle.specs.Kept.{Kept}
-use Rattle.core_cycle.proofs.Cycling.{Fronts, code_backed, count_stays, cycle_is, cycle_retires, desc_backed, end_stays, machine_is, serial_stays, settled_left, text_aligned}
+use Rattle.core_cycle.proofs.Cycling.{Fronts, code_backed, count_stays, cycle_is, cycle_retires, desc_backed, end_stays, machine_is, machine_left, serial_stays, settled_left, text_aligned}
 use Rattle.core_cycle.proofs.Passing.{kept_after}
+use Rattle.marked_core.proofs.Stamps.{cycle_issued, found_not_yet}
 use Rattle.marked_core.proofs.Steps.{over_phase}
 use Rattle.marked_core.proofs.Watching.{bytes_backed, bytes_fronted, cycle_marks, cycle_shows}
 use Rattle.marked_core.proofs.clocking.clock.Goals as goal
@@ -36,6 +42,13 @@ after_retire-operand-requires-clause-serials g c =
     let same =
     serial_stays _ _ c.before_retire-resolved.new.parts (record { begins = c.begin.ensures; goes = c.before_retire-resolved.ensures.machine }) c.retire_marked-asked.new.parts c.retire_marked-asked.ensures.machine in
     omega (arith, same, c.requires.few, c.requires.between.kept.counted.serials)
+
+pub after_retire-operand-requires-clause-fresh : goal.after_retire-operand-requires-clause-fresh
+after_retire-operand-requires-clause-fresh g c =
+    let s = c.args.parts.now in
+    let p : Fronts s c.begin.new.self c.before_retire-resolved.new.parts = record { begins = c.begin.ensures; goes = c.before_retire-resolved.ensures.machine } in
+    subst (λ (x : Machine). Each (NotYet x.cycle) x.window) (sym (machine_left s c.begin.new.self c.before_retire-resolved.new.parts p c.retire_marked-asked.new.parts c.retire_marked-asked.ensures.machine))
+    (found_not_yet s.desc s.machine c.requires.between.issued c.requires.between.kept.timely.parts)
 
 pub returns-clause-cycled : goal.returns-clause-cycled
 returns-clause-cycled g c =
@@ -78,5 +91,9 @@ returns-clause-between g c =
           subst (λ code. Kept (word_at code) s4) (sym code)
           (kept_after (word_at s.code) s s4 same (text_aligned s.code) c.requires.between.kept c.requires.running desc c.after_retire-operand.ensures.advanced);
       step = c.after_retire-operand.ensures.step;
+      issued =
+          subst (λ (x : Machine). Each (IssuedBy x.cycle) x.window) (sym same)
+          (subst (λ n. Each (IssuedBy n) (cycle s.desc (word_at s.code) s.machine).machine.window) (sym (cycle_number s.desc (word_at s.code) s.machine))
+          (cycle_issued s.desc (word_at s.code) s.machine c.requires.between.issued));
       memory = bytes_backed s3 s4 c.after_retire-operand.ensures.machine c.retire_marked-asked.new.marks c.after_retire-operand.new.marks c.after_retire-operand.ensures.marks c.retire_marked-asked.ensures.memory;
     }

@@ -16,6 +16,7 @@ invariant_of-result g c =
     record {
       kept = begun;
       step = record { entries = ap (λ (m : Marks). length m.window) c.in_ok-marks.ensures.marks; room = c.in_ok-marks.ensures.room };
+      issued = tt;
       memory = ap (λ (m : Marks). length m.bytes) c.in_ok-marks.ensures.marks ∙ marks_length (secret_in c.args.secret.now) c.args.image.ram.base (length c.args.image.ram.bytes);
     } in
     subst (λ (s : Described). Between s c.in_ok-marks.marks) (sym c.in-Ok.ensures.ok)
