@@ -18,6 +18,7 @@ use std::alloc::{AllocError, Global};
 use tool_words::{Refused, cycles_arg, find_by, name_arg, text_in, with_arg, word_in};
 
 /// What the words ask for.
+#[derive(Drop)]
 pub struct Wanted<'a> {
     /// The name of the description.
     pub description: &'a str,
