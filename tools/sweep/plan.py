@@ -16,14 +16,15 @@ PLAN = "plan.json"
 
 
 class Run(NamedTuple):
-    """A run: the program's name and image, the description's name and the file made of it, what is set, and the file of its result. Files
-    of the plan are named within its folder."""
+    """A run: the program's name and image, the description's name and the file made of it, what is set, the file of its result, and what else
+    is asked of the image. Files of the plan are named within its folder."""
     program: str
     image: str
     base: str
     description: str
     values: dict
     result: str
+    words: list = []
 
 
 class Plan(NamedTuple):
@@ -71,15 +72,15 @@ def combinations(sets, defences):
     return [row | defence for row in rows for defence in settings.DEFENCES] if defences else rows
 
 
-def make(folder, simulator, words):
-    """The plan of these words; its descriptions are written."""
+def make(folder, simulator, words, file=PLAN, more=lambda image: []):
+    """The plan of these words, kept in this file; its descriptions are written. `more` has further words for an image."""
     sets = [settings.asked(word) for word in words.set]
     keys = [key for key, _ in sets] + ([settings.MODEL, settings.DEFENCE] if words.defences else [])
     twice = [key for key in keys if keys.count(key) > 1]
     if twice:
         raise Fault(f"{twice[0]} is set twice")
     simulator = hashlib.sha256(content(simulator)).digest()
-    images = [(name, path, content(path)) for name, path in zip(names_of(words.programs), words.programs)]
+    images = [(name, path, content(path), more(path)) for name, path in zip(names_of(words.programs), words.programs)]
     for name in ("descriptions", "results"):
         os.makedirs(os.path.join(folder, name), exist_ok=True)
     runs = []
@@ -87,14 +88,15 @@ def make(folder, simulator, words):
         for values in combinations(sets, words.defences):
             made = settings.with_values(text(path), values, path).encode()
             label = "_".join([base.replace("/", "-")] + [f"{key}={value}" for key, value in values.items()])
-            file = os.path.join("descriptions", f"{label}.toml")
-            write(os.path.join(folder, file), made)
-            for program, image, data in images:
-                digest = hashlib.sha256(b"".join([simulator, hashlib.sha256(data).digest(), made, str(words.cycles).encode()])).hexdigest()
+            described = os.path.join("descriptions", f"{label}.toml")
+            write(os.path.join(folder, described), made)
+            for program, image, data, further in images:
+                parts = [simulator, hashlib.sha256(data).digest(), made, str(words.cycles).encode(), *map(str.encode, further)]
+                digest = hashlib.sha256(b"".join(parts)).hexdigest()
                 result = os.path.join("results", f"{program.replace('/', '-')}_{digest[:16]}")
-                runs.append(Run(program, os.path.abspath(image), base, file, values, result))
+                runs.append(Run(program, os.path.abspath(image), base, described, values, result, further))
     plan = Plan(folder, words.cycles, keys, runs)
-    write(plan.path(PLAN), json.dumps(plan._replace(folder="", runs=[run._asdict() for run in runs])._asdict(), indent=1).encode())
+    write(plan.path(file), json.dumps(plan._replace(folder="", runs=[run._asdict() for run in runs])._asdict(), indent=1).encode())
     return plan
 
 
@@ -105,10 +107,10 @@ def write(path, data):
     os.replace(f"{path}.part", path)
 
 
-def read(folder):
-    """The plan that a folder has."""
+def read(folder, file=PLAN):
+    """The plan that a folder has in this file."""
     try:
-        found = json.loads(content(os.path.join(folder, PLAN)))
+        found = json.loads(content(os.path.join(folder, file)))
         return Plan(folder, found["cycles"], found["keys"], [Run(**run) for run in found["runs"]])
     except (ValueError, KeyError, TypeError):
-        raise Fault(f"{os.path.join(folder, PLAN)}: no plan of a sweep") from None
+        raise Fault(f"{os.path.join(folder, file)}: no plan") from None

@@ -31,11 +31,20 @@ def words_of(plan, run, simulator):
 
 
 class Runner:
-    """Runs what has no result yet. `screen` is where progress is told, if it is a terminal."""
+    """Runs what has no result yet. `screen` is where progress is told, if it is a terminal. What is run, and what of it is kept, another
+    table of runs may say otherwise: `words` and `kept`."""
 
     def __init__(self, plan, simulator, jobs, screen=sys.stderr):
         self.plan, self.simulator, self.jobs, self.screen = plan, simulator, jobs, screen
         self.children, self.stopped = set(), False
+
+    def words(self, run):
+        return words_of(self.plan, run, self.simulator)
+
+    def kept(self, said):
+        """The last line, which tells how the run ended; none where it doesn't."""
+        last = said.splitlines()[-1] if said else ""
+        return f"{last}\n" if END.fullmatch(last) else None
 
     def all(self):
         """Answers how many runs were done now."""
@@ -57,18 +66,18 @@ class Runner:
     def one(self, run):
         if self.stopped:
             return
-        child = subprocess.Popen(words_of(self.plan, run, self.simulator), stdout=subprocess.PIPE, stderr=subprocess.PIPE, text=True,
+        child = subprocess.Popen(self.words(run), stdout=subprocess.PIPE, stderr=subprocess.PIPE, text=True,
                                  errors="replace", start_new_session=True)
         self.children.add(child)
         said, note = child.communicate()
         self.children.discard(child)
         if self.stopped:
             return
-        last = said.splitlines()[-1] if said else ""
-        if child.returncode not in RAN or not END.fullmatch(last):
-            raise Fault(f"{run.description} {run.image}: status {child.returncode}, {note.strip() or last[:60]} "
+        kept = self.kept(said)
+        if child.returncode not in RAN or kept is None:
+            raise Fault(f"{run.description} {run.image}: status {child.returncode}, {note.strip() or said[-60:].strip()} "
                         f"(docs/using.md, \"Refusals\")")
-        write(self.plan.path(run.result), f"{last}\n".encode())
+        write(self.plan.path(run.result), kept.encode())
 
     def stop(self, waiting):
         """Ends what goes on; what waits doesn't begin."""

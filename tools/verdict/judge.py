@@ -2,7 +2,7 @@
 from view.description import read_description
 from view.trace import Progress, Trace
 
-from . import simulator
+from . import secrecy, simulator
 from .loaded import load
 from .premises import premises
 from .report import Case
@@ -22,12 +22,14 @@ class Reading(Progress):
         return f" of {self.cycles}"
 
 
-def case_of(program, description, one, two, cycles, look=lambda pair: None):
-    """Two images under a description, by the names of their files, for so many cycles at most. `look` is shown their traces first."""
+def case_of(program, description, one, two, cycles, look=lambda pair: None, secrets=None):
+    """Two images under a description, by the names of their files, for so many cycles at most. `look` is shown their traces first;
+    `secrets` is the program that is asked of the bytes that differ, if there is one."""
     pair = simulator.compare(program, description, one, two, cycles)
     look(pair)
     machine = read_description(description)
-    return judged(description, machine, load(one, machine), load(two, machine), pair)
+    case = judged(description, machine, load(one, machine), load(two, machine), pair)
+    return case._replace(asked=secrecy.asked_of_pair(secrets, description, case.one, case.premises, cycles))
 
 
 def judged(description, machine, one, two, pair):

@@ -10,12 +10,15 @@ from view.trace import Trace
 from .loaded import Loaded
 from .premises import Premises
 from .simulator import Pair
+from .secrecy import NOT_ASKED, Asked, place
 from .telling import Telling
 
 WIDTH = 14
 MOST_LINES = 6
 
-STATUS = {"hidden": 0, "differs": 1, "vacuous": 3, "same": 4, "refuted": 5, "leaks": 6}
+STATUS = {"hidden": 0, "differs": 1, "vacuous": 3, "same": 4, "refuted": 5, "leaks": 6, "certified": 7, "exposed": 8}
+# certified in the first cycles alone
+CUT = 9
 MEANING = {
     "hidden": "the traces are equal, and proved to be for every two images of this code whose memories agree on what the path loads; "
               "what would have told them apart was held",
@@ -23,14 +26,23 @@ MEANING = {
     "vacuous": "the traces are equal, and proved to be; but this shows nothing of the defence: nothing that shows its operand ever had "
                "one made of the bytes that differ",
     "same": "the traces of these two images are equal; nothing promises that those of others are",
-    "refuted": "the premises are met and the traces aren't equal. This contradicts what is proved: please report it",
+    "certified": "the traces are equal, and proved to be for every value of the bytes that differ",
+    "exposed": "the traces of these two images are equal, but something shows that may depend on the bytes that differ: those of others may "
+               "not be",
+    "refuted": "the traces are proved equal, and aren't. This contradicts what is proved: please report it",
     "leaks": "the traces aren't equal, though the path loads nothing that differs: under the model `off` an attack shows it, and nothing "
              "promises that it doesn't",
 }
 
 
+def status_of(word, is_cut):
+    """The status of a verdict, where the budget ended a run or didn't."""
+    return CUT if word == "certified" and is_cut else STATUS[word]
+
+
 class Case(NamedTuple):
-    """Two images under a description: their comparison, their premises, and what the first one's trace tells."""
+    """Two images under a description: their comparison, their premises, what the first one's trace tells, and whether its run certifies
+    the bytes that differ."""
     description: str
     machine: Description
     one: Loaded
@@ -38,6 +50,7 @@ class Case(NamedTuple):
     pair: Pair
     premises: Premises
     telling: Telling
+    asked: Asked = NOT_ASKED
 
     @property
     def met(self):
@@ -51,11 +64,16 @@ class Case(NamedTuple):
 
     def word(self):
         """The verdict in one word."""
+        answer = self.asked.answer
         if self.pair.unequal is not None:
-            return "refuted" if self.promised else "leaks" if self.met else "differs"
-        if not self.promised:
-            return "same"
-        return "hidden" if self.telling.held else "vacuous"
+            certified = answer is not None and answer.shown is None
+            return "refuted" if self.promised or certified else "leaks" if self.met else "differs"
+        if self.promised:
+            return "hidden" if self.telling.held else "vacuous"
+        return "same" if answer is None else "exposed" if answer.shown else "certified"
+
+    def status(self):
+        return status_of(self.word(), self.pair.is_cut)
 
 
 def lines(case, notation=CALLERS):
@@ -70,6 +88,7 @@ def lines(case, notation=CALLERS):
     yield from path(case, texts[0])
     yield row("premises", "not met" if not case.met else "met" if case.promised else "met, and the model off promises nothing")
     yield from traces(case, texts)
+    yield row("one run", one_run(case.asked, texts[0]))
     yield from transmitters(case.telling, texts[0])
     yield row("verdict", f"{case.word()}{within(case)}: {MEANING[case.word()]}")
 
@@ -162,6 +181,15 @@ def transmitters(telling, texts):
         yield row("held", "nothing on an operand made of the bytes that differ" + wrong_loads(telling.wrong_loads))
     yield from limited(row("shown", f"{texts.place(pc)}: its {what}, {plural(shown.times, 'time')}, first in cycle {shown.cycle}")
                        for (pc, what), shown in telling.shown.items())
+
+
+def one_run(asked, texts):
+    """Whether the first one's run certifies the bytes that differ, taken as secret."""
+    if asked.answer is None:
+        return f"not asked about the bytes that differ: {asked.why}"
+    if asked.answer.shown:
+        return f"shows what may depend on the bytes that differ: {place(asked.answer.shown, texts)}"
+    return "shows nothing that may depend on the bytes that differ"
 
 
 def afterwards(held):

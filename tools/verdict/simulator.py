@@ -1,4 +1,4 @@
-"""The built simulator: where it is, and what it says of two images."""
+"""The built programs: where they are, and what the simulator says of two images."""
 import os
 import re
 import subprocess
@@ -9,7 +9,7 @@ from view import Fault
 from view.trace import read_end
 
 ROOT = os.path.dirname(os.path.dirname(os.path.dirname(os.path.abspath(__file__))))
-BUILT = os.path.join(ROOT, "crates", "stt_cli", "out", "stt_cli")
+SIMULATOR, SECRETS = "stt_cli", "stt_secrets"
 RAN = (0, 1, 3)
 ANSWER = re.compile(r"premise (yes|no)\n(?:equal|unequal (end|\d+))\nretired \d+ cycles (\d+)\n")
 TAIL = 200
@@ -65,9 +65,10 @@ class Answer(NamedTuple):
     cycles: int
 
 
-def found(named=None):
-    """The program named, or that of the variable STT_CLI, or the built one of this repository; none where there is no such file."""
-    path = named or os.environ.get("STT_CLI") or BUILT
+def found(named=None, name=SIMULATOR):
+    """The program named, or that of its variable (STT_CLI, STT_SECRETS), or the built one of this repository; none where there is no such
+    file."""
+    path = named or os.environ.get(name.upper()) or os.path.join(ROOT, "crates", name, "out", name)
     return path if os.path.isfile(path) and os.access(path, os.X_OK) else None
 
 
