@@ -40,13 +40,14 @@ abbrev pub wanted_text : Wanted → WantedText
 wanted_text w = record { description = w.description.now; image = w.image.now; secret = w.secret.items; cycles = w.cycles }
 
 -- the ranges of all --secret
-abbrev pub secret_in : List Row → Option (List SecretRange)
-secret_in rows = option_and_then ranges_of (all_of (codes "secret") rows)
+abbrev pub ranges_in : List Row → Option (List SecretRange)
+ranges_in rows = option_and_then ranges_of (all_of (codes "secret") rows)
 
 abbrev pub wanted_in : List Row → Option WantedText
 wanted_in rows =
-    option_and_then (λ description. option_and_then (λ image. option_and_then (λ cycles. option_map (λ secret. record { description = description; image = image; secret = secret; cycles = cycles })
-    (secret_in rows)) (word_in (codes "cycles") rows)) (first_of (codes "image") rows)) (first_of (codes "description") rows)
+    option_and_then (λ description. option_and_then (λ image. option_and_then (λ cycles.
+    option_map (λ secret. record { description = description; image = image; secret = secret; cycles = cycles }) (ranges_in rows))
+    (word_in (codes "cycles") rows)) (first_of (codes "image") rows)) (first_of (codes "description") rows)
 
 -- what the words ask for: nothing where clap finds a fault in them
 unfoldable pub wanted_of : List Text → Option WantedText

@@ -7,7 +7,7 @@
 ghost use Rattle.std.specs.Prelude.{◌≡◌, ◌≢◌, IfOk, IfErr, map, None, Some, [], false};
 ghost use Rattle.clap.specs.Words.{App, rule_of, app_of, rows_of, found_of};
 ghost use Rattle.clap.specs.declared.builder.command.Command.TheViews.{out-Command};
-ghost use Rattle.secret_words.specs.Words.{secret_rule, bare_app, secrets_app, faults, rows_in, wanted_text, secret_in, wanted_in, wanted_of};
+ghost use Rattle.secret_words.specs.Words.{secret_rule, bare_app, secrets_app, faults, rows_in, wanted_text, ranges_in, wanted_in, wanted_of};
 
 mod ranges;
 
@@ -72,9 +72,9 @@ fn parse<'a>(alloc: Global, words: &'a [&'a str]) -> Result<ArgMatches<'a>, Refu
 }
 
 // The secret ranges. Errors: `Words`, only where one of the texts is no range; `Memory`.
-fn secret_in(alloc: Global, matches: &ArgMatches<'_>) -> Result<Vec<SecretRange>, Refused>
-    ensures ok { IfOk result (λ v. secret_in (rows_of (found_of matches.now)) ≡ Some v.items) }
-    ensures refused { IfErr result (λ e. e ≡ Refused.Words → secret_in (rows_of (found_of matches.now)) ≡ None) }
+fn ranges_in(alloc: Global, matches: &ArgMatches<'_>) -> Result<Vec<SecretRange>, Refused>
+    ensures ok { IfOk result (λ v. ranges_in (rows_of (found_of matches.now)) ≡ Some v.items) }
+    ensures refused { IfErr result (λ e. e ≡ Refused.Words → ranges_in (rows_of (found_of matches.now)) ≡ None) }
 {
     match matches.get_strs("secret") {
         Some(texts) => read_ranges(alloc, texts),
@@ -90,7 +90,7 @@ fn wanted_in<'a>(alloc: Global, matches: &ArgMatches<'a>) -> Result<Wanted<'a>, 
     let description = text_in(matches, "description").ok_or(Refused::Words)?;
     let image = text_in(matches, "image").ok_or(Refused::Words)?;
     let cycles = word_in(matches, "cycles").ok_or(Refused::Words)?;
-    let secret = secret_in(alloc, matches)?;
+    let secret = ranges_in(alloc, matches)?;
     Ok(Wanted {
         description,
         image,
