@@ -104,7 +104,7 @@ static void swap(number *a, number *b, u32 bit) {
   }
 }
 
-/* Brings a number below 2^255 - 19: bit 255 counts 19, and then 19 more reach that bit exactly where the modulus has to go. */
+/* Brings a number below 2^255 - 19: bit 255 counts 19, and with 19 more a number reaches that bit exactly where the modulus has to go. */
 static void reduce(number *a) {
   number more;
   u32 high = a->word[7] >> 31;
@@ -112,9 +112,8 @@ static void reduce(number *a) {
   increase(a, 19 * high);
   more = *a;
   increase(&more, 19);
-  high = more.word[7] >> 31;
-  more.word[7] &= 0x7fffffff;
-  swap(a, &more, high);
+  increase(a, 19 * (more.word[7] >> 31));
+  a->word[7] &= 0x7fffffff;
 }
 
 /* Two points of the ladder, whose difference is always the first coordinate x. */
