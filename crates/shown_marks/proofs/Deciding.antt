@@ -18,7 +18,7 @@ use Rattle.stations.specs.Stations.{ready_part}
 use Rattle.stations.specs.declared.wants.Part.TheVariants as part
 use Rattle.stations.specs.declared.wants.Wants.TheVariants as wants
 use Rattle.rob_ring.specs.Beside.{each_roots}
-use Rattle.transmit_gate.specs.Gate.{may_transmit}
+use Rattle.visibility.specs.Gate.{may_transmit}
 use Rattle.parts_stand.specs.Parts.{wants_by, wants_of}
 use Rattle.parts_stand.specs.Telling.{HoldsBy, OperandsTold, has_sources}
 use Rattle.parts_stand.proofs.Answering.{tells_operands, tells_part}
