@@ -53,7 +53,7 @@ module _ (s s2 : Described) (e : s2 ≡ record s { machine = (retire s.desc s.ma
   taken_is = let left = window_left in omega (arith, many, left)
 
   shape : SameShape s.machine.ram y.ram
-  shape = memory_stays_retire s.desc s.machine (every_desc s.desc) sized
+  shape = memory_stays_retire s.desc s.machine sized
 
   pub count_left : length s.machine.window ≡ n + length s2.machine.window
   count_left =

@@ -56,12 +56,12 @@ longer d image secret n k end al e f le =
 -- where nothing shows status 0 says that the run ended
 ended : (end : Option End) (status : ℕ) → status ≡ hidden_status end → status ≡ 0 → (e : End) × (end ≡ Some e)
 ended (Some e) status s z = (e, refl)
-ended None status s z = absurd (omega (arith, s, z))
+ended None status s z = let three : status ≡ 3 = s in absurd (omega (arith, three, z))
 
 -- and the status isn't 1
 hidden_other : (end : Option End) (status : ℕ) → status ≡ hidden_status end → status ≡ 1 → ⊥
-hidden_other (Some e) status s z = omega (arith, s, z)
-hidden_other None status s z = omega (arith, s, z)
+hidden_other (Some e) status s z = let zero : status ≡ 0 = s in omega (arith, zero, z)
+hidden_other None status s z = let three : status ≡ 3 = s in omega (arith, three, z)
 
 module _ (d : Desc) (image : ImageText) (secret : List SecretRange) (n : ℕ) (out out' : Told) (status : ℕ) where
   hides : (o : Option FirstShown) → first_of_run d image secret n ≡ o → Aligned image.code → (status ≡ 0) ⊎ (status ≡ 3)
@@ -71,7 +71,7 @@ module _ (d : Desc) (image : ImageText) (secret : List SecretRange) (n : ℕ) (o
     one_trace = one_trace d image secret n al e;
     longer = λ z k le. let f = ended (trace_of d image n).end status s z in longer d image secret n k f.0 al e f.1 le;
   }
-  hides (Some first) e al h s w = absurd (omega (arith, h, s))
+  hides (Some first) e al h s w = let one : status ≡ 1 = s in absurd (omega (arith, h, one))
 
   tells : (o : Option FirstShown) → first_of_run d image secret n ≡ o → status ≡ 1
       → status ≡ verdict_status (verdict (ending_of (trace_of d image n)) o) → Wrote (verdict_text (verdict (ending_of (trace_of d image n)) o)) out out' → Tells d image secret n out out'
@@ -85,7 +85,7 @@ aligned : (wanted : WantedText) (old new : Shelf) (i : Inputs wanted old new) �
 aligned wanted old new i = at_words i.read.are_images.0.file _ _ _ i.image i.read.are_images.0.loads
 
 hidden_status_is : (status : ℕ) → (status ≡ 0) ⊎ (status ≡ 3) → (status ≡ 0) ⊎ (status ≡ 1) ⊎ (status ≡ 3)
-hidden_status_is status h = omega (arith, h)
+hidden_status_is status h = elim h [ inl a ↦ inl a | inr a ↦ inr (inr a) ]
 
 -- with the status of a text that is written whole
 pub promises : (words : List (List ℕ)) (old new : World) (status : ℕ) → Statuses words old new status → Promises words old new status
