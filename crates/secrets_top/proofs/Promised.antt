@@ -90,12 +90,24 @@ hidden_status_is status h = elim h [ inl a ↦ inl a | inr a ↦ inr (inr a) ]
 -- with the status of a text that is written whole
 pub promises : (words : List (List ℕ)) (old new : World) (status : ℕ) → Statuses words old new status → Promises words old new status
 promises words old new status s = record {
-  hidden = λ h. let t = s.told (hidden_status_is status h) in let a = t.2.0 in
-      (t.0, t.1, (a, hides a.inputs.desc a.inputs.image t.0.secret t.0.cycles old.out new.out status
-      (first_of_run a.inputs.desc a.inputs.image t.0.secret t.0.cycles) refl (aligned t.0 old.files new.files a.inputs) h t.2.2 t.2.1));
-  shown = λ h. let t = s.told (inr (inl h)) in let a = t.2.0 in
-      (t.0, t.1, (a, tells a.inputs.desc a.inputs.image t.0.secret t.0.cycles old.out new.out status
-      (first_of_run a.inputs.desc a.inputs.image t.0.secret t.0.cycles) refl h t.2.2 t.2.1));
+  hidden = λ h. let t = s.told (hidden_status_is status h) in let a = t.2.0 in (
+    t.0,
+    t.1,
+    (
+      a,
+      hides a.inputs.desc a.inputs.image t.0.secret t.0.cycles old.out new.out status
+          (first_of_run a.inputs.desc a.inputs.image t.0.secret t.0.cycles) refl (aligned t.0 old.files new.files a.inputs) h t.2.2 t.2.1,
+    ),
+  );
+  shown = λ h. let t = s.told (inr (inl h)) in let a = t.2.0 in (
+    t.0,
+    t.1,
+    (
+      a,
+      tells a.inputs.desc a.inputs.image t.0.secret t.0.cycles old.out new.out status
+          (first_of_run a.inputs.desc a.inputs.image t.0.secret t.0.cycles) refl h t.2.2 t.2.1,
+    ),
+  );
 }
 
 -- so does the program, with the status of how it ended

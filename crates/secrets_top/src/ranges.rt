@@ -1,9 +1,11 @@
 //! Which ranges of secret bytes an image may have: those within its memory that touch no code.
-ghost use Rattle.std.specs.Prelude.{◌≡◌, ◌+◌, ◌≤◌, ◌^◌, length, None, Option, Some, MatchResult};
+ghost use Rattle.std.specs.Prelude.{◌≡◌, ◌+◌, ◌≤◌, ◌^◌, None, Some, MatchResult, IsTrue};
+ghost use Rattle.rv_types.specs.Memory.{in_ram};
 ghost use Rattle.elf_loader.specs.Code.{word_at};
 ghost use Rattle.run_inputs.specs.Loaded.{loaded};
 ghost use Rattle.secrets_top.specs.Ranges.{in_code, touches_code, range_fault, first_faulty};
 
+use byte_ram::Ram;
 use elf_loader::{Code, Image};
 use secret_marks::SecretRange;
 use thiserror::Error;
@@ -47,11 +49,22 @@ fn touches_code(code: &Code, range: &SecretRange) -> bool
     false
 }
 
+// Whether all bytes of a range lie in memory; then the address behind them fits, too.
+fn lies_within(ram: &Ram, range: &SecretRange) -> bool
+    ensures value { result ≡ in_ram ram.now range.now.addr range.now.bytes }
+    ensures fits { IsTrue result → range.now.addr + range.now.bytes ≤ 2 ^ 32 }
+{
+    let base = ram.base() as u64;
+    let end = base + ram.size() as u64;
+    let addr = range.addr as u64;
+    base <= addr && addr + range.bytes as u64 <= end
+}
+
 // What is wrong with a range.
 fn range_fault(image: &Image, range: &SecretRange) -> Option<RangeFault>
     ensures { result ≡ range_fault (loaded image.now) range.now }
 {
-    if !image.ram.holds(range.addr, range.bytes) {
+    if !lies_within(&image.ram, range) {
         return Some(RangeFault::Outside);
     }
     if touches_code(&image.code, range) {

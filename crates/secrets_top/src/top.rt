@@ -13,7 +13,7 @@ use crate::ranges::check_ranges;
 use crate::refusal::{Unjudged, note_line, status_of};
 use crate::verdict::Verdict;
 use run_inputs::{Source, read_described};
-use secret_words::{Wanted, read_wanted};
+use secret_words::read_wanted;
 use std::alloc::Global;
 use tool_io::{Files, Sink};
 
@@ -28,15 +28,10 @@ fn answer<F: Files, O: Sink>(
         (world (F.shelf files.old) (O.told out.old)) (world (F.shelf files.new) (O.told out.new)) result }
     ensures stays { SameContents (F.shelf files.old) (F.shelf files.new) }
 {
-    let Wanted {
-        description,
-        image,
-        secret,
-        cycles,
-    } = read_wanted(alloc, words)?;
-    let read = read_described(alloc, description, Source::File(image), files)?;
-    check_ranges(&read.image, secret.as_slice())?;
-    perform(alloc, read, secret.as_slice(), cycles, out)
+    let wanted = read_wanted(alloc, words)?;
+    let read = read_described(alloc, wanted.description, Source::File(wanted.image), files)?;
+    check_ranges(&read.image, wanted.secret.as_slice())?;
+    perform(alloc, read, wanted.secret.as_slice(), wanted.cycles, out)
 }
 
 /// Does all that the program does, and answers its status. `words` are those after the program's name. What is told of the run is

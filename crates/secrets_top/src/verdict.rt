@@ -3,7 +3,7 @@
 //! A put has one line, and nothing here takes memory.
 ghost use Rattle.std.specs.Prelude.{◌≡◌};
 ghost use Rattle.tool_io.specs.Outside.{Writes};
-ghost use Rattle.secrets_top.specs.Verdict.{what_shows, hidden_line, shown_line, verdict_text, verdict_status};
+ghost use Rattle.secrets_top.specs.Verdict.{what_shows, shown_line, verdict_text, verdict_status};
 
 use line_text::{Line, write_end};
 use rv_types::{Ending, Kind};
