@@ -11,7 +11,8 @@ range_length a (suc n) = ap suc (range_length (a + 1) n)
 pub marks_length : (f : ℕ → Bool) (a n : ℕ) → length (map f (range a n)) ≡ n
 marks_length f a n = length-map (range a n) f ∙ range_length a n
 
-range_next : (a i n : ℕ) → i < n → range (a + i) (n - i) ≡ (a + i) ∷ range (a + (i + 1)) (n - (i + 1))
+-- the addresses from a position on
+pub range_next : (a i n : ℕ) → i < n → range (a + i) (n - i) ≡ (a + i) ∷ range (a + (i + 1)) (n - (i + 1))
 range_next a i n lt =
     let count : n - i ≡ suc (n - (i + 1)) = omega (arith, lt) in
     let next : a + i + 1 ≡ a + (i + 1) = omega arith in

@@ -1,4 +1,5 @@
 //! A run of the program over files and sinks in memory.
+use secrets_top::secrets_top;
 use std::alloc::Global;
 use std::test::Fail;
 use stt_top::stt_top;
@@ -82,5 +83,19 @@ pub fn run(
     let mut out = sink_of(alloc, failing.put, failing.sent)?;
     let mut note = sink_of(alloc, failing.note, failing.noted)?;
     let status = stt_top(alloc, words, &mut files, &mut out, &mut note);
+    Ok(Left { status, out, note })
+}
+
+/// Runs the program that judges a secret on these words and files, with what is to fail.
+pub fn judge(
+    alloc: Global,
+    words: &[&str],
+    reads: Reads<'_>,
+    failing: Failures,
+) -> Result<Left, Fail> {
+    let mut files = files_of(alloc, reads, failing.read)?;
+    let mut out = sink_of(alloc, failing.put, failing.sent)?;
+    let mut note = sink_of(alloc, failing.note, failing.noted)?;
+    let status = secrets_top(alloc, words, &mut files, &mut out, &mut note);
     Ok(Left { status, out, note })
 }

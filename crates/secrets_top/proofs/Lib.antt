@@ -1,0 +1,4 @@
+pub mod Outcomes
+pub mod Promised
+pub mod Statuses
+pub mod Touching

@@ -1,0 +1,115 @@
+-- A run in which nothing shows gives the trace of every secret: by the law of one run for all.
+use Rattle.std.proofs.Common.{◌≡◌, ◌⊎◌, ◌≤◌, ℕ, List, Bool, false, Option, Some, None, Result, refl, sym, ap, ◌∙◌, inl, inr, arith}
+use Rattle.std.specs.Option.{option_map, is_some}
+use Rattle.rv_types.specs.Memory.{Code}
+use Rattle.rv_types.specs.declared.End.{End}
+use Rattle.elf_loader.specs.Image.{ImageText}
+use Rattle.elf_loader.proofs.Images.{at_words}
+use Rattle.machine_desc.specs.declared.Desc.{Desc}
+use Rattle.window_model.specs.Committed.{Aligned}
+use Rattle.window_model.specs.State.{Machine}
+use Rattle.pair_run.specs.Starts.{trace_of}
+use Rattle.trace_text.specs.TraceText.{ending_of}
+use Rattle.tool_io.specs.Outside.{Shelf, Told, Wrote}
+use Rattle.secret_marks.specs.declared.FirstShown.{FirstShown}
+use Rattle.secret_marks.specs.declared.SecretRange.{SecretRange}
+use Rattle.secret_marks.specs.Marks.{Marks}
+use Rattle.secret_marks.specs.Ranges.{secret_in}
+use Rattle.secret_marks.specs.Shown.{first_shown}
+use Rattle.secret_marks.specs.Watch.{first_show, shows_within, secret_shows}
+use Rattle.secret_marks.proofs.FirstCycle.{told_first}
+use Rattle.secret_marks.proofs.Longer.{ended_run, first_shows}
+use Rattle.secret_marks.proofs.Trace.{one_run}
+use Rattle.run_inputs.specs.Told.{World}
+use Rattle.secret_words.specs.Words.{WantedText}
+use Rattle.secrets_top.specs.declared.refusal.Unjudged.{Unjudged}
+use Rattle.secrets_top.specs.declared.verdict.Verdict.{Verdict}
+use Rattle.secrets_top.specs.Verdict.{verdict, verdict_text, hidden_status, verdict_status, first_of_run}
+use Rattle.secrets_top.specs.Refused.{status_of}
+use Rattle.secrets_top.specs.Top.{Wants, Inputs, Accepted, Ends, Statuses}
+use Rattle.secrets_top.specs.Promises.{OneTrace, Hides, Tells, Promises}
+use Rattle.secrets_top.proofs.Statuses.{statuses_at}
+
+-- ---- One run
+
+-- where nothing is told to show, nothing shows
+nothing_shows : (d : Desc) (code : Code) (n : ℕ) (x : Machine) (m : Marks) → first_shown d code n x m ≡ None → shows_within d code n x m ≡ false
+nothing_shows d code n x m e =
+    let first : first_show d code n x m ≡ None = sym (told_first d code n x m) ∙ ap (option_map (λ (s : FirstShown). s.cycle)) e in
+    sym (first_shows d code n x m) ∙ ap is_some first
+
+no_secret : (d : Desc) (image : ImageText) (secret : List SecretRange) (n : ℕ) → first_of_run d image secret n ≡ None
+    → secret_shows d image.code image.entry (secret_in secret) image.ram n ≡ false
+no_secret d image secret n e = nothing_shows d image.code n _ _ e
+
+one_trace : (d : Desc) (image : ImageText) (secret : List SecretRange) (n : ℕ) → Aligned image.code → first_of_run d image secret n ≡ None → OneTrace d image secret n
+one_trace d image secret n al e =
+    λ m agree. one_run d image.code image.entry (secret_in secret) image.ram m n al agree (no_secret d image secret n e)
+
+longer : (d : Desc) (image : ImageText) (secret : List SecretRange) (n k : ℕ) (end : End) → Aligned image.code → first_of_run d image secret n ≡ None
+    → (trace_of d image n).end ≡ Some end → n ≤ k → OneTrace d image secret k
+longer d image secret n k end al e f le =
+    λ m agree. ended_run d image.code image.entry (secret_in secret) image.ram m n k end al agree (no_secret d image secret n e) f le
+
+-- ---- By the status
+
+-- where nothing shows status 0 says that the run ended
+ended : (end : Option End) (status : ℕ) → status ≡ hidden_status end → status ≡ 0 → (e : End) × (end ≡ Some e)
+ended (Some e) status s z = (e, refl)
+ended None status s z = let three : status ≡ 3 = s in absurd (omega (arith, three, z))
+
+-- and the status isn't 1
+hidden_other : (end : Option End) (status : ℕ) → status ≡ hidden_status end → status ≡ 1 → ⊥
+hidden_other (Some e) status s z = let zero : status ≡ 0 = s in omega (arith, zero, z)
+hidden_other None status s z = let three : status ≡ 3 = s in omega (arith, three, z)
+
+module _ (d : Desc) (image : ImageText) (secret : List SecretRange) (n : ℕ) (out out' : Told) (status : ℕ) where
+  hides : (o : Option FirstShown) → first_of_run d image secret n ≡ o → Aligned image.code → (status ≡ 0) ⊎ (status ≡ 3)
+      → status ≡ verdict_status (verdict (ending_of (trace_of d image n)) o) → Wrote (verdict_text (verdict (ending_of (trace_of d image n)) o)) out out' → Hides d image secret n status out out'
+  hides None e al h s w = record {
+    text = w;
+    one_trace = one_trace d image secret n al e;
+    longer = λ z k le. let f = ended (trace_of d image n).end status s z in longer d image secret n k f.0 al e f.1 le;
+  }
+  hides (Some first) e al h s w = let one : status ≡ 1 = s in absurd (omega (arith, h, one))
+
+  tells : (o : Option FirstShown) → first_of_run d image secret n ≡ o → status ≡ 1
+      → status ≡ verdict_status (verdict (ending_of (trace_of d image n)) o) → Wrote (verdict_text (verdict (ending_of (trace_of d image n)) o)) out out' → Tells d image secret n out out'
+  tells None e h s w = absurd (hidden_other (trace_of d image n).end status s h)
+  tells (Some first) e h s w = record { first = first; shows = e; text = w }
+
+-- ---- The program
+
+-- instructions stand at multiples of 4
+aligned : (wanted : WantedText) (old new : Shelf) (i : Inputs wanted old new) → Aligned i.image.code
+aligned wanted old new i = at_words i.read.are_images.0.file _ _ _ i.image i.read.are_images.0.loads
+
+hidden_status_is : (status : ℕ) → (status ≡ 0) ⊎ (status ≡ 3) → (status ≡ 0) ⊎ (status ≡ 1) ⊎ (status ≡ 3)
+hidden_status_is status h = elim h [ inl a ↦ inl a | inr a ↦ inr (inr a) ]
+
+-- with the status of a text that is written whole
+pub promises : (words : List (List ℕ)) (old new : World) (status : ℕ) → Statuses words old new status → Promises words old new status
+promises words old new status s = record {
+  hidden = λ h. let t = s.told (hidden_status_is status h) in let a = t.2.0 in (
+    t.0,
+    t.1,
+    (
+      a,
+      hides a.inputs.desc a.inputs.image t.0.secret t.0.cycles old.out new.out status
+          (first_of_run a.inputs.desc a.inputs.image t.0.secret t.0.cycles) refl (aligned t.0 old.files new.files a.inputs) h t.2.2 t.2.1,
+    ),
+  );
+  shown = λ h. let t = s.told (inr (inl h)) in let a = t.2.0 in (
+    t.0,
+    t.1,
+    (
+      a,
+      tells a.inputs.desc a.inputs.image t.0.secret t.0.cycles old.out new.out status
+          (first_of_run a.inputs.desc a.inputs.image t.0.secret t.0.cycles) refl h t.2.2 t.2.1,
+    ),
+  );
+}
+
+-- so does the program, with the status of how it ended
+pub promises_at : (words : List (List ℕ)) (old new : World) (r : Result Verdict Unjudged) (status : ℕ) → Ends words old new r → status ≡ status_of r → Promises words old new status
+promises_at words old new r status e s = promises words old new status (statuses_at words old new r status e s)

@@ -1,0 +1,315 @@
+-- What each status says follows from how the program ends: by classes of ends. What is told is written whole or in part, the words want
+-- nothing, memory was wanting, the description or the image is refused, or a range is.
+use Rattle.std.proofs.Common.{◌≡◌, ◌⊎◌, ℕ, zero, suc, List, [], ◌∷◌, Option, Some, None, Result, Ok, Err, refl, sym, ap, ap₂, ◌∙◌, subst, inl, inr, arith}
+use Rattle.rv_types.specs.declared.End.{End}
+use Rattle.elf_loader.specs.Image.{ImageText}
+use Rattle.elf_loader.specs.declared.faults.ElfFault.{ElfFault}
+use Rattle.machine_desc.specs.Description.{description_of}
+use Rattle.machine_desc.specs.declared.Desc.{Desc}
+use Rattle.machine_desc.specs.declared.fault.DescFault.{DescFault}
+use Rattle.tool_io.specs.Outside.{Shelf, Told, Wrote, WrotePart, SameCounts, NameFailed, Rose}
+use Rattle.run_inputs.specs.declared.refusal.Which.{Which}
+use Rattle.run_inputs.specs.declared.refusal.Refusal.{Refusal}
+use Rattle.run_inputs.specs.declared.refusal.Refusal.TheVariants.{Words, ReadDescription, DescriptionTooLong, Description, ReadImage, ImageTooLong, Image, Write, Memory}
+use Rattle.run_inputs.specs.Refused.{place_of}
+use Rattle.run_inputs.specs.Input.{description_max, ImageFrom, from_file, HasDesc, MayHold, MayBeLonger, RefusedAt, FailsToRead, HasTooMany, HasFault}
+use Rattle.run_inputs.specs.Told.{World, IsFaultyDescription, IsFaultyImage, TellsDesc, TellsImage, MayBeFaulty}
+use Rattle.run_inputs.proofs.Told.{told_desc, no_desc, not_longer, not_refused, none_faulty, same_images, no_fault, not_too_many}
+use Rattle.secret_words.specs.Words.{WantedText, wanted_of}
+use Rattle.secrets_top.specs.declared.ranges.FaultyRange.{FaultyRange}
+use Rattle.secrets_top.specs.declared.refusal.Unjudged.{Unjudged}
+use Rattle.secrets_top.specs.declared.refusal.Unjudged.TheVariants.{Range, Refused}
+use Rattle.secrets_top.specs.declared.verdict.Verdict.{Verdict}
+use Rattle.secrets_top.specs.declared.verdict.Verdict.TheVariants.{Hidden, Shown}
+use Rattle.secrets_top.specs.Verdict.{hidden_status, verdict_text, verdict_status}
+use Rattle.secrets_top.specs.Refused.{status_of}
+use Rattle.secrets_top.specs.Top.{Wants, Inputs, Accepted, RefusedInputs, fault_in, verdict_in, verdict_on, Ends, Statuses, IsTold, IsRefusal}
+
+-- words that want something don't want nothing
+clash : {o : Option WantedText} {w : WantedText} → o ≡ Some w → o ≡ None → ⊥
+clash p q = cc
+
+no_clash : {o : Option FaultyRange} {f : FaultyRange} → o ≡ Some f → o ≡ None → ⊥
+no_clash p q = cc
+
+-- that of which something holds is what the words want
+of_wish : (words : List (List ℕ)) (P : WantedText → Type 0) (wanted : WantedText) → wanted_of words ≡ Some wanted → Wants words P → P wanted
+of_wish words P wanted k a =
+    let first : wanted_of words ≡ Some a.0 = a.1 in
+    let same : a.0 ≡ wanted = cc in
+    subst P same a.2
+
+-- what is told has the status of what is told
+hidden_told : (end : Option End) → IsTold (hidden_status end)
+hidden_told (Some e) = inl refl
+hidden_told None = inr (inr refl)
+
+told_status : (v : Verdict) → IsTold (verdict_status v)
+told_status (Hidden ending) = hidden_told ending.end
+told_status (Shown first) = inr (inl refl)
+
+-- so it has no other
+other_status : (v : Verdict) (n : ℕ) → (IsTold n → ⊥) → verdict_status v ≡ n → ⊥
+other_status v n h q = h (subst IsTold q (told_status v))
+
+-- where there is one image, that one is refused
+refused_image : (old : Shelf) (name : Option (List ℕ)) (from : ImageFrom) (place : ℕ) (P : Option Desc → ImageFrom → Type 0) → RefusedAt old name (from ∷ []) place P
+    → (desc : Option Desc) × HasDesc old name desc × P desc from
+refused_image old name from zero P r =
+    let there : Some from ≡ Some r.from = r.there in
+    let same : r.from ≡ from = cc in
+    (r.desc, r.described, subst (P r.desc) same r.cause)
+refused_image old name from (suc n) P r = let none : None ≡ Some r.from = r.there in absurd (cc)
+
+module _ (words : List (List ℕ)) (old new : World) where
+  -- the image that is wanted is refused, for each cause
+  unread : (wanted : WantedText) (which : Which) → RefusedInputs wanted old.files new.files (ReadImage which)
+      → (desc : Option Desc) × HasDesc old.files (Some wanted.description) desc × NameFailed wanted.image old.files new.files
+  unread wanted which r =
+      refused_image old.files (Some wanted.description) (from_file wanted.image) (place_of which) (λ desc from. FailsToRead old.files new.files from) r
+
+  too_long : (wanted : WantedText) (which : Which) → RefusedInputs wanted old.files new.files (ImageTooLong which)
+      → (desc : Option Desc) × HasDesc old.files (Some wanted.description) desc × HasTooMany old.files (from_file wanted.image)
+  too_long wanted which r =
+      refused_image old.files (Some wanted.description) (from_file wanted.image) (place_of which) (λ desc from. HasTooMany old.files from) r.0
+
+  at_fault : (wanted : WantedText) (which : Which) (f : ElfFault) → RefusedInputs wanted old.files new.files (Image which f)
+      → (desc : Option Desc) × HasDesc old.files (Some wanted.description) desc × HasFault old.files desc (from_file wanted.image) f
+  at_fault wanted which f r =
+      refused_image old.files (Some wanted.description) (from_file wanted.image) (place_of which) (λ desc from. HasFault old.files desc from f) r.0
+
+  -- ---- What comes of each status
+
+  told : (r : Result Verdict Unjudged) → Ends words old new r → IsTold (status_of r)
+      → Wants words (λ wanted. (a : Accepted wanted old.files new.files) × Wrote (verdict_text (verdict_on a)) old.out new.out × (status_of r ≡ verdict_status (verdict_on a)))
+  told (Ok v) e h = (e.0, e.1, (e.2.0, e.2.1, ap verdict_status e.2.2))
+  told (Err (Range f)) e h = absurd (omega arith)
+  told (Err (Refused Words)) e h = absurd (omega arith)
+  told (Err (Refused _)) e h = absurd (omega arith)
+
+  two : (r : Result Verdict Unjudged) → Ends words old new r → status_of r ≡ 2 → (wanted_of words ≡ None)
+      ⊎ Wants words (λ wanted. (inputs : Inputs wanted old.files new.files) × (faulty : FaultyRange) × (fault_in wanted inputs.image ≡ Some faulty))
+  two (Ok v) e h = absurd (other_status v 2 (λ k. omega arith) h)
+  two (Err (Range f)) e h = let a = e.0 in inr (a.0, a.1, (a.2.0, f, a.2.1))
+  two (Err (Refused Words)) e h = inl e.0
+  two (Err (Refused _)) e h = absurd (omega arith)
+
+  four : (r : Result Verdict Unjudged) → Ends words old new r → status_of r ≡ 4 → Wants words (λ wanted. MayBeLonger old.files wanted.description description_max
+      ⊎ ((text : List ℕ) × (fault : DescFault) × MayHold old.files wanted.description description_max text × (description_of text ≡ Err fault)))
+  four (Ok v) e h = absurd (other_status v 4 (λ k. omega arith) h)
+  four (Err (Range f)) e h = absurd (omega arith)
+  four (Err (Refused DescriptionTooLong)) e h = let a = e.0 in (a.0, a.1, inl a.2.0)
+  four (Err (Refused (Description f))) e h = let a = e.0 in (a.0, a.1, inr (a.2.0, f, a.2.1, a.2.2))
+  four (Err (Refused _)) e h = absurd (omega arith)
+
+  five : (r : Result Verdict Unjudged) → Ends words old new r → status_of r ≡ 5
+      → Wants words (λ wanted. (desc : Option Desc) × HasDesc old.files (Some wanted.description) desc × MayBeFaulty old.files desc (from_file wanted.image))
+  five (Ok v) e h = absurd (other_status v 5 (λ k. omega arith) h)
+  five (Err (Range f)) e h = absurd (omega arith)
+  five (Err (Refused (ImageTooLong which))) e h = let a = e.0 in let r = too_long a.0 which a.2 in (a.0, a.1, (r.0, r.1, inl r.2))
+  five (Err (Refused (Image which f))) e h = let a = e.0 in let r = at_fault a.0 which f a.2 in (a.0, a.1, (r.0, r.1, inr (f, r.2)))
+  five (Err (Refused _)) e h = absurd (omega arith)
+
+  six : (r : Result Verdict Unjudged) → Ends words old new r → status_of r ≡ 6
+      → Wants words (λ wanted. NameFailed wanted.description old.files new.files
+      ⊎ ((desc : Option Desc) × HasDesc old.files (Some wanted.description) desc × NameFailed wanted.image old.files new.files))
+  six (Ok v) e h = absurd (other_status v 6 (λ k. omega arith) h)
+  six (Err (Range f)) e h = absurd (omega arith)
+  six (Err (Refused ReadDescription)) e h = let a = e.0 in (a.0, a.1, inl a.2)
+  six (Err (Refused (ReadImage which))) e h = let a = e.0 in (a.0, a.1, inr (unread a.0 which a.2))
+  six (Err (Refused _)) e h = absurd (omega arith)
+
+  seven : (r : Result Verdict Unjudged) → Ends words old new r → status_of r ≡ 7
+      → Wants words (λ wanted. (a : Accepted wanted old.files new.files) × WrotePart (verdict_text (verdict_on a)) old.out new.out)
+  seven (Ok v) e h = absurd (other_status v 7 (λ k. omega arith) h)
+  seven (Err (Range f)) e h = absurd (omega arith)
+  seven (Err (Refused Write)) e h = e
+  seven (Err (Refused _)) e h = absurd (omega arith)
+
+  -- ---- What each status leaves
+
+  not_six : (r : Result Verdict Unjudged) → Ends words old new r → (status_of r ≡ 6 → ⊥) → SameCounts old.files new.files
+  not_six (Ok v) e h = e.2.0.inputs.read.counts
+  not_six (Err (Range f)) e h = e.0.2.0.read.counts
+  not_six (Err (Refused Words)) e h = e.1
+  not_six (Err (Refused ReadDescription)) e h = absurd (h refl)
+  not_six (Err (Refused DescriptionTooLong)) e h = e.0.2.1
+  not_six (Err (Refused (Description f))) e h = e.0.2.3
+  not_six (Err (Refused (ReadImage which))) e h = absurd (h refl)
+  not_six (Err (Refused (ImageTooLong which))) e h = e.0.2.1
+  not_six (Err (Refused (Image which f))) e h = e.0.2.1
+  not_six (Err (Refused Write)) e h = e.2.0.inputs.read.counts
+  not_six (Err (Refused Memory)) e h = e.0
+
+  -- all causes but a failed write write nothing
+  wrote_nothing : (c : Unjudged) → Ends words old new (Err c) → (status_of (Err c) ≡ 7 → ⊥) → new.out ≡ old.out
+  wrote_nothing (Range f) e h = e.1
+  wrote_nothing (Refused Words) e h = e.2
+  wrote_nothing (Refused Write) e h = absurd (h refl)
+  wrote_nothing (Refused Memory) e h = e.1
+  wrote_nothing (Refused _) e h = e.1
+
+  not_seven : (r : Result Verdict Unjudged) → Ends words old new r → (status_of r ≡ 7 → ⊥) → new.out.faults ≡ old.out.faults
+  not_seven (Ok v) e h = e.2.1.count
+  not_seven (Err c) e h = ap (λ (t : Told). t.faults) (wrote_nothing c e h)
+
+  nothing : (r : Result Verdict Unjudged) → Ends words old new r → IsRefusal (status_of r) → new.out ≡ old.out
+  nothing (Ok v) e h = absurd (let k = told_status v in omega arith)
+  nothing (Err c) e h = wrote_nothing c e (λ k. omega arith)
+
+  -- ---- When each status comes
+
+  no_wish : (r : Result Verdict Unjudged) → Ends words old new r → wanted_of words ≡ None → (status_of r ≡ 2) ⊎ (status_of r ≡ 8)
+  no_wish (Ok v) e h = absurd (clash e.1 h)
+  no_wish (Err (Range f)) e h = inl refl
+  no_wish (Err (Refused Words)) e h = inl refl
+  no_wish (Err (Refused Write)) e h = absurd (clash e.1 h)
+  no_wish (Err (Refused Memory)) e h = inr refl
+  no_wish (Err (Refused _)) e h = absurd (clash e.0.1 h)
+
+  -- of what the words want
+  module _ (wanted : WantedText) (k : wanted_of words ≡ Some wanted) where
+    whole : (v : Verdict) → Ends words old new (Ok v) → (a : Accepted wanted old.files new.files) × Wrote (verdict_text (verdict_on a)) old.out new.out × (v ≡ verdict_on a)
+    whole v e = of_wish words (λ w. (a : Accepted w old.files new.files) × Wrote (verdict_text (verdict_on a)) old.out new.out × (v ≡ verdict_on a)) wanted k e
+
+    cut : Ends words old new (Err (Refused Write)) → (a : Accepted wanted old.files new.files) × WrotePart (verdict_text (verdict_on a)) old.out new.out
+    cut e = of_wish words (λ w. (a : Accepted w old.files new.files) × WrotePart (verdict_text (verdict_on a)) old.out new.out) wanted k e
+
+    its_fault : (f : FaultyRange) → Ends words old new (Err (Range f)) → (inputs : Inputs wanted old.files new.files) × (fault_in wanted inputs.image ≡ Some f)
+    its_fault f e = of_wish words (λ w. (inputs : Inputs w old.files new.files) × (fault_in w inputs.image ≡ Some f)) wanted k e.0
+
+    its_refusal : (c : Refusal) → Wants words (λ w. RefusedInputs w old.files new.files c) → RefusedInputs wanted old.files new.files c
+    its_refusal c a = of_wish words (λ w. RefusedInputs w old.files new.files c) wanted k a
+
+    not_described : (desc : Option Desc) (text : List ℕ) → old.files.content wanted.description ≡ Some text → HasDesc old.files (Some wanted.description) desc → IsFaultyDescription text → ⊥
+    not_described desc text t h x = no_desc old.files (Some wanted.description) desc wanted.description text refl t h x
+
+    faulty_description : (r : Result Verdict Unjudged) → Ends words old new r → (text : List ℕ) → old.files.content wanted.description ≡ Some text → IsFaultyDescription text
+        → (status_of r ≡ 4) ⊎ ((status_of r ≡ 6) ⊎ (status_of r ≡ 8))
+    faulty_description (Ok v) e text t x = let i = (whole v e).0.inputs in absurd (not_described (Some i.desc) text t i.read.described x)
+    faulty_description (Err (Range f)) e text t x = let i = (its_fault f e).0 in absurd (not_described (Some i.desc) text t i.read.described x)
+    faulty_description (Err (Refused Words)) e text t x = absurd (clash k e.0)
+    faulty_description (Err (Refused ReadDescription)) e text t x = inr (inl refl)
+    faulty_description (Err (Refused DescriptionTooLong)) e text t x = inl refl
+    faulty_description (Err (Refused (Description f))) e text t x = inl refl
+    faulty_description (Err (Refused (ReadImage which))) e text t x = inr (inl refl)
+    faulty_description (Err (Refused (ImageTooLong which))) e text t x =
+        let r = too_long wanted which (its_refusal (ImageTooLong which) e.0) in absurd (not_described r.0 text t r.1 x)
+    faulty_description (Err (Refused (Image which f))) e text t x =
+        let r = at_fault wanted which f (its_refusal (Image which f) e.0) in absurd (not_described r.0 text t r.1 x)
+    faulty_description (Err (Refused Write)) e text t x = let i = (cut e).0.inputs in absurd (not_described (Some i.desc) text t i.read.described x)
+    faulty_description (Err (Refused Memory)) e text t x = inr (inr refl)
+
+    -- and where the files tell its description
+    module _ (desc : Option Desc) (described : TellsDesc old.files (Some wanted.description) desc) where
+      same_desc : (desc' : Option Desc) → HasDesc old.files (Some wanted.description) desc' → desc' ≡ desc
+      same_desc desc' h = told_desc old.files (Some wanted.description) desc desc' described h
+
+      described_longer : Wants words (λ w. RefusedInputs w old.files new.files DescriptionTooLong) → ⊥
+      described_longer a = not_longer old.files new.files (Some wanted.description) desc described (its_refusal DescriptionTooLong a)
+
+      described_faulty : (f : DescFault) → Wants words (λ w. RefusedInputs w old.files new.files (Description f)) → ⊥
+      described_faulty f a = not_refused old.files new.files (Some wanted.description) desc f described (its_refusal (Description f) a)
+
+      no_image : (i : Inputs wanted old.files new.files) (file : List ℕ) → old.files.content wanted.image ≡ Some file → IsFaultyImage (from_file wanted.image) file desc → ⊥
+      no_image i file t x =
+          none_faulty old.files desc (Some i.desc) (from_file wanted.image ∷ []) (i.image ∷ []) 0 (from_file wanted.image) file
+          (same_desc (Some i.desc) i.read.described) i.read.are_images refl t x
+
+      faulty_image : (r : Result Verdict Unjudged) → Ends words old new r → (file : List ℕ) → old.files.content wanted.image ≡ Some file
+          → IsFaultyImage (from_file wanted.image) file desc → (status_of r ≡ 5) ⊎ ((status_of r ≡ 6) ⊎ (status_of r ≡ 8))
+      faulty_image (Ok v) e file t x = absurd (no_image (whole v e).0.inputs file t x)
+      faulty_image (Err (Range f)) e file t x = absurd (no_image (its_fault f e).0 file t x)
+      faulty_image (Err (Refused Words)) e file t x = absurd (clash k e.0)
+      faulty_image (Err (Refused ReadDescription)) e file t x = inr (inl refl)
+      faulty_image (Err (Refused DescriptionTooLong)) e file t x = absurd (described_longer e.0)
+      faulty_image (Err (Refused (Description f))) e file t x = absurd (described_faulty f e.0)
+      faulty_image (Err (Refused (ReadImage which))) e file t x = inr (inl refl)
+      faulty_image (Err (Refused (ImageTooLong which))) e file t x = inl refl
+      faulty_image (Err (Refused (Image which f))) e file t x = inl refl
+      faulty_image (Err (Refused Write)) e file t x = absurd (no_image (cut e).0.inputs file t x)
+      faulty_image (Err (Refused Memory)) e file t x = inr (inr refl)
+
+      -- and its image
+      module _ (image : ImageText) (there : TellsImage old.files desc (from_file wanted.image) image) where
+        same_image : (i : Inputs wanted old.files new.files) → i.image ≡ image
+        same_image i =
+            let same : (i.image ∷ []) ≡ (image ∷ []) =
+            same_images old.files desc (Some i.desc) (from_file wanted.image ∷ []) (image ∷ []) (i.image ∷ []) (same_desc (Some i.desc) i.read.described) (there, tt)
+            i.read.are_images in
+            cc
+
+        same_fault : (i : Inputs wanted old.files new.files) (o : Option FaultyRange) → fault_in wanted i.image ≡ o → fault_in wanted image ≡ o
+        same_fault i o e = ap (fault_in wanted) (sym (same_image i)) ∙ e
+
+        not_long : (which : Which) → Wants words (λ w. RefusedInputs w old.files new.files (ImageTooLong which)) → ⊥
+        not_long which a =
+            let r = too_long wanted which (its_refusal (ImageTooLong which) a) in
+            not_too_many old.files desc (from_file wanted.image) image there r.2
+
+        not_at_fault : (which : Which) (f : ElfFault) → Wants words (λ w. RefusedInputs w old.files new.files (Image which f)) → ⊥
+        not_at_fault which f a =
+            let r = at_fault wanted which f (its_refusal (Image which f) a) in
+            no_fault old.files desc r.0 (from_file wanted.image) image f (same_desc r.0 r.1) there r.2
+
+        faulty_range : (r : Result Verdict Unjudged) → Ends words old new r → (faulty : FaultyRange) → fault_in wanted image ≡ Some faulty
+            → (status_of r ≡ 2) ⊎ ((status_of r ≡ 6) ⊎ (status_of r ≡ 8))
+        faulty_range (Ok v) e faulty x = let a = (whole v e).0 in absurd (no_clash x (same_fault a.inputs None a.ranges))
+        faulty_range (Err (Range f)) e faulty x = inl refl
+        faulty_range (Err (Refused Words)) e faulty x = inl refl
+        faulty_range (Err (Refused ReadDescription)) e faulty x = inr (inl refl)
+        faulty_range (Err (Refused DescriptionTooLong)) e faulty x = absurd (described_longer e.0)
+        faulty_range (Err (Refused (Description f))) e faulty x = absurd (described_faulty f e.0)
+        faulty_range (Err (Refused (ReadImage which))) e faulty x = inr (inl refl)
+        faulty_range (Err (Refused (ImageTooLong which))) e faulty x = absurd (not_long which e.0)
+        faulty_range (Err (Refused (Image which f))) e faulty x = absurd (not_at_fault which f e.0)
+        faulty_range (Err (Refused Write)) e faulty x = let a = (cut e).0 in absurd (no_clash x (same_fault a.inputs None a.ranges))
+        faulty_range (Err (Refused Memory)) e faulty x = inr (inr refl)
+
+        same_verdict : (d : Desc) → desc ≡ Some d → (a : Accepted wanted old.files new.files) → verdict_on a ≡ verdict_in wanted d image
+        same_verdict d is a =
+            let m : Some a.inputs.desc ≡ Some d = same_desc (Some a.inputs.desc) a.inputs.read.described ∙ is in
+            let e : a.inputs.desc ≡ d = cc in
+            ap₂ (verdict_in wanted) e (same_image a.inputs)
+
+        complete : (r : Result Verdict Unjudged) → Ends words old new r → (d : Desc) → desc ≡ Some d → fault_in wanted image ≡ None
+            → (Rose (old.files.faults wanted.description) (new.files.faults wanted.description) → ⊥) → (Rose (old.files.faults wanted.image) (new.files.faults wanted.image) → ⊥)
+            → (Rose old.out.faults new.out.faults → ⊥)
+            → ((status_of r ≡ 8) × (new.out ≡ old.out))
+            ⊎ ((status_of r ≡ verdict_status (verdict_in wanted d image)) × Wrote (verdict_text (verdict_in wanted d image)) old.out new.out)
+        complete (Ok v) e d is none a b c =
+            let w = whole v e in
+            let same = same_verdict d is w.0 in
+            inr (ap verdict_status (w.2 ∙ same), subst (λ v. Wrote (verdict_text v) old.out new.out) same w.1)
+        complete (Err (Range f)) e d is none a b c = let i = its_fault f e in absurd (no_clash (same_fault i.0 (Some f) i.1) none)
+        complete (Err (Refused Words)) e d is none a b c = absurd (clash k e.0)
+        complete (Err (Refused ReadDescription)) e d is none a b c = absurd (a (its_refusal ReadDescription e.0).rose)
+        complete (Err (Refused DescriptionTooLong)) e d is none a b c = absurd (described_longer e.0)
+        complete (Err (Refused (Description f))) e d is none a b c = absurd (described_faulty f e.0)
+        complete (Err (Refused (ReadImage which))) e d is none a b c = absurd (b (unread wanted which (its_refusal (ReadImage which) e.0)).2.rose)
+        complete (Err (Refused (ImageTooLong which))) e d is none a b c = absurd (not_long which e.0)
+        complete (Err (Refused (Image which f))) e d is none a b c = absurd (not_at_fault which f e.0)
+        complete (Err (Refused Write)) e d is none a b c = absurd (c (cut e).1.rose)
+        complete (Err (Refused Memory)) e d is none a b c = inl (refl, e.1)
+
+pub statuses : (words : List (List ℕ)) (old new : World) (r : Result Verdict Unjudged) → Ends words old new r → Statuses words old new (status_of r)
+statuses words old new r e = record {
+  told = told words old new r e;
+  two = two words old new r e;
+  no_wish = no_wish words old new r e;
+  faulty_range = λ wanted desc image faulty k t i x. faulty_range words old new wanted k desc t image i r e faulty x;
+  four = four words old new r e;
+  faulty_description = λ wanted text k t x. faulty_description words old new wanted k r e text t x;
+  five = five words old new r e;
+  faulty_image = λ wanted desc file k t b x. faulty_image words old new wanted k desc t r e file b x;
+  six = six words old new r e;
+  not_six = not_six words old new r e;
+  seven = seven words old new r e;
+  not_seven = not_seven words old new r e;
+  nothing = nothing words old new r e;
+  complete = λ wanted d image k t i none a b c. complete words old new wanted k (Some d) t image i r e d refl none a b c;
+}
+
+-- so for the status that is answered
+pub statuses_at : (words : List (List ℕ)) (old new : World) (r : Result Verdict Unjudged) (status : ℕ) → Ends words old new r → status ≡ status_of r → Statuses words old new status
+statuses_at words old new r status e s = subst (Statuses words old new) (sym s) (statuses words old new r e)

@@ -1,0 +1,5 @@
+pub mod Verdict
+pub mod Ranges
+pub mod Refused
+pub mod Top
+pub mod Promises

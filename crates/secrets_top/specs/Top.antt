@@ -1,0 +1,123 @@
+-- What the program does: the words, what the files and the sink tell before and after, and the status
+-- (docs/theorems.md, "The program stt_secrets").
+use Rattle.std.specs.Prelude.{◌≡◌, ◌≢◌, ◌⊎◌, ℕ, List, [], ◌∷◌, Option, Some, None, Result, Ok, Err}
+use Rattle.elf_loader.specs.Image.{ImageText}
+use Rattle.machine_desc.specs.Description.{description_of}
+use Rattle.machine_desc.specs.declared.Desc.{Desc}
+use Rattle.machine_desc.specs.declared.fault.DescFault.{DescFault}
+use Rattle.tool_io.specs.Outside.{Told, Shelf, Wrote, WrotePart, SameCounts, NameFailed, Rose}
+use Rattle.run_inputs.specs.Input.{description_max, from_file, HasDesc, MayHold, MayBeLonger, IsRead, Refuses}
+use Rattle.run_inputs.specs.Told.{World, IsFaultyDescription, TellsDesc, IsFaultyImage, TellsImage, MayBeFaulty}
+use Rattle.run_inputs.specs.declared.refusal.Refusal.{Refusal}
+use Rattle.run_inputs.specs.declared.refusal.Refusal.TheVariants.{Words, Write, Memory}
+use Rattle.secret_words.specs.Words.{WantedText, wanted_of}
+use Rattle.secrets_top.specs.declared.ranges.FaultyRange.{FaultyRange}
+use Rattle.secrets_top.specs.declared.refusal.Unjudged.{Unjudged}
+use Rattle.secrets_top.specs.declared.refusal.Unjudged.TheVariants.{Range, Refused}
+use Rattle.secrets_top.specs.declared.verdict.Verdict.{Verdict}
+use Rattle.secrets_top.specs.Ranges.{first_faulty}
+use Rattle.secrets_top.specs.Verdict.{verdict_of, verdict_text, verdict_status}
+
+-- ---- What is wanted
+
+-- the words want this, of which that holds
+abbrev pub Wants : List (List ℕ) → (WantedText → Type 0) → Type 0
+Wants words P = (wanted : WantedText) × (wanted_of words ≡ Some wanted) × P wanted
+
+-- a description is read, and then an image under it
+pub record Inputs (wanted : WantedText) (old new : Shelf) : Type 0 where
+  pub desc : Desc
+  pub image : ImageText
+  pub read : IsRead old new (Some wanted.description) (from_file wanted.image ∷ []) (Some desc) (image ∷ [])
+
+-- what is wrong with the ranges of an image
+abbrev pub fault_in : WantedText → ImageText → Option FaultyRange
+fault_in wanted image = first_faulty image 0 wanted.secret
+
+-- and no range has a fault
+pub record Accepted (wanted : WantedText) (old new : Shelf) : Type 0 where
+  pub inputs : Inputs wanted old new
+  pub ranges : fault_in wanted inputs.image ≡ None
+
+-- what is told of the run that is wanted
+abbrev pub verdict_in : WantedText → Desc → ImageText → Verdict
+verdict_in wanted d image = verdict_of d image wanted.secret wanted.cycles
+
+abbrev pub verdict_on : {wanted : WantedText} {old new : Shelf} → Accepted wanted old new → Verdict
+verdict_on {wanted} a = verdict_in wanted a.inputs.desc a.inputs.image
+
+-- why reading is refused: for the description, or for the image under it
+abbrev pub RefusedInputs : WantedText → Shelf → Shelf → Refusal → Type 0
+RefusedInputs wanted old new refusal = Refuses (Some wanted.description) (from_file wanted.image ∷ []) old new refusal
+
+-- how a run is told: with its whole text, with a part of it where the sink failed, or with nothing where memory was wanting
+abbrev pub Performs : Verdict → Told → Told → Result Verdict Unjudged → Type 0
+Performs verdict out out' (Ok told) = Wrote (verdict_text verdict) out out' × (told ≡ verdict)
+Performs verdict out out' (Err (Refused Write)) = WrotePart (verdict_text verdict) out out'
+Performs verdict out out' (Err (Refused Memory)) = out' ≡ out
+Performs verdict out out' (Err cause) = ⊥
+
+-- how the program ends: what is told is written whole, or in part where the sink failed; or the words want nothing, there was no
+-- memory, what is read or a range of it is refused, and nothing is written
+abbrev pub Ends : List (List ℕ) → World → World → Result Verdict Unjudged → Type 0
+Ends words old new (Ok told) = Wants words (λ wanted. (a : Accepted wanted old.files new.files) × Wrote (verdict_text (verdict_on a)) old.out new.out × (told ≡ verdict_on a))
+Ends words old new (Err (Range faulty)) =
+    Wants words (λ wanted. (inputs : Inputs wanted old.files new.files) × (fault_in wanted inputs.image ≡ Some faulty)) × (new.out ≡ old.out)
+Ends words old new (Err (Refused Write)) = Wants words (λ wanted. (a : Accepted wanted old.files new.files) × WrotePart (verdict_text (verdict_on a)) old.out new.out)
+Ends words old new (Err (Refused Words)) = (wanted_of words ≡ None) × SameCounts old.files new.files × (new.out ≡ old.out)
+Ends words old new (Err (Refused Memory)) = SameCounts old.files new.files × (new.out ≡ old.out)
+Ends words old new (Err (Refused refusal)) = Wants words (λ wanted. RefusedInputs wanted old.files new.files refusal) × (new.out ≡ old.out)
+
+-- ---- The statuses
+
+-- the status of a text that is written whole
+abbrev pub IsTold : ℕ → Type 0
+IsTold status = (status ≡ 0) ⊎ (status ≡ 1) ⊎ (status ≡ 3)
+
+-- the status of a refusal that writes nothing
+abbrev pub IsRefusal : ℕ → Type 0
+IsRefusal status = (status ≡ 2) ⊎ (status ≡ 4) ⊎ (status ≡ 5) ⊎ (status ≡ 6) ⊎ (status ≡ 8)
+
+-- what each status says, and when it comes
+pub record Statuses (words : List (List ℕ)) (old new : World) (status : ℕ) : Type 0 where
+  -- 0, 1 and 3: the whole text is written, with the status of what it tells: nothing shows and the run ended, something shows, or
+  -- nothing does within the budget
+  pub told : IsTold status → Wants words (λ wanted. (a : Accepted wanted old.files new.files) × Wrote (verdict_text (verdict_on a)) old.out new.out
+      × (status ≡ verdict_status (verdict_on a)))
+  -- 2 only where the words want nothing, or a range isn't within the image's memory or touches its code; and there always, but for
+  -- a failed read and want of memory
+  pub two : status ≡ 2 → (wanted_of words ≡ None)
+      ⊎ Wants words (λ wanted. (inputs : Inputs wanted old.files new.files) × (faulty : FaultyRange) × (fault_in wanted inputs.image ≡ Some faulty))
+  pub no_wish : wanted_of words ≡ None → (status ≡ 2) ⊎ (status ≡ 8)
+  pub faulty_range : (wanted : WantedText) (desc : Option Desc) (image : ImageText) (faulty : FaultyRange) → wanted_of words ≡ Some wanted
+      → TellsDesc old.files (Some wanted.description) desc → TellsImage old.files desc (from_file wanted.image) image → fault_in wanted image ≡ Some faulty
+      → (status ≡ 2) ⊎ ((status ≡ 6) ⊎ (status ≡ 8))
+  -- 4 only where the description is too long or at fault, and there always, but for a failed read and want of memory
+  pub four : status ≡ 4 → Wants words (λ wanted. MayBeLonger old.files wanted.description description_max
+      ⊎ ((text : List ℕ) × (fault : DescFault) × MayHold old.files wanted.description description_max text × (description_of text ≡ Err fault)))
+  pub faulty_description : (wanted : WantedText) (text : List ℕ) → wanted_of words ≡ Some wanted → old.files.content wanted.description ≡ Some text
+      → IsFaultyDescription text → (status ≡ 4) ⊎ ((status ≡ 6) ⊎ (status ≡ 8))
+  -- 5 only where the image is too long or at fault and the description isn't, and there always, but for a failed read and want of
+  -- memory
+  pub five : status ≡ 5 → Wants words (λ wanted. (desc : Option Desc) × HasDesc old.files (Some wanted.description) desc
+      × MayBeFaulty old.files desc (from_file wanted.image))
+  pub faulty_image : (wanted : WantedText) (desc : Option Desc) (file : List ℕ) → wanted_of words ≡ Some wanted → TellsDesc old.files (Some wanted.description) desc
+      → old.files.content wanted.image ≡ Some file → IsFaultyImage (from_file wanted.image) file desc → (status ≡ 5) ⊎ ((status ≡ 6) ⊎ (status ≡ 8))
+  -- 6 only where the count of the description's name rose, or that of the image's after the description was read and had no fault;
+  -- any other status leaves all counts of the files
+  pub six : status ≡ 6 → Wants words (λ wanted. NameFailed wanted.description old.files new.files
+      ⊎ ((desc : Option Desc) × HasDesc old.files (Some wanted.description) desc × NameFailed wanted.image old.files new.files))
+  pub not_six : status ≢ 6 → SameCounts old.files new.files
+  -- 7 only where the count of the sink rose, with a part of the text written; any other status leaves that count
+  pub seven : status ≡ 7 → Wants words (λ wanted. (a : Accepted wanted old.files new.files) × WrotePart (verdict_text (verdict_on a)) old.out new.out)
+  pub not_seven : status ≢ 7 → new.out.faults ≡ old.out.faults
+  -- the other refusals write nothing
+  pub nothing : IsRefusal status → new.out ≡ old.out
+  -- where the words, the description, the image and the ranges have no fault and no count rose, the whole text is written with its
+  -- status, or memory was wanting and nothing is
+  pub complete : (wanted : WantedText) (d : Desc) (image : ImageText) → wanted_of words ≡ Some wanted
+      → TellsDesc old.files (Some wanted.description) (Some d) → TellsImage old.files (Some d) (from_file wanted.image) image → fault_in wanted image ≡ None
+      → ¬ Rose (old.files.faults wanted.description) (new.files.faults wanted.description) → ¬ Rose (old.files.faults wanted.image) (new.files.faults wanted.image)
+      → ¬ Rose old.out.faults new.out.faults
+      → ((status ≡ 8) × (new.out ≡ old.out))
+      ⊎ ((status ≡ verdict_status (verdict_in wanted d image)) × Wrote (verdict_text (verdict_in wanted d image)) old.out new.out)

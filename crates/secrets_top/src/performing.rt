@@ -1,0 +1,77 @@
+//! A run with marks beside it, and what is told of it. All memory is taken before the first cycle, and nothing is written before the
+//! last.
+ghost use Rattle.std.specs.Prelude.{◌≡◌, ◌<◌, ◌+◌, ◌^◌, IfOk};
+ghost use Rattle.elf_loader.specs.Code.{word_at};
+ghost use Rattle.pair_run.specs.Running.{ending_at};
+ghost use Rattle.run_inputs.specs.Loaded.{Fits, loaded};
+ghost use Rattle.secrets_top.specs.Verdict.{verdict_from, verdict_of};
+ghost use Rattle.secrets_top.specs.Top.{Performs};
+
+use crate::refusal::Unjudged;
+use crate::verdict::{Verdict, write_verdict};
+use marked_core::{MarkedCore, first_shown};
+use rename_taint::ByTable;
+use run_inputs::Described;
+use rv_types::{Ending, NoMemory, Piece};
+use secret_marks::SecretRange;
+use std::alloc::Global;
+use tool_io::Sink;
+use window_model::empty_row;
+
+/// The core that the program runs: its registers are renamed by a table.
+type Core = MarkedCore<ByTable>;
+
+fn ending_at(core: &Core) -> Ending
+    ensures { result ≡ ending_at core.now.machine }
+{
+    Ending {
+        end: core.end(),
+        retired: core.retired(),
+        cycles: Some(core.cycles()),
+    }
+}
+
+// Runs a core for at most so many cycles, until something shows.
+fn watch(core: &mut Core, cycles: u32) -> Verdict
+    requires few { core.old.machine.cycle + cycles < 2 ^ 32 }
+    ensures { result ≡ verdict_from core.old.desc (word_at core.old.code) cycles core.old.machine core.old.marks }
+{
+    let mut row = empty_row();
+    let mut piece = Piece::new();
+    match first_shown(core, &mut row, &mut piece, cycles) {
+        Some(first) => Verdict::Shown(first),
+        None => Verdict::Hidden(ending_at(core)),
+    }
+}
+
+// What is told of an image's run. The one error is want of memory, before the first cycle.
+fn judge(
+    alloc: Global,
+    read: Described,
+    secret: &[SecretRange],
+    cycles: u32,
+) -> Result<Verdict, NoMemory>
+    requires { Fits read.desc read.image.ram }
+    ensures { IfOk result (λ v. v ≡ verdict_of read.desc (loaded read.image) secret.now cycles) }
+{
+    let Described { desc, image } = read;
+    let mut core = Core::new(alloc, &desc, image, secret)?;
+    Ok(watch(&mut core, cycles))
+}
+
+/// Tells what a run shows. Errors: `Memory`, before anything is written; `Write`, only where the sink's count of faults rose, with a
+/// part of the text written.
+pub fn perform<O: Sink>(
+    alloc: Global,
+    read: Described,
+    secret: &[SecretRange],
+    cycles: u32,
+    out: &mut O,
+) -> Result<Verdict, Unjudged>
+    requires { Fits read.desc read.image.ram }
+    ensures { Performs (verdict_of read.desc (loaded read.image) secret.now cycles) (O.told out.old) (O.told out.new) result }
+{
+    let verdict = judge(alloc, read, secret, cycles)?;
+    write_verdict(&verdict, out)?;
+    Ok(verdict)
+}

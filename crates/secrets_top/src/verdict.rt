@@ -1,0 +1,77 @@
+//! What is told of a run: nothing of a secret shows, or what shows first (`docs/formats.md`, "The program stt_secrets").
+//!
+//! A put has one line, and nothing here takes memory.
+ghost use Rattle.std.specs.Prelude.{◌≡◌};
+ghost use Rattle.tool_io.specs.Outside.{Writes};
+ghost use Rattle.secrets_top.specs.Verdict.{what_shows, shown_line, verdict_text, verdict_status};
+
+use line_text::{Line, write_end};
+use rv_types::{Ending, Kind};
+use secret_marks::FirstShown;
+use tool_io::{Failed, Sink};
+
+/// What is told of a run.
+#[derive(Clone, Copy, Debug, PartialEq, Eq)]
+pub enum Verdict {
+    /// Nothing shows in the run, which ended so, or not within its budget.
+    Hidden(Ending),
+    /// This shows first.
+    Shown(FirstShown),
+}
+
+// The word of what shows of an instruction of this kind. Of a kind that isn't named nothing shows but where a branch or JALR goes.
+fn what_shows(kind: Kind) -> &'static [u8]
+    ensures { result.now ≡ what_shows kind }
+{
+    match kind {
+        Kind::Load | Kind::Store => b"access",
+        Kind::Div => b"division",
+        Kind::Call => b"call",
+        _ => b"branch",
+    }
+}
+
+#[tactic(auto, unfolding(crate::specs::Verdict::shown_line))]
+fn shown_line(first: &FirstShown) -> Line
+    ensures { result ≡ shown_line first.now }
+{
+    let mut line = Line::new();
+    line.add(b"shown ");
+    line.add_decimal_word(first.cycle);
+    line.add(b" ");
+    line.add(what_shows(first.shown.kind));
+    line.add(b" ");
+    line.add_decimal(first.shown.serial);
+    line.add(b" ");
+    line.add_hex8(first.shown.pc);
+    line.add(b"\n");
+    line
+}
+
+fn write_hidden<S: Sink>(ending: &Ending, out: &mut S) -> Result<(), Failed>
+    ensures { Writes (verdict_text (Verdict.Hidden ending.now)) (S.told out.old) (S.told out.new) result }
+{
+    out.put(b"hidden\n")?;
+    write_end(ending, out)
+}
+
+/// Writes what is told of a run, one put a line. Error: `Failed`, only where the sink's count of faults rose; then a prefix of the
+/// text was appended, maybe none of it.
+pub fn write_verdict<S: Sink>(verdict: &Verdict, out: &mut S) -> Result<(), Failed>
+    ensures { Writes (verdict_text verdict.now) (S.told out.old) (S.told out.new) result }
+{
+    match verdict {
+        Verdict::Hidden(ending) => write_hidden(ending, out),
+        Verdict::Shown(first) => out.put(shown_line(first).as_slice()),
+    }
+}
+
+/// The status of what is told (`docs/formats.md`, "Statuses").
+pub fn verdict_status(verdict: &Verdict) -> u8
+    ensures { result ≡ verdict_status verdict.now }
+{
+    match verdict {
+        Verdict::Hidden(ending) => { if ending.end.is_some() { 0 } else { 3 } }
+        Verdict::Shown(_) => 1,
+    }
+}
