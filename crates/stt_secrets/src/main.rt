@@ -3,12 +3,12 @@
 //! `main` hands the words, the host's files and the standard streams to `secrets_top`, which does all the rest.
 #![tactic(auto)]
 
+use secrets_top::secrets_top;
 use std::alloc::Global;
 use std::io::ErrorKind;
 use std::process::ExitCode;
 use std::rt::Env;
 use std::{env, io};
-use secrets_top::secrets_top;
 use tool_io::{RealFiles, RealSink};
 
 /// The status where there is no memory for the words.
