@@ -15,14 +15,14 @@ cdef class Telling(Replay):
     cdef public list loads, held_now
     cpdef step(self, Row row)
     @cython.locals(value=Value, source=Retired, place=cython.Py_ssize_t)
-    cpdef bint hidden(self, Item item)
+    cpdef bint hidden(self, Item item) except? -1
     @cython.locals(value=Value, source=Retired)
-    cpdef bint hidden_source(self, Item item, long long place)
-    cpdef bint reaches(self, Item item)
+    cpdef bint hidden_source(self, Item item, long long place) except? -1
+    cpdef bint reaches(self, Item item) except? -1
     @cython.locals(item=Item, found=list)
     cpdef list ready(self)
     @cython.locals(item=Item, hidden=list, squashed=cython.bint)
-    cpdef bint resolve(self, list events)
+    cpdef bint resolve(self, list events) except? -1
     @cython.locals(store=Item, violated=Item, stores=list)
     cpdef Item clear(self, list events)
     @cython.locals(item=Item, words=list)

@@ -26,7 +26,7 @@ cdef class Valued(Pipeline):
     cpdef compare(self, Item item, list step)
     @cython.locals(source=Retired)
     cpdef execute(self, Value value)
-    cpdef bint faults(self, Item item)
+    cpdef bint faults(self, Item item) except? -1
     @cython.locals(value=Value)
     cpdef resolve(self, Item item, outcome)
     cpdef leave(self, Item item)

@@ -20,9 +20,9 @@ cdef class FrontEnd:
     @cython.locals(pipeline=Pipeline, kind=str, first=Item)
     cpdef to_rename(self, Item item)
     @cython.locals(pipeline=Pipeline, width=cython.longlong, first=Item)
-    cpdef bint has_room(self)
+    cpdef bint has_room(self) except? -1
     @cython.locals(first=Item)
-    cpdef bint call_is_next(self)
+    cpdef bint call_is_next(self) except? -1
     cpdef before_rename(self, serial)
     @cython.locals(front=Item)
     cpdef after_rename(self, long long count)

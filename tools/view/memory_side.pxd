@@ -6,7 +6,7 @@ cdef class Cache:
     cdef public long long line, ways
     cdef public list sets
     cpdef list set_of(self, long long line)
-    cpdef bint has(self, long long line)
+    cpdef bint has(self, long long line) except? -1
     cpdef touch(self, long long line)
     cpdef object fill(self, long long line)
 

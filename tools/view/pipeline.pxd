@@ -39,20 +39,20 @@ cdef class Pipeline:
     cdef public Cache cache, second
     cdef public Divider divider
     @cython.locals(first=Item)
-    cpdef bint is_hidden(self, Item root)
+    cpdef bint is_hidden(self, Item root) except? -1
     cpdef Item entry(self, list words)
     @cython.locals(miss=Miss)
     cpdef fill(self, long long line)
     @cython.locals(consumer=Item)
     cpdef complete(self, Item item)
-    cpdef bint faults(self, Item item)
-    cpdef bint is_cleared(self, Item store)
+    cpdef bint faults(self, Item item) except? -1
+    cpdef bint is_cleared(self, Item store) except? -1
     cpdef leave_shadows(self, Item item)
     cpdef resolve(self, Item item, outcome)
     cpdef squash(self, Item item)
     cpdef clear(self, Item store)
-    cpdef long long bit_of(self, Item load)
-    cpdef bint may_pass(self, Item load)
+    cpdef long long bit_of(self, Item load) except? -1
+    cpdef bint may_pass(self, Item load) except? -1
     cpdef leave(self, Item item)
     cpdef retire(self, Item item)
     cpdef write(self, Item item, line, answer)
@@ -68,7 +68,7 @@ cdef class Pipeline:
     cpdef find_sources(self, Item item)
     @cython.locals(kind=str)
     cpdef enter_lists(self, Item item)
-    cpdef bint hides(self, Item item)
+    cpdef bint hides(self, Item item) except? -1
     @cython.locals(item=Item)
     cpdef Item fetch(self, long long pc)
 

@@ -25,14 +25,14 @@ cdef class Reasons:
     cpdef renamed(self, Item item)
     cpdef rouse(self, Item item, long long cycle)
     @cython.locals(cause=Item)
-    cpdef bint issue_whole(self, Item item, bint goes, long long cycle)
-    cpdef bint is_held_back(self, Item writer)
+    cpdef bint issue_whole(self, Item item, bint goes, long long cycle) except? -1
+    cpdef bint is_held_back(self, Item writer) except? -1
     @cython.locals(writer=Item)
     cpdef Item held_back(self, Item item)
     @cython.locals(waits=list, lacks=cython.bint, asleep=cython.bint, part=str, writer=Item)
-    cpdef bint issue_parts(self, Item item, told)
+    cpdef bint issue_parts(self, Item item, told) except? -1
     cpdef to_issue_part(self, Item item, str part, Item writer, bint goes)
-    cpdef bint may_be_held_back(self, Item writer, bint goes)
+    cpdef bint may_be_held_back(self, Item writer, bint goes) except? -1
     cpdef keep(self, Item item, bint goes, reason, Item cause)
     @cython.locals(kind=str, held=Item, root=Item)
     cpdef tuple to_issue(self, Item item, bint goes)
@@ -44,13 +44,13 @@ cdef class Reasons:
     @cython.locals(stores=list)
     cpdef tuple tried(self, Item load, bint goes)
     @cython.locals(left=cython.longlong)
-    cpdef long long lacks(self, Item load)
+    cpdef long long lacks(self, Item load) except? -1
     @cython.locals(stores=list, store=Item, found=list)
     cpdef list may_share(self, Item load)
     @cython.locals(expected=cython.longlong)
     cpdef retire(self, list retired, bint ends)
     @cython.locals(turns=cython.longlong, stores=cython.longlong, item=Item, kind=str)
-    cpdef long long to_retire(self)
+    cpdef long long to_retire(self) except? -1
     @cython.locals(head=Item, squash=Item)
     cpdef explain_idle(self, bint ends)
     cpdef explain_head(self)

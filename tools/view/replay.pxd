@@ -21,7 +21,7 @@ cdef class Replay:
     cdef public bint asked, quiet, skips
     @cython.locals(pipeline=Pipeline, phases=tuple, counted=cython.bint, told=cython.longlong)
     cpdef step(self, Row row)
-    cpdef bint nothing_due(self, long long cycle)
+    cpdef bint nothing_due(self, long long cycle) except? -1
     cpdef repeat(self, long long cycle)
     @cython.locals(pipeline=Pipeline, cycle=cython.longlong, squashed=cython.bint, violated=Item, fetched=list, words=list)
     cpdef take(self, Row row, tuple phases)
@@ -30,7 +30,7 @@ cdef class Replay:
     @cython.locals(item=Item)
     cpdef complete(self, list items)
     @cython.locals(resolved=Item, squashes=cython.bint)
-    cpdef bint resolve(self, list events)
+    cpdef bint resolve(self, list events) except? -1
     cpdef squash(self, Item item, told, dropped)
     @cython.locals(store=Item, violated=Item)
     cpdef Item clear(self, list events)

@@ -6,7 +6,7 @@ from view.pipeline cimport Item, Pipeline, Wait
 cdef class Late:
     cdef public object reason
     cdef public long long slots, since
-    cpdef long long left(self, long long charged)
+    cpdef long long left(self, long long charged) except? -1
 
 
 cdef class Slots:
@@ -26,7 +26,7 @@ cdef class Slots:
     @cython.locals(divides=cython.bint, held=dict, before=Late, since=cython.longlong, slots=cython.longlong)
     cpdef issue(self, Item item)
     @cython.locals(began=cython.longlong, waited=cython.longlong)
-    cpdef long long divide(self, Item item, long long slots, long long since)
+    cpdef long long divide(self, Item item, long long slots, long long since) except? -1
     @cython.locals(item=Item, head=Item)
     cpdef retire(self, list retired, bint ends)
     cpdef tuple empty(self, list retired)
