@@ -18,7 +18,7 @@ CERTIFIED, EXPOSED = "certified", "exposed"
 
 
 class Row(NamedTuple):
-    """A run that is over: the program and what built it, its secret, the setting, the answer, and the image's file."""
+    """A run that is over: the program and its folder, which is named for what built it, its secret, the setting, the answer, and the image's file."""
     program: str
     build: str
     secret: str
@@ -57,13 +57,13 @@ def rows(plan):
 
 
 def row_of(plan, run):
-    build, _, program = run.program.rpartition("/")
+    build, program = run.image.split("/")[-2:]
     values = settings.parsed(text(plan.path(run.description)), run.description)
     try:
         answer = secrecy.read_answer(text(plan.path(run.result)))
     except Fault:
         raise Fault(f"{plan.path(run.result)} is no answer. Remove it, and run again") from None
-    return Row(program, build, secret_of(run), run.base, run.values, settings.told(values), answer, run.image)
+    return Row(os.path.splitext(program)[0], build, secret_of(run), run.base, run.values, settings.told(values), answer, run.image)
 
 
 def secret_of(run):
@@ -117,7 +117,7 @@ def as_markdown(found):
     several = len({description for description, *_ in columns}) > 1
     cells = {(row.program, row.build, row.secret, row.setting()): cell(row) for row in found}
     firsts = list(dict.fromkeys((row.program, row.build, row.secret) for row in found))
-    titles = ["Program", "Built by", "Secret"] + [heading(column, several) for column in columns]
+    titles = ["Program", "Build", "Secret"] + [heading(column, several) for column in columns]
     lines = [line(titles), "|" + "---|" * len(titles)]
     lines += [line([f"`{program}`", build, secret, *(cells.get((program, build, secret, column), "") for column in columns)])
               for program, build, secret in firsts]
