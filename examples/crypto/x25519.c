@@ -104,17 +104,23 @@ static void swap(number *a, number *b, u32 bit) {
   }
 }
 
-/* Brings a number below 2^255 - 19: bit 255 counts 19, and then 19 more reach that bit exactly where the modulus has to go. */
+/* The highest bit of a number. The empty instruction keeps from the compiler that it is a sign: clang makes a branch of that. */
+static u32 highest(const number *a) {
+  u32 bit = a->word[7] >> 31;
+  asm("" : "+r"(bit));
+  return bit;
+}
+
+/* Brings a number below 2^255 - 19: bit 255 counts 19, and with 19 more a number reaches that bit exactly where the modulus has to go. */
 static void reduce(number *a) {
   number more;
-  u32 high = a->word[7] >> 31;
+  u32 high = highest(a);
   a->word[7] &= 0x7fffffff;
   increase(a, 19 * high);
   more = *a;
   increase(&more, 19);
-  high = more.word[7] >> 31;
-  more.word[7] &= 0x7fffffff;
-  swap(a, &more, high);
+  increase(a, 19 * highest(&more));
+  a->word[7] &= 0x7fffffff;
 }
 
 /* Two points of the ladder, whose difference is always the first coordinate x. */

@@ -113,7 +113,7 @@ class Hart:
             return self._call(word)
         if operation.name in ("illegal", "ebreak"):
             return self._trap(ILLEGAL if operation.name == "illegal" else BREAKPOINT)
-        outcome = effect(operation, self.pc, *(self.registers[source] for source in operation.code.sources))
+        outcome = effect(operation, self.pc, *[self.registers[source] for source in operation.code.sources])
         if outcome.misaligned:
             return self._trap(JUMP_MISALIGNED)
         if operation.code.kind in (LOAD, STORE):

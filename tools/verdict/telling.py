@@ -7,7 +7,7 @@ address goes to the cache whether the store covers it or not, or waits as long a
 isn't cleared (docs/machine.md). An equal pair of traces is telling where something was held on an operand made of the differing bytes,
 or a load of these bytes was, and by taint alone; else it is vacuous. Under the defence `hold` the same is asked of what waits for nothing
 but results of loads that are held back."""
-from typing import NamedTuple
+from collections import namedtuple
 
 from view.description import HOLD
 from view.instruction import BRANCH, CALL, DIVISION, JALR, LOAD, STORE
@@ -39,24 +39,10 @@ class Held:
         self.items[item.serial] = item
 
 
-class Shown(NamedTuple):
+class Shown(namedtuple("Shown", "times cycle")):
     """An instruction that took effect on an operand made of the differing bytes: how often, and first in which cycle."""
-    times: int
-    cycle: int
 
-
-def nothing(*told):
-    return None
-
-
-class Unasked:
-    """Stands where a replay counts or checks what a verdict doesn't ask for: whatever it is told, it does nothing."""
-
-    due = unexplained = presumed = ()
-    behind = None
-
-    def __getattr__(self, name):
-        return nothing
+    __slots__ = ()
 
 
 class Telling(Replay):
@@ -65,10 +51,9 @@ class Telling(Replay):
     are the rules of docs/machine.md by which a load waits for stores."""
 
     def __init__(self, trace, image, description, differing, thorough=True):
-        super().__init__(trace, image, description, Valued(image, description, differing))
+        self.valued = Valued(image, description, differing)
+        super().__init__(trace, image, description, self.valued, asked=thorough)
         self.rules, self.thorough = Reasons(self.pipeline), thorough
-        if not thorough:
-            self.reasons = self.checks = self.front = self.slots = Unasked()
         self.held, self.shown, self.loads = {}, {}, []
         self.held_now, self.was_empty, self.skips = [], False, False
         for _ in self.items():
@@ -83,7 +68,7 @@ class Telling(Replay):
                 held.add(item)
             return
         self.held_now = []
-        super().step(row)
+        Replay.step(self, row)
         if not self.thorough:
             self.pipeline.awake.clear()
         self.was_empty = not row.events
@@ -95,24 +80,31 @@ class Telling(Replay):
 
     def marked(self, item):
         """For each source, whether its value comes from the differing bytes."""
-        return self.pipeline.values[item.serial].marked
+        return self.valued.values[item.serial].marked
 
     def hidden(self, item):
         """Whether a source is made of the differing bytes, and tainted."""
-        point = self.pipeline.point
-        for root, source in zip(item.roots, self.pipeline.values[item.serial].sources):
-            if root is not None and root.serial > point and source.mark:
+        if item.youngest_root is None or not self.pipeline.is_hidden(item.youngest_root):
+            return False
+        value = self.valued.values[item.serial]
+        for place in range(len(value.sources)):
+            source = value.sources[place]
+            if source.mark and self.pipeline.is_hidden(item.roots[place]):
                 return True
         return False
 
     def hidden_source(self, item, place):
-        return self.pipeline.is_hidden(item.roots[place]) and self.pipeline.values[item.serial].sources[place].mark
+        if not self.pipeline.is_hidden(item.roots[place]):
+            return False
+        value = self.valued.values[item.serial]
+        source = value.sources[place]
+        return source.mark
 
     @property
     def nothing_is_hidden(self):
         """Whether everything in flight is visible: then nothing is held by taint, nor held back."""
-        window = self.pipeline.window
-        return not window or self.pipeline.point >= window[-1].serial
+        last = self.pipeline.window[-1] if self.pipeline.window else None
+        return last is None or self.pipeline.point >= last.serial
 
     # ---- Phases
 
@@ -120,11 +112,11 @@ class Telling(Replay):
         hidden = [] if self.nothing_is_hidden else [item for item in self.pipeline.controls if self.hidden(item)]
         for words in events[:1]:
             item = self.pipeline.entry(words)
-            self.shows(item, self.pipeline.values[item.serial].is_marked)
-        squashed = super().resolve(events)
+            self.shows(item, self.valued.values[item.serial].is_marked)
+        squashed = Replay.resolve(self, events)
         for item in hidden:
             if item.done is not None and item.resolved is None and item.squashed is None:
-                self.holds(item, SHOWS[item.code.kind])
+                self.holds(item, SHOWS[item.kind])
         return squashed
 
     def clear(self, events):
@@ -132,30 +124,32 @@ class Telling(Replay):
         for words in events[:1]:
             store = self.pipeline.entry(words)
             self.shows(store, any(self.marked(store)[:1]), CLEARING)
-        violated = super().clear(events)
+        violated = Replay.clear(self, events)
         for store in stores:
             self.holds(store, CLEARING)
         return violated
 
     def retire(self, events, ends):
         for words in events:
-            item = self.pipeline.entry(words) if words[0] == "ret" else item
-            if words[0] == "ret" and item.code.kind == CALL:
-                registers = arguments(self.pipeline.registers[A7])
-                self.shows(item, any(self.pipeline.marked_registers[register] for register in registers))
-            elif words[0] == "ret" and item.code.kind == STORE:
+            if words[0] != "ret":
+                continue
+            item = self.pipeline.entry(words)
+            if item.kind == CALL:
+                registers = arguments(self.valued.registers[A7])
+                self.shows(item, any([self.valued.marked_registers[register] for register in registers]))
+            elif item.kind == STORE:
                 self.shows(item, self.marked(item)[0])
-        super().retire(events, ends)
+        Replay.retire(self, events, ends)
 
     def issue(self, events):
         before = None if self.nothing_is_hidden else self.before_issue()
         for step in self.steps(events):
             item = self.pipeline.entry(step[0])
-            if item.code.kind == LOAD:
+            if item.kind == LOAD:
                 self.load(item, bool(lines_of(step)))
-            elif item.code.kind == DIVISION:
-                self.shows(item, self.pipeline.values[item.serial].is_marked)
-        super().issue(events)
+            elif item.kind == DIVISION:
+                self.shows(item, self.valued.values[item.serial].is_marked)
+        Replay.issue(self, events)
         if before is not None:
             self.after_issue(before)
 
@@ -163,16 +157,27 @@ class Telling(Replay):
         """What is held in this cycle unless it issues: entries with a hidden operand, and loads that reach the bytes, but for those that stores
         keep anyway; and each load that waits for a store of hidden address, with that store."""
         pipeline = self.pipeline
-        ready = [item for item in pipeline.waiting if not item.awaits]
+        ready = self.ready()
         hidden = [item for item in ready if self.hidden(item)]
-        reaching = [item for item in ready if item.code.kind == LOAD and pipeline.is_hidden(item.roots[0])
-                    and item not in hidden and pipeline.loads_marked(item)]
-        held = [item for item in hidden + reaching if item.code.kind in (LOAD, DIVISION) and not self.uses_what_is_held_back(item)
+        reaching = [item for item in ready if self.reaches(item) and item not in hidden]
+        held = [item for item in hidden + reaching if item.kind in (LOAD, DIVISION) and not self.uses_what_is_held_back(item)
                 and not self.is_kept(item)]
         stores = {store.serial for store in pipeline.open_stores if self.hidden_source(store, 0)}
-        loads = [item for item in ready if item.code.kind == LOAD] if stores else []
+        loads = [item for item in ready if item.kind == LOAD] if stores else []
         behind = [(load, store) for load in loads for store in [self.awaited_store(load)] if store is not None and store.serial in stores]
         return set(hidden), held, behind
+
+    def ready(self):
+        """The entries that haven't issued and wait for no writer: loads, and what flows from loads."""
+        found = []
+        for item in self.pipeline.waiting:
+            if not item.awaits and (item.youngest_root is not None or item.kind == LOAD):
+                found.append(item)
+        return found
+
+    def reaches(self, item):
+        """Whether it is a load of hidden address that would load one of these bytes."""
+        return item.kind == LOAD and self.pipeline.is_hidden(item.roots[0]) and self.valued.loads_marked(item)
 
     def awaited_store(self, load):
         """The store of hidden address without data for which this load waits, and for nothing before that."""
@@ -182,14 +187,14 @@ class Telling(Replay):
         return store if reason == STORE_TAINT else None
 
     def uses_what_is_held_back(self, item):
-        return self.pipeline.description.defence == HOLD and any(map(self.rules.is_held_back, item.sources))
+        return self.rules.held_back(item) is not None
 
     def after_issue(self, before):
         """Counts what of it was held."""
         hidden, held, behind = before
         for item in held:
             if item.issued is None:
-                self.holds(item, SHOWS[item.code.kind] if item in hidden else LOAD_OF_THEM)
+                self.holds(item, SHOWS[item.kind] if item in hidden else LOAD_OF_THEM)
         if self.pipeline.description.defence == HOLD:
             self.hold_back()
         for store in {store.serial: store for load, store in behind if load.issued is None}.values():
@@ -197,26 +202,26 @@ class Telling(Replay):
 
     def is_kept(self, item):
         """It is a load that older stores would keep, were nothing tainted."""
-        return item.code.kind == LOAD and self.rules.behind_stores(item, taint=False)[0] is not None
+        return item.kind == LOAD and self.rules.behind_stores(item, taint=False)[0] is not None
 
     def hold_back(self):
         """Counts what would show the bytes, and waits for results that are held back, and for nothing else."""
         for item in self.pipeline.waiting:
-            if item.code.kind in SHOWS and self.is_held_back(item) and not self.is_kept(item):
-                what = self.would_show(item, [self.pipeline.prospect(source) for source in self.pipeline.values[item.serial].sources])
+            if item.kind in SHOWS and self.is_held_back(item) and not self.is_kept(item):
+                what = self.would_show(item, [self.valued.prospect(source) for source in self.valued.values[item.serial].sources])
                 if what is not None:
                     self.holds(item, what)
 
     def would_show(self, item, sources):
         """What an instruction would show of the bytes with these operands, of which one is none where it can't be told yet."""
-        if item.code.kind == STORE:
-            loads = any(load.code.kind == LOAD and load.serial > item.serial for load in self.pipeline.window)
+        if item.kind == STORE:
+            loads = any(load.kind == LOAD and load.serial > item.serial for load in self.pipeline.window)
             return BEFORE_A_LOAD if loads and sources[0] is not None and sources[0].mark else None
         if None in sources:
             return None
         if any(source.mark for source in sources):
-            return SHOWS[item.code.kind]
-        reads = item.code.kind == LOAD and self.pipeline.would_load_marked(item, sources[0].result)
+            return SHOWS[item.kind]
+        reads = item.kind == LOAD and self.valued.would_load_marked(item, sources[0].result)
         return LOAD_OF_THEM if reads else None
 
     def is_held_back(self, item):
@@ -226,7 +231,7 @@ class Telling(Replay):
 
     def waits_for_a_load(self, item):
         """Whether what it waits for itself is a result that is held back: of a store of version 2 the first part that didn't go."""
-        if item.code.kind != STORE or self.pipeline.description.version == 1:
+        if item.kind != STORE or self.pipeline.description.version == 1:
             return not item.awaits and self.uses_what_is_held_back(item)
         for part, writer in zip(PARTS, item.sources):
             if part not in item.parts:
@@ -236,9 +241,9 @@ class Telling(Replay):
     def load(self, item, accesses):
         """A load that issues: what it shows, what it loads, and which stores it goes to the cache for, covered or not."""
         self.shows(item, self.marked(item)[0])
-        if self.pipeline.loads_marked(item):
+        if self.valued.loads_marked(item):
             self.loads.append(item)
-        for store in self.pipeline.stores_in_flight if accesses else ():
+        for store in self.valued.stores_in_flight if accesses else ():
             if store.serial < item.serial and self.hidden_source(store, 0):
                 self.holds(store, BEFORE_A_LOAD)
 
@@ -251,6 +256,6 @@ class Telling(Replay):
 
     def shows(self, item, marked, what=None):
         if marked:
-            key = item.pc, what or SHOWS[item.code.kind]
+            key = item.pc, what or SHOWS[item.kind]
             times, first = self.shown.get(key, (0, self.pipeline.cycle))
             self.shown[key] = Shown(times + 1, first)

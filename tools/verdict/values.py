@@ -4,8 +4,6 @@ A trace has no values. But an entry computes its result from those of the writer
 and retired memory, as it issues (docs/machine.md, "Writers and roots", "Loads"): so each entry is executed with the event of its issue,
 each part of a store with its own. The run checks itself: the lines, faults, times of divisions and directions of branches that are
 computed have to be those that the trace tells."""
-from typing import NamedTuple
-
 from view import Fault
 from view.instruction import CALL, DIVISION, JALR, LOAD, STORE
 from view.pipeline import ADDRESS_PART, DATA_PART, PREFETCH, Pipeline
@@ -14,27 +12,30 @@ from .hart import JUMP_MISALIGNED, Memory, stored_bytes, system_call
 from .operation import SIZES, WORD, decode, division_time, effect, extend
 
 
-class Retired(NamedTuple):
-    """A register's retired value, and whether it comes from a marked byte."""
-
-    result: int
-    mark: bool
-
-
 NOWHERE = range(0)
 
 
-class Value:
+class Retired:
+    """A register's retired value, and whether it comes from a marked byte."""
+
+    __slots__ = ("result", "mark")
+
+    def __init__(self, result, mark):
+        self.result, self.mark = result, mark
+
+
+class Value(Retired):
     """What an entry computes. `sources` are the values of its operands; `result` is its own, none until it issues, and `mark` whether it
     comes from a marked byte. `address` is that of a load or store, once its base is known, `fault` is then why it would trap, or none, and
     `bytes` the addresses of its access: none where it faults, or its base isn't known. `taken` is whether a branch is."""
 
-    __slots__ = ("operation", "pc", "sources", "result", "mark", "address", "stored", "fault", "taken", "bytes")
+    __slots__ = ("operation", "pc", "sources", "address", "stored", "fault", "taken", "bytes")
 
     def __init__(self, operation, pc, sources):
+        super().__init__(None, False)
         self.operation, self.pc, self.sources = operation, pc, sources
-        self.result = self.address = self.fault = self.taken = None
-        self.mark, self.stored, self.bytes = False, 0, NOWHERE
+        self.address = self.fault = self.taken = None
+        self.stored, self.bytes = 0, NOWHERE
 
     @property
     def size(self):
@@ -57,27 +58,38 @@ class Value:
         return effect(self.operation, self.pc, *operands)
 
 
+def text(events):
+    """Events, by their words."""
+    return " ".join(":".join(words) for words in events)
+
+
 class Valued(Pipeline):
     """A pipeline whose entries have values, by serial. `marks` are the addresses of the bytes that are followed; they move with what is
     computed from them, through registers and memory. What is merely chosen by them, as by a branch, isn't marked. `registers`, `memory`
-    and their marks are the retired ones."""
+    and their marks are the retired ones, `kept` the registers' values with theirs. A compiled class calls its base's methods by their name."""
 
     def __init__(self, image, description, marks):
         super().__init__(image, description)
         self.memory, self.registers = Memory(image.base, image.memory, image.misaligned), [0] * 32
         self.registers[2] = image.base + len(image.memory) - 16 & WORD
         self.marked_bytes, self.marked_registers = dict.fromkeys(marks, True), [False] * 32
-        self.values, self.to_write = {}, []
+        self.kept = [Retired(value, False) for value in self.registers]
+        self.values, self.operations, self.to_write = {}, {}, []
         self.stores_in_flight = []
 
     # ---- Rename
 
     def rename(self, serial, pc):
-        item = super().rename(serial, pc)
-        sources = [self.values[writer.serial] if writer is not None else Retired(self.registers[register], self.marked_registers[register])
-                   for register, writer in zip(item.code.sources, item.sources)]
-        self.values[serial] = Value(decode(self.image.words.get(pc)), pc, sources)
-        if item.code.kind == STORE:
+        item = Pipeline.rename(self, serial, pc)
+        operation = self.operations.get(pc)
+        if operation is None:
+            operation = self.operations[pc] = decode(self.image.words.get(pc))
+        sources, values, written = [], self.values, item.sources
+        for place in range(len(written)):
+            writer = written[place]
+            sources.append(self.kept[item.registers[place]] if writer is None else values[writer.serial])
+        values[serial] = Value(operation, pc, sources)
+        if item.kind == STORE:
             self.stores_in_flight.append(item)
         return item
 
@@ -94,7 +106,7 @@ class Valued(Pipeline):
     # ---- Issue executes
 
     def issue(self, item, step):
-        value, kind = self.values[item.serial], item.code.kind
+        value, kind = self.values[item.serial], item.kind
         if kind == LOAD or kind == DIVISION or len(step) > 1 or len(step[0]) > 2:
             self.compare(item, step)
         if kind == LOAD:
@@ -105,16 +117,16 @@ class Valued(Pipeline):
             self.located(item)
         else:
             self.execute(value)
-        super().issue(item, step)
-        if DATA_PART in item.parts and value.sources[1].result is not None:
-            value.stored = value.sources[1].result
+        Pipeline.issue(self, item, step)
+        if DATA_PART in item.parts:
+            source = value.sources[1]
+            value.stored = value.stored if source.result is None else source.result
 
     def compare(self, item, step):
         """What an entry's issue tells has to be what is computed."""
         told, computed = [words[2:] for words in step if words[0] != PREFETCH], self.told_by_issue(item, step)
         if told != computed:
-            texts = [" ".join(":".join(words) for words in events) for events in (told, computed)]
-            self.differs(item, f"tells {step[0][0]}:{texts[0]}", texts[1])
+            self.differs(item, f"tells {step[0][0]}:{text(told)}", text(computed))
 
     def execute(self, value):
         operands = [source.result or 0 for source in value.sources]
@@ -194,7 +206,7 @@ class Valued(Pipeline):
 
     def faults(self, item):
         """A store that faults isn't safe, which the trace alone doesn't tell."""
-        return super().faults(item) or item.code.kind == STORE and self.values[item.serial].fault is not None
+        return Pipeline.faults(self, item) or item.kind == STORE and self.values[item.serial].fault is not None
 
     def prospect(self, value):
         """What a value that isn't there yet will be, and its mark, where no load has to be waited for; else none."""
@@ -209,30 +221,36 @@ class Valued(Pipeline):
 
     def resolve(self, item, outcome):
         value = self.values[item.serial]
-        computed = "J" if item.code.kind == JALR else "T" if value.taken else "N"
+        computed = "J" if item.kind == JALR else "T" if value.taken else "N"
         if computed != outcome:
             self.differs(item, f"is resolved as {outcome}", computed)
-        super().resolve(item, outcome)
+        Pipeline.resolve(self, item, outcome)
 
     def leave(self, item):
-        super().leave(item)
+        Pipeline.leave(self, item)
         del self.values[item.serial]
-        if item.code.kind == STORE:
+        if item.kind == STORE:
             self.stores_in_flight.remove(item)
 
     def retire(self, item):
         value = self.values[item.serial]
-        super().retire(item)
-        if item.code.destination:
-            self.registers[item.code.destination], self.marked_registers[item.code.destination] = value.result or 0, value.mark
-        if item.code.kind == CALL:
+        Pipeline.retire(self, item)
+        if item.destination:
+            self.keep(item.destination, value.result or 0, value.mark)
+        if item.kind == CALL:
             call = system_call(self.registers, self.memory)
             if call.exit is None:
-                self.registers[10], self.marked_registers[10] = call.answer, False
-        self.to_write = self.lines_of(value) if item.code.kind == STORE else []
-        if item.code.kind == STORE and value.bytes:
+                self.keep(10, call.answer, False)
+        self.to_write = self.lines_of(value) if item.kind == STORE else []
+        if item.kind == STORE and value.bytes:
+            source = value.sources[1]
             self.memory.put(value.address, stored_bytes(value.stored, value.size))
-            self.mark_bytes(value.bytes, value.sources[1].mark)
+            self.mark_bytes(value.bytes, source.mark)
+
+    def keep(self, register, result, mark):
+        """A register is written: its retired value, and whether that comes from a marked byte."""
+        self.registers[register], self.marked_registers[register] = result, mark
+        self.kept[register] = Retired(result, mark)
 
     def mark_bytes(self, addresses, mark):
         """Bytes are written: from now on they are marked, or aren't."""
@@ -244,10 +262,10 @@ class Valued(Pipeline):
 
     def write(self, item, line, answer):
         """Each line of a store is one of those that it writes, in their order."""
-        super().write(item, line, answer)
+        Pipeline.write(self, item, line, answer)
         right, place = self.to_write, len(item.written) - 1
         if right[place:place + 1] != [line]:
-            self.differs(item, f"writes line {line:08x}", " ".join(f"{line:08x}" for line in right))
+            self.differs(item, f"writes line {line:08x}", " ".join([f"{line:08x}" for line in right]))
 
     def differs(self, item, told, computed):
         raise Fault(f"cycle {self.cycle}: entry {item.serial} at {self.image.named(item.pc)} {told}, and {computed} is computed: "

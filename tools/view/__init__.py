@@ -2,7 +2,8 @@
 
 The modules, from the bottom up:
 
-    trace        the text of `trace` as rows of events
+    rows         a line of a trace as the events of a cycle
+    trace        the text of `trace`, line by line
     instruction  what a word of code is to the pipeline: its kind, the registers it reads and writes
     sources      the lines of source files, by the image's line table
     image        an ELF image: its code, its symbols, its sources
@@ -15,9 +16,13 @@ The modules, from the bottom up:
     checks       whether what happens is what the machine's rules ask for
     replay       a whole trace taken through all of these
     spans        what an instruction does in each cycle
+    counts       what is counted over the fetched instructions
     stats, why, listing, difference, konata, o3, drawing, page
                  what each subcommand writes
     command      the words of the command line
+
+Those that go over each event may be compiled (`tools/compile`): the types by which they are stand beside them, in NAME.pxd, and nothing else
+asks for these. `faster` takes the compiled ones where they are there, else PyPy for long traces.
 """
 
 

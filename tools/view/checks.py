@@ -31,7 +31,7 @@ class Checks:
 
     def resolve(self, item, names_told):
         """A branch teaches a counter, a JALR its target unless it faults, and then it drops what is younger."""
-        learns = "bp" if item.code.kind == BRANCH else "bt"
+        learns = "bp" if item.kind == BRANCH else "bt"
         right = [["res", learns], ["res", learns, "sq"]] + ([["res", "sq"]] if learns == "bt" else [])
         if names_told not in right:
             self.tell(f"entry {item.serial}, a {item.code.kind}, is resolved with the events {' '.join(names_told)}")
@@ -65,7 +65,7 @@ class Checks:
 
     def retired(self, item):
         """A store tells what it finds in the cache, a call how much it puts out."""
-        store = item.code.kind == STORE
+        store = item.kind == STORE
         if bool(item.written) != store or (item.output is None) == (item.code.kind == CALL):
             self.tell(f"entry {item.serial}, a {item.code.kind}, retires with the events of another kind")
         if store:

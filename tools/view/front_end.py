@@ -25,7 +25,9 @@ class FrontEnd:
     """
 
     def __init__(self, pipeline, tell):
-        self.pipeline, self.description, self.tell = pipeline, pipeline.description, tell
+        self.pipeline, self.tell, description = pipeline, tell, pipeline.description
+        self.width, self.rob, self.stations = description.fetch_width, description.rob, description.stations
+        self.loads, self.stores, self.room = description.loads, description.stores, description.queue
         self.rename, self.fetch, self.stalls = Counter(), Counter(), []
         self.fetching, self.last_rename, self.last_fetch = True, None, None
 
@@ -37,33 +39,39 @@ class FrontEnd:
         """A cycle in which nothing happens, as in the one before: both stop short as they did."""
         self.count(self.rename, self.last_rename)
         self.count(self.fetch, self.last_fetch)
-        if self.stalls and self.stalls[-1].last == cycle - 1:
-            self.stalls[-1].last = cycle
+        stall = self.stalls[-1] if self.stalls else None
+        if stall is not None and stall.last == cycle - 1:
+            stall.last = cycle
 
     def to_rename(self, item):
         """The reason why the front of the queue can't go, None where it can."""
-        pipeline, description, kind = self.pipeline, self.description, item.kind
-        if len(pipeline.window) >= description.rob:
+        pipeline, kind = self.pipeline, item.kind
+        if len(pipeline.window) >= self.rob:
             return REORDER_BUFFER
-        if pipeline.window and pipeline.window[0].kind == CALL:
-            return CALL_IN_FLIGHT
-        if kind == LOAD and pipeline.loads >= description.loads:
+        if pipeline.window:
+            first = pipeline.window[0]
+            if first.kind == CALL:
+                return CALL_IN_FLIGHT
+        if kind == LOAD and pipeline.loads >= self.loads:
             return LOADS
-        if kind == STORE and pipeline.stores >= description.stores:
+        if kind == STORE and pipeline.stores >= self.stores:
             return STORES
         if kind == CALL and pipeline.window:
             return CALL_ALONE
-        if len(pipeline.waiting) >= description.stations and kind not in AT_ONCE:
+        if len(pipeline.waiting) >= self.stations and kind not in AT_ONCE:
             return STATIONS
         return None
 
     def has_room(self):
         """Whether all that may be renamed in a cycle finds room, whatever it is but a call: then no item is asked for."""
-        pipeline, description = self.pipeline, self.description
-        width, window = description.fetch_width, pipeline.window
-        return (len(window) + width <= description.rob and len(pipeline.waiting) + width <= description.stations
-                and pipeline.loads + width <= description.loads and pipeline.stores + width <= description.stores
-                and (not window or window[0].kind != CALL))
+        pipeline, width = self.pipeline, self.width
+        return (len(pipeline.window) + width <= self.rob and len(pipeline.waiting) + width <= self.stations
+                and pipeline.loads + width <= self.loads and pipeline.stores + width <= self.stores and not pipeline.has_call)
+
+    def call_is_next(self):
+        """Whether the front of the queue is a call."""
+        first = self.pipeline.queue[0] if self.pipeline.queue else None
+        return first is not None and first.kind == CALL
 
     def before_rename(self, serial):
         reason = self.to_rename(self.pipeline.queue[0]) if self.pipeline.queue else None
@@ -72,9 +80,9 @@ class FrontEnd:
 
     def after_rename(self, count):
         """Fewer than the width were renamed: nothing was left, or the front of the queue couldn't go. Answers why it couldn't."""
-        if count > self.description.fetch_width:
-            self.tell(f"{count} items are renamed")
-        if count >= self.description.fetch_width:
+        if count >= self.width:
+            if count > self.width:
+                self.tell(f"{count} items are renamed")
             return None
         if not self.pipeline.queue:
             self.last_rename = QUEUE_EMPTY
@@ -92,7 +100,7 @@ class FrontEnd:
 
     def keep_stall(self, reason, pc):
         last, cycle = self.stalls[-1] if self.stalls else None, self.pipeline.cycle
-        if last and last.last == cycle - 1 and last.reason == reason and last.pc == pc:
+        if last is not None and last.last == cycle - 1 and last.reason == reason and last.pc == pc:
             last.last = cycle
         else:
             self.stalls.append(Stall(cycle, reason, pc))
@@ -109,14 +117,15 @@ class FrontEnd:
 
         A jump that faults drops what is younger, and nothing is fetched from then on: the trace tells it by that alone.
         """
-        queue, width = self.pipeline.queue, self.description.fetch_width
+        queue, width = self.pipeline.queue, self.width
         self.fetching = self.fetching or squashed
-        if fetched and not self.fetching or len(fetched) > width or fetched and len(queue) > self.description.queue:
+        number, last = len(fetched), fetched[-1] if fetched else None
+        if number > width or number and (not self.fetching or len(queue) > self.room):
             self.tell("more is fetched than may be")
-        if fetched and fetched[-1].code.kind == STOP or squashed and not fetched:
+        if squashed if last is None else last.kind == STOP:
             self.fetching = False
-        if len(fetched) < width:
-            full = len(queue) >= self.description.queue
+        if number < width:
+            full = len(queue) >= self.room
             if full or not self.fetching:
                 self.last_fetch = QUEUE_FULL if full else NOTHING_TO_FETCH
                 self.count(self.fetch, self.last_fetch)

@@ -18,6 +18,8 @@ from .replay import Replay
 from .trace import Trace, lines_of_file, open_trace
 
 EVERY = 4000
+# which values a state has: another number where they change, so that an index of before isn't used
+FORM = 2
 HEAD = "head.json"
 CLASSES = {
     "collections": {"deque", "Counter", "OrderedDict"}, "view.pipeline": {"Pipeline", "Item", "Wait"},
@@ -57,7 +59,7 @@ class Keeper(pickle.Pickler):
 
 def identity(trace, image, description):
     """What an index belongs to."""
-    found = {"every": EVERY, "size": os.path.getsize(trace)}
+    found = {"form": FORM, "every": EVERY, "size": os.path.getsize(trace)}
     for name, path in (("image", image), ("description", description)):
         with open(path, "rb") as file:
             found[name] = hashlib.sha256(file.read()).hexdigest()
@@ -111,7 +113,7 @@ def replay_from(name, image, description_name, first):
     try:
         with zipfile.ZipFile(path) as file:
             head = json.loads(file.read(HEAD))
-            if {key: head.get(key) for key in ("every", "size", "image", "description")} != identity(name, image.name, description_name):
+            if {key: head.get(key) for key in ("form", "every", "size", "image", "description")} != identity(name, image.name, description_name):
                 return None
             cycle = max((int(cycle) for cycle in head["states"] if int(cycle) < first), default=None)
             if cycle is None:

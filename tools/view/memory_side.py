@@ -1,12 +1,13 @@
 """The cache, the miss registers and the divider, as the events of a trace move them (docs/machine.md, "State")."""
-from typing import NamedTuple
 
 
-class Miss(NamedTuple):
+class Miss:
     """What a miss register waits for: the cycle in which its line comes, and whether it comes from memory."""
 
-    due: int
-    from_memory: bool
+    __slots__ = ("due", "from_memory")
+
+    def __init__(self, due, from_memory):
+        self.due, self.from_memory = due, from_memory
 
 
 class Cache:

@@ -7,7 +7,7 @@ from collections import deque
 from operator import attrgetter
 
 from . import Fault
-from .description import FUTURISTIC, OFF, SPECTRE
+from .description import FUTURISTIC, SPECTRE
 from .instruction import AT_ONCE, CALL, CONTROLS, LOAD, STORE
 from .memory_side import Cache, Divider, Miss
 
@@ -52,10 +52,11 @@ class Item:
     __slots__ = ("number", "pc", "code", "kind", "serial", "fetched", "renamed", "ready", "issued", "unit", "due", "done", "resolved", "outcome",
                  "mispredicted", "retired", "squashed", "trapped", "lines", "written", "output", "sources", "awaits", "consumers", "roots",
                  "root", "youngest_root", "waits", "producers", "parts", "sharers", "lacking", "cleared", "passed", "violated", "open",
-                 "fill", "late", "since")
+                 "fill", "late", "since", "registers", "destination")
 
     def __init__(self, number, pc, code, cycle):
-        self.number, self.pc, self.code, self.kind, self.fetched = number, pc, code, code.kind, cycle
+        self.number, self.pc, self.code, self.fetched = number, pc, code, cycle
+        self.kind, self.registers, self.destination = code
         self.serial = self.renamed = self.ready = self.issued = self.unit = self.due = self.done = self.resolved = self.outcome = None
         self.retired = self.squashed = self.trapped = self.output = self.cleared = None
         self.root = self.youngest_root = self.open = self.fill = self.late = self.since = None
@@ -70,15 +71,14 @@ class Item:
 
     def wait(self, cycle, reason, cause):
         """It waits in this cycle too, as before or for another reason."""
-        serial = cause.serial if cause is not None else None
-        if self.waits:
-            last = self.waits[-1]
-            if last.last == cycle - 1 and last.reason == reason and last.serial == serial:
-                last.last = cycle
-                return
-            self.waits.append(Wait(cycle, reason, cause))
-        else:
+        if not self.waits:
             self.waits = [Wait(cycle, reason, cause)]
+            return
+        last = self.waits[-1]
+        if last.last == cycle - 1 and last.reason == reason and last.serial == (None if cause is None else cause.serial):
+            last.last = cycle
+        else:
+            self.waits.append(Wait(cycle, reason, cause))
 
     def sleep(self):
         """What it waits for in this cycle keeps it until a writer is Done."""
@@ -105,8 +105,11 @@ def youngest(items):
 
 def enter(entries, item):
     """Puts an entry to its place by age."""
-    place = len(entries)
-    while place and entries[place - 1].serial > item.serial:
+    place, serial = len(entries), item.serial
+    while place:
+        other = entries[place - 1]
+        if other.serial <= serial:
+            break
         place -= 1
     entries.insert(place, item)
 
@@ -127,7 +130,11 @@ class Pipeline:
 
     def __init__(self, image, description):
         self.image, self.description = image, description
+        self.version, self.depend = description.version, description.depend
+        self.futuristic, self.spectre = description.model == FUTURISTIC, description.model == SPECTRE
+        self.hit_latency, self.mul_latency = description.hit_latency, description.mul_latency
         self.cycle = self.count = 0
+        self.codes = {}
         self.queue, self.window, self.flight, self.serials = deque(), deque(), deque(), {}
         self.waiting, self.awake, self.open_stores, self.shadows = [], [], [], []
         self.controls, self.outcomes, self.clearable = [], [], []
@@ -147,7 +154,10 @@ class Pipeline:
 
     def is_hidden(self, root):
         """The load isn't visible, and so what flows from it is tainted. One that has retired is."""
-        return root is not None and bool(self.shadows) and root.serial > self.shadows[0].serial
+        if root is None or not self.shadows:
+            return False
+        first = self.shadows[0]
+        return root.serial > first.serial
 
     def entry(self, words):
         """The entry in flight of an event's serial."""
@@ -186,16 +196,16 @@ class Pipeline:
 
     def is_cleared(self, store):
         """Whether nothing keeps it from retiring but what it does itself. Where no load passes a store it is so from the start."""
-        return not self.description.depend or store.cleared is not None
+        return not self.depend or store.cleared is not None
 
     def leave_shadows(self, item):
         """A load or store that is safe hides nothing; under `spectre` a store hides nothing once it is cleared."""
-        if item.kind != STORE and (item.kind != LOAD or self.description.model != FUTURISTIC):
+        if item.kind != STORE and (item.kind != LOAD or not self.futuristic):
             return
         if item not in self.shadows or item.kind == STORE and not self.is_cleared(item):
             return
         safe = item.done is not None and not self.faults(item)
-        if safe or self.description.model == SPECTRE:
+        if safe or self.spectre:
             self.shadows.remove(item)
 
     # ---- Resolve and Clear
@@ -222,11 +232,11 @@ class Pipeline:
 
     def bit_of(self, load):
         """Where the bit stands that tells a load to wait for the addresses of older stores."""
-        return load.pc // 4 % self.description.depend
+        return load.pc // 4 % self.depend
 
     def may_pass(self, load):
         """Whether a load may go before stores of unknown address."""
-        return self.description.depend > 0 and self.bit_of(load) not in self.learnt
+        return self.depend > 0 and self.bit_of(load) not in self.learnt
 
     def violate(self, load):
         """Drops a load that passed a store wrongly, with what is younger, and answers how many entries and items that were."""
@@ -252,7 +262,7 @@ class Pipeline:
             while entries and entries[-1].serial >= serial:
                 entries.pop()
         self.divider.drop_from(serial)
-        self.find_writers({gone.code.destination for gone in dropped if self.writers[gone.code.destination] is gone})
+        self.find_writers({gone.destination for gone in dropped if self.writers[gone.destination] is gone})
         return len(dropped)
 
     def find_writers(self, registers):
@@ -260,9 +270,9 @@ class Pipeline:
         for register in registers:
             self.writers[register] = None
         for entry in reversed(self.window) if registers else ():
-            if entry.code.destination in registers:
-                self.writers[entry.code.destination] = entry
-                registers.remove(entry.code.destination)
+            if entry.destination in registers:
+                self.writers[entry.destination] = entry
+                registers.remove(entry.destination)
                 if not registers:
                     return
 
@@ -286,8 +296,8 @@ class Pipeline:
             for entries in (self.open_stores, self.clearable):
                 if item in entries:
                     entries.remove(item)
-        if self.writers[item.code.destination] is item:
-            self.writers[item.code.destination] = None
+        if self.writers[item.destination] is item:
+            self.writers[item.destination] = None
         if self.shadows and self.shadows[0] is item:
             self.shadows.pop(0)
 
@@ -310,19 +320,22 @@ class Pipeline:
         self.waiting.remove(item)
         item.issued, item.unit = self.cycle, words[0]
         if words[0] == "ld":
-            item.passed = any(store.parts.get(ADDRESS_PART, self.cycle) == self.cycle for store in self.open_stores
-                              if store.serial < item.serial)
+            item.passed = bool(self.open_stores) and self.passes_a_store(item)
             self.access(item, step)
-            return
-        time = {"mul": self.description.mul_latency, "div": int(words[-1])}.get(words[0], 1)
-        item.due = self.cycle + time
-        if words[0] == "div":
+        elif words[0] == "div":
+            item.due = self.cycle + int(words[-1])
             self.divider.take(item, item.due)
+        else:
+            item.due = self.cycle + (self.mul_latency if words[0] == "mul" else 1)
+
+    def passes_a_store(self, load):
+        """Whether the address of an older store isn't known."""
+        return any(store.parts.get(ADDRESS_PART, self.cycle) == self.cycle for store in self.open_stores if store.serial < load.serial)
 
     def issue_parts(self, item, name):
         """A part of a store issues, in version 1 both with one event. It executes from the later one on."""
-        item.parts = {**item.parts, **dict.fromkeys(PARTS if self.description.version == 1 else (name,), self.cycle)}
-        if self.description.depend and name == ADDRESS_PART and item.kind == STORE and item.cleared is None:
+        item.parts = {**item.parts, **dict.fromkeys(PARTS if self.version == 1 else (name,), self.cycle)}
+        if self.depend and name == ADDRESS_PART and item.kind == STORE and item.cleared is None:
             enter(self.clearable, item)
         if len(item.parts) == len(PARTS):
             self.waiting.remove(item)
@@ -354,7 +367,7 @@ class Pipeline:
         """When a line is there that was found so."""
         if answer == "h":
             self.cache.touch(line)
-            return self.cycle + self.description.hit_latency
+            return self.cycle + self.hit_latency
         if answer == "j":
             return self.misses[line].due if line in self.misses else self.cycle + 1
         return self.take(line, answer)
@@ -379,27 +392,20 @@ class Pipeline:
         self.find_sources(item)
         self.window.append(item)
         self.serials[serial] = item
-        self.writers[item.code.destination] = item
+        self.writers[item.destination] = item
+        self.writers[0] = None
         self.enter_lists(item)
         return item
 
     def find_sources(self, item):
         """The writers of its sources, the roots of these, and how many aren't Done."""
-        writers = [self.writers[register] if register else None for register in item.code.sources]
-        item.sources = tuple(writers)
-        if writers and (writers[0] is not None or writers[-1] is not None):
-            item.producers = tuple([writer.number for writer in writers if writer is not None])
-            item.roots = tuple([writer.root if writer is not None else None for writer in writers])
-            for root in item.roots:
-                if root is not None and (item.youngest_root is None or root.serial > item.youngest_root.serial):
-                    item.youngest_root = root
-            for writer in writers:
-                if writer is not None and writer.done is None:
-                    writer.consumers = writer.consumers or []
-                    writer.consumers.append(item)
-                    item.awaits += 1
+        writers = self.writers
+        item.sources = sources = tuple([writers[register] for register in item.registers])
+        if sources and (sources[0] is not None or sources[-1] is not None):
+            for writer in sources:
+                add_source(item, writer)
         else:
-            item.roots = NO_ROOTS[len(writers)]
+            item.roots = NO_ROOTS[len(sources)]
         item.root = item if item.kind == LOAD else item.youngest_root
         if not item.awaits and item.kind not in AT_ONCE:
             item.ready = self.cycle + 1
@@ -416,17 +422,20 @@ class Pipeline:
         if kind not in AT_ONCE:
             self.waiting.append(item)
             self.awake.append(item)
-        if self.description.model != OFF and self.hides(item):
+        if self.hides(item):
             self.shadows.append(item)
 
     def hides(self, item):
         """Whether it keeps what is younger from being visible as it is renamed."""
-        if self.description.model == FUTURISTIC:
+        if self.futuristic:
             return item.kind in SHADOWING
-        return self.description.model == SPECTRE and (item.kind in CONTROLS or item.kind == STORE and not self.is_cleared(item))
+        return self.spectre and (item.kind in CONTROLS or item.kind == STORE and not self.is_cleared(item))
 
     def fetch(self, pc):
-        item = Item(self.count, pc, self.image.instruction(pc), self.cycle)
+        code = self.codes.get(pc)
+        if code is None:
+            code = self.codes[pc] = self.image.instruction(pc)
+        item = Item(self.count, pc, code, self.cycle)
         self.count += 1
         self.queue.append(item)
         self.flight.append(item)
@@ -435,7 +444,23 @@ class Pipeline:
     @property
     def has_call(self):
         """A call is in flight, and so alone."""
-        return bool(self.window) and self.window[0].code.kind == CALL
+        return bool(self.window) and self.window[0].kind == CALL
+
+
+def add_source(item, writer):
+    """A source of an entry, by its writer, or none."""
+    if writer is None:
+        item.roots += (None,)
+        return
+    root = writer.root
+    item.producers += (writer.number,)
+    item.roots += (root,)
+    if root is not None and (item.youngest_root is None or root.serial > item.youngest_root.serial):
+        item.youngest_root = root
+    if writer.done is None:
+        writer.consumers = writer.consumers or []
+        writer.consumers.append(item)
+        item.awaits += 1
 
 
 def lines_of(step):

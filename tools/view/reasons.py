@@ -8,7 +8,7 @@ from collections import Counter
 
 from .description import FUTURISTIC, HOLD
 from .instruction import AT_ONCE, CALL, CONTROLS, DIVISION, LOAD, MULTIPLICATION, STORE
-from .pipeline import PARTS, enter
+from .pipeline import ADDRESS_PART, DATA_PART, PARTS, enter
 
 # to issue
 OPERAND, TAINT, OLDER_STORE, PORT, MISS_REGISTER, DIVIDER = (
@@ -42,6 +42,8 @@ class Reasons:
         self.unexplained, self.idle, self.last_idle = [], Counter(), None
         self.presumed, self.head, self.ports, self.issued = set(), None, {}, {}
         self.futuristic, self.results_held = self.description.model == FUTURISTIC, self.description.defence == HOLD
+        self.version, self.width = self.description.version, self.description.retire_width
+        self.mshrs = self.description.mshrs
         self.free_ports = {"load": 1, "store": 1, "multiplier": 1, "divider": 1, "arithmetic": self.description.alus, **dict.fromkeys(PARTS, 1)}
 
     @property
@@ -115,7 +117,7 @@ class Reasons:
         awake, pipeline.awake = pipeline.awake, []
         for item in awake:
             told = issued.get(item.serial, ())
-            if item.kind == STORE and self.description.version != 1:
+            if item.kind == STORE and self.version != 1:
                 stays = self.issue_parts(item, told)
             else:
                 stays = self.issue_whole(item, bool(told), cycle)
@@ -126,8 +128,8 @@ class Reasons:
         """What waits for writers alone from its first cycle on isn't looked at before one of them is Done."""
         if not item.awaits or item.kind in AT_ONCE:
             return
-        if item.kind != STORE or self.description.version == 1:
-            reason, cause = OPERAND, next(writer for writer in item.sources if writer is not None and writer.done is None)
+        if item.kind != STORE or self.version == 1:
+            reason, cause = OPERAND, awaited(item)
         elif item.awaits == len(PARTS):
             reason, cause = BASE, item.sources[0]
         else:
@@ -145,7 +147,7 @@ class Reasons:
     def issue_whole(self, item, goes, cycle):
         """What issues in one piece. Answers whether it has to be looked at in the next cycle too."""
         if item.awaits and not goes:
-            item.wait(cycle, OPERAND, next((writer for writer in item.sources if writer is not None and writer.done is None), None))
+            item.wait(cycle, OPERAND, awaited(item))
             item.sleep()
             return False
         reason, cause = self.to_issue(item, goes)
@@ -164,6 +166,13 @@ class Reasons:
     def is_held_back(self, writer):
         """Whether this writer is a load whose result isn't used until it is visible."""
         return self.results_held and writer is not None and writer.kind == LOAD and self.pipeline.is_hidden(writer)
+
+    def held_back(self, item):
+        """The first writer of its sources whose result isn't used until it is visible, or none."""
+        for writer in item.sources:
+            if self.is_held_back(writer):
+                return writer
+        return None
 
     def issue_parts(self, item, told):
         """Each part of a store goes as soon as its own source is there and its port is left. Told is what the first of them waits for.
@@ -222,8 +231,8 @@ class Reasons:
         """The reason why this entry can't issue, and the entry that it waits for; None and None where it can."""
         kind = item.kind
         if item.awaits:
-            return OPERAND, next((writer for writer in item.sources if writer is not None and writer.done is None), None)
-        held = next(filter(self.is_held_back, item.sources), None) if self.results_held else None
+            return OPERAND, awaited(item)
+        held = self.held_back(item) if self.results_held else None
         if held is not None:
             return HELD_BACK, held
         if kind not in (LOAD, DIVISION):
@@ -252,14 +261,19 @@ class Reasons:
         stores = self.older_open_stores(load)
         if not stores:
             return None, None
-        if self.description.version == 1:
-            return (OLDER_STORE, stores[0]) if stores else (None, None)
-        tests = [
-            (STORE_ADDRESS, lambda store: self.pipeline.lacks_address(store) and not self.pipeline.may_pass(load)),
-            (STORE_TAINT, lambda store: taint and PARTS[1] not in store.parts and self.pipeline.is_hidden(store.roots[0])),
-            (STORE_DATA, lambda store: PARTS[1] not in store.parts and self.shares(load, store)),
-        ]
-        return next(((reason, store) for reason, test in tests for store in stores if test(store)), (None, None))
+        if self.version == 1:
+            return OLDER_STORE, stores[0]
+        waits, found, cause = not self.pipeline.may_pass(load), None, None
+        for store in stores:
+            if waits and ADDRESS_PART not in store.parts:
+                return STORE_ADDRESS, store
+            if found == STORE_TAINT or DATA_PART in store.parts:
+                continue
+            if taint and self.pipeline.is_hidden(store.roots[0]):
+                found, cause = STORE_TAINT, store
+            elif found is None and self.shares(load, store):
+                found, cause = STORE_DATA, store
+        return found, cause
 
     def shares(self, load, store):
         """Whether a store covers a byte of a load: one of unknown address covers nothing. None where that isn't known."""
@@ -277,11 +291,11 @@ class Reasons:
         data covers a byte of it, which a trace tells by that alone: that is certain where its lines find registers, or a younger load
         goes.
         """
-        stores = [] if self.description.version == 1 else self.may_share(load)
+        stores = [] if self.version == 1 else self.may_share(load)
         lacks = self.lacks(load)
         if goes:
             self.check_sharers(load, stores)
-        elif stores and (not lacks or any(load.serial < serial for serial, told in self.issued.items() if "ld" in told)):
+        elif stores and (not lacks or a_younger_load_goes(load, self.issued)):
             load.sharers = stores
             return STORE_DATA, stores[-1]
         elif lacks:
@@ -294,13 +308,15 @@ class Reasons:
 
         Without any it needs one, and may need two; with one left a load needs two, and only where accesses may have any address.
         """
-        left = self.description.mshrs - len(self.pipeline.misses)
+        left = self.mshrs - len(self.pipeline.misses)
         return 1 if left <= 0 else 2 if left == 1 and self.description.misaligned and self.pipeline.may_take_two(load) else 0
 
     def may_share(self, load):
         """The older stores without data of which it isn't known whether they cover a byte of the load."""
-        return [store for store in self.older_open_stores(load)
-                if PARTS[1] not in store.parts and self.shares(load, store) is None]
+        stores = self.pipeline.open_stores
+        if not stores or stores[0].serial > load.serial:
+            return []
+        return [store for store in self.older_open_stores(load) if DATA_PART not in store.parts and self.shares(load, store) is None]
 
     def check_sharers(self, load, stores):
         """A load that waited for data doesn't go before one of the stores has it that can have kept it."""
@@ -345,7 +361,7 @@ class Reasons:
         turns = stores = 0
         for item in self.pipeline.window:
             kind = item.kind
-            if turns == self.description.retire_width or item.done is None and kind != CALL:
+            if turns == self.width or item.done is None and kind != CALL:
                 break
             if kind in CONTROLS and item.resolved is None:
                 break
@@ -364,12 +380,12 @@ class Reasons:
             self.count_idle("the run ends by a trap", head.pc if head else None)
         elif head is None:
             after = squash is not None and (squash.violated or squash.retired is not None)
-            why = " after a violation" if after and squash.violated else " after a misprediction" if after else ""
+            why = "" if not after else " after a violation" if squash.violated else " after a misprediction"
             self.count_idle("window empty" + why, squash.pc if after else None)
-        elif head.issued is None and not head.code.at_once:
+        elif head.issued is None and head.kind not in AT_ONCE:
             self.head = head
         elif head.done is None and head.issued is not None:
-            what = f"load {head.unit}" if head.code.kind == LOAD else head.code.kind
+            what = f"load {head.unit}" if head.kind == LOAD else head.kind
             self.count_idle(f"oldest executes: {what}", head.pc)
         else:
             self.count_idle("oldest waits to be resolved", head.pc)
@@ -397,6 +413,19 @@ class Reasons:
                     item.lacking = cycle, item.lacking[1]
         if pipeline.counts:
             self.idle[self.last_idle] += 1
+
+
+def awaited(item):
+    """The first writer of its sources that isn't Done, or none."""
+    for writer in item.sources:
+        if writer is not None and writer.done is None:
+            return writer
+    return None
+
+
+def a_younger_load_goes(load, issued):
+    """Whether the events of Issue, by serials, have one of a load behind this one."""
+    return any(load.serial < serial for serial, told in issued.items() if "ld" in told)
 
 
 def named(serial):

@@ -5,8 +5,8 @@ from .front_end import FrontEnd
 from .instruction import CALL, DIVISION, STORE
 from .pipeline import PREFETCH, Pipeline
 from .reasons import Reasons
+from .rows import CLEAR, COMPLETE, FETCH, FILL, ISSUE, RENAME, RESOLVE, RETIRE
 from .slots import Slots
-from .trace import CLEAR, COMPLETE, FETCH, FILL, ISSUE, RENAME, RESOLVE, RETIRE
 
 LOAD_EVENTS = ("ld", PREFETCH)
 # what tells more as it retires
@@ -17,17 +17,18 @@ class Replay:
     """The run that a trace tells. `items` gives what became of each fetched instruction; then `reasons` is complete.
 
     Another tool may give a pipeline that keeps more of the run. What is counted of cycles is counted of those of the span, from the first
-    to the last; `occupancy` is kept where it is asked for.
+    to the last; `occupancy` is kept where it is asked for. Where it isn't `asked` for reasons, events move the pipeline, and nothing is
+    explained, checked or counted.
     """
 
-    def __init__(self, trace, image, description, pipeline=None, span=(1, None)):
+    def __init__(self, trace, image, description, pipeline=None, span=(1, None), asked=True):
         self.trace = trace
         self.pipeline = pipeline or Pipeline(image, description)
         self.reasons = Reasons(self.pipeline)
         self.front = FrontEnd(self.pipeline, self.reasons.tell)
         self.checks = Checks(self.pipeline, self.reasons.tell)
         self.slots, self.occupancy, self.span = Slots(self.pipeline), None, span
-        self.retired = 0
+        self.asked, self.retired, self.width = asked, 0, self.pipeline.description.fetch_width
         # whether the last cycle had no event and was explained. A tool that looks at more of each cycle is shown all of them
         self.quiet, self.skips = False, type(self) is Replay
 
@@ -54,7 +55,8 @@ class Replay:
 
     def end(self, end):
         """What the last line says: the counts, and that the oldest entry traps."""
-        self.checks.end(end, self.retired)
+        if self.asked:
+            self.checks.end(end, self.retired)
         if end and end.how.startswith("trap") and self.pipeline.window:
             self.pipeline.window[0].trapped = self.pipeline.cycle
 
@@ -79,10 +81,10 @@ class Replay:
             self.take(row, phases)
         except ValueError:
             raise Fault(f"cycle {row.cycle}: a number is none in `{' '.join(row.events)}`") from None
-        except (LookupError, AttributeError, TypeError):
+        except (LookupError, AttributeError, TypeError, OverflowError):
             raise Fault(f"cycle {row.cycle}: `{' '.join(row.events)}` can't follow; is it the trace of this image and description?") from None
         if self.occupancy is not None and pipeline.counts:
-            self.occupancy.add(pipeline, sum(words[0] == "ret" for words in phases[RETIRE]) if phases[RETIRE] else 0)
+            self.occupancy.add(pipeline, [words[0] for words in phases[RETIRE]].count("ret"))
         self.quiet = self.skips and not row.events and told == len(self.reasons.unexplained) + len(self.reasons.presumed)
 
     def nothing_due(self, cycle):
@@ -94,7 +96,7 @@ class Replay:
         """Nothing happens in this cycle, as in the one before."""
         self.reasons.repeat(cycle)
         self.front.repeat(cycle)
-        self.slots.retire((), False)
+        self.slots.retire([], False)
         if self.slots.head is not None:
             self.slots.close()
         if self.occupancy is not None and self.pipeline.counts:
@@ -114,19 +116,26 @@ class Replay:
             self.issue(phases[ISSUE])
             self.rename(phases[RENAME])
             fetched = [pipeline.fetch(int(words[1], 16)) for words in phases[FETCH]]
-            if self.slots.behind is not None:
-                self.slots.fetch(fetched)
-            self.front.after_fetch(fetched, squashed or violated is not None)
-            if violated is not None:
-                self.front.after_violation(fetched, violated)
+            if self.asked:
+                self.after_fetch(fetched, squashed, violated)
+
+    def after_fetch(self, fetched, squashed, violated):
+        """Why no more was fetched, and what makes it late."""
+        if self.slots.behind is not None:
+            self.slots.fetch(fetched)
+        self.front.after_fetch(fetched, squashed or violated is not None)
+        if violated is not None:
+            self.front.after_violation(fetched, violated)
 
     def fill(self, lines):
-        self.checks.fill(lines)
+        if self.asked:
+            self.checks.fill(lines)
         for line in lines:
             self.pipeline.fill(line)
 
     def complete(self, items):
-        self.checks.complete(items)
+        if self.asked:
+            self.checks.complete(items)
         for item in items:
             self.pipeline.complete(item)
 
@@ -138,15 +147,22 @@ class Replay:
             raise Fault(f"cycle {self.pipeline.cycle}: `{':'.join(events[0])}` doesn't follow a res")
         resolved = self.pipeline.entry(events[0]) if events else None
         squashes = bool(events) and events[-1][0] == "sq"
-        self.reasons.resolve(resolved.serial if resolved else None, squashes)
-        if not events:
+        if self.asked:
+            self.reasons.resolve(None if resolved is None else resolved.serial, squashes)
+        if resolved is None:
             return False
-        self.checks.resolve(resolved, [words[0] for words in events])
+        if self.asked:
+            self.checks.resolve(resolved, [words[0] for words in events])
         self.pipeline.resolve(resolved, events[0][2])
         if squashes:
-            self.checks.squash(int(events[-1][1]), self.pipeline.squash(resolved))
-            self.slots.squash(resolved)
+            self.squash(resolved, int(events[-1][1]), self.pipeline.squash(resolved))
         return squashes
+
+    def squash(self, item, told, dropped):
+        """So many entries and items are said to be dropped behind this one, and are."""
+        if self.asked:
+            self.checks.squash(told, dropped)
+            self.slots.squash(item)
 
     def clear(self, events):
         """Answers the load that is violated, or none."""
@@ -155,20 +171,22 @@ class Replay:
         if events and events[0][0] != "clr":
             raise Fault(f"cycle {self.pipeline.cycle}: `{':'.join(events[0])}` doesn't follow a clr")
         store = self.pipeline.entry(events[0]) if events else None
-        self.reasons.clear(store.serial if store else None)
+        if self.asked:
+            self.reasons.clear(None if store is None else store.serial)
         if store is None:
             return None
-        self.checks.clear(store, events)
+        if self.asked:
+            self.checks.clear(store, events)
         violated = self.pipeline.entry(events[1]) if [words[0] for words in events[1:]] == ["vio", "dp", "sq"] else None
         self.pipeline.clear(store)
         if violated is not None:
-            self.checks.squash(int(events[-1][1]), self.pipeline.violate(violated))
-            self.slots.squash(violated)
+            self.squash(violated, int(events[-1][1]), self.pipeline.violate(violated))
         return violated
 
     def retire(self, events, ends):
-        self.reasons.retire([int(words[1]) for words in events if words[0] == "ret"], ends)
-        retired = []
+        retired, item = [], None
+        if self.asked:
+            self.reasons.retire([int(words[1]) for words in events if words[0] == "ret"], ends)
         for words in events:
             name = words[0]
             if name == "ret":
@@ -179,39 +197,51 @@ class Replay:
                 raise Fault(f"cycle {self.pipeline.cycle}: `{':'.join(words)}` doesn't follow its ret")
             elif name == "st":
                 line = int(words[2], 16)
-                self.checks.write(item, line, words[3])
+                if self.asked:
+                    self.checks.write(item, line, words[3])
                 self.pipeline.write(item, line, words[3])
             else:
                 item.output = int(words[2])
+        self.retired += len(retired)
+        if self.asked:
+            self.after_retire(retired, ends)
+
+    def after_retire(self, retired, ends):
+        """What retired has told what it has to, and why no more did."""
         for item in retired:
             if item.kind in EFFECTS or item.written or item.output is not None:
                 self.checks.retired(item)
-        self.retired += len(retired)
         self.slots.retire(retired, ends)
 
     def issue(self, events):
-        told, steps = {}, self.steps(events) if events else []
+        steps = self.steps(events) if events else []
+        if self.asked:
+            self.check_issue(steps)
+        for step in steps:
+            item = self.pipeline.entry(step[0])
+            self.pipeline.issue(item, step)
+            if self.asked:
+                self.checks.issued(item)
+                if item.waits or item.kind == DIVISION:
+                    self.slots.issue(item)
+        if self.asked:
+            self.close()
+
+    def check_issue(self, steps):
+        """Whether what issues may, before any of it does."""
+        told = {}
         for step in steps:
             words = step[0]
             told.setdefault(int(words[1]), []).append(words[0])
         self.reasons.issue(told)
-        if not steps:
-            self.close()
-            return
-        self.checks.order(steps)
-        items = [self.pipeline.entry(step[0]) for step in steps]
-        for item, step in zip(items, steps):
+        if len(steps) > 1:
+            self.checks.order(steps)
+        for item, step in [(self.pipeline.entry(step[0]), step) for step in steps]:
             name = step[0][0]
             if EVENT_OF.get(item.kind, "alu") != name:
                 self.checks.unit(item, name)
             if name == "ld":
                 self.checks.access(item, step)
-        for item, step in zip(items, steps):
-            self.pipeline.issue(item, step)
-            self.checks.issued(item)
-            if item.waits or item.kind == DIVISION:
-                self.slots.issue(item)
-        self.close()
 
     def close(self):
         """Issue is over: what it made of the oldest entry."""
@@ -237,15 +267,21 @@ class Replay:
         return steps
 
     def rename(self, events):
-        roomy = bool(events) and len(events) <= self.pipeline.description.fetch_width and self.front.has_room()
+        roomy = not self.asked or bool(events) and len(events) <= self.width and self.front.has_room()
         for words in events:
             serial = int(words[1])
-            if not roomy or self.pipeline.queue and self.pipeline.queue[0].kind == CALL:
+            if self.asked and (not roomy or self.front.call_is_next()):
                 self.front.before_rename(serial)
             item = self.pipeline.rename(serial, int(words[2], 16))
-            self.slots.rename(item)
-            if item.awaits:
-                self.reasons.renamed(item)
-        reason = self.front.after_rename(len(events))
+            if self.asked:
+                self.slots.rename(item)
+                if item.awaits:
+                    self.reasons.renamed(item)
+        if self.asked:
+            self.after_rename(len(events))
+
+    def after_rename(self, number):
+        """Why no more was renamed."""
+        reason = self.front.after_rename(number)
         if reason is not None:
             self.slots.stall(reason, self.pipeline.queue[0].pc)

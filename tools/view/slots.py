@@ -64,10 +64,11 @@ class Slots:
     def squash(self, item):
         """What is younger than a branch or JALR is dropped, or from a violated load on: the next item comes late for that."""
         self.fill = VIOLATION if item.violated else MISPREDICTION, item.pc
-        if any(wait.reason == TAINTED_OUTCOME for wait in item.waits):
+        if item.since is not None and TAINTED_OUTCOME in [wait.reason for wait in item.waits]:
             self.issue(item)
-        left = item.late.left(self.pipeline.charged) if item.late is not None else 0
-        self.behind = item.late if left > 0 else None
+        late = item.late
+        left = late.left(self.pipeline.charged) if late is not None else 0
+        self.behind = late if left > 0 else None
         self.until = self.pipeline.cycle + left // self.width
 
     def rename(self, item):
@@ -88,13 +89,10 @@ class Slots:
 
     def issue(self, item):
         """How long the defence held what issues or is resolved now, and what had delayed it before."""
-        held = {}
-        for wait in item.waits:
-            if wait.reason in TAINTS:
-                held[wait.reason] = held.get(wait.reason, 0) + wait.last - wait.first + 1
         divides = item.kind == DIVISION and item.issued is not None
-        if not held and not divides:
+        if item.since is None and not divides:
             return
+        held = times_held(item)
         since = item.since if held else self.pipeline.charged
         before = item.late
         slots = sum(held.values()) * self.width + (max(before.left(since), 0) if before is not None else 0)
@@ -151,9 +149,9 @@ class Slots:
             return self.late(head) or self.executes(head)
         if head.kind in CONTROLS and head.resolved is None or head.kind == STORE and not self.pipeline.is_cleared(head):
             reasons = [wait.reason for wait in head.waits if wait.last >= self.pipeline.cycle - 1]
-            held = next((wait.reason for wait in head.waits if wait.reason in (TAINTED_OUTCOME, TAINTED_CLEARING)), None)
-            return self.charge(held or (reasons[-1] if reasons else None))
-        if head.kind == STORE and any(item.kind == STORE for item in retired):
+            held = [wait.reason for wait in head.waits if wait.reason in (TAINTED_OUTCOME, TAINTED_CLEARING)]
+            return self.charge(held[0] if held else reasons[-1] if reasons else None)
+        if head.kind == STORE and STORE in [item.kind for item in retired]:
             return PORTS
         return UNEXPLAINED
 
@@ -184,15 +182,25 @@ class Slots:
         if head is None:
             return
         self.head = None
+        last = head.waits[-1] if head.waits else None
         if head.issued == cycle and head.renamed == cycle - 1 and head.fill is not None:
             reason, pc = head.fill
             self.count(reason, head.pc if pc is None else pc, self.left)
         elif head.issued == cycle:
             self.count(self.late(head) or self.executes(head), head.pc, self.left)
-        elif head.waits and head.waits[-1].last == cycle:
-            self.count(self.charge(head.waits[-1].reason), head.pc, self.left)
+        elif last is not None and last.last == cycle:
+            self.count(self.charge(last.reason), head.pc, self.left)
         else:
             self.count(self.executes(head) if head.parts else UNEXPLAINED, head.pc, self.left)
+
+
+def times_held(item):
+    """For how many cycles the defence held an entry, by reason."""
+    held = {}
+    for wait in item.waits:
+        if wait.reason in TAINTS:
+            held[wait.reason] = held.get(wait.reason, 0) + wait.last - wait.first + 1
+    return held
 
 
 class Occupancy:
@@ -207,7 +215,9 @@ class Occupancy:
         self.cycles += 1
         self.retired[min(retired, len(self.retired) - 1)] += 1
         numbers = (len(pipeline.window), len(pipeline.waiting), pipeline.loads, pipeline.stores, len(pipeline.queue), len(pipeline.misses))
-        for place, number in enumerate(numbers):
-            self.sums[place] += number
-            if number > self.most[place]:
-                self.most[place] = number
+        sums, most = self.sums, self.most
+        for place in range(len(numbers)):
+            number = numbers[place]
+            sums[place] += number
+            if number > most[place]:
+                most[place] = number

@@ -30,7 +30,7 @@ use Rattle.core_cycle.proofs.Passing.{commits_after, kept_after, still_after}
 
 -- ---- fetching leaves the window as it is
 
-fetched_window : (d : Desc) (code : Code) (x : Machine) → (fetch d code x).machine.window ≡ x.window
+pub fetched_window : (d : Desc) (code : Code) (x : Machine) → (fetch d code x).machine.window ≡ x.window
 fetched_window d code x = fetch_keep d (λ y. y.window ≡ x.window) code (λ y pc q r k. k) x refl
 
 pub fetched_advanced : (s s1 : Described) → s1 ≡ record s { machine = (fetch_of s).machine } → HasAdvanced s.point s.machine.window → HasAdvanced s1.point s1.machine.window
@@ -40,7 +40,7 @@ fetched_advanced s s1 e a =
 -- ---- what each step of a cycle leaves
 
 -- it begins
-abbrev starts : Described → Described
+abbrev pub starts : Described → Described
 starts s = record s { machine = begins_cycle s.machine }
 
 -- and the phases before Retire go
@@ -94,7 +94,7 @@ module _ (s s1 s2 : Described) (p : Fronts s s1 s2) where
   fronted : phases_before s1 ≡ phases_before (starts s)
   fronted = ap phases_before p.begins
 
-  machine_fronted : s2.machine ≡ at_retire s.desc s.machine
+  pub machine_fronted : s2.machine ≡ at_retire s.desc s.machine
   machine_fronted = ap (λ (s : Described). s.machine) p.goes ∙ ap (λ (a : After). a.machine) fronted
 
   pub end_stays : s2.machine.end ≡ s.machine.end
@@ -108,13 +108,13 @@ module _ (s s1 s2 : Described) (p : Fronts s s1 s2) where
 
   -- and so is the next serial until Rename
   module _ (s3 : Described) (q : Leaves s2 s3) where
-    desc_left : s3.desc ≡ s.desc
+    pub desc_left : s3.desc ≡ s.desc
     desc_left = ap (λ (s : Described). s.desc) q ∙ desc_fronted
 
-    code_left : s3.code ≡ s.code
+    pub code_left : s3.code ≡ s.code
     code_left = ap (λ (s : Described). s.code) q ∙ code_fronted
 
-    machine_left : s3.machine ≡ (retire s.desc (at_retire s.desc s.machine)).machine
+    pub machine_left : s3.machine ≡ (retire s.desc (at_retire s.desc s.machine)).machine
     machine_left = ap (λ (s : Described). s.machine) q ∙ ap (λ (r : Retired). r.machine) retired
 
     -- and no store executes
@@ -142,13 +142,13 @@ module _ (s s1 s2 : Described) (p : Fronts s s1 s2) where
           ∙ ap (λ code. after_retire s.desc (word_at code) s3.machine) code_left
           ∙ ap (after_retire s.desc (word_at s.code)) machine_left
 
-      desc_backed : s4.desc ≡ s.desc
+      pub desc_backed : s4.desc ≡ s.desc
       desc_backed = ap (λ (s : Described). s.desc) k ∙ desc_left
 
-      code_backed : s4.code ≡ s.code
+      pub code_backed : s4.code ≡ s.code
       code_backed = ap (λ (s : Described). s.code) k ∙ code_left
 
-      machine_is : s4.machine ≡ (cycle s.desc (word_at s.code) s.machine).machine
+      pub machine_is : s4.machine ≡ (cycle s.desc (word_at s.code) s.machine).machine
       machine_is = ap (λ (s : Described). s.machine) k ∙ ap (λ (a : After). a.machine) backed ∙ ap (λ (c : Cycled). c.machine) (whole s)
 
       piece_is : (retire s2.desc s2.machine).piece ≡ (cycle s.desc (word_at s.code) s.machine).piece

@@ -24,12 +24,12 @@ module _ (s s1 s2 s3 s4 s5 : Described) (e : Resolved s s1 s2 s3 s4 s5) where
   desc_is : s3.desc ≡ s.desc
   desc_is = ap (λ (t : Described). t.desc) e.moved ∙ ap (λ (t : Described). t.desc) e.completed ∙ ap (λ (t : Described). t.desc) e.filled
 
-  resolves : resolve s3.desc s3.machine ≡ resolve s.desc (complete (fill s.desc s.machine).machine).machine
+  pub resolves : resolve s3.desc s3.machine ≡ resolve s.desc (complete (fill s.desc s.machine).machine).machine
   resolves =
       let machine = ap (λ (t : Described). t.machine) e.moved ∙ ap (λ (t : Described). t.machine) e.completed ∙ ap (λ (a : After). a.machine) completes in
       ap₂ resolve desc_is machine
 
-  clears : clear s5.desc s5.machine ≡ clear s.desc (resolve s.desc (complete (fill s.desc s.machine).machine).machine).machine
+  pub clears : clear s5.desc s5.machine ≡ clear s.desc (resolve s.desc (complete (fill s.desc s.machine).machine).machine).machine
   clears =
       let desc = ap (λ (t : Described). t.desc) e.moved_again ∙ ap (λ (t : Described). t.desc) e.resolved ∙ desc_is in
       let machine = ap (λ (t : Described). t.machine) e.moved_again ∙ ap (λ (t : Described). t.machine) e.resolved ∙ ap (λ (a : After). a.machine) resolves in

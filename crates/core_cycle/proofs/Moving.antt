@@ -23,7 +23,7 @@ use Rattle.core_cycle.proofs.Advanced.{retire_advanced}
 -- ---- a phase without events leaves the window as it was
 
 -- a row that is as long as it was has no event more
-no_more : (old new : Row) (es : List Event) → new ≡ record old { events = old.events ++ es } → length new.events ≡ length old.events → es ≡ []
+pub no_more : (old new : Row) (es : List Event) → new ≡ record old { events = old.events ++ es } → length new.events ≡ length old.events → es ≡ []
 no_more old new es e same =
     let n = ap (λ (r : Row). length r.events) e in
     let m = length-append old.events es in

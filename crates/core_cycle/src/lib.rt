@@ -13,3 +13,5 @@ mod moves;
 mod phases;
 
 pub use by_parts::Core;
+pub use moves::{advance_after, advance_after_complete};
+pub use phases::retire;

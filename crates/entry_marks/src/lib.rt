@@ -25,4 +25,4 @@ pub use operands::Operands;
 pub use retiring::{leave, leaving};
 pub use shows::{call_shows, resolved_shown, shown_by};
 pub use walk::Walk;
-pub use words::any_byte;
+pub use words::{UNMARKED, any_byte};

@@ -5,7 +5,7 @@ ghost use Rattle.secret_marks.specs.Words.{any_byte, downward, either, every_byt
 use secret_marks::WordMarks;
 
 /// No byte is marked.
-pub(crate) const UNMARKED: WordMarks = WordMarks {
+pub const UNMARKED: WordMarks = WordMarks {
     byte0: false,
     byte1: false,
     byte2: false,

@@ -1,4 +1,4 @@
-//! Tests of what is read, as a caller sees it: machine descriptions, and the words of the command line.
+//! Tests of what is read, as a caller sees it: machine descriptions, and the words of the programs.
 //!
 //! They use public items alone, so they stand above the crates that they test, and cost no more than their own proof
 //! (`docs/working.md`, "Where tests stand").
@@ -14,5 +14,7 @@ mod optional_keys;
 mod ranges;
 #[cfg(test)]
 mod reading;
+#[cfg(test)]
+mod secrets;
 #[cfg(test)]
 mod words;

@@ -32,52 +32,50 @@ fn done(tags: &mut Tags, step: Step) -> bool {
     }
 }
 
-// Steps with their answers, and which of the lines are there then.
-static STEPS: [(Step, bool, [bool; 4]); 8] = [
-    (Step::Use(A), false, [false, false, false, false]),
-    (Step::Fill(A), true, [true, false, false, false]),
-    (Step::Fill(B), true, [true, true, false, false]),
-    (Step::Fill(OTHER), true, [true, true, false, true]),
-    (Step::Use(A), true, [true, true, false, true]),
-    (Step::Use(C), false, [true, true, false, true]),
-    (Step::Fill(C), true, [true, false, true, true]),
-    (Step::Fill(B), true, [false, true, true, true]),
-];
-
 #[test]
 fn the_line_used_longest_ago_goes(rt: HostRuntime) -> Result<(), Fail> {
     let alloc = rt.alloc();
     let mut tags = Tags::new(alloc, &small(alloc)?)?;
-    for &(step, answer, there) in &STEPS {
-        let answered = done(&mut tags, step);
+    // Steps with their answers, and which of the lines are there then.
+    let rows = [
+        (Step::Use(A), false, [false, false, false, false]),
+        (Step::Fill(A), true, [true, false, false, false]),
+        (Step::Fill(B), true, [true, true, false, false]),
+        (Step::Fill(OTHER), true, [true, true, false, true]),
+        (Step::Use(A), true, [true, true, false, true]),
+        (Step::Use(C), false, [true, true, false, true]),
+        (Step::Fill(C), true, [true, false, true, true]),
+        (Step::Fill(B), true, [false, true, true, true]),
+    ];
+    for (step, answer, there) in rows {
+        let answered = done(&mut tags, step) == answer;
         let held = [
             tags.holds(A),
             tags.holds(B),
             tags.holds(C),
             tags.holds(OTHER),
         ];
-        assert_eq!(rt; (answered, held), (answer, there));
+        assert!(rt; answered && held == there, "{there:?}");
     }
     Ok(())
 }
-
-// What arrives, what is then looked up, whether it is there, and which of three lines are then held.
-static ARRIVALS: [(u32, u32, bool, [bool; 3]); 4] = [
-    (0, 0, true, [true, false, false]),
-    (16, 0, true, [true, true, false]),
-    (32, 16, false, [true, false, true]),
-    (16, 0, false, [false, true, true]),
-];
 
 #[test]
 fn the_second_level_drops_alike(rt: HostRuntime) -> Result<(), Fail> {
     let alloc = rt.alloc();
     let mut second = Second::new(alloc, &small(alloc)?)?;
-    for &(line, looked, answer, there) in &ARRIVALS {
+    // What arrives, what is then looked up, whether it is there, and which of three lines are then held.
+    let rows = [
+        (0, 0, true, [true, false, false]),
+        (16, 0, true, [true, true, false]),
+        (32, 16, false, [true, false, true]),
+        (16, 0, false, [false, true, true]),
+    ];
+    for (line, looked, answer, there) in rows {
         second.fill(line);
-        let answered = second.look(looked);
+        let answered = second.look(looked) == answer;
         let held = [second.holds(0), second.holds(16), second.holds(32)];
-        assert_eq!(rt; (answered, held), (answer, there));
+        assert!(rt; answered && held == there, "{there:?}");
     }
     Ok(())
 }
@@ -107,7 +105,7 @@ fn the_largest_levels_keep_eight_lines_of_a_set(rt: HostRuntime) -> Result<(), F
             tags.holds(turn * 0x4000 + 0x3fc0),
             second.holds(turn * 0x10000 + 0xffc0),
         ];
-        assert_eq!(rt; (turn, held), (turn, [turn > 0; 2]));
+        assert!(rt; held == [turn > 0; 2], "{turn}");
     }
     Ok(())
 }

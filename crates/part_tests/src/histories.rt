@@ -26,22 +26,21 @@ fn item(kind: Kind, instr: Instr) -> Item {
     }
 }
 
-// How a branch goes, and the history then.
-static DIRECTIONS: [(bool, u32); 6] = [
-    (true, 1),
-    (false, 2),
-    (true, 5),
-    (true, 3),
-    (true, 7),
-    (false, 6),
-];
-
 #[test]
 fn the_history_keeps_three_directions(rt: HostRuntime) -> Result<(), Fail> {
     let mut history = History::new(&small(rt.alloc())?);
-    for &(taken, want) in &DIRECTIONS {
+    // How a branch goes, and the history then.
+    let rows = [
+        (true, 1),
+        (false, 2),
+        (true, 5),
+        (true, 3),
+        (true, 7),
+        (false, 6),
+    ];
+    for (taken, want) in rows {
         history.shift(taken);
-        assert_eq!(rt; history.mark().history, want);
+        assert!(rt; history.mark().history == want, "{want}");
     }
     // The word's number is 0x4001, and the counters are sixteen.
     let places = [
@@ -52,11 +51,6 @@ fn the_history_keeps_three_directions(rt: HostRuntime) -> Result<(), Fail> {
     Ok(())
 }
 
-// What is taken off, before a mark is restored and behind it.
-static TAKEN_OFF: [Option<u32>; 3] = [Some(0x300), Some(0x200), None];
-
-static RESTORED: [Option<u32>; 3] = [Some(0x200), Some(0x100), None];
-
 #[test]
 fn the_stack_drops_its_oldest(rt: HostRuntime) -> Result<(), Fail> {
     let mut history = History::new(&small(rt.alloc())?);
@@ -64,55 +58,38 @@ fn the_stack_drops_its_oldest(rt: HostRuntime) -> Result<(), Fail> {
     history.push(0x200);
     let before = *history.mark();
     history.push(0x300);
-    for &want in &TAKEN_OFF {
-        assert_eq!(rt; history.pop(), want);
+    for want in [Some(0x300), Some(0x200), None] {
+        assert!(rt; history.pop() == want);
     }
     history.restore(&before);
-    for &want in &RESTORED {
-        assert_eq!(rt; history.pop(), want);
+    for want in [Some(0x200), Some(0x100), None] {
+        assert!(rt; history.pop() == want);
     }
     Ok(())
 }
 
-// What is followed.
-#[derive(Clone, Copy)]
-enum Followed {
-    /// A JALR that writes one register and goes by another.
-    Jalr(u8, u8),
-    Branch,
-    Alu,
-}
-
-// Its item.
-fn item_of(followed: Followed) -> Item {
-    match followed {
-        Followed::Jalr(rd, rs1) => item(Kind::Jalr, jump(rd, rs1)),
-        Followed::Branch => item(Kind::Branch, jump(0, 1)),
-        Followed::Alu => item(Kind::Alu, jump(0, 1)),
-    }
-}
-
-// What is followed; where a return then goes to, and how many addresses and directions there are.
-static FOLLOWED: [(Followed, Option<u32>, u32, u32); 7] = [
-    (Followed::Jalr(5, 1), None, 0, 0),
-    (Followed::Jalr(1, 5), Some(0x10004), 1, 0),
-    (Followed::Jalr(0, 5), Some(0x10004), 1, 0),
-    (Followed::Jalr(0, 1), None, 0, 0),
-    (Followed::Jalr(1, 1), Some(0x10004), 1, 0),
-    (Followed::Branch, Some(0x10004), 1, 1),
-    (Followed::Alu, Some(0x10004), 1, 1),
-];
-
 #[test]
 fn items_are_followed(rt: HostRuntime) -> Result<(), Fail> {
     let mut history = History::new(&small(rt.alloc())?);
-    let (to_one, to_five) = (jump(0, 1), jump(1, 1));
-    for &(followed, want, depth, directions) in &FOLLOWED {
-        history.follow(&item_of(followed), true);
-        let told = [history.returns_to(&to_one), history.returns_to(&to_five)];
+    // What is followed; where a return then goes to, and how many addresses and directions there are.
+    let rows = [
+        (Kind::Jalr, jump(5, 1), None, 0, 0),
+        (Kind::Jalr, jump(1, 5), Some(0x10004), 1, 0),
+        (Kind::Jalr, jump(0, 5), Some(0x10004), 1, 0),
+        (Kind::Jalr, jump(0, 1), None, 0, 0),
+        (Kind::Jalr, jump(1, 1), Some(0x10004), 1, 0),
+        (Kind::Branch, jump(0, 1), Some(0x10004), 1, 1),
+        (Kind::Alu, jump(0, 1), Some(0x10004), 1, 1),
+    ];
+    for (kind, instr, want, depth, directions) in rows {
+        history.follow(&item(kind, instr), true);
+        let told = [
+            history.returns_to(&jump(0, 1)),
+            history.returns_to(&jump(1, 1)),
+        ];
         let mark = history.mark();
-        let found = (told, mark.depth, mark.history);
-        assert_eq!(rt; found, ([want, None], depth, directions));
+        let as_many = mark.depth == depth && mark.history == directions;
+        assert!(rt; as_many && told == [want, None], "{instr:?}");
     }
     Ok(())
 }

@@ -12,31 +12,25 @@ fn taken(mshrs: &mut Mshrs, line: u32, due: u64, from_memory: bool) -> bool {
     true
 }
 
-// A line that is taken, whether it comes from memory, and how many registers are free then.
-static TAKEN: [(u32, bool, u32); 2] = [(65568, true, 1), (65536, false, 0)];
-
-// The cycle that is asked about, what comes in it; and when each of three lines comes then.
-type Due = (u64, Option<(u32, bool)>, [Option<u64>; 3]);
-
-static DUES: [Due; 4] = [
-    (11, None, [Some(12), Some(12), None]),
-    (12, Some((65568, true)), [None, Some(12), None]),
-    (12, Some((65536, false)), [None, None, None]),
-    (12, None, [None, None, None]),
-];
-
 #[test]
 fn two_lines_arrive_in_the_order_of_taking(rt: HostRuntime) -> Result<(), Fail> {
     let alloc = rt.alloc();
     let mut mshrs = Mshrs::new(alloc, &small(alloc)?)?;
-    for &(line, from_memory, free) in &TAKEN {
+    for (line, from_memory, free) in [(65568, true, 1), (65536, false, 0)] {
         assert!(rt; taken(&mut mshrs, line, 12, from_memory) && mshrs.free() == free);
     }
     assert!(rt; !taken(&mut mshrs, 65552, 12, true));
-    for &(cycle, want, dues) in &DUES {
-        let found = mshrs.due(cycle);
+    // The cycle that is asked about, what comes in it; and when each of three lines comes then.
+    let rows = [
+        (11, None, [Some(12), Some(12), None]),
+        (12, Some((65568, true)), [None, Some(12), None]),
+        (12, Some((65536, false)), [None, None, None]),
+        (12, None, [None, None, None]),
+    ];
+    for (cycle, want, dues) in rows {
+        let found = mshrs.due(cycle) == want;
         let told = [mshrs.find(65568), mshrs.find(65536), mshrs.find(65552)];
-        assert_eq!(rt; (cycle, found, told), (cycle, want, dues));
+        assert!(rt; found && told == dues, "{dues:?}");
     }
     assert!(rt; mshrs.len() == 0 && mshrs.misses().is_empty());
     Ok(())

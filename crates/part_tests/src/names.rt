@@ -6,7 +6,6 @@ use machine_desc::Desc;
 use rename_taint::{ByScan, ByTable, RenameTaint, Source, root_written, roots_of};
 use rv_types::{Instr, Kind, NoMemory, Op, Reg};
 use std::alloc::Global;
-use std::process::Abort;
 use std::test::Fail;
 
 fn x5() -> Reg
@@ -69,28 +68,24 @@ fn answers<R: RenameTaint + Drop>(
     Ok([none, written, squashed, rewritten, retired, emptied])
 }
 
-// What they answer.
-static ANSWERS: [[Option<u64>; 4]; 6] = [
-    [None, None, None, None],
-    [Some(4), Some(3), Some(3), Some(3)],
-    [Some(1), None, Some(3), None],
-    [Some(6), Some(2), Some(3), Some(2)],
-    [Some(6), Some(2), None, Some(2)],
-    [None, None, None, None],
-];
-
-// Both tables of this description do.
-fn both_answer_so(rt: &impl Abort, alloc: Global, desc: &Desc) -> Result<(), NoMemory> {
-    assert_eq!(rt; answers::<ByScan>(alloc, desc)?, ANSWERS);
-    assert_eq!(rt; answers::<ByTable>(alloc, desc)?, ANSWERS);
-    Ok(())
-}
-
 #[test]
 fn both_tables_answer_alike(rt: HostRuntime) -> Result<(), Fail> {
     let alloc = rt.alloc();
-    both_answer_so(&rt, alloc, &small(alloc)?)?;
-    both_answer_so(&rt, alloc, &largest(alloc)?)?;
+    let expected = [
+        [None, None, None, None],
+        [Some(4), Some(3), Some(3), Some(3)],
+        [Some(1), None, Some(3), None],
+        [Some(6), Some(2), Some(3), Some(2)],
+        [Some(6), Some(2), None, Some(2)],
+        [None, None, None, None],
+    ];
+    for desc in [small(alloc)?, largest(alloc)?] {
+        let told = [
+            answers::<ByScan>(alloc, &desc)?,
+            answers::<ByTable>(alloc, &desc)?,
+        ];
+        assert!(rt; told == [expected; 2]);
+    }
     Ok(())
 }
 
@@ -104,9 +99,8 @@ fn a_load_is_its_own_root(rt: HostRuntime) -> Result<(), Fail> {
         (Kind::Div, [Some(7), Some(3)], Some(7)),
         (Kind::Jalr, [Some(7), None], Some(7)),
     ];
-    for &(kind, roots, want) in &rows {
-        let root = root_written(kind, 9, roots);
-        assert_eq!(rt; (kind, roots, root), (kind, roots, want));
+    for (kind, roots, want) in rows {
+        assert!(rt; root_written(kind, 9, roots) == want, "{kind:?}");
     }
     Ok(())
 }

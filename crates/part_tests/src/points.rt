@@ -13,13 +13,13 @@ use visibility::VisPoint;
 use window_model::{Entry, Progress};
 
 // Whether the first entry, the load behind it and what comes next are visible.
-fn seen(alloc: Global, desc: &Desc, first: &Entry, load: &Entry) -> Result<[bool; 3], NoMemory>
-    requires older { first.now.serial ≡ 2 }
-    requires younger { load.now.serial ≡ 5 }
+fn seen(alloc: Global, desc: &Desc, first: Entry, load: Entry) -> Result<[bool; 3], NoMemory>
+    requires older { first.serial ≡ 2 }
+    requires younger { load.serial ≡ 5 }
 {
     let mut rob = RobRing::new(alloc, desc)?;
-    rob.push(*first);
-    rob.push(*load);
+    rob.push(first);
+    rob.push(load);
     let mut point = VisPoint::new(desc);
     point.advance(&rob);
     Ok([point.visible(2), point.visible(5), point.visible(6)])
@@ -36,99 +36,90 @@ fn first(word: Word, resolved: bool, cleared: bool) -> Entry
     }
 }
 
-// A load with serial 5, whose address is outside memory or isn't.
-fn load(state: Progress, faulty: bool) -> Entry
+// A load with serial 5.
+fn load(state: Progress, fault: Option<Cause>) -> Entry
     ensures { result.serial ≡ 5 }
 {
-    let fault = if faulty {
-        Some(Cause::load_outside())
-    } else {
-        None
-    };
     with_outcome(entry_of(5, Word::Load, state), 0, 0x10008, fault)
 }
-
-// The older one, whether it is resolved or cleared, the load and whether it has a fault; what is visible under spectre, and under
-// futuristic.
-type Point = (Word, bool, Progress, bool, [bool; 3], [bool; 3]);
-
-static POINTS: [Point; 6] = [
-    (
-        Word::Branch,
-        false,
-        Progress::Done,
-        false,
-        [true, false, false],
-        [true, false, false],
-    ),
-    (
-        Word::Branch,
-        true,
-        Progress::Waiting,
-        false,
-        [true, true, true],
-        [true, true, false],
-    ),
-    (
-        Word::Branch,
-        true,
-        Progress::Done,
-        true,
-        [true, true, true],
-        [true, true, false],
-    ),
-    (
-        Word::Branch,
-        true,
-        Progress::Done,
-        false,
-        [true, true, true],
-        [true, true, true],
-    ),
-    (
-        Word::Store,
-        false,
-        Progress::Done,
-        false,
-        [true, false, false],
-        [true, false, false],
-    ),
-    (
-        Word::Store,
-        true,
-        Progress::Done,
-        false,
-        [true, true, true],
-        [true, true, true],
-    ),
-];
 
 #[test]
 fn the_point_stands_at_what_keeps_younger_ones_hidden(rt: HostRuntime) -> Result<(), Fail> {
     let alloc = rt.alloc();
+    let fault = Some(Cause::load_outside());
+    let (waiting, done) = (Progress::Waiting, Progress::Done);
+    let (branch, store) = (Word::Branch, Word::Store);
+    // The older one, whether it is resolved or cleared, and the load; what is visible under spectre, and under futuristic.
+    let rows = [
+        (
+            branch,
+            false,
+            done,
+            None,
+            [true, false, false],
+            [true, false, false],
+        ),
+        (
+            branch,
+            true,
+            waiting,
+            None,
+            [true, true, true],
+            [true, true, false],
+        ),
+        (
+            branch,
+            true,
+            done,
+            fault,
+            [true, true, true],
+            [true, true, false],
+        ),
+        (
+            branch,
+            true,
+            done,
+            None,
+            [true, true, true],
+            [true, true, true],
+        ),
+        (
+            store,
+            false,
+            done,
+            None,
+            [true, false, false],
+            [true, false, false],
+        ),
+        (
+            store,
+            true,
+            done,
+            None,
+            [true, true, true],
+            [true, true, true],
+        ),
+    ];
     let spectre = under(alloc, "spectre")?;
     let futuristic = under(alloc, "futuristic")?;
-    for &(word, settled, state, faulty, by_branches, by_safety) in &POINTS {
+    for (word, settled, state, fault, by_branches, by_safety) in rows {
         let older = first(word, settled, settled);
-        let load = load(state, faulty);
+        let load = load(state, fault);
         let told = [
-            seen(alloc, &spectre, &older, &load)?,
-            seen(alloc, &futuristic, &older, &load)?,
+            seen(alloc, &spectre, older, load)?,
+            seen(alloc, &futuristic, older, load)?,
         ];
-        assert_eq!(rt; (settled, told), (settled, [by_branches, by_safety]));
+        assert!(rt; told == [by_branches, by_safety], "{settled} {by_safety:?}");
     }
     Ok(())
 }
-
-// A root, and whether what flows from it is tainted.
-static TAINTED: [(Option<u64>, bool); 3] = [(None, false), (Some(0), false), (Some(1), true)];
 
 #[test]
 fn before_anything_serial_0_alone_is_visible(rt: HostRuntime) -> Result<(), Fail> {
     let point = VisPoint::new(&small(rt.alloc())?);
     assert!(rt; point.visible(0) && !point.visible(1) && point.hidden_from() == 1);
-    for &(root, tainted) in &TAINTED {
-        assert_eq!(rt; (root, point.tainted(root)), (root, tainted));
+    for (root, tainted) in [(None, false), (Some(0), false), (Some(1), true)] {
+        assert!(rt; point.tainted(root) == tainted, "{root:?}");
     }
     Ok(())
 }

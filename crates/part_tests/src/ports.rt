@@ -25,15 +25,15 @@ fn two_units_and_one_of_each_other_port(rt: HostRuntime) -> Result<(), Fail> {
     ];
     for cycle in 1..3 {
         ports.begin(cycle);
-        for &(kind, granted) in &rows {
+        for (kind, granted) in rows {
             let told = [ports.has(kind), ports.grant(kind)];
-            assert_eq!(rt; (cycle, kind, told), (cycle, kind, [granted; 2]));
+            assert!(rt; told == [granted; 2], "{kind:?} in cycle {cycle}");
         }
         // The port of a store's data part is another one than that of its address part.
-        let told = [ports.has_data(), ports.grant_data()];
-        assert_eq!(rt; (cycle, told), (cycle, [true; 2]));
-        let told = [ports.has_data(), ports.grant_data()];
-        assert_eq!(rt; (cycle, told), (cycle, [false; 2]));
+        for granted in [true, false] {
+            let told = [ports.has_data(), ports.grant_data()];
+            assert!(rt; told == [granted; 2], "data in cycle {cycle}");
+        }
     }
     Ok(())
 }
@@ -46,13 +46,10 @@ fn a_stores_data_part_may_go_first(rt: HostRuntime) -> Result<(), Fail> {
     Ok(())
 }
 
-// Whether each of five asks is granted.
-static GRANTED: [bool; 5] = [true, true, true, true, false];
-
 #[test]
 fn four_units_are_the_most(rt: HostRuntime) -> Result<(), Fail> {
     let mut ports = Ports::new(&largest(rt.alloc())?);
-    for &granted in &GRANTED {
+    for granted in [true, true, true, true, false] {
         assert!(rt; ports.grant(Kind::Alu) == granted);
     }
     Ok(())
@@ -74,24 +71,23 @@ fn go(ports: &mut Ports, step: Step) {
     }
 }
 
-// Steps, whether the divider is free then, from when on, and who used it last.
-static DIVISIONS: [(Step, bool, u64, Option<u64>); 7] = [
-    (Step::Begin(4), true, 0, None),
-    (Step::Divide(9, 12), false, 9, Some(12)),
-    (Step::Drop(13), false, 9, Some(12)),
-    (Step::Begin(8), false, 9, Some(12)),
-    (Step::Begin(9), true, 9, Some(12)),
-    (Step::Divide(30, 14), false, 30, Some(14)),
-    (Step::Drop(14), true, 0, None),
-];
-
 #[test]
 fn the_divider_is_used_and_freed(rt: HostRuntime) -> Result<(), Fail> {
     let mut ports = Ports::new(&small(rt.alloc())?);
-    for &(step, free, free_from, user) in &DIVISIONS {
+    // Steps, whether the divider is free then, from when on, and who used it last.
+    let rows = [
+        (Step::Begin(4), true, 0, None),
+        (Step::Divide(9, 12), false, 9, Some(12)),
+        (Step::Drop(13), false, 9, Some(12)),
+        (Step::Begin(8), false, 9, Some(12)),
+        (Step::Begin(9), true, 9, Some(12)),
+        (Step::Divide(30, 14), false, 30, Some(14)),
+        (Step::Drop(14), true, 0, None),
+    ];
+    for (step, free, free_from, user) in rows {
         go(&mut ports, step);
-        let told = (ports.divider(), ports.free_div());
-        assert_eq!(rt; told, (Divider { free_from, user }, free));
+        let told = ports.divider() == Divider { free_from, user };
+        assert!(rt; told && ports.free_div() == free, "{free_from} {free}");
     }
     Ok(())
 }

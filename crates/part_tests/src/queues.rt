@@ -1,7 +1,7 @@
 //! Queues that are filled, asked and emptied (`lsq`; `docs/machine.md`, "Loads", "Rename", "Issue" and "Clear").
 use crate::descriptions::{largest, small};
 use byte_ram::Ram;
-use lsq::{Lsq, Merged, Pending, StoreInfo};
+use lsq::{Access, Lsq, Merged, Pending, Span, StoreInfo};
 use machine_desc::Desc;
 use rv_types::{Cause, Width};
 use std::alloc::Global;
@@ -10,11 +10,8 @@ use std::test::Fail;
 
 const BASE: u32 = 65536;
 
-// Where a store writes, how much, whether that is a fault, and from which cycle on it is known.
-type Place = (u32, Width, bool, u64);
-
 // A store: its serial and root, where it writes, and what, each if that is known.
-type Stored = (u64, Option<u64>, Option<Place>, Option<u32>);
+type Stored = (u64, Option<u64>, Option<Span>, Option<u32>);
 
 // Whether there was room for the load, which is then added.
 fn add_load(lsq: &mut Lsq, serial: u64) -> bool {
@@ -34,26 +31,21 @@ fn add_store(lsq: &mut Lsq, serial: u64, root: Option<u64>) -> bool {
     true
 }
 
-// The fault of a store outside memory, where it is one.
-fn outside(is_fault: bool) -> Option<Cause> {
-    if is_fault {
-        return Some(Cause::store_outside());
-    }
-    None
-}
-
-// The fault of a misaligned load, where it is one.
-fn misaligned(is_fault: bool) -> Option<Cause> {
-    if is_fault {
-        return Some(Cause::load_misaligned());
-    }
-    None
+// The load issues.
+fn issue(lsq: &mut Lsq, serial: u64, access: &Access) {
+    lsq.load_issued(
+        serial,
+        access.addr,
+        access.width,
+        access.fault,
+        access.cycle,
+    );
 }
 
 // What is known of the store is noted.
-fn note(lsq: &mut Lsq, serial: u64, place: Option<Place>, stored: Option<u32>) {
-    if let Some((addr, width, is_fault, known_from)) = place {
-        lsq.store_addr(serial, addr, width, outside(is_fault), known_from);
+fn note(lsq: &mut Lsq, serial: u64, span: Option<Span>, stored: Option<u32>) {
+    if let Some(span) = span {
+        lsq.store_addr(serial, span.addr, span.width, span.fault, span.known_from);
     }
     if let Some(stored) = stored {
         lsq.store_data(serial, stored);
@@ -63,11 +55,21 @@ fn note(lsq: &mut Lsq, serial: u64, place: Option<Place>, stored: Option<u32>) {
 // Small queues with these stores.
 fn with_stores(rt: &impl Abort, alloc: Global, stores: &[Stored]) -> Result<Lsq, Fail> {
     let mut lsq = Lsq::new(alloc, &small(alloc)?)?;
-    for &(serial, root, place, stored) in stores {
-        assert!(rt; add_store(&mut lsq, serial, root));
-        note(&mut lsq, serial, place, stored);
+    for (serial, root, span, stored) in stores {
+        assert!(rt; add_store(&mut lsq, *serial, *root));
+        note(&mut lsq, *serial, *span, *stored);
     }
     Ok(lsq)
+}
+
+// A store writes there, which is known from this cycle on.
+fn span(addr: u32, width: Width, fault: Option<Cause>, known_from: u64) -> Option<Span> {
+    Some(Span {
+        addr,
+        width,
+        fault,
+        known_from,
+    })
 }
 
 // What a load finds, None where the access has a fault.
@@ -79,71 +81,55 @@ fn found(lsq: &Lsq, serial: u64, ram: &Ram, addr: u32, width: Width) -> Option<M
     }
 }
 
-// What a load finds: the value, whether older stores give all its bytes, and the root of their addresses.
-type Found = Option<(u32, bool, Option<u64>)>;
-
-fn merged(found: Found) -> Option<Merged> {
-    match found {
-        Some((value, covered, root)) => Some(Merged {
-            value,
-            covered,
-            root,
-        }),
-        None => None,
-    }
+fn merged(value: u32, covered: bool, root: Option<u64>) -> Option<Merged> {
+    Some(Merged {
+        value,
+        covered,
+        root,
+    })
 }
-
-// A store with a fault gives nothing, but its address has a root as any other's.
-static WITH_DATA: [Stored; 4] = [
-    (3, None, Some((BASE, Width::H, false, 20)), Some(0xbeef)),
-    (
-        5,
-        Some(2),
-        Some((BASE + 1, Width::B, false, 20)),
-        Some(0x1cd),
-    ),
-    (
-        8,
-        Some(1),
-        Some((BASE, Width::W, true, 21)),
-        Some(0x5566_7788),
-    ),
-    (12, Some(11), None, None),
-];
-
-// A load: its serial, where it reads and how much, and what it finds.
-static FOUND: [(u64, u32, Width, Found); 7] = [
-    (3, BASE, Width::W, Some((0x4433_2211, false, None))),
-    (5, BASE, Width::H, Some((0xbeef, true, None))),
-    (7, BASE, Width::H, Some((0xcdef, true, Some(2)))),
-    (10, BASE, Width::W, Some((0x4433_cdef, false, Some(2)))),
-    (10, BASE + 1, Width::B, Some((0xcd, true, Some(2)))),
-    (13, BASE + 2, Width::B, Some((0x33, false, Some(11)))),
-    (13, BASE + 1, Width::H, None),
-];
 
 #[test]
 fn a_load_finds_the_youngest_bytes_before_it(rt: HostRuntime) -> Result<(), Fail> {
     let alloc = rt.alloc();
     let mut ram = Ram::new(alloc, BASE, 64, false)?;
     assert!(rt; ram.put(BASE, Width::W, 0x4433_2211).is_ok());
-    let mut lsq = with_stores(&rt, alloc, &WITH_DATA)?;
+    // A store with a fault gives nothing, but its address has a root as any other's.
+    let outside = Some(Cause::store_outside());
+    let stores = [
+        (3, None, span(BASE, Width::H, None, 20), Some(0xbeef)),
+        (5, Some(2), span(BASE + 1, Width::B, None, 20), Some(0x1cd)),
+        (
+            8,
+            Some(1),
+            span(BASE, Width::W, outside, 21),
+            Some(0x5566_7788),
+        ),
+        (12, Some(11), None, None),
+    ];
+    let mut lsq = with_stores(&rt, alloc, &stores)?;
     assert!(rt; !add_store(&mut lsq, 13, None));
-    for &(serial, addr, width, want) in &FOUND {
+    let rows: [(u64, u32, Width, Option<Merged>); 7] = [
+        (3, BASE, Width::W, merged(0x4433_2211, false, None)),
+        (5, BASE, Width::H, merged(0xbeef, true, None)),
+        (7, BASE, Width::H, merged(0xcdef, true, Some(2))),
+        (10, BASE, Width::W, merged(0x4433_cdef, false, Some(2))),
+        (10, BASE + 1, Width::B, merged(0xcd, true, Some(2))),
+        (13, BASE + 2, Width::B, merged(0x33, false, Some(11))),
+        (13, BASE + 1, Width::H, None),
+    ];
+    for (serial, addr, width, want) in rows {
         let told = found(&lsq, serial, &ram, addr, width);
-        assert_eq!(rt; (serial, addr, told), (serial, addr, merged(want)));
+        assert!(rt; told == want, "{serial} at {addr}");
     }
     lsq.cut(8);
     lsq.pop(3);
     let left = found(&lsq, 20, &ram, BASE, Width::H);
-    assert_eq!(rt; left, merged(Some((0xcd11, false, Some(2)))));
+    assert!(rt; left == merged(0xcd11, false, Some(2)));
     Ok(())
 }
 
-// Whether a load waits for an address, or for bytes that overlap, and the root of those addresses.
-type Awaited = (bool, bool, Option<u64>);
-
-fn waits((address, overlap, root): Awaited) -> Pending {
+fn waits(address: bool, overlap: bool, root: Option<u64>) -> Pending {
     Pending {
         address,
         overlap,
@@ -151,33 +137,32 @@ fn waits((address, overlap, root): Awaited) -> Pending {
     }
 }
 
-// The first has both its parts; the second only its address, the third too, with a fault; the last only its data.
-static IN_PARTS: [Stored; 4] = [
-    (3, Some(1), Some((BASE, Width::W, false, 20)), Some(7)),
-    (5, Some(2), Some((BASE + 2, Width::H, false, 20)), None),
-    (8, Some(4), Some((BASE + 4, Width::W, true, 21)), None),
-    (12, Some(11), None, Some(9)),
-];
-
-// A load: its serial, where it reads and how much, whether it is misaligned, and what it waits for.
-static WAITS: [(u64, u32, Width, bool, Awaited); 8] = [
-    (4, BASE, Width::W, false, (false, false, None)),
-    (6, BASE + 3, Width::B, false, (false, true, Some(2))),
-    (6, BASE, Width::W, false, (false, true, Some(2))),
-    (6, BASE, Width::H, false, (false, false, Some(2))),
-    (6, BASE + 1, Width::W, true, (false, false, Some(2))),
-    (9, BASE + 4, Width::B, false, (false, false, Some(4))),
-    (13, BASE + 2, Width::H, false, (true, true, Some(4))),
-    (13, BASE + 8, Width::W, false, (true, false, Some(4))),
-];
-
 #[test]
 fn a_load_waits_for_parts_of_older_stores(rt: HostRuntime) -> Result<(), Fail> {
     let alloc = rt.alloc();
-    let lsq = with_stores(&rt, alloc, &IN_PARTS)?;
-    for &(serial, addr, width, is_fault, want) in &WAITS {
-        let told = lsq.pending(serial, addr, width, misaligned(is_fault));
-        assert_eq!(rt; (serial, addr, told), (serial, addr, waits(want)));
+    // The first has both its parts; the second only its address, the third too, with a fault; the last only its data.
+    let outside = Some(Cause::store_outside());
+    let stores = [
+        (3, Some(1), span(BASE, Width::W, None, 20), Some(7)),
+        (5, Some(2), span(BASE + 2, Width::H, None, 20), None),
+        (8, Some(4), span(BASE + 4, Width::W, outside, 21), None),
+        (12, Some(11), None, Some(9)),
+    ];
+    let lsq = with_stores(&rt, alloc, &stores)?;
+    let fault = Some(Cause::load_misaligned());
+    let rows: [(u64, u32, Width, Option<Cause>, Pending); 8] = [
+        (4, BASE, Width::W, None, waits(false, false, None)),
+        (6, BASE + 3, Width::B, None, waits(false, true, Some(2))),
+        (6, BASE, Width::W, None, waits(false, true, Some(2))),
+        (6, BASE, Width::H, None, waits(false, false, Some(2))),
+        (6, BASE + 1, Width::W, fault, waits(false, false, Some(2))),
+        (9, BASE + 4, Width::B, None, waits(false, false, Some(4))),
+        (13, BASE + 2, Width::H, None, waits(true, true, Some(4))),
+        (13, BASE + 8, Width::W, None, waits(true, false, Some(4))),
+    ];
+    for (serial, addr, width, fault, want) in rows {
+        let told = lsq.pending(serial, addr, width, fault);
+        assert!(rt; told == want, "{serial} at {addr}");
     }
     // Up to the second store each has both its parts.
     assert!(rt; lsq.all_older_known(5) && !lsq.all_older_known(6));
@@ -205,8 +190,9 @@ fn has_room_for(
     lsq.pop(100);
     lsq.cut(99 + stores as u64);
     assert!(rt; add_load(&mut lsq, 201) && !add_load(&mut lsq, 202));
-    assert!(rt; add_store(&mut lsq, 203, None));
-    assert!(rt; add_store(&mut lsq, 204, None));
+    for serial in [203, 204] {
+        assert!(rt; add_store(&mut lsq, serial, None));
+    }
     assert!(rt; !add_store(&mut lsq, 205, None));
     Ok(())
 }
@@ -236,29 +222,24 @@ fn serials(lsq: &Lsq) -> [Option<u64>; 4] {
     ]
 }
 
-// Stores of which nothing is known.
-static UNKNOWN: [Stored; 4] = [
-    (3, None, None, None),
-    (5, None, None, None),
-    (8, None, None, None),
-    (12, None, None, None),
-];
-
-// Who isn't there, older than all or not, takes none; the oldest and another take themselves.
-static LEFT: [(u64, [Option<u64>; 4]); 5] = [
-    (2, [Some(3), Some(5), Some(8), Some(12)]),
-    (3, [Some(5), Some(8), Some(12), None]),
-    (4, [Some(5), Some(8), Some(12), None]),
-    (8, [Some(5), Some(12), None, None]),
-    (9, [Some(5), Some(12), None, None]),
-];
-
 #[test]
 fn who_retires_leaves_its_queue(rt: HostRuntime) -> Result<(), Fail> {
-    let mut lsq = with_stores(&rt, rt.alloc(), &UNKNOWN)?;
-    for &(serial, left) in &LEFT {
+    let alloc = rt.alloc();
+    let mut lsq = Lsq::new(alloc, &small(alloc)?)?;
+    for serial in [3, 5, 8, 12] {
+        assert!(rt; add_store(&mut lsq, serial, None));
+    }
+    // Who isn't there, older than all or not, takes none; the oldest and another take themselves.
+    let rows: [(u64, [Option<u64>; 4]); 5] = [
+        (2, [Some(3), Some(5), Some(8), Some(12)]),
+        (3, [Some(5), Some(8), Some(12), None]),
+        (4, [Some(5), Some(8), Some(12), None]),
+        (8, [Some(5), Some(12), None, None]),
+        (9, [Some(5), Some(12), None, None]),
+    ];
+    for (serial, left) in rows {
         lsq.pop(serial);
-        assert_eq!(rt; (serial, serials(&lsq)), (serial, left));
+        assert!(rt; serials(&lsq) == left, "after {serial}");
     }
     // Serials that fall: who is older than the first may be there.
     assert!(rt; add_store(&mut lsq, 4, None));
@@ -267,76 +248,78 @@ fn who_retires_leaves_its_queue(rt: HostRuntime) -> Result<(), Fail> {
     Ok(())
 }
 
-// What is told of a store: its serial and root, whether its address is known, and whether it is cleared.
-type Told = Option<(u64, Option<u64>, bool, bool)>;
+fn info(serial: u64, root: Option<u64>, known: bool, cleared: bool) -> Option<StoreInfo> {
+    Some(StoreInfo {
+        serial,
+        root,
+        known,
+        cleared,
+    })
+}
 
-fn info(told: Told) -> Option<StoreInfo> {
-    match told {
-        Some((serial, root, known, cleared)) => Some(StoreInfo {
-            serial,
-            root,
-            known,
-            cleared,
-        }),
-        None => None,
+// A load issues in this cycle.
+fn access(addr: u32, width: Width, fault: Option<Cause>, cycle: u64) -> Access {
+    Access {
+        addr,
+        width,
+        fault,
+        cycle,
     }
 }
 
-// Stores of which three are known, one of them with a fault, from cycle 8 on.
-static PASSED: [Stored; 4] = [
-    (3, None, Some((BASE, Width::W, true, 8)), None),
-    (4, Some(2), Some((BASE + 16, Width::W, false, 8)), None),
-    (5, Some(2), Some((BASE + 2, Width::H, false, 8)), None),
-    (12, Some(9), None, None),
-];
-
-// A load before them and three behind them: its serial, where it reads and how much, whether it is misaligned, and when it issues.
-static PASSING: [(u64, u32, Width, bool, u64); 4] = [
-    (2, BASE, Width::W, false, 6),
-    (6, BASE + 3, Width::B, false, 8),
-    (7, BASE + 1, Width::W, true, 6),
-    (9, BASE, Width::W, false, 7),
-];
-
-// They have issued.
+// Stores of which three are known, one of them with a fault, from cycle 8 on; and a load before and three behind them.
 fn passed_stores(rt: &impl Abort, alloc: Global) -> Result<Lsq, Fail> {
-    let mut lsq = with_stores(rt, alloc, &PASSED)?;
-    for &(serial, addr, width, is_fault, cycle) in &PASSING {
+    let outside = Some(Cause::store_outside());
+    let stores = [
+        (3, None, span(BASE, Width::W, outside, 8), None),
+        (4, Some(2), span(BASE + 16, Width::W, None, 8), None),
+        (5, Some(2), span(BASE + 2, Width::H, None, 8), None),
+        (12, Some(9), None, None),
+    ];
+    let mut lsq = with_stores(rt, alloc, &stores)?;
+    let loads = [
+        (2, access(BASE, Width::W, None, 6)),
+        (6, access(BASE + 3, Width::B, None, 8)),
+        (
+            7,
+            access(BASE + 1, Width::W, Some(Cause::load_misaligned()), 6),
+        ),
+        (9, access(BASE, Width::W, None, 7)),
+    ];
+    for (serial, access) in loads {
         assert!(rt; add_load(&mut lsq, serial));
-        lsq.load_issued(serial, addr, width, misaligned(is_fault), cycle);
+        issue(&mut lsq, serial, &access);
     }
     Ok(lsq)
 }
 
-// Of the loads behind 5 the first issued once its address was known, and the second has a fault. Then a store with a fault,
-// one that writes elsewhere, one of unknown address, and one that isn't there.
-static VIOLATED: [(u64, Option<u64>); 4] = [(5, Some(9)), (3, None), (12, None), (8, None)];
-
-// What is told of a place then.
-static TOLD: [(u32, Told); 5] = [
-    (0, Some((3, None, true, true))),
-    (1, Some((4, Some(2), true, false))),
-    (2, Some((5, Some(2), true, true))),
-    (3, Some((12, Some(9), false, true))),
-    (4, None),
-];
-
 #[test]
 fn the_oldest_load_that_passed_wrongly_is_violated(rt: HostRuntime) -> Result<(), Fail> {
-    let mut lsq = passed_stores(&rt, rt.alloc())?;
-    for &(serial, violated) in &VIOLATED {
-        assert_eq!(rt; (serial, lsq.clear(serial)), (serial, violated));
+    let alloc = rt.alloc();
+    let mut lsq = passed_stores(&rt, alloc)?;
+    // Of the loads behind 5 the first issued once its address was known, and the second has a fault. Then a store with a fault,
+    // one that writes elsewhere, one of unknown address, and one that isn't there.
+    let rows = [(5, Some(9)), (3, None), (12, None), (8, None)];
+    for (serial, violated) in rows {
+        assert!(rt; lsq.clear(serial) == violated, "{serial}");
     }
-    for &(place, told) in &TOLD {
-        assert_eq!(rt; (place, lsq.store_at(place)), (place, info(told)));
+    let stores = [
+        info(3, None, true, true),
+        info(4, Some(2), true, false),
+        info(5, Some(2), true, true),
+        info(12, Some(9), false, true),
+        None,
+    ];
+    for (place, info) in (0..5).zip(stores) {
+        assert!(rt; lsq.store_at(place) == info, "{place}");
     }
     assert!(rt; lsq.clear(4).is_none());
     // Of two loads that passed it wrongly the oldest is violated, also where it issued last; a load that hasn't issued isn't.
     lsq.cut(7);
     assert!(rt; add_load(&mut lsq, 10) && add_load(&mut lsq, 11));
-    lsq.load_issued(11, BASE + 2, Width::H, None, 3);
+    issue(&mut lsq, 11, &access(BASE + 2, Width::H, None, 3));
     assert!(rt; lsq.clear(5) == Some(11));
-    lsq.load_issued(10, BASE + 3, Width::B, None, 7);
+    issue(&mut lsq, 10, &access(BASE + 3, Width::B, None, 7));
     assert!(rt; lsq.clear(5) == Some(10));
     Ok(())
 }

@@ -28,15 +28,15 @@ fn with_roots(roots: [Option<u64>; 2]) -> Sources {
 fn picked(
     alloc: Global,
     desc: &Desc,
-    entries: [&Entry; 2],
-    roots: [[Option<u64>; 2]; 2],
+    older: (Entry, [Option<u64>; 2]),
+    younger: (Entry, [Option<u64>; 2]),
 ) -> Result<Option<u32>, Fail> {
     let mut ring = RobRing::new(alloc, desc)?;
-    ring.push(*entries[0]);
-    ring.push(*entries[1]);
+    ring.push(older.0);
+    ring.push(younger.0);
     let mut sources = HeapCircularBuffer::with_capacity(alloc, 2)?;
-    let _ = sources.try_push_back(with_roots(roots[0]));
-    let _ = sources.try_push_back(with_roots(roots[1]));
+    let _ = sources.try_push_back(with_roots(older.1));
+    let _ = sources.try_push_back(with_roots(younger.1));
     Ok(pick(&ring, &VisPoint::new(desc), &sources))
 }
 
@@ -45,74 +45,42 @@ fn done(serial: u64, word: Word) -> Entry {
     with_outcome(entry_of(serial, word, Progress::Done), 1, 0x10014, None)
 }
 
-// An older entry: a branch that is Done, that is resolved, or that executes; a store that isn't cleared; or an addition.
-#[derive(Clone, Copy)]
-enum Older {
-    Branch,
-    Resolved,
-    Waiting,
-    Store,
-    Sum,
-}
-
-fn older_of(older: Older) -> Entry {
-    let word = match older {
-        Older::Store => Word::Store,
-        Older::Sum => Word::Sum,
-        _ => Word::Branch,
-    };
-    let mut entry = done(3, word);
-    match older {
-        Older::Resolved => entry.resolved = true,
-        Older::Waiting => entry.state = Progress::Busy(9),
-        Older::Store => entry.cleared = false,
-        _ => (),
-    }
-    entry
-}
-
-// A younger jump that is resolved, or isn't.
-fn younger_of(resolved: bool) -> Entry {
-    let mut entry = done(5, Word::Jump);
-    if resolved {
-        entry.resolved = true;
-    }
-    entry
-}
-
-// Roots of a source: none; of the second or the first, one that is visible or one that is hidden.
-const NONE: [Option<u64>; 2] = [None, None];
-
-const VISIBLE: [Option<u64>; 2] = [None, Some(0)];
-
-const HIDDEN: [Option<u64>; 2] = [None, Some(7)];
-
-const FIRST_VISIBLE: [Option<u64>; 2] = [Some(0), None];
-
-const FIRST_HIDDEN: [Option<u64>; 2] = [Some(7), None];
-
-// The older entry, whether the younger jump is resolved, the roots of both, and the position that is picked.
-type Choice = (Older, bool, [[Option<u64>; 2]; 2], Option<u32>);
-
-static CHOICES: [Choice; 8] = [
-    (Older::Branch, false, [VISIBLE, FIRST_VISIBLE], Some(0)),
-    (Older::Branch, false, [HIDDEN, FIRST_VISIBLE], Some(1)),
-    (Older::Branch, false, [HIDDEN, FIRST_HIDDEN], None),
-    (Older::Resolved, false, [NONE, FIRST_VISIBLE], Some(1)),
-    (Older::Resolved, false, [NONE, FIRST_HIDDEN], None),
-    (Older::Waiting, false, [NONE, NONE], Some(1)),
-    (Older::Store, false, [NONE, NONE], Some(1)),
-    (Older::Sum, true, [NONE, NONE], None),
-];
-
 #[test]
 fn the_oldest_without_a_tainted_operand_is_picked(rt: HostRuntime) -> Result<(), Fail> {
     let alloc = rt.alloc();
     let desc = small(alloc)?;
-    for &(older, resolved, roots, want) in &CHOICES {
-        let entries = [&older_of(older), &younger_of(resolved)];
-        let place = picked(alloc, &desc, entries, roots)?;
-        assert_eq!(rt; (roots, place), (roots, want));
+    let (branch, jump) = (done(3, Word::Branch), done(5, Word::Jump));
+    let resolved = Entry {
+        resolved: true,
+        ..branch
+    };
+    let waiting = Entry {
+        state: Progress::Busy(9),
+        ..branch
+    };
+    let store = Entry {
+        cleared: false,
+        ..done(3, Word::Store)
+    };
+    let also_resolved = Entry {
+        resolved: true,
+        ..jump
+    };
+    let none = [None, None];
+    let (visible, hidden) = ([None, Some(0)], [None, Some(7)]);
+    let (first_visible, first_hidden) = ([Some(0), None], [Some(7), None]);
+    let rows = [
+        ((branch, visible), (jump, first_visible), Some(0)),
+        ((branch, hidden), (jump, first_visible), Some(1)),
+        ((branch, hidden), (jump, first_hidden), None),
+        ((resolved, none), (jump, first_visible), Some(1)),
+        ((resolved, none), (jump, first_hidden), None),
+        ((waiting, none), (jump, none), Some(1)),
+        ((store, none), (jump, none), Some(1)),
+        ((done(3, Word::Sum), none), (also_resolved, none), None),
+    ];
+    for (older, younger, want) in rows {
+        assert!(rt; picked(alloc, &desc, older, younger)? == want, "{want:?}");
     }
     Ok(())
 }
@@ -122,83 +90,69 @@ fn event_at(row: &Row, place: usize) -> Option<Event> {
     row.events().get(place).copied()
 }
 
-// A branch or JALR, its value, the next address and whether that is a fault; how it is resolved, which way, and what is learnt.
-type Resolved = (Word, u32, u32, bool, Resolution, Way, Option<Event>);
-
-static RESOLVED: [Resolved; 5] = [
-    (
-        Word::Branch,
-        0,
-        0x10008,
-        false,
-        Resolution::Right,
-        Way::NotTaken,
-        Some(Event::Bp(1, 0)),
-    ),
-    (
-        Word::Branch,
-        1,
-        0x10014,
-        false,
-        Resolution::Wrong(0x10014),
-        Way::Taken,
-        Some(Event::Bp(1, 2)),
-    ),
-    (
-        Word::Branch,
-        1,
-        0x10016,
-        true,
-        Resolution::Fault,
-        Way::Taken,
-        Some(Event::Bp(1, 2)),
-    ),
-    (
-        Word::Jump,
-        0x10008,
-        0x20000,
-        false,
-        Resolution::Wrong(0x20000),
-        Way::Jump,
-        Some(Event::Bt(1, 0x20000)),
-    ),
-    (
-        Word::Jump,
-        0x10008,
-        0x20002,
-        true,
-        Resolution::Fault,
-        Way::Jump,
-        None,
-    ),
-];
-
-// A branch or JALR with this value and next address, misaligned or not.
-fn resolving(word: Word, value: u32, next: u32, misaligned: bool) -> Entry {
-    let entry = entry_of(3, word, Progress::Done);
-    if misaligned {
-        return with_outcome(entry, value, next, Some(Cause::jump_misaligned()));
-    }
-    with_outcome(entry, value, next, None)
-}
-
 #[test]
 fn what_is_resolved_teaches_and_tells(rt: HostRuntime) -> Result<(), Fail> {
     let alloc = rt.alloc();
     let desc = small(alloc)?;
-    let history = History::new(&desc);
+    let fault = Some(Cause::jump_misaligned());
+    let (branch, jump) = (Word::Branch, Word::Jump);
+    let (not_taken, taken) = (Way::NotTaken, Way::Taken);
+    let right = Resolution::Right;
+    let faulty = Resolution::Fault;
+    let rows = [
+        (
+            branch,
+            0,
+            0x10008,
+            None,
+            right,
+            not_taken,
+            Some(Event::Bp(1, 0)),
+        ),
+        (
+            branch,
+            1,
+            0x10014,
+            None,
+            Resolution::Wrong(0x10014),
+            taken,
+            Some(Event::Bp(1, 2)),
+        ),
+        (
+            branch,
+            1,
+            0x10016,
+            fault,
+            faulty,
+            taken,
+            Some(Event::Bp(1, 2)),
+        ),
+        (
+            jump,
+            0x10008,
+            0x20000,
+            None,
+            Resolution::Wrong(0x20000),
+            Way::Jump,
+            Some(Event::Bt(1, 0x20000)),
+        ),
+        (jump, 0x10008, 0x20002, fault, faulty, Way::Jump, None),
+    ];
     // Each by a predictor that has learnt nothing yet.
-    for &(word, value, next, misaligned, resolution, way, taught) in &RESOLVED {
-        let entry = resolving(word, value, next, misaligned);
+    for (word, value, next, fault, resolution, way, taught) in rows {
+        let entry = with_outcome(entry_of(3, word, Progress::Done), value, next, fault);
         let mut predictor = Predictor::new(alloc, &desc)?;
         let mut row = empty_row();
-        let resolved = resolve(&entry, &history, &mut predictor, &mut row);
-        assert_eq!(rt; (next, resolved), (next, resolution));
+        let resolved = resolve(&entry, &History::new(&desc), &mut predictor, &mut row);
+        assert!(rt; resolved == resolution, "{next}");
         let events = [event_at(&row, 0), event_at(&row, 1), event_at(&row, 2)];
-        assert_eq!(rt; events, [Some(Event::Res(3, way)), taught, None]);
+        assert!(rt;
+            events == [Some(Event::Res(3, way)), taught, None],
+            "{next}"
+        );
         let learnt = taught == Some(Event::Bt(1, next));
         let target = if learnt { Some(next) } else { None };
-        assert_eq!(rt; (next, predictor.target(0x10004)), (next, target));
+        assert!(rt; predictor.target(0x10004) == target, "{next}");
     }
     Ok(())
 }

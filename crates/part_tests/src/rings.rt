@@ -12,11 +12,10 @@ use std::process::Abort;
 use std::test::Fail;
 use window_model::{Entry, Progress, Window};
 
-// What is done with a ring, at a position. A branch that waits is set there, or a load with a fault.
+// What is done with a ring, at a position.
 #[derive(Clone, Copy)]
 enum Step {
-    SetBranch(u32),
-    SetFaulty(u32),
+    Set(u32, Entry),
     Resolve(u32),
     Clear(u32),
     Finish(u32),
@@ -24,23 +23,11 @@ enum Step {
     Pop,
 }
 
-// A branch that waits.
-fn branch() -> Entry {
-    entry_of(4, Word::Branch, Progress::Waiting)
-}
-
-// A load with a fault that is Done.
-fn faulty() -> Entry {
-    let fault = Some(Cause::load_outside());
-    with_outcome(entry_of(7, Word::Load, Progress::Done), 5, 4, fault)
-}
-
 // The step is done, where there is such a position.
 fn go(rt: &impl Abort, ring: &mut RobRing, step: Step) {
     let len = ring.len();
     match step {
-        Step::SetBranch(i) if i < len => ring.set(i, branch()),
-        Step::SetFaulty(i) if i < len => ring.set(i, faulty()),
+        Step::Set(i, entry) if i < len => ring.set(i, entry),
         Step::Resolve(i) if i < len => ring.resolve(i),
         Step::Clear(i) if i < len => ring.clear(i),
         Step::Finish(i) if i < len => ring.finish(i),
@@ -59,97 +46,104 @@ fn next(ring: &RobRing, from: u32) -> [Option<u32>; 3] {
     ]
 }
 
-// The serial of the youngest entry of a window.
-fn youngest<W: Window>(window: &W) -> Option<u64> {
+// The youngest entry of a window.
+fn youngest<W: Window>(window: &W) -> Option<Entry> {
     match window.len() {
         0 => None,
-        len => Some(window.lend(len - 1).serial),
+        len => Some(*window.lend(len - 1)),
+    }
+}
+
+// The serial of an entry, if there is one.
+fn serial_of(entry: Option<Entry>) -> Option<u64> {
+    match entry {
+        Some(entry) => Some(entry.serial),
+        None => None,
     }
 }
 
 // How many there are, and the serials of the oldest and the youngest.
 fn ends(ring: &RobRing) -> (u32, [Option<u64>; 2]) {
-    let oldest = match ring.head() {
-        Some(entry) => Some(entry.serial),
-        None => None,
-    };
-    (ring.len(), [oldest, youngest(ring)])
+    let serials = [serial_of(ring.head()), serial_of(youngest(ring))];
+    (ring.len(), serials)
 }
 
 // A load that executes, a branch, a store that isn't cleared, and an addition that executes.
-fn four(alloc: Global) -> Result<RobRing, Fail> {
+fn four(alloc: Global, branch: Entry) -> Result<RobRing, Fail> {
     let store = Entry {
         cleared: false,
         ..entry_of(7, Word::Store, Progress::Done)
     };
     let mut ring = RobRing::new(alloc, &small(alloc)?)?;
     ring.push(entry_of(3, Word::Load, Progress::Busy(9)));
-    ring.push(branch());
+    ring.push(branch);
     ring.push(store);
     ring.push(entry_of(8, Word::Sum, Progress::Busy(9)));
     Ok(ring)
 }
 
-// Steps, how many entries there are then, the serials of the oldest and the youngest, and who is told first.
-static STEPS: [(Step, u32, [Option<u64>; 2], [Option<u32>; 3]); 11] = [
-    (
-        Step::Finish(0),
-        4,
-        [Some(3), Some(8)],
-        [Some(3), Some(1), Some(1)],
-    ),
-    (
-        Step::Resolve(1),
-        4,
-        [Some(3), Some(8)],
-        [Some(3), Some(2), Some(2)],
-    ),
-    // To be resolved is nothing to a store.
-    (
-        Step::Resolve(2),
-        4,
-        [Some(3), Some(8)],
-        [Some(3), Some(2), Some(2)],
-    ),
-    (Step::Clear(2), 4, [Some(3), Some(8)], [Some(3), None, None]),
-    (Step::Pop, 3, [Some(4), Some(8)], [Some(2), None, None]),
-    (
-        Step::SetBranch(0),
-        3,
-        [Some(4), Some(8)],
-        [Some(2), Some(0), Some(0)],
-    ),
-    (
-        Step::SetFaulty(1),
-        3,
-        [Some(4), Some(8)],
-        [Some(2), Some(0), Some(0)],
-    ),
-    (
-        Step::Resolve(0),
-        3,
-        [Some(4), Some(8)],
-        [Some(2), None, Some(1)],
-    ),
-    (
-        Step::Finish(2),
-        3,
-        [Some(4), Some(8)],
-        [None, None, Some(1)],
-    ),
-    (Step::Cut(1), 1, [Some(4), Some(4)], [None, None, None]),
-    (Step::Pop, 0, [None, None], [None, None, None]),
-];
-
 #[test]
 fn a_ring_tells_what_its_entries_are(rt: HostRuntime) -> Result<(), Fail> {
-    let mut ring = four(rt.alloc())?;
-    assert_eq!(rt; ends(&ring), (4, [Some(3), Some(8)]));
-    assert_eq!(rt; next(&ring, 0), [Some(0), Some(1), Some(0)]);
-    for &(step, len, serials, told) in &STEPS {
+    let branch = entry_of(4, Word::Branch, Progress::Waiting);
+    let mut ring = four(rt.alloc(), branch)?;
+    assert!(rt; ends(&ring) == (4, [Some(3), Some(8)]));
+    assert!(rt; next(&ring, 0) == [Some(0), Some(1), Some(0)]);
+    let fault = Some(Cause::load_outside());
+    let faulty = with_outcome(entry_of(7, Word::Load, Progress::Done), 5, 4, fault);
+    // Steps, how many entries there are then, the serials of the oldest and the youngest, and who is told first.
+    let rows = [
+        (
+            Step::Finish(0),
+            4,
+            [Some(3), Some(8)],
+            [Some(3), Some(1), Some(1)],
+        ),
+        (
+            Step::Resolve(1),
+            4,
+            [Some(3), Some(8)],
+            [Some(3), Some(2), Some(2)],
+        ),
+        // To be resolved is nothing to a store.
+        (
+            Step::Resolve(2),
+            4,
+            [Some(3), Some(8)],
+            [Some(3), Some(2), Some(2)],
+        ),
+        (Step::Clear(2), 4, [Some(3), Some(8)], [Some(3), None, None]),
+        (Step::Pop, 3, [Some(4), Some(8)], [Some(2), None, None]),
+        (
+            Step::Set(0, branch),
+            3,
+            [Some(4), Some(8)],
+            [Some(2), Some(0), Some(0)],
+        ),
+        (
+            Step::Set(1, faulty),
+            3,
+            [Some(4), Some(8)],
+            [Some(2), Some(0), Some(0)],
+        ),
+        (
+            Step::Resolve(0),
+            3,
+            [Some(4), Some(8)],
+            [Some(2), None, Some(1)],
+        ),
+        (
+            Step::Finish(2),
+            3,
+            [Some(4), Some(8)],
+            [None, None, Some(1)],
+        ),
+        (Step::Cut(1), 1, [Some(4), Some(4)], [None; 3]),
+        (Step::Pop, 0, [None, None], [None; 3]),
+    ];
+    for (step, len, serials, told) in rows {
         go(&rt, &mut ring, step);
-        assert_eq!(rt; ends(&ring), (len, serials));
-        assert_eq!(rt; next(&ring, 0), told);
+        assert!(rt; ends(&ring) == (len, serials), "{len} {serials:?}");
+        assert!(rt; next(&ring, 0) == told, "{len} {told:?}");
     }
     Ok(())
 }
@@ -173,8 +167,7 @@ fn an_entry_begins_in_its_place(rt: HostRuntime) -> Result<(), Fail> {
         data_due: None,
     };
     ring.issue(1, &issued);
-    assert!(rt; ring.head() == Some(entry(3)));
-    assert!(rt; ring.at(1) == begun);
+    assert!(rt; [ring.head(), youngest(&ring)] == [Some(entry(3)), Some(begun)]);
     Ok(())
 }
 
@@ -188,14 +181,6 @@ fn found(ring: &RobRing, serial: u64) -> Option<u32>
     }
 }
 
-// Serials, where each would stand, and where it stands.
-static PLACES: [(u64, u32, Option<u32>); 4] = [
-    (3, 0, Some(0)),
-    (4, 1, None),
-    (7, 1, Some(1)),
-    (8, 2, None),
-];
-
 #[test]
 #[tactic(auto, using(window_model::proofs::Serials::rise_push))]
 fn serials_have_positions(rt: HostRuntime) -> Result<(), Fail> {
@@ -204,9 +189,10 @@ fn serials_have_positions(rt: HostRuntime) -> Result<(), Fail> {
     ring.push(entry(3));
     ring.push(entry(7));
     assert!(rt; ring.at(1) == entry(7));
-    for &(serial, position, place) in &PLACES {
-        let told = (serial, ring.position_of(serial), found(&ring, serial));
-        assert_eq!(rt; told, (serial, position, place));
+    let rows = [(3, 0, Some(0)), (4, 1, None), (7, 1, Some(1)), (8, 2, None)];
+    for (serial, position, place) in rows {
+        let told = (ring.position_of(serial), found(&ring, serial));
+        assert!(rt; told == (position, place), "at {serial}");
     }
     Ok(())
 }
@@ -252,26 +238,24 @@ fn full(rt: &impl Abort, alloc: Global) -> Result<RobRing, Fail> {
     Ok(filling.ring)
 }
 
-// The position from which on it is asked, and who executes from there on.
-static FULL: [(u32, Option<u32>); 4] = [(0, Some(0)), (1, Some(70)), (71, Some(140)), (141, None)];
-
-// Once the oldest has left.
-static WITHOUT_OLDEST: [(u32, Option<u32>); 3] = [(0, Some(69)), (70, Some(139)), (140, None)];
-
-// The ring tells so, and the branch at the last position.
-fn tells_so(rt: &impl Abort, ring: &RobRing, last: u32, rows: &[(u32, Option<u32>)]) {
-    for &(from, busy) in rows {
-        let told = next(ring, from);
-        assert_eq!(rt; (from, told), (from, [busy, Some(last), Some(last)]));
-    }
-}
-
 #[test]
 fn the_largest_ring_has_192_entries(rt: HostRuntime) -> Result<(), Fail> {
     let mut ring = full(&rt, rt.alloc())?;
-    assert_eq!(rt; ends(&ring), (192, [Some(0), Some(191)]));
-    tells_so(&rt, &ring, 191, &FULL);
+    assert!(rt; ends(&ring) == (192, [Some(0), Some(191)]));
+    // The position from which on it is asked, and who executes from there on.
+    let rows = [(0, Some(0)), (1, Some(70)), (71, Some(140)), (141, None)];
+    for (from, busy) in rows {
+        assert!(rt;
+            next(&ring, from) == [busy, Some(191), Some(191)],
+            "from {from}"
+        );
+    }
     go(&rt, &mut ring, Step::Pop);
-    tells_so(&rt, &ring, 190, &WITHOUT_OLDEST);
+    for (from, busy) in [(0, Some(69)), (70, Some(139)), (140, None)] {
+        assert!(rt;
+            next(&ring, from) == [busy, Some(190), Some(190)],
+            "from {from}"
+        );
+    }
     Ok(())
 }

@@ -4,7 +4,6 @@ use crate::descriptions::{largest, small};
 use machine_desc::Desc;
 use stations::{Part, Stations, Wants};
 use std::alloc::Global;
-use std::process::Abort;
 use std::test::Fail;
 
 // Of the entry at a position, whether it is ready, its first part, its second part, and whether it may issue or a part of it.
@@ -34,94 +33,73 @@ fn two(
     Ok(stations)
 }
 
-// What the first entry needs, who are Done then, and what is told of the first and the second entry.
-static WOKEN: [(Wants, [u64; 2], [bool; 4], [bool; 4]); 7] = [
-    (Wants::Whole, [9, 9], [false; 4], [false; 4]),
-    (
-        Wants::Whole,
-        [67, 9],
-        [false, false, true, false],
-        [false; 4],
-    ),
-    (Wants::Whole, [9, 3], [false, true, false, false], [true; 4]),
-    (Wants::Whole, [67, 3], [true; 4], [true; 4]),
-    (
-        Wants::Either,
-        [9, 67],
-        [false, false, true, true],
-        [false; 4],
-    ),
-    (Wants::Either, [3, 9], [false, true, false, true], [true; 4]),
-    (Wants::Either, [3, 67], [true; 4], [true; 4]),
-];
-
-// They are woken so in stations of this description.
-fn are_woken_so(rt: &impl Abort, alloc: Global, desc: &Desc) -> Result<(), Fail> {
-    for &(wants, done, first, second) in &WOKEN {
-        let awaited = [Some(3), Some(67)];
-        let mut stations = two(alloc, desc, wants, awaited, [Some(3), Some(3)])?;
-        stations.wake(done[0]);
-        stations.wake(done[1]);
-        let both = [told(&stations, 0), told(&stations, 1)];
-        assert_eq!(rt; (done, both), (done, [first, second]));
-        assert_eq!(rt; stations.any_able(), first[3] || second[3]);
+#[test]
+fn who_is_woken_awaits_the_others_yet(rt: HostRuntime) -> Result<(), Fail> {
+    let alloc = rt.alloc();
+    let (whole, either) = (Wants::Whole, Wants::Either);
+    // What the first entry needs, who are Done then, and what is told of the first and the second entry.
+    let rows = [
+        (whole, [9, 9], [false; 4], [false; 4]),
+        (whole, [67, 9], [false, false, true, false], [false; 4]),
+        (whole, [9, 3], [false, true, false, false], [true; 4]),
+        (whole, [67, 3], [true; 4], [true; 4]),
+        (either, [9, 67], [false, false, true, true], [false; 4]),
+        (either, [3, 9], [false, true, false, true], [true; 4]),
+        (either, [3, 67], [true; 4], [true; 4]),
+    ];
+    for desc in [small(alloc)?, largest(alloc)?] {
+        for (wants, done, first, second) in rows {
+            let awaited = [Some(3), Some(67)];
+            let mut stations = two(alloc, &desc, wants, awaited, [Some(3), Some(3)])?;
+            stations.wake(done[0]);
+            stations.wake(done[1]);
+            let any = first[3] || second[3];
+            let both = [told(&stations, 0), told(&stations, 1)];
+            assert!(rt; both == [first, second], "{done:?}");
+            assert!(rt; stations.any_able() == any, "{done:?}");
+        }
     }
     Ok(())
 }
 
 #[test]
-fn who_is_woken_awaits_the_others_yet(rt: HostRuntime) -> Result<(), Fail> {
-    let alloc = rt.alloc();
-    are_woken_so(&rt, alloc, &small(alloc)?)?;
-    are_woken_so(&rt, alloc, &largest(alloc)?)
-}
-
-// What the entry needs once its other part has issued, who is Done then, and whether the entry may issue.
-static PART_LEFT: [(Wants, u64, bool); 4] = [
-    (Wants::Other, 3, false),
-    (Wants::Other, 67, true),
-    (Wants::Base, 3, true),
-    (Wants::Base, 67, false),
-];
-
-#[test]
 fn a_part_that_is_left_needs_its_own_source(rt: HostRuntime) -> Result<(), Fail> {
     let alloc = rt.alloc();
+    // What the entry needs once its other part has issued, who is Done then, and whether the entry may issue.
+    let rows = [
+        (Wants::Other, 3, false),
+        (Wants::Other, 67, true),
+        (Wants::Base, 3, true),
+        (Wants::Base, 67, false),
+    ];
     let desc = small(alloc)?;
-    for &(wants, done, able) in &PART_LEFT {
+    for (wants, done, able) in rows {
         let awaited = [Some(3), Some(67)];
         let mut stations = two(alloc, &desc, Wants::Either, awaited, [Some(9), None])?;
         assert!(rt; stations.len() == 2);
         stations.leave(0, wants);
         stations.wake(done);
-        let is_able = [stations.any_able(), told(&stations, 0)[3]];
-        assert_eq!(rt; (wants, done, is_able), (wants, done, [able; 2]));
+        assert!(rt;
+            stations.any_able() == able && told(&stations, 0)[3] == able,
+            "{wants:?} {done}"
+        );
     }
-    Ok(())
-}
-
-// In stations of this description an entry stays in its place as the other leaves; so much room is free with two, one and none.
-fn stays_in_its_place(
-    rt: &impl Abort,
-    alloc: Global,
-    desc: &Desc,
-    free: [u32; 3],
-) -> Result<(), Fail> {
-    let none = [None, None];
-    let mut stations = two(alloc, desc, Wants::Whole, none, none)?;
-    assert!(rt; stations.len() == 2 && stations.free() == free[0]);
-    let place = stations.place(1);
-    stations.remove(0);
-    assert!(rt; stations.len() == 1 && stations.free() == free[1]);
-    assert!(rt; (stations.place(0), stations.serial(0)) == (place, 71));
-    stations.drop_from(71);
-    assert!(rt; stations.len() == 0 && stations.free() == free[2]);
     Ok(())
 }
 
 #[test]
 fn an_entry_stays_in_its_place(rt: HostRuntime) -> Result<(), Fail> {
     let alloc = rt.alloc();
-    stays_in_its_place(&rt, alloc, &small(alloc)?, [6, 7, 8])?;
-    stays_in_its_place(&rt, alloc, &largest(alloc)?, [94, 95, 96])
+    for (desc, room) in [(small(alloc)?, 8), (largest(alloc)?, 96)] {
+        let none = [None, None];
+        let mut stations = two(alloc, &desc, Wants::Whole, none, none)?;
+        assert!(rt; stations.len() == 2 && stations.free() == room - 2);
+        let place = stations.place(1);
+        stations.remove(0);
+        assert!(rt; stations.len() == 1 && stations.free() == room - 1);
+        assert!(rt; (stations.place(0), stations.serial(0)) == (place, 71));
+        stations.drop_from(71);
+        assert!(rt; stations.len() == 0 && stations.free() == room);
+    }
+    Ok(())
 }

@@ -18,7 +18,7 @@ use Rattle.stations.specs.Stations.{ready_part}
 use Rattle.stations.specs.declared.wants.Part.TheVariants as part
 use Rattle.stations.specs.declared.wants.Wants.TheVariants as wants
 use Rattle.rob_ring.specs.Beside.{each_roots}
-use Rattle.transmit_gate.specs.Gate.{may_transmit}
+use Rattle.visibility.specs.Gate.{may_transmit}
 use Rattle.parts_stand.specs.Parts.{wants_by, wants_of}
 use Rattle.parts_stand.specs.Telling.{HoldsBy, OperandsTold, has_sources}
 use Rattle.parts_stand.proofs.Answering.{tells_operands, tells_part}
@@ -34,7 +34,7 @@ use Rattle.shown_marks.specs.State.{HasTurn, before_of, parts_of, window_of}
 
 -- ---- who is passed
 
--- what a store asks at the port of its address doesn't depend on what is around it
+-- whether a store asks at the port of its address doesn't depend on what is around it, as this
 nothing_around : Around
 nothing_around = record { cycle = 0; regs = []; ram = record { base = 0; bytes = []; misaligned = false }; dependence = []; cache = []; second = []; misses = []; free_from = 0 }
 
@@ -100,6 +100,7 @@ module _ (s : Seen) (p : Place) (t : HasTurn s p) where
       ∙ sym (ap₂ (λ w r. w && r && not (any_tainted d.stt_model before e)) t.waits (is_ready (ap is_store is)))
       ∙ ap (λ k. decides_as k d before e) (sym is)
 
+  -- either where what it asks of taint is so
   pub untainted_decides : (roots : List (Option ℕ)) (b : Bool) → (e.item.kind ≡ Load) ⊎ (e.item.kind ≡ Div) → slice_get (each_roots s.walk.sources.now.items) p.position ≡ Some roots →
       b ≡ may_transmit e.item.kind s.point.now.serial roots → b ≡ decides_as e.item.kind d before e
   untainted_decides roots b (inl is) k q = load_decides roots b is k q

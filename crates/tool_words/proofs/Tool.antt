@@ -1,8 +1,6 @@
 -- What clap's clauses say of the commands of the tool, and that the definitions compute on words.
-use Rattle.std.proofs.Common.{◌≡◌, ◌⊎◌, inl, inr, List, [], ◌∷◌, Result, true, refl, ap, ◌∙◌, subst, sym}
-use Rattle.clap.specs.Words.{App, Text, Kinds, IsAmong, HasKind, fault_of, is_simple, is_simple_and_free, subcommand_of, kind_of, HasMatchesOf, subcommand_rows_of}
-use Rattle.clap.specs.declared.error.Error.{Error}
-use Rattle.clap.specs.declared.error.kind.ErrorKind.{ErrorKind}
+use Rattle.std.proofs.Common.{◌≡◌, ◌≢◌, IfOk, IfErr, ◌⊎◌, inl, inr, List, [], ◌∷◌, Result, true, refl, subst, sym}
+use Rattle.clap.specs.Words.{Text, Kinds, is_simple, is_simple_and_free, subcommand_rows_of}
 use Rattle.clap.specs.declared.error.kind.ErrorKind.TheVariants as kind
 use Rattle.clap.specs.declared.parser.matches.ArgMatches.{ArgMatches}
 use Rattle.std.proofs.Common.{ℕ, ◌<◌, ◌≤◌, ◌^◌, Bool, false, if◌then◌else◌, Option, Some, None, Ok, Err, arith}
@@ -12,7 +10,9 @@ use Rattle.std.proofs.Common.{codes, length, map}
 use Rattle.clap.proofs.OnLiterals.{clap_on_literals}
 use Rattle.clap.proofs.ValueTestLemmas.{accepts-Accepts, Accepts-accepts}
 use Rattle.clap.specs.declared.builder.value_parser.ValueParser.TheVariants as parser
-use Rattle.tool_words.specs.Words.{isa_text, run_text, trace_text, bench_text, pair_text, tool_app, faults, rows_in, number_between, number_of, word_of, blocks_of, CommandText, command_in, command_of, if_none}
+use Rattle.tool_words.specs.declared.Refused.{Refused}
+use Rattle.tool_words.specs.declared.Refused.TheVariants.{Words}
+use Rattle.tool_words.specs.Words.{FindsBy, isa_text, run_text, trace_text, bench_text, pair_text, tool_app, faults, rows_in, number_between, number_of, word_of, blocks_of, CommandText, command_in, command_of, if_none}
 
 pub tool_is_free : is_simple_and_free tool_app ≡ true
 tool_is_free = refl
@@ -20,33 +20,18 @@ tool_is_free = refl
 pub tool_is_simple : is_simple tool_app ≡ true
 tool_is_simple = refl
 
-pub no_faults : (app : App) (ws : List Text) → app ≡ tool_app → (is_simple_and_free app ≡ true → fault_of app ws ≡ []) → faults ws ≡ []
-unfolding faults
-no_faults app ws e h =
-    let k : fault_of app ws ≡ [] = h (ap is_simple_and_free e ∙ tool_is_free) in
-    let P : App → Type 0 = λ a. fault_of a ws ≡ [] in
-    subst P e k
+-- what was found by the parser of the tool is what its definitions say
+pub found_as_written : (ws : List Text) (r : Result ArgMatches Refused) → FindsBy tool_app ws r
+    → IfOk r (λ m. (faults ws ≡ []) × (subcommand_rows_of m ≡ rows_in ws)) × IfErr r (λ e. e ≡ Words → faults ws ≢ [])
+unfolding faults rows_in
+found_as_written ws (Ok m) h = let found = h tool_is_free in ((found.0, (found.1 tool_is_simple).1), tt)
+found_as_written ws (Err e) h = (tt, h tool_is_free)
 
-pub rows_are : (app : App) (ws : List Text) (m : ArgMatches) → app ≡ tool_app → HasMatchesOf app ws m → subcommand_rows_of m ≡ rows_in ws
-unfolding rows_in
-rows_are app ws m e h =
-    let k : subcommand_rows_of m ≡ subcommand_of app ws = (h (ap is_simple e ∙ tool_is_simple)).1 in
-    k ∙ ap (λ (a : App). subcommand_of a ws) e
-
-not_among : (k : ErrorKind) (kinds : Kinds) → kinds ≡ [] → IsAmong k kinds → ⊥
-not_among k kinds e h = let P : Kinds → Type 0 = λ x. IsAmong k x in subst P e h
-
-pub some_fault : (app : App) (ws : List Text) (e : Error) → app ≡ tool_app → (is_simple_and_free app ≡ true → HasKind (fault_of app ws) e) → (kind_of e ≡ kind.OutOfMemory → ⊥) → faults ws ≡ [] → ⊥
-unfolding faults
-some_fault app ws e same h other none =
-    let k : HasKind (fault_of app ws) e = h (ap is_simple_and_free same ∙ tool_is_free) in
-    let none' : fault_of app ws ≡ [] = ap (λ (a : App). fault_of a ws) same ∙ none in
-    elim k [ inl m ↦ other m | inr m ↦ not_among _ _ none' m ]
-
-yes : (b : Bool) (v n : ℕ) → b ≡ true → v ≡ n → Some n ≡ (if b then Some v else None)
+-- a number that is read where a test is passed, and none where it isn't
+pub yes : (b : Bool) (v n : ℕ) → b ≡ true → v ≡ n → Some n ≡ (if b then Some v else None)
 yes b v n e k = rw (e, k) refl
 
-no : (b : Bool) (v : ℕ) → (b ≡ true → ⊥) → None ≡ (if b then Some v else None)
+pub no : (b : Bool) (v : ℕ) → (b ≡ true → ⊥) → None ≡ (if b then Some v else None)
 no true v h = absurd (h refl)
 no false v h = refl
 
@@ -118,7 +103,7 @@ pub words_are : (ws : List Text) (m : ArgMatches) (o : Option CommandText) → f
 unfolding command_of
 words_are ws m o none rows e = rw (none, ← rows) (sym e)
 
-none_of : (ks : Kinds) (c : Option CommandText) → (ks ≡ [] → ⊥) → if_none ks c ≡ None
+pub none_of : {X : Type 0} (ks : Kinds) (c : Option X) → (ks ≡ [] → ⊥) → if_none ks c ≡ None
 none_of [] c h = absurd (h refl)
 none_of (k ∷ ks) c h = refl
 

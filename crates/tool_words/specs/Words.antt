@@ -1,14 +1,17 @@
 -- The commands of the tool, as clap's written definition takes them (docs/formats.md, "Words").
-use Rattle.std.specs.Prelude.{◌≡◌, Result, IfOk, ℕ, if◌then◌else◌, option_map, option_and_then, List, [], ◌∷◌, Option, Some, None, true, false, codes}
+use Rattle.std.specs.Prelude.{◌≡◌, ◌≢◌, Result, IfOk, MatchResult, ℕ, if◌then◌else◌, option_map, option_and_then, List, [], ◌∷◌, Option, Some, None, true, false, codes}
 use Rattle.std.specs.declared.alloc.AllocError.{AllocError}
 use Rattle.clap.specs.declared.builder.command.Command.{Command as Parser}
 use Rattle.clap.specs.declared.builder.command.Command.TheViews.{out-Command}
-use Rattle.clap.specs.Words.{Kinds, app_of, shape_of, fault_of, subcommand_of, first_of, Row, Rule, Text, App, Shape, new_rule, new_app, with_rule, with_subcommand}
+use Rattle.clap.specs.declared.parser.matches.ArgMatches.{ArgMatches}
+use Rattle.clap.specs.Words.{Kinds, HasMatchesOf, is_simple_and_free, app_of, shape_of, fault_of, subcommand_of, first_of, Row, Rule, Text, App, Shape, new_rule, new_app, with_rule, with_subcommand}
 use Rattle.std.specs.Str.{bytes_eq}
 use Rattle.std.specs.Str.Parse.{digits_value, without_leading_plus}
 use Rattle.clap.specs.ValueTests.{accepts}
 use Rattle.clap.specs.declared.builder.value_parser.ValueParser.TheVariants as parser
 use Rattle.tool_words.specs.declared.Command.{Command}
+use Rattle.tool_words.specs.declared.Refused.{Refused}
+use Rattle.tool_words.specs.declared.Refused.TheVariants.{Words}
 use Rattle.tool_words.specs.declared.Command.TheVariants.{Isa, Run, Trace, Bench, Pair}
 
 -- a required name at its place
@@ -70,6 +73,12 @@ IsParser app made = IfOk made (λ parser. (app_of parser ≡ app) × ((out-Comma
 -- a parser that was made for a command of this shape
 abbrev pub IsCommand : Shape → Result Parser AllocError → Type 0
 IsCommand shape made = IfOk made (λ parser. (shape_of parser ≡ shape) × ((out-Command parser).has_globals ≡ false))
+
+-- what was found in words by a parser of this command, if it is a simple one: they have no fault and these matches; or they were
+-- refused, as no words of this command only where they have a fault
+abbrev pub FindsBy : App → List Text → Result ArgMatches Refused → Type 0
+FindsBy app ws result =
+    is_simple_and_free app ≡ true → MatchResult result (λ m. (fault_of app ws ≡ []) × HasMatchesOf app ws m) (λ refused. refused ≡ Words → fault_of app ws ≢ [])
 
 -- the kinds of fault that clap finds in the words
 unfoldable pub faults : List Text → Kinds
@@ -151,9 +160,10 @@ command_in (Some p) =
     else if bytes_eq p.0 (codes "pair") then pair_in p.1
     else None
 
-abbrev pub if_none : Kinds → Option CommandText → Option CommandText
-if_none [] command = command
-if_none (k ∷ ks) command = None
+-- what the words ask for, where no fault was found in them
+abbrev pub if_none : {X : Type 0} → Kinds → Option X → Option X
+if_none [] wanted = wanted
+if_none (k ∷ ks) wanted = None
 
 -- the command of the words: none where clap finds a fault in them
 unfoldable pub command_of : List Text → Option CommandText

@@ -7,7 +7,7 @@
 ghost use Rattle.std.specs.Prelude.{◌≡◌, IfOk, map, IfErr, ◌≢◌, None, Some, [], option_map, false};
 ghost use Rattle.clap.specs.Words.{App, Rule, Shape, rule_of, app_of, with_rule, with_subcommand, subcommand_rows_of, rows_of, found_of, first_of};
 ghost use Rattle.clap.specs.declared.builder.command.Command.TheViews.{out-Command};
-ghost use Rattle.tool_words.specs.Words.{name_rule, number_rule, text_rule, run_text, trace_text, cycles_rule, isa_shape, cycles_shape, bench_shape, pair_shape, bare_app, tool_app, IsParser, IsCommand, faults, rows_in, command_text, number_of, number_in, word_of, word_in, blocks_of, blocks_in, isa_in, cycles_in, bench_in, pair_in, command_in, command_of};
+ghost use Rattle.tool_words.specs.Words.{name_rule, number_rule, text_rule, run_text, trace_text, cycles_rule, isa_shape, cycles_shape, bench_shape, pair_shape, bare_app, tool_app, IsParser, IsCommand, FindsBy, faults, rows_in, command_text, number_of, number_in, word_of, word_in, blocks_of, blocks_in, isa_in, cycles_in, bench_in, pair_in, command_in, command_of};
 
 mod blocks;
 
@@ -70,8 +70,8 @@ pub enum Refused {
     Memory,
 }
 
-// A required name at its place.
-fn name_arg<'a>(alloc: Global, id: &'a str) -> Arg<'a>
+/// A required name at its place.
+pub fn name_arg<'a>(alloc: Global, id: &'a str) -> Arg<'a>
     ensures rule { rule_of result ≡ name_rule id.now }
     ensures here { result.global ≡ false }
 {
@@ -89,8 +89,8 @@ fn number_arg<'a>(alloc: Global, id: &'a str, least: u64, most: u64) -> Arg<'a>
         .value_parser(ValueParser::Unsigned(least, most))
 }
 
-// The number of cycles.
-fn cycles_arg<'a>(alloc: Global) -> Arg<'a>
+/// The required option `--cycles`, with a number from 1 to `STEPS_MAX`.
+pub fn cycles_arg<'a>(alloc: Global) -> Arg<'a>
     ensures rule { rule_of result ≡ cycles_rule }
     ensures here { result.global ≡ false }
 {
@@ -105,8 +105,8 @@ fn text_arg<'a>(alloc: Global, id: &'a str) -> Arg<'a>
     Arg::new(alloc, id).long(id)
 }
 
-// A parser with one more argument.
-fn with_arg<'a>(
+/// A parser with one more argument. The one error is want of memory, also where there was none for the parser before.
+pub fn with_arg<'a>(
     parser: Result<Parser<'a>, AllocError>,
     arg: Arg<'a>,
 ) -> Result<Parser<'a>, AllocError>
@@ -203,13 +203,15 @@ fn tool_parser<'a>(alloc: Global) -> Result<Parser<'a>, AllocError>
     with_command(parser, pair_parser(alloc))
 }
 
-// What clap finds in the words.
-fn parse<'a>(alloc: Global, words: &'a [&'a str]) -> Result<ArgMatches<'a>, Refused>
-    ensures ok { IfOk result (λ m. (faults (map (λ w. w.now) words.now) ≡ [])
-        × (subcommand_rows_of m ≡ rows_in (map (λ w. w.now) words.now))) }
-    ensures refused { IfErr result (λ e. e ≡ Refused.Words → faults (map (λ w. w.now) words.now) ≢ []) }
+/// What clap finds in the words by a parser of a simple command, where there was memory to make it. Errors: `Words`, only where clap
+/// finds a fault in the words; `Memory`.
+pub fn find_by<'a>(
+    parser: Result<Parser<'a>, AllocError>,
+    words: &'a [&'a str],
+) -> Result<ArgMatches<'a>, Refused>
+    ensures { (app : App) → IfOk parser.entry (λ p. app_of p ≡ app) → FindsBy app (map (λ w. w.now) words.now) result }
 {
-    let parser = match tool_parser(alloc) {
+    let parser = match parser {
         Ok(parser) => parser,
         Err(_) => return Err(Refused::Memory),
     };
@@ -222,7 +224,17 @@ fn parse<'a>(alloc: Global, words: &'a [&'a str]) -> Result<ArgMatches<'a>, Refu
     }
 }
 
-fn text_in<'a>(matches: &ArgMatches<'a>, id: &str) -> Option<&'a str>
+// What clap finds in the words.
+fn parse<'a>(alloc: Global, words: &'a [&'a str]) -> Result<ArgMatches<'a>, Refused>
+    ensures ok { IfOk result (λ m. (faults (map (λ w. w.now) words.now) ≡ [])
+        × (subcommand_rows_of m ≡ rows_in (map (λ w. w.now) words.now))) }
+    ensures refused { IfErr result (λ e. e ≡ Refused.Words → faults (map (λ w. w.now) words.now) ≢ []) }
+{
+    find_by(tool_parser(alloc), words)
+}
+
+/// The text of a name or an option, if there is one.
+pub fn text_in<'a>(matches: &ArgMatches<'a>, id: &str) -> Option<&'a str>
     ensures { option_map (λ t. t.now) result ≡ first_of id.now (rows_of (found_of matches.now)) }
 {
     matches.get_str(id)
@@ -256,8 +268,8 @@ fn word_of(text: &str) -> Option<u32>
     }
 }
 
-// The number of an option, of 32 bits.
-fn word_in(matches: &ArgMatches<'_>, id: &str) -> Option<u32>
+/// The number of an option, where it has one of 32 bits.
+pub fn word_in(matches: &ArgMatches<'_>, id: &str) -> Option<u32>
     ensures { result ≡ word_in id.now (rows_of (found_of matches.now)) }
 {
     match text_in(matches, id) {

@@ -27,7 +27,7 @@ CYCLES = "100000000"
 MERSENNE = 2**31 - 1
 FIELD = 2**130 - 5
 MODULUS = 3329
-# a run of these takes more than a million cycles
+# a run of these takes more than a million cycles, so one pair of a compiler has to do
 LONG = ("x25519",)
 
 
@@ -146,12 +146,11 @@ class Crypto(unittest.TestCase):
                 yield compiler, built(compiler)
 
     def each_image(self):
-        """Program, compiler, and the secret of each image."""
+        """Program, the word for its compiler, level, and the secret of each image."""
         for compiler, folders in self.each_compiler():
-            for name, (symbol, _, _) in rows().items():
+            for name, (symbol, _, words) in rows().items():
                 for level, path in folders.items():
-                    with self.subTest(program=name, level=level):
-                        yield name, compiler, Secret(os.path.join(path, f"{name}.elf"), symbol)
+                    yield name, words[compiler], level, Secret(os.path.join(path, f"{name}.elf"), symbol)
 
     def test_tables(self):
         programs = sorted(name[:-2] for name in os.listdir(FOLDER) if name.endswith(".c"))
@@ -163,7 +162,7 @@ class Crypto(unittest.TestCase):
         for compiler, _ in self.each_compiler():
             ended = make("-s", "test", f"COMPILERS={compiler}", f"STT_CLI={os.path.abspath(PROGRAM)}")
             self.assertEqual((ended.returncode, ended.stderr), (0, ""))
-            self.assertEqual(ended.stdout.splitlines()[-1], "22 images put out their vectors")
+            self.assertEqual(ended.stdout.splitlines()[-1], f"{len(rows()) * len(LEVELS)} images put out their vectors")
 
     def test_wrong_vector_is_told(self):
         wrong = os.path.join(folder(), "wrong.txt")
@@ -177,26 +176,40 @@ class Crypto(unittest.TestCase):
 
     def test_secrets(self):
         """The symbol, its bytes, and that they aren't code."""
-        for name, _, secret in self.each_image():
-            self.assertEqual((len(secret.found), secret.size), (1, rows()[name][1]))
-            self.assertFalse(secret.executable)
+        for name, _, _, secret in self.each_image():
+            with self.subTest(image=secret.path):
+                self.assertEqual((len(secret.found), secret.size), (1, rows()[name][1]))
+                self.assertFalse(secret.executable)
 
     def test_other_secrets(self):
         """What is put out is a function of the secret, and the right one: no compiler has worked it out before the run."""
-        for name, _, secret in self.each_image():
+        for name, _, _, secret in self.each_image():
             for value in others(name, secret.size) if name in TELLS else ():
-                self.assertEqual(written(secret.other(value)), (TELLS[name](value), "end exit 0"))
+                with self.subTest(image=secret.path, value=value):
+                    self.assertEqual(written(secret.other(value)), (TELLS[name](value), "end exit 0"))
 
     def test_traces(self):
         """Two secrets have unequal traces exactly where README.md says that the secret shows."""
-        for name, compiler, secret in self.each_image():
+        for name, word, level, secret in self.each_image():
             descriptions, values = DESCRIPTIONS, others(name, secret.size)
             if name in LONG:
-                descriptions, values = descriptions[:1], values[2:3]
+                descriptions, values = DESCRIPTIONS[:level == "O2"], values[2:3]
             for description in descriptions:
-                with self.subTest(description=os.path.basename(description)):
+                with self.subTest(image=secret.path, description=os.path.basename(description)):
                     unequal = [self.unequal(description, secret, value) for value in values]
-                    self.assertEqual("shown" if any(unequal) else "hidden", rows()[name][2][compiler])
+                    self.assertEqual("shown" if any(unequal) else "hidden", word)
+
+    def test_first_return(self):
+        """README.md, "What C doesn't say": the branch behind a return shows, and doesn't where a stack predicts returns."""
+        hold = os.path.join(ROOT, "examples", "large_futuristic_hold.toml")
+        stack = os.path.join(folder(), "returns.toml")
+        with open(hold, encoding="utf-8") as given, open(stack, "w", encoding="utf-8") as file:
+            file.write(given.read().replace("[predictor]\n", "[predictor]\nreturns = 16\n"))
+        for compiler, folders in self.each_compiler():
+            if compiler == "gcc":
+                secret = Secret(os.path.join(folders["O1"], "aes_bitsliced.elf"), "key")
+                self.assertIsNotNone(self.unequal(hold, secret, bytes(16)))
+                self.assertIsNone(self.unequal(stack, secret, bytes(16)))
 
     def unequal(self, description, secret, value):
         """The first unequal cycle of the traces with the image's own secret and with another; none where they are equal."""

@@ -1,0 +1,97 @@
+-- A run until something shows, cycle by cycle.
+use Rattle.std.proofs.Common.{◌≡◌, ℕ, zero, suc, ◌+◌, ◌-◌, ◌<◌, ◌≤◌, Bool, true, false, Option, Some, None, refl, ap, ap₂, sym, ◌∙◌, arith}
+use Rattle.std.specs.Prelude.{is_some}
+use Rattle.rv_types.specs.Memory.{Code}
+use Rattle.rv_types.specs.declared.End.{End}
+use Rattle.machine_desc.specs.declared.Desc.{Desc}
+use Rattle.machine_facts.proofs.FewEvents.{cycle_number}
+use Rattle.window_model.specs.State.{Machine}
+use Rattle.window_model.specs.Cycle.{after_cycles, cycle}
+use Rattle.secret_marks.specs.declared.FirstShown.{FirstShown}
+use Rattle.secret_marks.specs.declared.Shown.{Shown}
+use Rattle.secret_marks.specs.Marks.{Marks}
+use Rattle.secret_marks.specs.Shown.{first_shown, in_cycle, shown_cycle}
+use Rattle.secret_marks.specs.Watch.{watch_cycle}
+use Rattle.secret_marks.proofs.Cycle.{watched_machine}
+use Rattle.marked_core.proofs.Watching.{goes_on, stops}
+
+-- whether a run has ended, by what is told of it
+pub running_at : (end told : Option End) (b : Bool) → told ≡ end → b ≡ is_some told → b ≡ false → end ≡ None
+running_at end None b t e q = sym t
+running_at end (Some k) b t e q = absurd (cc)
+
+pub ended_at : (end told : Option End) (b : Bool) → told ≡ end → b ≡ is_some told → b ≡ true → is_some end ≡ true
+ended_at end told b t e q = ap is_some (sym t) ∙ sym e ∙ q
+
+-- of n cycles from a machine with marks, i are done, in which nothing has shown
+pub record Looks (d : Desc) (code : Code) (n i : ℕ) (x : Machine) (m : Marks) (y : Machine) (k : Marks) : Type 0 where
+  pub shown : first_shown d code (n - i) y k ≡ first_shown d code n x m
+  pub last : after_cycles d code (n - i) y ≡ after_cycles d code n x
+  pub count : y.cycle ≡ x.cycle + i
+
+pub looks_start : (d : Desc) (code : Code) (n : ℕ) (x : Machine) (m : Marks) → Looks d code n 0 x m x m
+looks_start d code n x m =
+    let e : n - 0 ≡ n = omega arith in
+    record { shown = ap (λ n. first_shown d code n x m) e; last = ap (λ n. after_cycles d code n x) e; count = omega arith }
+
+one_more : (n i : ℕ) → i < n → n - i ≡ suc (n - (i + 1))
+one_more n i h = omega arith
+
+none_left : (n i : ℕ) → n ≤ i → n - i ≡ 0
+none_left n i h = omega (arith, h)
+
+-- nothing shows in a run that has ended, and it stays where it is
+none_shows : (d : Desc) (code : Code) (n : ℕ) (y : Machine) (k : Marks) → is_some y.end ≡ true → first_shown d code n y k ≡ None
+none_shows d code zero y k e = refl
+none_shows d code (suc n) y k e = stops y.end None _ e
+
+ended_stays : (d : Desc) (code : Code) (n : ℕ) (y : Machine) → is_some y.end ≡ true → after_cycles d code n y ≡ y
+ended_stays d code zero y e = refl
+ended_stays d code (suc n) y e = stops y.end y _ e
+
+module _ (d : Desc) (code : Code) (n i : ℕ) (x : Machine) (m : Marks) (y : Machine) (k : Marks) (l : Looks d code n i x m y k) where
+  -- a cycle more
+  module _ (h : i < n) (running : y.end ≡ None) (t : Option Shown) (is : t ≡ shown_cycle d y k) where
+    abbrev later : Option FirstShown
+    later = let w = watch_cycle d code y k in first_shown d code (n - (i + 1)) w.machine w.marks
+
+    steps : in_cycle (y.cycle + 1) t later ≡ first_shown d code n x m
+    steps =
+        ap (λ t. in_cycle (y.cycle + 1) t later) is
+        ∙ sym (ap (λ n. first_shown d code n y k) (one_more n i h) ∙ goes_on y.end None (in_cycle (y.cycle + 1) (shown_cycle d y k) later) running)
+        ∙ l.shown
+
+    -- what shows in a cycle with this number
+    abbrev pub found : Shown → ℕ → Option FirstShown
+    found s number = Some (record { cycle = number; shown = s })
+
+    pub looks_found : (s : Shown) (number : ℕ) → t ≡ Some s → number ≡ y.cycle + 1 → found s number ≡ first_shown d code n x m
+    looks_found s number e q =
+        ap (found s) q ∙ sym (ap (λ t. in_cycle (y.cycle + 1) t later) e) ∙ steps
+
+    pub looks_next : (y2 : Machine) (k2 : Marks) → t ≡ None → y2 ≡ (cycle d code y).machine → k2 ≡ (watch_cycle d code y k).marks → Looks d code n (i + 1) x m y2 k2
+    looks_next y2 k2 e ey ek =
+        let count = l.count in
+        let number = ap (λ (z : Machine). z.cycle) ey ∙ cycle_number d code y in
+        record {
+          shown = ap₂ (first_shown d code (n - (i + 1))) (ey ∙ sym (watched_machine d code y k)) ek ∙ sym (ap (λ t. in_cycle (y.cycle + 1) t later) e) ∙ steps;
+          last =
+              ap (after_cycles d code (n - (i + 1))) ey
+              ∙ sym (ap (λ n. after_cycles d code n y) (one_more n i h) ∙ goes_on y.end y (after_cycles d code (n - (i + 1)) (cycle d code y).machine) running)
+              ∙ l.last;
+          count = omega (arith, count, number);
+        }
+
+  -- the run has ended
+  pub ended_none : is_some y.end ≡ true → None ≡ first_shown d code n x m
+  ended_none e = sym (none_shows d code (n - i) y k e) ∙ l.shown
+
+  pub ended_last : is_some y.end ≡ true → y ≡ after_cycles d code n x
+  ended_last e = sym (ended_stays d code (n - i) y e) ∙ l.last
+
+  -- the cycles are over
+  pub over_none : n ≤ i → None ≡ first_shown d code n x m
+  over_none h = sym (ap (λ n. first_shown d code n y k) (none_left n i h)) ∙ l.shown
+
+  pub over_last : n ≤ i → y ≡ after_cycles d code n x
+  over_last h = sym (ap (λ n. after_cycles d code n y) (none_left n i h)) ∙ l.last

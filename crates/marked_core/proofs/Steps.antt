@@ -1,0 +1,89 @@
+-- Marks stay in step with the entries in flight, phase by phase.
+use Rattle.std.proofs.Common.{◌≡◌, ℕ, ◌+◌, ◌-◌, ◌≤◌, List, [], ◌++◌, length, take, drop, replicate, ap, sym, ◌∙◌, subst, arith}
+use Rattle.std.proofs.lemmas.List.{length-drop}
+use Rattle.circular_buffer.specs.Buffer.{Buffer, buffer}
+use Rattle.visibility.specs.Point.{Point}
+use Rattle.window_model.specs.State.{Machine}
+use Rattle.core_parts.specs.Described.{Described}
+use Rattle.core_parts.specs.Held.{Held, Whole, described, in_flight}
+use Rattle.core_parts.specs.Stands.{table_and_stations}
+use Rattle.secret_marks.specs.declared.EntryMarks.{EntryMarks}
+use Rattle.secret_marks.specs.Marks.{Marks as Beside, after_issue_marks, cut, extended, issued_from, new_entry}
+use Rattle.entry_marks.specs.declared.marks.Marks.{Marks}
+use Rattle.entry_marks.specs.Walk.{StandBeside, marks_of, marks_with}
+use Rattle.marked_core.specs.InStep.{InStep}
+use Rattle.marked_core.proofs.Lengths.{cut_length, extended_length}
+
+-- ---- where no mark moves
+
+-- the visibility point moves
+pub over_point : (s s2 : Described) (p : Point) (m : Marks) → s2 ≡ record s { point = p } → InStep s m → InStep s2 m
+over_point s s2 p m e h = subst (λ (s : Described). InStep s m) (sym e) (record { entries = h.entries; room = h.room })
+
+-- a phase leaves as many entries
+pub over_phase : (s s2 : Described) (x : Machine) (m : Marks) → s2 ≡ record s { machine = x } → length x.window ≡ length s.machine.window → InStep s m → InStep s2 m
+over_phase s s2 x m e same h = subst (λ (s : Described). InStep s m) (sym e) (record { entries = h.entries ∙ sym same; room = h.room })
+
+-- ---- where they move
+
+module _ (s s2 : Described) (x : Machine) (m m2 : Marks) (e : s2 ≡ record s { machine = x }) (h : InStep s m) (n : ℕ) (count : n ≡ length s2.machine.window) where
+  -- entries go from the young end
+  pub step_cut : length x.window ≤ length s.machine.window → m2.window ≡ buffer (take n m.window.items) m.window.capacity → InStep s2 m2
+  step_cut short w =
+      let all = h.entries in
+      let window = ap (λ (s : Described). length s.machine.window) e in
+      record {
+        entries = ap (λ (b : Buffer EntryMarks). length b.items) w ∙ cut_length n m.window.items (omega (arith, all, window, count, short)) ∙ count;
+        room = ap (λ (b : Buffer EntryMarks). b.capacity) w ∙ h.room ∙ ap (λ (s : Described). s.desc.core_rob) (sym e);
+      }
+
+  -- they come to it
+  pub step_extended : length s.machine.window ≤ length x.window → m2.window ≡ buffer (m.window.items ++ replicate (n - length m.window.items) new_entry) m.window.capacity → InStep s2 m2
+  step_extended long w =
+      let all = h.entries in
+      let window = ap (λ (s : Described). length s.machine.window) e in
+      record {
+        entries = ap (λ (b : Buffer EntryMarks). length b.items) w ∙ extended_length n m.window.items (omega (arith, all, window, count, long)) ∙ count;
+        room = ap (λ (b : Buffer EntryMarks). b.capacity) w ∙ h.room ∙ ap (λ (s : Described). s.desc.core_rob) (sym e);
+      }
+
+-- they go from the old end
+pub step_left : (s s2 : Described) (x : Machine) (m m2 : Marks) (n : ℕ) → s2 ≡ record s { machine = x } → InStep s m → length s.machine.window ≡ n + length s2.machine.window →
+    m2.window ≡ buffer (drop n m.window.items) m.window.capacity → InStep s2 m2
+step_left s s2 x m m2 n e h count w =
+    let all = h.entries in
+    let drops = length-drop n m.window.items in
+    let left : length (drop n m.window.items) ≡ length s2.machine.window = omega (arith, drops, all, count) in
+    record {
+      entries = ap (λ (b : Buffer EntryMarks). length b.items) w ∙ left;
+      room = ap (λ (b : Buffer EntryMarks). b.capacity) w ∙ h.room ∙ ap (λ (s : Described). s.desc.core_rob) (sym e);
+    }
+
+-- ---- the marks of a window that is cut or extended
+
+pub marks_cut : (m : Marks) (w : Buffer EntryMarks) (n : ℕ) (s : Described) → n ≡ length s.machine.window → w ≡ buffer (take n m.window.items) m.window.capacity →
+    marks_with m w.items ≡ cut s.machine.window (marks_of m)
+marks_cut m w n s count e = ap (λ (b : Buffer EntryMarks). marks_with m b.items) e ∙ ap (λ n. marks_with m (take n m.window.items)) count
+
+pub marks_extended : (m : Marks) (w : Buffer EntryMarks) (n : ℕ) (s : Described) → n ≡ length s.machine.window →
+    w ≡ buffer (m.window.items ++ replicate (n - length m.window.items) new_entry) m.window.capacity → marks_with m w.items ≡ extended s.machine.window (marks_of m)
+marks_extended m w n s count e =
+    ap (λ (b : Buffer EntryMarks). marks_with m b.items) e
+    ∙ ap (λ n. marks_with m (m.window.items ++ replicate (n - length m.window.items) new_entry)) count
+
+-- ---- what Issue looks at
+
+-- the parts stand for the window beside the marks
+pub parts_beside : (h : Held) (v : Described) (ms : List EntryMarks) → Whole h → described h ≡ v → length ms ≡ length v.machine.window → StandBeside h.rob.entries h.sources.items ms
+parts_beside h v ms w s e = record {
+  rest = table_and_stations (in_flight h);
+  stand = w.stands.stand;
+  writers = w.stands.writers;
+  step = e ∙ sym (ap (λ (v : Described). length v.machine.window) s);
+}
+
+pub marks_issued : (h : Held) (v : Described) (m : Beside) (base : ℕ) → Whole h → described h ≡ v → base ≡ v.machine.ram.base →
+    ◌≡◌ {A = Beside} record m { window = issued_from h.cycle base m [] [] h.rob.entries m.window } (after_issue_marks v.machine m)
+marks_issued h v m base w s e =
+    ap (λ base. let n : Beside = record m { window = issued_from h.cycle base m [] [] h.rob.entries m.window } in n) (e ∙ sym (ap (λ (v : Described). v.machine.ram.base) s))
+    ∙ ap (λ (v : Described). after_issue_marks v.machine m) s

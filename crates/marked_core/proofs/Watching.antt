@@ -1,0 +1,155 @@
+-- How marks move in a cycle, and what shows in it, half by half.
+use Rattle.std.proofs.Common.{◌≡◌, true, false, [], length, Option, Some, None, refl, ap, ap₂, sym, ◌∙◌}
+use Rattle.std.specs.Prelude.{is_some}
+use Rattle.rv_types.specs.Isa.{Hart}
+use Rattle.rv_types.specs.Memory.{Code}
+use Rattle.rv_types.specs.declared.End.{End}
+use Rattle.elf_loader.specs.Code.{word_at}
+use Rattle.machine_desc.specs.declared.Desc.{Desc}
+use Rattle.window_model.specs.State.{After, Machine}
+use Rattle.window_model.specs.Clear.{clear}
+use Rattle.window_model.specs.Cycle.{begins_cycle}
+use Rattle.window_model.specs.Issue.{issue}
+use Rattle.window_model.specs.Rename.{rename}
+use Rattle.window_model.specs.Retire.{retire, unless_ended}
+use Rattle.window_model.proofs.Quiet.{after_quiet, at_retire, before_quiet}
+use Rattle.core_parts.specs.Described.{Described}
+use Rattle.core_cycle.proofs.Cycling.{Backs, Fronts, Leaves, code_left, desc_left, machine_fronted, machine_left}
+use Rattle.core_cycle.proofs.Fronts.{Resolved, clears, resolves}
+use Rattle.secret_marks.specs.declared.Shown.{Shown}
+use Rattle.secret_marks.specs.Marks.{Marks, after_issue_marks, after_retire_marks, cut, extended}
+use Rattle.secret_marks.specs.Shown.{head_shown, operands_shown, or_else, resolved_shown, shown_cycle}
+use Rattle.secret_marks.specs.Watch.{Watched, then_watches, watch_before, watch_cycle, watch_fetch, watch_issue, watch_retire}
+use Rattle.entry_marks.specs.declared.marks.Marks.{Marks as Beside}
+use Rattle.entry_marks.specs.Walk.{marks_of}
+use Rattle.marked_core.specs.Watched.{from_issue, shown_from_issue, shown_to_clear, to_clear, to_resolve}
+
+-- ---- whether the run has ended
+
+pub goes_on : {A : Type 0} (o : Option End) (ended goes : A) → o ≡ None → unless_ended o ended goes ≡ goes
+goes_on None ended goes e = refl
+goes_on (Some k) ended goes e = absurd (cc)
+
+pub stops : {A : Type 0} (o : Option End) (ended goes : A) → is_some o ≡ true → unless_ended o ended goes ≡ ended
+stops None ended goes e = absurd (cc)
+stops (Some k) ended goes e = refl
+
+-- ---- before Retire
+
+module _ (s s1 s2 s3 s4 s5 : Described) (e : Resolved s s1 s2 s3 s4 s5) (m m1 : Marks) (left : m1 ≡ cut s4.machine.window m) where
+  resolved_window : s4.machine.window ≡ (to_resolve s.desc s.machine m).machine.window
+  resolved_window = ap (λ (s : Described). s.machine.window) e.resolved ∙ ap (λ (a : After). a.machine.window) (resolves s s1 s2 s3 s4 s5 e)
+
+  resolved_marks : m1 ≡ (to_resolve s.desc s.machine m).marks
+  resolved_marks = left ∙ ap (λ w. cut w m) resolved_window
+
+  pub front_shows : (t : Option Shown) → t ≡ resolved_shown s4.machine.window m1.window → t ≡ shown_to_clear s.desc s.machine m
+  front_shows t h = h ∙ ap₂ (λ w (m : Marks). resolved_shown w m.window) resolved_window resolved_marks
+
+  pub front_marks : (s6 : Described) → s6 ≡ record s5 { machine = (clear s5.desc s5.machine).machine } → (m2 : Marks) → m2 ≡ cut s6.machine.window m1 → m2 ≡ (to_clear s.desc s.machine m).marks
+  front_marks s6 e6 m2 h =
+      h ∙ ap₂ cut (ap (λ (s : Described). s.machine.window) e6 ∙ ap (λ (a : After). a.machine.window) (clears s s1 s2 s3 s4 s5 e)) resolved_marks
+
+-- ---- from Issue on
+
+module _ (s : Described) (m : Marks) where
+  abbrev ended_at : Watched
+  ended_at = record { machine = s.machine; marks = m; shows = false }
+
+  abbrev goes_from : Watched
+  goes_from = then_watches (watch_issue s.desc s.machine m) (watch_fetch s.desc (word_at s.code))
+
+  -- the run goes on
+  module _ (running : s.machine.end ≡ None) where
+    pub back_shows : (t : Option Shown) → t ≡ operands_shown s.desc m [] [] s.machine.window m.window → t ≡ shown_from_issue s.desc s.machine m
+    back_shows t h = h ∙ sym (goes_on s.machine.end None (operands_shown s.desc m [] [] s.machine.window m.window) running)
+
+    pub back_marks : (s1 s2 : Described) → s1 ≡ record s { machine = (issue s.desc s.machine).machine } → s2 ≡ record s1 { machine = (rename s1.desc s1.machine).machine } → (m1 m2 : Marks) →
+        m1 ≡ after_issue_marks s1.machine m → m2 ≡ extended s2.machine.window m1 → m2 ≡ (from_issue s.desc (word_at s.code) s.machine m).marks
+    back_marks s1 s2 issued renamed m1 m2 e1 e2 =
+        let marks = e1 ∙ ap (λ (s : Described). after_issue_marks s.machine m) issued in
+        let window =
+        ap (λ (s : Described). s.machine.window) renamed
+        ∙ ap (λ (s : Described). (rename s.desc s.machine).machine.window) issued in
+        e2 ∙ ap₂ extended window marks ∙ sym (ap (λ (w : Watched). w.marks) (goes_on s.machine.end ended_at goes_from running))
+
+  -- it has ended
+  pub ended_marks : is_some s.machine.end ≡ true → m ≡ (from_issue s.desc (word_at s.code) s.machine m).marks
+  ended_marks e = sym (ap (λ (w : Watched). w.marks) (stops s.machine.end ended_at goes_from e))
+
+  pub ended_shows : is_some s.machine.end ≡ true → None ≡ shown_from_issue s.desc s.machine m
+  ended_shows e = sym (stops s.machine.end None (operands_shown s.desc m [] [] s.machine.window m.window) e)
+
+-- ---- each byte of memory has its mark
+
+pub bytes_fronted : (s s1 s2 : Described) (p : Fronts s s1 s2) (m m1 : Beside) → marks_of m1 ≡ (to_clear s1.desc s1.machine (marks_of m)).marks →
+    length m.bytes.items ≡ length s.machine.ram.bytes → length m1.bytes.items ≡ length s2.machine.ram.bytes
+bytes_fronted s s1 s2 p m m1 e h =
+    ap (λ (m : Marks). length m.bytes) e
+    ∙ h
+    ∙ sym (ap (λ (x : Machine). length x.ram.bytes) (machine_fronted s s1 s2 p) ∙ ap (λ (h : Hart). length h.ram.bytes) (before_quiet s.desc s.machine).hart)
+
+from_bytes : (d : Desc) (code : Code) (o : Option End) (x : Machine) (m : Marks) →
+    (unless_ended o (record { machine = x; marks = m; shows = false }) (then_watches (watch_issue d x m) (watch_fetch d code))).marks.bytes ≡ m.bytes
+from_bytes d code None x m = refl
+from_bytes d code (Some e) x m = refl
+
+pub bytes_backed : (s3 s4 : Described) (k : Backs s3 s4) (m m2 : Beside) → marks_of m2 ≡ (from_issue s3.desc (word_at s3.code) s3.machine (marks_of m)).marks →
+    length m.bytes.items ≡ length s3.machine.ram.bytes → length m2.bytes.items ≡ length s4.machine.ram.bytes
+bytes_backed s3 s4 k m m2 e h =
+    ap (λ (m : Marks). length m.bytes) e
+    ∙ ap length (from_bytes s3.desc (word_at s3.code) s3.machine.end s3.machine (marks_of m))
+    ∙ h
+    ∙ sym (ap (λ (s : Described). length s.machine.ram.bytes) k ∙ ap (λ (h : Hart). length h.ram.bytes) (after_quiet s3.desc (word_at s3.code) s3.machine).hart)
+
+-- ---- a whole cycle
+
+-- what is watched behind Retire is watched from the machine and the marks that it leaves
+by_end : (d : Desc) (code : Code) (r : Watched) (o : Option End) →
+    (unless_ended o r (then_watches (then_watches r (watch_issue d)) (watch_fetch d code))).marks
+    ≡ (unless_ended o (record { machine = r.machine; marks = r.marks; shows = false }) (then_watches (watch_issue d r.machine r.marks) (watch_fetch d code))).marks
+by_end d code r None = refl
+by_end d code r (Some e) = refl
+
+halves : (d : Desc) (code : Code) (x : Machine) (m : Marks) →
+    (let l = to_clear d (begins_cycle x) m in let t = watch_retire d l.machine l.marks in (from_issue d code t.machine t.marks).marks) ≡ (watch_cycle d code x m).marks
+halves d code x m = let r = watch_before d x m in sym (by_end d code r r.machine.end)
+
+module _ (s s1 s2 : Described) (p : Fronts s s1 s2) (m m1 : Marks) (front : m1 ≡ (to_clear s1.desc s1.machine m).marks) where
+  abbrev x : Machine
+  x = begins_cycle s.machine
+
+  fronted : m1 ≡ (to_clear s.desc x m).marks
+  fronted = front ∙ ap (λ (s : Described). (to_clear s.desc s.machine m).marks) p.begins
+
+  module _ (s3 : Described) (q : Leaves s2 s3) (m2 : Marks) (left : m2 ≡ after_retire_marks s2.machine.window s3.machine m1) where
+    abbrev y : Machine
+    y = at_retire s.desc s.machine
+
+    abbrev z : Machine
+    z = (retire s.desc y).machine
+
+    retired : m2 ≡ after_retire_marks y.window z (to_clear s.desc x m).marks
+    retired =
+        left
+        ∙ ap (λ (y : Machine). after_retire_marks y.window s3.machine m1) (machine_fronted s s1 s2 p)
+        ∙ ap₂ (after_retire_marks y.window) (machine_left s s1 s2 p s3 q) fronted
+
+    pub cycle_marks : (m3 : Marks) → m3 ≡ (from_issue s3.desc (word_at s3.code) s3.machine m2).marks → m3 ≡ (watch_cycle s.desc (word_at s.code) s.machine m).marks
+    cycle_marks m3 back =
+        back
+        ∙ ap (λ d. (from_issue d (word_at s3.code) s3.machine m2).marks) (desc_left s s1 s2 p s3 q)
+        ∙ ap (λ code. (from_issue s.desc (word_at code) s3.machine m2).marks) (code_left s s1 s2 p s3 q)
+        ∙ ap₂ (λ z m. (from_issue s.desc (word_at s.code) z m).marks) (machine_left s s1 s2 p s3 q) retired
+        ∙ halves s.desc (word_at s.code) s.machine m
+
+    pub cycle_shows : (a b c : Option Shown) → a ≡ shown_to_clear s1.desc s1.machine m → b ≡ head_shown s2.machine.window s2.machine m1 → c ≡ shown_from_issue s3.desc s3.machine m2 →
+        or_else a (or_else b c) ≡ shown_cycle s.desc s.machine m
+    cycle_shows a b c ea eb ec =
+        let first = ea ∙ ap (λ (s : Described). shown_to_clear s.desc s.machine m) p.begins in
+        let second = eb ∙ ap₂ (λ (y : Machine) m. head_shown y.window y m) (machine_fronted s s1 s2 p) fronted in
+        let third =
+        ec
+        ∙ ap (λ d. shown_from_issue d s3.machine m2) (desc_left s s1 s2 p s3 q)
+        ∙ ap₂ (shown_from_issue s.desc) (machine_left s s1 s2 p s3 q) retired in
+        ap₂ (λ a r. or_else a r) first (ap₂ or_else second third)

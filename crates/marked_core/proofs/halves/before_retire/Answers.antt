@@ -1,0 +1,97 @@
+use Rattle.std.proofs.Common.{ap, ◌∙◌, length, refl}
+use Rattle.core_parts.specs.Described.{Described}
+use Rattle.core_cycle.proofs.Advanced.{complete_advanced}
+use Rattle.core_cycle.proofs.Moving.{clear_silent, complete_silent, described_advanced, resolve_silent}
+use Rattle.core_cycle.proofs.Fronts.{fronts_machine, fronts_row}
+use Rattle.marked_core.proofs.Lengths.{complete_keeps}
+use Rattle.marked_core.proofs.Steps.{over_phase, over_point}
+use Rattle.marked_core.proofs.Watching.{front_marks, front_shows}
+use Rattle.marked_core.proofs.halves.before_retire.Goals as goal
+
+pub advance_after_complete-requires-clause-undone : goal.advance_after_complete-requires-clause-undone
+advance_after_complete-requires-clause-undone g c = λ other.
+    described_advanced c.fill.new.parts c.complete.new.parts _ c.complete.ensures.machine
+    (complete_advanced c.fill.new.parts.point c.fill.new.parts.machine (λ q. other (ap (λ (s : Described). s.point.model) c.complete.ensures.machine ∙ q))
+    (described_advanced c.args.parts.now c.fill.new.parts _ c.fill.ensures.machine c.requires.advanced))
+
+pub advance_after_complete-requires-clause-advanced : goal.advance_after_complete-requires-clause-advanced
+advance_after_complete-requires-clause-advanced g c = λ same.
+    described_advanced c.fill.new.parts c.complete.new.parts _ c.complete.ensures.machine
+    (complete_silent _ c.fill.new.parts.machine c.fill.new.row c.complete.new.row (same ∙ ap length c.events-filled.ensures.value)
+    (described_advanced c.args.parts.now c.fill.new.parts _ c.fill.ensures.machine c.requires.advanced) c.complete.ensures.row)
+
+pub resolve_marked-shown-requires-clause-step : goal.resolve_marked-shown-requires-clause-step
+resolve_marked-shown-requires-clause-step g c =
+    over_point c.complete.new.parts c.advance_after_complete.new.parts _ _ c.advance_after_complete.ensures.others
+    (over_phase c.fill.new.parts c.complete.new.parts _ _ c.complete.ensures.machine (complete_keeps c.fill.new.parts.machine)
+    (over_phase c.args.parts.now c.fill.new.parts _ _ c.fill.ensures.machine refl c.requires.step))
+
+pub advance_after-requires : goal.advance_after-requires
+advance_after-requires g c = record {
+  advanced = λ same.
+      described_advanced c.advance_after_complete.new.parts c.resolve_marked-shown.new.parts _ c.resolve_marked-shown.ensures.machine
+      (resolve_silent _ c.advance_after_complete.new.parts.machine c.complete.new.row c.resolve_marked-shown.new.row (same ∙ ap length c.events-completed.ensures.value)
+      c.advance_after_complete.ensures.advanced _ c.resolve_marked-shown.ensures.row);
+}
+
+pub clear_marked-requires-clause-step : goal.clear_marked-requires-clause-step
+clear_marked-requires-clause-step g c = over_point c.resolve_marked-shown.new.parts c.advance_after.new.parts _ _ c.advance_after.ensures.others c.resolve_marked-shown.ensures.step
+
+pub advance_after-requires-2 : goal.advance_after-requires-2
+advance_after-requires-2 g c = record {
+  advanced = λ same.
+      described_advanced c.advance_after.new.parts c.clear_marked.new.parts _ c.clear_marked.ensures.machine
+      (clear_silent _ c.advance_after.new.parts.machine c.resolve_marked-shown.new.row c.clear_marked.new.row (same ∙ ap length c.events-resolved.ensures.value)
+      c.advance_after.ensures.advanced c.advance_after.new.parts.desc c.clear_marked.ensures.row);
+}
+
+pub returns-clause-machine : goal.returns-clause-machine
+returns-clause-machine g c =
+    fronts_machine c.args.parts.now c.fill.new.parts c.complete.new.parts c.advance_after_complete.new.parts c.resolve_marked-shown.new.parts c.advance_after.new.parts
+    (record {
+      filled = c.fill.ensures.machine;
+      completed = c.complete.ensures.machine;
+      moved = c.advance_after_complete.ensures.others;
+      resolved = c.resolve_marked-shown.ensures.machine;
+      moved_again = c.advance_after.ensures.others;
+    })
+    c.clear_marked.new.parts c.advance_after-2.new.parts c.clear_marked.ensures.machine c.advance_after-2.ensures.others
+
+pub returns-clause-row : goal.returns-clause-row
+returns-clause-row g c =
+    fronts_row c.args.parts.now c.fill.new.parts c.complete.new.parts c.advance_after_complete.new.parts c.resolve_marked-shown.new.parts c.advance_after.new.parts
+    (record {
+      filled = c.fill.ensures.machine;
+      completed = c.complete.ensures.machine;
+      moved = c.advance_after_complete.ensures.others;
+      resolved = c.resolve_marked-shown.ensures.machine;
+      moved_again = c.advance_after.ensures.others;
+    })
+    c.args.row.now c.fill.new.row c.complete.new.row c.resolve_marked-shown.new.row c.clear_marked.new.row c.fill.ensures.row c.complete.ensures.row c.resolve_marked-shown.ensures.row c.clear_marked.ensures.row
+
+pub returns-clause-marks : goal.returns-clause-marks
+returns-clause-marks g c =
+    front_marks c.args.parts.now c.fill.new.parts c.complete.new.parts c.advance_after_complete.new.parts c.resolve_marked-shown.new.parts c.advance_after.new.parts
+    (record {
+      filled = c.fill.ensures.machine;
+      completed = c.complete.ensures.machine;
+      moved = c.advance_after_complete.ensures.others;
+      resolved = c.resolve_marked-shown.ensures.machine;
+      moved_again = c.advance_after.ensures.others;
+    })
+    _ _ c.resolve_marked-shown.ensures.marks c.clear_marked.new.parts c.clear_marked.ensures.machine _ c.clear_marked.ensures.marks
+
+pub returns-clause-shown : goal.returns-clause-shown
+returns-clause-shown g c =
+    front_shows c.args.parts.now c.fill.new.parts c.complete.new.parts c.advance_after_complete.new.parts c.resolve_marked-shown.new.parts c.advance_after.new.parts
+    (record {
+      filled = c.fill.ensures.machine;
+      completed = c.complete.ensures.machine;
+      moved = c.advance_after_complete.ensures.others;
+      resolved = c.resolve_marked-shown.ensures.machine;
+      moved_again = c.advance_after.ensures.others;
+    })
+    _ _ c.resolve_marked-shown.ensures.marks _ c.resolve_marked-shown.ensures.shown
+
+pub returns-clause-step : goal.returns-clause-step
+returns-clause-step g c = over_point c.clear_marked.new.parts c.advance_after-2.new.parts _ _ c.advance_after-2.ensures.others c.clear_marked.ensures.step

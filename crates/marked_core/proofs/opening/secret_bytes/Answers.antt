@@ -1,0 +1,12 @@
+use Rattle.std.proofs.Common.{ap, ◌+◌, ◌-◌, ◌++◌, map, ◌∙◌}
+use Rattle.rv_types.specs.Memory.{range}
+use Rattle.secret_marks.specs.Ranges.{secret_in}
+use Rattle.marked_core.proofs.Secrets.{marks_next}
+use Rattle.marked_core.proofs.opening.secret_bytes.Goals as goal
+
+-- src/opening.rt:40:5
+pub loop-i-preserved : goal.loop-i-preserved
+loop-i-preserved c =
+    let rest = map (secret_in c.args.secret.now) (range (c.args.base + (c.loop-i.i + 1)) (c.args.size - (c.loop-i.i + 1))) in
+    ap (λ bytes. bytes ++ rest) c.in_ok-push.ensures.items
+    ∙ marks_next (secret_in c.args.secret.now) c.args.base c.args.size c.loop-i.bytes.items c.is_secret.result c.loop-i.i c.loop-i-test.true c.is_secret.ensures c.loop-i.invariant

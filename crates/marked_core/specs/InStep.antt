@@ -1,0 +1,30 @@
+-- When marks stand beside the parts of a core.
+use Rattle.std.specs.Prelude.{◌≡◌, ℕ, ◌+◌, false, length}
+use Rattle.std.specs.List.{AllByRecursion as Each}
+use Rattle.elf_loader.specs.Code.{word_at}
+use Rattle.window_model.specs.declared.Entry.{Entry}
+use Rattle.committed_state.specs.Consistent.{IsDueBy}
+use Rattle.core_parts.specs.Described.{Described}
+use Rattle.core_cycle.specs.Kept.{Kept}
+use Rattle.secret_marks.specs.Marks.{is_at}
+use Rattle.entry_marks.specs.declared.marks.Marks.{Marks}
+
+-- each entry in flight has its marks, and there is room for those of as many as may be in flight
+pub record InStep (s : Described) (m : Marks) : Type 0 where
+  pub entries : length m.window.items ≡ length s.machine.window
+  pub room : m.window.capacity ≡ s.desc.core_rob
+
+-- an entry, if it has issued, did so by this cycle
+abbrev pub IssuedBy : ℕ → Entry → Type 0
+IssuedBy cycle e = IsDueBy cycle e.issued
+
+-- neither the entry nor a store's data part has issued in this cycle
+abbrev pub NotYet : ℕ → Entry → Type 0
+NotYet cycle e = (is_at cycle e.issued ≡ false) × (is_at (cycle + 1) e.data_due ≡ false)
+
+-- between two cycles there hold of the parts what holds of any core's, and each byte of memory has its mark, too
+pub record Between (s : Described) (m : Marks) : Type 0 where
+  pub kept : Kept (word_at s.code) s
+  pub step : InStep s m
+  pub memory : length m.bytes.items ≡ length s.machine.ram.bytes
+  pub issued : Each (IssuedBy s.machine.cycle) s.machine.window

@@ -1,0 +1,78 @@
+-- What clap's clauses say of the words of stt_secrets, and that the definitions compute on words.
+use Rattle.std.proofs.Common.{◌≡◌, ◌≢◌, List, [], ◌∷◌, Option, Some, None, Result, Ok, Err, IfOk, IfErr, true, refl, codes}
+use Rattle.clap.specs.Words.{Text, rows_of, found_of, is_simple, is_simple_and_free}
+use Rattle.clap.specs.declared.error.kind.ErrorKind.TheVariants as kind
+use Rattle.clap.specs.declared.parser.matches.ArgMatches.{ArgMatches}
+use Rattle.clap.proofs.OnLiterals.{clap_on_literals}
+use Rattle.tool_words.specs.declared.Refused.{Refused}
+use Rattle.tool_words.specs.declared.Refused.TheVariants.{Words}
+use Rattle.tool_words.specs.Words.{FindsBy, word_of}
+use Rattle.tool_words.proofs.Tool.{none_of}
+use Rattle.secret_words.specs.Ranges.{number_of, address_of, bytes_of, range_of, ranges_of}
+use Rattle.secret_words.specs.Words.{secrets_app, faults, rows_in, WantedText, wanted_in, wanted_of}
+
+secrets_are_free : is_simple_and_free secrets_app ≡ true
+secrets_are_free = refl
+
+secrets_are_simple : is_simple secrets_app ≡ true
+secrets_are_simple = refl
+
+-- what was found by the parser of these words is what its definitions say
+pub found_as_written : (ws : List Text) (r : Result ArgMatches Refused) → FindsBy secrets_app ws r
+    → IfOk r (λ m. (faults ws ≡ []) × (rows_of (found_of m) ≡ rows_in ws)) × IfErr r (λ e. e ≡ Words → faults ws ≢ [])
+unfolding faults rows_in
+found_as_written ws (Ok m) h = let found = h secrets_are_free in ((found.0, (found.1 secrets_are_simple).0), tt)
+found_as_written ws (Err e) h = (tt, h secrets_are_free)
+
+-- words with no fault ask for what was found in them, and faulty ones for nothing
+pub words_are : (ws : List Text) (m : ArgMatches) (o : Option WantedText) → faults ws ≡ [] → rows_of (found_of m) ≡ rows_in ws → wanted_in (rows_of (found_of m)) ≡ o → wanted_of ws ≡ o
+unfolding wanted_of
+words_are ws m o none rows e = rw (none, ← rows) e
+
+pub words_faulty : (ws : List Text) → (faults ws ≡ [] → ⊥) → wanted_of ws ≡ None
+unfolding wanted_of
+words_faulty ws h = none_of (faults ws) _ h
+
+-- two ranges are read, in their order
+two_are_read : wanted_of (codes "d.toml" ∷ codes "p.elf" ∷ codes "--secret" ∷ codes "0x1f000:64" ∷ codes "--secret=131072:1" ∷ codes "--cycles" ∷ codes "9" ∷ [])
+    ≡ Some (record { description = codes "d.toml"; image = codes "p.elf"; secret = record { addr = 126976; bytes = 64 } ∷ record { addr = 131072; bytes = 1 } ∷ []; cycles = 9 })
+unfolding wanted_of faults rows_in word_of ranges_of range_of address_of bytes_of number_of clap_on_literals
+two_are_read = refl
+
+-- decimal and hexadecimal are one, and a plus may stand before digits
+bases_are_one : ranges_of (codes "0x1f000:64" ∷ codes "126976:64" ∷ codes "+126976:+64" ∷ codes "0x+1F000:0064" ∷ [])
+    ≡ ranges_of (codes "126976:64" ∷ codes "126976:64" ∷ codes "126976:64" ∷ codes "126976:64" ∷ [])
+unfolding ranges_of range_of address_of bytes_of number_of
+bases_are_one = refl
+
+whole_is_read : range_of (codes "0xffffffff:4294967295") ≡ Some (record { addr = 4294967295; bytes = 4294967295 })
+unfolding range_of address_of bytes_of number_of
+whole_is_read = refl
+
+too_large : ranges_of (codes "0x100000000:1" ∷ []) ≡ None
+unfolding ranges_of range_of address_of bytes_of number_of
+too_large = refl
+
+too_many : ranges_of (codes "0:4294967296" ∷ []) ≡ None
+unfolding ranges_of range_of address_of bytes_of number_of
+too_many = refl
+
+-- no colon, two colons, no bytes, no address, and digits of the other base
+no_range_is_read : (range_of (codes "126976") ≡ None) × (range_of (codes "126976:64:1") ≡ None) × (range_of (codes "126976:0") ≡ None) × (range_of (codes ":64") ≡ None)
+    × (range_of (codes "1f000:64") ≡ None) × (range_of (codes "0x:64") ≡ None) × (range_of (codes "0x1f000:0x40") ≡ None) × (range_of (codes "-1:64") ≡ None)
+unfolding range_of address_of bytes_of number_of
+no_range_is_read = (refl, refl, refl, refl, refl, refl, refl, refl)
+
+-- one text that is no range, and the words ask for nothing
+one_is_none : wanted_of (codes "d.toml" ∷ codes "p.elf" ∷ codes "--secret" ∷ codes "0x1f000:64" ∷ codes "--secret" ∷ codes "7" ∷ codes "--cycles" ∷ codes "9" ∷ []) ≡ None
+unfolding wanted_of faults rows_in word_of ranges_of range_of address_of bytes_of number_of clap_on_literals
+one_is_none = refl
+
+-- no range, and a request for help
+none_is_given : faults (codes "d.toml" ∷ codes "p.elf" ∷ codes "--cycles" ∷ codes "9" ∷ []) ≡ kind.MissingRequiredArgument ∷ []
+unfolding faults clap_on_literals
+none_is_given = refl
+
+help_is_refused : faults (codes "--help" ∷ []) ≡ kind.UnknownArgument ∷ []
+unfolding faults clap_on_literals
+help_is_refused = refl

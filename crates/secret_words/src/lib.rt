@@ -1,0 +1,112 @@
+//! The words of `stt_secrets D IMAGE --secret ADDRESS:BYTES .. --cycles N`, read by clap.
+//!
+//! What words ask for is said in `specs/Words.antt`, over clap's own written definition of what it takes, and what a range is in
+//! `specs/Ranges.antt`: `docs/formats.md`, "Words of stt_secrets", has both in plain words.
+#![tactic(auto)]
+
+ghost use Rattle.std.specs.Prelude.{◌≡◌, ◌≢◌, IfOk, IfErr, map, None, Some, [], false};
+ghost use Rattle.clap.specs.Words.{App, rule_of, app_of, rows_of, found_of};
+ghost use Rattle.clap.specs.declared.builder.command.Command.TheViews.{out-Command};
+ghost use Rattle.secret_words.specs.Words.{secret_rule, bare_app, secrets_app, faults, rows_in, wanted_text, ranges_in, wanted_in, wanted_of};
+
+mod ranges;
+
+use clap::{Arg, ArgAction, ArgMatches, Command as Parser};
+use ranges::read_ranges;
+use secret_marks::SecretRange;
+use std::alloc::{AllocError, Global};
+use tool_words::{Refused, cycles_arg, find_by, name_arg, text_in, with_arg, word_in};
+
+/// What the words ask for.
+#[derive(Drop)]
+pub struct Wanted<'a> {
+    /// The name of the description.
+    pub description: &'a str,
+    /// The name of the image.
+    pub image: &'a str,
+    /// The secret ranges, in the order of the words. They may lie anywhere, and share bytes.
+    pub secret: Vec<SecretRange>,
+    /// The number of cycles that a run may take at most, at least 1.
+    pub cycles: u32,
+}
+
+// The option with the ranges, once or more often.
+fn secret_arg<'a>(alloc: Global) -> Arg<'a>
+    ensures rule { rule_of result ≡ secret_rule }
+    ensures here { result.global ≡ false }
+{
+    Arg::new(alloc, "secret")
+        .long("secret")
+        .required(true)
+        .action(ArgAction::Append)
+}
+
+// A parser with no argument so far: no help, no version, and the words don't begin with the program's name.
+fn bare_parser<'a>(alloc: Global) -> Parser<'a>
+    ensures app { app_of result ≡ bare_app }
+    ensures here { (out-Command result).has_globals ≡ false }
+{
+    Parser::new(alloc, "stt_secrets")
+        .no_binary_name(true)
+        .disable_help_flag(true)
+        .disable_version_flag(true)
+}
+
+fn secrets_parser<'a>(alloc: Global) -> Result<Parser<'a>, AllocError>
+    ensures { IfOk result (λ c. app_of c ≡ secrets_app) }
+{
+    let parser = Ok(bare_parser(alloc));
+    let parser = with_arg(parser, name_arg(alloc, "description"));
+    let parser = with_arg(parser, name_arg(alloc, "image"));
+    let parser = with_arg(parser, secret_arg(alloc));
+    with_arg(parser, cycles_arg(alloc))
+}
+
+// What clap finds in the words.
+fn parse<'a>(alloc: Global, words: &'a [&'a str]) -> Result<ArgMatches<'a>, Refused>
+    ensures ok { IfOk result (λ m. (faults (map (λ w. w.now) words.now) ≡ [])
+        × (rows_of (found_of m) ≡ rows_in (map (λ w. w.now) words.now))) }
+    ensures refused { IfErr result (λ e. e ≡ Refused.Words → faults (map (λ w. w.now) words.now) ≢ []) }
+{
+    find_by(secrets_parser(alloc), words)
+}
+
+// The secret ranges. Errors: `Words`, only where one of the texts is no range; `Memory`.
+fn ranges_in(alloc: Global, matches: &ArgMatches<'_>) -> Result<Vec<SecretRange>, Refused>
+    ensures ok { IfOk result (λ v. ranges_in (rows_of (found_of matches.now)) ≡ Some v.items) }
+    ensures refused { IfErr result (λ e. e ≡ Refused.Words → ranges_in (rows_of (found_of matches.now)) ≡ None) }
+{
+    match matches.get_strs("secret") {
+        Some(texts) => read_ranges(alloc, texts),
+        None => Err(Refused::Words),
+    }
+}
+
+// What was found asks for. Errors: `Words`, only where it asks for nothing; `Memory`.
+fn wanted_in<'a>(alloc: Global, matches: &ArgMatches<'a>) -> Result<Wanted<'a>, Refused>
+    ensures ok { IfOk result (λ w. wanted_in (rows_of (found_of matches.now)) ≡ Some (wanted_text w)) }
+    ensures refused { IfErr result (λ e. e ≡ Refused.Words → wanted_in (rows_of (found_of matches.now)) ≡ None) }
+{
+    let description = text_in(matches, "description").ok_or(Refused::Words)?;
+    let image = text_in(matches, "image").ok_or(Refused::Words)?;
+    let cycles = word_in(matches, "cycles").ok_or(Refused::Words)?;
+    let secret = ranges_in(alloc, matches)?;
+    Ok(Wanted {
+        description,
+        image,
+        secret,
+        cycles,
+    })
+}
+
+/// What the words after the program's name ask for. Errors: `Words`, only where they ask for nothing; `Memory`.
+pub fn read_wanted<'a>(alloc: Global, words: &'a [&'a str]) -> Result<Wanted<'a>, Refused>
+    ensures ok { IfOk result (λ w. wanted_of (map (λ w. w.now) words.now) ≡ Some (wanted_text w)) }
+    ensures refused { IfErr result (λ e. e ≡ Refused.Words → wanted_of (map (λ w. w.now) words.now) ≡ None) }
+{
+    let matches = match parse(alloc, words) {
+        Ok(matches) => matches,
+        Err(refused) => return Err(refused),
+    };
+    wanted_in(alloc, &matches)
+}

@@ -1,0 +1,19 @@
+# The types by which counts.py is compiled.
+cimport cython
+from view.pipeline cimport Item, Wait
+
+
+cdef class Counts:
+    cdef public long long fetched, renamed, squashed, retired, output, two_lines, cleared
+    cdef public object units, wrong, resolved, mispredicted, stores, held, held_cycles, held_dropped, passed, violated, waited
+    @cython.locals(retired=cython.bint)
+    cpdef add(self, Item item)
+    cpdef add_resolved(self, Item item)
+    @cython.locals(wait=Wait)
+    cpdef add_load(self, Item item)
+    @cython.locals(wait=Wait, cycles=cython.longlong)
+    cpdef add_held(self, Item item)
+
+
+@cython.locals(counts=Counts, item=Item)
+cpdef count(items, holds=*, places=*)

@@ -1,0 +1,95 @@
+"""What is counted over the fetched instructions of a run."""
+from collections import Counter
+
+from .instruction import BRANCH, JALR, LOAD, STORE
+from .reasons import DEFENCE, STORE_ADDRESS
+
+RETURN = "return"
+
+
+def all_hit(written):
+    """Whether each line of a store is found in the cache."""
+    return all(found == "h" for _, found in written)
+
+
+class Counts:
+    """What is counted over the fetched instructions of a run."""
+
+    def __init__(self):
+        self.fetched = self.renamed = self.squashed = self.retired = 0
+        self.units, self.wrong = Counter(), Counter()
+        self.resolved, self.mispredicted = Counter(), Counter()
+        self.stores, self.output, self.two_lines = Counter(), 0, 0
+        self.held, self.held_cycles, self.held_dropped = Counter(), Counter(), Counter()
+        self.cleared, self.passed, self.violated, self.waited = 0, Counter(), Counter(), Counter()
+
+    def add(self, item):
+        retired = item.retired is not None
+        self.fetched += 1
+        self.renamed += item.renamed is not None
+        self.squashed += item.squashed is not None
+        self.retired += retired
+        unit = item.unit
+        if unit is not None:
+            self.units[unit] = self.units.get(unit, 0) + 1
+            if not retired:
+                self.wrong[unit] = self.wrong.get(unit, 0) + 1
+        if item.resolved is not None:
+            self.add_resolved(item)
+        if item.kind == STORE:
+            self.cleared += item.cleared is not None
+            if item.written:
+                self.stores[all_hit(item.written)] += 1
+        elif item.kind == LOAD:
+            self.add_load(item)
+        if item.output is not None:
+            self.output += item.output
+        if item.since is not None:
+            self.add_held(item)
+
+    def add_resolved(self, item):
+        self.resolved[item.kind] += 1
+        self.mispredicted[item.kind] += item.mispredicted
+        if item.code.is_return:
+            self.resolved[RETURN] += 1
+            self.mispredicted[RETURN] += item.mispredicted
+
+    def add_load(self, item):
+        self.two_lines += len(item.lines) > 1
+        if item.passed:
+            self.passed[item.pc] += 1
+        if item.violated:
+            self.violated[item.pc] += 1
+        if item.waits and STORE_ADDRESS in [wait.reason for wait in item.waits]:
+            self.waited[item.pc] += 1
+
+    @property
+    def mispredictions(self):
+        return self.mispredicted[BRANCH] + self.mispredicted[JALR]
+
+    @property
+    def misses(self):
+        """The loads that found a line neither in the first level nor on its way."""
+        return self.units["miss"] + self.units["second"]
+
+    def add_held(self, item):
+        """The cycles in which only the defence kept it from issuing, from being resolved or from being cleared."""
+        cycles = 0
+        for wait in item.waits:
+            if wait.reason in DEFENCE:
+                cycles += wait.last - wait.first + 1
+        if cycles:
+            self.held[item.pc] += 1
+            self.held_cycles[item.pc] += cycles
+            self.held_dropped[item.pc] += item.retired is None
+
+
+def count(items, holds=None, places=None):
+    """The counts of these instructions, of those that the test takes; by address too where places are given."""
+    counts = Counts()
+    for item in items:
+        if holds is None or holds(item):
+            counts.add(item)
+            if places is not None:
+                places.add(item)
+    return counts

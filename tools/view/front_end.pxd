@@ -1,0 +1,32 @@
+# The types by which front_end.py is compiled.
+cimport cython
+from view.pipeline cimport Item, Pipeline
+
+
+cdef class Stall:
+    cdef public long long first, last, pc
+    cdef public object reason
+
+
+cdef class FrontEnd:
+    cdef public Pipeline pipeline
+    cdef public object tell, rename, fetch, last_rename, last_fetch
+    cdef public long long width, rob, stations, loads, stores, room
+    cdef public list stalls
+    cdef public bint fetching
+    cpdef count(self, counter, reason)
+    @cython.locals(stall=Stall)
+    cpdef repeat(self, long long cycle)
+    @cython.locals(pipeline=Pipeline, kind=str, first=Item)
+    cpdef to_rename(self, Item item)
+    @cython.locals(pipeline=Pipeline, width=cython.longlong, first=Item)
+    cpdef bint has_room(self)
+    @cython.locals(first=Item)
+    cpdef bint call_is_next(self)
+    cpdef before_rename(self, serial)
+    @cython.locals(front=Item)
+    cpdef after_rename(self, long long count)
+    @cython.locals(last=Stall, cycle=cython.longlong)
+    cpdef keep_stall(self, reason, long long pc)
+    @cython.locals(width=cython.longlong, number=cython.longlong, last=Item)
+    cpdef after_fetch(self, list fetched, bint squashed)

@@ -1,0 +1,77 @@
+# The types by which pipeline.py is compiled (compile.py); without that nothing asks for this file.
+cimport cython
+from view.memory_side cimport Cache, Divider, Miss
+
+
+cdef class Wait:
+    cdef public long long first, last
+    cdef public object reason, serial, pc
+
+
+cdef class Item:
+    cdef public long long number, pc, fetched, awaits, destination
+    cdef public str kind
+    cdef public bint mispredicted, passed, violated
+    cdef public object code, serial, renamed, ready, issued, unit, due, done, resolved, outcome
+    cdef public object retired, squashed, trapped, lines, written, output, consumers, cleared, fill, late, since, waits, sharers
+    cdef public tuple registers, sources, roots, producers, lacking
+    cdef public Item root, youngest_root
+    cdef public dict parts
+    cdef public Wait open
+    @cython.locals(last=Wait)
+    cpdef wait(self, long long cycle, reason, Item cause)
+    cpdef sleep(self)
+    @cython.locals(last=Wait)
+    cpdef wake(self, long long cycle)
+    cpdef forget(self)
+
+
+@cython.locals(place=cython.longlong, other=Item, serial=cython.longlong)
+cpdef enter(list entries, Item item)
+
+
+cdef class Pipeline:
+    cdef public object image, description, last_squash, queue, window, flight
+    cdef public long long cycle, version, depend, hit_latency, mul_latency, count, loads, stores, charged
+    cdef public bint futuristic, spectre, counts
+    cdef public dict serials, dues, misses, learnt, codes
+    cdef public list waiting, awake, open_stores, shadows, controls, outcomes, clearable, writers, fills, prefetches
+    cdef public Cache cache, second
+    cdef public Divider divider
+    @cython.locals(first=Item)
+    cpdef bint is_hidden(self, Item root)
+    cpdef Item entry(self, list words)
+    @cython.locals(miss=Miss)
+    cpdef fill(self, long long line)
+    @cython.locals(consumer=Item)
+    cpdef complete(self, Item item)
+    cpdef bint faults(self, Item item)
+    cpdef bint is_cleared(self, Item store)
+    cpdef leave_shadows(self, Item item)
+    cpdef resolve(self, Item item, outcome)
+    cpdef squash(self, Item item)
+    cpdef clear(self, Item store)
+    cpdef long long bit_of(self, Item load)
+    cpdef bint may_pass(self, Item load)
+    cpdef leave(self, Item item)
+    cpdef retire(self, Item item)
+    cpdef write(self, Item item, line, answer)
+    @cython.locals(words=list, name=str)
+    cpdef issue(self, Item item, list step)
+    cpdef issue_parts(self, Item item, name)
+    cpdef access(self, Item item, list step)
+    cpdef look(self, line, answer)
+    cpdef take(self, line, answer)
+    @cython.locals(item=Item)
+    cpdef Item rename(self, serial, long long pc)
+    @cython.locals(writers=list, sources=tuple, writer=Item)
+    cpdef find_sources(self, Item item)
+    @cython.locals(kind=str)
+    cpdef enter_lists(self, Item item)
+    cpdef bint hides(self, Item item)
+    @cython.locals(item=Item)
+    cpdef Item fetch(self, long long pc)
+
+
+@cython.locals(root=Item)
+cpdef add_source(Item item, Item writer)

@@ -1,0 +1,50 @@
+# The types by which replay.py is compiled.
+cimport cython
+from view.checks cimport Checks
+from view.front_end cimport FrontEnd
+from view.pipeline cimport Item, Pipeline
+from view.reasons cimport Reasons
+from view.rows cimport Row
+from view.slots cimport Occupancy, Slots
+
+
+cdef class Replay:
+    cdef public object trace
+    cdef public Pipeline pipeline
+    cdef public Reasons reasons
+    cdef public FrontEnd front
+    cdef public Checks checks
+    cdef public Slots slots
+    cdef public Occupancy occupancy
+    cdef public tuple span
+    cdef public long long retired, width
+    cdef public bint asked, quiet, skips
+    @cython.locals(pipeline=Pipeline, phases=tuple, counted=cython.bint, told=cython.longlong)
+    cpdef step(self, Row row)
+    cpdef bint nothing_due(self, long long cycle)
+    cpdef repeat(self, long long cycle)
+    @cython.locals(pipeline=Pipeline, cycle=cython.longlong, squashed=cython.bint, violated=Item, fetched=list, words=list)
+    cpdef take(self, Row row, tuple phases)
+    cpdef after_fetch(self, list fetched, bint squashed, Item violated)
+    cpdef fill(self, list lines)
+    @cython.locals(item=Item)
+    cpdef complete(self, list items)
+    @cython.locals(resolved=Item, squashes=cython.bint)
+    cpdef bint resolve(self, list events)
+    cpdef squash(self, Item item, told, dropped)
+    @cython.locals(store=Item, violated=Item)
+    cpdef Item clear(self, list events)
+    @cython.locals(words=list, name=str, item=Item, retired=list)
+    cpdef retire(self, list events, bint ends)
+    @cython.locals(item=Item)
+    cpdef after_retire(self, list retired, bint ends)
+    @cython.locals(steps=list, step=list, item=Item)
+    cpdef issue(self, list events)
+    @cython.locals(told=dict, step=list, words=list, item=Item, name=str)
+    cpdef check_issue(self, list steps)
+    cpdef close(self)
+    @cython.locals(words=list, steps=list, last=list)
+    cpdef list steps(self, list events)
+    @cython.locals(roomy=cython.bint, words=list, item=Item)
+    cpdef rename(self, list events)
+    cpdef after_rename(self, long long number)

@@ -1,0 +1,50 @@
+# The types by which slots.py is compiled.
+cimport cython
+from view.pipeline cimport Item, Pipeline, Wait
+
+
+cdef class Late:
+    cdef public object reason
+    cdef public long long slots, since
+    cpdef long long left(self, long long charged)
+
+
+cdef class Slots:
+    cdef public Pipeline pipeline
+    cdef public long long width, cycles, left, until, divider
+    cdef public dict lost, retired
+    cdef public object fill
+    cdef public Late behind
+    cdef public Item head
+    cpdef count(self, reason, pc, long long slots)
+    @cython.locals(late=Late, left=cython.longlong)
+    cpdef squash(self, Item item)
+    cpdef rename(self, Item item)
+    cpdef stall(self, str reason, long long pc)
+    @cython.locals(item=Item)
+    cpdef fetch(self, list items)
+    @cython.locals(divides=cython.bint, held=dict, before=Late, since=cython.longlong, slots=cython.longlong)
+    cpdef issue(self, Item item)
+    @cython.locals(began=cython.longlong, waited=cython.longlong)
+    cpdef long long divide(self, Item item, long long slots, long long since)
+    @cython.locals(item=Item, head=Item)
+    cpdef retire(self, list retired, bint ends)
+    cpdef tuple empty(self, list retired)
+    @cython.locals(wait=Wait)
+    cpdef reason_of(self, Item head, list retired)
+    cpdef charge(self, reason)
+    @cython.locals(late=Late, left=cython.longlong)
+    cpdef late(self, Item head)
+    @cython.locals(head=Item, cycle=cython.longlong, last=Wait)
+    cpdef close(self)
+
+
+@cython.locals(wait=Wait, held=dict)
+cpdef dict times_held(Item item)
+
+
+cdef class Occupancy:
+    cdef public list sums, most, retired
+    cdef public long long cycles
+    @cython.locals(sums=list, most=list, numbers=tuple, place=cython.Py_ssize_t)
+    cpdef add(self, Pipeline pipeline, long long retired)
