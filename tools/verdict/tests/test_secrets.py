@@ -1,18 +1,23 @@
 """Secrets by name, certificates and tables of them (docs/secrets.md): texts by stand-ins, and what the program says of small images."""
 import csv
+import glob
 import os
+import re
+import shutil
+import subprocess
 import tempfile
 import unittest
 from types import SimpleNamespace
 
 import material
 from material import BOUND_0, CORE, SECRET, command, gadget, support
-from verdict import certificates, judge, premises, ranges, report, secrecy, simulator
+from verdict import judge, premises, ranges, report, secrecy, simulator
 from verdict.ranges import Range
 from view import Fault
 from view.description import read_description
 
 UNPROTECTED = support.example("core_unprotected.toml")
+GCC = "riscv64-unknown-elf-gcc"
 PROGRAM = secrecy.found()
 needs_secrets = unittest.skipUnless(PROGRAM, "the program stt_secrets isn't built (crates/stt_secrets/out/stt_secrets, or STT_SECRETS)")
 HIDDEN, CUT = "hidden\nend exit 0 retired 5 cycles 21\n", "hidden\nend budget retired 3 cycles 12\n"
@@ -279,6 +284,39 @@ class Program(unittest.TestCase):
             told = command("verdict", CORE, image, "--secret", word)
             self.assertEqual((told.returncode, told.stdout), (2, ""))
             self.assertIn(f"status 2, {note}", told.stderr)
+
+    def test_rows_of_the_page(self):
+        """docs/secrets.md, "The ciphers of examples/crypto", has the rows of the compares by gcc as the command writes them."""
+        version = subprocess.run([GCC, "-dumpversion"], capture_output=True, text=True, check=False).stdout if shutil.which(GCC) else ""
+        if not version.startswith("12.2") or shutil.which("make") is None:
+            self.skipTest("no gcc 12.2 for RISC-V, or no make")
+        with tempfile.TemporaryDirectory() as folder:
+            told = command("certify", folder, "--build", support.example("crypto"), "--compilers", "gcc", "--only", "compare", "--secret", "secret",
+                           "--descriptions", support.example("large_passing.toml"), "--defences")
+        self.assertEqual((told.returncode, told.stderr), (1, ""))
+        rows = told.stdout.splitlines()[:-2]
+        self.assertEqual(len(rows), 2 + 4)
+        page = material.read("docs", "secrets.md").splitlines()
+        self.assertEqual([row for row in rows if row not in page], [])
+
+    @material.needs_program
+    def test_conservative(self):
+        """Each program of docs/secrets.md, "What stays conservative", is exposed, and some values of its secret have the trace of its own."""
+        if shutil.which(GCC) is None or shutil.which("make") is None:
+            self.skipTest("no gcc for RISC-V, or no make")
+        listed = re.findall(r"(?m)^\| `(\w+)` \| `.*\| (an address|where a branch goes|the time of a division) \|", material.read("docs", "secrets.md"))
+        names = {"an address": "address", "where a branch goes": "branch", "the time of a division": "time"}
+        with tempfile.TemporaryDirectory() as folder:
+            subprocess.run(["make", "-s", "-C", support.example("secrets"), f"BUILD={folder}/build"], check=True, capture_output=True)
+            images = sorted(glob.glob(f"{folder}/build/*.elf"))
+            told = command("certify", f"{folder}/table", "--programs", *images, "--secret", "secret", "--descriptions",
+                           support.example("large_passing.toml"))
+            found = re.findall(r"(?m)^\| `(\w+)` \| build \| secret, 1 byte \| \*\*(\w+)\*\*, ", told.stdout)
+            self.assertEqual(sorted(found), sorted((name, names[what]) for name, what in listed))
+            self.assertEqual(len(found), 9)
+            drawn = command("draw", f"{folder}/table", "--draws", "5").stdout.splitlines()
+            self.assertEqual([line for line in drawn if not line.endswith("unequal: what shows may be conservative")], [])
+            self.assertEqual(len(drawn), 9)
 
     @material.needs_program
     def test_two_images(self):
