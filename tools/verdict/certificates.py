@@ -18,13 +18,13 @@ CERTIFIED, EXPOSED = "certified", "exposed"
 
 
 class Row(NamedTuple):
-    """A run that is over: the program and what built it, its secret, the setting, the answer, and the image's file."""
+    """A run that is over: the program and its folder, which is named for what built it; its secret; the setting, which names its column: the
+    description, the defence and what else is set; all values that are set; the answer; and the image's file."""
     program: str
     build: str
     secret: str
-    description: str
+    setting: tuple
     values: dict
-    defence: str
     answer: secrecy.Answer
     image: str
 
@@ -33,11 +33,6 @@ class Row(NamedTuple):
         if self.answer.shown:
             return EXPOSED
         return CERTIFIED + (f" in the first {report.plural(self.answer.end.cycles, 'cycle')}" if self.answer.is_cut else "")
-
-    def setting(self):
-        """What names the row's column: the description, the defence, and what else is set."""
-        more = [f"{key} {value}" for key, value in self.values.items() if key not in (settings.MODEL, settings.DEFENCE)]
-        return self.description, self.defence, *more
 
 
 @cache
@@ -56,14 +51,21 @@ def rows(plan):
     return [row_of(plan, run) for run in done], len(plan.runs) - len(done)
 
 
-def row_of(plan, run):
-    build, _, program = run.program.rpartition("/")
+def told_setting(plan, run):
+    """The defence of a run, and what else is set."""
     values = settings.parsed(text(plan.path(run.description)), run.description)
+    more = [f"{key} {value}" for key, value in run.values.items() if key not in (settings.MODEL, settings.DEFENCE)]
+    return [settings.told(values), *more]
+
+
+def row_of(plan, run):
+    build, program = run.image.split("/")[-2:]
     try:
         answer = secrecy.read_answer(text(plan.path(run.result)))
     except Fault:
         raise Fault(f"{plan.path(run.result)} is no answer. Remove it, and run again") from None
-    return Row(program, build, secret_of(run), run.base, run.values, settings.told(values), answer, run.image)
+    setting = (run.base, *told_setting(plan, run))
+    return Row(os.path.splitext(program)[0], build, secret_of(run), setting, run.values, answer, run.image)
 
 
 def secret_of(run):
@@ -83,9 +85,9 @@ def record(row, keys):
     """A row with a name for each value."""
     shown, end = row.answer.shown, row.answer.end
     image = image_of(row.image)
-    return ({"program": row.program, "build": row.build, "secret": row.secret, "description": row.description}
+    return ({"program": row.program, "build": row.build, "secret": row.secret, "description": row.setting[0]}
             | {key: row.values[key] for key in keys}
-            | {"defence": row.defence, "verdict": row.verdict(), "cycles": shown.cycle if shown else end.cycles,
+            | {"defence": row.setting[1], "verdict": row.verdict(), "cycles": shown.cycle if shown else end.cycles,
                "end": "" if shown else end.how, "what": SHORT[shown.what] if shown else "",
                "address": f"{shown.pc:08x}" if shown else "", "instruction": texts_of(row.image).text(shown.pc) if shown else "",
                "symbol": image.symbol(shown.pc) if shown else "", "line": image.sources.told(shown.pc) if shown else ""})
@@ -113,11 +115,11 @@ def heading(setting, several):
 
 def as_markdown(found):
     """A row for each program and build, a column for each setting."""
-    columns = list(dict.fromkeys(row.setting() for row in found))
+    columns = list(dict.fromkeys(row.setting for row in found))
     several = len({description for description, *_ in columns}) > 1
-    cells = {(row.program, row.build, row.secret, row.setting()): cell(row) for row in found}
+    cells = {(row.program, row.build, row.secret, row.setting): cell(row) for row in found}
     firsts = list(dict.fromkeys((row.program, row.build, row.secret) for row in found))
-    titles = ["Program", "Built by", "Secret"] + [heading(column, several) for column in columns]
+    titles = ["Program", "Build", "Secret"] + [heading(column, several) for column in columns]
     lines = [line(titles), "|" + "---|" * len(titles)]
     lines += [line([f"`{program}`", build, secret, *(cells.get((program, build, secret, column), "") for column in columns)])
               for program, build, secret in firsts]

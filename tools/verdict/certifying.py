@@ -16,7 +16,7 @@ PLAN = "certify.json"
 NEEDS = {"gcc": ("make", "riscv64-unknown-elf-gcc"), "clang": ("make", "clang", "ld.lld")}
 
 
-def built(sources, folder, compilers, levels, only):
+def built(sources, folder, compilers, levels, only, jobs):
     """The images that the Makefile of a folder builds, with lines of the source. A compiler that isn't there is left out, and told."""
     names = [os.path.splitext(os.path.basename(path))[0] for path in sorted(glob.glob(os.path.join(sources, "*.c")))]
     names = [name for name in names if only in name]
@@ -25,8 +25,8 @@ def built(sources, folder, compilers, levels, only):
     there = [compiler for compiler in compilers if is_there(compiler)]
     images = [os.path.join(os.path.abspath(folder), f"{compiler}-O{level}", f"{name}.elf")
               for name in names for compiler in there for level in levels]
-    made = subprocess.run(["make", "-s", "-C", sources, f"BUILD={os.path.abspath(folder)}", "EXTRA=-g", *images], capture_output=True,
-                          text=True, check=False)
+    words = ["make", "-s", f"-j{jobs}", "-C", sources, f"BUILD={os.path.abspath(folder)}", "EXTRA=-g", *images]
+    made = subprocess.run(words, capture_output=True, text=True, check=False)
     if made.returncode:
         raise Fault(f"make: {made.stderr.strip()}")
     return images

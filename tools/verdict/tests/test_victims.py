@@ -11,7 +11,7 @@ import unittest
 
 import material
 from material import needs_program, support
-from verdict import report
+from verdict import report, secrecy
 
 FOLDER = support.example("c")
 COMPILERS = {"gcc": ("riscv64-unknown-elf-gcc",), "clang": ("clang", "ld.lld")}
@@ -73,6 +73,8 @@ class Victims(unittest.TestCase):
                 self.verdict(folder, name, description, word)
 
     def verdict(self, folder, name, description, word):
+        if word in ("certified", "exposed") and secrecy.found() is None:
+            word = "same"
         images = [os.path.join(folder, f"{name}_{secret}.elf") for secret in "ab"]
         with self.subTest(victim=name, description=description):
             told = material.command("verdict", support.example(description), *images)
@@ -88,7 +90,10 @@ class Victims(unittest.TestCase):
         folder = built("gcc")
         told = material.command("verdict", support.example("medium.toml"), *(f"{folder}/table_{secret}.elf" for secret in "ab")).stdout
         told = told.replace(folder, "examples/c/build/gcc").replace(support.example("medium.toml"), "examples/medium.toml")
-        self.assertEqual(textwrap.dedent(sample), told)
+        sample = textwrap.dedent(sample)
+        if secrecy.found() is None:
+            sample, told = (re.sub(r"(?m)^one run .*\n", "", text) for text in (sample, told))
+        self.assertEqual(sample, told)
 
     def test_lines_of_the_source(self):
         """An image with line numbers has file and line in what shows: here the line of the table that is looked up, or the brace behind."""
