@@ -1,5 +1,5 @@
 -- How the program ends, from what its parts do.
-use Rattle.std.proofs.Common.{◌≡◌, ℕ, List, Some, None, Result, Ok, Err, refl}
+use Rattle.std.proofs.Common.{◌≡◌, ℕ, List, Some, Result, Ok, Err, refl}
 use Rattle.tool_io.specs.Outside.{Told, Shelf}
 use Rattle.run_inputs.specs.declared.refusal.Refusal.TheVariants.{Write, Memory}
 use Rattle.run_inputs.specs.Told.{world}

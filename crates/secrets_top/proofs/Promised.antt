@@ -1,5 +1,5 @@
 -- A run in which nothing shows gives the trace of every secret: by the law of one run for all.
-use Rattle.std.proofs.Common.{◌≡◌, ◌⊎◌, ◌≤◌, ℕ, List, Bool, false, Option, Some, None, Result, refl, sym, ap, ◌∙◌, inl, inr, arith}
+use Rattle.std.proofs.Common.{◌≡◌, ◌⊎◌, ◌≤◌, ℕ, List, false, Option, Some, None, Result, refl, sym, ap, ◌∙◌, inl, inr, arith}
 use Rattle.std.specs.Option.{option_map, is_some}
 use Rattle.rv_types.specs.Memory.{Code}
 use Rattle.rv_types.specs.declared.End.{End}
@@ -26,7 +26,7 @@ use Rattle.secrets_top.specs.declared.refusal.Unjudged.{Unjudged}
 use Rattle.secrets_top.specs.declared.verdict.Verdict.{Verdict}
 use Rattle.secrets_top.specs.Verdict.{verdict, verdict_text, hidden_status, verdict_status, first_of_run}
 use Rattle.secrets_top.specs.Refused.{status_of}
-use Rattle.secrets_top.specs.Top.{Wants, Inputs, Accepted, Ends, Statuses}
+use Rattle.secrets_top.specs.Top.{Inputs, Ends, Statuses}
 use Rattle.secrets_top.specs.Promises.{OneTrace, Hides, Tells, Promises}
 use Rattle.secrets_top.proofs.Statuses.{statuses_at}
 

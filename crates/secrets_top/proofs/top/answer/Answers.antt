@@ -1,7 +1,7 @@
 -- A range that isn't accepted is refused; else what is told is told of the run that is wanted.
 use Rattle.std.proofs.Common.{List, ℕ, map, sym, ap, ◌∙◌, subst}
 use Rattle.run_inputs.specs.Loaded.{loaded}
-use Rattle.run_inputs.specs.Told.{World, world}
+use Rattle.run_inputs.specs.Told.{world}
 use Rattle.run_inputs.proofs.Exits.{at_exit}
 use Rattle.secret_marks.specs.declared.SecretRange.{SecretRange}
 use Rattle.secret_words.specs.Words.{WantedText, wanted_text}
