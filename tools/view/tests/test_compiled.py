@@ -110,7 +110,8 @@ class Compiled(unittest.TestCase):
 
     def test_traces_that_lack_an_event(self):
         told = self.same(self.cases((["why"], ["stats"]), without_an_event()))
-        self.assertTrue(any("can't follow" in text for text in told) and any("\nunexplained: 0" not in text for text in told))
+        refused = ["doesn't follow" in text for text in told]
+        self.assertTrue(any(refused) and not all(refused))
 
     @unittest.skipIf(support.NO_PROGRAM, support.NO_PROGRAM)
     def test_verdicts(self):
