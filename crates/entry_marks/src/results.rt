@@ -44,7 +44,7 @@ fn of_itself(op: Op, a: WordMarks) -> WordMarks
     ensures { result ≡ of_itself op a }
 {
     match op {
-        Op::Xor | Op::Slt | Op::Sltu => UNMARKED,
+        Op::Xor | Op::Sub | Op::Slt | Op::Sltu => UNMARKED,
         _ => of_operands(op, a, a),
     }
 }

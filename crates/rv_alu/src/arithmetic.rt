@@ -2,10 +2,17 @@
 ghost use Rattle.std.specs.Prelude.{◌≡◌, ◌/◌, ◌%◌, ◌*◌, ◌^◌};
 ghost use Rattle.std.specs.Int.Signed.{shr_z};
 ghost use Rattle.rv_types.specs.Value.{value};
-ghost use Rattle.rv_types.specs.Word.{signed, word};
+ghost use Rattle.rv_types.specs.Word.{signed, word, word_sub};
 
 use crate::{divisions, products};
 use rv_types::Op;
+
+// `a` less `b` modulo 2^32.
+fn difference(a: u32, b: u32) -> u32
+    ensures { result ≡ word_sub a b }
+{
+    a.wrapping_sub(b)
+}
 
 // `a` shifted left by the low five bits of `b`.
 fn shift_left(a: u32, b: u32) -> u32
@@ -38,7 +45,7 @@ pub fn value(op: Op, a: u32, b: u32) -> u32
 {
     match op {
         Op::Add => a.wrapping_add(b),
-        Op::Sub => a.wrapping_sub(b),
+        Op::Sub => difference(a, b),
         Op::Sll => shift_left(a, b),
         Op::Slt => u32::from(a.cast_signed() < b.cast_signed()),
         Op::Sltu => u32::from(a < b),

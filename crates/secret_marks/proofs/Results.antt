@@ -223,7 +223,7 @@ module _ (wa wb : WordMarks) (a a2 b b2 : ℕ) (h : SameWord wa a a2) (k : SameW
   same_operation op.Xor = bitwise bit_xor xor_shr xor_mod
   same_operation op.Add = carried (λ a b. a + b) (λ a b. omega arith) (λ a b. omega arith) (λ a b. omega arith)
   same_operation op.Mul = carried (λ a b. a * b) (λ a b. mul-mod a b 256) (λ a b. mul-mod a b 65536) (λ a b. mul-mod a b 16777216)
-  same_operation op.Sub = known (upward wa) _ _ (λ q. subst (λ b2. SameWord (upward wa) (word_sub a b) (word_sub a2 b2)) q (same_sum wa a a2 (2 ^ 32 - b) h))
+  same_operation op.Sub = known (upward wa) _ _ (λ q. subst (λ b2. SameWord (upward wa) (word_sub a b) (word_sub a2 b2)) q (same_sum wa a a2 (2 ^ 32 - b % 2 ^ 32) h))
   same_operation op.Sll = known (upward wa) _ _ (λ q. subst (λ b2. SameWord (upward wa) (a * 2 ^ (b % 32) % 2 ^ 32) (a2 * 2 ^ (b2 % 32) % 2 ^ 32)) q (same_product wa a a2 (2 ^ (b % 32)) h))
   same_operation op.Srl = known (downward wa) _ _ (λ q. subst (λ b2. SameWord (downward wa) (a / 2 ^ (b % 32)) (a2 / 2 ^ (b2 % 32))) q (same_shifted wa a a2 (b % 32) h))
   same_operation op.Slt = same_test (any_byte (either wa wb)) _ _ (λ n. let q = equal_operands n in ap₂ (λ a b. int_lt (signed a) (signed b)) q.0 q.1)
@@ -239,9 +239,14 @@ int_not_less : (z : ℤ) → int_lt z z ≡ false
 int_not_less (pos a) = not_less a
 int_not_less (negsuc a) = not_less a
 
+-- a number less itself
+nothing_left : (a : ℕ) → word_sub a a ≡ 0
+nothing_left a = omega arith
+
 -- the result of an operation on one register twice
 pub same_twice : (w : WordMarks) (a a2 : ℕ) → SameWord w a a2 → (o : Op) → SameWord (of_itself o w) (value o a a) (value o a2 a2)
 same_twice w a a2 h op.Xor = ap (blanked unmarked) (xor_self a ∙ sym (xor_self a2))
+same_twice w a a2 h op.Sub = ap (blanked unmarked) (nothing_left a ∙ sym (nothing_left a2))
 same_twice w a a2 h op.Slt = ap (λ b. blanked unmarked (one_if b)) (int_not_less (signed a) ∙ sym (int_not_less (signed a2)))
 same_twice w a a2 h op.Sltu = ap (λ b. blanked unmarked (one_if b)) (not_less a ∙ sym (not_less a2))
 same_twice w a a2 h o = same_operation w w a a2 a a2 h h o

@@ -99,6 +99,10 @@ carried = 0x00814303 ∷ 0x01031313 ∷ 0x00530313 ∷ 0x0ff37393 ∷ 0x002383b3
 abbrev pub zeroed : List ℕ
 zeroed = 0x00814303 ∷ 0x006343b3 ∷ 0x002383b3 ∷ 0xf003c403 ∷ 0x00000513 ∷ 0x05d00893 ∷ 0x00000073 ∷ []
 
+-- a difference of the secret and itself: lbu x6,8(x2); sub x7,x6,x6; add x7,x7,x2; lbu x8,-256(x7); exit
+abbrev pub subtracted_from_itself : List ℕ
+subtracted_from_itself = 0x00814303 ∷ 0x406303b3 ∷ 0x002383b3 ∷ 0xf003c403 ∷ 0x00000513 ∷ 0x05d00893 ∷ 0x00000073 ∷ []
+
 -- the secret times register 0 is looked up by: lbu x6,8(x2); mul x7,x6,x0; add x7,x7,x2; lbu x8,-256(x7); exit
 abbrev pub times_zero : List ℕ
 times_zero = 0x00814303 ∷ 0x020303b3 ∷ 0x002383b3 ∷ 0xf003c403 ∷ 0x00000513 ∷ 0x05d00893 ∷ 0x00000073 ∷ []
@@ -130,10 +134,6 @@ abbrev pub exits : List ℕ
 exits = 0x00814503 ∷ 0x05d00893 ∷ 0x00000073 ∷ []
 
 -- ---- what shows, although the trace is one for all secrets
-
--- a difference of the secret and itself: lbu x6,8(x2); sub x7,x6,x6; add x7,x7,x2; lbu x8,-256(x7); exit
-abbrev pub subtracted_from_itself : List ℕ
-subtracted_from_itself = 0x00814303 ∷ 0x406303b3 ∷ 0x002383b3 ∷ 0xf003c403 ∷ 0x00000513 ∷ 0x05d00893 ∷ 0x00000073 ∷ []
 
 -- the secret is masked off by a register: lbu x6,8(x2); addi x5,x0,-256; and x7,x6,x5; add x7,x7,x2; lbu x8,-256(x7); exit
 abbrev pub masked_by_register : List ℕ

@@ -32,6 +32,7 @@ of_operands op a b = smeared (either a b)
 -- one register twice: what is 0 whatever it holds is unmarked
 abbrev pub of_itself : Op → WordMarks → WordMarks
 of_itself Xor a = unmarked
+of_itself Sub a = unmarked
 of_itself Slt a = unmarked
 of_itself Sltu a = unmarked
 of_itself op a = of_operands op a a
