@@ -10,8 +10,8 @@ import shutil
 import subprocess
 
 TOP = os.path.dirname(os.path.dirname(os.path.dirname(os.path.abspath(__file__))))
-BUILT = os.path.join(TOP, "crates", "stt_cli", "out", "stt_cli")
-DOCUMENTS = ("README.md", "docs/using.md", "docs/results.md")
+CRATES = {"STT_CLI": "stt_cli", "STT_SECRETS": "stt_secrets"}
+DOCUMENTS = ("README.md", "docs/using.md", "docs/results.md", "docs/secrets.md")
 # what a command with such words asks for
 NEEDS = [("build/gcc", "riscv64-unknown-elf-gcc"), ("build/picolibc", "riscv64-unknown-elf-gcc"), ("build/clang", "clang"), ("xxd", "xxd"),
          ("tools/verdict", "riscv64-unknown-elf-objdump"),
@@ -24,9 +24,10 @@ SECONDS = 120
 RAN = (0, 1, 3)
 
 
-def program():
-    """The program that samples are held against: that of STT_CLI, or the built one; None where there is none."""
-    named = os.environ.get("STT_CLI") or BUILT
+def program(variable="STT_CLI"):
+    """The program that samples are held against: that of the variable, or the built one; None where there is none."""
+    crate = CRATES[variable]
+    named = os.environ.get(variable) or os.path.join(TOP, "crates", crate, "out", crate)
     return os.path.abspath(named) if os.path.isfile(named) and os.access(named, os.X_OK) else None
 
 
@@ -72,6 +73,8 @@ def is_that_gcc():
 def lacking(command):
     """What a command asks for and isn't there, or None."""
     names = [name for words, name in NEEDS if words in command and shutil.which(name) is None]
+    if "--secret" in command and program("STT_SECRETS") is None:
+        names.append("stt_secrets")
     if "build/picolibc" in command and not os.path.isdir(PICOLIBC):
         names.append("picolibc-riscv64-unknown-elf")
     if "examples/c" in command and not is_that_gcc():

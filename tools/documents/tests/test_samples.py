@@ -4,6 +4,7 @@ import os
 import re
 import sys
 import unittest
+import unittest.mock
 
 HERE = os.path.dirname(os.path.abspath(__file__))
 sys.path.append(os.path.dirname(HERE))
@@ -63,6 +64,12 @@ class Reading(unittest.TestCase):
         kept, samples.NEEDS = samples.NEEDS, [("build/gcc", "no-such-compiler")]
         self.addCleanup(setattr, samples, "NEEDS", kept)
         self.assertEqual(samples.lacking("make build/gcc/x.elf"), "no-such-compiler")
+
+
+    def test_a_question_about_a_secret_needs_its_program(self):
+        for named, lacking in (("/no/such/program", "stt_secrets"), ("/bin/true", None)):
+            with self.subTest(named), unittest.mock.patch.dict(os.environ, {"STT_SECRETS": named}):
+                self.assertEqual(samples.lacking("verdict D A --secret key"), lacking)
 
 
 class ThisRepository(unittest.TestCase):
