@@ -85,7 +85,7 @@ module _ (now : ℕ) (l : Entry) where
   writer_seen [] (e2 ∷ b2) r v h k = absurd h
   writer_seen (e ∷ b) [] r v h k = absurd h
 
-  -- of older entries that a load sees alike, the stores still stand before it as they have to, and it finds the same bytes
+  -- older stores that a load sees alike still stand before it as they have to, and it finds the same bytes
   module _ (load : is_load l.item.kind ≡ true) (issued : is_before l.issued (Some now) ≡ true) where
     stores_seen : (b b2 : List Entry) → AllSeen now l b b2 → list_all (stands_before l) b ≡ true → list_all (stands_before l) b2 ≡ true
     stores_seen [] [] h k = refl
