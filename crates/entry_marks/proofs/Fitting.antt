@@ -25,7 +25,7 @@ use Rattle.window_model.proofs.Memory.{inside}
 abbrev pub Leaves : Entry → Type 0
 Leaves e = (may_leave e ≡ true) × (trap_of e ≡ None)
 
--- those that are gone may leave
+-- the entries that are gone from the front of the window all may leave
 pub record Went (window after : List Entry) : Type 0 where
   pub gone : List Entry
   pub is : window ≡ gone ++ after
@@ -39,7 +39,7 @@ one_went e rest after it w = record { gone = e ∷ w.gone; is = ap (λ es. e ∷
 
 -- ---- the turns of Retire
 
--- a head that retires leaves the entries behind it; a call that traps would leave all
+-- a call that retires leaves the entries behind it, and below every head does; a call that traps would leave all
 call_went : (e : Entry) (rest : List Entry) (x : Machine) (s : Step) → ((call_leaves e rest x s).machine.window ≡ rest) ⊎ ((call_leaves e rest x s).machine.window ≡ x.window)
 call_went e rest x (Goes s piece) = inl refl
 call_went e rest x (Exits v s) = inl refl
@@ -52,7 +52,7 @@ head_went Call d e rest x = call_went e rest x (call (hart_of x))
 head_went _ d e rest x = inl refl
 
 module _ (d : Desc) (more : Bool → Machine → Retired) (later : (stored : Bool) (x : Machine) → Went x.window (more stored x).machine.window) where
-  -- the head, and the turns behind it
+  -- a head that may leave, and the turns behind it, let entries go that may leave
   next_went : (stored : Bool) (e : Entry) (rest : List Entry) (x : Machine) → x.window ≡ e ∷ rest → Leaves e →
       Went (e ∷ rest) (more stored (head_leaves e.item.kind d e rest x).machine).machine.window
   next_went stored e rest x is it =
