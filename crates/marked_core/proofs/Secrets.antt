@@ -3,7 +3,7 @@ use Rattle.std.proofs.Common.{◌≡◌, ℕ, zero, suc, ◌+◌, ◌-◌, ◌<�
 use Rattle.std.proofs.lemmas.List.{length-map}
 use Rattle.rv_types.specs.Memory.{range}
 
--- as many addresses as are asked for
+-- a range of n addresses has n
 range_length : (a n : ℕ) → length (range a n) ≡ n
 range_length a zero = refl
 range_length a (suc n) = ap suc (range_length (a + 1) n)
@@ -11,7 +11,7 @@ range_length a (suc n) = ap suc (range_length (a + 1) n)
 pub marks_length : (f : ℕ → Bool) (a n : ℕ) → length (map f (range a n)) ≡ n
 marks_length f a n = length-map (range a n) f ∙ range_length a n
 
--- the addresses from a position on
+-- the addresses of a range from position i on: the first, and those behind it
 pub range_next : (a i n : ℕ) → i < n → range (a + i) (n - i) ≡ (a + i) ∷ range (a + (i + 1)) (n - (i + 1))
 range_next a i n lt =
     let count : n - i ≡ suc (n - (i + 1)) = omega (arith, lt) in
