@@ -23,9 +23,9 @@ pub enum RangeFault {
 #[derive(Clone, Copy, Debug, PartialEq, Eq, Error)]
 #[error("a range of secret bytes isn't within memory, or touches code")]
 pub struct FaultyRange {
-    /// Its number among the ranges, counted from 0.
+    /// The number of the range among the ranges, counted from 0.
     pub number: u64,
-    /// What is wrong with it.
+    /// What is wrong with the range.
     pub fault: RangeFault,
 }
 
