@@ -88,7 +88,7 @@ op_no_access op.Rem = refl
 op_no_access op.Remu = refl
 op_no_access _ = refl
 
--- every load and store takes address and data from its operands in this way
+-- every load and store takes its address from its first operand, and what it stores from its second
 effect_of_access : (i : Instr) → is_access (kind_of i) ≡ true → AccessEffect i
 effect_of_access (instr.Load o rd rs1 imm) h = record { next = λ pc a b a2 b2. refl; addr = λ pc a b b2. refl; stored = λ pc a a2 b. refl }
 effect_of_access (instr.Store o rs1 rs2 imm) h = record { next = λ pc a b a2 b2. refl; addr = λ pc a b b2. refl; stored = λ pc a a2 b. refl }
@@ -96,7 +96,8 @@ effect_of_access (instr.Jal rd imm) h = absurd (let n = jal_no_access (word imm 
 effect_of_access (instr.OpReg o rd rs1 rs2) h = absurd (let n = op_no_access o in cc)
 effect_of_access _ h = absurd (cc)
 
--- every entry that is a load or store of the program takes address and data from its operands in this way
+-- every entry that is a load or store of the program takes its address from its first operand, and what it stores from its
+-- second
 pub access_effect : (code : Code) (e : Entry) → IsItem code e.item → is_access e.item.kind ≡ true → AccessEffect e.item.instr
 access_effect code e item h = by_word (code e.item.pc) item.instr item.kind
   where

@@ -35,7 +35,7 @@ pub record PredictorFits (d : Desc) (c : List ℕ) (t : List (Option Target)) : 
   pub counters : length c ≡ d.predictor_counters
   pub targets : length t ≡ d.predictor_btb
 
--- a level of the cache has so many sets, and each set at most so many lines
+-- a level of the cache has `count` sets, and each set at most `most` lines
 pub record LevelFits (count most : ℕ) (level : List (List ℕ)) : Type 0 where
   pub sets : length level ≡ count
   pub ways : Each (λ lines. length lines ≤ most) level

@@ -46,7 +46,7 @@ pub last_join : (b : Bool) (a c : List Entry) → last_from b (a ++ c) ≡ last_
 last_join b [] c = refl
 last_join b (e ∷ a) c = last_join (is_last e) a c
 
--- one more at the end is the last
+-- one more entry at the end is the youngest, and below one more item
 pub last_push : (b : Bool) (es : List Entry) (e : Entry) → last_from b (es ++ e ∷ []) ≡ is_last e
 last_push b es e = last_join b es (e ∷ [])
 

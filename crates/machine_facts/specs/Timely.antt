@@ -33,7 +33,7 @@ latency Mul d = d.units_mul_latency
 latency Div d = longest_division
 latency _ d = 1
 
--- a due that is later than cycle `past`, and at most `longest` cycles after another
+-- the cycle `due` is later than `past`, and at most `longest` cycles after `cycle`
 abbrev pub IsSoon : ℕ → ℕ → ℕ → ℕ → Type 0
 IsSoon past cycle longest due = (past < due) × (due ≤ cycle + longest)
 

@@ -27,7 +27,7 @@ either w u = record {
   byte3 = w.byte3 || u.byte3;
 }
 
--- the marks from the lowest marked byte upward, as a carry goes
+-- the marks of a word from its lowest marked byte upward, as a carry goes
 abbrev pub upward : WordMarks → WordMarks
 upward w = record {
   byte0 = w.byte0;
@@ -36,7 +36,7 @@ upward w = record {
   byte3 = w.byte0 || w.byte1 || w.byte2 || w.byte3;
 }
 
--- the marks from the highest marked byte downward, as a shift to the right goes
+-- the marks of a word from its highest marked byte downward, as a shift to the right goes
 abbrev pub downward : WordMarks → WordMarks
 downward w = record {
   byte0 = w.byte3 || w.byte2 || w.byte1 || w.byte0;

@@ -13,9 +13,9 @@ use thiserror::Error;
 /// What is wrong with a range of secret bytes.
 #[derive(Clone, Copy, Debug, PartialEq, Eq)]
 pub enum RangeFault {
-    /// Not all of its bytes lie in memory.
+    /// The range doesn't lie within memory.
     Outside,
-    /// One of its bytes is one of a word that may be fetched.
+    /// One of the range's bytes is one of a word that may be fetched.
     Code,
 }
 

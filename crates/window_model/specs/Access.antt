@@ -115,7 +115,7 @@ prefetches d now found =
     && nat_lt (line_behind d found) (now.ram.base + length now.ram.bytes)
     && nat_lt (length now.misses + length (requests found)) d.cache_mshrs
 
--- the line behind a load's, where it is prefetched and takes a miss register; none where it is in the cache or on its way
+-- the request of the line behind a load's, where that is prefetched; none where the cache has it or a register waits for it
 abbrev pub prefetched : Desc → Around → List Line → List Request
 prefetched d now found = if prefetches d now found then request_by (look_up d now (line_behind d found)) else []
 

@@ -20,7 +20,7 @@ use Rattle.window_model.specs.Dependence.{passing, bit_index, bit_set}
 abbrev pub may_clear : Desc → List Entry → Entry → Bool
 may_clear d before e = is_store e.item.kind && not e.cleared && has_address e && not (address_tainted d.stt_model before e)
 
--- the first cycle is before the second; false where there is none of one or the other
+-- the first cycle is before the second; false where one of the two is not there
 abbrev pub is_before : Option ℕ → Option ℕ → Bool
 is_before (Some a) (Some b) = nat_lt a b
 is_before _ _ = false

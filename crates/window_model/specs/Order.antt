@@ -26,7 +26,7 @@ each_from f before (e ∷ es) = f before e ∷ each_from f (e ∷ before) es
 abbrev pub each : {A : Type 0} → (List Entry → Entry → A) → List Entry → List A
 each f window = each_from f [] window
 
--- an entry in its place: those before it, youngest first, and those after it, oldest first
+-- an entry in its place: the older ones, youngest first, the entry, and the younger ones, oldest first
 pub record Place : Type 0 where
   pub before : List Entry
   pub entry : Entry

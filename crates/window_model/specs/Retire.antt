@@ -133,7 +133,7 @@ head_leaves _ d e rest x = record { machine = leaves e rest x; events = event.Re
 
 -- ---- the turns of Retire
 
--- the second of two values where the run has ended, else the third
+-- the value `ended` where the run has ended, else the value `goes`
 abbrev pub unless_ended : {A : Type 0} → Option End → A → A → A
 unless_ended None ended goes = goes
 unless_ended (Some e) ended goes = ended

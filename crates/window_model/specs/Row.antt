@@ -11,7 +11,7 @@ pub record Row : Type 0 where
 abbrev pub row_room : ℕ
 row_room = 256
 
--- the row has room for so many events more
+-- the row has room for n more events
 abbrev pub HasRoom : ℕ → Row → Type 0
 HasRoom n row = length row.events + n ≤ row_room
 
@@ -19,7 +19,7 @@ HasRoom n row = length row.events + n ≤ row_room
 abbrev pub with_events : Row → List Event → Row
 with_events row events = record row { events = row.events ++ events }
 
--- one row has at most so many events more than another
+-- the new row has at most n more events than the old one
 abbrev pub IsLonger : ℕ → Row → Row → Type 0
 IsLonger n old new = length new.events ≤ length old.events + n
 
