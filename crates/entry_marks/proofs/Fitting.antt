@@ -93,7 +93,7 @@ pub retire_went : (d : Desc) (x : Machine) → Went x.window (retire d x).machin
 unfolding retire
 retire_went d x = turns_went d d.core_retire_width false x
 
--- ---- the stores among them
+-- ---- the stores among the entries that retire
 
 -- memory takes what the entry writes, if it is a Done store without a fault
 abbrev pub Takes : Ram → Entry → Type 0
@@ -113,7 +113,7 @@ first_of : (a b : Bool) → (a && b) ≡ true → a ≡ true
 first_of true b h = refl
 first_of false b h = absurd (cc)
 
--- what memory takes lies within it
+-- an access that memory takes lies within it
 fits : (ram : Ram) (a n : ℕ) → store_fault ram a n ≡ None → (a - ram.base) + n ≤ length ram.bytes
 fits ram a n h = let within = inside _ _ ram a n h in omega (arith, within)
 

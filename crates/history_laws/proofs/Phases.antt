@@ -32,7 +32,7 @@ use Rattle.history_laws.proofs.Leading.{GoesOn, goes_same, fresh_goes, leads_pus
 
 -- ---- what every phase keeps
 
--- neither what waits nor a store is resolved
+-- the entry isn't resolved where it waits, nor where it is a store
 pub record Fresh (e : Entry) : Type 0 where
   pub waits : is_waiting e.state ≡ true → e.resolved ≡ false
   pub store : is_store e.item.kind ≡ true → e.resolved ≡ false
@@ -189,7 +189,7 @@ left_clear d gone = clear_keep d (Left d gone) (λ x p t h. cleared d gone x p t
 
 -- ---- Issue keeps what is left
 
--- an entry goes on, and stays as it is where it is resolved
+-- what Issue makes of an entry: it goes on, and isn't resolved where it waits or is a store
 pub record Issues (e e2 : Entry) : Type 0 where
   pub on : GoesOn e e2
   pub fresh : Fresh e2

@@ -15,7 +15,7 @@ use Rattle.secret_marks.specs.Watch.{watch_cycle}
 use Rattle.secret_marks.proofs.Cycle.{watched_machine}
 use Rattle.marked_core.proofs.Watching.{goes_on, stops}
 
--- whether a run has ended, by what is told of it
+-- whether a run has ended, by what the core answers of it
 pub running_at : (end told : Option End) (b : Bool) → told ≡ end → b ≡ is_some told → b ≡ false → end ≡ None
 running_at end None b t e q = sym t
 running_at end (Some k) b t e q = absurd (cc)

@@ -19,7 +19,7 @@ range_next a i n lt =
     ap (range (a + i)) count ∙ ap (λ b. (a + i) ∷ range b (n - (i + 1))) next
 
 module _ (f : ℕ → Bool) (a n : ℕ) where
-  -- the marks of the bytes up to a position, and of those that are left
+  -- the marks of the bytes up to a position and those of the others are the marks of all, also one byte further
   pub marks_next : (done : List Bool) (b : Bool) (i : ℕ) → i < n → b ≡ f (a + i) → done ++ map f (range (a + i) (n - i)) ≡ map f (range a n) →
       (done ++ b ∷ []) ++ map f (range (a + (i + 1)) (n - (i + 1))) ≡ map f (range a n)
   marks_next done b i lt e h =

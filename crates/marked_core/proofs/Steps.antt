@@ -73,7 +73,7 @@ marks_extended m w n s count e =
 
 -- ---- what Issue looks at
 
--- the parts stand for the window beside the marks
+-- some parts stand for the window that Issue looks at, and each entry has its marks
 pub parts_beside : (h : Held) (v : Described) (ms : List EntryMarks) → Whole h → described h ≡ v → length ms ≡ length v.machine.window → StandBeside h.rob.entries h.sources.items ms
 parts_beside h v ms w s e = record {
   rest = table_and_stations (in_flight h);

@@ -70,7 +70,7 @@ pub record Left (s0 : Parts) (s : Parts) (went : List Entry) : Type 0 where
   pub desc : s.tags.desc ≡ s0.tags.desc
   pub cycle : s.row.cycle ≡ s0.row.cycle
 
--- at most n turns more make the whole phase
+-- at most n more turns of what is left now make what the whole phase leaves
 pub record RetiresOn (d : Desc) (s0 : Parts) (n : ℕ) (stored : Bool) (s : Parts) : Type 0 where
   pub went : List Entry
   pub left : Left s0 s went
@@ -177,7 +177,7 @@ one_more d n stored s s2 went rest e end t w p g x =
 
 -- ---- what is asked stays so
 
--- the rest of a window in which a call stands alone
+-- a call stands alone in the rest of a window in which it does
 pub alone_rest : (e : Entry) (rest : List Entry) → CallAlone (e ∷ rest) → CallAlone rest
 alone_rest e rest h one =
     let a = count_is calls rest in
@@ -227,7 +227,7 @@ pub retires_more : (d : Desc) (s0 : Parts) (i : ℕ) (stored : Bool) (s s2 : Par
 retires_more d s0 i stored s s2 e stored2 o h lt t g n b =
     subst (λ b. RetiresOn d s0 (d.core_retire_width - (i + 1)) b s2) (sym b) (retires_head d s0 i stored s s2 e h lt t (subst (λ o. HeadLeft d s e o s2) n g))
 
--- a store that retires has its place in memory
+-- a store that retires writes inside memory
 pub head_inside : (ram : Ram) (stored : Bool) (w : List Entry) (e : Entry) → Each (TakesStore ram) w → Goes stored w e → e.item.kind ≡ Store → store_fault ram (addr_of e.outcome) (width_of e) ≡ None
 head_inside ram stored w e h t k =
     let head = head_at stored w e t in
@@ -236,7 +236,7 @@ head_inside ram stored w e h t k =
 
 -- ---- the row has room
 
--- the phase has few events, and so has what there is of them so far and the next ones
+-- the events so far and the next ones are few, as those of the whole phase are
 few_told : (d : Desc) (s0 s : Parts) (told more : List Event) → Ready d s0 → s.row.events ++ (told ++ more) ≡ s0.row.events ++ (phase d s0 (opening d 0 s0.ram)).events →
     length s.row.events + length told ≤ length s0.row.events + most_retired
 few_told d s0 s told more r h =

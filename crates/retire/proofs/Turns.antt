@@ -13,12 +13,12 @@ use Rattle.window_model.proofs.Leaving.{is_cleared}
 use Rattle.retire.specs.declared.turn.Turn.TheVariants.{Waits, Traps, Leaves}
 use Rattle.retire.specs.Turn.{Goes, turn_at, turn_by}
 
--- after an end no turn follows
+-- once the run has ended no turn follows
 pub ended : (d : Desc) (n : ℕ) (stored : Bool) (x : Machine) (e : End) → x.end ≡ Some e → turns d n stored x ≡ stays x
 ended d zero stored x e h = refl
 ended d (suc n) stored x e h = ap (λ o. unless_ended o (stays x) (head_turn d stored x.window x (turns d n))) h
 
--- a turn of a machine that hasn't ended
+-- the first of some turns, of a machine that hasn't ended, is one of its head
 running : (d : Desc) (n : ℕ) (stored : Bool) (x : Machine) → x.end ≡ None → turns d (suc n) stored x ≡ head_turn d stored x.window x (turns d n)
 running d n stored x h = ap (λ o. unless_ended o (stays x) (head_turn d stored x.window x (turns d n))) h
 

@@ -20,12 +20,12 @@ use Rattle.shown_marks.specs.State.{HasTurn, Stands, before_of, each_marks, mark
 use Rattle.shown_marks.proofs.Deciding.{silent, unable_silent, unwaiting_silent}
 use Rattle.shown_marks.proofs.Walking.{ShowsFrom, all_from, shows_here, shows_later, shows_nowhere}
 
--- what shows from a position on is what shows in all
+-- what shows from position i on is what shows first in the whole window
 abbrev pub Shows : Seen → ℕ → Type 0
 Shows s i = ShowsFrom s.desc.now (marks_in s) (window_of s) (each_marks s) i
 
 module _ (s : Seen) (stands : Stands s) where
-  -- what a station tells of its entry
+  -- a station is able where what its entry wants is there
   pub able_is : (i n : ℕ) (e : Entry) (b : Bool) → slice_get (window_of s) i ≡ Some e → is_waiting e.state ≡ true → n ≡ station_of i (window_of s) → option_map is_able (slice_get s.stations.now.held n) ≡ Some b →
       b ≡ has_sources (wants_of s.desc.now.version e) s.desc.now (before_at (window_of s) i) e
   able_is i n e b h w q k =
