@@ -39,12 +39,13 @@ one_went e rest after it w = record { gone = e ∷ w.gone; is = ap (λ es. e ∷
 
 -- ---- the turns of Retire
 
--- a call that retires leaves the entries behind it, and below every head does; a call that traps would leave all
+-- a call that retires leaves the entries behind it; one that traps would leave all
 call_went : (e : Entry) (rest : List Entry) (x : Machine) (s : Step) → ((call_leaves e rest x s).machine.window ≡ rest) ⊎ ((call_leaves e rest x s).machine.window ≡ x.window)
 call_went e rest x (Goes s piece) = inl refl
 call_went e rest x (Exits v s) = inl refl
 call_went e rest x (Traps cause) = inr refl
 
+-- a head of any kind that retires leaves the entries behind it; a call that traps would leave all
 head_went : (k : Kind) (d : Desc) (e : Entry) (rest : List Entry) (x : Machine) →
     ((head_leaves k d e rest x).machine.window ≡ rest) ⊎ ((head_leaves k d e rest x).machine.window ≡ x.window)
 head_went Store d e rest x = inl refl

@@ -27,10 +27,11 @@ Stands w = StandBeside w.rob.now.entries w.sources.now.items w.marks.now.items
 abbrev pub StandsAt : Walk → ℕ → Entry → Type 0
 StandsAt w i e = slice_get w.rob.now.entries i ≡ Some e
 
--- the entries older than a position, youngest first, and below their marks
+-- the entries older than a position, youngest first
 abbrev pub entries_at : Walk → ℕ → List Entry
 entries_at w i = before_at w.rob.now.entries i
 
+-- the marks of the entries older than a position, youngest first
 abbrev pub marks_at : Walk → ℕ → List EntryMarks
 marks_at w i = marks_before w.marks.now.items i
 

@@ -46,10 +46,11 @@ pub last_join : (b : Bool) (a c : List Entry) → last_from b (a ++ c) ≡ last_
 last_join b [] c = refl
 last_join b (e ∷ a) c = last_join (is_last e) a c
 
--- one more entry at the end is the youngest, and below one more item
+-- one more entry at the end is the youngest
 pub last_push : (b : Bool) (es : List Entry) (e : Entry) → last_from b (es ++ e ∷ []) ≡ is_last e
 last_push b es e = last_join b es (e ∷ [])
 
+-- one more item at the end is the youngest
 pub last_item_push : (b : Bool) (is : List Item) (i : Item) → last_item_from b (is ++ i ∷ []) ≡ is_stop i.kind
 last_item_push b [] i = refl
 last_item_push b (x ∷ is) i = last_item_push (is_stop x.kind) is i

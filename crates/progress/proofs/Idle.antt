@@ -20,10 +20,11 @@ use Rattle.machine_facts.proofs.ClearPhases.{timely_clear}
 use Rattle.machine_facts.proofs.TimelyPhases.{timely_begin, timely_fill, timely_complete, timely_resolve}
 use Rattle.progress.proofs.Stops.{Stuck, retire_turned}
 
--- the state before Resolve, and below what the phases after Retire leave
+-- the state of a cycle before Resolve
 abbrev pub before_resolve : Desc → Machine → Machine
 before_resolve d x = (complete (fill d (record x { cycle = x.cycle + 1 })).machine).machine
 
+-- the state that the phases after Retire leave
 abbrev pub after_fetch : Desc → Code → Machine → Machine
 after_fetch d code x = (fetch d code (rename d (issue d x).machine).machine).machine
 

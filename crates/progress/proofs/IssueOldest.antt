@@ -87,7 +87,7 @@ data_granted d now e t h =
     both_true (both_true (ap not h) (part_ready (d.version == 1) (ready d [] a) (is_whole a) (all_known d [] (others_of (sources a))) (oldest_ready d a)
     (λ v. let q = t (eqb-true _ _ v) refl in neither (has_address e) (has_data e) (q ∙ h) q) (oldest_known d (others_of (sources a))))) refl
 
--- an oldest load may issue, and below an oldest division where the divider is free
+-- an oldest load may issue
 load_may : (d : Desc) (now : Around) (e : Entry) → may_issue_as Load d now [] (made Waiting Load e) ≡ true
 load_may d now e = both_true (ap not (oldest_address d (made Waiting Load e))) (in_each (d.version == 1))
   where
@@ -95,6 +95,7 @@ load_may d now e = both_true (ap not (oldest_address d (made Waiting Load e))) (
     in_each true = refl
     in_each false = refl
 
+-- an oldest division may issue, where the divider is free
 division_may : (d : Desc) (now : Around) (e : Entry) → is_free now ≡ true → may_issue_as Div d now [] (made Waiting Div e) ≡ true
 division_may d now e h = both_true (ap not (oldest_untainted d (made Waiting Div e))) h
 

@@ -31,13 +31,14 @@ all_of : (f : ℕ → Bool) (rs : List ℕ) → ((r : ℕ) → f r ≡ true) →
 all_of f [] h = refl
 all_of f (r ∷ rs) h = ap (λ b. b && list_all f rs) (h r) ∙ all_of f rs h
 
--- the oldest entry's operands are known, and below none of them is tainted
+-- the oldest entry's operands are known, since nothing is older
 pub oldest_known : (d : Desc) (rs : List ℕ) → all_known d [] rs ≡ true
 oldest_known d rs = all_of (is_known d []) rs (λ r. refl)
 
 pub oldest_ready : (d : Desc) (e : Entry) → ready d [] e ≡ true
 oldest_ready d e = oldest_known d (sources e)
 
+-- none of the oldest entry's operands is tainted
 pub oldest_untainted : (d : Desc) (e : Entry) → any_tainted d.stt_model [] e ≡ false
 oldest_untainted d e = none_any (tainted d.stt_model []) (sources e) (λ r. refl)
 

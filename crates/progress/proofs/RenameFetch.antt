@@ -22,10 +22,11 @@ pub record Appends (x y : Machine) : Type 0 where
   pub divider : y.divider ≡ x.divider
   pub window : (r : List Entry) × (y.window ≡ x.window ++ r)
 
--- a machine appends nothing to itself, and below what appends twice appends
+-- a machine appends nothing to itself
 pub appends_same : (x : Machine) → Appends x x
 appends_same x = record { cycle = refl; misses = refl; divider = refl; window = ([], sym (append-nil x.window)) }
 
+-- two phases that append, one after the other, append together
 pub appends_then : (x y z : Machine) → Appends x y → Appends y z → Appends x z
 appends_then x y z p q = record {
   cycle = q.cycle ∙ p.cycle;

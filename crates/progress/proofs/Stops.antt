@@ -25,12 +25,13 @@ pub record Turned (n : ℕ) (stored : Bool) (x : Machine) (r : Retired) : Type 0
   pub retired : x.retired ≤ r.machine.retired
   pub stops : 1 ≤ n → stored ≡ false → r.machine.end ≡ None → r.machine.retired ≡ x.retired → (r.machine ≡ x) × Stuck x.window
 
--- a call that leaves is one more retired, and below any head is
+-- a call that leaves is one more retired
 call_retires : (e : Entry) (rest : List Entry) (x : Machine) (s : Step) → CallDoes (hart_of x) s → (call_leaves e rest x s).machine.retired ≡ x.retired + 1
 call_retires e rest x (Goes s piece) c = refl
 call_retires e rest x (Exits v s) c = refl
 call_retires e rest x (Traps cause) c = absurd c
 
+-- a head of any kind that leaves is one more retired
 head_retires : (k : Kind) (d : Desc) (e : Entry) (rest : List Entry) (x : Machine) → (head_leaves k d e rest x).machine.retired ≡ x.retired + 1
 head_retires Call d e rest x = call_retires e rest x (call (hart_of x)) (call_does (hart_of x))
 head_retires Store d e rest x = refl

@@ -46,10 +46,11 @@ pub record Silent (d : Desc) (code : Code) (x : Machine) : Type 0 where
 module _ (d : Desc) (code : Code) where
   -- ---- from the facts to the cycle
 
-  -- the phases before Retire, from Resolve on, and below those from Complete on
+  -- the phases before Retire, from Resolve on
   abbrev from_resolve : Machine → After
   from_resolve z = then_does (resolve d z) (clear d)
 
+  -- the phases before Retire, from Complete on
   abbrev from_complete : Machine → After
   from_complete y = then_does (complete y) from_resolve
 
