@@ -38,7 +38,7 @@ oldest_known d rs = all_of (is_known d []) rs (λ r. refl)
 pub oldest_ready : (d : Desc) (e : Entry) → ready d [] e ≡ true
 oldest_ready d e = oldest_known d (sources e)
 
--- none of the oldest entry's operands is tainted
+-- no operand of the oldest entry is tainted
 pub oldest_untainted : (d : Desc) (e : Entry) → any_tainted d.stt_model [] e ≡ false
 oldest_untainted d e = none_any (tainted d.stt_model []) (sources e) (λ r. refl)
 
