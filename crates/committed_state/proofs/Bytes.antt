@@ -67,7 +67,7 @@ one_store ram a n v b x o h le false z p q e =
     let lt : b < a = grind (arith, nat_tests) in
     e ∙ sym (read_before ram.bytes (to_le n v) (a - ram.base) (omega (arith, r.0, r.1)) (b - ram.base) (omega (arith, r.0)))
 
--- by the kind, the fault and the outcome of an entry
+-- memory's byte after a store: the store's where it has no fault and reaches the byte
 by_fault : (m : Ram) (f : Option Cause) (a n v b o : ℕ) → store_fault m a n ≡ f → m.base ≤ b → o ≡ Byte m b →
     (if not (is_some f) && nat_le a b && nat_lt b (a + n) then slice_index (to_le n v) (b - a) else o) ≡ Byte (stored_unless f m a (to_le n v)) b
 by_fault m (Some c) a n v b o h le e = e
@@ -114,7 +114,8 @@ none_found : (lo co : Bool) (x v : ℕ) → co ≡ false → (if not lo && co th
 none_found true co x v q = refl
 none_found false co x v q = rw q refl
 
--- of a store what its byte needs: its address, its data where the load finds the byte at it, and that it is cleared
+-- what a byte of the load needs of an older store: it is cleared, its address is known, and its data is where it covers the
+-- byte
 pub record Covering (l e : Entry) (b : ℕ) : Type 0 where
   pub address : has_address e ≡ true
   pub issued : is_some e.outcome ≡ true
@@ -163,7 +164,7 @@ is_cleared true c q h = h
 is_cleared false c q h = absurd (cc)
 
 module _ (d : Desc) (code : Code) (s : Bank) (now : ℕ) (l : Entry) where
-  -- of an older store what a byte of the load needs
+  -- an older store that is cleared, and stands before the load as it has to, has what a byte of the load needs of it
   covering : (before : List Entry) (e : Entry) (b : ℕ) → InLoad l b → Stands d code s now before e → stands_before l e ≡ true → is_clear e ≡ true → is_store e.item.kind ≡ true → Covering l e b
   covering before e b i st sb cl q =
       let c = is_cleared (is_store e.item.kind) e.cleared q cl in

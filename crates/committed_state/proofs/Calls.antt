@@ -1,4 +1,4 @@
--- A call retires alone.
+-- A call retires alone: nothing stands behind it in the window.
 use Rattle.std.proofs.Common.{◌≡◌, ℕ, zero, suc, ◌+◌, Bool, true, false, not, ◌&&◌, List, [], ◌∷◌, ◌++◌, Option, Some, None, refl, ap, sym, ◌∙◌, subst}
 use Rattle.std.specs.Prelude.{if◌then◌else◌}
 use Rattle.std.proofs.lemmas.List.{append-nil}
@@ -35,7 +35,7 @@ only_call d code s now e e2 rest queue fetch_pc k h = by_kind e.item.kind k h.en
     by_kind Call q h = absurd (cc)
     by_kind _ q h = absurd (cc)
 
--- behind it nothing can leave
+-- behind a call nothing can leave the window
 stays_empty : (o : Option End) (w : List Entry) (d : Desc) (stored : Bool) (y : Machine) (more : Bool → Machine → Retired) → w ≡ [] → unless_ended o (stays y) (head_turn d stored w y more) ≡ stays y
 stays_empty None [] d stored y more h = refl
 stays_empty (Some e) w d stored y more h = refl

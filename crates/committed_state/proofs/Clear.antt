@@ -24,7 +24,7 @@ use Rattle.committed_state.proofs.Onward.{AllSeen, stands_seen}
 use Rattle.committed_state.proofs.Sees.{Sees, moves_same, sees_clear, sees_moves}
 use Rattle.committed_state.proofs.Spared.{NoneHas, clear_spares}
 
--- ---- entries
+-- ---- entries beside a store that is cleared
 
 -- an older entry is as it was, or it is the store that is cleared
 data Changes (e : Entry) (x x2 : Entry) : Type 0 where
@@ -49,7 +49,7 @@ module _ (d : Desc) (code : Code) (s : Bank) (now : ℕ) (e : Entry) (address : 
   all_changes l [] (x2 ∷ b2) n h = absurd h
   all_changes l (x ∷ b) [] n h = absurd h
 
-  -- what isn't violated stands over it
+  -- entries that aren't violated stand over the store once that is cleared
   younger_stand : (b b2 ys : List Entry) → NoneHas (is_violated e) ys → AllZip (Changes e) b b2 → Along P b ys → Along P b2 ys
   younger_stand b b2 [] n h k = tt
   younger_stand b b2 (y ∷ ys) n h k = (stands_seen now y d code s b b2 (all_changes y b b2 n.0 h) k.0, younger_stand (y ∷ b) (y ∷ b2) ys n.1 (Stays refl, h) k.1)
@@ -82,7 +82,7 @@ module _ (d : Desc) (code : Code) (s : Bank) (now : ℕ) (e : Entry) (address : 
   place_cleared b [] ys n k = (stands_cleared b k.0, younger_stand (e ∷ b) (cleared_one e ∷ b) ys n (Clears refl refl, same_changes e b) k.1)
   place_cleared b (o ∷ older) ys n k = (k.0, place_cleared (o ∷ b) older ys n k.1)
 
--- ---- links
+-- ---- where entries and items go on
 
 links_cleared : (older ys : List Entry) (e : Entry) → map entry_link (older ++ cleared_one e ∷ ys) ≡ map entry_link (older ++ e ∷ ys)
 links_cleared [] ys e = refl
@@ -93,7 +93,7 @@ chain_before : (from to : Option ℕ) (older ys : List Entry) (queue : List Item
 chain_before from to [] ys queue e k = k.0
 chain_before from to (x ∷ older) ys queue e k = (k.0, chain_before (entry_link x).next to older ys queue e k.1)
 
--- ---- the phase
+-- ---- Clear as a whole
 
 module _ (now : ℕ) (code : Code) (d : Desc) where
   abbrev S : Machine → Fact

@@ -30,13 +30,13 @@ use Rattle.committed_state.specs.Computed.{Bank, as_known_by, bytes_found, bytes
 use Rattle.committed_state.specs.Consistent.{HasOperands, IsItem, executed, is_issued}
 use Rattle.committed_state.specs.Replay.{effect_on}
 
--- ---- outcomes
+-- ---- outcomes, and what is known of them
 
 loaded_same : (c : Option Cause) (i : Instr) (bytes bytes2 : List ℕ) → (c ≡ None → bytes2 ≡ bytes) → loaded_or c i bytes2 ≡ loaded_or c i bytes
 loaded_same (Some c) i bytes bytes2 h = refl
 loaded_same None i bytes bytes2 h = ap (loaded_or None i) (h refl)
 
--- of two outcomes as much as is known is equal where the parts are
+-- what is known of two outcomes is equal where value, next address and the known parts are
 known_same : (address datum : Bool) (o o2 : Outcome) → o2.value ≡ o.value → o2.next ≡ o.next → (address ≡ true → (o2.addr ≡ o.addr) × (o2.fault ≡ o.fault)) → (datum ≡ true → o2.stored ≡ o.stored) → known_of address datum o2 ≡ known_of address datum o
 known_same true true o o2 v n a d = let x = a refl in let x0 = x.0 in let x1 = x.1 in let y = d refl in cc
 known_same true false o o2 v n a d = let x = a refl in let x0 = x.0 in let x1 = x.1 in cc
@@ -54,7 +54,7 @@ module _ (ram ram2 : Ram) (i : Instr) (p : SameShape ram ram2) where
   pub outcome_same : (k : Kind) (f f2 : Effect) (bytes bytes2 : List ℕ) → f2 ≡ f → (is_load k ≡ true → load_fault ram f.addr (width_in i) ≡ None → bytes2 ≡ bytes) → outcome_as k ram2 i f2 bytes2 ≡ outcome_as k ram i f bytes
   outcome_same k f f2 bytes bytes2 e h = ap (λ f. outcome_as k ram2 i f bytes2) e ∙ outcome_of k f bytes bytes2 h
 
-  -- of a store as much as is known
+  -- what is known of a store's outcome is equal where next address, known address and known data are
   pub store_same : (address datum : Bool) (f f2 : Effect) (bytes bytes2 : List ℕ) → f2.next ≡ f.next → (address ≡ true → f2.addr ≡ f.addr) → (datum ≡ true → f2.stored ≡ f.stored) →
       known_of address datum (outcome_as Store ram2 i f2 bytes2) ≡ known_of address datum (outcome_as Store ram i f bytes)
   store_same address datum f f2 bytes bytes2 n a d =
@@ -63,11 +63,11 @@ module _ (ram ram2 : Ram) (i : Instr) (p : SameShape ram ram2) where
 
 -- ---- what a load or store makes of its operands
 
--- a load or store
+-- the kind is a load's or a store's
 abbrev pub is_access : Kind → Bool
 is_access k = is_load k || is_store k
 
--- its address comes from the first, its data from the second, and where it goes on from neither
+-- the address of a load or store comes from its first operand, what it stores from its second, its next address from neither
 pub record AccessEffect (i : Instr) : Type 0 where
   pub next : (pc a b a2 b2 : ℕ) → (effect pc i a2 b2).next ≡ (effect pc i a b).next
   pub addr : (pc a b b2 : ℕ) → (effect pc i a b2).addr ≡ (effect pc i a b).addr
@@ -88,7 +88,7 @@ op_no_access op.Rem = refl
 op_no_access op.Remu = refl
 op_no_access _ = refl
 
--- of each instruction by its form
+-- every load and store takes its address from its first operand, and what it stores from its second
 effect_of_access : (i : Instr) → is_access (kind_of i) ≡ true → AccessEffect i
 effect_of_access (instr.Load o rd rs1 imm) h = record { next = λ pc a b a2 b2. refl; addr = λ pc a b b2. refl; stored = λ pc a a2 b. refl }
 effect_of_access (instr.Store o rs1 rs2 imm) h = record { next = λ pc a b a2 b2. refl; addr = λ pc a b b2. refl; stored = λ pc a a2 b. refl }
@@ -96,7 +96,8 @@ effect_of_access (instr.Jal rd imm) h = absurd (let n = jal_no_access (word imm 
 effect_of_access (instr.OpReg o rd rs1 rs2) h = absurd (let n = op_no_access o in cc)
 effect_of_access _ h = absurd (cc)
 
--- of an entry of the program
+-- every entry that is a load or store of the program takes its address from its first operand, and what it stores from its
+-- second
 pub access_effect : (code : Code) (e : Entry) → IsItem code e.item → is_access e.item.kind ≡ true → AccessEffect e.item.instr
 access_effect code e item h = by_word (code e.item.pc) item.instr item.kind
   where
@@ -104,17 +105,17 @@ access_effect code e item h = by_word (code e.item.pc) item.instr item.kind
     by_word None q k = absurd (let t = sym (ap is_access k) ∙ h in cc)
     by_word (Some w) q k = rw q (effect_of_access (decode w) (sym (ap is_access k) ∙ h))
 
--- so the address is known without the second
+-- the address of a load or store is that of its base alone
 pub address_is : (code : Code) (regs : List ℕ) (b : List Entry) (e : Entry) → IsItem code e.item → is_access e.item.kind ≡ true → (effect_of regs b e).addr ≡ address_of regs b e
 address_is code regs b e item h = (access_effect code e item h).addr e.item.pc (first_operand regs b (sources e)) 0 (second_operand regs b (sources e))
 
--- ---- operands
+-- ---- operands of two windows
 
 abbrev AllBelow : ℕ → List ℕ → Type 0
 AllBelow n [] = Unit {0}
 AllBelow n (r ∷ rs) = (r < n) × AllBelow n rs
 
--- an instruction names registers
+-- an instruction reads registers below 32 alone
 reads_below : (i : Instr) → AllBelow 32 (reads_of i)
 reads_below (instr.Jalr rd rs1 imm) = (rs1.in_range, tt)
 reads_below (instr.Branch op rs1 rs2 imm) = (rs1.in_range, (rs2.in_range, tt))
@@ -143,14 +144,14 @@ module _ (regs regs2 : List ℕ) (b b2 : List Entry) (t : ℕ → Bool) (same : 
   others_hold [] h = refl
   others_hold (r ∷ rs) h = (both (t r) (list_all t rs) h).1
 
-  -- make one effect, where it holds of all sources
+  -- operands that are equal where the test holds of every source make one effect
   pub effect_same : (e : Entry) → list_all t (sources e) ≡ true → effect_of regs2 b2 e ≡ effect_of regs b e
   effect_same e h =
       let lt = reads_below e.item.instr in
       ap (λ u. effect e.item.pc e.item.instr u (second_operand regs2 b2 (sources e))) (first_same (sources e) lt (base_holds (sources e) h))
       ∙ ap (effect e.item.pc e.item.instr (first_operand regs b (sources e))) (second_same (sources e) lt (others_hold (sources e) h))
 
-  -- and a store's address and data, where it holds of its own source
+  -- an access has one address where the test holds of its base
   address_same : (e : Entry) → AccessEffect e.item.instr → list_all t (base_of (sources e)) ≡ true → (effect_of regs2 b2 e).addr ≡ (effect_of regs b e).addr
   address_same e f h =
       ap (λ u. (effect e.item.pc e.item.instr u (second_operand regs2 b2 (sources e))).addr) (first_same (sources e) (reads_below e.item.instr) h)
@@ -185,7 +186,7 @@ module _ (code : Code) (s s2 : Bank) (b b2 : List Entry) (e : Entry) (item : IsI
   abbrev t : ℕ → Bool
   t r = executed b r
 
-  -- an entry in one piece
+  -- what an entry in one piece computes is the same in both
   whole : (k : Kind) → e.item.kind ≡ k → list_all t (sources e) ≡ true → outcome_as k s2.ram e.item.instr F2 (bytes2 F2.addr) ≡ outcome_as k s.ram e.item.instr F (bytes_over s b e F.addr)
   whole k q o = let f = effect_same s.regs s2.regs b b2 t same e o in outcome_same s.ram s2.ram e.item.instr p k F F2 _ _ f (λ l n. ap (λ (f : Effect). bytes2 f.addr) f ∙ bytes (ap is_load q ∙ l) n)
 
@@ -197,13 +198,13 @@ module _ (code : Code) (s s2 : Bank) (b b2 : List Entry) (e : Entry) (item : IsI
       (λ h. address_same s.regs s2.regs b b2 t same e f (o.0 h)) (λ h. datumsame s.regs s2.regs b b2 t same e f (o.1 h))
   alike_as k q o = whole k q (o issued)
 
-  -- by kind
+  -- what an entry of any kind computes is the same in both, as far as it is known
   pub alike : HasOperands e.item.kind (has_address e) (has_data e) (is_issued e) b (sources e) → as_known_by e.item.kind (has_address e) (has_data e) (outcome_as e.item.kind s2.ram e.item.instr F2 (bytes2 F2.addr)) ≡ as_known_by e.item.kind (has_address e) (has_data e) (computed s b e)
   alike o = alike_as e.item.kind refl o
 
--- ---- bytes
+-- ---- the bytes of a load
 
--- bytes that are equal in the range
+-- a load finds the same bytes, where each byte of its range is the same
 pub bytes_same : (ram ram2 : Ram) (b b2 : List Entry) (e : Entry) (a n : ℕ) → ((x : ℕ) → a ≤ x → x < a + n → byte_of ram2 x (find (finds e x) b2) ≡ byte_of ram x (find (finds e x) b)) → bytes_found ram2 b2 e a n ≡ bytes_found ram b e a n
 bytes_same ram ram2 b b2 e a zero h = refl
 bytes_same ram ram2 b b2 e a (suc n) h =

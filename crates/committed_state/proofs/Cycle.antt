@@ -38,7 +38,7 @@ module _ (code : Code) (d : Desc) where
     trap = subst (λ o. TrapsNext code (hart_of u) o) (sym q.ended) (subst (λ s. TrapsNext code s z.end) (sym q.hart) c.trap);
   }
 
-  -- the phases before Retire
+  -- the phases before Retire keep a state consistent
   pub consistent_before : (x : Machine) → Consistent d code x → ConsistentIn (x.cycle + 1) d code (at_retire d x)
   consistent_before x h =
       let n = x.cycle + 1 in
@@ -46,7 +46,7 @@ module _ (code : Code) (d : Desc) where
       let z = (complete y).machine in
       consistent_clear n code d (resolve d z).machine (consistent_resolve n code d z (consistent_complete n code d y (consistent_fill n code d (begins_cycle x) h)))
 
-  -- Issue and those after it
+  -- Issue, Rename and Fetch leave a consistent state for the next cycle
   consistent_goes_on : (x : Machine) → ConsistentIn x.cycle d code x → Consistent d code (then_does (issue d x) (λ y. then_does (rename d y) (fetch d code))).machine
   consistent_goes_on x h =
       let n = x.cycle + 1 in

@@ -1,4 +1,4 @@
--- Each phase keeps it that what has issued waited for untainted operands; so does a cycle, and a run.
+-- What has issued waited for untainted operands: every phase, a cycle and a run keep this.
 use Rattle.std.proofs.Common.{List, [], ◌∷◌, ◌++◌, refl, sym, subst, append_assoc}
 use Rattle.std.specs.Prelude.{reverse}
 use Rattle.rv_types.specs.Memory.{Code}

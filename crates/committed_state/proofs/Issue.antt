@@ -62,7 +62,7 @@ comes d x b e Load n = let f = effect_of x.regs b e in load_comes d (around x) e
 comes d x b e Store n = absurd (cc)
 comes d x b e _ n = Begins _ refl
 
--- of what goes in one piece all is known at once
+-- an outcome of what issues in one piece is known at once
 whole_known : (k : Kind) (a c : Bool) (o : Outcome) → is_store k ≡ false → as_known_by k a c o ≡ o
 whole_known Store a c o n = absurd (cc)
 whole_known _ a c o n = refl
@@ -79,7 +79,7 @@ whole_operands : (k : Kind) (a c i : Bool) (d : Desc) (b : List Entry) (e : Entr
 whole_operands Store a c i d b e n r = absurd (cc)
 whole_operands _ a c i d b e n r = λ h. all_known_executed d b (sources e) r
 
--- ---- later
+-- ---- what holds in a later cycle
 
 later_before : (i : Option ℕ) (n : ℕ) → is_before i (Some n) ≡ true → is_before i (Some (n + 1)) ≡ true
 later_before None n h = absurd (cc)
@@ -109,7 +109,7 @@ along_later : (d : Desc) (code : Code) (s : Bank) (now : ℕ) (b w : List Entry)
 along_later d code s now b [] k = tt
 along_later d code s now b (e ∷ w) k = (stands_later d code s now b e k.0, along_later d code s now (e ∷ b) w k.1)
 
--- so does a machine that Issue doesn't come to
+-- a machine that Issue doesn't come to is consistent for the next cycle, too
 pub consistent_later : (now : ℕ) (code : Code) (d : Desc) (x : Machine) → ConsistentIn now d code x → ConsistentIn (now + 1) d code x
 consistent_later now code d x h = record { entries = along_later d code (bank_of x) now [] x.window h.entries; items = h.items; chain = h.chain; registers = h.registers }
 
@@ -134,7 +134,7 @@ module _ (d : Desc) (code : Code) (x : Machine) (b : List Entry) (e : Entry) (h 
   waits_so Done w f = absurd (cc)
   waits_so (Busy due) w f = absurd (cc)
 
-  -- what it gets is what it computes
+  -- what an entry that begins gets is what it computes
   computed_so : (due : ℕ) → computed (bank_of x) b (begun x.cycle e due O) ≡ O
   computed_so due =
       let l = begun x.cycle e due O in
@@ -184,7 +184,7 @@ store_kind : (k : Kind) → is_store k ≡ true → k ≡ Store
 store_kind Store h = refl
 store_kind _ h = absurd (cc)
 
--- ---- the window
+-- ---- the window after Issue
 
 abbrev pub issued : Desc → Machine → List Entry → Entry → Entry
 issued d x b e = (issue_entry d (around x) b e).entry

@@ -41,12 +41,12 @@ pub issued_of : (k : Kind) (a c i : Bool) → FitsParts k a c i → all_issued_b
 issued_of Store a c i p h = store_issued Store a c i refl p (both a c h).0
 issued_of _ a c i p h = h
 
--- of a store both parts
+-- where all of a store has issued, both its parts have
 pub both_parts : (k : Kind) (a c i : Bool) → is_store k ≡ true → all_issued_by k a c i ≡ true → (a ≡ true) × (c ≡ true)
 both_parts Store a c i q h = both a c h
 both_parts _ a c i q h = absurd (cc)
 
--- and all of its outcome is known
+-- where all of an entry has issued, its whole outcome is known
 pub known_all : (k : Kind) (a c i : Bool) (v : Outcome) → all_issued_by k a c i ≡ true → as_known_by k a c v ≡ v
 known_all Store true true i v h = refl
 known_all Store true false i v h = absurd (cc)
@@ -67,11 +67,11 @@ has_value d code s now (e ∷ b) r h t k =
     let ts = both _ _ t in
     value_if (writes r e) (executed b r) e (find (writes r) b) (done_issued d code s now b e h.0 ts.0) (has_value d code s now b r h.1 ts.1) k
 
--- ---- the replay
+-- ---- entries and the replay
 
 -- with as many registers as instructions name, what issued entries have computed is the replay's
 module _ (d : Desc) (code : Code) (s : Bank) (now : ℕ) (n : length s.regs ≡ 32) where
-  -- one entry more
+  -- what an issued entry computes is what its replay comes to, where older entries have theirs and older stores are cleared
   replayed_so : (b : List Entry) (e : Entry) → Replayed s b → list_all is_clear b ≡ true → Behind (Stands d code s now) b → Stands d code s now b e → is_issued e ≡ true → as_known e (replayed (bank s b) e) ≡ as_known e (computed s b e)
   replayed_so b e r cl h st i =
       let w = width_in e.item.instr in
@@ -81,12 +81,12 @@ module _ (d : Desc) (code : Code) (s : Bank) (now : ℕ) (n : length s.regs ≡ 
       ∙ alike code s m b [] e st.item (keeps_bank s b) (λ q lt k. sym (operand_is s b q (omega (arith, n)) cl r (has_value d code s now b q h st.through k))) (λ a. bytes_at m.ram a w)
       (λ l f. let j = inside _ _ s.ram F.addr w f in sym (load_bytes_are d code s now e b F.addr w j.0 j.1 (λ a le lt. in_load d code s now b e st i l f a le lt) h (st.stores i l) cl r)) i st.operands
 
-  -- all that is looked back on
+  -- every entry that one looks back on has the outcome of its replay, as far as it is known
   pub replayed_behind : (b : List Entry) → Behind (Stands d code s now) b → Replayed s b
   replayed_behind [] h = tt
   replayed_behind (e ∷ b) h = let r = replayed_behind b h.1 in (λ cl. comes_to e.outcome _ _ (replayed_so b e r cl h.1 h.0) h.0.computed, r)
 
-  -- so all of the head's is that of the retired state
+  -- a head of which all has issued has the outcome of its replay on the retired state
   pub replayed_head : (e : Entry) → Stands d code s now [] e → all_issued e ≡ true → ComesTo e.outcome (replayed s e)
   replayed_head e st a = subst (ComesTo e.outcome) (known_all e.item.kind (has_address e) (has_data e) (is_issued e) (replayed s e) a) ((replayed_behind (e ∷ []) (st, tt)).0 refl)
 

@@ -29,7 +29,7 @@ use Rattle.committed_state.proofs.Sees.{before_of}
 
 -- ---- one store before a load that hasn't passed it
 
--- a store with both parts
+-- a store with both parts stands before a load that hasn't passed it as it has to
 with_both : (s a p c sh d : Bool) → p ≡ false → (s ≡ true → (a ≡ true) × (d ≡ true)) → before_of s a p c sh d ≡ true
 with_both false a p c sh d n h = refl
 with_both true true false c true true n h = refl
@@ -38,7 +38,7 @@ with_both true true false c sh false n h = absurd (let q = h refl in let q1 = q.
 with_both true false false c sh d n h = absurd (let q = h refl in let q0 = q.0 in cc)
 with_both s a true c sh d n h = absurd (cc)
 
--- a store that lets the load go
+-- a store that lets the load go stands before it as it has to
 let_so : (s a p c sh d lets t any : Bool) → p ≡ false → (not s || ((a || lets) && (d || (not t && not any)))) ≡ true → (any ≡ false → sh ≡ false) → (lets ≡ true → s ≡ true → a ≡ false → c ≡ false) → before_of s a p c sh d ≡ true
 let_so false a p c sh d lets t any n h m w = refl
 let_so true true false c true true lets t any n h m w = refl
@@ -55,7 +55,7 @@ done_if : (s d : Bool) → s ≡ true → (not s || d) ≡ true → d ≡ true
 done_if true d p h = h
 done_if false d p h = absurd (cc)
 
--- a store is executed
+-- a store isn't Done at once, but executed
 store_goes_on : (k : Kind) → is_store k ≡ true → at_once k ≡ false
 store_goes_on Store q = refl
 store_goes_on _ q = absurd (cc)
@@ -96,15 +96,15 @@ module _ (d : Desc) (code : Code) (s : Bank) (now : ℕ) (l : Entry) (begins : l
   find_now (e ∷ b) a h =
       ap (λ c. if c then Some e else find (finds l a) b) (found_so (passed e l) (not e.cleared) (covers a e) (not_passed b e h.0)) ∙ ap (λ o. if covers a e then Some e else o) (find_now b a h.1)
 
-  -- so its bytes are those that Issue finds
+  -- the bytes that a load finds as it begins are those that Issue finds
   pub bytes_now : (b : List Entry) (a n : ℕ) → Behind S b → bytes_found s.ram b l a n ≡ load_bytes s.ram b a n
   bytes_now b a zero h = refl
   bytes_now b a (suc n) h =
       ap (λ o. byte_of s.ram a o ∷ bytes_found s.ram b l (a + 1) n) (find_now b a h) ∙ ap (λ (vs : List ℕ). byte_of s.ram a (find (covers a) b) ∷ vs) (bytes_now b (a + 1) n h)
 
-  -- ---- the stores before it
+  -- ---- the stores before a load that begins
 
-  -- in version 1 they are Done
+  -- in version 1 older stores are Done, so they stand before the load as they have to
   by_done : (b : List Entry) → Behind S b → stores_done b ≡ true → list_all (stands_before l) b ≡ true
   by_done [] h q = refl
   by_done (e ∷ b) h q =
@@ -116,7 +116,7 @@ module _ (d : Desc) (code : Code) (s : Bank) (now : ℕ) (l : Entry) (begins : l
           both_parts e.item.kind (has_address e) (has_data e) (is_issued e) t
           ((done_has e.state e h.0.state (done_if (is_store e.item.kind) (is_done e.state) t f)).0 ∙ ap not (store_goes_on e.item.kind t))
 
-  -- in version 2 each lets it go
+  -- in version 2 older stores let the load go, so they stand before it as they have to
   by_let : (bytes : List ℕ) → ((e : Entry) → list_any (λ a. covers a e) bytes ≡ false → shares e l ≡ false) → (p : Bool) → (p ≡ true → passing d ≡ true) → (b : List Entry) → Behind S b → stores_let d.stt_model p bytes b ≡ true →
       list_all (stands_before l) b ≡ true
   by_let bytes m p pd [] h q = refl
@@ -127,7 +127,7 @@ module _ (d : Desc) (code : Code) (s : Bank) (now : ℕ) (l : Entry) (begins : l
       (λ t. not_cleared (passing d) e h.0.clearing (pd t)))
       ∙ by_let bytes m p pd b h.1 qs.1
 
-  -- a load whose address and fault are those that it was asked about
+  -- the older stores stand before a load as they have to, where its address and fault are those for which Issue asked them
   pub stands_behind : (x : Around) (b : List Entry) (e : Entry) → l.item ≡ e.item → (addr_of l.outcome ≡ address_of x.regs b e) → (fault_of l.outcome ≡ load_fault x.ram (address_of x.regs b e) (width_of e)) →
       Behind S b → goes_behind d x b e ≡ true → list_all (stands_before l) b ≡ true
   stands_behind x b e item at fault h q = by_version (d.version == 1) q

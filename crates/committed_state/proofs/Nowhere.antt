@@ -1,4 +1,4 @@
--- Where fetch has nowhere to go there is a reason.
+-- Where fetch has nowhere to go there is a reason: a stop, or an entry with a fault.
 use Rattle.std.proofs.Common.{◌≡◌, ℕ, Bool, true, false, ◌&&◌, ◌||◌, List, [], ◌∷◌, Option, Some, None, refl, ap, subst}
 use Rattle.std.specs.Prelude.{if◌then◌else◌, is_some}
 use Rattle.rv_types.specs.Memory.{Code}

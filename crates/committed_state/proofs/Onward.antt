@@ -27,22 +27,22 @@ use Rattle.window_model.proofs.Memory.{same_shape}
 abbrev pub of_item : Item → Entry
 of_item i = record { serial = 0; item = i; state = Waiting; outcome = None; resolved = false; issued = None; addr_due = None; data_due = None; cleared = false }
 
--- all that an entry sees alike
+-- two lists of older entries are seen alike, entry by entry, by the entry l
 abbrev pub AllSeen : ℕ → Entry → List Entry → List Entry → Type 0
 AllSeen now l b b2 = AllZip (Sees now l) b b2
 
--- all that go on where they stand
+-- the entries of the second list are those of the first, gone on where they stand
 abbrev pub Onward : ℕ → List Entry → List Entry → Type 0
 Onward now b b2 = AllZip (Moves now) b b2
 
--- ---- outcomes
+-- ---- outcomes that are the same
 
 -- an outcome, where there is one, is the same
 pub comes_to : (o : Option Outcome) (v v2 : Outcome) → (is_some o ≡ true → v2 ≡ v) → ComesTo o v → ComesTo o v2
 comes_to None v v2 h k = tt
 comes_to (Some o) v v2 h k = k ∙ sym (h refl)
 
--- a load's address and fault
+-- a load's address and fault are those that it computes
 pub load_out : (k : Kind) (ram : Ram) (l : Entry) (f : Effect) (bytes : List ℕ) (o : Option Outcome) → is_load k ≡ true → ComesTo o (as_known_by k (has_address l) (has_data l) (outcome_as k ram l.item.instr f bytes)) → is_some o ≡ true →
     (addr_of o ≡ f.addr) × (fault_of o ≡ load_fault ram f.addr (width_in l.item.instr))
 load_out Load ram l f bytes (Some o) k c h = (ap (λ (o : Outcome). o.addr) c, ap (λ (o : Outcome). o.fault) c)
@@ -70,7 +70,8 @@ pub all_onward : (f g : ℕ → Bool) (rs : List ℕ) → ((r : ℕ) → f r ≡
 all_onward f g [] h k = refl
 all_onward f g (r ∷ rs) h k = both_then (f r) (g r) _ _ (h r) (all_onward f g rs h) k
 
--- operands that are there over these entries are there over those
+-- operands that are there over some entries are there over others, where each register whose writer has executed has one that
+-- has
 pub operands_then : (k : Kind) (a c i : Bool) (b b2 : List Entry) (rs : List ℕ) → ((r : ℕ) → executed b r ≡ true → executed b2 r ≡ true) → HasOperands k a c i b rs → HasOperands k a c i b2 rs
 operands_then Store a c i b b2 rs h o = (λ k. all_onward _ _ (base_of rs) h (o.0 k), λ k. all_onward _ _ (others_of rs) h (o.1 k))
 operands_then _ a c i b b2 rs h o = λ k. all_onward _ _ rs h (o k)
@@ -85,7 +86,7 @@ module _ (now : ℕ) (l : Entry) where
   writer_seen [] (e2 ∷ b2) r v h k = absurd h
   writer_seen (e ∷ b) [] r v h k = absurd h
 
-  -- older stores, with their bytes
+  -- older stores that a load sees alike still stand before it as they have to, and it finds the same bytes
   module _ (load : is_load l.item.kind ≡ true) (issued : is_before l.issued (Some now) ≡ true) where
     stores_seen : (b b2 : List Entry) → AllSeen now l b b2 → list_all (stands_before l) b ≡ true → list_all (stands_before l) b2 ≡ true
     stores_seen [] [] h k = refl
@@ -116,7 +117,7 @@ module _ (now : ℕ) (l : Entry) where
   empty_seen [] (e2 ∷ b2) h k = absurd h
   empty_seen (e ∷ b) b2 h k = absurd (cc)
 
-  -- all of it
+  -- an entry stands over older entries that it sees alike as it did
   pub stands_seen : (d : Desc) (code : Code) (s : Bank) (b b2 : List Entry) → AllSeen now l b b2 → Stands d code s now b l → Stands d code s now b2 l
   stands_seen d code s b b2 h k = record {
     item = k.item;
@@ -138,13 +139,13 @@ module _ (now : ℕ) (l : Entry) where
           (λ q n. bytes_same s.ram s.ram b b2 l (effect_of s.regs b l).addr (width_in l.item.instr) (λ a le lt. byte_seen q (k.issued i q) s.ram a b b2 (in_load d code s now b l k i q n a le lt) h (k.stores i q)))
           i k.operands
 
--- what goes on is seen alike
+-- older entries that go on are seen alike
 all_seen : (now : ℕ) (l : Entry) (b b2 : List Entry) → Onward now b b2 → AllSeen now l b b2
 all_seen now l [] [] h = tt
 all_seen now l (e ∷ b) (e2 ∷ b2) h = (sees_moves now l e e2 h.0, all_seen now l b b2 h.1)
 all_seen now l [] (e2 ∷ b2) h = absurd h
 all_seen now l (e ∷ b) [] h = absurd h
 
--- so what holds of an entry holds over entries that went on
+-- an entry stands over older entries that went on as it did
 pub stands_onward : (d : Desc) (code : Code) (s : Bank) (now : ℕ) (b b2 : List Entry) (e : Entry) → Onward now b b2 → Stands d code s now b e → Stands d code s now b2 e
 stands_onward d code s now b b2 e h k = stands_seen now e d code s b b2 (all_seen now e b b2 h) k

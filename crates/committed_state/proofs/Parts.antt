@@ -46,13 +46,13 @@ so_far_is None v false false i z h = cc
 so_far_is None v true c i z h = absurd (cc)
 so_far_is None v false true i z h = absurd (cc)
 
--- what lacks a part waits
+-- a store that lacks a part waits, and isn't resolved
 still_waits : (t : Progress) (e : Entry) → FitsState t e → all_issued e ≡ false → at_once e.item.kind ≡ false → (t ≡ Waiting) × (e.resolved ≡ false)
 still_waits Waiting e f n k = (refl, f.1)
 still_waits (Busy due) e f n k = absurd (let z = f.0 in cc)
 still_waits Done e f n k = absurd (let z = f.0 ∙ ap not k in cc)
 
--- and executes with both
+-- a store executes from when both its parts have issued
 fits_busy : (a c : Option ℕ) (e : Entry) → all_issued e ≡ (is_some a && is_some c) → e.resolved ≡ false → at_once e.item.kind ≡ false → FitsState (busy_until_both a c Waiting) e
 fits_busy (Some a) (Some c) e h r k = (h, r, k)
 fits_busy (Some a) None e h r k = (h, r, k)
@@ -68,7 +68,7 @@ and_no true false h = refl
 and_no false false h = refl
 and_no a true h = absurd (cc)
 
--- whether it is cleared stays, and its address comes or stays
+-- what has to hold of a store that is or isn't cleared stays as its address comes or stays
 fits_clearing : (p : Bool) (e r : Entry) → r.item ≡ e.item → r.cleared ≡ e.cleared → (has_address r ≡ false → has_address e ≡ false) → FitsClearing p e → FitsClearing p r
 fits_clearing true e r i c a f = λ q n. c ∙ f (sym (ap (λ (i : Item). is_store i.kind) i) ∙ q) (a n)
 fits_clearing false e r i c a f = c ∙ f
@@ -89,11 +89,11 @@ module _ (d : Desc) (code : Code) (x : Machine) (b : List Entry) (e : Entry) (q 
   known_as : (a c : Bool) (o : Option Outcome) → ComesTo o (known_of a c O) → ComesTo o (as_known_by e.item.kind a c (computed (bank_of x) b e))
   known_as a c o h = subst (λ k. ComesTo o (as_known_by k a c (outcome_as k x.ram e.item.instr F (bytes_over (bank_of x) b e F.addr)))) (sym q) h
 
-  -- its outcome is there with the first part
+  -- the store has an outcome from its first part on
   has_outcome : is_some e.outcome ≡ (has_address e || has_data e)
   has_outcome = subst (λ k. FitsParts k (has_address e) (has_data e) (is_issued e)) q st.parts
 
-  -- and as much of it as is known
+  -- the store's outcome is, before a part issues, as much of the whole as is known
   before : so_far e.outcome F.next ≡ known_of (has_address e) (has_data e) O
   before = so_far_is e.outcome O (has_address e) (has_data e) has_outcome refl
       (subst (λ k. ComesTo e.outcome (as_known_by k (has_address e) (has_data e) (outcome_as k x.ram e.item.instr F (bytes_over (bank_of x) b e F.addr)))) q st.computed)
@@ -101,7 +101,7 @@ module _ (d : Desc) (code : Code) (x : Machine) (b : List Entry) (e : Entry) (q 
   own : (has_address e ≡ true → all_executed b (base_of (sources e)) ≡ true) × (has_data e ≡ true → all_executed b (others_of (sources e)) ≡ true)
   own = subst (λ k. HasOperands k (has_address e) (has_data e) (is_issued e) b (sources e)) q st.operands
 
-  -- the address
+  -- a store whose address part issues goes on, and stands as it has to
   address_so : MayGo d (has_address e) (base_of (sources e)) b → Kept d code (bank_of x) (x.cycle + 1) b e (with_address (around x) F e)
   address_so g =
       let r = with_address (around x) F e in
@@ -137,7 +137,7 @@ module _ (d : Desc) (code : Code) (x : Machine) (b : List Entry) (e : Entry) (q 
           by_outcome (Some o) i = refl
           by_outcome None i = absurd (let z = or_true (has_address e) (has_data e) h in cc)
 
-  -- the data
+  -- a store whose data part issues goes on, and stands as it has to
   data_so : MayGo d (has_data e) (others_of (sources e)) b → Kept d code (bank_of x) (x.cycle + 1) b e (with_data (around x) F e)
   data_so g =
       let r = with_data (around x) F e in
@@ -173,7 +173,7 @@ module _ (d : Desc) (code : Code) (x : Machine) (b : List Entry) (e : Entry) (q 
           by_outcome (Some o) i = refl
           by_outcome None i = absurd (let z = ap (λ a. a || has_data e) h in cc)
 
--- both, one or none
+-- a store of which both parts issue, one or none
 module _ (d : Desc) (code : Code) (x : Machine) (b : List Entry) where
   abbrev Goes : Entry → Entry → Type 0
   Goes = Kept d code (bank_of x) (x.cycle + 1) b
@@ -181,7 +181,7 @@ module _ (d : Desc) (code : Code) (x : Machine) (b : List Entry) where
   kept_then : (e e1 e2 : Entry) → Goes e e1 → Goes e1 e2 → Goes e e2
   kept_then e e1 e2 p q = record { stands = q.stands; moves = moves_then (x.cycle + 1) e e1 e2 p.moves q.moves; link = q.link ∙ p.link }
 
-  -- a store whose parts go stands
+  -- a store whose parts issue goes on, and stands as it has to
   pub parts_so : (e : Entry) → e.item.kind ≡ Store → Stands d code (bank_of x) (x.cycle + 1) b e → (a c : Bool) → (a ≡ true → MayGo d (has_address e) (base_of (sources e)) b) → (c ≡ true → MayGo d (has_data e) (others_of (sources e)) b) → Goes e (gone_parts (around x) b a c e)
   parts_so e q st false false ga gc = record { stands = st; moves = moves_same (x.cycle + 1) e; link = refl }
   parts_so e q st true false ga gc = address_so d code x b e q st (ga refl)

@@ -29,7 +29,7 @@ use Rattle.window_model.proofs.Booleans.{both, neither, not_true}
 use Rattle.window_model.proofs.EntryByEntry.{along_push}
 use Rattle.window_model.proofs.Lists.{each_push}
 
--- ---- one entry more
+-- ---- a window with one entry more
 
 same_links : (d : Desc) (w : List Entry) (rest : List Item) (i : Item) (serial : ℕ) → links (w ++ renamed d serial i ∷ []) rest ≡ links w (i ∷ rest)
 same_links d [] rest i serial = refl
@@ -67,7 +67,7 @@ through_chain d code s now b from to (e ∷ w) i rest h k c =
     let more = through_chain d code s now (e ∷ b) (entry_link e).next to w i rest h.1 k.1 cs.1 in
     ap (λ t. t && list_all goes_through w) one ∙ more
 
--- ---- rename
+-- ---- Rename as a whole
 
 alone_as : (k : Kind) (d : Desc) (w : List Entry) → fits_as k d w ≡ true → is_call k ≡ true → reverse w ≡ []
 alone_as Call d [] h c = refl
@@ -126,7 +126,7 @@ module _ (now : ℕ) (code : Code) (d : Desc) where
   consistent_rename = rename_keep d (ConsistentIn now d code)
       (λ x i rest q f h. rename_holds (hart_of x) x.window i rest x.fetch_pc x.next_serial f (subst (λ q. Holds d code (hart_of x) now x.window q x.fetch_pc) q h))
 
--- ---- fetch
+-- ---- Fetch as a whole
 
 predicts : (k : Kind) (d : Desc) (t : List (Option Target)) (m : Mark) (way : Bool) (i : Item) → i.predicted ≡ predicted k d t m way i.pc i.instr → Predicts k i
 predicts (Stop a) d t m way i h = h

@@ -34,7 +34,7 @@ same_links : (older ys : List Entry) (e e2 : Entry) → entry_link e2 ≡ entry_
 same_links [] ys e e2 h = ap (λ l. l ∷ map entry_link ys) h
 same_links (x ∷ older) ys e e2 h = ap (λ ls. entry_link x ∷ ls) (same_links older ys e e2 h)
 
--- ---- the entry
+-- ---- the entry that is resolved
 
 fits_resolved : (t : Progress) (e : Entry) → is_done t ≡ true → is_control e.item.kind ≡ true → FitsState t e → FitsState t (resolved_one e)
 fits_resolved Done e d c h = (h.0, λ r. c)
@@ -79,7 +79,7 @@ right_link e r q =
     let n = rightly (is_faulty e) e.item.predicted (next_of e.outcome) q ∙ sym (if_not e.resolved (true_next e) e.item.predicted r) in
     ap (λ n. let l : Link = record { pc = e.item.pc; next = n } in l) n
 
--- ---- the phase
+-- ---- Resolve as a whole
 
 module _ (now : ℕ) (code : Code) (d : Desc) where
   module _ (x : Machine) (p : Place) (t : Taken d x p) (h : ConsistentIn now d code x) where

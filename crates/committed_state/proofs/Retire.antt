@@ -61,7 +61,7 @@ module _ (now : ℕ) (code : Code) (aligned : Aligned code) (d : Desc) where
       let l = head_leaves_so d code (hart_of x) now e rest x.queue x.fetch_pc h may t b c in
       left_turn e.item.kind n stored x e rest b (record { holds = l.holds; step = l.step }) u m
 
-  -- the head, told of the window
+  -- a head that may leave, where it is known to be the first of the window
   head_of : (x : Machine) (e : Entry) (rest : List Entry) → x.window ≡ e ∷ rest → ConsistentIn now d code x → Holds d code (hart_of x) now (e ∷ rest) x.queue x.fetch_pc
   head_of x e rest q h = subst (λ w. Holds d code (hart_of x) now w x.queue x.fetch_pc) q h
 

@@ -1,4 +1,4 @@
--- Whole runs.
+-- Whole runs commit, and keep each state consistent.
 use Rattle.std.proofs.Common.{◌≡◌, ℕ, zero, suc, ◌+◌, List, [], ◌∷◌, ◌++◌, Option, Some, None, refl, ap, sym, ◌∙◌, subst, arith}
 use Rattle.rv_types.specs.Memory.{Code, Ram}
 use Rattle.rv_types.specs.Isa.{Hart, Step, Goes, Exits, Traps, Run, isa, isa_step, run, after, with_piece, start}
@@ -44,7 +44,7 @@ module _ (code : Code) where
       by_step (Traps c) again q = absurd (let g = ap (λ (r : Run). r.ended) (sym (ap (λ t. after s t (run (isa_step code) m)) q) ∙ h) in cc)
 
 module _ (code : Code) (d : Desc) (aligned : Aligned code) where
-  -- a cycle and what follows it
+  -- a cycle and what follows it commit together
   together : (x y z : Machine) (p : List ℕ) (ps : List (List ℕ)) → y.end ≡ None → Leads code (hart_of x) x.retired y (with_piece p []) → Leads code (hart_of y) y.retired z ps → Leads code (hart_of x) x.retired z (with_piece p ps)
   together x y z p ps n c1 c2 =
       let first = c1.runs ∙ ap (λ o. ran (hart_of y) (with_piece p []) c1.steps (exit_of o)) n in
@@ -60,7 +60,7 @@ module _ (code : Code) (d : Desc) (aligned : Aligned code) where
     commits : Leads code (hart_of x) x.retired (after_cycles d code k x) (pieces d code k x)
     keeps : Consistent d code (after_cycles d code k x)
 
-  -- nothing more
+  -- a machine that hasn't ended leads to itself in no steps
   at_rest : (x : Machine) → x.end ≡ None → Leads code (hart_of x) x.retired x []
   at_rest x n = record { steps = 0; counted = omega arith; runs = ap (λ o. ran (hart_of x) [] 0 (exit_of o)) (sym n); trap = subst (TrapsNext code (hart_of x)) (sym n) tt }
 
@@ -68,7 +68,7 @@ module _ (code : Code) (d : Desc) (aligned : Aligned code) where
   ended_run zero y e h = (refl, refl)
   ended_run (suc k) y e h = (ap (λ o. unless_ended o y (after_cycles d code k (cycle d code y).machine)) h, ap (λ o. unless_ended o [] (with_piece (cycle d code y).piece (pieces d code k (cycle d code y).machine))) h)
 
-  -- what follows a cycle, whether or not it ended the run
+  -- what follows a cycle commits, whether or not the cycle ended the run
   after_one : (k : ℕ) (x y : Machine) (p : List ℕ) (o : Option End) → y.end ≡ o → Leads code (hart_of x) x.retired y (with_piece p []) → Consistent d code y → (y.end ≡ None → Goes_well k y) →
       Leads code (hart_of x) x.retired (after_cycles d code k y) (with_piece p (pieces d code k y)) × Consistent d code (after_cycles d code k y)
   after_one k x y p None n c h more = let m = more n in (together x y _ p _ n c m.commits, m.keeps)

@@ -19,7 +19,7 @@ use Rattle.committed_state.specs.Consistent.{stands_before}
 
 -- ---- entries that go on
 
--- of an outcome where it stands and its fault alone
+-- the address and fault of an outcome, without its other fields
 abbrev pub located : Option Outcome → Option Outcome
 located None = None
 located (Some o) = Some (record { value = 0; next = 0; addr = o.addr; stored = 0; fault = o.fault })
@@ -34,11 +34,11 @@ pub record Moves (now : ℕ) (e e2 : Entry) : Type 0 where
   pub fresh : has_address e ≡ false → has_address e2 ≡ true → e2.addr_due ≡ Some now
   pub stored : has_data e ≡ true → (has_data e2 ≡ true) × (stored_of e2.outcome ≡ stored_of e.outcome)
 
--- what stays
+-- an entry that stays as it is has gone on
 pub moves_same : (now : ℕ) (e : Entry) → Moves now e e
 moves_same now e = record { item = refl; cleared = refl; done = λ h. (h, refl); address = λ h. (refl, refl); fresh = λ h k. absurd (cc); stored = λ h. (h, refl) }
 
--- one after the other
+-- an entry that goes on twice has gone on
 pub moves_then : (now : ℕ) (e e1 e2 : Entry) → Moves now e e1 → Moves now e1 e2 → Moves now e e2
 moves_then now e e1 e2 p q = record {
   item = q.item ∙ p.item;
@@ -92,7 +92,7 @@ apart_of p c sh d = (p && not c) || not sh || (d && not p)
 abbrev pub before_of : Bool → Bool → Bool → Bool → Bool → Bool → Bool
 before_of st h p c sh d = not st || (if h then apart_of p c sh d else not c)
 
--- its data comes or stays
+-- a store still stands before the load as it has to, once its data has come
 more_data : (st h p c sh d d2 : Bool) → (d ≡ true → d2 ≡ true) → before_of st h p c sh d ≡ true → before_of st h p c sh d2 ≡ true
 more_data false h p c sh d d2 m b = refl
 more_data true false p c sh d d2 m b = b
@@ -104,14 +104,14 @@ more_data true true false c false d d2 m b = refl
 more_data true true false c true true d2 m b = let e = m refl in rw e refl
 more_data true true false c true false d2 m b = absurd (cc)
 
--- while its address isn't known it isn't cleared
+-- a store before the load of unknown address isn't cleared
 unknown_uncleared : (st h p c sh d : Bool) → st ≡ true → h ≡ false → before_of st h p c sh d ≡ true → c ≡ false
 unknown_uncleared true false p false sh d q r b = refl
 unknown_uncleared true false p true sh d q r b = absurd (cc)
 unknown_uncleared true true p c sh d q r b = absurd (cc)
 unknown_uncleared false h p c sh d q r b = absurd (cc)
 
--- where it is found and they share a byte its data is known
+-- a store's data is known where the load finds it and shares a byte with it
 pub found_data : (st h p c sh d : Bool) → st ≡ true → h ≡ true → (p && not c) ≡ false → sh ≡ true → before_of st h p c sh d ≡ true → d ≡ true
 found_data true true p c sh true q r n m b = refl
 found_data true true true false true false q r n m b = absurd (cc)
@@ -170,11 +170,11 @@ module _ (now : ℕ) (l e e2 : Entry) (m : Moves now e e2) (load : is_load l.ite
   no_address : (x : Entry) (a v : ℕ) → is_store x.item.kind ≡ true → has_address x ≡ false → byte_else l a x v ≡ v
   no_address x a v q h = not_found (left_out l x) (covers a x) _ v (rw q (rw h refl))
 
-  -- no store
+  -- an older entry that is no store is seen as before
   by_none : is_store e.item.kind ≡ false → Seen l e e2
   by_none q = let q2 = same_store ∙ q in (rw q2 refl, λ a v i. no_store e2 a v q2 ∙ sym (no_store e a v q))
 
-  -- a store of known address
+  -- what the load sees of an older store of known address
   module _ (q : is_store e.item.kind ≡ true) (h : has_address e ≡ true) (s : stands_before l e ≡ true) where
     same_due : e2.addr_due ≡ e.addr_due
     same_due = (m.address h).0
@@ -197,7 +197,7 @@ module _ (now : ℕ) (l e e2 : Entry) (m : Moves now e e2) (load : is_load l.ite
     same_finds : (a : ℕ) → finds l a e2 ≡ finds l a e
     same_finds a = same3 (λ p c co. not (p && not c) && co) _ _ _ _ _ _ same_passed m.cleared (covers_same a)
 
-    -- where it is found its data is known, and stays
+    -- where the load finds the store its data is known, and stays as it is
     same_byte : (a v : ℕ) → InLoad l a → (f : Bool) → finds l a e ≡ f → (if f then byte_from a e2 else v) ≡ (if f then byte_from a e else v)
     same_byte a v i false g = refl
     same_byte a v i true g =
@@ -249,7 +249,7 @@ pub record Sees (now : ℕ) (l e e2 : Entry) : Type 0 where
   pub done : is_done e.state ≡ true → (is_done e2.state ≡ true) × (e2.outcome ≡ e.outcome)
   pub load : is_load l.item.kind ≡ true → is_before l.issued (Some now) ≡ true → stands_before l e ≡ true → Seen l e e2
 
--- that goes on
+-- an entry sees one that goes on as before
 pub sees_moves : (now : ℕ) (l e e2 : Entry) → Moves now e e2 → Sees now l e e2
 sees_moves now l e e2 m = record { item = m.item; done = m.done; load = λ k i s. seen now l e e2 m k i s }
 
@@ -268,7 +268,7 @@ clear_finds co true true sh n m = refl
 clear_finds false true false sh n m = refl
 clear_finds true true false sh n m = absurd (let e = m refl in cc)
 
--- that is cleared
+-- an entry sees a store that is cleared as before, unless it is violated
 pub sees_clear : (now : ℕ) (l e : Entry) → has_address e ≡ true → is_violated e l ≡ false → Sees now l e (cleared_one e)
 sees_clear now l e h n = record {
   item = refl;

@@ -36,7 +36,7 @@ known_shift : (b : List Entry) (head : Entry) (r : ℕ) → executed (b ++ head 
 known_shift [] head r h = refl
 known_shift (e ∷ b) head r h = known_if (writes r e) (is_done e.state) (executed (b ++ head ∷ []) r) (executed b r) (known_shift b head r) h
 
--- without the oldest
+-- a test that holds of every entry holds of every one but the oldest
 pub all_but : (p : Entry → Bool) (b : List Entry) (head : Entry) → list_all p (b ++ head ∷ []) ≡ true → list_all p b ≡ true
 all_but p [] head h = refl
 all_but p (e ∷ b) head h = both_then (p e) (p e) _ _ (λ q. q) (all_but p b head) h
@@ -52,7 +52,7 @@ module _ (s : Bank) (head : Entry) (r : ComesTo head.outcome (replayed s head)) 
   abbrev S : Bank
   S = bank_after head s
 
-  -- all of the oldest's is known
+  -- what the oldest entry has is as much as is known of its replay
   known : ComesTo head.outcome (as_known head (replayed s head))
   known = by_kind head.item.kind refl
     where

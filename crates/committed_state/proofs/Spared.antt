@@ -13,7 +13,7 @@ use Rattle.window_model.proofs.Clearing.{Cleared, Violated, clear_parts}
 use Rattle.window_model.proofs.Lists.{each_push}
 use Rattle.window_model.proofs.Places.{by_place, older_is}
 
--- none of these entries has the property
+-- no entry in the list has the property
 abbrev pub NoneHas : (Entry → Bool) → List Entry → Type 0
 NoneHas f es = Each (λ e. f e ≡ false) es
 

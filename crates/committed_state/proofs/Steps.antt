@@ -9,7 +9,7 @@ use Rattle.window_model.specs.Retire.{Retired, then_retires, stays, hart_of}
 use Rattle.committed_state.specs.Consistent.{ConsistentIn}
 use Rattle.window_model.specs.Committed.{Committed, Commits, TrapsNext, exit_of}
 
--- from a state with so many retired, some steps lead to this machine
+-- from a state after this number of retired instructions, some steps lead to this machine, and as many retire
 pub record Leads (code : Code) (from : Hart) (retired : ℕ) (x : Machine) (pieces : List (List ℕ)) : Type 0 where
   pub steps : ℕ
   pub counted : x.retired ≡ retired + steps
@@ -19,7 +19,7 @@ pub record Leads (code : Code) (from : Hart) (retired : ℕ) (x : Machine) (piec
 steps_are : (code : Code) (from : Hart) (x : Machine) (pieces : List (List ℕ)) (m n : ℕ) → m ≡ n → Committed code from m x pieces → Committed code from n x pieces
 steps_are code from x pieces m n e c = subst (λ n. Committed code from n x pieces) e c
 
--- as many as were retired
+-- where some steps lead from a state of which nothing has retired, they are as many as the machine has retired
 pub from_none : (code : Code) (from : Hart) (x : Machine) (pieces : List (List ℕ)) → Leads code from 0 x pieces → Committed code from x.retired x pieces
 from_none code from x pieces c = steps_are code from x pieces c.steps x.retired (omega (arith, c.counted)) (record { runs = c.runs; trap = c.trap })
 
@@ -29,7 +29,7 @@ as_retired code x y piece c = record {
   committed = steps_are code (hart_of x) y (with_piece piece []) c.steps (y.retired - x.retired) (omega (arith, c.counted)) (record { runs = c.runs; trap = c.trap });
 }
 
--- a turn or more, from a state that is consistent
+-- turns of Retire from a consistent state: what they lead to, and that it is consistent
 pub record Retires (now : ℕ) (d : Desc) (code : Code) (x : Machine) (r : Retired) : Type 0 where
   pub committed : Leads code (hart_of x) x.retired r.machine (with_piece r.piece [])
   pub holds : ConsistentIn now d code r.machine
@@ -48,7 +48,7 @@ module _ (now : ℕ) (d : Desc) (code : Code) where
     holds = h;
   }
 
-  -- a step, and what follows
+  -- one step, and what follows it, lead on together
   pub one_more : (x y : Machine) (events : List Event) (more : Machine → Retired) → isa_step code (hart_of x) ≡ Goes (hart_of y) [] → y.retired ≡ x.retired + 1 → Retires now d code y (more y) →
       Retires now d code x (then_retires (record { machine = y; events = events; piece = [] }) more)
   one_more x y events more step count h = record {

@@ -45,11 +45,11 @@ module _ (model : SttModel) where
       let clean = any_not (tainted model (b ++ head ∷ [])) (tainted model b) (clean_rest model b head) in
       record { load = λ i l. clean (base_of (sources e)) (h.load i l); division = λ i l. clean (sources e) (h.division i l); fresh = h.fresh; whole = h.whole }
 
-  -- the oldest leaves
+  -- the window stays guarded as the oldest entry leaves
   pub guarded_drops : (e : Entry) (rest : List Entry) → AllGuarded model (e ∷ rest) → AllGuarded model rest
   guarded_drops e rest h = along_drops G G e (rest_on e) [] rest h.1
 
-  -- one comes
+  -- the window stays guarded as a new entry comes
   pub guarded_new : (d : Desc) (b w : List Entry) (serial : ℕ) (i : Item) → Along G b w → Along G b (w ++ renamed d serial i ∷ [])
   guarded_new d b w serial i k = along_push G b w (renamed d serial i) k (record { load = λ q l. absurd (cc); division = λ q l. absurd (cc); fresh = λ q. refl; whole = λ q t. absurd (store_waits i.kind t q) })
     where
@@ -57,9 +57,9 @@ module _ (model : SttModel) where
       store_waits Store t q = absurd (cc)
       store_waits _ t q = absurd (cc)
 
-  -- ---- complete
+  -- ---- what the phase Complete keeps
 
-  -- what completes has issued
+  -- an entry that completes isn't waiting
   not_waiting : (t : Progress) (cycle : ℕ) → completes_at cycle t ≡ true → is_waiting t ≡ false
   not_waiting Waiting cycle h = absurd (cc)
   not_waiting _ cycle h = refl
@@ -71,7 +71,7 @@ module _ (model : SttModel) where
       by_due true q = (record { load = h.load; division = h.division; fresh = λ q. absurd (cc); whole = λ w t. h.whole (not_waiting e.state cycle q) t }, record { item = refl; still = λ m. passes_done m e })
       by_due false q = (h, clears_same e)
 
-  -- ---- issue
+  -- ---- what the phase Issue keeps
 
   -- an entry that begins had what it asks for, and is no longer waiting
   begins : (d : Desc) (now : Around) (b : List Entry) (e r : Entry) → d.stt_model ≡ model → G b e → is_store e.item.kind ≡ false → MayIssue d now b e → Comes e r → G b r × Clears e r
@@ -86,8 +86,7 @@ module _ (model : SttModel) where
       let c : Clears e (begun cycle e due o) = record { item = refl; still = λ t p. passes_begun t e cycle due o m.waits (h.fresh m.waits) ∙ p } in
       subst (λ r. G b r × Clears e r) (sym s) (g, c)
 
-  -- a store's part goes: it waits until both have
-  -- both parts are there once it executes
+  -- a store has both its parts once it executes, and waits until then
   whole_or : (a c : Option ℕ) (t : Progress) → (is_waiting t ≡ false → (is_some a && is_some c) ≡ true) → is_waiting (busy_until_both a c t) ≡ false → (is_some a && is_some c) ≡ true
   whole_or (Some a) (Some c) t h q = refl
   whole_or (Some a) None t h q = h q
@@ -110,7 +109,7 @@ module _ (model : SttModel) where
   safe_done Store e t h = (both (is_done e.state) _ (both (is_done e.state && not (is_faulty e)) _ h).0).0
   safe_done _ e t h = absurd (cc)
 
-  -- what lacks a part isn't Done, so it passes as it did
+  -- a store that lacks a part isn't Done: as one issues, it lets younger entries be visible where it did before
   part_clears : (b : List Entry) (e r : Entry) → is_store e.item.kind ≡ true → G b e → (has_address e && has_data e) ≡ false → r.item ≡ e.item → r.resolved ≡ e.resolved → r.cleared ≡ e.cleared → Clears e r
   part_clears b e r t h n item same marked = record { item = item; still = still }
     where
@@ -123,7 +122,7 @@ module _ (model : SttModel) where
   and_no true c h = h
   and_no false c h = refl
 
-  -- the address part
+  -- a store stays guarded as its address part issues
   address_goes : (now : Around) (f : Effect) (b : List Entry) (e : Entry) → is_store e.item.kind ≡ true → G b e → has_address e ≡ false → G b (with_address now f e) × Clears e (with_address now f e)
   address_goes now f b e t h n =
       let due = Some (now.cycle + 1) in (
@@ -136,7 +135,7 @@ module _ (model : SttModel) where
         part_clears b e (with_address now f e) t h (ap (λ a. a && has_data e) n) refl refl refl,
       )
 
-  -- the data part
+  -- a store stays guarded as its data part issues
   data_goes : (now : Around) (f : Effect) (b : List Entry) (e : Entry) → is_store e.item.kind ≡ true → G b e → has_data e ≡ false → G b (with_data now f e) × Clears e (with_data now f e)
   data_goes now f b e t h n =
       let due = Some (now.cycle + 1) in (
@@ -152,7 +151,7 @@ module _ (model : SttModel) where
   clears_then : (e e1 e2 : Entry) → Clears e e1 → Clears e1 e2 → Clears e e2
   clears_then e e1 e2 p q = record { item = q.item ∙ p.item; still = λ m h. q.still m (p.still m h) }
 
-  -- both, one or none
+  -- a store stays guarded as both its parts issue, one or none
   store_goes : (now : Around) (b : List Entry) (e : Entry) → is_store e.item.kind ≡ true → G b e → (a c : Bool) → (a ≡ true → has_address e ≡ false) → (c ≡ true → has_data e ≡ false) → G b (gone_parts now b a c e) × Clears e (gone_parts now b a c e)
   store_goes now b e t h false false ga gc = (h, clears_same e)
   store_goes now b e t h true false ga gc = address_goes now (effect_of now.regs b e) b e t h (ga refl)
@@ -169,7 +168,7 @@ module _ (model : SttModel) where
       by_issue d now b e (λ r. G b r × Clears e r) (h, clears_same e) (λ n m. begins d now b e _ q h n m (begin_comes e.item.kind d now b e))
       (λ t a c ga gc. store_goes now b e t h a c (λ q. (ga q).fresh) (λ q. (gc q).fresh))
 
-  -- ---- resolve
+  -- ---- what the phase Resolve keeps
 
   guarded_resolved : (b : List Entry) (e : Entry) → is_done e.state ≡ true → G b e → G b (resolved_one e)
   guarded_resolved b e d h = record { load = h.load; division = h.division; fresh = λ w. absurd (let q = waiting_done e.state w in cc); whole = h.whole }
@@ -179,7 +178,7 @@ module _ (model : SttModel) where
       let c : Clears e (resolved_one e) = record { item = refl; still = λ m. passes_resolved m e } in
       place_on G Clears clears_same guarded_on e (resolved_one e) c (λ b h. guarded_resolved b e d h) [] older ys k
 
-  -- ---- clear
+  -- ---- what the phase Clear keeps
 
   pub cleared_on : (older ys : List Entry) (e : Entry) → Along G [] (older ++ e ∷ ys) → Along G [] (older ++ cleared_one e ∷ ys)
   cleared_on older ys e k =

@@ -18,7 +18,7 @@ use Rattle.window_model.specs.Access.{covers, byte_of}
 use Rattle.window_model.specs.Clear.{passed}
 use Rattle.window_model.specs.Issue.{effect_of, outcome, fault_if}
 
--- registers and memory
+-- the registers and memory over which entries compute
 pub record Bank : Type 0 where
   pub regs : List ℕ
   pub ram : Ram
@@ -30,7 +30,7 @@ abbrev pub loaded_or : Option Cause → Instr → List ℕ → ℕ
 loaded_or (Some c) i bytes = 0
 loaded_or None i bytes = extend (op_of i) (from_le bytes)
 
--- an outcome by kind, as Issue has it
+-- the outcome of an instruction of a kind, as Issue computes it from the effect and the bytes that a load finds
 abbrev pub outcome_as : Kind → Ram → Instr → Effect → List ℕ → Outcome
 outcome_as Load ram i f bytes = let c = load_fault ram f.addr (width_in i) in outcome f (loaded_or c i bytes) c
 outcome_as Store ram i f bytes = outcome f 0 (store_fault ram f.addr (width_in i))
@@ -43,8 +43,8 @@ abbrev pub ComesTo : Option Outcome → Outcome → Type 0
 ComesTo None v = Unit {0}
 ComesTo (Some o) v = o ≡ v
 
--- of an outcome as much as the parts that have issued tell: address and fault from the address part on, the data from the data
--- part on
+-- what is known of a store's outcome once these parts have issued: address and fault from the address part on, the data from
+-- the data part on
 abbrev pub known_of : Bool → Bool → Outcome → Outcome
 known_of address datum o = record o {
   addr = if address then o.addr else 0;
@@ -52,16 +52,16 @@ known_of address datum o = record o {
   stored = if datum then o.stored else 0;
 }
 
--- only a store goes by parts
+-- what is known of an outcome by its kind: only a store's becomes known part by part
 abbrev pub as_known_by : Kind → Bool → Bool → Outcome → Outcome
 as_known_by Store address datum o = known_of address datum o
 as_known_by _ address datum o = o
 
--- of an entry's outcome as much as is known
+-- what is known of an entry's outcome, by the parts of it that have issued
 abbrev pub as_known : Entry → Outcome → Outcome
 as_known e o = as_known_by e.item.kind (has_address e) (has_data e) o
 
--- ---- in the window
+-- ---- what is found in the window
 
 -- a load's value leaves a store out that it passed, until the store is cleared
 abbrev pub left_out : Entry → Entry → Bool
@@ -79,6 +79,6 @@ bytes_found ram before e a n = map (λ b. byte_of ram b (find (finds e b) before
 abbrev pub bytes_over : Bank → List Entry → Entry → ℕ → List ℕ
 bytes_over s before e a = bytes_found s.ram before e a (width_in e.item.instr)
 
--- the outcome of an entry behind others
+-- the outcome that an entry computes behind older entries, over these registers and memory
 abbrev pub computed : Bank → List Entry → Entry → Outcome
 computed s before e = let f = effect_of s.regs before e in outcome_as e.item.kind s.ram e.item.instr f (bytes_over s before e f.addr)

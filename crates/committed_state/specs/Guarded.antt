@@ -21,14 +21,14 @@ pub record IsGuarded (model : SttModel) (before : List Entry) (e : Entry) : Type
   -- a store that doesn't wait has issued both parts
   pub whole : is_waiting e.state ≡ false → is_store e.item.kind ≡ true → (has_address e && has_data e) ≡ true
 
--- each entry of the window is so
+-- every entry of the window is guarded: a load that has issued has an untainted base, and a division untainted operands
 abbrev pub AllGuarded : SttModel → List Entry → Type 0
 AllGuarded model window = Along (IsGuarded model) [] window
 
--- a cycle keeps it
+-- a cycle keeps every entry of the window guarded
 abbrev pub CycleGuards : Type 0
 CycleGuards = (d : Desc) (code : Code) (x : Machine) → AllGuarded d.stt_model x.window → AllGuarded d.stt_model (cycle d code x).machine.window
 
--- in every state of a run
+-- in every state of a run each entry of the window is guarded
 abbrev pub RunGuards : Type 0
 RunGuards = (d : Desc) (code : Code) (entry : ℕ) (ram : Ram) (k : ℕ) → AllGuarded d.stt_model (at d code entry ram k).window

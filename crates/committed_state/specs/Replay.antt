@@ -45,7 +45,7 @@ bank_after e s =
     let o = replayed s e in
     record { regs = with_reg s.regs (writes_of e.item.instr) o.value; ram = ram_after e.item.kind s.ram e.item.instr o }
 
--- after the entries that are looked back on, youngest first
+-- the registers and memory after the replay of these entries, of which the first is the youngest
 abbrev pub bank : Bank → List Entry → Bank
 bank s [] = s
 bank s (e ∷ before) = bank_after e (bank s before)
@@ -54,7 +54,7 @@ bank s (e ∷ before) = bank_after e (bank s before)
 abbrev pub is_clear : Entry → Bool
 is_clear e = not (is_store e.item.kind) || e.cleared
 
--- each issued entry all of whose older stores are cleared has the outcome of the replay at its place, as far as it is known
+-- every issued entry all of whose older stores are cleared has the outcome of the replay at its place, as far as it is known
 abbrev pub Replayed : Bank → List Entry → Type 0
 Replayed s [] = Unit {0}
 Replayed s (e ∷ before) =

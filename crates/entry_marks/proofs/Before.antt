@@ -10,17 +10,17 @@ before_next xs k x at =
     ∙ reverse-append (take k xs) (get_or xs k x ∷ [])
     ∙ ap (λ y. y ∷ reverse (take k xs)) (get_or_from_slice_get xs k x x at)
 
--- and where that position is named otherwise
+-- what stands before a position n, youngest first, where n is k + 1 and x stands at k
 pub before_step : {A : Type 0} (xs : List A) (n k : ℕ) (x : A) → n ≡ k + 1 → slice_get xs k ≡ Some x → reverse (take n xs) ≡ x ∷ reverse (take k xs)
 before_step xs n k x e at = ap (λ n. reverse (take n xs)) e ∙ before_next xs k x at
 
--- what stands at a position of a list
+-- a list has an element at each position below its length
 pub found_at : {A : Type 0} (xs : List A) (i : ℕ) → i < length xs → (x : A) × (slice_get xs i ≡ Some x)
 found_at [] i lt = absurd (omega (arith, lt))
 found_at (x ∷ xs) zero lt = (x, refl)
 found_at (x ∷ xs) (suc i) lt = found_at xs i (omega (arith, lt))
 
--- what stands from a position on
+-- what stands from a position on is the element there and those behind it
 pub drop_next : {A : Type 0} (xs : List A) (i : ℕ) (x : A) → slice_get xs i ≡ Some x → drop i xs ≡ x ∷ drop (suc i) xs
 drop_next [] i x h = absurd (cc)
 drop_next (y ∷ xs) zero x h = cc
@@ -31,7 +31,7 @@ drop_step xs i n x e h =
     let same : suc i ≡ n = omega (arith, e) in
     drop_next xs i x h ∙ ap (λ n. x ∷ drop n xs) same
 
--- what is read at a position
+-- what is read by an index within the list stands there
 index_is : {A : Type 0} (xs : List A) (k : ℕ) (x : A) → k < length xs → x ≡ get_or xs k x → slice_get xs k ≡ Some x
 index_is xs k x lt h =
     let (y, at) = found_at xs k lt in

@@ -9,7 +9,7 @@ use Rattle.entry_marks.proofs.Before.{drop_step}
 
 -- ---- copies are added one by one
 
--- what stands in a list with one more is older, or it
+-- an element of a list with one more is an earlier one, or the new one
 one_more : {A : Type 0} (xs : List A) (x : A) (i : ℕ) (y : A) → slice_get (xs ++ x ∷ []) i ≡ Some y → (slice_get xs i ≡ Some y) ⊎ ((i ≡ length xs) × (x ≡ y))
 one_more [] x zero y h = inr (refl, cc)
 one_more [] x (suc i) y h = absurd (cc)
@@ -20,7 +20,7 @@ one_more (z ∷ xs) x (suc i) y h = elim (one_more xs x i y h) [
 ]
 
 module _ (window : List Entry) (marks : List EntryMarks) where
-  -- each is the copy of the entry at its position
+  -- every element is the copy of the entry and its marks at the element's position
   abbrev pub Copies : List LeavingEntry → Type 0
   Copies copies = (i : ℕ) (e : Entry) (mark : EntryMarks) (copy : LeavingEntry) →
       slice_get window i ≡ Some e → slice_get marks i ≡ Some mark → slice_get copies i ≡ Some copy → IsCopied e mark copy
@@ -36,7 +36,7 @@ module _ (window : List Entry) (marks : List EntryMarks) where
         subst (λ e. IsCopied e mark2 copy2) entry (subst (λ mark. IsCopied e mark copy2) its (subst (λ copy. IsCopied e mark copy) (h.1) it))
   ]
 
--- ---- the oldest leaves first
+-- ---- entries leave, the oldest first
 
 pub leaves_next : (base count : ℕ) (window : List Entry) (marks : List EntryMarks) (m : Marks) (k : ℕ) (e : Entry) (mark : EntryMarks) → k < count →
     slice_get window k ≡ Some e → slice_get marks k ≡ Some mark →
@@ -47,7 +47,7 @@ leaves_next base count window marks m k e mark lt here here2 =
     ap (λ n. left base n (drop k window) m (drop k marks)) more
     ∙ ap₂ (λ w o. left base (suc (count - (k + 1))) w m o) (drop_step window k (k + 1) e refl here) (drop_step marks k (k + 1) mark refl here2)
 
--- all have left
+-- where no entry is left to leave, the marks stay
 all_left : (base : ℕ) (window : List Entry) (m : Marks) (marks : List EntryMarks) → left base 0 window m marks ≡ m
 all_left base [] m [] = refl
 all_left base [] m (mark ∷ marks) = refl

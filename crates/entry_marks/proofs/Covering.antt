@@ -13,7 +13,7 @@ use Rattle.entry_marks.specs.Beside.{marks_before}
 use Rattle.entry_marks.proofs.Before.{before_step, found_at}
 
 module _ (cycle base : ℕ) (bytes : List Bool) (window : List Entry) (marks : List EntryMarks) (step : length marks ≡ length window) (a : ℕ) where
-  -- as the entry at this position would read it
+  -- the byte's mark as an entry at this position would read it
   abbrev at : ℕ → Bool
   at n = byte_mark cycle base bytes (before_at window n) (marks_before marks n) a
 
@@ -24,7 +24,7 @@ module _ (cycle base : ℕ) (bytes : List Bool) (window : List Entry) (marks : L
     marks_here : (mark : EntryMarks) × (slice_get marks k ≡ Some mark)
     marks_here = let within = slice_get_within window k e here in found_at marks k (omega (arith, within, step))
 
-    -- from the store here
+    -- the byte's mark comes from the store here, which covers it and is known
     pub covered : (s : Bool) → covers a e ≡ true → is_by cycle e.addr_due ≡ true →
         ((mark : EntryMarks) → slice_get marks k ≡ Some mark → s ≡ mark_at mark.stored (a - addr_of e.outcome)) → s ≡ at n
     covered s c b h =
@@ -33,7 +33,7 @@ module _ (cycle base : ℕ) (bytes : List Bool) (window : List Entry) (marks : L
         ∙ ap (λ t. if t then mark_at mark.stored (a - addr_of e.outcome) else at k) (sym (ap₂ (λ x y. x && y) c b))
         ∙ sym (one_on mark here2)
 
-    -- or from what is older
+    -- the byte's mark comes from what is older, where the entry here doesn't cover it, or isn't known
     pub passed : (covers a e && is_by cycle e.addr_due) ≡ false → at k ≡ at n
     passed q =
         let (mark, here2) = marks_here in

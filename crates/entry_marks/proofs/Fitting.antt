@@ -25,7 +25,7 @@ use Rattle.window_model.proofs.Memory.{inside}
 abbrev pub Leaves : Entry → Type 0
 Leaves e = (may_leave e ≡ true) × (trap_of e ≡ None)
 
--- those that are gone may leave
+-- the entries that are gone from the front of the window all may leave
 pub record Went (window after : List Entry) : Type 0 where
   pub gone : List Entry
   pub is : window ≡ gone ++ after
@@ -39,12 +39,13 @@ one_went e rest after it w = record { gone = e ∷ w.gone; is = ap (λ es. e ∷
 
 -- ---- the turns of Retire
 
--- a head that retires leaves the entries behind it; a call that traps would leave all
+-- a call that retires leaves the entries behind it; one that traps would leave all
 call_went : (e : Entry) (rest : List Entry) (x : Machine) (s : Step) → ((call_leaves e rest x s).machine.window ≡ rest) ⊎ ((call_leaves e rest x s).machine.window ≡ x.window)
 call_went e rest x (Goes s piece) = inl refl
 call_went e rest x (Exits v s) = inl refl
 call_went e rest x (Traps cause) = inr refl
 
+-- a head of any kind that retires leaves the entries behind it; a call that traps would leave all
 head_went : (k : Kind) (d : Desc) (e : Entry) (rest : List Entry) (x : Machine) →
     ((head_leaves k d e rest x).machine.window ≡ rest) ⊎ ((head_leaves k d e rest x).machine.window ≡ x.window)
 head_went Store d e rest x = inl refl
@@ -52,7 +53,7 @@ head_went Call d e rest x = call_went e rest x (call (hart_of x))
 head_went _ d e rest x = inl refl
 
 module _ (d : Desc) (more : Bool → Machine → Retired) (later : (stored : Bool) (x : Machine) → Went x.window (more stored x).machine.window) where
-  -- the head, and the turns behind it
+  -- a head that may leave, and the turns behind it, let entries go that may leave
   next_went : (stored : Bool) (e : Entry) (rest : List Entry) (x : Machine) → x.window ≡ e ∷ rest → Leaves e →
       Went (e ∷ rest) (more stored (head_leaves e.item.kind d e rest x).machine).machine.window
   next_went stored e rest x is it =
@@ -93,7 +94,7 @@ pub retire_went : (d : Desc) (x : Machine) → Went x.window (retire d x).machin
 unfolding retire
 retire_went d x = turns_went d d.core_retire_width false x
 
--- ---- the stores among them
+-- ---- the stores among the entries that retire
 
 -- memory takes what the entry writes, if it is a Done store without a fault
 abbrev pub Takes : Ram → Entry → Type 0
@@ -113,7 +114,7 @@ first_of : (a b : Bool) → (a && b) ≡ true → a ≡ true
 first_of true b h = refl
 first_of false b h = absurd (cc)
 
--- what memory takes lies within it
+-- an access that memory takes lies within it
 fits : (ram : Ram) (a n : ℕ) → store_fault ram a n ≡ None → (a - ram.base) + n ≤ length ram.bytes
 fits ram a n h = let within = inside _ _ ram a n h in omega (arith, within)
 

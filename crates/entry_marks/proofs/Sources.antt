@@ -17,12 +17,12 @@ use Rattle.secret_marks.specs.Marks.{first_marks, register_marks, second_marks}
 use Rattle.entry_marks.specs.Beside.{if_entry, mark_of, marks_before, marks_by, result_or}
 use Rattle.entry_marks.proofs.Before.{before_step, found_at}
 
--- the marks of a writer's entry
+-- the marks of an entry in the window, found by its serial; none of none
 abbrev of_entry : List Entry → List EntryMarks → Option Entry → Option EntryMarks
 of_entry window marks None = None
 of_entry window marks (Some e) = slice_get marks (length (below e.serial window))
 
--- an entry that writes the register, or those before it
+-- the marks of a register are those of this entry where it writes it, else those found before it
 one_writer : (b : Bool) (window : List Entry) (marks : List EntryMarks) (e : Entry) (mark : EntryMarks) (rest : WordMarks) (found : Option Entry) (retired : WordMarks) →
     slice_get marks (length (below e.serial window)) ≡ Some mark → rest ≡ result_or (of_entry window marks found) retired →
     (if b then mark.result else rest) ≡ result_or (of_entry window marks (if b then Some e else found)) retired
@@ -42,7 +42,7 @@ module _ (regs : List WordMarks) (window : List Entry) (marks : List EntryMarks)
       ∙ one_writer (writes r e) window marks e mark _ (writer (before_at window i) r) (get_or regs r unmarked) (ap (slice_get marks) (place_of window i e rise here) ∙ here2) (by_writer i (omega (arith, le)))
       ∙ ap (λ es. result_or (of_entry window marks (writer es r)) (get_or regs r unmarked)) (sym es)
 
--- an entry of this serial, if it is one, is looked for where it stands
+-- an entry with this serial, if there is one, has its marks where it stands
 same_entry : (window : List Entry) (marks : List EntryMarks) (serial : ℕ) (e : Entry) (b : Bool) → (b ≡ true → e.serial ≡ serial) →
     if_entry (if b then Some e else None) (slice_get marks (length (below serial window))) ≡ of_entry window marks (if b then Some e else None)
 same_entry window marks serial e true h = ap (λ n. slice_get marks (length (below n window))) (sym (h refl))
@@ -57,7 +57,7 @@ mark_is : (window : List Entry) (marks : List EntryMarks) (w : Option ℕ) → m
 mark_is window marks None = refl
 mark_is window marks (Some serial) = as_serial window marks serial (slice_get window (length (below serial window)))
 
--- two are made of two
+-- a list of two values that are made from a list has one from each of its first two elements
 of_two : {X Y : Type 0} (f : X → Y) (xs : List X) (a b : Y) (d : X) → map f xs ≡ a ∷ b ∷ [] → (f (get_or xs 0 d) ≡ a) × (f (get_or xs 1 d) ≡ b)
 of_two f (x ∷ y ∷ []) a b d h = (cc, cc)
 of_two f _ a b d h = absurd (cc)
@@ -68,7 +68,7 @@ module _ (regs : List WordMarks) (window : List Entry) (marks : List EntryMarks)
   source None = unmarked
   source (Some r) = register_marks regs (before_at window i) (marks_before marks i) r
 
-  -- they are those of the writer that is found
+  -- the marks of a source are those of the writer that is found
   source_is : (o r w : Option ℕ) → r ≡ o → in_flight window w ≡ writer_of (before_at window i) o → marks_by regs window marks r w ≡ source o
   source_is None r w n h = ap (λ r. marks_by regs window marks r w) n
   source_is (Some o) r w n h =
@@ -76,7 +76,7 @@ module _ (regs : List WordMarks) (window : List Entry) (marks : List EntryMarks)
       ∙ ap (λ m. result_or m (get_or regs o unmarked)) (mark_is window marks w ∙ ap (of_entry window marks) h)
       ∙ sym (by_writer regs window marks rise step o i le)
 
-  -- what a program reads and finds there, as arrays of two
+  -- the sources and writers as the code has them, as arrays of two
   module _ (reads : List (Option Reg)) (ws : List (Option ℕ)) (d : Option Reg) (u : Option ℕ) where
     abbrev value : ℕ → WordMarks
     value k = marks_by regs window marks (option_map (λ r. r.number) (get_or reads k d)) (get_or ws k u)

@@ -57,7 +57,7 @@ get_seam [] x ys = refl
 get_seam (y ∷ xs) x ys = get_seam xs x ys
 
 module _ (cycle base : ℕ) (m : Marks) (window : List Entry) (owns : List EntryMarks) where
-  -- the marks once the entries from a position on have theirs
+  -- the marks once the entries from position k on have those with which Issue leaves them
   abbrev pub left_from : ℕ → List EntryMarks
   left_from k = take k owns ++ issued_from cycle base m (before_at window k) (marks_before owns k) (drop k window) (drop k owns)
 
@@ -72,14 +72,14 @@ module _ (cycle base : ℕ) (m : Marks) (window : List Entry) (owns : List Entry
       ∙ take-append-drop n owns)
 
   module _ (step : length owns ≡ length window) (n k : ℕ) (next : n ≡ k + 1) (e : Entry) (here : slice_get window k ≡ Some e) where
-    -- the marks behind the position
+    -- the marks behind position k, with which Issue leaves those entries
     abbrev rest : List EntryMarks
     rest = issued_from cycle base m (before_at window n) (marks_before owns n) (drop n window) (drop n owns)
 
     own_here : (own : EntryMarks) × (slice_get owns k ≡ Some own)
     own_here = let within = slice_get_within window k e here in found_at owns k (omega (arith, within, step))
 
-    -- the marks that the entry there is given
+    -- the marks that the entry at position k is given
     abbrev given : EntryMarks → EntryMarks
     given own = issued_marks cycle base m (before_at window k) (marks_before owns k) e own
 

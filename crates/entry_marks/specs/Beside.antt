@@ -7,26 +7,26 @@ use Rattle.secret_marks.specs.declared.EntryMarks.{EntryMarks}
 use Rattle.secret_marks.specs.declared.WordMarks.{WordMarks}
 use Rattle.secret_marks.specs.Words.{unmarked}
 
--- those older than a position, youngest first
+-- the marks of the entries older than a position, youngest first
 abbrev pub marks_before : List EntryMarks → ℕ → List EntryMarks
 marks_before marks i = reverse (take i marks)
 
--- these marks, where there is such an entry
+-- the marks, where there is an entry that has them
 abbrev pub if_entry : Option Entry → Option EntryMarks → Option EntryMarks
 if_entry None mark = None
 if_entry (Some e) mark = mark
 
--- those of the entry of a serial, if it is in flight
+-- the marks of the entry with a serial, if it is in flight
 abbrev pub mark_of : List Entry → List EntryMarks → Option ℕ → Option EntryMarks
 mark_of window marks None = None
 mark_of window marks (Some serial) = if_entry (in_flight window (Some serial)) (slice_get marks (length (below serial window)))
 
--- the marks of the value, or those retired
+-- the marks of an entry's value, or where there is no entry those of the retired register
 abbrev pub result_or : Option EntryMarks → WordMarks → WordMarks
 result_or None retired = retired
 result_or (Some mark) retired = mark.result
 
--- those of a source by the serial of its writer, none where there is no source
+-- the marks of a source by the serial of its writer: unmarked where there is no source
 abbrev pub marks_by : List WordMarks → List Entry → List EntryMarks → Option ℕ → Option ℕ → WordMarks
 marks_by regs window marks None writer = unmarked
 marks_by regs window marks (Some r) writer = result_or (mark_of window marks writer) (get_or regs r unmarked)

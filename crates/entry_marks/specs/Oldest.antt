@@ -22,10 +22,10 @@ pub record IsCopiedFrom (window : List Entry) (marks : List EntryMarks) (copies 
   pub each : (i : ℕ) (e : Entry) (mark : EntryMarks) (copy : LeavingEntry) →
       slice_get window i ≡ Some e → slice_get marks i ≡ Some mark → slice_get copies i ≡ Some copy → IsCopied e mark copy
 
--- if it is a store, its bytes lie within this many, from the base on
+-- the bytes of a copied entry, if it is a store, lie within this many, from the base on
 abbrev pub Inside : ℕ → ℕ → LeavingEntry → Type 0
 Inside base bytes copy = copy.kind ≡ Store → (copy.addr - base) + bytes_in copy.width ≤ bytes
 
--- each of the first n copies, if it is a store, lies so
+-- the bytes of the first n copies, where they are stores, lie within this many, from the base on
 abbrev pub InsideEach : ℕ → ℕ → ℕ → List LeavingEntry → Type 0
 InsideEach base bytes n copies = (i : ℕ) (copy : LeavingEntry) → i < n → slice_get copies i ≡ Some copy → Inside base bytes copy

@@ -12,36 +12,37 @@ use Rattle.entry_marks.specs.declared.marks.Marks.{Marks as Beside}
 use Rattle.entry_marks.specs.declared.walk.Walk.{Walk}
 use Rattle.entry_marks.specs.Beside.{marks_before}
 
--- parts stand for the window, the writers at each position too, and each entry has its marks
+-- some parts stand for the window, the writers at each position do, and each entry has its marks
 pub record StandBeside (window : List Entry) (sources : List Sources) (marks : List EntryMarks) : Type 0 where
   pub rest : Parts
   pub stand : Stand (record rest { window = window })
   pub writers : WritersOf rest.next window (each_writers sources)
   pub step : length marks ≡ length window
 
--- so they stand for what is looked at
+-- the parts that a walk looks at stand for their window, with the writers and marks of each entry
 abbrev pub Stands : Walk → Type 0
 Stands w = StandBeside w.rob.now.entries w.sources.now.items w.marks.now.items
 
--- the entry stands at this position
+-- the entry stands at position i, counted from the oldest
 abbrev pub StandsAt : Walk → ℕ → Entry → Type 0
 StandsAt w i e = slice_get w.rob.now.entries i ≡ Some e
 
--- the entries before a position, and their marks
+-- the entries older than a position, youngest first
 abbrev pub entries_at : Walk → ℕ → List Entry
 entries_at w i = before_at w.rob.now.entries i
 
+-- the marks of the entries older than a position, youngest first
 abbrev pub marks_at : Walk → ℕ → List EntryMarks
 marks_at w i = marks_before w.marks.now.items i
 
--- the marks of registers and memory, beside these of a window
+-- the marks of a walk's registers and memory, with these of a window
 abbrev pub with_window : Walk → List EntryMarks → Marks
 with_window w window = record { regs = w.regs.now; bytes = w.bytes.now.items; window = window }
 
--- the marks beside a machine, with these of a window in the place of their own
+-- the marks that the code has of registers and memory, with these of a window in the place of its own
 abbrev pub marks_with : Beside → List EntryMarks → Marks
 marks_with b window = record { regs = b.regs; bytes = b.bytes.items; window = window }
 
--- and with their own
+-- the marks that the code has, with those of its own window
 abbrev pub marks_of : Beside → Marks
 marks_of b = marks_with b b.window.items

@@ -64,7 +64,8 @@ impl<'a> Walk<'a> {
         any_byte(operands.first) || any_byte(operands.second)
     }
 
-    // The marks of its value, where it issued in this cycle beside those that it has.
+    // The marks of the value of the entry at a position: those of its operands or loaded bytes, where it issued in
+    // this cycle, beside those that it has.
     fn result_after(&self, i: u32, entry: &Entry, own: WordMarks) -> WordMarks
         requires stands { Stands self.now }
         requires at { StandsAt self.now i entry.now }
@@ -79,7 +80,7 @@ impl<'a> Walk<'a> {
         either(own, self.value_marks(i, entry))
     }
 
-    // Whether it goes by something marked, where it issued in this cycle.
+    // Whether the entry at a position issued in this cycle, and is a branch or JALR that goes by something marked.
     fn goes_after(&self, i: u32, entry: &Entry) -> bool
         requires stands { Stands self.now }
         requires at { StandsAt self.now i entry.now }
@@ -92,7 +93,8 @@ impl<'a> Walk<'a> {
         self.goes_mark(i, entry)
     }
 
-    // The marks of what it stores, where its data part issued in this cycle beside those that it has.
+    // The marks of what the entry at a position stores: those of its second source, where its data part issued in
+    // this cycle, beside those that it has.
     fn stored_after(&self, i: u32, entry: &Entry, own: WordMarks) -> WordMarks
         requires stands { Stands self.now }
         requires at { StandsAt self.now i entry.now }

@@ -2,7 +2,8 @@
 //! entries get as they issue and leave in registers and memory as they retire, those that are left behind a squash and that come with
 //! Rename, and what shows of them.
 //!
-//! The rules stand in `secret_marks`, and each function here answers what its definition there says. `marked_core` walks them beside a core.
+//! The rules stand in `secret_marks`, and each function here answers what its definition there says. `marked_core` walks them beside
+//! a core.
 #![tactic(auto)]
 
 mod beside;

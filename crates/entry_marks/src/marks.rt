@@ -12,22 +12,22 @@ use secret_marks::{EntryMarks, WordMarks};
 /// Marks of registers and memory, as retired, and of the entries in flight. They are written as what they stand beside.
 #[derive(Drop)]
 pub struct Marks {
-    /// Of each register.
+    /// The marks of the registers, as retired.
     pub regs: [WordMarks; REGISTERS],
-    /// Of each byte of memory.
+    /// The mark of every byte of memory, as retired.
     pub bytes: Vec<bool>,
-    /// Of each entry of the reorder buffer, oldest first.
+    /// The marks of the entries in the reorder buffer, oldest first.
     pub window: HeapCircularBuffer<EntryMarks>,
 }
 
-/// The marks of the entries that are left, of which there are so many.
+/// Drops the marks of the youngest entries, so that `len` are left: those of the entries that are left.
 pub fn cut(window: &mut HeapCircularBuffer<EntryMarks>, len: u32)
     ensures { window.new ≡ buffer (take len window.old.items) window.old.capacity }
 {
     window.truncate_back(len as usize);
 }
 
-/// Entries have come, so that there are so many: each comes unmarked.
+/// Adds marks for entries that have come, so that there are `len`: a new entry is unmarked.
 pub fn extend(window: &mut HeapCircularBuffer<EntryMarks>, len: u32)
     requires room { len ≤ window.old.capacity }
     ensures { window.new ≡ buffer (window.old.items ++ replicate (len - length window.old.items) new_entry)

@@ -17,20 +17,20 @@ pub const LEAVING_MAX: usize = 4;
 /// What of an entry moves marks as it retires.
 #[derive(Clone, Copy, Debug, PartialEq, Eq)]
 pub struct LeavingEntry {
-    /// Its kind.
+    /// The kind of the entry.
     pub kind: Kind,
-    /// Its instruction, which says which register it writes.
+    /// The entry's instruction, which says which register it writes.
     pub instr: Instr,
-    /// The address of its access, if it is a load or store.
+    /// The address of the entry's access, if it is a load or store.
     pub addr: u32,
     /// How many bytes that access moves.
     pub width: Width,
-    /// Its marks.
+    /// The marks of the entry.
     pub marks: EntryMarks,
 }
 
 impl Default for LeavingEntry {
-    /// A stop, unmarked.
+    /// A stop without marks, to fill free places with.
     fn default() -> Self
         ensures { result ≡ record {
           kind = kind.Stop illegal;
@@ -57,6 +57,6 @@ impl Default for LeavingEntry {
 /// The oldest entries, as many as may retire in a cycle.
 #[derive(Drop)]
 pub struct Leaving {
-    /// What is copied of each, oldest first.
+    /// What is copied of each of the oldest entries, oldest first.
     pub entries: ArrayVec<LeavingEntry, LEAVING_MAX>,
 }

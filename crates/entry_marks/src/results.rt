@@ -18,7 +18,7 @@ use crate::words::{
 use rv_types::{Instr, Op};
 use secret_marks::WordMarks;
 
-// These marks where the second operand is unmarked, and else all.
+// The marks of a result that is these where the second operand `b` is unmarked, and else every byte.
 fn by_known(b: WordMarks, marks: WordMarks) -> WordMarks
     ensures { result ≡ by_known b marks }
 {

@@ -33,7 +33,7 @@ pub fn leaving(rob: &RobRing, marks: &HeapCircularBuffer<EntryMarks>) -> Leaving
     Leaving { entries }
 }
 
-// What of an entry with these marks moves marks.
+// Copies what of an entry with these marks moves marks as it retires.
 fn copy_of(entry: &Entry, marks: &EntryMarks) -> LeavingEntry
     ensures { IsCopied entry.now marks.now result }
 {
@@ -88,7 +88,7 @@ fn move_marks(marks: &mut Marks, entry: &LeavingEntry, base: u32)
     }
 }
 
-// The register that an instruction writes gets these marks, if there is one.
+// Gives the register that an instruction writes these marks, if there is one.
 fn write_register(regs: &mut [WordMarks; REGISTERS], instr: &Instr, marks: WordMarks)
     ensures { regs.new ≡ with_marks regs.old (writes_of instr.now) marks }
 {
@@ -97,7 +97,7 @@ fn write_register(regs: &mut [WordMarks; REGISTERS], instr: &Instr, marks: WordM
     }
 }
 
-// So many bytes of memory, from a position on, get the marks of a word's lowest bytes.
+// Gives `count` bytes of memory, from a position on, the marks of a word's lowest bytes.
 fn write_memory(bytes: &mut Vec<bool>, at: usize, count: u32, marks: WordMarks)
     requires inside { at + count ≤ length bytes.old.items }
     requires few { count ≤ 4 }

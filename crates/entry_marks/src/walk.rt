@@ -7,7 +7,7 @@ use secret_marks::{EntryMarks, WordMarks};
 /// The entries and their sources, and the marks beside them.
 #[derive(Drop)]
 pub struct Walk<'a> {
-    /// The entries in flight.
+    /// The entries in flight, oldest first.
     pub rob: &'a RobRing,
     /// At each entry's position the writers of its sources.
     pub sources: &'a HeapCircularBuffer<Sources>,
@@ -19,6 +19,6 @@ pub struct Walk<'a> {
     pub bytes: &'a Vec<bool>,
     /// The address of memory's first byte.
     pub base: u32,
-    /// The cycle.
+    /// The number of the present cycle.
     pub cycle: u32,
 }

@@ -4,7 +4,7 @@ ghost use Rattle.secret_marks.specs.Words.{any_byte, downward, either, every_byt
 
 use secret_marks::WordMarks;
 
-/// No byte is marked.
+/// The marks of a word without any mark.
 pub const UNMARKED: WordMarks = WordMarks {
     byte0: false,
     byte1: false,
@@ -12,7 +12,7 @@ pub const UNMARKED: WordMarks = WordMarks {
     byte3: false,
 };
 
-/// Each byte has this mark.
+/// The marks of a word of which every byte has this mark.
 pub(crate) fn every_byte(mark: bool) -> WordMarks
     ensures { result ≡ every_byte mark }
 {
@@ -24,7 +24,7 @@ pub(crate) fn every_byte(mark: bool) -> WordMarks
     }
 }
 
-/// The lowest byte has this mark, and no other has one.
+/// The marks of a word whose lowest byte has this mark, and no other has one.
 pub(crate) fn lowest_byte(mark: bool) -> WordMarks
     ensures { result ≡ lowest_byte mark }
 {
@@ -43,7 +43,7 @@ pub fn any_byte(w: WordMarks) -> bool
     w.byte0 || w.byte1 || w.byte2 || w.byte3
 }
 
-/// A byte is marked where it is in either word.
+/// The marks of a word of which a byte is marked where it is in either of two.
 pub(crate) fn either(w: WordMarks, u: WordMarks) -> WordMarks
     ensures { result ≡ either w u }
 {
@@ -55,7 +55,7 @@ pub(crate) fn either(w: WordMarks, u: WordMarks) -> WordMarks
     }
 }
 
-/// From the lowest marked byte upward.
+/// The marks from the lowest marked byte upward, as a carry goes.
 pub(crate) fn upward(w: WordMarks) -> WordMarks
     ensures { result ≡ upward w }
 {
@@ -67,7 +67,7 @@ pub(crate) fn upward(w: WordMarks) -> WordMarks
     }
 }
 
-/// From the highest marked byte downward.
+/// The marks from the highest marked byte downward, as a shift to the right goes.
 pub(crate) fn downward(w: WordMarks) -> WordMarks
     ensures { result ≡ downward w }
 {
@@ -79,7 +79,7 @@ pub(crate) fn downward(w: WordMarks) -> WordMarks
     }
 }
 
-/// Each byte, where any is marked.
+/// The marks of a word of which every byte is marked, where any was.
 pub(crate) fn smeared(w: WordMarks) -> WordMarks
     ensures { result ≡ smeared w }
 {

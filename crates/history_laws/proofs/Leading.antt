@@ -9,7 +9,7 @@ use Rattle.window_model.specs.Rename.{renamed}
 use Rattle.window_model.specs.Resolve.{squashes}
 use Rattle.history_laws.specs.Left.{CountsBy, Counts, IsGuess, Leads, LeadsOver, after_item}
 
--- ---- one item more
+-- ---- one more item is fetched
 
 items_push : (d : Desc) (from to : Mark) (q : List Item) (i : Item) (way : Bool) → LeadsOver d from q to → i.mark ≡ to → IsGuess i way → LeadsOver d from (q ++ i ∷ []) (after_item d i way)
 items_push d from to [] i way h m g = (m ∙ h, (way, g, refl))
@@ -35,7 +35,7 @@ pub record GoesOn (e e2 : Entry) : Type 0 where
 pub goes_same : (e : Entry) → GoesOn e e
 goes_same e = record { item = refl; counts = λ way h. h }
 
--- what isn't resolved, before and after, counts with its guess
+-- an entry that isn't resolved, before and after, counts with its guess as it did
 fresh_counts : (e e2 : Entry) (b b2 : Bool) → e2.item ≡ e.item → b ≡ false → b2 ≡ false → (way : Bool) → CountsBy (b && squashes e) e way → CountsBy (b2 && squashes e2) e2 way
 fresh_counts e e2 false false q f f2 way h = subst (λ (i : Item). IsGuess i way) (sym q) h
 fresh_counts e e2 true b2 q f f2 way h = absurd (cc)
@@ -52,7 +52,7 @@ leads_on d from to (e ∷ w) (e2 ∷ w2) q v h =
     let rest = leads_on d (after_item d e.item h.1.0) to w w2 q v.1 h.1.2 in
     (ap (λ (i : Item). i.mark) v.0.item ∙ h.0, (h.1.0, v.0.counts h.1.0 h.1.1, subst (λ (i : Item). Leads d (after_item d i h.1.0) w2 q to) (sym v.0.item) rest))
 
--- behind others
+-- entries behind older ones still lead to the mark as they go on
 pub leads_behind : (d : Desc) (from to : Mark) (front w w2 : List Entry) (q : List Item) → AllZip GoesOn w w2 → Leads d from (front ++ w) q to → Leads d from (front ++ w2) q to
 leads_behind d from to [] w w2 q v h = leads_on d from to w w2 q v h
 leads_behind d from to (e ∷ front) w w2 q v h = (h.0, (h.1.0, h.1.1, leads_behind d (after_item d e.item h.1.0) to front w w2 q v h.1.2))

@@ -13,7 +13,7 @@ use Rattle.window_model.proofs.Walks.{retire_by}
 use Rattle.history_laws.specs.Left.{Leads}
 use Rattle.history_laws.proofs.Phases.{Left, Fresh}
 
--- so many entries are gone
+-- n entries have retired: they are gone from the front of the window, the count has risen by n, queue and mark stay
 pub record Lets (n : ℕ) (x y : Machine) : Type 0 where
   pub count : y.retired ≡ x.retired + n
   pub window : y.window ≡ drop n x.window
@@ -48,7 +48,7 @@ retire_lets d =
     retire_by d (λ n stored x r. LetsSome x r.machine) (λ n stored x s. none x) (λ n stored x e rest u q l t w more. head_lets d x e rest q _ more)
     (λ n stored x e rest cause u q l t. record { number = 0; lets = record { count = omega arith; window = refl; queue = refl; mark = refl } })
 
--- what leaves stands in front of what stays
+-- what is left leads to the present mark after Retire, whose entries go over from the window to those that are gone
 pub left_retire : (d : Desc) (gone : List Entry) (x : Machine) → Left d gone x → Left d (gone ++ take ((retire d x).machine.retired - x.retired) x.window) (retire d x).machine
 left_retire d gone x h =
     let s = retire_lets d x in

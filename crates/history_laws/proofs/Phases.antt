@@ -1,4 +1,4 @@
--- Each phase but Retire keeps that what is left leads to the present mark.
+-- What is left leads to the present mark: every phase but Retire keeps this.
 use Rattle.std.proofs.Common.{◌≡◌, ℕ, ◌+◌, Bool, true, false, ◌&&◌, List, [], ◌∷◌, ◌++◌, Some, refl, sym, subst, append_assoc}
 use Rattle.std.specs.Prelude.{if◌then◌else◌, map, reverse, nat_lt, length, ◌==◌}
 use Rattle.std.specs.List.{AllByRecursion as Each, AllZip}
@@ -30,19 +30,19 @@ use Rattle.window_model.proofs.Walks.{rename_keep, fetch_keep}
 use Rattle.history_laws.specs.Left.{CountsBy, GuessedBy, Leads, after_item, has_squashed}
 use Rattle.history_laws.proofs.Leading.{GoesOn, goes_same, fresh_goes, leads_push, leads_rename, leads_behind, leads_cut, leads_stop}
 
--- ---- what is kept
+-- ---- what every phase keeps
 
--- neither what waits nor a store is resolved
+-- the entry isn't resolved where it waits, nor where it is a store
 pub record Fresh (e : Entry) : Type 0 where
   pub waits : is_waiting e.state ≡ true → e.resolved ≡ false
   pub store : is_store e.item.kind ≡ true → e.resolved ≡ false
 
--- what has retired, what is in flight and what is fetched lead from no mark to the present one
+-- what is kept in every state: what has retired, what is in flight and what is fetched lead from no mark to the present one
 pub record Left (d : Desc) (gone : List Entry) (x : Machine) : Type 0 where
   pub leads : Leads d no_mark (gone ++ x.window) x.queue x.mark
   pub fresh : Each Fresh x.window
 
--- ---- Complete
+-- ---- Complete keeps what is left
 
 done_counts : (e : Entry) (b way : Bool) → CountsBy b e way → CountsBy b (record e { state = Done }) way
 done_counts e true way h = h
@@ -80,7 +80,7 @@ module _ (d : Desc) (gone : List Entry) where
       let all = all_completed x.cycle x.window h.fresh in
       record { leads = leads_behind d no_mark x.mark gone x.window (map (completed x.cycle) x.window) x.queue all.0 h.leads; fresh = all.1 }
 
--- ---- Resolve
+-- ---- Resolve keeps what is left
 
 zip_same : (w : List Entry) → AllZip GoesOn w w
 zip_same [] = tt
@@ -98,7 +98,7 @@ squashed_counts : (e : Entry) (b : Bool) → b ≡ true → CountsBy (true && b)
 squashed_counts e true q = refl
 squashed_counts e false q = absurd (cc)
 
--- one that did not, with its guess as before
+-- an entry that did not squash counts with its guess as before
 kept_counts : (e : Entry) (r s : Bool) → r ≡ false → s ≡ false → (way : Bool) → CountsBy (r && s) e way → CountsBy (true && s) (resolved_one e) way
 kept_counts e false false q t way h = h
 kept_counts e true s q t way h = absurd (cc)
@@ -141,7 +141,7 @@ module _ (d : Desc) (gone : List Entry) (x : Machine) (p : Place) (t : Taken d x
 pub left_resolve : (d : Desc) (gone : List Entry) (x : Machine) → Left d gone x → Left d gone (resolve d x).machine
 left_resolve d gone = resolve_keep d (Left d gone) (λ x p t q h. squashed d gone x p t h q) (λ x p t q h. kept d gone x p t h q)
 
--- ---- Clear
+-- ---- Clear keeps what is left
 
 -- a store counts as it did once it is cleared
 cleared_counts : (e : Entry) (b way : Bool) → CountsBy b e way → CountsBy b (cleared_one e) way
@@ -187,9 +187,9 @@ module _ (d : Desc) (gone : List Entry) (x : Machine) (p : Place) (t : Cleared d
 pub left_clear : (d : Desc) (gone : List Entry) (x : Machine) → Left d gone x → Left d gone (clear d x).machine
 left_clear d gone = clear_keep d (Left d gone) (λ x p t h. cleared d gone x p t h) (λ x p q t u h. violated d gone x p t h q u)
 
--- ---- Issue
+-- ---- Issue keeps what is left
 
--- an entry goes on, and stays as it is where it is resolved
+-- what Issue makes of an entry: it goes on, and isn't resolved where it waits or is a store
 pub record Issues (e e2 : Entry) : Type 0 where
   pub on : GoesOn e e2
   pub fresh : Fresh e2
@@ -223,7 +223,7 @@ left_issue d gone x h =
     let leads = leads_behind d no_mark x.mark gone x.window w x.queue all.0 h.leads in
     by_after_load d x (λ y. (v : Divider) → Left d gone (record y { window = w; divider = v })) (λ c s m v. record { leads = leads; fresh = all.1 }) (first (may_at d (around x) LoadPort) x.window) _
 
--- ---- Rename and Fetch
+-- ---- Rename and Fetch keep what is left
 
 pub left_rename : (d : Desc) (gone : List Entry) (x : Machine) → Left d gone x → Left d gone (rename d x).machine
 left_rename d gone = rename_keep d (Left d gone) one

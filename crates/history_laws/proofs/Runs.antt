@@ -1,4 +1,4 @@
--- A cycle and a run.
+-- What is left leads to the present mark after a cycle and in a run.
 use Rattle.std.proofs.Common.{ℕ, zero, suc, ◌+◌, List, [], ◌++◌, Option, Some, None, refl, sym, subst, append_assoc}
 use Rattle.std.proofs.lemmas.List.{append-nil}
 use Rattle.rv_types.specs.Memory.{Code, Ram}

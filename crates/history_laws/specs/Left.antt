@@ -30,7 +30,7 @@ IsGuess i way = GuessedBy i.kind i way
 abbrev pub has_squashed : Entry → Bool
 has_squashed e = e.resolved && squashes e
 
--- then it counts with its true direction, else with the predicted one
+-- an entry counts with its true direction if its resolution squashed, else with the predicted one
 abbrev pub CountsBy : Bool → Entry → Bool → Type 0
 CountsBy true e way = way ≡ (value_of e.outcome == 1)
 CountsBy false e way = IsGuess e.item way
@@ -49,12 +49,12 @@ abbrev pub LeadsOver : Desc → Mark → List Item → Mark → Type 0
 LeadsOver d from [] to = to ≡ from
 LeadsOver d from (i ∷ q) to = (i.mark ≡ from) × ((way : Bool) × IsGuess i way × LeadsOver d (after_item d i way) q to)
 
--- and so do entries, with items behind them
+-- entries lead from one mark to another, with items behind them: each has the mark to which those before it lead
 abbrev pub Leads : Desc → Mark → List Entry → List Item → Mark → Type 0
 Leads d from [] q to = LeadsOver d from q to
 Leads d from (e ∷ es) q to = (e.item.mark ≡ from) × ((way : Bool) × Counts e way × Leads d (after_item d e.item way) es q to)
 
--- ---- what is left
+-- ---- what is left of all that was fetched
 
 -- the entries that retire in a cycle, oldest first
 abbrev pub retiring : Desc → Machine → List Entry

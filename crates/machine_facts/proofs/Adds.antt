@@ -23,7 +23,7 @@ use Rattle.window_model.specs.Fetch.{fetch, fetch_up_to, fetch_one, item_at}
 use Rattle.window_model.proofs.Lists.{filter_shortens}
 use Rattle.window_model.proofs.Walks.{retire_by, rename_by, fetch_by}
 
--- a phase keeps cycle, next serial and count, and has at most so many events
+-- a phase keeps cycle, next serial and count, and has at most this many events
 pub record Adds (most : ℕ) (x : Machine) (a : After) : Type 0 where
   pub events : length a.events ≤ most
   pub cycle : a.machine.cycle ≡ x.cycle
@@ -58,7 +58,7 @@ complete_adds x = record {
   retired = refl;
 }
 
--- ---- resolve
+-- ---- the events of Resolve
 
 learnt_few : (b : Bool) (a c : Learnt) → length a.events ≤ 2 → length c.events ≤ 2 → length (if b then a else c).events ≤ 2
 learnt_few true a c p q = p
@@ -82,9 +82,9 @@ resolve_at_adds d (Some p) x =
 pub resolve_adds : (d : Desc) (x : Machine) → Adds 3 x (resolve d x)
 resolve_adds d x = resolve_at_adds d (first (may_resolve d) x.window) x
 
--- ---- retire
+-- ---- the serials and the count of Retire
 
--- at most one retires a turn
+-- what n turns of Retire keep and add: at most one instruction retires a turn
 pub record Turns (n : ℕ) (x : Machine) (r : Retired) : Type 0 where
   pub cycle : r.machine.cycle ≡ x.cycle
   pub serials : r.machine.next_serial ≡ x.next_serial
@@ -109,9 +109,9 @@ retire_turns d x =
     (λ n stored x e rest u q l t w more. then_turns n x (head_leaves e.item.kind d e rest x) _ (head_turn e.item.kind d e rest x) more)
     (λ n stored x e rest cause u q l t. record { cycle = refl; serials = refl; retired = omega arith }) x
 
--- ---- rename and fetch
+-- ---- the events of Rename and Fetch
 
--- one event an item, and one serial
+-- what a phase adds that takes at most n items: at most one event an item, and one serial
 pub record Renames (n : ℕ) (x : Machine) (a : After) : Type 0 where
   pub events : length a.events ≤ n
   pub cycle : a.machine.cycle ≡ x.cycle

@@ -50,7 +50,7 @@ module _ (count most : ℕ) where
   several f keeps [] level h = h
   several f keeps (line ∷ lines) level h = several f keeps lines (f level line) (keeps level line h)
 
--- ---- both levels
+-- ---- both levels of the cache
 
 module _ (d : Desc) where
   pub filled_fits : (lines : List ℕ) (cache : List (List ℕ)) → CacheFits d cache → CacheFits d (fold (with_line d) cache lines)

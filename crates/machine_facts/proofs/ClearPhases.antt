@@ -26,12 +26,13 @@ use Rattle.machine_facts.proofs.SizedWindow.{thinner}
 
 -- ---- a store that is cleared, and what is left of the younger entries
 
--- the oldest of these entries stay, the others are gone
+-- a window of which only the oldest entries are left has evolved
 evolves_front : (front back : List Entry) → Evolves (front ++ back) front
 evolves_front [] back = tt
 evolves_front (e ∷ front) back = (goes_same e, evolves_front front back)
 
--- a fact of each entry that doesn't ask whether it is cleared
+-- what holds of each entry, and doesn't ask whether it is cleared, still does with the store cleared and what is left of the
+-- younger ones
 each_cleared : (P : Entry → Type 0) (d : Desc) (x : Machine) (p : Place) → Cleared d x p → (P p.entry → P (cleared_one p.entry)) → Each P x.window → (zs : List Entry) →
     (Each P p.younger → Each P zs) → Each P (reverse p.before ++ cleared_one p.entry ∷ zs)
 each_cleared P d x p t f h zs v =
@@ -39,7 +40,7 @@ each_cleared P d x p t f h zs v =
     let behind = each_right P (reverse p.before) _ all in
     each_join P (reverse p.before) _ (each_left P (reverse p.before) _ all) (f behind.0, v behind.1)
 
--- between the store and the load that is violated
+-- what holds of each younger entry holds of those between the store and the violated load
 each_between : (P : Entry → Type 0) (p q : Place) → Violated p q → Each P p.younger → Each P (reverse q.before)
 each_between P p q u h = each_left P (reverse q.before) _ (subst (Each P) u.younger h)
 
@@ -51,7 +52,7 @@ evolves_cleared d x p t zs v =
     subst (λ w. Evolves w (reverse p.before ++ cleared_one p.entry ∷ zs)) (sym t.window)
     (place_evolves (reverse p.before) p.entry (cleared_one p.entry) p.younger zs (cleared_goes p.entry) v)
 
--- ---- sizes
+-- ---- Clear keeps sizes and entries
 
 module _ (d : Desc) (x : Machine) (f : Fits d x) (p : Place) (t : Cleared d x p) where
   window : (zs : List Entry) → Evolves p.younger zs → WindowFits d (reverse p.before ++ cleared_one p.entry ∷ zs)
@@ -90,7 +91,7 @@ pub sized_clear : (d : Desc) (x : Machine) → IsDesc d → Sized d x → Sized 
 sized_clear d x i =
     clear_keep d (Sized d) (λ x p t s. sized_clears d x (parts d x s) p t) (λ x p q t u s. sized_violates d x (parts d x s) p t q u) x
 
--- ---- times
+-- ---- Clear keeps serials and times
 
 freed_in : (b : Bool) (v : Divider) (n : ℕ) → v.free_from ≤ n → (if b then (let f : Divider = record { free_from = 0; user = None } in f) else v).free_from ≤ n
 freed_in true v n h = omega arith
@@ -153,7 +154,7 @@ marked_clear d =
     let load = (each_right (EntryFits d) (reverse q.before) _ (subst (Each (EntryFits d)) u.younger younger)).0 in
     record { next = load; entries = each_cleared (EntryFits d) d x p t (λ k. k) h.entries (reverse q.before) (each_between (EntryFits d) p q u); items = tt })
 
--- ---- events
+-- ---- the events of Clear
 
 with_adds : (d : Desc) (p : Place) (o : Option Place) (x : Machine) → Adds 4 x (clear_with d p o x)
 with_adds d p None x = record { events = omega arith; cycle = refl; serials = refl; retired = refl }

@@ -67,13 +67,13 @@ completed_due d past cycle q e h = by_due (completes cycle e) refl
 pub dues_left : (d : Desc) (past cycle : ℕ) (w : List Entry) → cycle ≡ past + 1 → Each (IsDue d past cycle) w → Each (IsDue d cycle cycle) (map (completed cycle) w)
 dues_left d past cycle w q h = each_map (IsDue d cycle cycle) (completed cycle) w (each_then (IsDue d past cycle) (λ e. IsDue d cycle cycle (completed cycle e)) (completed_due d past cycle q) w h)
 
--- ---- what begins
+-- ---- entries that begin end soon
 
 -- a division takes 3 to 35 cycles
 time_in : (regs : List ℕ) (b : List Entry) (e : Entry) → (0 < time_of regs b e) × (time_of regs b e ≤ longest_division)
 time_in regs b e = (omega arith, omega arith)
 
--- a number of a miss register that is found
+-- what holds of a miss register, if one is found, holds of the one that is
 of_found : (d : Desc) (now : Around) (o : Option Miss) (m : Miss) → o ≡ Some m → OfSome (IsPending d now.cycle now.cycle) o → IsPending d now.cycle now.cycle m
 of_found d now o m q h = subst (OfSome (IsPending d now.cycle now.cycle)) q h
 
@@ -99,7 +99,7 @@ latency_soon d now i sets line = by_level (second_has d now.second line) refl
 register_soon : (d : Desc) (now : Around) → IsDesc d → length now.second ≡ d.cache_second_sets → (line : ℕ) → IsPending d now.cycle now.cycle (register d now.cycle (request d now line))
 register_soon d now i sets line = let l = latency_soon d now i sets line in (omega (arith, l.0), omega (arith, l.1))
 
--- lines come soon
+-- the lines that an access looks up come soon, if it looks up any
 abbrev pub LooksSoon : Desc → Around → Access → Type 0
 LooksSoon d now (Looks found ahead) = IsSoon now.cycle now.cycle d.cache_miss_latency (due_by d now found)
 LooksSoon d now _ = Unit {0}
@@ -113,7 +113,7 @@ module _ (d : Desc) (now : Around) (i : IsDesc d) (sets : length now.second ≡ 
       by_line d now line (λ l. Soon (due_of d now l)) (λ q. (omega (arith, i.hit_latency.0), omega (arith, i.miss_latency.1)))
       (λ m q. of_found d now _ m q (find_each (IsPending d now.cycle now.cycle) (λ m. m.line == line) now.misses h)) (λ q. register_soon d now i sets line)
 
-  -- the later of two
+  -- one line or the later of two comes soon
   lines_soon : (lines : List ℕ) → OneOrTwo lines → Soon (due_by d now (map (look_up d now) lines))
   lines_soon _ (One line) = line_soon line
   lines_soon _ (Two low high l) = let p = line_soon low in let q = line_soon high in (omega (arith, p.0, q.0), omega (arith, p.1, q.1))
@@ -137,12 +137,12 @@ module _ (d : Desc) (now : Around) (i : IsDesc d) (sets : length now.second ≡ 
   begin_soon Div b e j h = let n = time_in now.regs b e in (omega (arith, n.0), omega (arith, n.1))
   begin_soon _ b e j h = (omega arith, omega arith)
 
-  -- a store takes one cycle
+  -- a store is busy for one cycle
   one_cycle : (k : Kind) → is_store k ≡ true → latency k d ≡ 1
   one_cycle Store h = refl
   one_cycle _ h = absurd (cc)
 
-  -- the later part is known in the next cycle
+  -- a store that has its second part is busy until the next cycle at the latest
   address_soon : (n longest : ℕ) (c : Option ℕ) (t : Progress) → longest ≡ 1 → PartDue n c → DueSoon n n longest t → DueSoon n n longest (busy_until_both (Some (n + 1)) c t)
   address_soon n longest None t q u h = h
   address_soon n longest (Some m) t q u h = (omega arith, omega (arith, q, u))
@@ -235,7 +235,7 @@ pub divider_soon : (x : Machine) (o : Option Place) → x.divider.free_from ≤ 
 divider_soon x None h = h
 divider_soon x (Some p) h = let n = time_in x.regs p.before p.entry in omega (arith, n.1)
 
--- ---- what is renamed
+-- ---- new entries end soon
 
 pub due_new : (d : Desc) (past cycle serial : ℕ) (i : Item) → IsDue d past cycle (renamed d serial i)
 due_new d past cycle serial i = by_kind (at_once i.kind)
@@ -264,13 +264,13 @@ none_found (m ∷ ms) line h =
     let o = other_if m line (m.line == line) (find (λ m. m.line == line) ms) refl h in
     (o.0, none_found ms line o.1)
 
--- registers behind others, none of which has the line of one of these
+-- no line has two miss registers where more are taken, none of which has the line of one that was
 apart_join : (ms ns : List Miss) → Apart ms → Apart ns → Each (λ (n : Miss). Each (λ (m : Miss). m.line ≢ n.line) ms) ns → Apart (ms ++ ns)
 apart_join [] ns p q h = q
 apart_join (m ∷ ms) ns p q h =
     (each_join (λ (n : Miss). m.line ≢ n.line) ms ns p.0 (each_then _ _ (λ n k. k.0) ns h), apart_join ms ns p.1 q (each_then _ _ (λ n k. k.1) ns h))
 
--- what is said of the registers that lines take
+-- the miss registers that an access takes: each comes soon, and no line has two
 module _ (d : Desc) (now : Around) where
   abbrev taken : List Request → List Miss
   taken rs = map (register d now.cycle) rs
@@ -292,7 +292,7 @@ module _ (d : Desc) (now : Around) where
   taken_pending i sets low (r ∷ rs) h =
       (subst (λ r. IsPending d now.cycle now.cycle (register d now.cycle r)) (sym h.1.own) (register_soon d now i sets r.line), taken_pending i sets (suc r.line) rs h.2)
 
--- the miss registers after an access
+-- what holds of the miss registers after an access: each comes soon, and no line has two
 pub record MissesSoon (d : Desc) (cycle : ℕ) (ms : List Miss) : Type 0 where
   pub misses : Each (IsPending d cycle cycle) ms
   pub lines : Apart ms

@@ -45,7 +45,7 @@ before_adds d x =
       retired = s.retired ∙ r.retired ∙ q.retired ∙ p.retired;
     }
 
--- the phases after Retire, with as many events besides those of Rename
+-- what the phases after Retire keep and add: at most this many events, and n serials
 record AddsAfter (most n : ℕ) (x : Machine) (a : After) : Type 0 where
   events : length a.events ≤ most
   cycle : a.machine.cycle ≡ x.cycle
@@ -68,7 +68,7 @@ after_adds d code None x =
       retired = u.retired ∙ q.retired ∙ p.retired;
     }
 
--- ---- a cycle
+-- ---- a cycle as a whole
 
 pub few_events : (d : Desc) (code : Code) (x : Machine) → IsDesc d → Sized d x → length (cycle d code x).row.events ≤ 232
 unfolding cycle

@@ -26,7 +26,7 @@ no_bit : (n : ℕ) → n ≡ 0 → nat_lt 0 n ≡ false
 no_bit zero h = refl
 no_bit (suc n) h = absurd (cc)
 
--- so no load passes a store there
+-- no load passes a store in version 1
 pub not_passing : (d : Desc) → d.version ≡ 1 → passing d ≡ false
 not_passing d one = no_bit d.predictor_depend (no_bits (d.version == 1) d.predictor_depend _ (ap (λ v. v == 1) one) d.few_depend)
 

@@ -35,7 +35,7 @@ use Rattle.window_model.proofs.Walks.{cycle_keep, fetch_keep, heads_keep, rename
 use Rattle.machine_facts.proofs.ClearPhases.{marked_clear}
 use Rattle.machine_facts.specs.Marks.{FitsMark, Marked}
 
--- ---- what an instruction makes of them
+-- ---- what an instruction makes of history and stack
 
 module _ (d : Desc) where
   shifted_fits : (way : Bool) (m : Mark) → FitsMark d m → FitsMark d (shifted d way m)
@@ -64,7 +64,7 @@ module _ (d : Desc) where
   fits_after Jalr pc i way m h = jumped_fits pc i m h
   fits_after _ pc i way m h = h
 
--- ---- each phase
+-- ---- what each phase keeps
 
 module _ (d : Desc) where
   abbrev EntryFits : Entry → Type 0
@@ -85,7 +85,7 @@ module _ (d : Desc) where
   marked_complete : (x : Machine) → Marked d x → Marked d (complete x).machine
   marked_complete x h = record { next = h.next; entries = evolves_fits x.window _ (map_evolves (completed x.cycle) (completed_goes x.cycle) x.window) h.entries; items = h.items }
 
-  -- at a squash they are those behind the entry
+  -- entries fit whose older ones stay, whose younger ones stay or go, and of which one is resolved
   entries_at : (x : Machine) (p : Place) → Taken d x p → Marked d x → (zs : List Entry) → (Each EntryFits p.younger → Each EntryFits zs) → Each EntryFits (reverse p.before ++ resolved_one p.entry ∷ zs)
   entries_at x p t h zs v =
       let all = subst (Each EntryFits) t.window h.entries in

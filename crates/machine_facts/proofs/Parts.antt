@@ -11,7 +11,7 @@ use Rattle.window_model.specs.declared.Target.{Target}
 use Rattle.window_model.proofs.Lists.{each_then}
 use Rattle.machine_facts.specs.Sized.{Sized, HasKind, FitsMemory, HasOutcome, HasParts, Together, awaits, loads, stores, calls}
 
--- the window has the room that the description gives
+-- the window holds at most what the description gives room for
 pub record WindowFits (d : Desc) (w : List Entry) : Type 0 where
   pub entries : length w ≤ d.core_rob
   pub loads_fit : count_by loads w ≤ d.core_loads
@@ -35,7 +35,7 @@ pub record PredictorFits (d : Desc) (c : List ℕ) (t : List (Option Target)) : 
   pub counters : length c ≡ d.predictor_counters
   pub targets : length t ≡ d.predictor_btb
 
--- a level of the cache has so many sets, and each set at most so many lines
+-- a level of the cache has `count` sets, and each set at most `most` lines
 pub record LevelFits (count most : ℕ) (level : List (List ℕ)) : Type 0 where
   pub sets : length level ≡ count
   pub ways : Each (λ lines. length lines ≤ most) level
@@ -46,7 +46,7 @@ CacheFits d cache = LevelFits d.cache_sets d.cache_ways cache
 abbrev pub SecondFits : Desc → List (List ℕ) → Type 0
 SecondFits d second = LevelFits d.cache_second_sets d.cache_second_ways second
 
--- all parts of a state
+-- what is kept of a whole state, part by part
 pub record Fits (d : Desc) (x : Machine) : Type 0 where
   pub window : WindowFits d x.window
   pub entries : Each (IsEntry d x.ram) x.window

@@ -22,12 +22,12 @@ use Rattle.window_model.proofs.Telling.{lines_few}
 use Rattle.window_model.proofs.Booleans.{below}
 use Rattle.machine_facts.proofs.Adds.{Adds}
 
--- how many of these entries are granted a port
+-- how many of these entries, behind older ones, are granted a port
 abbrev taken : Desc → Around → Port → List Entry → List Entry → ℕ
 taken d now p before [] = 0
 taken d now p before (e ∷ es) = cond (is_granted d now p before e) 1 0 + taken d now p (e ∷ before) es
 
--- a port that is granted was left
+-- a port that an entry is granted was left by those that asked for it before
 one_taken : (m l : Bool) (t a n : ℕ) → t ≤ n - (one_if m + a) → (l ≡ true → a < n) → cond (m && l) 1 0 + t ≤ n - a
 one_taken true true t a n h k = let b = k refl in omega arith
 one_taken true false t a n h k = omega arith
@@ -41,12 +41,12 @@ taken_few d now p before (e ∷ es) =
 
 -- ---- an entry that begins has one event, and a load at most three
 
--- the most events of what goes at a port
+-- the most events of an entry that is granted a port
 abbrev told_at : Port → ℕ
 told_at LoadPort = 3
 told_at _ = 1
 
--- of a load its lines and what is prefetched
+-- a load that looks up lines has at most three events: its lines, and the one that is prefetched
 looks_few : (d : Desc) (now : Around) (a n serial : ℕ) → let found = looked d now a n in length (look_events serial found (prefetched d now found)) ≤ 3
 looks_few d now a n serial =
     let found = looked d now a n in
@@ -121,7 +121,7 @@ entry_few d now b e = by_kind (is_store e.item.kind)
     by_kind true = parts_few d now b e
     by_kind false = whole_few d now b e
 
--- three times the loads
+-- three for each load and thrice the rest are thrice all loads
 thrice : (b : Bool) (t : ℕ) → cond b 3 0 + 3 * t ≡ 3 * (cond b 1 0 + t)
 thrice true t = omega arith
 thrice false t = omega arith
@@ -138,7 +138,7 @@ issued_few d now before (e ∷ es) =
     let l = length-append (issue_entry d now before e).events (flat_map (λ (b : Begun). b.events) (each_from (issue_entry d now) (e ∷ before) es)) in
     omega arith
 
--- ---- the phase
+-- ---- the events of Issue
 
 issue_few : (d : Desc) (x : Machine) → length (issue d x).events ≤ d.units_alus + 7
 issue_few d x =

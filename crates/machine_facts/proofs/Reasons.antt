@@ -46,10 +46,11 @@ pub last_join : (b : Bool) (a c : List Entry) → last_from b (a ++ c) ≡ last_
 last_join b [] c = refl
 last_join b (e ∷ a) c = last_join (is_last e) a c
 
--- one more at the end is the last
+-- one more entry at the end is the youngest
 pub last_push : (b : Bool) (es : List Entry) (e : Entry) → last_from b (es ++ e ∷ []) ≡ is_last e
 last_push b es e = last_join b es (e ∷ [])
 
+-- one more item at the end is the youngest
 pub last_item_push : (b : Bool) (is : List Item) (i : Item) → last_item_from b (is ++ i ∷ []) ≡ is_stop i.kind
 last_item_push b [] i = refl
 last_item_push b (x ∷ is) i = last_item_push (is_stop x.kind) is i
@@ -68,9 +69,9 @@ last_completed cycle e h = by_due (completes cycle e)
     by_due true = done_last (is_stop e.item.kind) (is_done e.state) (is_faulty e) h
     by_due false = h
 
--- ---- entries that begin
+-- ---- entries that begin stay the last
 
--- an entry that is the last, by what becomes of it
+-- an entry after which nothing is fetched is still one, by what becomes of it
 last_by : (s t f s2 t2 f2 : Bool) → s ≡ s2 → (t ≡ true → (s2 || t2 && f2) ≡ true) → (s || t && f) ≡ true → (s2 || t2 && f2) ≡ true
 last_by true t f true t2 f2 p k h = refl
 last_by true t f false t2 f2 p k h = absurd (cc)
@@ -102,7 +103,7 @@ not_last e h =
     let n = no_trap e.item.kind e h in
     no_fault (is_stop e.item.kind) (is_done e.state) (is_faulty e) n.0 (not_faulty (fault_of e.outcome) n.1)
 
--- without the head
+-- the reason why nothing is fetched stays without a head that doesn't trap
 pub last_rest : (e : Entry) (rest : List Entry) (q : List Item) (n : Bool) → trap_of e ≡ None → last_item_from (last_from (is_last e) rest) q ≡ true → last_item_from (last_from n rest) q ≡ true
 last_rest e rest q n t h =
     let none : last_item_from (last_from false rest) q ≡ true = ap (λ b. last_item_from (last_from b rest) q) (sym (not_last e t)) ∙ h in

@@ -9,23 +9,23 @@ use Rattle.window_model.specs.State.{lines_of}
 use Rattle.window_model.specs.Access.{Line, Request, line_at, line_behind, look_up, prefetched, request, request_by, requests}
 use Rattle.window_model.proofs.Issuing.{OneOrTwo, One, Two, by_line, by_prefetched, lines_are, looked}
 
--- it is asked of the level that has its line, and no register waits for that
+-- the request is of the level that has its line, and no miss register waits for that line
 pub record IsFresh (d : Desc) (now : Around) (r : Request) : Type 0 where
   pub own : r ≡ request d now r.line
   pub fresh : find (λ m. m.line == r.line) now.misses ≡ None
 
--- so are all of these, whose lines rise from one on
+-- every request in the list is of the level that has its line, no miss register waits for any, and the lines rise from `low` on
 abbrev pub AllFresh : Desc → Around → ℕ → List Request → Type 0
 AllFresh d now low [] = Unit {0}
 AllFresh d now low (r ∷ rs) = (low ≤ r.line) × IsFresh d now r × AllFresh d now (suc r.line) rs
 
--- lines rise from one on, and all stay below another
+-- lines rise from `low` on, and all stay below `end`
 abbrev LinesRise : ℕ → List ℕ → ℕ → Type 0
 LinesRise low [] end = low ≤ end
 LinesRise low (l ∷ ls) end = (low ≤ l) × LinesRise (suc l) ls end
 
 module _ (d : Desc) (now : Around) where
-  -- a line takes a register, or doesn't
+  -- what holds of no request and, where no miss register waits for the line, of its request holds of a line that is looked up
   pub by_request : (line : ℕ) (P : List Request → Type 0) → P [] → (find (λ m. m.line == line) now.misses ≡ None → P (request d now line ∷ [])) → P (request_by (look_up d now line))
   by_request line P none one = by_line d now line (λ l. P (request_by l)) (λ h. none) (λ m h. none) one
 

@@ -1,4 +1,4 @@
--- Each phase but Retire keeps sizes and entries.
+-- Sizes and entries are kept by each phase but Retire.
 use Rattle.std.proofs.Common.{◌≡◌, ℕ, ◌+◌, ◌≤◌, Bool, true, false, not, List, [], ◌∷◌, ◌++◌, length, Option, Some, None, refl, ap, ◌∙◌, subst, arith, length-append}
 use Rattle.std.proofs.lemmas.List.{length-map, length-set, length-replicate}
 use Rattle.std.specs.Prelude.{if◌then◌else◌, map, nat_lt, reverse}
@@ -41,7 +41,7 @@ use Rattle.machine_facts.proofs.SizedWindow.{thinner, renamed_fits}
 use Rattle.machine_facts.proofs.StoreParts.{issue_sizes}
 use Rattle.window_model.proofs.Resolving.{resolved_one, resolved_goes}
 
--- ---- the first state
+-- ---- the first state of a run
 
 pub sized_opening : (d : Desc) (entry : ℕ) (ram : Ram) → IsDesc d → Sized d (opening d entry ram)
 sized_opening d entry ram i = whole d (opening d entry ram) (record {
@@ -79,7 +79,7 @@ sized_fill d x i s =
       registers = f.registers;
     })
 
--- what is busy doesn't wait
+-- an entry that completes isn't waiting
 not_waiting : (t : Progress) (cycle : ℕ) → completes_at cycle t ≡ true → is_waiting t ≡ false
 not_waiting (Busy due) cycle h = refl
 not_waiting Waiting cycle h = absurd (cc)
@@ -107,7 +107,7 @@ sized_complete d x i s =
       registers = f.registers;
     })
 
--- ---- resolve
+-- ---- Resolve keeps sizes and entries
 
 module _ (d : Desc) where
   predictor_if : (b : Bool) (a c : Learnt) → PredictorFits d a.counters a.targets → PredictorFits d c.counters c.targets → PredictorFits d (if b then a else c).counters (if b then a else c).targets
@@ -164,13 +164,13 @@ module _ (d : Desc) where
 pub sized_resolve : (d : Desc) (x : Machine) → IsDesc d → Sized d x → Sized d (resolve d x).machine
 sized_resolve d x i = resolve_keep d (Sized d) (λ x p t q s. squashed d x (parts d x s) p t) (λ x p t q s. kept d x (parts d x s) p t) x
 
--- ---- issue
+-- ---- Issue keeps sizes and entries
 
 issue_entries : (d : Desc) (now : Around) (b es : List Entry) → Each (IsEntry d now.ram) es → Each (IsEntry d now.ram) (map (λ (t : Begun). t.entry) (each_from (issue_entry d now) b es))
 issue_entries d now b [] h = tt
 issue_entries d now b (e ∷ es) h = (issue_sizes d now b e h.0, issue_entries d now (e ∷ b) es h.1)
 
--- what a load shares
+-- what a load changes besides its entry has its sizes: both levels of the cache and the miss registers
 record SharedFits (d : Desc) (lines lower : List (List ℕ)) (taken : List Miss) : Type 0 where
   cache : CacheFits d lines
   second : SecondFits d lower
@@ -210,7 +210,7 @@ sized_issue d x i s =
     let now = around x in
     after_same d x (first (may_at d now LoadPort) x.window) _ _ (thinner d x.window _ (evolves_thins x.window _ (issue_evolves d now [] x.window)) f.window) (issue_entries d now [] x.window f.entries) f
 
--- ---- rename and fetch
+-- ---- Rename and Fetch keep sizes and entries
 
 -- a store that is renamed waits
 store_waits : (k : Kind) → is_store k ≡ true → false ≡ not (is_waiting (if at_once k then Done else Waiting))

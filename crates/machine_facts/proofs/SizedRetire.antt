@@ -45,7 +45,7 @@ stored_at e h s l = both_there (has_address e) (has_data e) (is_waiting e.state)
 
 -- ---- what a head leaves
 
--- sizes, and memory where it was at first
+-- the state has its sizes, and memory lies where it did at first
 record Lies (d : Desc) (ram : Ram) (x : Machine) : Type 0 where
   sized : Sized d x
   shape : SameShape ram x.ram
@@ -75,7 +75,7 @@ module _ (d : Desc) (ram : Ram) where
         shape = shape_then ram x.ram ram2 h.shape k;
       }
 
-  -- a store writes inside memory
+  -- a store at the head that is Done without fault writes inside memory
   stores : (x : Machine) (e : Entry) (rest : List Entry) → e.item.kind ≡ Store → x.window ≡ e ∷ rest → is_done e.state ≡ true → fault_of e.outcome ≡ None → Lies d ram x →
       store_fault x.ram (addr_of e.outcome) (width_of e) ≡ None
   stores x e rest q w l t h =

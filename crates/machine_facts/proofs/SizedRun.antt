@@ -26,7 +26,7 @@ sized_cycle d code x i s =
 pub sized_at : (d : Desc) (code : Code) (entry : ℕ) (ram : Ram) (k : ℕ) → IsDesc d → Sized d (at d code entry ram k)
 sized_at d code entry ram k i = run_keep d (Sized d) code (λ x. sized_cycle d code x i) k (opening d entry ram) (sized_opening d entry ram i)
 
--- what Retire finds
+-- the state that Retire finds has its sizes
 pub sized_at_retire : (d : Desc) (x : Machine) → IsDesc d → Sized d x → Sized d (at_retire d x)
 sized_at_retire d x i s =
     let x1 = begins_cycle x in
@@ -34,7 +34,7 @@ sized_at_retire d x i s =
     let x3 = (complete x2).machine in
     sized_clear d (resolve d x3).machine i (sized_resolve d x3 i (sized_complete d x2 i (sized_fill d x1 i (sized_begin d x i s))))
 
--- ---- memory
+-- ---- memory stays where it is
 
 pub memory_stays_cycle : (d : Desc) (code : Code) (x : Machine) → IsDesc d → Sized d x → SameShape x.ram (cycle d code x).machine.ram
 memory_stays_cycle d code x i s =
@@ -45,7 +45,7 @@ memory_stays_cycle d code x i s =
     let stays = subst (λ m. SameShape m z.ram) before (memory_stays_retire d y (sized_at_retire d x i s)) in
     subst (λ (u : Machine). SameShape x.ram u.ram) (sym (cycle_is d code x)) (subst (SameShape x.ram) (sym after) stays)
 
--- sizes, and memory where it was at first
+-- the state has its sizes, and memory lies where it did at first
 record Lies (d : Desc) (ram : Ram) (x : Machine) : Type 0 where
   sized : Sized d x
   shape : SameShape ram x.ram

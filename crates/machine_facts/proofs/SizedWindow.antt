@@ -35,7 +35,7 @@ thinner d w w2 t h =
       call_alone = alone_still (count_by calls w2) (count_by calls w) (length w2) (length w) e n h.call_alone;
     }
 
--- ---- one entry more
+-- ---- a window with one entry more
 
 load_room : (k : Kind) (d : Desc) (w : List Entry) → fits_as k d w ≡ true → count_by loads w ≤ d.core_loads → count_by loads w + cond (is_load k) 1 0 ≤ d.core_loads
 load_room Load d w h s = let b = below (count_by loads w) d.core_loads h in omega arith

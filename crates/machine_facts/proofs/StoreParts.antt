@@ -19,7 +19,7 @@ use Rattle.machine_facts.specs.Sized.{HasKind, FitsMemory, FaultIs, HasOutcome, 
 use Rattle.machine_facts.proofs.Parts.{IsEntry}
 use Rattle.machine_facts.proofs.Together.{together_issued}
 
--- what is said of an entry alone, whatever the version
+-- what holds of an entry alone, whatever the version
 record Stands (ram : Ram) (e : Entry) : Type 0 where
   kind : HasKind e.item
   memory : FitsMemory ram e
@@ -36,9 +36,9 @@ begun_stands ram e r q n h =
     let no : is_store r.item.kind ≡ false = ap (λ (i : Item). is_store i.kind) q ∙ n in
     record { kind = subst HasKind (sym q) h.kind; memory = λ s. absurd (cc); outcome = λ s. absurd (cc); parts = λ s. absurd (cc) }
 
--- ---- a part of a store
+-- ---- a store of which a part issues
 
--- it waits until both are there
+-- a store of which a part issues waits until both are there
 address_parts : (a c : Option ℕ) (n : ℕ) (s : Progress) → (is_some a && is_some c) ≡ not (is_waiting s) → is_some c ≡ not (is_waiting (busy_until_both (Some n) c s))
 address_parts a (Some m) n s h = refl
 address_parts (Some m) None n s h = h
@@ -57,7 +57,7 @@ address_stands now f e h = record {
   parts = λ s. address_parts e.addr_due e.data_due (now.cycle + 1) e.state (h.parts s);
 }
 
--- and the data part leaves it
+-- the data part leaves the fault as it is
 fault_stays : (ram : Ram) (width : ℕ) (o : Option Outcome) (next stored : ℕ) → is_some o ≡ true → FaultIs ram width o → FaultIs ram width (Some (record (so_far o next) { stored = stored }))
 fault_stays ram width None next stored s h = absurd (cc)
 fault_stays ram width (Some o) next stored s h = h
@@ -76,7 +76,7 @@ gone_stands now b e true false h = address_stands now (effect_of now.regs b e) e
 gone_stands now b e false true h = data_stands now (effect_of now.regs b e) e h
 gone_stands now b e false false h = h
 
--- ---- the phase
+-- ---- Issue of any entry
 
 -- an entry that doesn't wait stays as it is
 pub issued_stays : (d : Desc) (now : Around) (b : List Entry) (e : Entry) → HasParts e → is_waiting e.state ≡ false → (issue_entry d now b e).entry ≡ e

@@ -33,7 +33,7 @@ by_state d cycle Store Waiting h s = refl
 by_state d cycle Store Done h s = refl
 by_state d cycle k t h s = absurd (cc)
 
--- what Complete makes of an entry
+-- Complete changes the progress of an entry alone
 completed_if : (b : Bool) (e : Entry) → let r = (if b then record e { state = Done } else e) in (r.state ≡ (if b then Done else e.state)) × (r.item ≡ e.item)
 completed_if true e = (refl, refl)
 completed_if false e = (refl, refl)
@@ -46,7 +46,7 @@ entry_settles d cycle e h s =
 completed_settles : (d : Desc) (cycle : ℕ) (w : List Entry) → Each (IsDue d cycle cycle) w → Each WaitsOrDone (map (completed (cycle + 1)) w)
 completed_settles d cycle w h = each_map WaitsOrDone (completed (cycle + 1)) w (each_then (IsDue d cycle cycle) (λ e. WaitsOrDone (completed (cycle + 1) e)) (entry_settles d cycle) w h)
 
--- ---- Resolve and Retire keep it
+-- ---- Resolve and Retire leave no store busy
 
 resolve_settles : (d : Desc) (x : Machine) → Each WaitsOrDone x.window → Each WaitsOrDone (resolve d x).machine.window
 resolve_settles d = place_keep d (Each WaitsOrDone) (each_left WaitsOrDone) (λ b e ys m h. each_join WaitsOrDone (reverse b) _ (each_left WaitsOrDone (reverse b) _ h) (each_right WaitsOrDone (reverse b) _ h))
@@ -54,6 +54,6 @@ resolve_settles d = place_keep d (Each WaitsOrDone) (each_left WaitsOrDone) (λ 
 retire_settles : (d : Desc) (x : Machine) → Each WaitsOrDone x.window → Each WaitsOrDone (retire d x).machine.window
 retire_settles d = retire_keep d (λ x. Each WaitsOrDone x.window) (head_drops (Each WaitsOrDone) (λ e rest h. h.1) d) (λ x end h. h)
 
--- from what holds between two cycles to Issue
+-- no store is busy as Issue begins, where all is due soon between two cycles
 pub none_busy : NoStoreIsBusy
 none_busy d x h = retire_settles d _ (clear_settles d _ (resolve_settles d _ (completed_settles d x.cycle x.window h.dues)))

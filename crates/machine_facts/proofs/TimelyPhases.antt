@@ -1,4 +1,4 @@
--- Each phase keeps serials, times and the reason why nothing is fetched.
+-- Serials, times and the reason why nothing is fetched are kept by each phase.
 use Rattle.std.proofs.Common.{◌≡◌, ℕ, suc, ◌+◌, ◌≤◌, Bool, true, false, not, ◌&&◌, ◌||◌, List, [], ◌∷◌, ◌++◌, length, Option, Some, None, refl, ap, sym, ◌∙◌, subst, arith}
 use Rattle.std.specs.Prelude.{if◌then◌else◌, reverse, is_some, nat_lt}
 use Rattle.std.specs.List.{AllByRecursion as Each}
@@ -39,7 +39,7 @@ use Rattle.window_model.proofs.Issuing.{by_after_load, issue_evolves}
 pub timely_opening : (d : Desc) (entry : ℕ) (ram : Ram) → IsDesc d → Timely d (opening d entry ram)
 timely_opening d entry ram i = record { serials = omega arith; dues = tt; parts = tt; cleared = tt; misses = tt; lines = tt; divider = omega arith; fetches = λ h. absurd (cc); zero = refl }
 
--- the number rises, and what was due later than the last cycle still is
+-- what was due later than the last cycle still is, as the cycle's number rises
 pub timely_begin : (d : Desc) (x : Machine) → IsDesc d → Timely d x → TimelyFrom x.cycle x.cycle d (record x { cycle = x.cycle + 1 })
 timely_begin d x i h = record {
   serials = h.serials;
@@ -81,7 +81,7 @@ timely_complete past d x i q h = record {
   zero = h.zero;
 }
 
--- ---- resolve
+-- ---- Resolve keeps serials and times
 
 module _ (d : Desc) where
   freed_in : (b : Bool) (v : Divider) (n : ℕ) → v.free_from ≤ n → (if b then (let f : Divider = record { free_from = 0; user = None } in f) else v).free_from ≤ n
@@ -104,7 +104,8 @@ module _ (d : Desc) where
     serials : (zs : List Entry) → Evolves p.younger zs → Rises 0 (Marked zs) x.next_serial
     serials zs v = rises_on 0 x.next_serial x.window _ (subst (λ w. Evolves w (Marked zs)) (sym t.window) (place_evolves (reverse p.before) p.entry (resolved_one p.entry) p.younger zs (resolved_goes p.entry) v)) h.serials
 
-    -- what holds of each entry, and doesn't ask whether it is resolved
+    -- what holds of each entry, and doesn't ask whether it is resolved, still does with one resolved and what is left of the
+    -- younger ones
     marked : (P : Entry → Type 0) → (P p.entry → P (resolved_one p.entry)) → Each P x.window → (zs : List Entry) → (Each P p.younger → Each P zs) → Each P (Marked zs)
     marked P f k zs v =
         let all = subst (Each P) t.window k in
@@ -156,7 +157,7 @@ module _ (d : Desc) where
 pub timely_resolve : (d : Desc) (x : Machine) → IsDesc d → Timely d x → Timely d (resolve d x).machine
 timely_resolve d x i = resolve_keep d (Timely d) (λ x p t q h. squashed d x h p t) (λ x p t q h. kept d x h p t) x
 
--- ---- retire
+-- ---- Retire keeps serials and times
 
 module _ (d : Desc) where
   timely_gone : (x : Machine) (e : Entry) (rest : List Entry) (regs : List ℕ) (pc : ℕ) (ram : Ram) (cache : List (List ℕ)) (retired : ℕ) (end : Option End) → x.window ≡ e ∷ rest → trap_of e ≡ None → reg regs 0 ≡ reg x.regs 0 → Timely d x →
@@ -195,7 +196,7 @@ module _ (d : Desc) where
 pub timely_retire : (d : Desc) (x : Machine) → IsDesc d → Timely d x → Timely d (retire d x).machine
 timely_retire d x i h = heads_keep d (Timely d) (λ x e rest w l t k. leaves d x e rest w t k) (ends d) x h
 
--- ---- issue
+-- ---- Issue keeps serials and times
 
 after_soon : (d : Desc) (x : Machine) (o : Option Place) → IsDesc d → length x.second ≡ d.cache_second_sets → Timely d x → MissesSoon d x.cycle (after_load d o x).misses
 after_soon d x None i z h = record { misses = h.misses; lines = h.lines }
@@ -208,7 +209,7 @@ issue_done d x o w v i z r u p k f n h =
     by_after_load d x (λ y. MissesSoon d x.cycle y.misses → Timely d (record y { window = w; divider = v }))
     (λ c l m s. record { serials = r; dues = u; parts = p; cleared = k; misses = s.misses; lines = s.lines; divider = f; fetches = n; zero = h.zero }) o soon
 
--- a store that lacks a part waits: so no fault that is known is lost
+-- Issue keeps times: a store that lacks a part waits, so no fault that is known is lost
 pub timely_issue : (d : Desc) (x : Machine) → IsDesc d → length x.second ≡ d.cache_second_sets → Each HasParts x.window → Timely d x → Timely d (issue d x).machine
 timely_issue d x i z k h =
     let now = around x in
@@ -220,7 +221,7 @@ timely_issue d x i z k h =
     (divider_soon x (first (may_at d now DivPort) x.window) h.divider)
     (λ n. items_more _ _ (last_issued d now [] (is_some x.end) (is_some x.end) (λ h. h) x.window k) x.queue (h.fetches n)) h
 
--- ---- rename and fetch
+-- ---- Rename and Fetch keep serials and times
 
 rename_item : (d : Desc) (x : Machine) (j : Item) (rest : List Item) → x.queue ≡ j ∷ rest → fits d x.window j ≡ true → Timely d x → Timely d (rename_one d j rest x).machine
 rename_item d x j rest q f h = record {

@@ -15,7 +15,7 @@ use Rattle.machine_facts.proofs.SizedRetire.{sized_retire}
 use Rattle.machine_facts.proofs.SizedRun.{sized_cycle}
 use Rattle.machine_facts.proofs.TimelyPhases.{timely_opening, timely_begin, timely_fill, timely_complete, timely_resolve, timely_retire, timely_issue, timely_rename, timely_fetch}
 
--- both, as Issue keeps times of entries that are what their instructions say
+-- a state with its sizes in which all ends soon: Issue keeps times of entries that are what their instructions say
 record Both (d : Desc) (x : Machine) : Type 0 where
   sized : Sized d x
   timely : Timely d x

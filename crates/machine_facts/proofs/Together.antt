@@ -16,7 +16,7 @@ use Rattle.machine_facts.specs.Sized.{Together}
 -- ---- what issues of a store: both parts, or nothing
 
 module _ (d : Desc) (now : Around) (before : List Entry) (e : Entry) where
-  -- both parts of it go, with one event
+  -- the store once both its parts have issued, with one event
   abbrev pub in_one : Begun
   in_one =
       let f = effect_of now.regs before e in
@@ -43,11 +43,11 @@ module _ (d : Desc) (now : Around) (before : List Entry) (e : Entry) where
       is_one : (d.version == 1) ≡ true
       is_one = grind (arith, nat_tests)
 
--- both parts are there, or neither
+-- the entry has both its parts, or neither
 abbrev Paired : Begun → Type 0
 Paired b = has_address b.entry ≡ has_data b.entry
 
--- so the parts of each entry still go together
+-- in version 1 the parts of an entry still go together after Issue
 pub together_issued : (d : Desc) (now : Around) (before : List Entry) (e : Entry) → Together d e → Together d (issue_entry d now before e).entry
 together_issued d now before e h one s = by_store (is_store e.item.kind) store
   where

@@ -27,7 +27,7 @@ StatesAreTimely = (d : Desc) (code : Code) (entry : ℕ) (ram : Ram) (k : ℕ) �
 abbrev pub StatesAreMarked : Type 0
 StatesAreMarked = (d : Desc) (code : Code) (entry : ℕ) (ram : Ram) (k : ℕ) → Marked d (at d code entry ram k)
 
--- from a state between two cycles on, a store takes one cycle to execute: so none is busy in what Issue finds
+-- from a state between two cycles on, a store takes one cycle to execute, so none is busy in what Issue finds
 abbrev pub NoStoreIsBusy : Type 0
 NoStoreIsBusy = (d : Desc) (x : Machine) → Timely d x →
     let done = (complete (fill d (record x { cycle = x.cycle + 1 })).machine).machine in
@@ -37,7 +37,7 @@ NoStoreIsBusy = (d : Desc) (x : Machine) → Timely d x →
 abbrev pub StatesAreCounted : Type 0
 StatesAreCounted = (d : Desc) (code : Code) (entry : ℕ) (ram : Ram) (k : ℕ) → IsDesc d → Counted (at d code entry ram k)
 
--- no cycle has more events (docs/machine.md, "Events")
+-- no cycle has more than 232 events (docs/machine.md, "Events")
 abbrev pub RowsAreShort : Type 0
 RowsAreShort = (d : Desc) (code : Code) (x : Machine) → IsDesc d → Sized d x → length (cycle d code x).row.events ≤ 232
 
@@ -45,7 +45,7 @@ RowsAreShort = (d : Desc) (code : Code) (x : Machine) → IsDesc d → Sized d x
 abbrev pub RetireKeepsShape : Type 0
 RetireKeepsShape = (d : Desc) (x : Machine) → Sized d x → SameShape x.ram (retire d x).machine.ram
 
--- and so does a cycle
+-- a cycle leaves memory where it is
 abbrev pub CycleKeepsShape : Type 0
 CycleKeepsShape = (d : Desc) (code : Code) (x : Machine) → IsDesc d → Sized d x → SameShape x.ram (cycle d code x).machine.ram
 

@@ -5,12 +5,12 @@ use Rattle.machine_desc.specs.declared.Desc.{Desc}
 use Rattle.window_model.specs.declared.Mark.{Mark}
 use Rattle.window_model.specs.State.{Machine}
 
--- the history has the directions of so many branches, and the stack at most so many addresses
+-- the history has as many directions of branches as the description says, and the stack at most as many addresses
 pub record FitsMark (d : Desc) (m : Mark) : Type 0 where
   pub history : m.history < 2 ^ d.predictor_history
   pub stack : m.depth ≤ d.predictor_returns
 
--- so it is with those of the next item, and with those before each entry and each item
+-- history and stack fit the description: those of the next item, and those before each entry and each item
 pub record Marked (d : Desc) (x : Machine) : Type 0 where
   pub next : FitsMark d x.mark
   pub entries : Each (λ e. FitsMark d e.item.mark) x.window

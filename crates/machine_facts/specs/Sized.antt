@@ -21,15 +21,15 @@ pub use Rattle.window_model.specs.Rename.{calls}
 abbrev pub awaits : Entry → Bool
 awaits e = is_waiting e.state
 
--- a load
+-- the entry is a load
 abbrev pub loads : Entry → Bool
 loads e = is_load e.item.kind
 
--- a store
+-- the entry is a store
 abbrev pub stores : Entry → Bool
 stores e = is_store e.item.kind
 
--- the kind is the instruction's, or a stop
+-- a kind that is an item's is that of its instruction, or a stop
 abbrev pub FitsKind : Kind → Item → Type 0
 FitsKind (Stop cause) i = Unit {0}
 FitsKind k i = k ≡ kind_of i.instr
@@ -46,7 +46,7 @@ FaultIs ram width (Some o) = o.fault ≡ store_fault ram o.addr width
 abbrev pub FitsMemory : Ram → Entry → Type 0
 FitsMemory ram e = is_store e.item.kind ≡ true → has_address e ≡ true → FaultIs ram (width_of e) e.outcome
 
--- such a store has an outcome
+-- a store whose address part has issued has an outcome
 abbrev pub HasOutcome : Entry → Type 0
 HasOutcome e = is_store e.item.kind ≡ true → has_address e ≡ true → is_some e.outcome ≡ true
 
@@ -58,13 +58,13 @@ HasParts e = is_store e.item.kind ≡ true → (has_address e && has_data e) ≡
 abbrev pub Together : Desc → Entry → Type 0
 Together d e = d.version ≡ 1 → is_store e.item.kind ≡ true → has_address e ≡ has_data e
 
--- each part holds at most what the description says, and each entry is what its instruction says
+-- the state has its sizes: it holds at most what the description says, and each entry is what its instruction says
 pub record Sized (d : Desc) (x : Machine) : Type 0 where
   pub entries : length x.window ≤ d.core_rob
   pub loads_fit : count_by loads x.window ≤ d.core_loads
   pub stores_fit : count_by stores x.window ≤ d.core_stores
   pub waiting_fit : count_by awaits x.window ≤ d.core_stations
-  -- a call stands alone
+  -- a call is the only entry
   pub call_alone : CallAlone x.window
   pub queue : length x.queue ≤ d.core_queue
   pub counters : length x.counters ≡ d.predictor_counters

@@ -17,12 +17,12 @@ use Rattle.window_model.specs.Order.{is_done, is_faulty, is_store}
 use Rattle.window_model.specs.Rename.{is_stop}
 use Rattle.window_model.specs.Dependence.{starts_cleared}
 
--- serials rise from one on, and all stay below another
+-- serials rise from `low` on, and all stay below `next`
 abbrev pub Rises : ℕ → List Entry → ℕ → Type 0
 Rises low [] next = low ≤ next
 Rises low (e ∷ es) next = (low ≤ e.serial) × Rises (suc e.serial) es next
 
--- no division takes longer (docs/machine.md, "The time of a division")
+-- the most cycles that a division takes (docs/machine.md, "The time of a division")
 abbrev pub longest_division : ℕ
 longest_division = 35
 
@@ -33,16 +33,16 @@ latency Mul d = d.units_mul_latency
 latency Div d = longest_division
 latency _ d = 1
 
--- later than one cycle, and at most so many after another
+-- the cycle `due` is later than `past`, and at most `longest` cycles after `cycle`
 abbrev pub IsSoon : ℕ → ℕ → ℕ → ℕ → Type 0
 IsSoon past cycle longest due = (past < due) × (due ≤ cycle + longest)
 
--- what is busy becomes done soon
+-- an entry of this progress, if it is busy, becomes Done soon
 abbrev pub DueSoon : ℕ → ℕ → ℕ → Progress → Type 0
 DueSoon past cycle longest (Busy due) = IsSoon past cycle longest due
 DueSoon past cycle longest _ = Unit {0}
 
--- it executes
+-- an entry of this progress is executing
 abbrev pub is_busy : Progress → Bool
 is_busy (Busy due) = true
 is_busy _ = false
@@ -51,7 +51,7 @@ is_busy _ = false
 abbrev pub WaitsOrDone : Entry → Type 0
 WaitsOrDone e = is_store e.item.kind ≡ true → is_busy e.state ≡ false
 
--- an entry becomes done within its kind's latency
+-- the entry, if it is busy, becomes Done within its kind's latency
 abbrev pub IsDue : Desc → ℕ → ℕ → Entry → Type 0
 IsDue d past cycle e = DueSoon past cycle (latency e.item.kind d) e.state
 
@@ -60,7 +60,7 @@ abbrev pub PartDue : ℕ → Option ℕ → Type 0
 PartDue cycle None = Unit {0}
 PartDue cycle (Some due) = due ≤ cycle + 1
 
--- so it is with both parts of a store
+-- what has issued of a store's two parts is known in the next cycle at the latest
 abbrev pub PartsDue : ℕ → Entry → Type 0
 PartsDue cycle e = PartDue cycle e.addr_due × PartDue cycle e.data_due
 
@@ -81,12 +81,12 @@ Apart (m ∷ ms) = Each (λ n. m.line ≢ n.line) ms × Apart ms
 abbrev pub is_last : Entry → Bool
 is_last e = is_stop e.item.kind || is_done e.state && is_faulty e
 
--- whether the youngest of these entries is such an entry, `none` where there is none
+-- whether nothing is fetched after the youngest of these entries, `none` where there is no entry
 abbrev pub last_from : Bool → List Entry → Bool
 last_from none [] = none
 last_from none (e ∷ es) = last_from (is_last e) es
 
--- whether the youngest of these items is a stop, `none` where there is none
+-- whether the youngest of these items is a stop, `none` where there is no item
 abbrev pub last_item_from : Bool → List Item → Bool
 last_item_from none [] = none
 last_item_from none (i ∷ is) = last_item_from (is_stop i.kind) is
@@ -95,7 +95,7 @@ last_item_from none (i ∷ is) = last_item_from (is_stop i.kind) is
 abbrev pub stopped : Machine → Bool
 stopped x = last_item_from (last_from (is_some x.end) x.window) x.queue
 
--- misses end later than one cycle, and entries later than another
+-- what holds of times in a state: misses end later than cycle `past_misses`, busy entries later than cycle `past`
 pub record TimelyFrom (past_misses past : ℕ) (d : Desc) (x : Machine) : Type 0 where
   pub serials : Rises 0 x.window x.next_serial
   pub dues : Each (IsDue d past x.cycle) x.window

@@ -16,9 +16,9 @@ ghost use Rattle.machine_facts.specs.Laws.{
 };
 
 /// Every state of a run has the sizes of its description, also of history and stack, all that is under way in it ends soon, and
-/// serials and the count of the retired are at most four times its cycle. Between two cycles and the next Issue no store stays busy. No cycle has more
-/// than 232 events, and neither Retire nor a cycle moves memory or changes its size (`docs/theorems.md`, "What every state
-/// keeps").
+/// serials and the count of the retired are at most four times its cycle. Between two cycles and the next Issue no store stays
+/// busy. No cycle has more than 232 events, and neither Retire nor a cycle moves memory or changes its size
+/// (`docs/theorems.md`, "What every state keeps").
 pub fn states_keep()
     ensures sized { StatesAreSized }
     ensures timely { StatesAreTimely }

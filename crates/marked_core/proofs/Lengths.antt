@@ -19,7 +19,7 @@ use Rattle.window_model.proofs.Walks.{rename_keep}
 use Rattle.secret_marks.specs.declared.EntryMarks.{EntryMarks}
 use Rattle.secret_marks.specs.Marks.{new_entry}
 
--- ---- of the window
+-- ---- how many entries are left
 
 pub complete_keeps : (x : Machine) → length (complete x).machine.window ≡ length x.window
 complete_keeps x = length-map x.window (completed x.cycle)
@@ -62,7 +62,7 @@ rename_lengthens d x =
     rename_keep d (λ y. length x.window ≤ length y.window)
     (λ y i rest q f h. let l = length-append y.window (renamed d y.next_serial i ∷ []) in omega (arith, l, h)) x (omega arith)
 
--- ---- of the marks
+-- ---- how many marks are left
 
 pub cut_length : (n : ℕ) (ms : List EntryMarks) → n ≤ length ms → length (take n ms) ≡ n
 cut_length n ms h = length-take-le n ms h

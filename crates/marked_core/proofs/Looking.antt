@@ -15,7 +15,7 @@ use Rattle.secret_marks.specs.Watch.{watch_cycle}
 use Rattle.secret_marks.proofs.Cycle.{watched_machine}
 use Rattle.marked_core.proofs.Watching.{goes_on, stops}
 
--- whether a run has ended, by what is told of it
+-- whether a run has ended, by what the core answers of it
 pub running_at : (end told : Option End) (b : Bool) → told ≡ end → b ≡ is_some told → b ≡ false → end ≡ None
 running_at end None b t e q = sym t
 running_at end (Some k) b t e q = absurd (cc)
@@ -23,7 +23,8 @@ running_at end (Some k) b t e q = absurd (cc)
 pub ended_at : (end told : Option End) (b : Bool) → told ≡ end → b ≡ is_some told → b ≡ true → is_some end ≡ true
 ended_at end told b t e q = ap is_some (sym t) ∙ sym e ∙ q
 
--- of n cycles from a machine with marks, i are done, in which nothing has shown
+-- the run stands after i of n cycles from a machine with marks, in which nothing has shown: the other cycles show and leave
+-- what all n do
 pub record Looks (d : Desc) (code : Code) (n i : ℕ) (x : Machine) (m : Marks) (y : Machine) (k : Marks) : Type 0 where
   pub shown : first_shown d code (n - i) y k ≡ first_shown d code n x m
   pub last : after_cycles d code (n - i) y ≡ after_cycles d code n x
@@ -50,7 +51,7 @@ ended_stays d code zero y e = refl
 ended_stays d code (suc n) y e = stops y.end y _ e
 
 module _ (d : Desc) (code : Code) (n i : ℕ) (x : Machine) (m : Marks) (y : Machine) (k : Marks) (l : Looks d code n i x m y k) where
-  -- a cycle more
+  -- what shows in the next of the cycles
   module _ (h : i < n) (running : y.end ≡ None) (t : Option Shown) (is : t ≡ shown_cycle d y k) where
     abbrev later : Option FirstShown
     later = let w = watch_cycle d code y k in first_shown d code (n - (i + 1)) w.machine w.marks
@@ -82,14 +83,14 @@ module _ (d : Desc) (code : Code) (n i : ℕ) (x : Machine) (m : Marks) (y : Mac
           count = omega (arith, count, number);
         }
 
-  -- the run has ended
+  -- where the run has ended nothing shows in it
   pub ended_none : is_some y.end ≡ true → None ≡ first_shown d code n x m
   ended_none e = sym (none_shows d code (n - i) y k e) ∙ l.shown
 
   pub ended_last : is_some y.end ≡ true → y ≡ after_cycles d code n x
   ended_last e = sym (ended_stays d code (n - i) y e) ∙ l.last
 
-  -- the cycles are over
+  -- where the cycles are over nothing has shown in them
   pub over_none : n ≤ i → None ≡ first_shown d code n x m
   over_none h = sym (ap (λ n. first_shown d code n y k) (none_left n i h)) ∙ l.shown
 

@@ -44,7 +44,7 @@ use Rattle.entry_marks.proofs.Fitting.{retire_went}
 use Rattle.entry_marks.proofs.YoungestFirst.{keeps}
 use Rattle.marked_core.specs.InStep.{IssuedBy, NotYet}
 
--- ---- what holds of each entry, but for how far it is
+-- ---- what holds of each entry and doesn't ask for its progress
 
 module _ (P : Entry → Type 0) where
   each_swap : (b : List Entry) (e e2 : Entry) (ys zs : List Entry) → (P e → P e2) → (Each P ys → Each P zs) → Each P (b ++ e ∷ ys) → Each P (b ++ e2 ∷ zs)
@@ -88,7 +88,7 @@ module _ (P : Entry → Type 0) where
     all_retired : (d : Desc) (x : Machine) → Each P x.window → Each P (retire d x).machine.window
     all_retired d x h = let w = retire_went d x in each_back w.gone (retire d x).machine.window (subst (Each P) w.is h)
 
-    -- holds of each that Issue finds
+    -- what holds of each entry between cycles, and doesn't ask for its progress, holds of each that Issue finds
     found_by_issue : (d : Desc) (x : Machine) → Each P x.window → Each P (retire d (at_retire d x)).machine.window
     found_by_issue d x h =
         let x2 = (fill d (begins_cycle x)).machine in
@@ -96,7 +96,7 @@ module _ (P : Entry → Type 0) where
         let x4 = (resolve d x3).machine in
         all_retired d (at_retire d x) (all_cleared d x4 (all_resolved d x3 (all_completed x2.cycle x.window h)))
 
--- the number of the cycle, as Issue finds it
+-- the number of the cycle has risen by one as Issue finds it
 pub number_found : (d : Desc) (x : Machine) → (retire d (at_retire d x)).machine.cycle ≡ x.cycle + 1
 number_found d x =
     let x1 = begins_cycle x in
@@ -109,7 +109,7 @@ number_found d x =
     ∙ (complete_adds x2).cycle
     ∙ (fill_adds d x1).cycle
 
--- ---- none has issued in the cycle
+-- ---- no entry has issued in the cycle before Issue
 
 later : (n : ℕ) (o : Option ℕ) → IsDueBy n o → is_at (n + 1) o ≡ false
 later n None h = refl
@@ -130,7 +130,7 @@ found_not_yet d x h p =
     subst (λ n. Each (NotYet n) y.window) (sym (number_found d x))
     (found_by_issue (NotYet (x.cycle + 1)) (λ e h. h) (λ e h. h) (λ e h. h) d x (all_not_yet x.cycle x.window h p))
 
--- ---- and after it none in a later one
+-- ---- after a cycle no entry has issued in a later one
 
 later_by : (n : ℕ) (o : Option ℕ) → IsDueBy n o → IsDueBy (n + 1) o
 later_by n None h = tt
@@ -195,7 +195,7 @@ none_issued d x m e h =
     ap (λ (a : After). after_issue_marks a.machine m) (issue_nothing d x (none_begins d x e))
     ∙ ap (λ w. let n : Marks = record m { window = w } in n) (unmoved x.cycle x.ram.base m [] [] x.window m.window h)
 
--- the row is as long as it was
+-- where Issue leaves the row as long as it was, no mark moves
 pub still_marked : (s s2 : Described) (r r2 : Row) (m : Marks) → s2 ≡ record s { machine = (issue s.desc s.machine).machine } →
     r2 ≡ with_events r (issue s.desc s.machine).events → length r2.events ≡ length r.events → Each (NotYet s.machine.cycle) s.machine.window → m ≡ after_issue_marks s2.machine m
 still_marked s s2 r r2 m e q same h =

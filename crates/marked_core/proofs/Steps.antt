@@ -16,18 +16,18 @@ use Rattle.marked_core.proofs.Lengths.{cut_length, extended_length}
 
 -- ---- where no mark moves
 
--- the visibility point moves
+-- marks stay in step as the visibility point moves
 pub over_point : (s s2 : Described) (p : Point) (m : Marks) → s2 ≡ record s { point = p } → InStep s m → InStep s2 m
 over_point s s2 p m e h = subst (λ (s : Described). InStep s m) (sym e) (record { entries = h.entries; room = h.room })
 
--- a phase leaves as many entries
+-- marks stay in step in a phase that leaves as many entries
 pub over_phase : (s s2 : Described) (x : Machine) (m : Marks) → s2 ≡ record s { machine = x } → length x.window ≡ length s.machine.window → InStep s m → InStep s2 m
 over_phase s s2 x m e same h = subst (λ (s : Described). InStep s m) (sym e) (record { entries = h.entries ∙ sym same; room = h.room })
 
--- ---- where they move
+-- ---- where marks go or come
 
 module _ (s s2 : Described) (x : Machine) (m m2 : Marks) (e : s2 ≡ record s { machine = x }) (h : InStep s m) (n : ℕ) (count : n ≡ length s2.machine.window) where
-  -- entries go from the young end
+  -- marks stay in step as entries go from the young end
   pub step_cut : length x.window ≤ length s.machine.window → m2.window ≡ buffer (take n m.window.items) m.window.capacity → InStep s2 m2
   step_cut short w =
       let all = h.entries in
@@ -37,7 +37,7 @@ module _ (s s2 : Described) (x : Machine) (m m2 : Marks) (e : s2 ≡ record s { 
         room = ap (λ (b : Buffer EntryMarks). b.capacity) w ∙ h.room ∙ ap (λ (s : Described). s.desc.core_rob) (sym e);
       }
 
-  -- they come to it
+  -- marks stay in step as entries come at the young end
   pub step_extended : length s.machine.window ≤ length x.window → m2.window ≡ buffer (m.window.items ++ replicate (n - length m.window.items) new_entry) m.window.capacity → InStep s2 m2
   step_extended long w =
       let all = h.entries in
@@ -47,7 +47,7 @@ module _ (s s2 : Described) (x : Machine) (m m2 : Marks) (e : s2 ≡ record s { 
         room = ap (λ (b : Buffer EntryMarks). b.capacity) w ∙ h.room ∙ ap (λ (s : Described). s.desc.core_rob) (sym e);
       }
 
--- they go from the old end
+-- marks stay in step as entries go from the old end
 pub step_left : (s s2 : Described) (x : Machine) (m m2 : Marks) (n : ℕ) → s2 ≡ record s { machine = x } → InStep s m → length s.machine.window ≡ n + length s2.machine.window →
     m2.window ≡ buffer (drop n m.window.items) m.window.capacity → InStep s2 m2
 step_left s s2 x m m2 n e h count w =
@@ -73,7 +73,7 @@ marks_extended m w n s count e =
 
 -- ---- what Issue looks at
 
--- the parts stand for the window beside the marks
+-- some parts stand for the window that Issue looks at, and each entry has its marks
 pub parts_beside : (h : Held) (v : Described) (ms : List EntryMarks) → Whole h → described h ≡ v → length ms ≡ length v.machine.window → StandBeside h.rob.entries h.sources.items ms
 parts_beside h v ms w s e = record {
   rest = table_and_stations (in_flight h);

@@ -17,7 +17,7 @@ use Rattle.entry_marks.specs.declared.oldest.LeavingEntry.{LeavingEntry}
 use Rattle.entry_marks.specs.Oldest.{InsideEach, IsCopiedFrom}
 use Rattle.entry_marks.proofs.Fitting.{retire_went, stores_inside}
 
--- at most one each turn
+-- Retire takes at most one entry each turn
 turn_by_turn : (d : Desc) (x : Machine) → length x.window ≤ d.core_retire_width + length (retire d x).machine.window
 turn_by_turn d x =
     retire_by d (λ n stored x r. length x.window ≤ n + length r.machine.window) (λ n stored x s. omega arith)
@@ -41,7 +41,7 @@ module _ (d : Desc) (x : Machine) where
       let both = length-append w.gone (retire d x).machine.window in
       omega (arith, all, both)
 
--- what Retire has left of a core
+-- how many entries Retire has taken from a core, and that memory takes what stores among them write
 module _ (s s2 : Described) (e : s2 ≡ record s { machine = (retire s.desc s.machine).machine }) (sized : Sized s.desc s.machine) (n : ℕ) (many : n ≡ length s.machine.window - length s2.machine.window) where
   abbrev y : Machine
   y = (retire s.desc s.machine).machine

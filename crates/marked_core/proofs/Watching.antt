@@ -34,7 +34,7 @@ pub stops : {A : Type 0} (o : Option End) (ended goes : A) → is_some o ≡ tru
 stops None ended goes e = absurd (cc)
 stops (Some k) ended goes e = refl
 
--- ---- before Retire
+-- ---- the watched phases before Retire
 
 module _ (s s1 s2 s3 s4 s5 : Described) (e : Resolved s s1 s2 s3 s4 s5) (m m1 : Marks) (left : m1 ≡ cut s4.machine.window m) where
   resolved_window : s4.machine.window ≡ (to_resolve s.desc s.machine m).machine.window
@@ -50,7 +50,7 @@ module _ (s s1 s2 s3 s4 s5 : Described) (e : Resolved s s1 s2 s3 s4 s5) (m m1 : 
   front_marks s6 e6 m2 h =
       h ∙ ap₂ cut (ap (λ (s : Described). s.machine.window) e6 ∙ ap (λ (a : After). a.machine.window) (clears s s1 s2 s3 s4 s5 e)) resolved_marks
 
--- ---- from Issue on
+-- ---- the watched phases from Issue on
 
 module _ (s : Described) (m : Marks) where
   abbrev ended_at : Watched
@@ -59,7 +59,7 @@ module _ (s : Described) (m : Marks) where
   abbrev goes_from : Watched
   goes_from = then_watches (watch_issue s.desc s.machine m) (watch_fetch s.desc (word_at s.code))
 
-  -- the run goes on
+  -- where the run goes on, the code shows and leaves what is watched from Issue on
   module _ (running : s.machine.end ≡ None) where
     pub back_shows : (t : Option Shown) → t ≡ operands_shown s.desc m [] [] s.machine.window m.window → t ≡ shown_from_issue s.desc s.machine m
     back_shows t h = h ∙ sym (goes_on s.machine.end None (operands_shown s.desc m [] [] s.machine.window m.window) running)
@@ -73,7 +73,7 @@ module _ (s : Described) (m : Marks) where
         ∙ ap (λ (s : Described). (rename s.desc s.machine).machine.window) issued in
         e2 ∙ ap₂ extended window marks ∙ sym (ap (λ (w : Watched). w.marks) (goes_on s.machine.end ended_at goes_from running))
 
-  -- it has ended
+  -- where the run has ended, nothing moves or shows from Issue on
   pub ended_marks : is_some s.machine.end ≡ true → m ≡ (from_issue s.desc (word_at s.code) s.machine m).marks
   ended_marks e = sym (ap (λ (w : Watched). w.marks) (stops s.machine.end ended_at goes_from e))
 
@@ -102,7 +102,7 @@ bytes_backed s3 s4 k m m2 e h =
     ∙ h
     ∙ sym (ap (λ (s : Described). length s.machine.ram.bytes) k ∙ ap (λ (h : Hart). length h.ram.bytes) (after_quiet s3.desc (word_at s3.code) s3.machine).hart)
 
--- ---- a whole cycle
+-- ---- a whole cycle as it is watched
 
 -- what is watched behind Retire is watched from the machine and the marks that it leaves
 by_end : (d : Desc) (code : Code) (r : Watched) (o : Option End) →

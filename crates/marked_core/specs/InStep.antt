@@ -9,7 +9,8 @@ use Rattle.core_cycle.specs.Kept.{Kept}
 use Rattle.secret_marks.specs.Marks.{is_at}
 use Rattle.entry_marks.specs.declared.marks.Marks.{Marks}
 
--- each entry in flight has its marks, and there is room for those of as many as may be in flight
+-- marks are in step with the parts: every entry in flight has its marks, and there is room for those of as many as may be in
+-- flight
 pub record InStep (s : Described) (m : Marks) : Type 0 where
   pub entries : length m.window.items ≡ length s.machine.window
   pub room : m.window.capacity ≡ s.desc.core_rob
@@ -18,11 +19,12 @@ pub record InStep (s : Described) (m : Marks) : Type 0 where
 abbrev pub IssuedBy : ℕ → Entry → Type 0
 IssuedBy cycle e = IsDueBy cycle e.issued
 
--- neither the entry nor a store's data part has issued in this cycle
+-- the entry has not issued in this cycle, nor, if it is a store, its data part
 abbrev pub NotYet : ℕ → Entry → Type 0
 NotYet cycle e = (is_at cycle e.issued ≡ false) × (is_at (cycle + 1) e.data_due ≡ false)
 
--- between two cycles there hold of the parts what holds of any core's, and each byte of memory has its mark, too
+-- what holds between two cycles: of the parts what holds of any core's, marks in step with them, a mark for each byte of
+-- memory, and no entry that issues in a later cycle
 pub record Between (s : Described) (m : Marks) : Type 0 where
   pub kept : Kept (word_at s.code) s
   pub step : InStep s m

@@ -28,7 +28,7 @@ marks_code =
     (λ p. record { regs = p.0; bytes = p.1.0; window = p.1.1 })
     (λ _. refl)
 
--- it is stored as these four
+-- a core with marks is stored as its description, words, machine and marks
 abbrev pub marked_code : Coded Marked
 marked_code =
     code_by (Desc × (CodeText × (Machine × Marks))) (coded× desc.the_row.coded (coded× code.the_row.coded (coded× machine_code marks_code)))

@@ -104,7 +104,7 @@ impl<R: RenameTaint> MarkedCore<R> {
         self.parts.end
     }
 
-    /// The cycles so far.
+    /// How many cycles there were so far.
     pub fn cycles(&self) -> u32
         ensures { result ≡ self.now.machine.cycle }
     {

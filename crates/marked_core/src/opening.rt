@@ -27,7 +27,7 @@ fn is_secret(secret: &[SecretRange], a: u64) -> bool
     secret.iter().any(|range| lies_in(a, range))
 }
 
-// The marks of so many bytes from a base on.
+// The marks of `size` bytes from the address `base` on, before the first cycle.
 fn secret_bytes(
     alloc: Global,
     base: u32,

@@ -104,13 +104,13 @@ module _ (d : Desc) (now now2 : Around) (c : now.cache ≡ now2.cache) (l : now.
       let lines = lines_of d a n in
       ap₂ (λ f u. if f then Forwards else u) (same_forward d.stt_model b b2 a n s) (ap (unless_lacking d now) (same_found lines) ∙ same_lacking (map (look_up d now2) lines))
 
--- ---- of a load and of a division
+-- ---- the access of a load, and the time of a division
 
 module _ (d : Desc) (code : Code) (x x2 : Machine) (r : Alike x x2) (place : SameShape x.ram x2.ram) (b b2 : List Entry) (same : SameOutcomes d.stt_model b b2) (e e2 : Entry) (h : without_outcome e ≡ without_outcome e2) where
   regs_same : x.regs ≡ x2.regs
   regs_same = ap (λ (m : Machine). m.regs) r
 
-  -- a load that issues has one access
+  -- a load with an untainted base has the same access in both runs
   pub same_access_of : IsItem code e.item → is_load e.item.kind ≡ true → address_tainted d.stt_model b e ≡ false → access_of d (around x) b e ≡ access_of d (around x2) b2 e2
   same_access_of item k t =
       let a = addresses_alike d.stt_model x x2 regs_same b b2 same e e2 h (by_base code e item (ap (λ l. l || is_store e.item.kind) k)) t in
@@ -123,7 +123,7 @@ module _ (d : Desc) (code : Code) (x x2 : Machine) (r : Alike x x2) (place : Sam
       let at = same_at d now (around x2) (ap (λ (m : Machine). m.cache) r) (ap (λ (m : Machine). m.second) r) (ap (λ (m : Machine). m.misses) r) end b b2 a2 n (load_fault x2.ram a2 n) same in
       ap (λ a. access d now b a (width_of e)) a ∙ ap (access d now b a2) w ∙ ap (access_at d now b a2 n) f ∙ at
 
-  -- and a division one time
+  -- a division with untainted operands takes the same time in both runs
   pub same_time : any_tainted d.stt_model b e ≡ false → time_of x.regs b e ≡ time_of x2.regs b2 e2
   same_time t =
       let f = base_alike d.stt_model x x2 regs_same b b2 same e e2 h (untainted_base_of d.stt_model x x2 regs_same b b2 same e e2 h t) in

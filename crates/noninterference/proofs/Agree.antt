@@ -1,4 +1,4 @@
--- Of two runs that go on together the outcomes that may be looked at are equal.
+-- The outcomes that may be looked at are equal in two runs that go on together.
 use Rattle.std.proofs.Common.{◌≡◌, ℕ, ◌≤◌, length, map, reverse, ap, arith}
 use Rattle.std.proofs.lemmas.List.{length-reverse}
 use Rattle.window_model.specs.State.{Machine}

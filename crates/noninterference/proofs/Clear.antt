@@ -29,15 +29,15 @@ use Rattle.noninterference.proofs.May.{and_tests}
 use Rattle.noninterference.proofs.Operand.{same_address}
 use Rattle.noninterference.proofs.Places.{SamePlaces, SameShape, SeenAlike, first_same, left_over, peel, reverse_alike, same_length}
 
--- ---- which store
+-- ---- which store is cleared
 
 may_clear_alike : (d : Desc) → SeenAlike d.stt_model (may_clear d) (may_clear d)
 may_clear_alike d b b2 e e2 s h =
     ap₂ (λ k t. k && not t) (ap (λ (t : Entry). is_store t.item.kind && not t.cleared && has_address t) h.but_outcome) (same_address d.stt_model b b2 e e2 s h.but_outcome)
 
--- ---- which load
+-- ---- which load is violated
 
--- address and fault of a load that has issued
+-- a load that has issued has one address and fault in both runs
 addr_but : (o o2 : Option Outcome) → option_map but_value o ≡ option_map but_value o2 → (addr_of o ≡ addr_of o2) × (fault_of o ≡ fault_of o2)
 addr_but None None h = (refl, refl)
 addr_but (Some o) (Some o2) h =
@@ -57,7 +57,7 @@ passed_load store load h = by_kind (is_load load.item.kind) _ h
     by_kind true b h = refl
     by_kind false b h = absurd (cc)
 
--- of two stores that cover the same bytes the same loads are violated
+-- two stores that cover the same bytes find the same loads violated
 module _ (e e2 : Entry) (h : without_outcome e ≡ without_outcome e2) (same : (a : ℕ) → covers a e ≡ covers a e2) where
   shares_alike : (model : SttModel) (b : List Entry) (y y2 : Entry) → SameEntry model b y y2 → is_load y.item.kind ≡ true → shares e y ≡ shares e2 y2
   shares_alike model b y y2 s q =
@@ -69,7 +69,7 @@ module _ (e e2 : Entry) (h : without_outcome e ≡ without_outcome e2) (same : (
       let p : passed e y ≡ passed e2 y2 = ap (λ (t : Entry). passed t y) h ∙ ap (λ (t : Entry). passed e2 t) s.but_outcome in
       and_tests (passed e y) (passed e2 y2) (shares e y) (shares e2 y2) p (λ q. shares_alike model b y y2 s (passed_load e y q))
 
--- two places among the younger, or none twice
+-- two places among the younger entries that show the same
 record SameBetween (q q2 : Place) : Type 0 where
   entry : without_outcome q.entry ≡ without_outcome q2.entry
   before : map without_outcome q.before ≡ map without_outcome q2.before
@@ -87,7 +87,8 @@ one_of false false q q2 o o2 h s t = t
 one_of true false q q2 o o2 h s t = absurd (cc)
 one_of false true q q2 o o2 h s t = absurd (cc)
 
--- the oldest of the younger with a property that is seen alike; b are all that are older, c those since the store
+-- the oldest younger entry with a property that is seen alike stands in one place; b are all older entries, c those since the
+-- store
 first_between : (model : SttModel) (f f2 : Entry → Bool) → ((b : List Entry) (y y2 : Entry) → SameEntry model b y y2 → f y ≡ f2 y2) → (es es2 c c2 b b2 : List Entry) → map without_outcome es ≡ map without_outcome es2 → map without_outcome c ≡ map without_outcome c2 →
     SameOutcomes model (reverse_aux es b) (reverse_aux es2 b2) → BothBetween (first_from (λ between y. f y) c es) (first_from (λ between y. f2 y) c2 es2)
 first_between model f f2 m [] [] c c2 b b2 l k s = tt
@@ -100,14 +101,14 @@ first_between model f f2 m (e ∷ es) (e2 ∷ es2) c c2 b b2 l k s =
 first_between model f f2 m [] (e2 ∷ es2) c c2 b b2 l k s = absurd (cc)
 first_between model f f2 m (e ∷ es) [] c c2 b b2 l k s = absurd (cc)
 
--- ---- what it does
+-- ---- what Clear does to two machines
 
--- at two places of two machines that show the same
+-- Clear at two places that show the same, of two machines that show the same
 module _ (d : Desc) (p p2 : Place) (s : SameShape d.stt_model p p2) (m m2 : Machine) (q : shown m ≡ shown m2) where
   before : map without_outcome p.before ≡ map without_outcome p2.before
   before = same_rest d.stt_model p.before p2.before s.before
 
-  -- the windows that are left
+  -- the windows that Clear leaves show the same
   marked_over : (y y2 : List Entry) → map without_outcome y ≡ map without_outcome y2 → map without_outcome (reverse p.before ++ cleared_one p.entry ∷ y) ≡ map without_outcome (reverse p2.before ++ cleared_one p2.entry ∷ y2)
   marked_over y y2 = left_over p.before p2.before (cleared_one p.entry) (cleared_one p2.entry) y y2 before (ap cleared_one s.here.but_outcome)
 
@@ -134,7 +135,7 @@ module _ (d : Desc) (p p2 : Place) (s : SameShape d.stt_model p p2) (m m2 : Mach
   with_tells None (Some v2) t = absurd t
   with_tells (Some v) None t = absurd t
 
--- what is looked back on from the window's end, by a place in it
+-- what is looked back on from the window's end: first the entries younger than a place, then the place's, then the older ones
 back_from : (older : List Entry) (e : Entry) (ys b : List Entry) → reverse_aux (older ++ e ∷ ys) b ≡ reverse_aux ys (e ∷ reverse_aux older b)
 back_from [] e ys b = refl
 back_from (o ∷ older) e ys b = back_from older e ys (o ∷ b)

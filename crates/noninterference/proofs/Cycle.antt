@@ -42,7 +42,7 @@ row_of : (n n2 : ℕ) (a a2 b b2 c c2 : List Event) → n ≡ n2 → a ≡ a2 �
 row_of n n2 a a2 b b2 c c2 p q r t = cc
 
 module _ (d : Desc) (code : Code) (total : ℕ) (protected : protects d.stt_model ≡ true) (aligned : Aligned code) where
-  -- both runs between phases
+  -- two runs that go on together, as Issue of this cycle finds them
   abbrev T : ℕ → Machine → Machine → Type 0
   T now = TogetherIn now d code total
 
@@ -50,7 +50,7 @@ module _ (d : Desc) (code : Code) (total : ℕ) (protected : protects d.stt_mode
   quiet_in_step x x2 y y2 s s2 a n le =
       subst (λ h. InStep (path d.stt_model) code n h (hart_of y2)) (sym s.hart) (subst (InStep (path d.stt_model) code n (hart_of x)) (sym s2.hart) (a n (omega (arith, le, s.retired))))
 
-  -- after a phase that leaves the retired state alone
+  -- two runs still go on together after a phase that tells nothing and leaves the retired state alone
   after_phase : (now : ℕ) (f : Machine → After) → ((x : Machine) → Quiet x (f x).machine) → (x x2 : Machine) → InStepUpTo d.stt_model code total x x2 →
       OwnFacts now d code (f x).machine → OwnFacts now d code (f x2).machine → TellsNothing (f x) (f x2) → T now (f x).machine (f x2).machine
   after_phase now f quiet x x2 s a a2 t =
@@ -68,7 +68,7 @@ module _ (d : Desc) (code : Code) (total : ℕ) (protected : protects d.stt_mode
   before x = before_retire d (begins_cycle x)
 
   module _ (now : ℕ) where
-    -- a phase before Issue
+    -- two runs still go on together after a phase before Issue that tells nothing
     phase : (f : Machine → After) → ((x : Machine) → OwnFacts now d code x → OwnFacts now d code (f x).machine) → ((x : Machine) → Quiet x (f x).machine) → (x x2 : Machine) → T now x x2 → TellsNothing (f x) (f x2) → T now (f x).machine (f x2).machine
     phase f facts quiet x x2 p t = after_phase now f quiet x x2 p.in_step (facts x p.facts) (facts x2 p.facts2) t
 
@@ -98,12 +98,12 @@ module _ (d : Desc) (code : Code) (total : ℕ) (protected : protects d.stt_mode
         let e4 = same_events (clear d w) (clear d w2) t4 in
         (phase (clear d) (facts_clear now d code) (clear_quiet d) w w2 p3 t4, cc)
 
-  -- ---- those after it
+  -- ---- the phases after Retire
 
   rest : Machine → After
   rest x = then_does (issue d x) (λ y. then_does (rename d y) (fetch d code))
 
-  -- they leave what the next cycle begins with
+  -- the phases after Retire leave two runs together for the next cycle, with the same events
   rest_alike : (now : ℕ) (x x2 : Machine) → x.cycle ≡ now → T now x x2 → x.retired + d.core_rob ≤ total → Together d code total (rest x).machine (rest x2).machine × ((rest x).events ≡ (rest x2).events)
   unfolding rest
   rest_alike now x x2 q p le =
@@ -138,7 +138,7 @@ module _ (d : Desc) (code : Code) (total : ℕ) (protected : protects d.stt_mode
   after_alike now None (Some e) x x2 s q n r p le = absurd (cc)
   after_alike now (Some e) None x x2 s q n r p le = absurd (cc)
 
-  -- ---- all of them
+  -- ---- a cycle as a whole
 
   cycle_alike : (x x2 : Machine) → x.end ≡ None → Together d code total x x2 → (cycle d code x).machine.retired + d.core_rob ≤ total → CyclesAlike d code total x x2
   unfolding cycle before rest

@@ -1,4 +1,4 @@
--- What both runs may look at is equal: it comes from equal registers and from visible loads.
+-- What two runs may look at is equal: it comes from equal registers and from visible loads.
 use Rattle.std.proofs.Common.{◌≡◌, ℕ, true, List, [], ◌∷◌, ap, sym, ◌∙◌, subst}
 use Rattle.std.specs.Prelude.{is_some}
 use Rattle.rv_types.specs.Memory.{Code}
@@ -23,13 +23,13 @@ use Rattle.noninterference.proofs.Loads.{by_base, load_untainted}
 use Rattle.noninterference.proofs.OneRun.{OneRun, older}
 use Rattle.noninterference.proofs.Replays.{entry_same}
 
--- both runs have issued the same entries, and visible loads have read the same
+-- two entries are equal but for their outcomes, which both have or neither, and visible loads have read the same
 pub record SameReads (model : SttModel) (before : List Entry) (e e2 : Entry) : Type 0 where
   pub but_outcome : without_outcome e ≡ without_outcome e2
   pub issued : is_some e.outcome ≡ is_some e2.outcome
   pub reads : is_load e.item.kind ≡ true → visible model before ≡ true → e.outcome ≡ e2.outcome
 
--- so of all entries that are looked back on
+-- two lists of entries, youngest first, are equal but for their outcomes, and visible loads have read the same
 abbrev pub AllSameReads : SttModel → List Entry → List Entry → Type 0
 AllSameReads model [] [] = Unit {0}
 AllSameReads model (e ∷ before) (e2 ∷ before2) = SameReads model before e e2 × AllSameReads model before before2
@@ -46,7 +46,7 @@ module _ (now : ℕ) (d : Desc) (code : Code) (x x2 : Machine) (regs : x.regs �
   abbrev s2 : Bank
   s2 = bank_in (hart_of x2)
 
-  -- all that may be looked at is equal in both runs
+  -- the outcomes that may be looked at are equal in both runs, where visible loads have read the same
   pub derive : (b b2 : List Entry) → AllSameReads model b b2 → OneRun now d code x b → OneRun now d code x2 b2 → SameOutcomes model b b2
   derive [] [] a w w2 = tt
   derive (e ∷ b) (e2 ∷ b2) a w w2 =

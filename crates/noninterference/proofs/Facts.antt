@@ -1,4 +1,4 @@
--- Each phase keeps what a run keeps for itself.
+-- What a run keeps for itself (`OwnFacts`) is kept by each phase.
 use Rattle.std.proofs.Common.{◌≡◌, ℕ, ◌+◌, ◌≤◌, true, not, ◌&&◌, List, [], ◌∷◌, ◌++◌, length, map, None, ap, sym, ◌∙◌, subst, arith, length-append}
 use Rattle.std.specs.Prelude.{nat_lt, reverse}
 use Rattle.std.specs.List.{list_any}
@@ -93,7 +93,7 @@ module _ (d : Desc) where
   fetch_room : (code : Code) (x : Machine) → HasRoom x → HasRoom (fetch d code x).machine
   fetch_room code = fetch_keep d HasRoom code (λ x pc q r h. h)
 
--- ---- all that is kept
+-- ---- all that a run keeps for itself
 
 module _ (now : ℕ) (d : Desc) (code : Code) where
   pub facts_begin : (x : Machine) → OwnFacts now d code x → OwnFacts now d code (begins_cycle x)
@@ -114,7 +114,7 @@ module _ (now : ℕ) (d : Desc) (code : Code) where
   pub facts_retire : Aligned code → (x : Machine) → x.end ≡ None → OwnFacts now d code x → OwnFacts now d code (retire d x).machine
   facts_retire aligned x n f = record { consistent = consistent_retire now code aligned d x f.consistent n; guarded = guarded_retire d x f.guarded; fits = retire_room d x f.fits }
 
-  -- in this very cycle; it leaves what the next one's Issue finds
+  -- Issue of cycle `now` leaves what a run keeps for itself as Issue of the next cycle finds it
   pub facts_issue : (x : Machine) → x.cycle ≡ now → OwnFacts now d code x → OwnFacts (now + 1) d code (issue d x).machine
   facts_issue x q f =
       let next = consistent_issue code d x (subst (λ n. ConsistentIn n d code x) (sym q) f.consistent) in
@@ -130,6 +130,6 @@ module _ (now : ℕ) (d : Desc) (code : Code) where
   pub facts_fetch : (x : Machine) → OwnFacts now d code x → OwnFacts now d code (fetch d code x).machine
   facts_fetch x f = record { consistent = consistent_fetch now code d x f.consistent; guarded = guarded_fetch d code x f.guarded; fits = fetch_room d code x f.fits }
 
--- and it holds of the first state
+-- what a run keeps for itself holds of the first state
 pub facts_opening : (d : Desc) (code : Code) (entry : ℕ) (ram : Ram) → OwnFacts 1 d code (opening d entry ram)
 facts_opening d code entry ram = record { consistent = consistent_opening code d entry ram; guarded = tt; fits = omega arith }

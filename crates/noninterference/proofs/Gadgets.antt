@@ -19,7 +19,7 @@ use Rattle.window_model.proofs.Worked.{code_of, memory, bounds_check, fault, sto
 use Rattle.noninterference.specs.Gadgets.{loaded_by, HidesSecret, BoundsCheckBypass, TaintedStoreAddress, TaintedBranch, TaintedDivisor, TargetInjection, FaultShadow, FaultShadowSpectre, SpeculativeStoreBypass, store_bypass}
 use Rattle.noninterference.proofs.Runs.{same_trace, fewer}
 
--- ---- premises
+-- ---- the premises of the law
 
 aligned_if : (a b : Bool) (o : Option ℕ) (w : ℕ) → (if a && b then o else None) ≡ Some w → b ≡ true
 aligned_if true true o w h = refl
@@ -32,11 +32,11 @@ aligned_words words pc w h =
     let t : (pc % 4 == 0) ≡ true = aligned_if (nat_le 0x10000 pc) (pc % 4 == 0) _ w h in
     grind (arith, nat_tests)
 
--- the bytes of the bound
+-- the addresses of the bound's bytes
 abbrev bound : List ℕ
 bound = 0x1fff0 ∷ 0x1fff1 ∷ 0x1fff2 ∷ 0x1fff3 ∷ []
 
--- a byte of memory that doesn't depend on the secret
+-- the byte of memory at this address doesn't depend on the secret
 abbrev SameAt : ℕ → ℕ → Type 0
 SameAt secret a = slice_index (memory 0 secret).bytes (a - 0x10000) ≡ slice_index (memory 0 0).bytes (a - 0x10000)
 
@@ -51,7 +51,7 @@ agree_on secret lt addresses same =
     let low : Each Byte tail = (none, (none, (none, (none, (none, (none, (none, (none, (lt, (none, (none, (none, (none, (none, (none, (none, tt)))))))))))))))) in
     record { base = refl; size = refl; misaligned = refl; bytes = All-append Byte (replicate 65520 0) tail (All-replicate Byte 65520 0 none) (All-from_recursion Byte tail low); same = All-from_recursion _ addresses same }
 
--- what the path loads in so many steps, where the secret is 0
+-- the bytes that the path of a program loads in these steps, where the secret is 0
 abbrev loads : SttModel → List ℕ → ℕ → List ℕ
 loads model words steps = reads (path model) (code_of words) (start 0x10000 (memory 0 0)) steps
 
@@ -59,7 +59,7 @@ loads model words steps = reads (path model) (code_of words) (start 0x10000 (mem
 abbrev eleven_more : ℕ → ℕ
 eleven_more steps = suc (suc (suc (suc (suc (suc (suc (suc (suc (suc (suc steps))))))))))
 
--- what depends on the secret nowhere, in however many steps, hides it
+-- a program hides the secret whose path loads the same bytes in however many steps, and none that depends on the secret
 hides : (d : Desc) (words loaded : List ℕ) → protects d.stt_model ≡ true → ((steps : ℕ) → loads d.stt_model words (eleven_more steps) ≡ loaded) → ((secret : ℕ) → Each (SameAt secret) loaded) → HidesSecret d words
 hides d words loaded protected all same secret n lt =
     let run : Hart = start 0x10000 (memory 0 0) in
@@ -104,7 +104,7 @@ injection_loads Spectre steps = refl
 injection_loads Futuristic steps = refl
 injection_loads Off steps = refl
 
--- behind the store a byte past the secret, and a word at an address made of that
+-- the bytes that the path of the store bypass loads: the bound, a byte past the secret, and a word at an address made of that
 past_store : List ℕ
 past_store = bound ++ 0x1fff9 ∷ 0x1f7f0 ∷ 0x1f7f1 ∷ 0x1f7f2 ∷ 0x1f7f3 ∷ []
 
@@ -118,12 +118,12 @@ same_past_store : (secret : ℕ) → Each (SameAt secret) past_store
 unfolding memory past_store
 same_past_store secret = (refl, (refl, (refl, (refl, (refl, (refl, (refl, (refl, (refl, tt)))))))))
 
--- the futuristic path ends at the fault
+-- the futuristic path ends at the fault, and loads nothing
 fault_loads_none : (steps : ℕ) → loads Futuristic fault (eleven_more steps) ≡ []
 unfolding memory code_of decode isa_step pass_step
 fault_loads_none steps = refl
 
--- the spectre path passes it over, and its third step loads the secret
+-- the steps in which the spectre path passes over the fault and loads the secret, and as many more as given
 abbrev three_more : ℕ → ℕ
 three_more steps = suc (suc (suc steps))
 
@@ -131,12 +131,12 @@ fault_passed : (steps : ℕ) → list_any (λ a. a == 0x1fff8) (loads Spectre fa
 unfolding memory code_of decode isa_step pass_step
 fault_passed steps = refl
 
--- so memories that agree on what it loads have one secret
+-- memories that agree on what the spectre path loads behind the fault have one secret
 fault_shows : (steps secret : ℕ) → Each (SameAt secret) (loads Spectre fault (three_more steps)) → secret ≡ 0
 unfolding memory code_of decode isa_step pass_step
 fault_shows steps secret same = same.0
 
--- ---- and so what they hide
+-- ---- what the programs hide
 
 pub bypass_hides : BoundsCheckBypass
 bypass_hides d protected = hides d bounds_check bound protected (bypass_loads d.stt_model) same_bound
@@ -159,7 +159,7 @@ store_bypass_hides d protected = hides d store_bypass past_store protected (stor
 pub fault_hides : FaultShadow
 fault_hides d futuristic = hides d fault [] (ap protects futuristic) (λ steps. ap (λ m. loads m fault (eleven_more steps)) futuristic ∙ fault_loads_none steps) (λ secret. tt)
 
--- the path goes on for as many steps as the window has room, and that is four at least
+-- behind the fault the spectre path loads the secret: it goes on for as many steps as the window has room, at least four
 pub fault_loads_secret : FaultShadowSpectre
 unfolding memory
 fault_loads_secret d spectre n =

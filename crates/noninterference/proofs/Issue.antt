@@ -39,7 +39,7 @@ use Rattle.noninterference.proofs.Access.{same_access_of, same_time}
 abbrev begun_without : Begun → Begun
 begun_without b = record b { entry = without_outcome b.entry }
 
--- an entry that begins, whatever its outcome
+-- what shows of an entry that begins, whatever its outcome
 abbrev beginning : Entry → ℕ → ℕ → List Event → Begun
 beginning t cycle due vs = record { entry = record t { state = Busy due; outcome = None; issued = Some cycle }; events = vs }
 
@@ -65,16 +65,16 @@ same_load_as Forwards d now now2 e e2 f f2 v v2 h q = same_begins e e2 _ _ _ _ _
 same_load_as (Looks found ahead) d now now2 e e2 f f2 v v2 h q = same_begins e e2 _ _ _ _ _ _ h q (ap latest (same_dues d now now2 found q)) (ap (λ (t : Entry). look_events t.serial found ahead) h)
 same_load_as Waits d now now2 e e2 f f2 v v2 h q = same_waits e e2 h
 
--- ---- a store's parts
+-- ---- the parts of a store
 
--- a store of which the parts that are granted go
+-- what a store becomes of which the granted parts issue
 abbrev parts_of : Bool → Bool → Desc → Around → Effect → Entry → Begun
 parts_of address datum d now f e =
     let a = if_granted address (with_address now f) (event.Agu e.serial ∷ []) e in
     let b = if_granted datum (with_data now f) (data_events d e) a.entry in
     record { entry = b.entry; events = a.events ++ b.events }
 
--- it hides what it computes: address, fault and data
+-- the parts of a store that issue hide what they compute: address, fault and data
 parts_hide : (a c : Bool) (d : Desc) (now now2 : Around) (f f2 : Effect) (e : Entry) → now.cycle ≡ now2.cycle → begun_without (parts_of a c d now f e) ≡ begun_without (parts_of a c d now2 f2 (without_outcome e))
 parts_hide true true d now now2 f f2 e q = ap (λ n. begun_without (parts_of true true d (record now2 { cycle = n }) f2 (without_outcome e))) q
 parts_hide true false d now now2 f f2 e q = ap (λ n. begun_without (parts_of true false d (record now2 { cycle = n }) f2 (without_outcome e))) q
@@ -110,7 +110,7 @@ module _ (cycle : ℕ) (d : Desc) (code : Code) (x x2 : Machine) (r : Alike x x2
   entry_if true false e e2 o o2 q h p = absurd (cc)
   entry_if false true e e2 o o2 q h p = absurd (cc)
 
-  -- in one piece
+  -- two entries that issue in one piece show the same
   whole_alike : (b b2 : List Entry) (e e2 : Entry) → is_store e.item.kind ≡ false → SameOutcomes d.stt_model b b2 → without_outcome e ≡ without_outcome e2 → IsItem code e.item → begun_without (issue_whole d now b e) ≡ begun_without (issue_whole d now2 b2 e2)
   whole_alike b b2 e e2 n s h item =
       let port = port_of e.item.kind in
@@ -119,7 +119,7 @@ module _ (cycle : ℕ) (d : Desc) (code : Code) (x x2 : Machine) (r : Alike x x2
       entry_if (is_granted d now port b e) (is_granted d now2 (port_of e2.item.kind) b2 e2) e e2 (begin_as e.item.kind d now b e) (begin_as e2.item.kind d now2 b2 e2) g h
       (λ t. begin_alike e.item.kind b b2 e e2 refl s h item (may_parts d now b e (sym (may_own d now b e n) ∙ (both (may_at d now port b e) _ t).0)).kind ∙ ap (λ k. begun_without (begin_as k d now2 b2 e2)) k)
 
-  -- by parts
+  -- two stores that issue by parts show the same
   parts_alike : (b b2 : List Entry) (e e2 : Entry) → SameOutcomes d.stt_model b b2 → without_outcome e ≡ without_outcome e2 → begun_without (issue_parts d now b e) ≡ begun_without (issue_parts d now2 b2 e2)
   parts_alike b b2 e e2 s h =
       let f = effect_of x.regs b e in
@@ -164,7 +164,7 @@ module _ (cycle : ℕ) (d : Desc) (code : Code) (x x2 : Machine) (r : Alike x x2
       ≡ shown (record m2 { cache = cache_after a d m2.cache; second = second_after a d m2.second; misses = misses_after a d m2.cycle m2.misses })
   load_shown a m m2 q = ap (λ (t : Machine). let u : Machine = record t { cache = cache_after a d t.cache; second = second_after a d t.second; misses = misses_after a d t.cycle t.misses } in u) q
 
-  -- the place that is found is an instruction of the program
+  -- an entry of a consistent window is an instruction of the program
   item_at : (b older es : List Entry) (e : Entry) → Along (Stands d code (bank_in (hart_of x)) cycle) b (older ++ e ∷ es) → IsItem code e.item
   item_at b [] es e i = i.0.item
   item_at b (o ∷ older) es e i = item_at (o ∷ b) older es e i.1

@@ -18,7 +18,7 @@ use Rattle.noninterference.proofs.Operand.{same_address}
 
 -- ---- what a store covers
 
--- two outcomes with one address and fault, or none twice, reach the same bytes
+-- two outcomes with one address and fault reach the same bytes, and so do none and none
 same_reaches : (a n : ℕ) (o o2 : Option Outcome) → is_some o ≡ is_some o2 → addr_of o ≡ addr_of o2 → fault_of o ≡ fault_of o2 → reaches a n o ≡ reaches a n o2
 same_reaches a n None None i ad f = refl
 same_reaches a n (Some o) (Some o2) i ad f = cc
@@ -40,7 +40,7 @@ same_covers model b e e2 a h t =
 
 -- ---- what lets a load go
 
--- by the order of its tests
+-- what a store lets go is seen alike, by the order of its tests
 by_tests : (s a p t t2 c c2 : Bool) → t ≡ t2 → (s ≡ true → t ≡ false → c ≡ c2) → (not s || (a && (p || not t && not c))) ≡ (not s || (a && (p || not t2 && not c2)))
 by_tests false a p t t2 c c2 q h = refl
 by_tests true a true t t2 c c2 q h = refl
@@ -49,7 +49,7 @@ by_tests true a false false false c c2 q h = ap (λ c. a && not c) (h refl refl)
 by_tests true a false true false c c2 q h = absurd (cc)
 by_tests true a false false true c c2 q h = absurd (cc)
 
--- for a load that passes stores of unknown address, or for one that doesn't
+-- which stores let a load go that passes stores of unknown address, or one that doesn't
 module _ (model : SttModel) (passes : Bool) (bytes : List ℕ) where
   same_let : (b b2 : List Entry) (e e2 : Entry) → SameOutcomes model b b2 → SameEntry model b e e2 → (not (is_store e.item.kind) || lets model passes bytes b e) ≡ (not (is_store e2.item.kind) || lets model passes bytes b2 e2)
   same_let b b2 e e2 s h =
@@ -60,7 +60,7 @@ module _ (model : SttModel) (passes : Bool) (bytes : List ℕ) where
       (λ k n. any_same_list _ _ bytes bytes refl (λ a. same_covers model b e e2 a h (λ k. n)))
       ∙ ap (λ (u : Entry). not (is_store u.item.kind) || ((has_address u || passes) && (has_data u || not tainted2 && not covered2))) h.but_outcome
 
-  -- the same loads go behind these stores
+  -- two runs see alike whether older stores let a load of these bytes go
   pub stores_let_alike : (b b2 : List Entry) → SameOutcomes model b b2 → stores_let model passes bytes b ≡ stores_let model passes bytes b2
   stores_let_alike [] [] s = refl
   stores_let_alike (e ∷ b) (e2 ∷ b2) s =

@@ -43,7 +43,7 @@ load_same s s2 e e2 p i f b =
     ap (λ (f : Effect). bytes_at s2.ram f.addr w) (sym f) ∙ sym (same_bytes s.ram s2.ram a w p r.0 r.1 (subst (λ c. All (λ a. byte s.ram a ≡ byte s2.ram a) (unless_fault c (range a w))) n b)) in
     sym (outcome_same s.ram s2.ram e.item.instr p Load (effect_on s e) (effect_on s2 e2) _ _ (sym f) (λ l n. bytes n)) ∙ ap (λ i. outcome_as Load s2.ram i (effect_on s2 e2) (bytes_at s2.ram (effect_on s2 e2).addr (width_in i))) i
 
--- kinds of JAL and of OP
+-- a test that no kind of a JAL meets, and one that no kind of an OP instruction meets
 pub jal_kind : (f : Kind → Bool) (b : Bool) (c : Cause) → f Jal ≡ false → f (Stop c) ≡ false → f (if b then Jal else Stop c) ≡ false
 jal_kind f true c j t = j
 jal_kind f false c j t = t
@@ -59,7 +59,7 @@ op_is f op.Rem m d a = d
 op_is f op.Remu m d a = d
 op_is f _ m d a = a
 
--- the instruction of a load
+-- the bytes that a load's instruction loads in a step are those of its access in the replay
 pub is_load_instr : (i : Instr) → kind_of i ≡ Load → (s : Bank) (e : Entry) → e.item.instr ≡ i →
     loads_of (record { pc = e.item.pc; regs = s.regs; ram = s.ram }) i ≡ unless_fault (load_fault s.ram (effect_on s e).addr (width_of e)) (range (effect_on s e).addr (width_of e))
 is_load_instr (instr.Load op rd rs1 imm) k s e q = rw q refl
@@ -67,11 +67,11 @@ is_load_instr (instr.Jal rd imm) k s e q = absurd (let j = jal_kind is_load (wor
 is_load_instr (instr.OpReg o rd rs1 rs2) k s e q = absurd (let j = op_is is_load o refl refl refl in let t = ap is_load k in cc)
 is_load_instr _ k s e q = absurd (cc)
 
--- a load or a store
+-- the kind is a load's or a store's
 abbrev pub is_access : Kind → Bool
 is_access k = is_load k || is_store k
 
--- its address comes from its base
+-- the address of a load or store comes from its base alone
 access_address : (i : Instr) → is_access (kind_of i) ≡ true → (pc a b c : ℕ) → (effect pc i a b).addr ≡ (effect pc i a c).addr
 access_address (instr.Load op rd rs1 imm) k pc a b c = refl
 access_address (instr.Store op rs1 rs2 imm) k pc a b c = refl
@@ -91,16 +91,16 @@ pub is_load_kind : (k : Kind) → is_load k ≡ true → k ≡ Load
 is_load_kind Load h = refl
 is_load_kind _ h = absurd (cc)
 
--- a load has one source
+-- the one source of a load is its base
 one_source : (f : ℕ → Bool) (i : Instr) → kind_of i ≡ Load → list_any f (base_of (reads_of i)) ≡ list_any f (reads_of i)
 one_source f (instr.Branch op rs1 rs2 imm) k = absurd (cc)
 one_source f (instr.Store op rs1 rs2 imm) k = absurd (cc)
 one_source f (instr.OpReg o rd rs1 rs2) k = absurd (let j = op_is is_load o refl refl refl in let t = ap is_load k in cc)
 one_source f _ k = refl
 
--- ---- of an entry
+-- ---- entries that are loads or stores
 
--- the address of an access comes from its base
+-- the address of an entry that is a load or store comes from its base alone
 pub by_base : (code : Code) (e : Entry) → IsItem code e.item → is_access e.item.kind ≡ true → (pc a b c : ℕ) → (effect pc e.item.instr a b).addr ≡ (effect pc e.item.instr a c).addr
 by_base code e item k pc a b c =
     let w = word_of code e is_access item (λ c. refl) k in

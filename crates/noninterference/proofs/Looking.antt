@@ -28,12 +28,12 @@ same_sources e e2 h = ap sources h
 with_outcome : Entry → Option Outcome → Entry
 with_outcome e o = record e { outcome = o }
 
--- with equal outcomes they are one entry
+-- two entries that are equal but for their outcomes are one where these are equal too
 pub same_entry : (e e2 : Entry) → without_outcome e ≡ without_outcome e2 → e.outcome ≡ e2.outcome → e ≡ e2
 unfolding with_outcome
 same_entry e e2 h o = ap (λ (t : Entry). with_outcome t e.outcome) h ∙ ap (with_outcome (without_outcome e2)) o
 
--- so of all that are looked back on
+-- two lists of entries with equal outcomes, where they may be looked at, are equal but for outcomes
 pub same_rest : (model : SttModel) (b b2 : List Entry) → SameOutcomes model b b2 → map without_outcome b ≡ map without_outcome b2
 same_rest model [] [] s = refl
 same_rest model (e ∷ b) (e2 ∷ b2) s = ap (λ t. t ∷ map without_outcome b) s.0.but_outcome ∙ ap (λ t. without_outcome e2 ∷ t) (same_rest model b b2 s.1)
@@ -42,7 +42,7 @@ same_rest model (e ∷ b) [] s = absurd s
 
 -- ---- what is visible is not tainted
 
--- neither a register, nor a base, nor any operand
+-- behind visible entries alone no register is tainted, no base and no operand
 pub untainted_where_visible : (model : SttModel) (before : List Entry) (r : ℕ) → visible model before ≡ true → tainted model before r ≡ false
 untainted_where_visible model [] r h = refl
 untainted_where_visible model (e ∷ before) r h =
@@ -57,7 +57,7 @@ untainted_base model before e h = none_any (tainted model before) (base_of (sour
 pub untainted_sources : (model : SttModel) (before : List Entry) (e : Entry) → visible model before ≡ true → any_tainted model before e ≡ false
 untainted_sources model before e h = none_any (tainted model before) (sources e) (λ r. untainted_where_visible model before r h)
 
--- behind what is visible, faults are equal
+-- the faults of two entries are equal behind visible entries alone
 faults_alike : (k : Kind) (model : SttModel) (before : List Entry) (e e2 : Entry) → SameOutcome k model before e e2 → visible model before ≡ true → fault_of e.outcome ≡ fault_of e2.outcome
 faults_alike Load model before e e2 o h = ap fault_of (o.1 h)
 faults_alike Store model before e e2 o h = (o.0 (untainted_base model before e h)).1
@@ -88,7 +88,7 @@ and_same true false false b2 p h = p ∙ sym p
 and_same false true true b2 p h = absurd (let d = h refl in cc)
 and_same false true false b2 p h = p
 
--- both runs see alike what is visible
+-- two runs see alike what is visible
 pub same_visible : (model : SttModel) (before before2 : List Entry) → SameOutcomes model before before2 → visible model before ≡ visible model before2
 same_visible model [] [] s = refl
 same_visible model (e ∷ before) (e2 ∷ before2) s =
@@ -99,7 +99,7 @@ same_visible model (e ∷ before) [] s = absurd s
 pub any_same_list : (f g : ℕ → Bool) (rs rs2 : List ℕ) → rs ≡ rs2 → ((r : ℕ) → f r ≡ g r) → list_any f rs ≡ list_any g rs2
 any_same_list f g rs rs2 p h = ap (list_any f) p ∙ any_agree f g rs2 h
 
--- and what is tainted
+-- two runs see alike whether a register is tainted
 pub same_tainted : (model : SttModel) (before before2 : List Entry) (r : ℕ) → SameOutcomes model before before2 → tainted model before r ≡ tainted model before2 r
 same_tainted model [] [] r s = refl
 same_tainted model (e ∷ before) (e2 ∷ before2) r s =
@@ -114,6 +114,6 @@ same_tainted model (e ∷ before) (e2 ∷ before2) r s =
 same_tainted model [] (e2 ∷ before2) r s = absurd s
 same_tainted model (e ∷ before) [] r s = absurd s
 
--- of an entry's operands
+-- two runs see alike whether an operand of an entry is tainted
 pub same_any : (model : SttModel) (b b2 : List Entry) (e e2 : Entry) → SameOutcomes model b b2 → SameEntry model b e e2 → any_tainted model b e ≡ any_tainted model b2 e2
 same_any model b b2 e e2 s h = any_same_list (tainted model b) (tainted model b2) (sources e) (sources e2) (same_sources e e2 h.but_outcome) (λ r. same_tainted model b b2 r s)

@@ -44,9 +44,9 @@ module _ (d : Desc) (x x2 : Machine) (r : Alike x x2) (place : SameShape x.ram x
   regs_same : x.regs ≡ x2.regs
   regs_same = ap (λ (m : Machine). m.regs) r
 
-  -- an entry of both runs, behind older ones that are seen alike
+  -- an entry that shows the same in both runs, behind older ones that are seen alike
   module _ (b b2 : List Entry) (s : SameOutcomes d.stt_model b b2) (e e2 : Entry) (h : without_outcome e ≡ without_outcome e2) where
-    -- the bytes of a load with an untainted address
+    -- the bytes of a load with an untainted base are the same in both runs
     bytes_alike : address_tainted d.stt_model b e ≡ false → bytes_of now b e ≡ bytes_of now2 b2 e2
     bytes_alike t =
         let a = address_alike d.stt_model x x2 regs_same b b2 s e e2 h t in
@@ -56,12 +56,12 @@ module _ (d : Desc) (x x2 : Machine) (r : Alike x x2) (place : SameShape x.ram x
         ∙ ap (λ w. unless_fault (load_fault x.ram a2 w) (range a2 w)) w
         ∙ ap (λ c. unless_fault c (range a2 (width_of e2))) (sym (same_fault load_misaligned load_outside x.ram x2.ram a2 (width_of e2) place))
 
-    -- whether a load passes stores, its bit tells
+    -- two runs see alike whether a load passes stores: its bit tells
     passes_alike : passes_stores d now e ≡ passes_stores d now2 e2
     passes_alike =
         ap (λ (m : Machine). passing d && not (waits_for_stores d m.dependence e.item.pc)) r ∙ ap (λ (t : Entry). passes_stores d now2 t) h
 
-    -- what such a load asks of the older stores
+    -- two runs see alike whether a load with an untainted base goes behind the older stores
     behind_alike : address_tainted d.stt_model b e ≡ false → goes_behind d now b e ≡ goes_behind d now2 b2 e2
     behind_alike t =
         let passes = passes_stores d now e in
@@ -90,7 +90,7 @@ module _ (d : Desc) (x x2 : Machine) (r : Alike x x2) (place : SameShape x.ram x
         let kind = kind_alike e.item.kind ∙ ap (λ k. may_issue_as k d now2 b2 e2) (same_kind e e2 h) in
         cc
 
-    -- a store's part
+    -- two runs see alike whether a part of a store is ready
     ready_alike : (own own2 : List ℕ) → own ≡ own2 → ready_part d own b e ≡ ready_part d own2 b2 e2
     ready_alike own own2 q =
         let known = same_all_known d b b2 (sources e) (sources e2) s (same_sources e e2 h) in
@@ -103,7 +103,7 @@ module _ (d : Desc) (x x2 : Machine) (r : Alike x x2) (place : SameShape x.ram x
     part_alike DataPort = ap₂ (λ a k. not a && k) (ap has_data h) (ready_alike _ _ (ap others_of (same_sources e e2 h)))
     part_alike _ = refl
 
-    -- who may issue at a port
+    -- two runs see alike whether an entry may issue at a port
     pub at_alike : (port : Port) → may_at d now port b e ≡ may_at d now2 port b2 e2
     at_alike port =
         let store = ap (λ (t : Entry). is_store t.item.kind) h in
@@ -120,6 +120,6 @@ module _ (d : Desc) (x x2 : Machine) (r : Alike x x2) (place : SameShape x.ram x
   asking_alike port [] (e2 ∷ b2) s = absurd s
   asking_alike port (e ∷ b) [] s = absurd s
 
-  -- and who is granted it
+  -- two runs see alike whether an entry is granted a port
   pub granted_alike : (b b2 : List Entry) → SameOutcomes d.stt_model b b2 → (e e2 : Entry) → without_outcome e ≡ without_outcome e2 → (port : Port) → is_granted d now port b e ≡ is_granted d now2 port b2 e2
   granted_alike b b2 s e e2 h port = ap₂ (λ m n. m && nat_lt n (ports d port)) (at_alike b b2 s e e2 h port) (asking_alike port b b2 s)

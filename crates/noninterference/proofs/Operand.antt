@@ -21,7 +21,7 @@ seen : (v a : Bool) → (not v || a) ≡ false → v ≡ true
 seen true a h = refl
 seen false a h = absurd (cc)
 
--- an outcome that may be looked at is one
+-- the outcome of an entry that may be looked at is equal in both runs
 pub known_outcome : (k : Kind) (model : SttModel) (b : List Entry) (e e2 : Entry) → SameOutcome k model b e e2 → (is_load k && not (visible model b) || any_tainted model b e) ≡ false → e.outcome ≡ e2.outcome
 known_outcome Load model b e e2 o h = o.1 (seen (visible model b) (any_tainted model b e) h)
 known_outcome Store model b e e2 o h = o.1 h
@@ -33,7 +33,7 @@ pick false false e e2 o o2 v h p q = q refl
 pick true false e e2 o o2 v h p q = absurd (cc)
 pick false true e e2 o o2 v h p q = absurd (cc)
 
--- an untainted operand is one value
+-- an untainted operand is equal in both runs
 pub same_operand : (model : SttModel) (regs : List ℕ) (before before2 : List Entry) (r : ℕ) → SameOutcomes model before before2 → tainted model before r ≡ false → operand regs before r ≡ operand regs before2 r
 same_operand model regs [] [] r s h = refl
 same_operand model regs (e ∷ before) (e2 ∷ before2) r s h =
@@ -46,7 +46,7 @@ same_operand model regs (e ∷ before) [] r s h = absurd s
 
 -- ---- operands that are known
 
--- which loads are visible is seen alike, so it is which results are held back
+-- two runs see alike whether an entry gives its value
 same_gives : (d : Desc) (before before2 : List Entry) (e e2 : Entry) → SameOutcomes d.stt_model before before2 → without_outcome e ≡ without_outcome e2 → gives d before e ≡ gives d before2 e2
 same_gives d before before2 e e2 s h =
     ap (λ v. not (holds d.stt_defence && is_load e.item.kind && not v) && is_done e.state) (same_visible d.stt_model before before2 s) ∙ ap (gives d before2) h
@@ -65,11 +65,11 @@ pub all_same_list : (f g : ℕ → Bool) (rs : List ℕ) → ((r : ℕ) → f r 
 all_same_list f g [] h = refl
 all_same_list f g (r ∷ rs) h = ap (λ b. b && list_all f rs) (h r) ∙ ap (λ b. g r && b) (all_same_list f g rs h)
 
--- the same registers are known, all or not all
+-- two runs see alike whether all of these registers are known
 pub same_all_known : (d : Desc) (before before2 : List Entry) (rs rs2 : List ℕ) → SameOutcomes d.stt_model before before2 → rs ≡ rs2 → all_known d before rs ≡ all_known d before2 rs2
 same_all_known d before before2 rs rs2 s q = all_same_list _ _ rs (λ r. same_known d before before2 r s) ∙ ap (all_known d before2) q
 
--- the same stores are Done
+-- two runs see alike whether all older stores are Done
 pub same_stores_done : (model : SttModel) (before before2 : List Entry) → SameOutcomes model before before2 → stores_done before ≡ stores_done before2
 same_stores_done model [] [] s = refl
 same_stores_done model (e ∷ before) (e2 ∷ before2) s =
@@ -79,6 +79,6 @@ same_stores_done model (e ∷ before) (e2 ∷ before2) s =
 same_stores_done model [] (e2 ∷ before2) s = absurd s
 same_stores_done model (e ∷ before) [] s = absurd s
 
--- a tainted base
+-- two runs see alike whether the base of an entry is tainted
 pub same_address : (model : SttModel) (before before2 : List Entry) (e e2 : Entry) → SameOutcomes model before before2 → without_outcome e ≡ without_outcome e2 → address_tainted model before e ≡ address_tainted model before2 e2
 same_address model before before2 e e2 s h = any_same_list _ _ _ _ (ap base_of (same_sources e e2 h)) (λ r. same_tainted model before before2 r s)

@@ -21,7 +21,7 @@ use Rattle.noninterference.proofs.OneRun.{Linked, reaches}
 use Rattle.noninterference.proofs.Faults.{hart}
 use Rattle.noninterference.proofs.PathStep.{passed_steps}
 
--- an entry that passes is no store that isn't cleared
+-- an entry that lets younger ones be visible is no store, or a cleared one
 passes_clear : (model : SttModel) (e : Entry) → protects model ≡ true → passes model e ≡ true → is_clear e ≡ true
 passes_clear model e p v = by_store (is_store e.item.kind) e.cleared refl refl
   where
@@ -30,7 +30,7 @@ passes_clear model e p v = by_store (is_store e.item.kind) e.cleared refl refl
     by_store true true q r = refl
     by_store true false q r = absurd (let f = uncleared_fails model e p q r in cc)
 
--- so before what is visible all stores are cleared
+-- before what is visible all stores are cleared
 pub visible_clear : (model : SttModel) (before : List Entry) → protects model ≡ true → visible model before ≡ true → list_all is_clear before ≡ true
 visible_clear model [] p v = refl
 visible_clear model (e ∷ before) p v =
@@ -38,7 +38,7 @@ visible_clear model (e ∷ before) p v =
     ap (λ c. c && list_all is_clear before) (passes_clear model e p vs.0) ∙ visible_clear model before p vs.1
 
 module _ (now : ℕ) (d : Desc) (protected : protects d.stt_model ≡ true) (code : Code) (aligned : Aligned code) where
-  -- what comes after visible entries that all go through is on the path
+  -- what comes after visible entries that are no stop and no call is on the path
   pub leads_to : (s : Bank) → length s.regs ≡ 32 → (pc : ℕ) (before : List Entry) (n : ℕ) → Behind (Stands d code s now) before → Linked pc before → list_all goes_through before ≡ true → visible d.stt_model before ≡ true → reaches pc before ≡ Some n →
       LeadsTo (path d.stt_model code) (hart pc s) (length before) (hart n (bank s before))
   leads_to s m pc [] n b l t v r = ap (λ p. hart p s) (let e : Some pc ≡ Some n = r in cc)

@@ -79,13 +79,13 @@ module _ (code : Code) (aligned : Aligned code) (s : Bank) (e : Entry) (n : ℕ)
       let to = goes_on i e.item.pc a b e.item (subst (λ (t : Item). Predicts t.kind t) item_is item.next) (ap is_control (sym word_there.3) ∙ c) (ap at_once (sym word_there.3) ∙ g) in
       some_of n O.next (sym l ∙ q ∙ to ∙ ap (λ j. Some (effect e.item.pc j a b).next) (sym word_there.2) ∙ ap Some (sym (replayed_next e.item.kind s e)))
 
-  -- what is all issued has the replay's outcome
+  -- an entry of which all has issued has the replay's outcome
   whole : all_issued e ≡ true → e.outcome ≡ Some O
   whole a =
       let k = e.item.kind in
       some_is e.outcome O (subst (ComesTo e.outcome) (known_all k (has_address e) (has_data e) (is_issued e) O a) r) (issued_of k (has_address e) (has_data e) (is_issued e) parts a)
 
-  -- so has a branch or JALR that is resolved
+  -- a branch or JALR that is resolved has the replay's outcome
   issued_when : (t : Progress) → FitsState t e → e.resolved ≡ true → all_issued e ≡ true
   issued_when Waiting f q = absurd (let d = f.1 in cc)
   issued_when (Busy due) f q = absurd (let d = f.1 in cc)
@@ -102,7 +102,7 @@ module _ (code : Code) (aligned : Aligned code) (s : Bank) (e : Entry) (n : ℕ)
       let there = no_fault_if O.fault O.next (ap (λ t. if is_some (fault_of t) then None else Some (next_of t)) (sym o) ∙ sym to ∙ l) in
       of_isa model there.0 there.1
 
-  -- a load or store that is safe has no fault
+  -- a load or store that is safe has no fault, and its step goes on
   none_of : (c : Option Cause) → is_some c ≡ false → c ≡ None
   none_of None h = refl
   none_of (Some c) h = absurd (cc)
@@ -113,7 +113,7 @@ module _ (code : Code) (aligned : Aligned code) (s : Bank) (e : Entry) (n : ℕ)
       let o = whole ((done_has e.state e f ds.0).0 ∙ ap not g) in
       of_isa model (ap fault_of (sym o) ∙ none_of (fault_of e.outcome) (not_true _ ds.1)) (predicted_next c)
 
-  -- under the spectre model it is passed over where it faults
+  -- under the spectre model a load or store is a step of the path, which passes it over where it faults
   access_goes : is_control e.item.kind ≡ false → is_access e.item.kind ≡ true → Steps Spectre
   unfolding pass_step
   access_goes c k = by_fault O.fault refl

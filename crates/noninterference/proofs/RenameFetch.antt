@@ -16,11 +16,11 @@ use Rattle.window_model.specs.Fetch.{fetch, fetch_up_to, fetch_from, fetch_one, 
 use Rattle.noninterference.specs.Alike.{without_outcome, shown, shown_after}
 use Rattle.noninterference.specs.Laws.{RenameTellsNothing, FetchTellsNothing}
 
--- what comes later does to what shows what it does to the whole
+-- the rest of a phase does to what shows what it does to the whole
 abbrev pub Commutes : (Machine → After) → Type 0
 Commutes more = (x : Machine) → shown_after (more x) ≡ more (shown x)
 
--- ---- rename
+-- ---- Rename as a whole
 
 same_fold : (f : Entry → Bool) → ((e : Entry) → f (without_outcome e) ≡ f e) → (n : ℕ) (es : List Entry) → fold (λ a x. a + cond (f x) 1 0) n (map without_outcome es) ≡ fold (λ a x. a + cond (f x) 1 0) n es
 same_fold f h n [] = refl
@@ -76,7 +76,7 @@ rename_shown d x = rename_times d d.core_fetch_width x
 pub rename_tells_nothing : RenameTellsNothing
 rename_tells_nothing d x x2 r = rename_shown d x ∙ ap (rename d) r ∙ sym (rename_shown d x2)
 
--- ---- fetch
+-- ---- Fetch as a whole
 
 fetch_if : (d : Desc) (more : Machine → After) → Commutes more → (b : Bool) (item : Item) (x : Machine) →
     shown_after (if b then then_does (fetch_one d item x) more else nothing x) ≡ (if b then then_does (fetch_one d item (shown x)) more else nothing (shown x))

@@ -22,21 +22,21 @@ use Rattle.committed_state.specs.Computed.{Bank, ComesTo, as_known, as_known_by,
 use Rattle.committed_state.proofs.Computed.{outcome_same}
 use Rattle.noninterference.specs.Outcomes.{but_value, SameOutcome}
 
--- two outcomes, or none twice, of which something is equal
+-- what is equal of what two outcomes come to is equal of the outcomes, where there are both or none
 by_outcomes : {A : Type 0} (g : Outcome → A) (o o2 : Option Outcome) (v v2 : Outcome) → is_some o ≡ is_some o2 → ComesTo o v → ComesTo o2 v2 → (is_some o ≡ true → g v ≡ g v2) → option_map g o ≡ option_map g o2
 by_outcomes g None None v v2 h r r2 p = refl
 by_outcomes g (Some o) (Some o2) v v2 h r r2 p = ap (λ o. Some (g o)) r ∙ ap Some (p refl) ∙ ap (λ o. Some (g o)) (sym r2)
 by_outcomes g None (Some o2) v v2 h r r2 p = absurd (cc)
 by_outcomes g (Some o) None v v2 h r r2 p = absurd (cc)
 
--- two outcomes that are equal
+-- two outcomes are equal where what they come to is, and there are both or none
 pub same_outcome : (o o2 : Option Outcome) (v v2 : Outcome) → is_some o ≡ is_some o2 → ComesTo o v → ComesTo o2 v2 → (is_some o ≡ true → v ≡ v2) → o ≡ o2
 same_outcome None None v v2 h r r2 p = refl
 same_outcome (Some o) (Some o2) v v2 h r r2 p = ap Some (r ∙ p refl ∙ sym r2)
 same_outcome None (Some o2) v v2 h r r2 p = absurd (cc)
 same_outcome (Some o) None v v2 h r r2 p = absurd (cc)
 
--- address and fault
+-- the address and fault of an outcome
 part : Outcome → ℕ × Option Cause
 part o = (o.addr, o.fault)
 
@@ -49,7 +49,8 @@ from_part (Some o) (Some o2) h =
 from_part None (Some o2) h = absurd (cc)
 from_part (Some o) None h = absurd (cc)
 
--- in memory of one place: a load's outcome but its value, and a store's address and fault
+-- over memories of one place equal effects make equal a load's outcome but its value, and equal addresses a store's address and
+-- fault
 module _ (ram ram2 : Ram) (p : SameShape ram ram2) (i : Instr) where
   load_but_value : (f f2 : Effect) (bytes bytes2 : List ℕ) → f ≡ f2 → but_value (outcome_as Load ram i f bytes) ≡ but_value (outcome_as Load ram2 i f2 bytes2)
   load_but_value f f2 bytes bytes2 q = let c = sym (same_fault load_misaligned load_outside ram ram2 f2.addr (width_in i) p) in cc
@@ -58,13 +59,13 @@ module _ (ram ram2 : Ram) (p : SameShape ram ram2) (i : Instr) where
   unfolding part
   store_part f f2 bytes bytes2 q = let c = sym (same_fault store_misaligned store_outside ram ram2 f2.addr (width_in i) p) in cc
 
--- so of what is known of it
+-- what is known of two outcomes has equal addresses and faults where the outcomes have
 known_part : (address datum : Bool) (v v2 : Outcome) → part v ≡ part v2 → part (known_of address datum v) ≡ part (known_of address datum v2)
 unfolding part
 known_part true datum v v2 h = h
 known_part false datum v v2 h = refl
 
--- ---- every entry
+-- ---- entries of every kind
 
 -- two entries of one instruction that have issued both or neither, each behind its older ones: what makes their outcomes equal
 -- where they may be looked at
@@ -83,7 +84,7 @@ module _ (model : SttModel) (s s2 : Bank) (b b2 : List Entry) (e e2 : Entry) (p 
   abbrev As : Kind → Bank → List Entry → Outcome
   As k s b = outcome_as k s.ram e.item.instr (F s b) (Found s b)
 
-  -- and as far as it is known
+  -- what the entry computes over these registers and memory, as far as it is known
   abbrev KnownAs : Kind → Bank → List Entry → Outcome
   KnownAs k s b = as_known_by k (has_address e) (has_data e) (As k s b)
 

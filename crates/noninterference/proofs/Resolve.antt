@@ -20,7 +20,7 @@ use Rattle.noninterference.specs.Laws.{ResolveTellsNothing}
 use Rattle.noninterference.proofs.Places.{SamePlaces, SeenAlike, first_same, left_over, same_length}
 use Rattle.noninterference.proofs.Looking.{same_any, same_entry, same_rest, same_kind}
 
--- ---- which entry
+-- ---- which entry is resolved
 
 may_resolve_alike : (d : Desc) → SeenAlike d.stt_model (may_resolve d) (may_resolve d)
 may_resolve_alike d b b2 e e2 s h =
@@ -36,7 +36,7 @@ same_outcome Load model b e e2 o k t = absurd (cc)
 same_outcome Store model b e e2 o k t = o.1 t
 same_outcome _ model b e e2 o k t = o t
 
--- ---- what it does
+-- ---- what Resolve does to two machines
 
 squash_tells : (d : Desc) (b b2 : List Entry) (e : Entry) (y y2 : List Entry) (m m2 : Machine) → map without_outcome b ≡ map without_outcome b2 → map without_outcome y ≡ map without_outcome y2 → shown m ≡ shown m2 →
     shown_after (squash d (record { before = b; entry = e; younger = y }) m) ≡ shown_after (squash d (record { before = b2; entry = e; younger = y2 }) m2)

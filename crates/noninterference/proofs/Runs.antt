@@ -26,7 +26,7 @@ use Rattle.noninterference.proofs.Facts.{facts_opening}
 use Rattle.noninterference.proofs.Cycle.{cycle_tells_nothing}
 
 module _ (d : Desc) (code : Code) (total : ℕ) (protected : protects d.stt_model ≡ true) (aligned : Aligned code) where
-  -- what has retired stays so
+  -- the number of the retired doesn't fall in a run
   retired_stays : (n : ℕ) (x : Machine) → (x.end ≡ None → Consistent d code x) → x.retired ≤ (after_cycles d code n x).retired
   retired_stays zero x f = omega arith
   retired_stays (suc n) x f = by_end x.end refl (λ g. retired_stays n (cycle d code x).machine g)

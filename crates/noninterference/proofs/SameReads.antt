@@ -38,7 +38,7 @@ use Rattle.noninterference.proofs.PathLink.{leads_to, visible_clear}
 use Rattle.noninterference.proofs.Faults.{hart}
 use Rattle.noninterference.proofs.Replays.{same_outcome}
 
--- the same entries have been issued, of a store the same parts
+-- where all of an entry has issued in one run it has in the other, by its progress
 all_alike : (st : Progress) (e e2 : Entry) → FitsState st e → FitsState st e2 → at_once e.item.kind ≡ at_once e2.item.kind → all_issued e ≡ all_issued e2
 all_alike Waiting e e2 f f2 k = f.0 ∙ sym f2.0
 all_alike (Busy due) e e2 f f2 k = f.0 ∙ sym f2.0
@@ -55,7 +55,7 @@ issued_alike e e2 h p p2 f f2 =
     let all = all_alike e.state e e2 f (subst (λ st. FitsState st e2) (sym (ap (λ (t : Entry). t.state) h)) f2) (ap (λ (t : Entry). at_once t.item.kind) h) in
     issued_by e.item.kind (has_address e) (has_data e) (is_issued e) (is_issued e2) p (subst P (sym h) p2) (all ∙ ap A (sym h))
 
--- all of a load's outcome is known
+-- the whole outcome of a load is known
 of_load : (e : Entry) (v : Outcome) → e.item.kind ≡ Load → ComesTo e.outcome (as_known e v) → ComesTo e.outcome v
 of_load e v k c = subst (ComesTo e.outcome) (ap (λ k. as_known_by k (has_address e) (has_data e) v) k) c
 
@@ -117,6 +117,6 @@ module _ (now : ℕ) (d : Desc) (protected : protects d.stt_model ≡ true) (cod
   same_reads [] (e2 ∷ b2) lt w w2 h = absurd (cc)
   same_reads (e ∷ b) [] lt w w2 h = absurd (cc)
 
-  -- all that may be looked at is equal in both runs
+  -- two runs whose paths run in step have equal outcomes where they may be looked at
   pub same_window : (b b2 : List Entry) → length b ≤ limit → One b → Two b2 → map without_outcome b ≡ map without_outcome b2 → SameOutcomes model b b2
   same_window b b2 lt w w2 h = derived b b2 w w2 (same_reads b b2 lt w w2 h)

@@ -29,15 +29,15 @@ use Rattle.noninterference.proofs.Onward.{goes_on}
 use Rattle.noninterference.proofs.Paths.{path_goes}
 
 module _ (now : ℕ) (d : Desc) (code : Code) (total : ℕ) where
-  -- two ends of turns
+  -- what turns of Retire leave in both runs is alike
   abbrev pub R : Retired → Retired → Type 0
   R r r2 = RetiresAlike d.stt_model code total r r2
 
-  -- no turn
+  -- no turn leaves both runs alike
   pub stays_alike : (x x2 : Machine) → Alike x x2 → InStepUpTo d.stt_model code total x x2 → R (stays x) (stays x2)
   stays_alike x x2 r a = record { alike = r; events = refl; piece = refl; in_step = λ n. a }
 
-  -- one turn after the other
+  -- a turn and the rest leave both runs alike, where the rest does and the turn has the same events
   then_alike : (r r2 : Retired) (more more2 : Machine → Retired) → r.events ≡ r2.events → length r.piece ≡ length r2.piece → R (more r.machine) (more2 r2.machine) → R (then_retires r more) (then_retires r2 more2)
   then_alike r r2 more more2 ev p h = record {
     alike = h.alike;
@@ -46,24 +46,24 @@ module _ (now : ℕ) (d : Desc) (code : Code) (total : ℕ) where
     in_step = h.in_step;
   }
 
-  -- what follows a turn
+  -- the rest of Retire leaves both runs alike, on machines that are alike, consistent and in step
   abbrev pub Follows : (Machine → Retired) → Type 0
   Follows more = (y y2 : Machine) → y.end ≡ None → ConsistentIn now d code y → ConsistentIn now d code y2 → y.retired + length y.window ≤ total → Alike y y2 → InStepUpTo d.stt_model code total y y2 → R (more y) (more y2)
 
-  -- a step of both keeps them in step
+  -- a step of both runs keeps them in step
   in_step_after : (x x2 y y2 : Machine) (p p2 : List ℕ) → InStepUpTo d.stt_model code total x x2 → isa_step code (hart_of x) ≡ Goes (hart_of y) p → isa_step code (hart_of x2) ≡ Goes (hart_of y2) p2 → y.retired ≡ x.retired + 1 → InStepUpTo d.stt_model code total y y2
   in_step_after x x2 y y2 p p2 a s s2 q n le =
       (goes_on d.stt_model code n (hart_of x) (hart_of x2) (hart_of y) (hart_of y2) p p2 (a (suc n) (omega (arith, q, le)))
       (path_goes d.stt_model code (hart_of x) (hart_of y) p s) (path_goes d.stt_model code (hart_of x2) (hart_of y2) p2 s2)).0
 
-  -- the machine behind a head
+  -- the machine that a head leaves, which is no call and no store
   abbrev left : Entry → List Entry → Machine → Machine
   left e w m = record m { window = w; regs = with_reg m.regs (writes_of e.item.instr) (value_of e.outcome); pc = next_of e.outcome; retired = m.retired + 1 }
 
   abbrev left_store : Entry → List Entry → Machine → Machine
   left_store e w m = record (left e w m) { cache = fold (touched d) m.cache (lines_in d e) }
 
-  -- a head that is no call leaves both alike
+  -- a head that is no call leaves both runs alike
   pub left_turn : (k : Kind) (x x2 : Machine) (e : Entry) (rest rest2 : List Entry) (more : Machine → Retired) → is_call k ≡ false → LeftAs now d code k x e rest → LeftAs now d code k x2 e rest2 → x.end ≡ None → map without_outcome rest ≡ map without_outcome rest2 → x.retired + suc (length rest) ≤ total → Alike x x2 → InStepUpTo d.stt_model code total x x2 → Follows more →
       R (then_retires (head_leaves k d e rest x) more) (then_retires (head_leaves k d e rest2 x2) more)
   left_turn Call x x2 e rest rest2 more c l l2 n w le r a m = absurd (cc)
@@ -92,7 +92,7 @@ module _ (now : ℕ) (d : Desc) (code : Code) (total : ℕ) where
       ∙ ap (λ b. called (shown x2) t2.regs t2.pc b f o) (sym v.place.base)
       ∙ ap (λ f. called (shown x2) t2.regs t2.pc t2.ram.base f o) (sym v.place.misaligned)
 
-  -- and so does a call
+  -- a call leaves both runs alike
   pub call_turn : (x x2 : Machine) (e : Entry) (n : ℕ) (stored : Bool) (t t2 : Step) → isa_step code (hart_of x) ≡ t → isa_step code (hart_of x2) ≡ t2 → StepsAlike (hart_of x) (hart_of x2) t t2 → CallDoes (hart_of x) t → Alike x x2 → InStepUpTo d.stt_model code total x x2 →
       R (then_retires (call_leaves e [] x t) (turns d n stored)) (then_retires (call_leaves e [] x2 t2) (turns d n stored))
   call_turn x x2 e n stored (Goes t p) (Goes t2 p2) q q2 s c r a =

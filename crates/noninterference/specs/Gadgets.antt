@@ -10,19 +10,19 @@ use Rattle.window_model.specs.Path.{reads_of_trace}
 use Rattle.window_model.specs.Taint.{protects}
 use Rattle.window_model.proofs.Worked.{code_of, memory, bounds_check, fault, store, branch, divisor, injection}
 
--- with each secret byte the trace of these words, of any number of cycles, is that with 0
+-- every secret byte gives the trace of these words that the byte 0 gives, for any number of cycles
 abbrev pub HidesSecret : Desc → List ℕ → Type 0
 HidesSecret d words = (secret n : ℕ) → secret < 256 → trace d (code_of words) 0x10000 (memory 0 secret) n ≡ trace d (code_of words) 0x10000 (memory 0 0) n
 
--- so it is under every description whose model protects
+-- the program hides its secret under every description whose model protects
 abbrev pub Protected : List ℕ → Type 0
 Protected words = (d : Desc) → protects d.stt_model ≡ true → HidesSecret d words
 
--- a load behind a bounds check that is predicted wrongly, and a load at an address made of the secret
+-- no trace shows the secret behind a bounds check that is predicted wrongly, by a load at an address made of it
 abbrev pub BoundsCheckBypass : Type 0
 BoundsCheckBypass = Protected bounds_check
 
--- a store at such an address, and a load that it may cover
+-- a store at an address made of the secret, and a load that it may cover
 abbrev pub TaintedStoreAddress : Type 0
 TaintedStoreAddress = Protected store
 
@@ -44,11 +44,11 @@ TargetInjection = Protected injection
 abbrev pub store_bypass : List ℕ
 store_bypass = 0x00100413 ∷ 0x028142b3 ∷ 0x0082a023 ∷ 0x00012303 ∷ 0x00230333 ∷ 0x00834383 ∷ 0x00439393 ∷ 0x002383b3 ∷ 0x8003a483 ∷ 0x05d00893 ∷ 0x00000073 ∷ []
 
--- the pointer that the store writes leads elsewhere
+-- no trace shows the secret behind a load that has passed a store
 abbrev pub SpeculativeStoreBypass : Type 0
 SpeculativeStoreBypass = Protected store_bypass
 
--- a load behind one that faults, where the model is the futuristic one
+-- no trace shows the secret behind a load that faults, where the model is the futuristic one
 abbrev pub FaultShadow : Type 0
 FaultShadow = (d : Desc) → d.stt_model ≡ Futuristic → HidesSecret d fault
 
@@ -63,6 +63,6 @@ LoadsSecret d words = (n : ℕ) →
     (list_any (λ a. a == 0x1fff8) (loaded_by d words n) ≡ true)
     × ((secret : ℕ) → secret ≢ 0 → Agree (memory 0 0) (memory 0 secret) (loaded_by d words n) → ⊥)
 
--- so it is behind a load that faults, where the model is the spectre one
+-- behind a load that faults the path loads the secret, where the model is the spectre one
 abbrev pub FaultShadowSpectre : Type 0
 FaultShadowSpectre = (d : Desc) → d.stt_model ≡ Spectre → LoadsSecret d fault

@@ -17,14 +17,15 @@ pub record OwnFacts (now : ℕ) (d : Desc) (code : Code) (x : Machine) : Type 0 
   pub guarded : AllGuarded d.stt_model x.window
   pub fits : length x.window ≤ d.core_rob
 
--- both runs: they show the same, and the retired states run the path in step
+-- what holds of two runs that go on together, as Issue of cycle `now` finds them: they show the same, and their retired states
+-- run the path in step
 pub record TogetherIn (now : ℕ) (d : Desc) (code : Code) (total : ℕ) (x x2 : Machine) : Type 0 where
   pub alike : Alike x x2
   pub facts : OwnFacts now d code x
   pub facts2 : OwnFacts now d code x2
   pub in_step : InStepUpTo d.stt_model code total x x2
 
--- between two cycles: the next Issue is that of the next cycle
+-- two runs that go on together, between two cycles: the next Issue is that of the next cycle
 abbrev pub Together : Desc → Code → ℕ → Machine → Machine → Type 0
 Together d code total x x2 = TogetherIn (x.cycle + 1) d code total x x2
 

@@ -12,7 +12,7 @@ pub fn traces_agree()
     ensures noninterference { Noninterference }
 {}
 
-/// Each phase of two runs that show the same has the same events and leaves them showing the same. Which outcomes are equal
+/// Two runs that show the same have the same events in each phase, and show the same after it. Which outcomes are equal
 /// follows at each state from the paths, which run in step; and a cycle keeps all of this.
 pub fn phases_tell_nothing()
     ensures fill { FillTellsNothing }

@@ -28,7 +28,7 @@ last_kept : (t : Bool) (m : Miss) (l : ℕ) (ms : List Miss) → last_due ms ≤
 last_kept true m l ms h = omega arith
 last_kept false m l ms h = omega arith
 
--- it is no later once lines have come
+-- the cycle in which the last register is freed is no later once lines have come
 last_falls : (t : Miss → Bool) (ms : List Miss) → last_due (filter t ms) ≤ last_due ms
 last_falls t [] = omega arith
 last_falls t (m ∷ ms) = last_kept (t m) m (last_due ms) (filter t ms) (last_falls t ms)
@@ -44,7 +44,7 @@ register_nearer d before t old l p =
 -- ---- how long an entry takes
 
 module _ (d : Desc) (cycle : ℕ) (misses : List Miss) (free_from : ℕ) where
-  -- two cycles less than the bound: one to be fetched, one to be renamed
+  -- a waiting entry takes at most the bound less two cycles: one is left to be fetched, one to be renamed
   pub waiting_at_most : (k : Kind) → 1 ≤ d.cache_miss_latency → Each (IsPending d cycle cycle) misses → free_from ≤ cycle + longest_division → takes Waiting k d cycle misses free_from + 2 ≤ bound d
   waiting_at_most Load l p h = let w = last_at_most d cycle cycle misses p in omega arith
   waiting_at_most Div l p h = omega arith

@@ -20,18 +20,19 @@ use Rattle.machine_facts.proofs.ClearPhases.{timely_clear}
 use Rattle.machine_facts.proofs.TimelyPhases.{timely_begin, timely_fill, timely_complete, timely_resolve}
 use Rattle.progress.proofs.Stops.{Stuck, retire_turned}
 
--- the state before Resolve, and the phases after Retire
+-- the state of a cycle before Resolve
 abbrev pub before_resolve : Desc → Machine → Machine
 before_resolve d x = (complete (fill d (record x { cycle = x.cycle + 1 })).machine).machine
 
+-- the state that the phases after Retire leave
 abbrev pub after_fetch : Desc → Code → Machine → Machine
 after_fetch d code x = (fetch d code (rename d (issue d x).machine).machine).machine
 
--- and the one between Resolve's two parts
+-- the state between Resolve and Clear
 abbrev pub before_clear : Desc → Machine → Machine
 before_clear d x = (resolve d (before_resolve d x)).machine
 
--- what is under way there ends in a later cycle
+-- what is under way before Clear ends in a later cycle
 pub timely_before_clear : (d : Desc) (x : Machine) → IsDesc d → Timely d x → Timely d (before_clear d x)
 timely_before_clear d x i h =
     let x1 : Machine = record x { cycle = x.cycle + 1 } in
@@ -45,7 +46,7 @@ sized_before_clear d x i s =
     let x1 : Machine = record x { cycle = x.cycle + 1 } in
     sized_resolve d (before_resolve d x) i (sized_complete d (fill d x1).machine i (sized_fill d x1 i (sized_begin d x i s)))
 
--- what has retired stays so
+-- a cycle doesn't lower the number of the retired
 pub cycle_retires : (d : Desc) (code : Code) (x : Machine) → x.retired ≤ (cycle d code x).machine.retired
 cycle_retires d code x =
     let y = at_retire d x in
@@ -67,7 +68,8 @@ pub record Idle (d : Desc) (code : Code) (x : Machine) : Type 0 where
   pub end : x.end ≡ None
   pub after : (cycle d code x).machine ≡ after_fetch d code (at_retire d x)
 
--- r is what Retire leaves of x
+-- where nothing retires and the run doesn't end, Retire has changed nothing, and the phases after it follow; r is what Retire
+-- leaves of x
 idle_by : (d : Desc) (code : Code) (x r : Machine) (o : Option End) → r.end ≡ o → (r.end ≡ None → r.retired ≡ x.retired → (r ≡ x) × Stuck x.window) →
     let y = (unless_ended o (nothing r) (then_does (issue d r) (λ y. then_does (rename d y) (fetch d code)))).machine in
     y.end ≡ None → y.retired ≡ x.retired → (r ≡ x) × Stuck x.window × (y ≡ after_fetch d code x) × (r.end ≡ None)

@@ -60,12 +60,12 @@ headed x e es = record x { window = e ∷ es }
 
 -- ---- the oldest may issue
 
--- an oldest entry in one piece that may issue has a port
+-- an oldest entry that issues in one piece and may issue is granted its port
 granted : (k : Kind) (d : Desc) (now : Around) (e : Entry) → is_store k ≡ false → may_issue_as k d now [] (made Waiting k e) ≡ true → 1 ≤ ports d (port_of k) → is_granted d now (port_of k) [] (made Waiting k e) ≡ true
 granted k d now e s m p =
     both_true (may_own d now [] (made Waiting k e) s ∙ both_true (oldest_ready d (made Waiting k e)) m) (is_below 0 (ports d (port_of k)) (omega arith))
 
--- so has each part of an oldest store that hasn't issued, in version 1 where the other hasn't either
+-- a part of a store is ready whose own source is there; in version 1 where both sources are and neither part has issued
 part_ready : (v r w k : Bool) → r ≡ true → (v ≡ true → w ≡ true) → k ≡ true → (if v then r && w else k) ≡ true
 part_ready true r w k p q s = both_true p (q refl)
 part_ready false r w k p q s = s
@@ -87,7 +87,7 @@ data_granted d now e t h =
     both_true (both_true (ap not h) (part_ready (d.version == 1) (ready d [] a) (is_whole a) (all_known d [] (others_of (sources a))) (oldest_ready d a)
     (λ v. let q = t (eqb-true _ _ v) refl in neither (has_address e) (has_data e) (q ∙ h) q) (oldest_known d (others_of (sources a))))) refl
 
--- a load may issue, and a division where the divider is free
+-- an oldest load may issue
 load_may : (d : Desc) (now : Around) (e : Entry) → may_issue_as Load d now [] (made Waiting Load e) ≡ true
 load_may d now e = both_true (ap not (oldest_address d (made Waiting Load e))) (in_each (d.version == 1))
   where
@@ -95,10 +95,11 @@ load_may d now e = both_true (ap not (oldest_address d (made Waiting Load e))) (
     in_each true = refl
     in_each false = refl
 
+-- an oldest division may issue, where the divider is free
 division_may : (d : Desc) (now : Around) (e : Entry) → is_free now ≡ true → may_issue_as Div d now [] (made Waiting Div e) ≡ true
 division_may d now e h = both_true (ap not (oldest_untainted d (made Waiting Div e))) h
 
--- ---- numbers
+-- ---- how much an entry needs
 
 needs_then : (b : Bool) (s t : Begun) (d : Desc) (cycle : ℕ) (ms : List Miss) (f n : ℕ) → b ≡ true → needs s.entry d cycle ms f < n → needs (if b then s else t).entry d cycle ms f < n
 needs_then true s t d cycle ms f n h k = k
@@ -114,9 +115,9 @@ soon c y n m e h = omega arith
 one_nearer : (due y c0 : ℕ) → y ≡ c0 + 1 → y < due → due - y < due - c0
 one_nearer due y c0 e h = omega arith
 
--- ---- a load
+-- ---- the oldest is a load
 
--- a load waits only where some register is taken
+-- an access waits only where some miss register is taken
 abbrev WaitsForSome : Around → Access → Type 0
 WaitsForSome now Waits = 1 ≤ length now.misses
 WaitsForSome now _ = Unit {0}
@@ -166,7 +167,7 @@ misses_of_tried : (b : Bool) (p : Place) (o : Option Place) (d : Desc) (x : Mach
 misses_of_tried true p o d x h = refl
 misses_of_tried false p o d x h = absurd (cc)
 
--- ---- a division: where the divider is busy, none issues
+-- ---- the oldest is a division: where the divider is busy, none issues
 
 none_and : (m s : Bool) → s ≡ false → (m && s) ≡ false
 none_and true s h = h
@@ -203,7 +204,7 @@ same_divider d x h = ap (λ (o : Option Place). (divider_after x o).free_from) (
 refused : (d : Desc) (now : Around) (e : Entry) → is_free now ≡ false → is_granted d now DivPort [] (made Waiting Div e) ≡ false
 refused d now e h = ap (λ b. b && nat_lt 0 1) (busy_divider Div d now [] (made Waiting Div e) h)
 
--- ---- by state and kind
+-- ---- the oldest by its state and kind
 
 -- what loads are served by: memory that takes no other addresses than the description says, and as many sets of the second level
 pub record Served (d : Desc) (x : Machine) : Type 0 where
@@ -217,7 +218,7 @@ Nearer s k d x0 x e es =
     let y = (issue d (headed x (made s k e) es)).machine in
     needs (issue_entry d (around x) [] (made s k e)).entry d y.cycle y.misses y.divider.free_from < takes s k d x0.cycle x0.misses x0.divider.free_from
 
--- an entry that issues and is then busy for so long
+-- an oldest entry that issues and is then busy for n cycles comes nearer to being done
 plain_nearer : (k : Kind) (n m : ℕ) (d : Desc) (now : Around) (e : Entry) (b : Begun) (c y g : ℕ) (ms : List Miss) →
     b.entry.state ≡ Busy (c + n) → is_granted d now (port_of k) [] (made Waiting k e) ≡ true → y ≡ c → n < m →
     needs (if is_granted d now (port_of k) [] (made Waiting k e) then b else waits (made Waiting k e)).entry d y ms g < m
@@ -248,7 +249,7 @@ division_nearer d x0 x e es false h p t r i s o =
     needs_else (is_granted d now DivPort [] a) (begin_as Div d now [] a) (waits a) d y.cycle y.misses y.divider.free_from _ (refused d now e h)
     (later x.divider.free_from y.divider.free_from y.cycle x.cycle x0.cycle x0.divider.free_from (same_divider d x2 h) (issue_adds d x2).cycle o.cycle o.divider (not_free x.divider.free_from x.cycle h))
 
--- ---- a store: each part that hasn't issued does, and both are known in the next cycle
+-- ---- the oldest is a store: each part that hasn't issued does, and both are known in the next cycle
 
 both_soon : (a c : Option ℕ) (s : Progress) (k : Kind) (d : Desc) (cycle y g : ℕ) (ms : List Miss) → is_some a ≡ true → is_some c ≡ true → PartDue cycle a → PartDue cycle c → y ≡ cycle →
     takes (busy_until_both a c s) k d y ms g < 2
@@ -286,11 +287,11 @@ store_nearer d x e es p t s =
     parts_soon (is_granted d now AddressPort [] a) (is_granted d now DataPort [] a) d now (effect_of x.regs [] a) a y.cycle y.divider.free_from y.misses ha hc
     (λ g h. not_both (has_address e) (has_data e) (p refl) (ha g) (hc h)) s.parts.0 (issue_adds d x2).cycle
 
--- what executes goes on
+-- the oldest entry stays busy where it is
 busy_stays : (d : Desc) (now : Around) (e : Entry) (due : ℕ) → e.state ≡ Busy due → HasParts e → (issue_entry d now [] e).entry.state ≡ Busy due
 busy_stays d now e due q p = ap (λ (r : Entry). r.state) (issued_stays d now [] e p (ap is_waiting q)) ∙ q
 
--- where it waits: it issues, or a register or the divider comes nearer
+-- an oldest entry that waits comes nearer to being done: it issues, or the last register or the divider gets free sooner
 waiting_nearer : (k : Kind) (d : Desc) (x0 x : Machine) (e : Entry) (es : List Entry) → Nearer Waiting k d x0 x e es
 waiting_nearer Load d x0 x e es p t r i s o =
     let x2 = headed x (made Waiting Load e) es in
@@ -324,6 +325,6 @@ state_nearer (Busy due) k d x0 x e es h p t r i s o =
     subst (λ (v : Progress). takes v issued.item.kind d y.cycle y.misses y.divider.free_from < due - x0.cycle) (sym stays)
     (one_nearer due _ x0.cycle (q ∙ o.cycle) (let b = s.dues.0.0 in omega arith))
 
--- an oldest entry that isn't done comes nearer to it
+-- an oldest entry that isn't done comes nearer to being done
 pub oldest_nearer : (d : Desc) (x0 x : Machine) (e : Entry) (es : List Entry) → is_done e.state ≡ false → Nearer e.state e.item.kind d x0 x e es
 oldest_nearer d x0 x e es h = state_nearer e.state e.item.kind d x0 x e es h

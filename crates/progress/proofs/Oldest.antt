@@ -31,20 +31,21 @@ all_of : (f : ℕ → Bool) (rs : List ℕ) → ((r : ℕ) → f r ≡ true) →
 all_of f [] h = refl
 all_of f (r ∷ rs) h = ap (λ b. b && list_all f rs) (h r) ∙ all_of f rs h
 
--- so its operands are known, and none is tainted
+-- the oldest entry's operands are known, since nothing is older
 pub oldest_known : (d : Desc) (rs : List ℕ) → all_known d [] rs ≡ true
 oldest_known d rs = all_of (is_known d []) rs (λ r. refl)
 
 pub oldest_ready : (d : Desc) (e : Entry) → ready d [] e ≡ true
 oldest_ready d e = oldest_known d (sources e)
 
+-- no operand of the oldest entry is tainted
 pub oldest_untainted : (d : Desc) (e : Entry) → any_tainted d.stt_model [] e ≡ false
 oldest_untainted d e = none_any (tainted d.stt_model []) (sources e) (λ r. refl)
 
 pub oldest_address : (d : Desc) (e : Entry) → address_tainted d.stt_model [] e ≡ false
 oldest_address d e = none_any (tainted d.stt_model []) (base_of (sources e)) (λ r. refl)
 
--- ---- Resolve
+-- ---- Resolve leaves the oldest
 
 -- the oldest entry stays the oldest, and may leave if it is done
 pub record StaysOldest (h : Entry) (w : List Entry) : Type 0 where
@@ -73,7 +74,7 @@ unresolved_leaves true true false false h p q = absurd (cc)
 unresolved_leaves c false r a h p q = absurd (cc)
 
 module _ (d : Desc) (h : Entry) (younger : List Entry) (x : Machine) where
-  -- a younger entry is resolved, or none
+  -- the oldest entry stays the oldest where a younger one is resolved, or none
   behind_it : (o : Option Place) → may_resolve d [] h ≡ false → first_from (may_resolve d) (h ∷ []) younger ≡ o → StaysOldest h (resolve_at d o (record x { window = h ∷ younger })).machine.window
   behind_it None n q = record {
     entry = h;
@@ -110,7 +111,7 @@ module _ (d : Desc) (h : Entry) (younger : List Entry) (x : Machine) where
   pub resolve_oldest : StaysOldest h (resolve d (record x { window = h ∷ younger })).machine.window
   resolve_oldest = by_may (may_resolve d [] h) refl
 
--- ---- Clear
+-- ---- Clear leaves the oldest
 
 -- the oldest entry stays the oldest, but that a store of known address is cleared
 pub record GetsCleared (h : Entry) (w : List Entry) : Type 0 where
@@ -147,7 +148,7 @@ module _ (d : Desc) (h : Entry) (younger : List Entry) (x : Machine) where
   as_it_is : (is_store h.item.kind ≡ true → has_address h ≡ true → h.cleared ≡ true) → GetsCleared h (h ∷ younger)
   as_it_is c = record { entry = h; rest = younger; shape = refl; state = refl; item = refl; resolved = refl; cleared = c }
 
-  -- a younger store is cleared, or none
+  -- the oldest entry stays the oldest where a younger store is cleared, or none
   clears_behind : (o : Option Place) → may_clear d [] h ≡ false → first_from (may_clear d) (h ∷ []) younger ≡ o → GetsCleared h (clear_at d o whole).machine.window
   clears_behind None n q = as_it_is (not_now (is_store h.item.kind) h.cleared (has_address h) (address_tainted d.stt_model [] h) n (oldest_address d h))
   clears_behind (Some p) n q =
@@ -178,7 +179,7 @@ module _ (d : Desc) (h : Entry) (younger : List Entry) (x : Machine) where
       by_passing true q = clears_first (may_clear d [] h) refl
       by_passing false q = as_it_is (λ k a. s (from_start (passing d) (is_store h.item.kind) q))
 
--- ---- both
+-- ---- Resolve and Clear together
 
 -- the oldest entry stays the oldest, and may go if it is done
 pub record GoesOldest (h : Entry) (w : List Entry) : Type 0 where
@@ -227,7 +228,7 @@ clear_empty d x = by_passing (passing d)
     by_passing true = refl
     by_passing false = refl
 
--- ---- what else they leave; the divider is free no later
+-- ---- what else Resolve and Clear leave; the divider is free no later
 pub record Resolves (x y : Machine) : Type 0 where
   pub cycle : y.cycle ≡ x.cycle
   pub misses : y.misses ≡ x.misses

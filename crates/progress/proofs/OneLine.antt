@@ -27,7 +27,7 @@ by_exponent n (suc (suc k)) q l = let p = pow-add 2 k 2 in (2 ^ k, omega (arith,
 fours : (n : ℕ) → IsPowerOfTwo n → 4 ≤ n → (m : ℕ) × (n ≡ 4 * m)
 fours n p l = by_exponent n p.0 p.1 l
 
--- so many of these accesses are a line
+-- a number of accesses of this width fills a line
 width_in_line : (op : Op) (line m : ℕ) → line ≡ 4 * m → (k : ℕ) × (0 < size_of op) × (line ≡ size_of op * k)
 width_in_line Lw line m q = (m, omega arith, q)
 width_in_line Sw line m q = (m, omega arith, q)

@@ -22,10 +22,11 @@ pub record Appends (x y : Machine) : Type 0 where
   pub divider : y.divider ≡ x.divider
   pub window : (r : List Entry) × (y.window ≡ x.window ++ r)
 
--- no step, and one step after another
+-- a machine appends nothing to itself
 pub appends_same : (x : Machine) → Appends x x
 appends_same x = record { cycle = refl; misses = refl; divider = refl; window = ([], sym (append-nil x.window)) }
 
+-- two phases that append, one after the other, append together
 pub appends_then : (x y z : Machine) → Appends x y → Appends y z → Appends x z
 appends_then x y z p q = record {
   cycle = q.cycle ∙ p.cycle;
@@ -34,13 +35,13 @@ appends_then x y z p q = record {
   window = (p.window.0 ++ q.window.0, q.window.1 ∙ ap (λ w. w ++ q.window.0) p.window.1 ∙ append_assoc x.window p.window.0 q.window.0);
 }
 
--- ---- rename
+-- ---- Rename appends entries to the window
 
 module _ (d : Desc) where
   one_renamed : (i : Item) (rest : List Item) (x : Machine) → Appends x (rename_one d i rest x).machine
   one_renamed i rest x = record { cycle = refl; misses = refl; divider = refl; window = (renamed d x.next_serial i ∷ [], refl) }
 
-  -- any number of items, as few as come behind a first one
+  -- however many items are renamed, entries only come behind the others
   renamed_up_to : (n : ℕ) (x : Machine) → Appends x (rename_up_to d n x).machine
   renamed_up_to =
       by_renamed d (λ n x a. Appends x a.machine) (λ n x. appends_same x)
@@ -82,9 +83,9 @@ module _ (d : Desc) where
     unfolding rename
     rename_first j rest x = first_up_to d.core_fetch_width j rest x i.fetch_width.0
 
--- ---- fetch
+-- ---- Fetch appends items to the queue
 
--- besides, the window stays, and items only come behind the others
+-- Fetch leaves time, miss registers, divider and window, and items only come behind the others
 pub record Fetches (x y : Machine) : Type 0 where
   pub appends : Appends x y
   pub window : y.window ≡ x.window
@@ -108,7 +109,7 @@ module _ (d : Desc) (code : Code) where
     queue = (i ∷ [], refl);
   }
 
-  -- any number of items, as few as come behind a first one
+  -- however many items are fetched, items only come behind the others
   fetched_up_to : (n : ℕ) (x : Machine) → Fetches x (fetch_up_to d code n x).machine
   fetched_up_to =
       by_fetched d code (λ n x a. Fetches x a.machine) (λ n x. fetches_same x)

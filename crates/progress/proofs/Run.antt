@@ -21,11 +21,11 @@ use Rattle.progress.proofs.Falls.{measure_falls}
 module _ (d : Desc) (code : Code) where
   -- ---- cycles one after another
 
-  -- what has retired stays so
+  -- cycles don't lower the number of the retired
   pub run_retires : (k : ℕ) (x : Machine) → x.retired ≤ (after_cycles d code k x).retired
   run_retires k x = run_keep d (λ y. x.retired ≤ y.retired) code (λ y h. let c = cycle_retires d code y in omega arith) k x (omega arith)
 
-  -- after an end there are no more cycles
+  -- a run that has ended stays as it is in further cycles
   ended : (k : ℕ) (x : Machine) (e : End) → x.end ≡ Some e → after_cycles d code k x ≡ x
   ended zero x e h = refl
   ended (suc k) x e h = ap (λ o. unless_ended o x (after_cycles d code k (cycle d code x).machine)) h
@@ -34,14 +34,14 @@ module _ (d : Desc) (code : Code) where
   later_by n None x y z h e = e
   later_by n (Some end) x y z h e = sym (ended n x end h)
 
-  -- k cycles and n more
+  -- the state after k cycles and n more is that after n from where k led
   pub later : (k n : ℕ) (x : Machine) → after_cycles d code (k + n) x ≡ after_cycles d code n (after_cycles d code k x)
   later zero n x = ap (λ j. after_cycles d code j x) (zero-add n)
   later (suc k) n x =
       let y = (cycle d code x).machine in
       ap (λ j. after_cycles d code j x) (suc-add k n) ∙ later_by n x.end x (after_cycles d code k y) (after_cycles d code (k + n) y) refl (later k n y)
 
-  -- a run that hasn't ended hadn't before
+  -- a run that hasn't ended after k cycles hadn't before
   pub not_ended : (k : ℕ) (x : Machine) → (after_cycles d code k x).end ≡ None → x.end ≡ None
   not_ended k x p = by_end x.end refl
     where
@@ -51,7 +51,7 @@ module _ (d : Desc) (code : Code) where
 
   -- ---- as many cycles as the measure says
 
-  -- more has retired after n cycles, where the measure is no more
+  -- more has retired after n cycles, where the run hasn't ended and the measure is at most n
   abbrev RetiresIn : ℕ → Machine → Type 0
   RetiresIn n x = (after_cycles d code n x).end ≡ None → measure d x ≤ n → x.retired < (after_cycles d code n x).retired
 
@@ -66,7 +66,7 @@ module _ (d : Desc) (code : Code) where
       by (inl e) = let g = f (sym e) in omega arith
       by (inr l) = omega arith
 
-  -- the next cycle retires something, or the measure is smaller behind it
+  -- more has retired after a cycle and n others: the next cycle retires something, or the measure is smaller behind it
   in_one_more : (n : ℕ) (x : Machine) → IsDesc d → Allows d x.ram → Sized d x → Timely d x → RetiresIn n (cycle d code x).machine → measure d x ≤ suc n →
       (after_cycles d code n (cycle d code x).machine).end ≡ None → x.retired < (after_cycles d code n (cycle d code x).machine).retired
   in_one_more n x i l s t more m q =
@@ -94,7 +94,7 @@ retires_within_bound d code entry ram k i a p =
     let r = retires_in d code (bound d) x i (λ m. a (sym (memory_stays_at d code entry ram k i).misaligned ∙ m)) (sized_at d code entry ram k i) (timely_at d code entry ram k i) (ap (λ (m : Machine). m.end) (sym l) ∙ p) (measure_is_bounded d code entry ram k i) in
     subst (λ (m : Machine). x.retired < m.retired) (sym l) r
 
--- the state at n times the bound, and that a bound later
+-- after n times the bound at least n have retired, by the state at n times the bound and that a bound later
 pub retires_in_budget : RetiresInBudget
 retires_in_budget d code entry ram zero i a p = omega arith
 retires_in_budget d code entry ram (suc n) i a p =

@@ -10,7 +10,7 @@ use Rattle.window_model.specs.Retire.{Retired, hart_of, stays, may_leave, store_
 use Rattle.window_model.proofs.Calls.{CallDoes, call_does}
 use Rattle.window_model.proofs.Walks.{Halts, NoTurn, HasEnded, NoHead, HeadStays, StoreWaits, retire_by}
 
--- as the first of a cycle an entry may leave, and doesn't wait as a store
+-- the entry may leave as the first of a cycle, and doesn't wait as a store
 abbrev pub may_go : Entry → Bool
 may_go e = may_leave e && not (store_waits false e)
 
@@ -19,17 +19,19 @@ abbrev pub Stuck : List Entry → Type 0
 Stuck [] = Unit {0}
 Stuck (e ∷ es) = may_go e ≡ false
 
--- after so many turns no fewer have retired; and where the first could do something, and nothing has retired, nothing changed
+-- n turns of Retire lower no count; and where there is a first turn, and nothing has retired or ended, nothing changed and the
+-- oldest may not go
 pub record Turned (n : ℕ) (stored : Bool) (x : Machine) (r : Retired) : Type 0 where
   pub retired : x.retired ≤ r.machine.retired
   pub stops : 1 ≤ n → stored ≡ false → r.machine.end ≡ None → r.machine.retired ≡ x.retired → (r.machine ≡ x) × Stuck x.window
 
--- a head that leaves is one more
+-- a call that leaves is one more retired
 call_retires : (e : Entry) (rest : List Entry) (x : Machine) (s : Step) → CallDoes (hart_of x) s → (call_leaves e rest x s).machine.retired ≡ x.retired + 1
 call_retires e rest x (Goes s piece) c = refl
 call_retires e rest x (Exits v s) c = refl
 call_retires e rest x (Traps cause) c = absurd c
 
+-- a head of any kind that leaves is one more retired
 head_retires : (k : Kind) (d : Desc) (e : Entry) (rest : List Entry) (x : Machine) → (head_leaves k d e rest x).machine.retired ≡ x.retired + 1
 head_retires Call d e rest x = call_retires e rest x (call (hart_of x)) (call_does (hart_of x))
 head_retires Store d e rest x = refl
@@ -40,7 +42,7 @@ waits true true h = refl
 waits false w h = refl
 waits true false h = absurd (cc)
 
--- where no turn follows, it is for one of these reasons
+-- where no turn follows, no fewer have retired, whatever the reason is
 halted : (n : ℕ) (stored : Bool) (x : Machine) → Halts n stored x → Turned n stored x (stays x)
 halted n stored x (NoTurn q) = record { retired = omega arith; stops = λ l. absurd (omega arith) }
 halted n stored x (HasEnded e q) = record { retired = omega arith; stops = λ l s u. absurd (cc) }

@@ -17,18 +17,18 @@ Allows d ram = ram.misaligned ≡ true → d.ram_misaligned ≡ 1
 abbrev pub MeasureIsBounded : Type 0
 MeasureIsBounded = (d : Desc) (code : Code) (entry : ℕ) (ram : Ram) (k : ℕ) → IsDesc d → measure d (at d code entry ram k) ≤ bound d
 
--- it falls in a cycle in which nothing retires and the run doesn't end
+-- the measure falls in a cycle in which nothing retires and the run doesn't end
 abbrev pub MeasureFalls : Type 0
 MeasureFalls = (d : Desc) (code : Code) (x : Machine) → IsDesc d → Allows d x.ram → Sized d x → Timely d x →
     let y = (cycle d code x).machine in
     y.end ≡ None → y.retired ≡ x.retired → measure d y < measure d x
 
--- so where the run hasn't ended, more has retired after `bound d` further cycles
+-- where the run hasn't ended, more has retired after `bound d` further cycles
 abbrev pub RetiresWithinBound : Type 0
 RetiresWithinBound = (d : Desc) (code : Code) (entry : ℕ) (ram : Ram) (k : ℕ) → IsDesc d → Allows d ram →
     (at d code entry ram (k + bound d)).end ≡ None → (at d code entry ram k).retired < (at d code entry ram (k + bound d)).retired
 
--- and after n times `bound d` cycles at least n have retired
+-- after n times `bound d` cycles at least n have retired, where the run hasn't ended
 abbrev pub RetiresInBudget : Type 0
 RetiresInBudget = (d : Desc) (code : Code) (entry : ℕ) (ram : Ram) (n : ℕ) → IsDesc d → Allows d ram →
     (at d code entry ram (n * bound d)).end ≡ None → n ≤ (at d code entry ram (n * bound d)).retired

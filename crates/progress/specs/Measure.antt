@@ -29,7 +29,8 @@ takes Done k d cycle misses free_from = 1
 takes (Busy due) k d cycle misses free_from = due - cycle
 takes Waiting k d cycle misses free_from = wait k cycle misses free_from + latency k d
 
--- the bound where nothing is fetched yet, and a cycle less where something is
+-- the cycles until an item is renamed and retires, where no entry is in flight: the bound where nothing is fetched yet, and a
+-- cycle less where something is
 abbrev pub until_renamed : Desc → List Item → ℕ
 until_renamed d [] = bound d
 until_renamed d (i ∷ is) = bound d - 1
@@ -39,6 +40,6 @@ abbrev pub time_left : Desc → ℕ → List Miss → ℕ → List Item → List
 time_left d cycle misses free_from queue [] = until_renamed d queue
 time_left d cycle misses free_from queue (e ∷ es) = takes e.state e.item.kind d cycle misses free_from
 
--- at most so many cycles until the next retirement or the end
+-- at most this many cycles until the next retirement or the end of the run
 abbrev pub measure : Desc → Machine → ℕ
 measure d x = time_left d x.cycle x.misses x.divider.free_from x.queue x.window

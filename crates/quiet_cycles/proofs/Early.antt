@@ -24,7 +24,7 @@ use Rattle.window_model.proofs.Lists.{each_then}
 use Rattle.quiet_cycles.specs.Still.{NotDueBefore, NotDoneBefore, at_cycle}
 use Rattle.quiet_cycles.proofs.Nothing.{both_empty, map_empty, Lacks, none_left, none_kept, all_kept}
 
--- ---- fill
+-- ---- Fill where nothing happens
 
 -- no line comes in this cycle
 abbrev pub NoLine : ℕ → List Miss → Type 0
@@ -46,14 +46,14 @@ fill_nothing d x h =
     ap (λ come. left come (filter (λ m. not (is_due x.cycle m)) x.misses)) (none_kept (is_due x.cycle) x.misses h)
     ∙ ap (left []) (all_kept (is_due x.cycle) x.misses h)
 
--- what is not due between two cycles is not due in one between them
+-- what is not due after one cycle and before cycle n is not due in a cycle between them
 not_now : (n before cycle due : ℕ) → NotDueBefore n before due → before < cycle → cycle < n → (due == cycle) ≡ false
 not_now n before cycle due h l m = grind (arith, nat_tests)
 
 pub no_line_later : (n before cycle : ℕ) (misses : List Miss) → Each (λ m. NotDueBefore n before m.due) misses → before < cycle → cycle < n → NoLine cycle misses
 no_line_later n before cycle misses h l m = each_then _ _ (λ (r : Miss) k. not_now n before cycle r.due k l m) misses h
 
--- ---- complete
+-- ---- Complete where nothing happens
 
 -- no entry becomes Done in this cycle
 abbrev pub NoneDone : ℕ → List Entry → Type 0
@@ -80,9 +80,9 @@ not_done_now n before cycle Done h l m = refl
 pub none_done_later : (n before cycle : ℕ) (window : List Entry) → Each (λ e. NotDoneBefore n before e.state) window → before < cycle → cycle < n → NoneDone cycle window
 none_done_later n before cycle window h l m = each_then _ _ (λ (e : Entry) k. not_done_now n before cycle e.state k l m) window h
 
--- ---- resolve
+-- ---- Resolve where nothing happens
 
--- what is learnt has an event
+-- what the predictor learns has an event
 target_learns : (b : Bool) (d : Desc) (e : Entry) (counters : List ℕ) (targets : List (Option Target)) →
     (if b then record { counters = counters; targets = targets; events = event.Res e.serial Jump ∷ [] } else learn_target d e (next_of e.outcome) counters targets).events ≡ [] → ⊥
 target_learns true d e counters targets h = cc
@@ -92,7 +92,7 @@ learns : (k : Kind) (d : Desc) (e : Entry) (counters : List ℕ) (targets : List
 learns Branch d e counters targets h = cc
 learns _ d e counters targets h = target_learns (is_faulty e) d e counters targets h
 
--- so where no event is, nothing is found
+-- where Resolve has no event, it finds no entry to resolve
 none_resolved : (d : Desc) (o : Option Place) (x : Machine) → (resolve_at d o x).events ≡ [] → o ≡ None
 none_resolved d None x h = refl
 none_resolved d (Some p) x h = absurd (learns p.entry.item.kind d p.entry x.counters x.targets (both_empty (learn d p.entry x.counters x.targets).events _ h).0)
@@ -103,14 +103,14 @@ none_resolves d x h = none_resolved d (first (may_resolve d) x.window) x h
 pub resolve_nothing : (d : Desc) (x : Machine) → first (may_resolve d) x.window ≡ None → resolve d x ≡ nothing x
 resolve_nothing d x h = ap (λ o. resolve_at d o x) h
 
--- ---- clear
+-- ---- Clear where nothing happens
 
 -- a store that is cleared has an event
 clear_tells : (d : Desc) (p : Place) (o : Option Place) (x : Machine) → (clear_with d p o x).events ≡ [] → ⊥
 clear_tells d p None x h = cc
 clear_tells d p (Some q) x h = cc
 
--- so where no event is, none is cleared, in any cycle
+-- where Clear has no event, it does nothing in any cycle
 none_cleared : (d : Desc) (c : ℕ) (o : Option Place) (x : Machine) → (clear_at d o x).events ≡ [] → clear_at d o (at_cycle c x) ≡ nothing (at_cycle c x)
 none_cleared d c None x h = refl
 none_cleared d c (Some p) x h = absurd (clear_tells d p (violated_by p) x h)

@@ -23,7 +23,7 @@ use Rattle.window_model.specs.Issue.{Port, AddressPort, DataPort, port_of, ports
 use Rattle.quiet_cycles.specs.Still.{NotDueBefore, at_cycle}
 use Rattle.quiet_cycles.proofs.Waiting.{NoneBegins}
 
--- ---- the divider
+-- ---- when the divider is free
 
 pub free_as_before : (n before cycle free_from : ℕ) → NotDueBefore n before free_from → before < cycle → cycle < n → nat_le free_from cycle ≡ nat_le free_from before
 free_as_before n before cycle free_from h l m = grind (arith, nat_tests)
@@ -41,7 +41,7 @@ module _ (d : Desc) (x : Machine) (c : ℕ) where
   same_access before a n (Some cause) = refl
   same_access before a n None = refl
 
-  -- ---- nor does what begins, but for when it is done
+  -- ---- what begins does not ask for the cycle, but for when it is done
 
   load_as_before : (a : Access) (e : Entry) (f : Effect) (v : ℕ) → (load_as a d later e f v).events ≡ (load_as a d now e f v).events
   load_as_before (Faults cause) e f v = refl
@@ -59,7 +59,7 @@ module _ (d : Desc) (x : Machine) (c : ℕ) where
   if_as_before true before e = begins_as_before e.item.kind before e
   if_as_before false before e = refl
 
-  -- a store's events by which of its parts go
+  -- the events of a store, by which of its parts issue
   abbrev events_by : Bool → Bool → Entry → List Event
   events_by a c e = (if a then event.Agu e.serial ∷ [] else []) ++ (if c then data_events d e else [])
 

@@ -4,9 +4,9 @@ use Rattle.std.specs.Prelude.{map}
 use Rattle.std.specs.List.{filter, AllByRecursion as Each}
 use Rattle.window_model.specs.State.{Machine, After, then_does, nothing}
 
--- ---- lists
+-- ---- lists without any element
 
--- two lists that make an empty one
+-- two lists are empty that make an empty one
 pub both_empty : {X : Type 0} (a b : List X) → a ++ b ≡ [] → (a ≡ []) × (b ≡ [])
 both_empty [] b h = (refl, h)
 both_empty (x ∷ a) b h = absurd (cc)
@@ -17,7 +17,7 @@ map_empty f [] h = refl
 map_empty f (x ∷ xs) h = absurd (cc)
 
 module _ {X : Type 0} (t : X → Bool) where
-  -- no element has the property
+  -- no element of the list has the property
   abbrev pub Lacks : List X → Type 0
   Lacks xs = Each (λ x. t x ≡ false) xs
 
@@ -25,12 +25,12 @@ module _ {X : Type 0} (t : X → Bool) where
   none_if true x xs q h more = absurd (cc)
   none_if false x xs q h more = (q, more h)
 
-  -- so it is where none is left
+  -- no element of a list has the property, where none is left by filtering for it
   pub none_left : (xs : List X) → filter t xs ≡ [] → Lacks xs
   none_left [] h = tt
   none_left (x ∷ xs) h = none_if (t x) x xs refl h (none_left xs)
 
-  -- and then none is, and all are without it
+  -- filtering for a property leaves none of a list in which none has it
   pub none_kept : (xs : List X) → Lacks xs → filter t xs ≡ []
   none_kept [] h = refl
   none_kept (x ∷ xs) h = ap (λ b. cond b (x ∷ filter t xs) (filter t xs)) h.0 ∙ none_kept xs h.1
@@ -41,9 +41,9 @@ module _ {X : Type 0} (t : X → Bool) where
       let kept = filter (λ x. not (t x)) xs in
       ap (λ b. cond (not b) (x ∷ kept) kept) h.0 ∙ ap (λ ys. x ∷ ys) (all_kept xs h.1)
 
--- ---- phases
+-- ---- phases that do nothing
 
--- two phases that do nothing, one after the other
+-- two phases that do nothing, one after the other, do nothing together
 pub nothing_then : (x : Machine) (a : After) (more : Machine → After) → a ≡ nothing x → more x ≡ nothing x → then_does a more ≡ nothing x
 nothing_then x a more h k = ap (λ (a : After). then_does a more) h ∙ k
 

@@ -9,7 +9,7 @@ use Rattle.window_model.specs.Rename.{rename, rename_up_to, rename_from, rename_
 use Rattle.window_model.specs.Fetch.{fetch, fetch_up_to, fetch_from, fetch_one, item_at}
 use Rattle.quiet_cycles.specs.Still.{at_cycle}
 
--- ---- rename
+-- ---- Rename where nothing happens
 
 module _ (d : Desc) (c : ℕ) where
   by_fit : (n : ℕ) (b : Bool) (i : Item) (rest : List Item) (x : Machine) → (if b then then_does (rename_one d i rest x) (rename_up_to d n) else nothing x).events ≡ [] →
@@ -25,12 +25,12 @@ module _ (d : Desc) (c : ℕ) where
   renames_nothing zero x h = refl
   renames_nothing (suc n) x h = by_item n x.queue x h
 
-  -- in any cycle nothing is renamed
+  -- where Rename has no event, it does nothing in any cycle
   pub rename_nothing : (x : Machine) → (rename d x).events ≡ [] → rename d (at_cycle c x) ≡ nothing (at_cycle c x)
   unfolding rename
   rename_nothing x h = renames_nothing d.core_fetch_width x h
 
--- ---- fetch
+-- ---- Fetch where nothing happens
 
 module _ (d : Desc) (code : Code) (c : ℕ) where
   by_room : (n : ℕ) (b : Bool) (pc : ℕ) (x : Machine) → (if b then then_does (fetch_one d (item_at d code x pc) x) (fetch_up_to d code n) else nothing x).events ≡ [] →
@@ -46,7 +46,7 @@ module _ (d : Desc) (code : Code) (c : ℕ) where
   fetches_nothing zero x h = refl
   fetches_nothing (suc n) x h = by_pc n x.fetch_pc x h
 
-  -- in any cycle nothing is fetched
+  -- where Fetch has no event, it does nothing in any cycle
   pub fetch_nothing : (x : Machine) → (fetch d code x).events ≡ [] → fetch d code (at_cycle c x) ≡ nothing (at_cycle c x)
   unfolding fetch
   fetch_nothing x h = fetches_nothing d.core_fetch_width x h

@@ -13,7 +13,7 @@ use Rattle.quiet_cycles.specs.Laws.{EmptyRowStands, PassesOver, StandsAfterEmpty
 use Rattle.quiet_cycles.proofs.Silent.{silent_if, silent_later, still_if}
 use Rattle.quiet_cycles.proofs.Turns.{retire_ended}
 
--- ---- an empty cycle
+-- ---- an empty cycle is still
 
 -- a run that hasn't ended after a cycle hadn't before
 not_ended : (d : Desc) (code : Code) (x : Machine) → (cycle d code x).machine.end ≡ None → x.end ≡ None
@@ -31,7 +31,7 @@ not_ended d code x h = by_end x.end refl
 pub empty_row_stands : EmptyRowStands
 empty_row_stands d code x h k = still_if d code x (silent_if d code x h (k ∙ sym (not_ended d code x k)))
 
--- ---- and those after it
+-- ---- the cycles after an empty one
 
 pub stands_until_due : StandsUntilDue
 stands_until_due n d code x h due c l m =
@@ -45,13 +45,13 @@ stands_after_empty_row n d code x h k due =
     let e : (cycle d code x).machine ≡ at_cycle (x.cycle + 1) x = ap (λ (t : Cycled). t.machine) s in
     subst (StillUntil n d code) (sym e) (stands_until_due n d code x s (subst (NothingDueBefore n) e due))
 
--- the same of what one cycle is known to leave
+-- the cycles after an empty one are still, told of what that one is known to leave
 pub stands_after_cycle : (n : ℕ) (d : Desc) (code : Code) (x : Machine) (t : Cycled) → t ≡ cycle d code x → t.row.events ≡ [] → t.machine.end ≡ None → NothingDueBefore n t.machine → StillUntil n d code t.machine
 stands_after_cycle n d code x t q h k due =
     let P : Cycled → Type 0 = λ t. t.row.events ≡ [] → t.machine.end ≡ None → NothingDueBefore n t.machine → StillUntil n d code t.machine in
     subst P (sym q) (stands_after_empty_row n d code x) h k due
 
--- of no cycle, where the next is cycle n already
+-- where the next cycle is cycle n already, there is none before it that has to be still
 pub none_stand : (n : ℕ) (d : Desc) (code : Code) (x : Machine) → n ≤ x.cycle + 1 → StillUntil n d code x
 none_stand n d code x h = λ c l m. absurd (omega arith)
 

@@ -25,16 +25,16 @@ use Rattle.quiet_cycles.proofs.RenameFetch.{rename_nothing, fetch_nothing}
 use Rattle.quiet_cycles.proofs.Waiting.{NoneBegins, none_begins, issue_nothing}
 use Rattle.quiet_cycles.proofs.Later.{free_as_before, none_begins_later}
 
--- ---- the facts
+-- ---- what holds where nothing happens
 
--- nothing issues, and whatever the cycle nothing is renamed or fetched
+-- nothing happens in the phases after Retire: nothing issues, and whatever the cycle nothing is renamed or fetched
 pub record SilentAfter (d : Desc) (code : Code) (x : Machine) : Type 0 where
   pub begins : NoneBegins d (around x) [] x.window
   pub renames : (c : ℕ) → rename d (at_cycle c x) ≡ nothing (at_cycle c x)
   pub fetches : (c : ℕ) → fetch d code (at_cycle c x) ≡ nothing (at_cycle c x)
 
--- nothing comes, is Done or resolved, and whatever the cycle nothing is cleared or retires; nor does more happen, unless the run
--- has ended
+-- nothing happens in a cycle: no line comes, no entry becomes Done or is resolved, and whatever the cycle none is cleared or
+-- retires; nor does anything happen after Retire, unless the run has ended
 pub record Silent (d : Desc) (code : Code) (x : Machine) : Type 0 where
   pub lines : NoLine x.cycle x.misses
   pub dones : NoneDone x.cycle x.window
@@ -46,10 +46,11 @@ pub record Silent (d : Desc) (code : Code) (x : Machine) : Type 0 where
 module _ (d : Desc) (code : Code) where
   -- ---- from the facts to the cycle
 
-  -- the phases from Resolve to Retire, and those from Complete on
+  -- the phases before Retire, from Resolve on
   abbrev from_resolve : Machine → After
   from_resolve z = then_does (resolve d z) (clear d)
 
+  -- the phases before Retire, from Complete on
   abbrev from_complete : Machine → After
   from_complete y = then_does (complete y) from_resolve
 
@@ -100,7 +101,7 @@ module _ (d : Desc) (code : Code) where
         fetches = λ c. fetch_nothing d code c x r.1;
       }
 
-  -- where the phases before Retire, Retire and those after it have no event and the end stays
+  -- nothing happens in a cycle whose phases before Retire, Retire and those after it have no event and leave the end
   silent_by : (x : Machine) → (before_retire d x).events ≡ [] → (retire d (before_retire d x).machine).events ≡ [] → (after_retire d code (retire d (before_retire d x).machine).machine).events ≡ [] →
       (after_retire d code (retire d (before_retire d x).machine).machine).machine.end ≡ x.end → Silent d code x
   silent_by x h k l m =

@@ -16,7 +16,7 @@ use Rattle.window_model.proofs.Walks.{retire_by}
 use Rattle.quiet_cycles.specs.Still.{at_cycle}
 use Rattle.quiet_cycles.proofs.Nothing.{both_empty}
 
--- a head that leaves has an event
+-- a call that retires has an event, as every head that leaves
 call_has_event : (e : Entry) (rest : List Entry) (x : Machine) (t : Step) → CallDoes (hart_of x) t → (call_leaves e rest x t).events ≡ [] → ⊥
 call_has_event e rest x (Goes s piece) f h = cc
 call_has_event e rest x (Exits v s) f h = cc
@@ -27,7 +27,7 @@ head_has_event Store d e rest x h = cc
 head_has_event Call d e rest x h = call_has_event e rest x (call (hart_of x)) (call_does (hart_of x)) h
 head_has_event _ d e rest x h = cc
 
--- so many turns that have no event and leave the end do nothing in any cycle
+-- turns of Retire that have no event and leave the end do nothing in any cycle
 module _ (d : Desc) (c : ℕ) where
   by_trap : (n : ℕ) (o : Option Cause) (e : Entry) (rest : List Entry) (x : Machine) → x.end ≡ None → (turn d false o e rest x (turns d n)).events ≡ [] → (turn d false o e rest x (turns d n)).machine.end ≡ x.end →
       turn d false o e rest (at_cycle c x) (turns d n) ≡ stays (at_cycle c x)
@@ -62,7 +62,7 @@ module _ (d : Desc) (c : ℕ) where
   unfolding retire
   retire_nothing x h k = turns_nothing d.core_retire_width x h k
 
--- Retire keeps an end
+-- a run that has ended stays so in Retire
 pub retire_ended : (d : Desc) (x : Machine) (end : End) → x.end ≡ Some end → (retire d x).machine.end ≡ Some end
 retire_ended d x end h =
     retire_by d (λ n stored x r. x.end ≡ Some end → r.machine.end ≡ Some end) (λ n stored x s h. h) (λ n stored x e rest u q l t w more h. absurd (cc)) (λ n stored x e rest cause u q l t h. absurd (cc)) x h

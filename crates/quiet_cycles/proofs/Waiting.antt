@@ -21,15 +21,15 @@ use Rattle.window_model.proofs.Issuing.{OneOrTwo, One, Two, asks_division, asks_
 use Rattle.window_model.proofs.Together.{granted_together}
 use Rattle.quiet_cycles.proofs.Nothing.{both_empty}
 
--- the entry does not begin
+-- the entry does not begin, nor does a part of it: it has no event in Issue
 abbrev pub DoesNotBegin : Desc → Around → Fact
 DoesNotBegin d now before e = (issue_entry d now before e).events ≡ []
 
--- none of these does
+-- no entry in the list begins, given oldest first behind older ones
 abbrev pub NoneBegins : Desc → Around → List Entry → List Entry → Type 0
 NoneBegins d now before es = Along (DoesNotBegin d now) before es
 
--- the events of these entries
+-- the events of these entries in Issue, behind older ones
 abbrev events_of : Desc → Around → List Entry → List Entry → List Event
 events_of d now before es = flat_map (λ (b : Begun). b.events) (each_from (issue_entry d now) before es)
 
@@ -48,18 +48,18 @@ no_events d now before (e ∷ es) h = ap (λ v. v ++ events_of d now (e ∷ befo
 
 -- ---- an entry that does not begin
 
--- each line that is looked up has an event
+-- a load that looks up its lines has an event
 lines_tell : (d : Desc) (now : Around) (serial : ℕ) (lines : List ℕ) (ahead : List Request) → OneOrTwo lines → look_events serial (map (look_up d now) lines) ahead ≡ [] → ⊥
 lines_tell d now serial _ ahead (One line) h = cc
 lines_tell d now serial _ ahead (Two low high l) h = cc
 
 module _ (d : Desc) (now : Around) (before : List Entry) (e : Entry) where
-  -- is a load without a miss register, if it is granted
+  -- a load that is granted its port and has no event waits for a miss register
   load_waits : (f : Effect) (v : ℕ) → (load_as (access_of d now before e) d now e f v).events ≡ [] → access_of d now before e ≡ Waits
   load_waits f v = by_load d now (λ a. (load_as a d now e f v).events ≡ [] → a ≡ Waits) (λ h. absurd (cc)) (λ a n some room h. absurd (lines_tell d now e.serial (lines_of d a n) _ (lines_are d a n some) h))
       (λ a n some full h. refl) (λ c h. absurd (cc)) before e
 
-  -- and stays as it is
+  -- an entry that begins nothing stays as it is
   begin_stays : (k : Kind) → (begin_as k d now before e).events ≡ [] → (begin_as k d now before e).entry ≡ e
   begin_stays Load h =
       let f = effect_of now.regs before e in
@@ -71,7 +71,7 @@ module _ (d : Desc) (now : Around) (before : List Entry) (e : Entry) where
   if_stays true h = begin_stays e.item.kind h
   if_stays false h = refl
 
-  -- nor does a part of a store go: that of the address has an event, and that of the data has one or goes with it
+  -- no part of a store issues that has no event: the address part has one, and the data part has one or issues with it
   parts_stay : (a c : Bool) (v : ℕ) (f : Effect) → (v ≡ 1 → c ≡ a) →
       let x = if_granted a (with_address now f) (event.Agu e.serial ∷ []) e in
       let y = if_granted c (with_data now f) (if v == 1 then [] else event.Std e.serial ∷ []) x.entry in
@@ -101,7 +101,7 @@ window_stays d now before (e ∷ es) h =
 
 -- ---- the load that is tried, and the division
 
--- the first that may issue at a port of which there is one is granted it: it is what it begins as that has no event
+-- the first entry that may issue at a port of which there is one is granted it, so what it begins as has no event
 begun : (d : Desc) (now : Around) (before : List Entry) (e : Entry) (k : Kind) → e.item.kind ≡ k → is_store k ≡ false → may_at d now (port_of k) before e ≡ true → ports d (port_of k) ≡ 1 → asking d now (port_of k) before ≡ 0 → DoesNotBegin d now before e →
     (begin_as k d now before e).events ≡ []
 begun d now before e k q s m o a h =
@@ -111,7 +111,7 @@ begun d now before e k q s m o a h =
     let piece : (issue_whole d now before e).events ≡ [] = subst (λ b. (if b then issue_parts d now before e else issue_whole d now before e).events ≡ []) whole h in
     subst (λ k. (begin_as k d now before e).events ≡ []) q (subst (λ b. (if b then begin_as e.item.kind d now before e else waits e).events ≡ []) own piece)
 
--- one that does not ask leaves the port
+-- an entry that does not ask for a port leaves it
 none_more : (s : Bool) (n : ℕ) → s ≡ false → n ≡ 0 → one_if s + n ≡ 0
 none_more false n h k = omega arith
 none_more true n h k = absurd (cc)
@@ -120,7 +120,7 @@ module _ (d : Desc) (x : Machine) where
   abbrev now : Around
   now = around x
 
-  -- both levels of the cache and the miss registers once the load has been tried
+  -- the machine with both levels of the cache and the miss registers as a load leaves them that was tried
   abbrev loaded : Access → Machine
   loaded a = record x { cache = cache_after a d x.cache; second = second_after a d x.second; misses = misses_after a d x.cycle x.misses }
 
@@ -152,7 +152,7 @@ module _ (d : Desc) (x : Machine) where
       division_absent (may_at d now DivPort before e) before e es (first_from (may_at d now DivPort) (e ∷ before) es) refl a h.0
       (λ n. none_divides (e ∷ before) es (none_more (may_at d now DivPort before e) _ n a) h.1)
 
-  -- ---- the phase
+  -- ---- Issue as a whole
 
   abbrev left : Machine → List Entry → Option Place → List Event → After
   left y window division events = record { machine = record y { window = window; divider = divider_after x division }; events = events }

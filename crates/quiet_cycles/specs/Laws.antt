@@ -16,18 +16,18 @@ abbrev pub StandsUntilDue : Type 0
 StandsUntilDue = (n : ℕ) (d : Desc) (code : Code) (x : Machine) →
     Still d code x → NothingDueBefore n (at_cycle (x.cycle + 1) x) → StillUntil n d code (at_cycle (x.cycle + 1) x)
 
--- both, of the state that the empty cycle leaves
+-- after a cycle that has no event, and in which the run goes on, all are still up to the one in which something is due
 abbrev pub StandsAfterEmptyRow : Type 0
 StandsAfterEmptyRow = (n : ℕ) (d : Desc) (code : Code) (x : Machine) →
     let y = (cycle d code x).machine in
     (cycle d code x).row.events ≡ [] → y.end ≡ None → NothingDueBefore n y → StillUntil n d code y
 
--- one of the still cycles after the other
+-- the first of the still cycles is still, and those behind it are from the state that it leaves
 abbrev pub StillGoesOn : Type 0
 StillGoesOn = (n : ℕ) (d : Desc) (code : Code) (x : Machine) →
     StillUntil n d code x → x.cycle + 1 < n → Still d code x × StillUntil n d code (at_cycle (x.cycle + 1) x)
 
--- k of them at once: the state that they leave, their rows, and that nothing is put out
+-- k still cycles at once: the state that they leave, their rows, and that nothing is put out
 abbrev pub PassesOver : Type 0
 PassesOver = (n k : ℕ) (d : Desc) (code : Code) (x : Machine) →
     x.end ≡ None → StillUntil n d code x → x.cycle + k < n →

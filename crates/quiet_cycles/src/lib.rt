@@ -12,7 +12,7 @@ ghost use Rattle.quiet_cycles.specs.Laws.{
   StillGoesOn,
 };
 
-/// A cycle with an empty row, in which the run goes on, leaves the machine as it is but for the cycle's number. And so do all
+/// A cycle with an empty row, in which the run goes on, leaves the machine as it is but for the cycle's number, and so do all
 /// cycles after it, up to the one in which an entry becomes Done, a line comes or the divider is free again. They may be taken
 /// one by one, or passed over at once (`docs/machine.md`, "Cycles in which nothing happens").
 pub fn quiet_cycles_repeat()

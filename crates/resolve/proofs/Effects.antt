@@ -35,7 +35,7 @@ wrong_by true n next h = (refl, refl)
 wrong_by false true next h = absurd (h refl)
 wrong_by false false next h = (refl, refl)
 
--- any other squashes, and fetching goes on at its next, or nowhere after a fault
+-- an entry that was not rightly predicted squashes, and fetching goes on at its next address, or nowhere after a fault
 pub wrong_squashes : (e : Entry) → (resolution_of e ≡ Right → ⊥) → (squashes e ≡ true) × (true_next (resolution_of e) ≡ (if is_faulty e then None else Some (next_of e.outcome)))
 wrong_squashes e h = wrong_by (is_faulty e) (is_next e.item.predicted (next_of e.outcome)) (next_of e.outcome) h
 
@@ -52,11 +52,12 @@ by_place d x o p b h q =
     ap (λ o. resolve_at d o x) h
     ∙ ap (λ b. let after = (if b then squash d p y else keep p y) in record { machine = after.machine; events = learnt.events ++ after.events }) q
 
--- the machine once the entry at a position is marked and has taught
+-- the machine once the entry at position i is resolved and has taught the predictor
 abbrev pub marked : Desc → ℕ → Entry → Machine → Machine
 marked d i e x = record x { window = slice_set x.window i (as_resolved e); counters = (learn d e x.counters x.targets).counters; targets = (learn d e x.counters x.targets).targets }
 
--- and history and stack are those behind it
+-- the machine once the entry at position i is resolved and has taught the predictor, with history and stack as they are behind
+-- it
 abbrev pub recalled : Desc → ℕ → Entry → Machine → Machine
 recalled d i e x = record (marked d i e x) { mark = true_mark d e }
 
@@ -70,7 +71,7 @@ module _ (d : Desc) (x : Machine) (i : ℕ) (e : Entry) (picked : Some i ≡ res
   window_is : slice_set x.window i (as_resolved e) ≡ reverse it.before ++ as_resolved e ∷ it.younger
   window_is = replaced d x.window i e (as_resolved e) it
 
-  -- ---- it was rightly predicted
+  -- ---- the entry was rightly predicted
 
   pub right_is : resolution_of e ≡ Right → resolve d x ≡ record { machine = marked d i e x; events = (learn d e x.counters x.targets).events }
   unfolding place
@@ -79,7 +80,7 @@ module _ (d : Desc) (x : Machine) (i : ℕ) (e : Entry) (picked : Some i ≡ res
       ∙ ap (λ es. record { machine = (keep place (with_predictor x (learn d e x.counters x.targets).counters (learn d e x.counters x.targets).targets)).machine; events = es }) (append-nil (learn d e x.counters x.targets).events)
       ∙ ap (λ w. record { machine = record (marked d i e x) { window = w }; events = (learn d e x.counters x.targets).events }) (sym window_is)
 
-  -- ---- it was not
+  -- ---- the entry was not rightly predicted
 
   module _ (wrong : resolution_of e ≡ Right → ⊥) (rises : Rise x.window) where
     below_is : below (e.serial + 1) (slice_set x.window i (as_resolved e)) ≡ reverse it.before ++ as_resolved e ∷ []

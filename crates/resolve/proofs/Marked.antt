@@ -44,7 +44,7 @@ use Rattle.resolve.proofs.Effects.{marked, recalled, right_is, wrong_is}
 use Rattle.window_model.specs.Serials.{Rise}
 use Rattle.resolve.proofs.Picked.{Taken, picked, inside, taken}
 
--- ---- what is asked
+-- ---- which entry is picked
 
 pub picks : (h : Held) (v : Described) (o : Option ℕ) → Whole h → described h ≡ v → HasAdvanced v.point v.machine.window → o ≡ pick_from h.point.serial 0 h.rob.entries (each_roots h.sources.items) → o ≡ resolving v.desc v.machine.window
 picks h v o w s a e =
@@ -55,7 +55,7 @@ no_place : (d : Desc) (x : Machine) (o : Option Place) → first (may_resolve d)
 no_place d x None q h = ap (λ o. resolve_at d o x) q
 no_place d x (Some p) q h = absurd (cc)
 
--- where none is taken nothing happens
+-- where no entry may be resolved nothing happens
 pub none_is : (d : Desc) (x : Machine) → None ≡ resolving d x.window → resolve d x ≡ record { machine = x; events = [] }
 none_is d x h = no_place d x (first (may_resolve d) x.window) refl h
 
@@ -72,7 +72,7 @@ is_inside h v i w s p = subst (λ (v : Described). i < length v.machine.window) 
 pub one_description : (h : Held) → Whole h → h.tables.desc ≡ h.past.desc
 one_description h w = ap (λ (s : Sizes). s.tables) w.made ∙ sym (ap (λ (s : Sizes). s.past) w.made)
 
--- ---- sizes stay
+-- ---- the sizes of the machine stay
 
 set_here : (w : List Entry) (i : ℕ) (e e2 : Entry) → slice_get w i ≡ Some e → slice_get (slice_set w i e2) i ≡ Some e2
 set_here [] i e e2 h = absurd (cc)
@@ -100,7 +100,7 @@ sized_recalled d x m s =
     let f = parts d x s in
     whole d (record x { mark = m }) (record { window = f.window; entries = f.entries; queue = f.queue; predictor = f.predictor; cache = f.cache; second = f.second; misses = f.misses; dependence = f.dependence; registers = f.registers })
 
--- ---- the parts
+-- ---- the parts once the entry is resolved
 
 -- there is a serial after the entry's, as there is a next one
 pub serial_fits : (h : Held) (i : ℕ) (e : Entry) → Whole h → slice_get h.rob.entries i ≡ Some e → h.next_serial < 2 ^ 64 → e.serial + 1 < 2 ^ 64
@@ -112,7 +112,7 @@ unsettled Branch resolved cleared c h = h
 unsettled Jalr resolved cleared c h = h
 unsettled _ resolved cleared c h = absurd (cc)
 
--- the entry that is taken may be
+-- the entry that is taken may be resolved
 takes : (d : Desc) (w : List Entry) (i : ℕ) (e : Entry) (k : Taken d w i e) → MayResolve d k.before e
 takes d w i e k = resolve_parts d k.before e (found (may_resolve d) [] w (record { before = k.before; entry = e; younger = k.younger }) k.is).has
 
@@ -143,18 +143,18 @@ module _ (h : Held) (v : Described) (i : ℕ) (e : Entry) (rob : Ring) (tables :
       ∙ ap (λ x. record { desc = h.desc; code = h.code; machine = x; point = h.point }) machine_is
       ∙ ap (λ (v : Described). record v { machine = marked v.desc i e v.machine }) s
 
-  -- the visibility point stops at it
+  -- the visibility point is not past the entry that is resolved
   pub marked_stops : NotPast h.point e.serial
   marked_stops = stops_at (in_flight h) i e w.stands here (unsettled e.item.kind e.resolved e.cleared may.control may.fresh)
 
-  -- what stands there then is the entry, marked
+  -- what then stands at the position is the entry, resolved
   marked_here : slice_get rob.entries i ≡ Some (as_resolved e)
   marked_here = ap (λ (r : Ring). slice_get r.entries i) marks ∙ set_here h.rob.entries i e (as_resolved e) here
 
   pub still_inside : i < length rob.entries
   still_inside = slice_get_within rob.entries i _ marked_here
 
-  -- what is behind it is behind the entry as it was
+  -- history and stack behind the resolved entry are those behind it as it was
   pub behind : (then : Entry) (past : Past) → slice_get rob.entries i ≡ Some then → past ≡ record (h.past) { mark = true_mark h.past.desc then } → past ≡ record (h.past) { mark = true_mark h.past.desc e }
   behind then past at m = m ∙ ap (λ (e : Entry). record (h.past) { mark = true_mark h.past.desc e }) (some_of then (as_resolved e) (sym at ∙ marked_here))
 
@@ -163,7 +163,7 @@ module _ (h : Held) (v : Described) (i : ℕ) (e : Entry) (rob : Ring) (tables :
       ap (λ (s : Sizes). (learn s.tables e h.tables.counters h.tables.targets).events) w.made
       ∙ ap (λ (v : Described). (learn v.desc e v.machine.counters v.machine.targets).events) s
 
-  -- ---- it was rightly predicted
+  -- ---- the entry was rightly predicted
 
   module _ (right : resolution_of e ≡ Right) where
     pub right_shown : described (record h { rob = rob; tables = tables }) ≡ record v { machine = (resolve v.desc v.machine).machine }
@@ -172,7 +172,7 @@ module _ (h : Held) (v : Described) (i : ℕ) (e : Entry) (rob : Ring) (tables :
     pub right_row : (old new : Row) → new ≡ record old { events = old.events ++ told h.tables e } → new ≡ record old { events = old.events ++ (resolve v.desc v.machine).events }
     right_row old new t = t ∙ ap (λ es. record old { events = old.events ++ es }) (told_is ∙ sym (ap (λ (a : After). a.events) (right_is v.desc v.machine i e p there right)))
 
-  -- ---- it was not
+  -- ---- the entry was not rightly predicted
 
   module _ (past : Past) (remembers : past ≡ record (h.past) { mark = true_mark h.past.desc e }) where
     of_desc : h.past.desc ≡ h.desc
@@ -224,7 +224,7 @@ module _ (h : Held) (v : Described) (i : ℕ) (e : Entry) (rob : Ring) (tables :
           ∙ ap (λ es. record old { events = old.events ++ (es ++ event.Sq (count_from (e.serial + 1) (recalled v.desc i e v.machine)) ∷ []) }) told_is
           ∙ ap (λ (a : After). record old { events = old.events ++ a.events }) (sym all)
 
-  -- all that is younger may go
+  -- entries younger than the resolved one may be dropped: the visibility point isn't past it
   pub marked_stops_below : StopsBelow (e.serial + 1) h.point rob.entries
   marked_stops_below = record {
     position = i;

@@ -13,7 +13,7 @@ use Rattle.window_model.proofs.Places.{found}
 use Rattle.window_model.proofs.Resolving.{placed}
 use Rattle.resolve.specs.Taken.{resolving}
 
--- an entry at a position that resolves
+-- the oldest entry that may be resolved, at position i of the window
 pub record Picked (d : Desc) (w : List Entry) (i : ℕ) : Type 0 where
   pub place : Place
   pub is : first (may_resolve d) w ≡ Some place
@@ -29,7 +29,7 @@ picked d w i h = by_first (first (may_resolve d) w) refl h
         let n : length p.before ≡ i = some_of _ _ (sym h) in
         record { place = p; is = q; at = length-reverse p.before ∙ n; whole = placed d w p (found (may_resolve d) [] w p q) }
 
--- it is in the window
+-- the position of the entry that Resolve takes is one of the window
 pub inside : (d : Desc) (w : List Entry) (i : ℕ) → Picked d w i → i < length w
 inside d w i k =
     let all = ap length k.whole in
@@ -43,7 +43,7 @@ pub get_seam : (xs ys : List Entry) (y : Entry) → slice_get (xs ++ y ∷ ys) (
 get_seam [] ys y = refl
 get_seam (x ∷ xs) ys y = get_seam xs ys y
 
--- this entry
+-- the entry e, at position i of the window, is the oldest that may be resolved
 pub record Taken (d : Desc) (w : List Entry) (i : ℕ) (e : Entry) : Type 0 where
   pub before : List Entry
   pub younger : List Entry
@@ -66,7 +66,7 @@ taken d w i e h at =
       whole = k.whole ∙ ap (λ e. reverse p.before ++ e ∷ p.younger) same;
     }
 
--- another in its place
+-- a window with another entry in the place of the one that Resolve takes
 pub replaced : (d : Desc) (w : List Entry) (i : ℕ) (e e2 : Entry) (k : Taken d w i e) → slice_set w i e2 ≡ reverse k.before ++ e2 ∷ k.younger
 replaced d w i e e2 k =
     ap (λ n. slice_set w n e2) (sym k.at) ∙ ap (λ w. slice_set w (length (reverse k.before)) e2) k.whole ∙ set-append_seam (reverse k.before) e k.younger e2

@@ -1,4 +1,5 @@
-//! The phase: an entry is picked, teaches, and is marked; where it squashes, what is younger goes.
+//! The phase: an entry is picked, teaches the predictor, and becomes resolved; where it squashes, what is younger
+//! goes.
 ghost use Rattle.std.specs.Prelude.{◌≡◌, Some};
 ghost use Rattle.visibility.specs.Point.{HasAdvanced};
 ghost use Rattle.window_model.specs.Resolve.{resolve, true_mark};
@@ -28,7 +29,7 @@ pub fn resolve<R: RenameTaint>(parts: &mut Parts<R>, row: &mut Row)
     resolve_at(position, parts, row);
 }
 
-// The entry at this position is resolved: it teaches, and is marked where it stands.
+// Resolves the entry at this position: it teaches the predictor, and is marked as resolved where it stands.
 fn resolve_at<R: RenameTaint>(position: u32, parts: &mut Parts<R>, row: &mut Row)
     requires picked { Some position ≡ resolving parts.old.desc parts.old.machine.window }
     requires room { HasRoom most_resolved row.old }

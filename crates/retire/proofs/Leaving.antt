@@ -47,19 +47,19 @@ pub record Parts : Type 0 where
   pub row : Row
   pub piece : List ℕ
 
--- a machine with these parts, of which so many more have retired
+-- a machine with these parts, of which n more have retired
 abbrev pub standing : Parts → ℕ → Option End → Machine → Machine
 standing s n end x = counted n (with_parts s.rob s.tags s.ram s.regs s.pc end x)
 
--- what these turns leave, behind the events and bytes so far
+-- what turns leave, with their events and bytes behind those so far
 abbrev pub behind : Parts → Retired → Retired
 behind s r = record { machine = r.machine; events = s.row.events ++ r.events; piece = s.piece ++ r.piece }
 
--- the whole phase
+-- what the whole phase leaves of a machine with these parts
 abbrev pub phase : Desc → Parts → Machine → Retired
 phase d s x = retires d s.rob s.tags s.ram s.regs s.pc x
 
--- these entries have left
+-- the entries `went` have left the parts `s0`, in this order, and `s` are left
 pub record Left (s0 : Parts) (s : Parts) (went : List Entry) : Type 0 where
   pub window : s0.rob.entries ≡ went ++ s.rob.entries
   pub may_retire : Each MayRetire went
@@ -70,7 +70,7 @@ pub record Left (s0 : Parts) (s : Parts) (went : List Entry) : Type 0 where
   pub desc : s.tags.desc ≡ s0.tags.desc
   pub cycle : s.row.cycle ≡ s0.row.cycle
 
--- at most n turns more make the whole phase
+-- at most n more turns of what is left now make what the whole phase leaves
 pub record RetiresOn (d : Desc) (s0 : Parts) (n : ℕ) (stored : Bool) (s : Parts) : Type 0 where
   pub went : List Entry
   pub left : Left s0 s went
@@ -79,7 +79,7 @@ pub record RetiresOn (d : Desc) (s0 : Parts) (n : ℕ) (stored : Bool) (s : Part
   pub alone : CallAlone s.rob.entries
   pub stores : Each (TakesStore s.ram) s.rob.entries
 
--- what is asked at first
+-- what the phase asks of the parts: no output yet, a call that stands alone, and stores that memory takes
 pub record Ready (d : Desc) (s : Parts) : Type 0 where
   pub piece : s.piece ≡ []
   pub alone : CallAlone s.rob.entries
@@ -102,9 +102,9 @@ retires_start d s h =
       stores = h.stores;
     }
 
--- ---- one head more
+-- ---- one more head retires
 
--- without one entry more
+-- the rename table without one more entry
 without_more : (went : List Entry) (e : Entry) (writes : List Write) → without_each (went ++ e ∷ []) writes ≡ without_retired e.serial (without_each went writes)
 without_more [] e writes = refl
 without_more (w ∷ went) e writes = without_more went e (without_retired w.serial writes)
@@ -127,7 +127,7 @@ pub record HeadLeft (d : Desc) (s : Parts) (e : Entry) (end : Option End) (s2 : 
   pub desc : s2.tags.desc ≡ s.tags.desc
   pub shape : SameShape s.ram s2.ram
 
--- the machine's parts, and its row, are then the definition's
+-- once a head has left, the machine's parts and the row are the definition's
 module _ (d : Desc) (s : Parts) (e : Entry) (end : Option End) (s2 : Parts) (g : HeadLeft d s e end s2) where
   state_left : IsLeft (head_retires d e s.tags s.ram s.regs s.pc) s2.tags s2.ram s2.regs s2.pc end
   state_left = subst (λ t. IsLeft (head_retires d e s.tags s.ram s.regs s.pc) t s2.ram s2.regs s2.pc end) (sym g.tags) g.state
@@ -152,7 +152,7 @@ left_more d s0 s s2 went rest e end h g w m x =
       cycle = ap (λ (r : Row). r.cycle) (row_left d s e end s2 g x rest) ∙ h.cycle;
     }
 
--- a machine after the head, counted
+-- a machine after one more head is one of which one more has retired
 counted_more : (s2 : Parts) (went rest : List Entry) (e : Entry) (end : Option End) (x : Machine) → s2.rob.entries ≡ rest →
     record (with_effects s2.tags s2.ram s2.regs s2.pc end x) { window = rest; retired = (x.retired + length went) + 1 } ≡ standing s2 (length (went ++ e ∷ [])) end x
 counted_more s2 went rest e end x r =
@@ -177,7 +177,7 @@ one_more d n stored s s2 went rest e end t w p g x =
 
 -- ---- what is asked stays so
 
--- the rest of a window in which a call stands alone
+-- a call stands alone in the rest of a window in which it does
 pub alone_rest : (e : Entry) (rest : List Entry) → CallAlone (e ∷ rest) → CallAlone rest
 alone_rest e rest h one =
     let a = count_is calls rest in
@@ -189,7 +189,7 @@ one_if : (b : Bool) (n : ℕ) → b ≡ true → cond b 1 0 + n ≡ suc n
 one_if true n h = omega arith
 one_if false n h = absurd (cc)
 
--- behind a call there is nothing
+-- behind a call there is nothing that could retire, so nothing else puts anything out
 quiet_if : (b : Bool) (e : Entry) (rest : List Entry) (p : List ℕ) → calls e ≡ b → CallAlone (e ∷ rest) → ((e.item.kind ≡ Call → ⊥) → p ≡ []) → 1 ≤ length rest → p ≡ []
 quiet_if true e rest p c h q one =
     let b = count_is calls (e ∷ rest) in
@@ -227,7 +227,7 @@ pub retires_more : (d : Desc) (s0 : Parts) (i : ℕ) (stored : Bool) (s s2 : Par
 retires_more d s0 i stored s s2 e stored2 o h lt t g n b =
     subst (λ b. RetiresOn d s0 (d.core_retire_width - (i + 1)) b s2) (sym b) (retires_head d s0 i stored s s2 e h lt t (subst (λ o. HeadLeft d s e o s2) n g))
 
--- a store that retires has its place in memory
+-- a store that retires writes inside memory
 pub head_inside : (ram : Ram) (stored : Bool) (w : List Entry) (e : Entry) → Each (TakesStore ram) w → Goes stored w e → e.item.kind ≡ Store → store_fault ram (addr_of e.outcome) (width_of e) ≡ None
 head_inside ram stored w e h t k =
     let head = head_at stored w e t in
@@ -236,7 +236,7 @@ head_inside ram stored w e h t k =
 
 -- ---- the row has room
 
--- the phase has few events, and so has what there is of them so far and the next ones
+-- the events so far and the next ones are few, as those of the whole phase are
 few_told : (d : Desc) (s0 s : Parts) (told more : List Event) → Ready d s0 → s.row.events ++ (told ++ more) ≡ s0.row.events ++ (phase d s0 (opening d 0 s0.ram)).events →
     length s.row.events + length told ≤ length s0.row.events + most_retired
 few_told d s0 s told more r h =
@@ -247,7 +247,7 @@ few_told d s0 s told more r h =
     let c = length-append s0.row.events (phase d s0 (opening d 0 s0.ram)).events in
     omega (arith, few, all, a, b, c, d.few_retires)
 
--- so there is room for what a head tells
+-- the row has room for the events of a head that retires
 pub tell_room : (d : Desc) (s0 : Parts) (i : ℕ) (stored : Bool) (s : Parts) (e : Entry) (told : List Event) → RetiresOn d s0 (d.core_retire_width - i) stored s → Ready d s0 → i < d.core_retire_width →
     Goes stored s.rob.entries e → TellsHead (head_retires d e s.tags s.ram s.regs s.pc) told → HasRoom most_retired s0.row → length s.row.events + length told ≤ row_room
 tell_room d s0 i stored s e told h r lt t tells room =
@@ -269,7 +269,7 @@ tell_room d s0 i stored s e told h r lt t tells room =
 
 -- ---- the end of the phase
 
--- no turn is left
+-- no turn is left: what the parts then are is what the whole phase leaves
 pub record Over (d : Desc) (s0 : Parts) (end : Option End) (s : Parts) : Type 0 where
   pub state : (x : Machine) → standing s (length s0.rob.entries - length s.rob.entries) end x ≡ (phase d s0 x).machine
   pub row : (x : Machine) → s.row ≡ record s0.row { events = s0.row.events ++ (phase d s0 x).events }
@@ -297,18 +297,18 @@ over d s0 s went end r l h =
       few = let f = few_told d s0 s [] _ r (ap (λ (r : Retired). r.events) (h (opening d 0 s0.ram))) in omega (arith, f);
     }
 
--- the width is reached
+-- the phase is over where as many turns are done as the description says
 pub over_last : (d : Desc) (s0 : Parts) (i : ℕ) (stored : Bool) (s : Parts) → RetiresOn d s0 (d.core_retire_width - i) stored s → Ready d s0 → d.core_retire_width ≤ i → Over d s0 None s
 over_last d s0 i stored s h r le =
     let e : d.core_retire_width - i ≡ 0 = omega (arith, le) in
     over d s0 s h.went None r h.left (λ x. sym (ap (λ n. behind s (turns d n stored (standing s (length h.went) None x))) e) ∙ h.whole x)
 
--- the head waits
+-- the phase is over where the head waits
 pub over_waits : (d : Desc) (s0 : Parts) (n : ℕ) (stored : Bool) (s : Parts) → RetiresOn d s0 n stored s → Ready d s0 → turn_at stored s.rob.entries ≡ Waits → Over d s0 None s
 over_waits d s0 n stored s h r t =
     over d s0 s h.went None r h.left (λ x. sym (ap (behind s) (waits d n stored (standing s (length h.went) None x) refl t)) ∙ h.whole x)
 
--- it traps
+-- the phase is over where the head traps
 pub over_traps : (d : Desc) (s0 : Parts) (i : ℕ) (stored : Bool) (s : Parts) (cause : Cause) (pc : ℕ) → RetiresOn d s0 (d.core_retire_width - i) stored s → Ready d s0 → i < d.core_retire_width → turn_at stored s.rob.entries ≡ Traps cause pc →
     Over d s0 (Some (Trap cause pc)) s
 over_traps d s0 i stored s cause pc h r lt t =
@@ -317,7 +317,7 @@ over_traps d s0 i stored s cause pc h r lt t =
     sym (ap (λ n. behind s (turns d n stored (standing s (length h.went) None x))) e ∙ ap (behind s) (traps d (d.core_retire_width - (i + 1)) stored (standing s (length h.went) None x) cause pc refl t))
     ∙ h.whole x)
 
--- it retires and ends the run
+-- the phase is over where the head retires and ends the run
 pub over_ends : (d : Desc) (s0 : Parts) (i : ℕ) (stored : Bool) (s s2 : Parts) (e : Entry) (o : Option End) (end : End) → RetiresOn d s0 (d.core_retire_width - i) stored s → Ready d s0 → i < d.core_retire_width → Goes stored s.rob.entries e →
     HeadLeft d s e o s2 → o ≡ Some end → Over d s0 (Some end) s2
 over_ends d s0 i stored s s2 e o end h r lt t left ends =

@@ -7,7 +7,7 @@ use Rattle.window_model.specs.declared.Entry.{Entry}
 use Rattle.window_model.specs.State.{Machine}
 use Rattle.window_model.specs.Retire.{head_leaves}
 
--- any other head puts nothing out
+-- a head that is no call puts nothing out
 pub quiet : (k : Kind) (d : Desc) (e : Entry) (rest : List Entry) (x : Machine) → (k ≡ Call → ⊥) → (head_leaves k d e rest x).piece ≡ []
 quiet Alu d e rest x h = refl
 quiet Mul d e rest x h = refl

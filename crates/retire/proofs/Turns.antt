@@ -13,17 +13,17 @@ use Rattle.window_model.proofs.Leaving.{is_cleared}
 use Rattle.retire.specs.declared.turn.Turn.TheVariants.{Waits, Traps, Leaves}
 use Rattle.retire.specs.Turn.{Goes, turn_at, turn_by}
 
--- after an end no turn follows
+-- once the run has ended no turn follows
 pub ended : (d : Desc) (n : ℕ) (stored : Bool) (x : Machine) (e : End) → x.end ≡ Some e → turns d n stored x ≡ stays x
 ended d zero stored x e h = refl
 ended d (suc n) stored x e h = ap (λ o. unless_ended o (stays x) (head_turn d stored x.window x (turns d n))) h
 
--- a turn of a machine that hasn't ended
+-- the first of some turns, of a machine that hasn't ended, is one of its head
 running : (d : Desc) (n : ℕ) (stored : Bool) (x : Machine) → x.end ≡ None → turns d (suc n) stored x ≡ head_turn d stored x.window x (turns d n)
 running d n stored x h = ap (λ o. unless_ended o (stays x) (head_turn d stored x.window x (turns d n))) h
 
 module _ (d : Desc) (stored : Bool) (x : Machine) (more : Bool → Machine → Retired) where
-  -- ---- the head waits
+  -- ---- a turn whose head waits
 
   waits_if : (e : Entry) (rest : List Entry) (b : Bool) → (if b then Waits else Leaves) ≡ Waits →
       (if b then stays x else then_retires (head_leaves e.item.kind d e rest x) (more (stored || is_store e.item.kind))) ≡ stays x
@@ -43,7 +43,7 @@ module _ (d : Desc) (stored : Bool) (x : Machine) (more : Bool → Machine → R
   waits_in [] h = refl
   waits_in (e ∷ rest) h = waits_head e rest (may_leave e) h
 
-  -- ---- it traps
+  -- ---- a turn whose head traps
 
   traps_if : (e : Entry) (b : Bool) (cause : Cause) (pc : ℕ) → (if b then Waits else Leaves) ≡ Traps cause pc → ⊥
   traps_if e true cause pc h = cc
@@ -66,7 +66,7 @@ module _ (d : Desc) (stored : Bool) (x : Machine) (more : Bool → Machine → R
   traps_in [] cause pc h = absurd (cc)
   traps_in (e ∷ rest) cause pc h = traps_head e rest (may_leave e) cause pc h
 
-  -- ---- it retires
+  -- ---- a turn whose head retires
 
   leaves_if : (e : Entry) (rest : List Entry) (b : Bool) → (if b then Waits else Leaves) ≡ Leaves →
       (if b then stays x else then_retires (head_leaves e.item.kind d e rest x) (more (stored || is_store e.item.kind)))
@@ -84,7 +84,7 @@ module _ (d : Desc) (stored : Bool) (x : Machine) (more : Bool → Machine → R
   leaves_head e rest true h = leaves_by e rest (trap_of e) h
   leaves_head e rest false h = absurd (cc)
 
--- ---- whole turns
+-- ---- n turns, by the first one's head
 
 pub waits : (d : Desc) (n : ℕ) (stored : Bool) (x : Machine) → x.end ≡ None → turn_at stored x.window ≡ Waits → turns d n stored x ≡ stays x
 waits d zero stored x h t = refl
@@ -102,7 +102,7 @@ leaves d n stored x head rest h t w =
 
 -- ---- the head that retires
 
--- it is the oldest, may leave, doesn't trap, and is cleared if it is a store
+-- a head that retires: it is the oldest, may leave, doesn't trap, and is cleared if it is a store
 pub record Head (head : Entry) (w : List Entry) : Type 0 where
   pub first : (rest : List Entry) × (w ≡ head ∷ rest)
   pub may : may_leave head ≡ true

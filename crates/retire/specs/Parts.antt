@@ -20,11 +20,11 @@ use Rattle.cache_tags.specs.Sets.{Cache}
 abbrev pub with_effects : Cache → Ram → List ℕ → ℕ → Option End → Machine → Machine
 with_effects tags ram regs pc end x = record x { cache = tags.sets; ram = ram; regs = regs; pc = pc; end = end }
 
--- the same, with this window
+-- a machine with this window, cache, memory, registers, pc and end in the place of its own
 abbrev pub with_parts : Ring → Cache → Ram → List ℕ → ℕ → Option End → Machine → Machine
 with_parts rob tags ram regs pc end x = record (with_effects tags ram regs pc end x) { window = rob.entries }
 
--- a machine of which so many more have retired
+-- a machine of which n more have retired
 abbrev pub counted : ℕ → Machine → Machine
 counted n x = record x { retired = x.retired + n }
 
@@ -36,22 +36,23 @@ retires d rob tags ram regs pc x = retire d (with_parts rob tags ram regs pc Non
 abbrev pub Tells : (Machine → Retired) → Row → Row → Type 0
 Tells phase old new = (x : Machine) → new ≡ with_events old (phase x).events
 
--- ---- one head
+-- ---- one head that retires
 
 -- the head of a machine with this cache, memory, registers and pc retires, and these entries stay
 abbrev pub head_retires : Desc → Entry → Cache → Ram → List ℕ → ℕ → Machine → List Entry → Retired
 head_retires d e tags ram regs pc x rest = head_leaves e.item.kind d e rest (with_effects tags ram regs pc None x)
 
--- this cache, memory, registers, pc and end are what it leaves, whichever machine and entries these are
+-- a head that retires leaves this cache, memory, registers, pc and end, whatever the other fields of the machine and the other
+-- entries are
 abbrev pub IsLeft : (Machine → List Entry → Retired) → Cache → Ram → List ℕ → ℕ → Option End → Type 0
 IsLeft head tags ram regs pc end = (x : Machine) (rest : List Entry) →
     record (with_effects tags ram regs pc end x) { window = rest; retired = x.retired + 1 } ≡ (head x rest).machine
 
--- these are its events, whichever machine and entries these are
+-- a head that retires has these events, whatever the other fields of the machine and the other entries are
 abbrev pub TellsHead : (Machine → List Entry → Retired) → List Event → Type 0
 TellsHead head events = (x : Machine) (rest : List Entry) → events ≡ (head x rest).events
 
--- and its bytes are the piece
+-- a head that retires puts out this piece, whatever the other fields of the machine and the other entries are
 abbrev pub PrintsHead : (Machine → List Entry → Retired) → List ℕ → Type 0
 PrintsHead head piece = (x : Machine) (rest : List Entry) → piece ≡ (head x rest).piece
 

@@ -125,7 +125,7 @@ fn tell_store(store: &Entry, desc: &Desc, tags: &mut Tags, row: &mut Row)
     move_lines(lines.as_slice(), tags);
 }
 
-// The row tells of each of these lines whether the cache has it.
+// The row tells of each of a store's lines whether the cache has it.
 fn tell_lines(store: &Entry, lines: &[u32], tags: &Tags, row: &mut Row)
     requires room { HasRoom (length lines.now) row.old }
     ensures { row.new ≡ with_events row.old (map (line_told tags.now.desc tags.now.sets store.now) lines.now) }
@@ -135,7 +135,7 @@ fn tell_lines(store: &Entry, lines: &[u32], tags: &Tags, row: &mut Row)
     }
 }
 
-// Each of these lines moves to the front of its set, where the cache has it.
+// Moves each of a store's lines to the front of its set, where the cache has it.
 fn move_lines(lines: &[u32], tags: &mut Tags)
     ensures { tags.new ≡ with_touched tags.old.desc lines.now tags.old }
 {

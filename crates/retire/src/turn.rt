@@ -14,9 +14,9 @@ use window_model::Entry;
 pub(crate) enum Turn {
     /// There is no head, or it may not leave yet, or it is a store that waits: no further turn follows.
     Waits,
-    /// It ends the run as a trap, with this cause and at this address, and doesn't retire.
+    /// The head ends the run as a trap, with this cause and at this address, and doesn't retire.
     Traps(Cause, u32),
-    /// It retires.
+    /// The head retires, and leaves the buffer.
     Leaves,
 }
 

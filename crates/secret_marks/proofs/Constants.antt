@@ -46,9 +46,9 @@ module _ (w : WordMarks) (a a2 : ℕ) (h : SameWord w a a2) where
     part3 = λ n. and_shr a c 24 ∙ clears w.byte3 (c / 16777216) (a / 16777216) (a2 / 16777216) n p.part3 ∙ sym (and_shr a2 c 24);
   })
 
-  -- ---- shifts
+  -- ---- shifts by a constant
 
-  -- one of two ways, by a test of the amount
+  -- a shift that goes one of two ways, by a test of the amount
   by_amount : (n k : ℕ) (u v : WordMarks) (f : ℕ → ℕ → ℕ) → (n ≡ k → SameWord u (f a n) (f a2 n)) → SameWord v (f a n) (f a2 n) →
       SameWord (if n == k then u else v) (f a n) (f a2 n)
   by_amount n k u v f g e = by_test (n == k) refl
@@ -180,7 +180,7 @@ module _ (w : WordMarks) (a a2 : ℕ) (h : SameWord w a a2) where
   same_constant op.Srl c = same_right (c % 32)
   same_constant o c = same_operation w unmarked a a2 c c h refl o
 
--- ---- an instruction
+-- ---- the value of an instruction
 
 branch_value : (pc t : ℕ) (mark b b2 : Bool) → (mark ≡ false → b ≡ b2) →
     SameWord (lowest_byte mark) (if b then jump 1 t else only pc 0).value (if b2 then jump 1 t else only pc 0).value

@@ -14,13 +14,13 @@ use Rattle.secret_marks.specs.Watch.{first_show, watch_cycle}
 use Rattle.secret_marks.specs.Shown.{FirstShownWhereFirstShows, first_shown, in_cycle, shown_cycle}
 use Rattle.secret_marks.proofs.ShownWhere.{shown_where_shows}
 
--- in a cycle
+-- the cycle of what shows first is this one where something shows in it, else a later one
 by_show : (k : ℕ) (o : Option Shown) (later : Option FirstShown) (first : Option ℕ) → option_map (λ s. s.cycle) later ≡ first →
     option_map (λ s. s.cycle) (in_cycle k o later) ≡ (if is_some o then Some k else first)
 by_show k None later first q = q
 by_show k (Some s) later first q = refl
 
--- where the run has ended nothing is told
+-- where the run has ended nothing shows first
 by_end : (end : Option End) (o : Option FirstShown) (first : Option ℕ) → option_map (λ s. s.cycle) o ≡ first →
     option_map (λ s. s.cycle) (unless_ended end None o) ≡ unless_ended end None first
 by_end (Some e) o first q = refl

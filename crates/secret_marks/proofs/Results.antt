@@ -16,12 +16,12 @@ use Rattle.secret_marks.proofs.Words.{Parts, from_parts, same_whole, to_parts}
 
 -- ---- values by their marks alone
 
--- each byte is marked, or the words are equal
+-- two words that are equal unless every byte is marked are equal but for marks
 pub same_every : (mark : Bool) (v v2 : ℕ) → (mark ≡ false → v ≡ v2) → SameWord (every_byte mark) v v2
 same_every true v v2 h = from_parts (every_byte true) v v2 (record { part0 = λ n. absurd (cc); part1 = λ n. absurd (cc); part2 = λ n. absurd (cc); part3 = λ n. absurd (cc) })
 same_every false v v2 h = let q = h refl in from_parts (every_byte false) v v2 (record { part0 = λ n. ap (λ u. u % 256) q; part1 = λ n. ap (λ u. u / 256 % 256) q; part2 = λ n. ap (λ u. u / 65536 % 256) q; part3 = λ n. ap (λ u. u / 16777216) q })
 
--- a value of one byte
+-- two values of one byte are equal but for the mark of the lowest byte
 pub same_lowest : (mark : Bool) (v v2 : ℕ) → v < 256 → v2 < 256 → (mark ≡ false → v ≡ v2) → SameWord (lowest_byte mark) v v2
 same_lowest mark v v2 b b2 h = from_parts (lowest_byte mark) v v2 (record { part0 = λ n. ap (λ u. u % 256) (h n); part1 = λ n. omega arith; part2 = λ n. omega arith; part3 = λ n. omega arith })
 
@@ -134,7 +134,7 @@ same_shifted w a a2 n h =
     shifted : (k : ℕ) → a / 2 ^ k ≡ a2 / 2 ^ k → a / 2 ^ n / 2 ^ k ≡ a2 / 2 ^ n / 2 ^ k
     shifted k q = turned a n k ∙ ap (λ u. u / 2 ^ n) q ∙ sym (turned a2 n k)
 
--- ---- two operands
+-- ---- operations on two operands
 
 both_lists : (a b c d : Bool) → ((a || c) || (b || d)) ≡ false → ((a || b) ≡ false) × ((c || d) ≡ false)
 both_lists false false false false n = (refl, refl)
@@ -159,7 +159,7 @@ four_lists a b e g c d f i n =
     let r = neither g i p.1 in
     (ap₂ (λ u v. u || v) q.0 r.0, ap₂ (λ u v. u || v) q.1 r.1)
 
--- no byte of either word is marked
+-- where no byte is marked in either of two words, none is in the first and none in the second
 pub neither_marked : (w u : WordMarks) → any_byte (either w u) ≡ false → (any_byte w ≡ false) × (any_byte u ≡ false)
 neither_marked w u n = four_lists w.byte0 w.byte1 w.byte2 w.byte3 u.byte0 u.byte1 u.byte2 u.byte3 n
 
@@ -230,7 +230,7 @@ module _ (wa wb : WordMarks) (a a2 b b2 : ℕ) (h : SameWord wa a a2) (k : SameW
   same_operation op.Sltu = same_test (any_byte (either wa wb)) _ _ (λ n. let q = equal_operands n in ap₂ nat_lt q.0 q.1)
   same_operation o = same_every (any_byte (either wa wb)) _ _ (λ n. let q = equal_operands n in ap₂ (value o) q.0 q.1)
 
--- ---- one register twice
+-- ---- operations on one register twice
 
 not_less : (a : ℕ) → nat_lt a a ≡ false
 not_less a = grind (arith, nat_tests)

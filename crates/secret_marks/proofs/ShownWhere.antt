@@ -16,7 +16,7 @@ use Rattle.secret_marks.specs.Shows.{call_shows, head_shows, operand_shows, oper
 use Rattle.secret_marks.specs.Shown.{head_shown, operands_shown, or_else, resolved_shown, shown_by, shown_cycle}
 use Rattle.secret_marks.specs.Watch.{Watched, then_watches, watch_before, watch_clear, watch_complete, watch_cycle, watch_fetch, watch_issue, watch_resolve, watch_retire}
 
--- an entry that shows, or what others show
+-- an answer that is this entry where it shows, else that of the others
 chosen : (b : Bool) (s : Shown) (o : Option Shown) (rest : Bool) → is_some o ≡ rest → is_some (if b then Some s else o) ≡ (b || rest)
 chosen true s o rest e = refl
 chosen false s o rest e = e
@@ -27,7 +27,7 @@ resolved_told (e ∷ window) [] = refl
 resolved_told (e ∷ window) (mark ∷ marks) =
     chosen (e.resolved && outcome_marked mark) (shown_by e) (resolved_shown window marks) (resolved_shows window marks) (resolved_told window marks)
 
--- one that shows or none
+-- an answer that is there where a test holds
 alone : (b : Bool) (s : Shown) → is_some (if b then Some s else None) ≡ b
 alone true s = refl
 alone false s = refl
@@ -44,7 +44,7 @@ operands_told d m before marks (e ∷ window) (own ∷ owns) =
     chosen (operand_shows d m before marks e) (shown_by e) (operands_shown d m (e ∷ before) (own ∷ marks) window owns) (operands_show d m (e ∷ before) (own ∷ marks) window owns)
     (operands_told d m (e ∷ before) (own ∷ marks) window owns)
 
--- one thing after another
+-- the first of two answers is there where one of them is
 joined : (o p : Option Shown) → is_some (or_else o p) ≡ (is_some o || is_some p)
 joined None p = refl
 joined (Some s) p = refl
@@ -56,13 +56,13 @@ four false true c = refl
 four false false true = refl
 four false false false = refl
 
--- where Retire ends the run
+-- the two answers of a cycle's parts up to Retire, with those of the parts in which nothing shows
 three : (a b : Bool) → (a || (b || false)) ≡ (((false || a) || false) || b)
 three true b = refl
 three false true = refl
 three false false = refl
 
--- Retire ends the run or not
+-- what shows in a cycle, whether or not Retire ends the run
 by_end : (d : Desc) (code : Code) (end : Option End) (a b : Bool) (r : Watched) (o : Option Shown) (w : Watched) → r.shows ≡ (((false || a) || false) || b) →
     w.shows ≡ (((r.shows || is_some o)) || false) →
     (a || (b || is_some (unless_ended end None o))) ≡ (unless_ended end r w).shows

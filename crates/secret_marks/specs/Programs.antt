@@ -32,8 +32,8 @@ upper_half =
     0x022144b3 ∷ 0x00814303 ∷ 0x01031313 ∷ 0x00612223 ∷ 0x00615383 ∷ 0x002383b3 ∷ 0xf003c403 ∷ 0x00000513 ∷ 0x05d00893 ∷
     0x00000073 ∷ []
 
--- the lower half of that word is looked up by: div x9,x2,x2; lbu x6,8(x2); slli x6,x6,16; sw x6,4(x2); lhu x7,4(x2); add x7,x7,x2;
--- lbu x8,-256(x7); exit
+-- the lower half is looked up by of a word whose byte 2 is the secret: div x9,x2,x2; lbu x6,8(x2); slli x6,x6,16; sw x6,4(x2); lhu
+-- x7,4(x2); add x7,x7,x2; lbu x8,-256(x7); exit
 abbrev pub lower_half : List ℕ
 lower_half =
     0x022144b3 ∷ 0x00814303 ∷ 0x01031313 ∷ 0x00612223 ∷ 0x00415383 ∷ 0x002383b3 ∷ 0xf003c403 ∷ 0x00000513 ∷ 0x05d00893 ∷
@@ -57,8 +57,8 @@ squashed =
 abbrev pub called : List ℕ
 called = 0x00814383 ∷ 0x00100893 ∷ 0x00000073 ∷ 0x002383b3 ∷ 0xf003c403 ∷ 0x00000513 ∷ 0x05d00893 ∷ 0x00000073 ∷ []
 
--- such a call answers in a0, where the secret was, and its answer is looked up by: lbu x10,8(x2); addi x17,x0,1; ecall; addi x7,x10,64;
--- add x7,x7,x2; lbu x8,-256(x7); exit
+-- a call of an unknown number answers in a0, where the secret was, and its answer is looked up by: lbu x10,8(x2); addi x17,x0,1; ecall;
+-- addi x7,x10,64; add x7,x7,x2; lbu x8,-256(x7); exit
 abbrev pub answered : List ℕ
 answered = 0x00814503 ∷ 0x00100893 ∷ 0x00000073 ∷ 0x04050393 ∷ 0x002383b3 ∷ 0xf003c403 ∷ 0x00000513 ∷ 0x05d00893 ∷ 0x00000073 ∷ []
 
@@ -85,8 +85,8 @@ carry = 0x00814303 ∷ 0x0fa30313 ∷ 0x00835393 ∷ 0x002383b3 ∷ 0xf003c403 �
 abbrev pub public_byte : List ℕ
 public_byte = 0x00812303 ∷ 0x00835393 ∷ 0x002383b3 ∷ 0xf003c403 ∷ 0x00000513 ∷ 0x05d00893 ∷ 0x00000073 ∷ []
 
--- the secret byte of that word is masked off, and the others are looked up by: lw x6,8(x2); andi x7,x6,-256; add x7,x7,x2;
--- lbu x8,-256(x7); exit
+-- the secret is the lowest byte of a word and masked off, and the others are looked up by: lw x6,8(x2); andi x7,x6,-256; add
+-- x7,x7,x2; lbu x8,-256(x7); exit
 abbrev pub masked : List ℕ
 masked = 0x00812303 ∷ 0xf0037393 ∷ 0x002383b3 ∷ 0xf003c403 ∷ 0x00000513 ∷ 0x05d00893 ∷ 0x00000073 ∷ []
 
@@ -112,8 +112,8 @@ times_zero = 0x00814303 ∷ 0x020303b3 ∷ 0x002383b3 ∷ 0xf003c403 ∷ 0x00000
 abbrev pub compared : List ℕ
 compared = 0x00814303 ∷ 0x00603333 ∷ 0x00835393 ∷ 0x002383b3 ∷ 0xf003c403 ∷ 0x00000513 ∷ 0x05d00893 ∷ 0x00000073 ∷ []
 
--- that word is copied, and its public bytes are looked up by: lw x6,8(x2); addi x6,x6,0; srli x7,x6,8; add x7,x7,x2; lbu x8,-256(x7);
--- exit
+-- a word whose lowest byte is the secret is copied, and its public bytes are looked up by: lw x6,8(x2); addi x6,x6,0; srli x7,x6,8;
+-- add x7,x7,x2; lbu x8,-256(x7); exit
 abbrev pub moved : List ℕ
 moved = 0x00812303 ∷ 0x00030313 ∷ 0x00835393 ∷ 0x002383b3 ∷ 0xf003c403 ∷ 0x00000513 ∷ 0x05d00893 ∷ 0x00000073 ∷ []
 

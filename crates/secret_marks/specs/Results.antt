@@ -8,9 +8,9 @@ use Rattle.rv_types.specs.declared.Instr.TheVariants.{Branch, OpImm, OpReg}
 use Rattle.secret_marks.specs.declared.WordMarks.{WordMarks}
 use Rattle.secret_marks.specs.Words.{any_byte, downward, either, every_byte, lowest_byte, smeared, unmarked, upward}
 
--- ---- two operands
+-- ---- operations on two operands
 
--- these marks where the second operand is unmarked, and else all
+-- the marks of a result that is these where the second operand b is unmarked, and else every byte
 abbrev pub by_known : WordMarks → WordMarks → WordMarks
 by_known b marks = if any_byte b then every_byte true else marks
 
@@ -29,7 +29,7 @@ of_operands Slt a b = lowest_byte (any_byte (either a b))
 of_operands Sltu a b = lowest_byte (any_byte (either a b))
 of_operands op a b = smeared (either a b)
 
--- one register twice: what is 0 whatever it holds is unmarked
+-- the marks of an operation on one register twice: what is 0 whatever the register holds is unmarked
 abbrev pub of_itself : Op → WordMarks → WordMarks
 of_itself Xor a = unmarked
 of_itself Sub a = unmarked
@@ -39,11 +39,11 @@ of_itself op a = of_operands op a a
 
 -- ---- an operand and a constant
 
--- ADD of 0 copies, as `mv` does, and any other sum carries
+-- the marks of a word's sum with a constant: ADD of 0 copies, as `mv` does, and any other sum carries upward
 abbrev pub add_constant : ℕ → WordMarks → WordMarks
 add_constant c a = if c == 0 then a else upward a
 
--- AND with a constant clears where that has a byte 0
+-- the marks of a word's AND with a constant: unmarked where the constant has a byte 0
 abbrev pub and_constant : ℕ → WordMarks → WordMarks
 and_constant c a = record {
   byte0 = a.byte0 && not (c % 256 == 0);
@@ -79,7 +79,7 @@ of_constant Sll c a = left_by (c % 32) a
 of_constant Srl c a = right_by (c % 32) a
 of_constant op c a = of_operands op a unmarked
 
--- ---- an instruction
+-- ---- the value of an instruction
 
 -- the value of an instruction, by the marks of its first and second source: a branch has 0 or 1, and a link value is no secret
 abbrev pub result_marks : Instr → WordMarks → WordMarks → WordMarks

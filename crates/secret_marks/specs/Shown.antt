@@ -19,7 +19,7 @@ use Rattle.secret_marks.specs.Watch.{first_show, watch_complete, watch_resolve, 
 abbrev pub shown_by : Entry → Shown
 shown_by e = record { kind = e.item.kind; serial = e.serial; pc = e.item.pc }
 
--- this, and where there is none the other
+-- the first answer, and where there is none the second
 abbrev pub or_else : Option Shown → Option Shown → Option Shown
 or_else None other = other
 or_else (Some s) other = Some s
@@ -41,7 +41,7 @@ operands_shown d m before marks (e ∷ window) (own ∷ owns) =
     if operand_shows d m before marks e then Some (shown_by e) else operands_shown d m (e ∷ before) (own ∷ marks) window owns
 operands_shown d m before marks _ _ = None
 
--- of a cycle
+-- what shows first in a cycle, by the order of the phases and by age
 abbrev pub shown_cycle : Desc → Machine → Marks → Option Shown
 shown_cycle d x m =
     let c = watch_complete d (begins_cycle x) m in
@@ -52,12 +52,12 @@ shown_cycle d x m =
     (or_else (head_shown l.machine.window l.machine l.marks)
     (unless_ended t.machine.end None (operands_shown d t.marks [] [] t.machine.window t.marks.window)))
 
--- there is something exactly where the watched cycle says that something shows
+-- something shows first in a cycle exactly where the watched cycle says that something shows
 abbrev pub ShownWhereShows : Type 0
 ShownWhereShows = (d : Desc) (code : Code) (x : Machine) (m : Marks) →
     is_some (shown_cycle d x m) ≡ (watch_cycle d code x m).shows
 
--- ---- of a run
+-- ---- what shows first in a run
 
 -- what shows in the cycle with this number, and where nothing does what shows in later ones
 abbrev pub in_cycle : ℕ → Option Shown → Option FirstShown → Option FirstShown
@@ -71,7 +71,7 @@ first_shown d code (suc n) x m =
     unless_ended x.end None
     (let w = watch_cycle d code x m in in_cycle (x.cycle + 1) (shown_cycle d x m) (first_shown d code n w.machine w.marks))
 
--- it is told in the first cycle in which something shows, and only where there is one
+-- what shows first is found in the first cycle in which something shows, and nothing where there is none
 abbrev pub FirstShownWhereFirstShows : Type 0
 FirstShownWhereFirstShows = (d : Desc) (code : Code) (n : ℕ) (x : Machine) (m : Marks) →
     option_map (λ s. s.cycle) (first_shown d code n x m) ≡ first_show d code n x m

@@ -54,11 +54,11 @@ decides_as Div d before e = is_waiting e.state && ready d before e && not (any_t
 decides_as Store d before e = part_may AddressPort d before e
 decides_as _ d before e = false
 
--- that operand is marked
+-- the first operand of the entry is marked, and tells the address of a load or store or the time of a division
 abbrev pub operand_shows : Desc → Marks → List Entry → List EntryMarks → Entry → Bool
 operand_shows d m before marks e = decides_as e.item.kind d before e && any_marked m.regs before marks (base_of (sources e))
 
--- one of these entries has one, oldest first, behind others
+-- the first operand shows of one of these entries, given oldest first behind older ones
 abbrev pub operands_show : Desc → Marks → List Entry → List EntryMarks → List Entry → List EntryMarks → Bool
 operands_show d m before marks (e ∷ window) (own ∷ owns) =
     operand_shows d m before marks e || operands_show d m (e ∷ before) (own ∷ marks) window owns

@@ -2,11 +2,11 @@
 use Rattle.std.specs.Prelude.{◌≡◌, ℕ, ◌+◌, ◌*◌, ◌/◌, ◌%◌, Bool, false, ◌||◌, List, [], ◌∷◌, slice_index_or, if◌then◌else◌}
 use Rattle.secret_marks.specs.declared.WordMarks.{WordMarks}
 
--- each byte has this mark
+-- the marks of a word of which every byte has this mark
 abbrev pub every_byte : Bool → WordMarks
 every_byte mark = record { byte0 = mark; byte1 = mark; byte2 = mark; byte3 = mark }
 
--- no byte is marked
+-- the marks of a word without any mark
 abbrev pub unmarked : WordMarks
 unmarked = every_byte false
 
@@ -14,7 +14,7 @@ unmarked = every_byte false
 abbrev pub lowest_byte : Bool → WordMarks
 lowest_byte mark = record unmarked { byte0 = mark }
 
--- some byte is marked
+-- some byte of the word is marked
 abbrev pub any_byte : WordMarks → Bool
 any_byte w = w.byte0 || w.byte1 || w.byte2 || w.byte3
 
@@ -27,7 +27,7 @@ either w u = record {
   byte3 = w.byte3 || u.byte3;
 }
 
--- from the lowest marked byte upward, as a carry goes
+-- the marks of a word from its lowest marked byte upward, as a carry goes
 abbrev pub upward : WordMarks → WordMarks
 upward w = record {
   byte0 = w.byte0;
@@ -36,7 +36,7 @@ upward w = record {
   byte3 = w.byte0 || w.byte1 || w.byte2 || w.byte3;
 }
 
--- from the highest marked byte downward
+-- the marks of a word from its highest marked byte downward, as a shift to the right goes
 abbrev pub downward : WordMarks → WordMarks
 downward w = record {
   byte0 = w.byte3 || w.byte2 || w.byte1 || w.byte0;
@@ -45,7 +45,7 @@ downward w = record {
   byte3 = w.byte3;
 }
 
--- each byte, where any is marked
+-- every byte is marked, where any is
 abbrev pub smeared : WordMarks → WordMarks
 smeared w = every_byte (any_byte w)
 

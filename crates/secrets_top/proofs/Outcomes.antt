@@ -10,12 +10,12 @@ use Rattle.secrets_top.specs.declared.refusal.Unjudged.TheVariants.{Range, Refus
 use Rattle.secrets_top.specs.declared.verdict.Verdict.{Verdict}
 use Rattle.secrets_top.specs.Top.{Inputs, Accepted, fault_in, verdict_on, Performs, Ends}
 
--- a range is refused
+-- the program ends as it has to where a range of secret bytes is refused
 pub range_refused : (words : List (List ℕ)) (old new : Shelf) (out : Told) (wanted : WantedText) (inputs : Inputs wanted old new) (f : FaultyRange) → wanted_of words ≡ Some wanted
     → fault_in wanted inputs.image ≡ Some f → Ends words (world old out) (world new out) (Err (Range f))
 range_refused words old new out wanted inputs f k e = ((wanted, k, (inputs, e)), refl)
 
--- what is wanted is told
+-- the program ends as it has to where the run that is wanted is told
 pub told_end : (words : List (List ℕ)) (old new : Shelf) (out out' : Told) (wanted : WantedText) (a : Accepted wanted old new) (r : Result Verdict Unjudged) → wanted_of words ≡ Some wanted
     → Performs (verdict_on a) out out' r → Ends words (world old out) (world new out') r
 told_end words old new out out' wanted a (Ok told) k p = (wanted, k, (a, p.0, p.1))

@@ -30,7 +30,7 @@ use Rattle.secrets_top.specs.Top.{Inputs, Ends, Statuses}
 use Rattle.secrets_top.specs.Promises.{OneTrace, Hides, Tells, Promises}
 use Rattle.secrets_top.proofs.Statuses.{statuses_at}
 
--- ---- One run
+-- ---- One run in which nothing shows
 
 -- where nothing is told to show, nothing shows
 nothing_shows : (d : Desc) (code : Code) (n : ℕ) (x : Machine) (m : Marks) → first_shown d code n x m ≡ None → shows_within d code n x m ≡ false
@@ -51,14 +51,14 @@ longer : (d : Desc) (image : ImageText) (secret : List SecretRange) (n k : ℕ) 
 longer d image secret n k end al e f le =
     λ m agree. ended_run d image.code image.entry (secret_in secret) image.ram m n k end al agree (no_secret d image secret n e) f le
 
--- ---- By the status
+-- ---- What each status says of secrets
 
 -- where nothing shows status 0 says that the run ended
 ended : (end : Option End) (status : ℕ) → status ≡ hidden_status end → status ≡ 0 → (e : End) × (end ≡ Some e)
 ended (Some e) status s z = (e, refl)
 ended None status s z = let three : status ≡ 3 = s in absurd (omega (arith, three, z))
 
--- and the status isn't 1
+-- where nothing shows the status isn't 1
 hidden_other : (end : Option End) (status : ℕ) → status ≡ hidden_status end → status ≡ 1 → ⊥
 hidden_other (Some e) status s z = let zero : status ≡ 0 = s in omega (arith, zero, z)
 hidden_other None status s z = let three : status ≡ 3 = s in omega (arith, three, z)
@@ -78,16 +78,16 @@ module _ (d : Desc) (image : ImageText) (secret : List SecretRange) (n : ℕ) (o
   tells None e h s w = absurd (hidden_other (trace_of d image n).end status s h)
   tells (Some first) e h s w = record { first = first; shows = e; text = w }
 
--- ---- The program
+-- ---- The promises of the program
 
--- instructions stand at multiples of 4
+-- an image that is read has its instructions at multiples of 4
 aligned : (wanted : WantedText) (old new : Shelf) (i : Inputs wanted old new) → Aligned i.image.code
 aligned wanted old new i = at_words i.read.are_images.0.file _ _ _ i.image i.read.are_images.0.loads
 
 hidden_status_is : (status : ℕ) → (status ≡ 0) ⊎ (status ≡ 3) → (status ≡ 0) ⊎ (status ≡ 1) ⊎ (status ≡ 3)
 hidden_status_is status h = elim h [ inl a ↦ inl a | inr a ↦ inr (inr a) ]
 
--- with the status of a text that is written whole
+-- the promises follow from what each status says of a text that is written whole
 pub promises : (words : List (List ℕ)) (old new : World) (status : ℕ) → Statuses words old new status → Promises words old new status
 promises words old new status s = record {
   hidden = λ h. let t = s.told (hidden_status_is status h) in let a = t.2.0 in (
@@ -110,6 +110,6 @@ promises words old new status s = record {
   );
 }
 
--- so does the program, with the status of how it ended
+-- the program keeps its promises with the status of how it ended
 pub promises_at : (words : List (List ℕ)) (old new : World) (r : Result Verdict Unjudged) (status : ℕ) → Ends words old new r → status ≡ status_of r → Promises words old new status
 promises_at words old new r status e s = promises words old new status (statuses_at words old new r status e s)

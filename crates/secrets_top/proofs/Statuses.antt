@@ -32,14 +32,14 @@ clash p q = cc
 no_clash : {o : Option FaultyRange} {f : FaultyRange} → o ≡ Some f → o ≡ None → ⊥
 no_clash p q = cc
 
--- that of which something holds is what the words want
+-- what holds of something that the words want holds of what they want
 of_wish : (words : List (List ℕ)) (P : WantedText → Type 0) (wanted : WantedText) → wanted_of words ≡ Some wanted → Wants words P → P wanted
 of_wish words P wanted k a =
     let first : wanted_of words ≡ Some a.0 = a.1 in
     let same : a.0 ≡ wanted = cc in
     subst P same a.2
 
--- what is told has the status of what is told
+-- a verdict has status 0, 1 or 3
 hidden_told : (end : Option End) → IsTold (hidden_status end)
 hidden_told (Some e) = inl refl
 hidden_told None = inr (inr refl)
@@ -48,7 +48,7 @@ told_status : (v : Verdict) → IsTold (verdict_status v)
 told_status (Hidden ending) = hidden_told ending.end
 told_status (Shown first) = inr (inl refl)
 
--- so it has no other
+-- a verdict has no status but 0, 1 and 3
 other_status : (v : Verdict) (n : ℕ) → (IsTold n → ⊥) → verdict_status v ≡ n → ⊥
 other_status v n h q = h (subst IsTold q (told_status v))
 
@@ -141,7 +141,7 @@ module _ (words : List (List ℕ)) (old new : World) where
   not_six (Err (Refused Write)) e h = e.2.0.inputs.read.counts
   not_six (Err (Refused Memory)) e h = e.0
 
-  -- all causes but a failed write write nothing
+  -- no cause but a failed write leaves anything written
   wrote_nothing : (c : Unjudged) → Ends words old new (Err c) → (status_of (Err c) ≡ 7 → ⊥) → new.out ≡ old.out
   wrote_nothing (Range f) e h = e.1
   wrote_nothing (Refused Words) e h = e.2
@@ -167,7 +167,7 @@ module _ (words : List (List ℕ)) (old new : World) where
   no_wish (Err (Refused Memory)) e h = inr refl
   no_wish (Err (Refused _)) e h = absurd (clash e.0.1 h)
 
-  -- of what the words want
+  -- what each status says of what the words want
   module _ (wanted : WantedText) (k : wanted_of words ≡ Some wanted) where
     whole : (v : Verdict) → Ends words old new (Ok v) → (a : Accepted wanted old.files new.files) × Wrote (verdict_text (verdict_on a)) old.out new.out × (v ≡ verdict_on a)
     whole v e = of_wish words (λ w. (a : Accepted w old.files new.files) × Wrote (verdict_text (verdict_on a)) old.out new.out × (v ≡ verdict_on a)) wanted k e
@@ -200,7 +200,7 @@ module _ (words : List (List ℕ)) (old new : World) where
     faulty_description (Err (Refused Write)) e text t x = let i = (cut e).0.inputs in absurd (not_described (Some i.desc) text t i.read.described x)
     faulty_description (Err (Refused Memory)) e text t x = inr (inr refl)
 
-    -- and where the files tell its description
+    -- what each status says where the files tell the description that is wanted
     module _ (desc : Option Desc) (described : TellsDesc old.files (Some wanted.description) desc) where
       same_desc : (desc' : Option Desc) → HasDesc old.files (Some wanted.description) desc' → desc' ≡ desc
       same_desc desc' h = told_desc old.files (Some wanted.description) desc desc' described h
@@ -230,7 +230,7 @@ module _ (words : List (List ℕ)) (old new : World) where
       faulty_image (Err (Refused Write)) e file t x = absurd (no_image (cut e).0.inputs file t x)
       faulty_image (Err (Refused Memory)) e file t x = inr (inr refl)
 
-      -- and its image
+      -- what each status says where the files tell the image that is wanted, too
       module _ (image : ImageText) (there : TellsImage old.files desc (from_file wanted.image) image) where
         same_image : (i : Inputs wanted old.files new.files) → i.image ≡ image
         same_image i =
@@ -310,6 +310,6 @@ statuses words old new r e = record {
   complete = λ wanted d image k t i none a b c. complete words old new wanted k (Some d) t image i r e d refl none a b c;
 }
 
--- so for the status that is answered
+-- the status that is answered says what the status of the outcome says
 pub statuses_at : (words : List (List ℕ)) (old new : World) (r : Result Verdict Unjudged) (status : ℕ) → Ends words old new r → status ≡ status_of r → Statuses words old new status
 statuses_at words old new r status e s = subst (Statuses words old new) (sym s) (statuses words old new r e)

@@ -27,13 +27,13 @@ pub record Hides (d : Desc) (image : ImageText) (secret : List SecretRange) (n :
   pub one_trace : OneTrace d image secret n
   pub longer : status ≡ 0 → (k : ℕ) → n ≤ k → OneTrace d image secret k
 
--- with status 1 it is the line of what shows first
+-- with status 1 what is written is the line of what shows first
 pub record Tells (d : Desc) (image : ImageText) (secret : List SecretRange) (n : ℕ) (out out' : Told) : Type 0 where
   pub first : FirstShown
   pub shows : first_of_run d image secret n ≡ Some first
   pub text : Wrote (shown_line first) out out'
 
--- ---- The program
+-- ---- The promises of the program
 
 pub record Promises (words : List (List ℕ)) (old new : World) (status : ℕ) : Type 0 where
   pub hidden : (status ≡ 0) ⊎ (status ≡ 3) → Wants words (λ wanted. (a : Accepted wanted old.files new.files)

@@ -12,7 +12,7 @@ use Rattle.secrets_top.specs.declared.ranges.FaultyRange.{FaultyRange}
 abbrev pub in_code : Code → ℕ → Bool
 in_code code a = is_some (code (a - a % 4))
 
--- a byte of the range is
+-- a byte of the range is one of a word that may be fetched
 abbrev pub touches_code : Code → SecretRange → Bool
 touches_code code r = list_any (in_code code) (range r.addr r.bytes)
 

@@ -18,13 +18,13 @@ use Rattle.secrets_top.specs.declared.verdict.Verdict.{Verdict}
 use Rattle.secrets_top.specs.Ranges.{first_faulty}
 use Rattle.secrets_top.specs.Verdict.{verdict_of, verdict_text, verdict_status}
 
--- ---- What is wanted
+-- ---- What the words want
 
--- the words want this, of which that holds
+-- the words want something, and P holds of it
 abbrev pub Wants : List (List ℕ) → (WantedText → Type 0) → Type 0
 Wants words P = (wanted : WantedText) × (wanted_of words ≡ Some wanted) × P wanted
 
--- a description is read, and then an image under it
+-- what is read for what is wanted: a description, and then an image under it
 pub record Inputs (wanted : WantedText) (old new : Shelf) : Type 0 where
   pub desc : Desc
   pub image : ImageText
@@ -34,7 +34,7 @@ pub record Inputs (wanted : WantedText) (old new : Shelf) : Type 0 where
 abbrev pub fault_in : WantedText → ImageText → Option FaultyRange
 fault_in wanted image = first_faulty image 0 wanted.secret
 
--- and no range has a fault
+-- what is read is accepted: a description, an image under it, and no range of secret bytes with a fault
 pub record Accepted (wanted : WantedText) (old new : Shelf) : Type 0 where
   pub inputs : Inputs wanted old new
   pub ranges : fault_in wanted inputs.image ≡ None
@@ -68,7 +68,7 @@ Ends words old new (Err (Refused Words)) = (wanted_of words ≡ None) × SameCou
 Ends words old new (Err (Refused Memory)) = SameCounts old.files new.files × (new.out ≡ old.out)
 Ends words old new (Err (Refused refusal)) = Wants words (λ wanted. RefusedInputs wanted old.files new.files refusal) × (new.out ≡ old.out)
 
--- ---- The statuses
+-- ---- The statuses, and when each comes
 
 -- the status of a text that is written whole
 abbrev pub IsTold : ℕ → Type 0

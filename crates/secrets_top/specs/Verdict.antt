@@ -22,7 +22,7 @@ use Rattle.secrets_top.specs.declared.verdict.Verdict.TheVariants.{Hidden, Shown
 
 -- ---- What a run comes to
 
--- a run of which this shows first ended so
+-- the verdict on a run, by how it ended and what shows first
 abbrev pub verdict : Ending → Option FirstShown → Verdict
 verdict ending None = Hidden ending
 verdict ending (Some first) = Shown first
@@ -35,11 +35,11 @@ verdict_from d code n x m = verdict (ending_at (after_cycles d code n x)) (first
 abbrev pub first_of_run : Desc → ImageText → List SecretRange → ℕ → Option FirstShown
 first_of_run d image secret n = first_shown d image.code n (opening d image.entry image.ram) (opening_marks (secret_in secret) image.ram)
 
--- what is told of that run
+-- what is told of at most n cycles of an image's run, of whose memory the bytes of these ranges are secret
 abbrev pub verdict_of : Desc → ImageText → List SecretRange → ℕ → Verdict
 verdict_of d image secret n = verdict_from d image.code n (opening d image.entry image.ram) (opening_marks (secret_in secret) image.ram)
 
--- ---- Its text
+-- ---- The text of a verdict
 
 -- the word of what shows of an instruction of this kind: where it accesses memory, how long it divides, what it is called for, or
 -- where a branch or JALR goes
@@ -64,9 +64,9 @@ abbrev pub verdict_text : Verdict → List ℕ
 verdict_text (Hidden ending) = hidden_text ending
 verdict_text (Shown first) = shown_line first
 
--- ---- Its status
+-- ---- The status of a verdict
 
--- where nothing shows: whether the run ended
+-- the status where nothing shows: 0 where the run ended, else 3
 abbrev pub hidden_status : Option End → ℕ
 hidden_status (Some end) = 0
 hidden_status None = 3

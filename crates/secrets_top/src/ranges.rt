@@ -13,9 +13,9 @@ use thiserror::Error;
 /// What is wrong with a range of secret bytes.
 #[derive(Clone, Copy, Debug, PartialEq, Eq)]
 pub enum RangeFault {
-    /// Not all of its bytes lie in memory.
+    /// The range doesn't lie within memory.
     Outside,
-    /// One of its bytes is one of a word that may be fetched.
+    /// One of the range's bytes is one of a word that may be fetched.
     Code,
 }
 
@@ -23,9 +23,9 @@ pub enum RangeFault {
 #[derive(Clone, Copy, Debug, PartialEq, Eq, Error)]
 #[error("a range of secret bytes isn't within memory, or touches code")]
 pub struct FaultyRange {
-    /// Its number among the ranges, counted from 0.
+    /// The number of the range among the ranges, counted from 0.
     pub number: u64,
-    /// What is wrong with it.
+    /// What is wrong with the range.
     pub fault: RangeFault,
 }
 

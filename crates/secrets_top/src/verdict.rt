@@ -15,7 +15,7 @@ use tool_io::{Failed, Sink};
 pub enum Verdict {
     /// Nothing shows in the run, which ended so, or not within its budget.
     Hidden(Ending),
-    /// This shows first.
+    /// Something shows in the run: what does first, and in which cycle.
     Shown(FirstShown),
 }
 

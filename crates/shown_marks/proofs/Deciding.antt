@@ -32,9 +32,9 @@ use Rattle.shown_marks.specs.declared.seen.Place.{Place}
 use Rattle.shown_marks.specs.declared.seen.Seen.{Seen}
 use Rattle.shown_marks.specs.State.{HasTurn, before_of, parts_of, window_of}
 
--- ---- who is passed
+-- ---- whose operand tells nothing
 
--- whether a store asks at the port of its address doesn't depend on what is around it, as this
+-- surroundings without anything: whether a store asks at the port of its address doesn't depend on them
 nothing_around : Around
 nothing_around = record { cycle = 0; regs = []; ram = record { base = 0; bytes = []; misaligned = false }; dependence = []; cache = []; second = []; misses = []; free_from = 0 }
 
@@ -45,13 +45,13 @@ module _ (d : Desc) (before : List Entry) (e : Entry) where
   silent_as Store w p = p refl
   silent_as _ w p = refl
 
-  -- one that doesn't wait
+  -- the first operand of an entry that doesn't wait tells nothing
   pub unwaiting_silent : InStep d e → is_waiting e.state ≡ false → decides_as e.item.kind d before e ≡ false
   unwaiting_silent t w =
       silent_as e.item.kind (λ s. ap (λ b. b && ready d before e) w)
       (λ s. sym (part_asks d nothing_around before e AddressPort s) ∙ not_waiting d nothing_around before e t w AddressPort)
 
-  -- one that waits, and lacks what it wants
+  -- the first operand of an entry that waits and lacks what it wants tells nothing
   pub unable_silent : is_waiting e.state ≡ true → has_sources (wants_of d.version e) d before e ≡ false → decides_as e.item.kind d before e ≡ false
   unable_silent w h =
       silent_as e.item.kind (λ s. ap (λ r. is_waiting e.state && r) (unready s) ∙ and-false (is_waiting e.state))
@@ -60,7 +60,7 @@ module _ (d : Desc) (before : List Entry) (e : Entry) where
       unready : is_store e.item.kind ≡ false → ready d before e ≡ false
       unready s = sym (ap (λ s. has_sources (if s && not (d.version == 1) then wants_by (has_address e) (has_data e) else wants.Whole) d before e) s) ∙ h
 
-  -- whose operand tells nothing shows nothing
+  -- an entry whose operand tells nothing shows nothing
   pub silent : (m : Marks) (marks : List EntryMarks) → decides_as e.item.kind d before e ≡ false → operand_shows d m before marks e ≡ false
   silent m marks h = ap (λ b. b && any_marked m.regs before marks (base_of (sources e))) h
 
@@ -91,7 +91,7 @@ module _ (s : Seen) (p : Place) (t : HasTurn s p) where
       ∙ sym (ap₂ (λ w r. w && r && not (address_tainted d.stt_model before e)) t.waits (is_ready (ap is_store is)))
       ∙ ap (λ k. decides_as k d before e) (sym is)
 
-  -- a division its time where both operands are
+  -- a division tells its time where both operands are untainted
   division_decides : (roots : List (Option ℕ)) (b : Bool) → e.item.kind ≡ Div → slice_get (each_roots s.walk.sources.now.items) p.position ≡ Some roots →
       b ≡ may_transmit e.item.kind s.point.now.serial roots → b ≡ decides_as e.item.kind d before e
   division_decides roots b is k q =
@@ -100,7 +100,7 @@ module _ (s : Seen) (p : Place) (t : HasTurn s p) where
       ∙ sym (ap₂ (λ w r. w && r && not (any_tainted d.stt_model before e)) t.waits (is_ready (ap is_store is)))
       ∙ ap (λ k. decides_as k d before e) (sym is)
 
-  -- either where what it asks of taint is so
+  -- a load or division tells its address or time where what it asks of taint is so
   pub untainted_decides : (roots : List (Option ℕ)) (b : Bool) → (e.item.kind ≡ Load) ⊎ (e.item.kind ≡ Div) → slice_get (each_roots s.walk.sources.now.items) p.position ≡ Some roots →
       b ≡ may_transmit e.item.kind s.point.now.serial roots → b ≡ decides_as e.item.kind d before e
   untainted_decides roots b (inl is) k q = load_decides roots b is k q
@@ -111,15 +111,15 @@ module _ (s : Seen) (p : Place) (t : HasTurn s p) where
   in_step : InStep d e
   in_step = step_at d (window_of s) p.position e t.stands.store_parts t.stands.together t.at
 
-  -- it has issued
+  -- the address part of a store that has issued may not issue again
   pub address_issued : has_address e ≡ true → false ≡ part_may AddressPort d before e
   address_issued h = sym (part_gone part.Base d before e h)
 
-  -- it goes with the other part in version 1
+  -- the address part of a store in version 1 may issue: both sources are there, and it goes with the data part
   pub address_with_data : has_address e ≡ false → d.version ≡ 1 → is_store e.item.kind ≡ true → true ≡ part_may AddressPort d before e
   address_with_data f one n = sym (part_may_by part.Base d before e true f (first_ready d before e (base_of (sources e)) in_step one n t.waits t.able))
 
-  -- else it asks for the base alone
+  -- the address part of a store in version 2 may issue where its base is there
   pub address_alone : (b : Bool) → has_address e ≡ false → (d.version ≡ 1 → ⊥) → option_map (ready_part part.Base) (slice_get s.stations.now.held p.station) ≡ Some b → b ≡ part_may AddressPort d before e
   address_alone b f other k =
       let held_by : HoldsBy d (parts_of t.stands.next t.stands.writes s) s.point.now = record { advanced = t.stands.advanced; model = t.stands.model; hold = refl } in
@@ -132,7 +132,7 @@ module _ (s : Seen) (p : Place) (t : HasTurn s p) where
 
 -- ---- the marks of the first operand
 
--- where there is one
+-- the marks of the first operand are those of the base, if there is one
 pub base_marked : (regs : List WordMarks) (older : List Entry) (marks : List EntryMarks) (rs : List ℕ) → any_byte (first_marks regs older marks rs) ≡ any_marked regs older marks (base_of rs)
 base_marked regs older marks [] = refl
 base_marked regs older marks (r ∷ rs) = sym (or_false (any_byte (first_marks regs older marks (r ∷ rs))))

@@ -15,11 +15,11 @@ use Rattle.secret_marks.specs.Shown.{head_shown, operands_shown, shown_by}
 use Rattle.entry_marks.proofs.Exposed.{head_silent, head_tells, no_head}
 
 module _ (h : Held) (v : Described) (w : Whole h) (s : described h ≡ v) where
-  -- the point said which entries are visible
+  -- the point that is lent said which entries are visible, where the held one did
   pub lent_advanced : HasAdvanced v.point v.machine.window → HasAdvanced h.point h.rob.entries
   lent_advanced a = subst (λ (v : Described). HasAdvanced v.point v.machine.window) (sym s) a
 
-  -- each entry has its marks
+  -- the parts that are lent have marks for each entry, where the machine that they hold has
   pub lent_step : (owns : List EntryMarks) → length owns ≡ length v.machine.window → length owns ≡ length h.rob.entries
   lent_step owns e = e ∙ sym (ap (λ (v : Described). length v.machine.window) s)
 

@@ -20,12 +20,12 @@ use Rattle.shown_marks.specs.State.{HasTurn, Stands, before_of, each_marks, mark
 use Rattle.shown_marks.proofs.Deciding.{silent, unable_silent, unwaiting_silent}
 use Rattle.shown_marks.proofs.Walking.{ShowsFrom, all_from, shows_here, shows_later, shows_nowhere}
 
--- what shows from a position on is what shows in all
+-- what shows from position i on is what shows first in the whole window
 abbrev pub Shows : Seen → ℕ → Type 0
 Shows s i = ShowsFrom s.desc.now (marks_in s) (window_of s) (each_marks s) i
 
 module _ (s : Seen) (stands : Stands s) where
-  -- what a station tells of its entry
+  -- a station is able where what its entry wants is there
   pub able_is : (i n : ℕ) (e : Entry) (b : Bool) → slice_get (window_of s) i ≡ Some e → is_waiting e.state ≡ true → n ≡ station_of i (window_of s) → option_map is_able (slice_get s.stations.now.held n) ≡ Some b →
       b ≡ has_sources (wants_of s.desc.now.version e) s.desc.now (before_at (window_of s) i) e
   able_is i n e b h w q k =
@@ -36,14 +36,14 @@ module _ (s : Seen) (stands : Stands s) where
       sym k ∙ ap (λ n. option_map is_able (slice_get s.stations.now.held n)) q ∙ told in
       cc
 
-  -- one that doesn't wait is passed
+  -- an entry that doesn't wait is passed: what shows behind it is what shows from it on
   keeps : Keeps (Shows s) (window_of s)
   keeps i e h w t =
       let in_step = step_at s.desc.now (window_of s) i e stands.store_parts stands.together h in
       let quiet = unwaiting_silent s.desc.now (before_at (window_of s) i) e in_step w in
       shows_later s.desc.now (marks_in s) (window_of s) (each_marks s) stands.step i e h (silent s.desc.now (before_at (window_of s) i) e (marks_in s) (marks_before (each_marks s) i) quiet) t
 
-  -- none shows before this station
+  -- no entry shows that is older than the one at station k
   abbrev pub Reached : ℕ → Type 0
   Reached k = Reaches (Shows s) (window_of s) k
 
@@ -68,13 +68,13 @@ module _ (s : Seen) (stands : Stands s) where
       let here = past_one k (omega (arith, le)) (unable k (omega arith) (omega arith)) t in
       subst Reached (omega arith) (past_some n (k + 1) (omega (arith, le)) (λ j low high. unable j (omega (arith, low)) (omega (arith, high))) here)
 
-  -- all from one up to another
+  -- no entry shows before station k, where none shows before an older one and those from there on aren't able
   pub reached_past : (from k : ℕ) → from ≤ k → k ≤ length s.stations.now.held → ((j : ℕ) → from ≤ j → j < k → option_map is_able (slice_get s.stations.now.held j) ≡ Some false) → Reached from → Reached k
   reached_past from k le within unable t =
       let there : from + (k - from) ≡ k = omega (arith, le) in
       subst Reached there (past_some (k - from) from (omega (arith, le, within)) (λ j low high. unable j low (omega (arith, high, le))) t)
 
-  -- behind the last
+  -- behind the last station nothing shows in all, where nothing showed before
   pub reached_end : (k : ℕ) → k ≡ length s.stations.now.held → Reached k → None ≡ operands_shown s.desc.now (marks_in s) [] [] (window_of s) (each_marks s)
   reached_end k end t =
       shows_nowhere s.desc.now (marks_in s) (window_of s) (each_marks s)
@@ -86,13 +86,13 @@ module _ (s : Seen) (stands : Stands s) where
     abbrev shows : Bool
     shows = operand_shows s.desc.now (marks_in s) (before_of s p) (marks_before_of s p) p.entry.now
 
-    -- its entry shows
+    -- the entry at this station shows first in all, where it shows and none did before
     pub reached_shows : (shown : Shown) → shows ≡ true → shown ≡ shown_by p.entry.now → Reached k → Some shown ≡ operands_shown s.desc.now (marks_in s) [] [] (window_of s) (each_marks s)
     reached_shows shown q is t =
         shows_here s.desc.now (marks_in s) (window_of s) (each_marks s) stands.step p.position p.entry.now turn.at shown q is
         (at_next (Shows s) (window_of s) k p.position p.entry.now keeps t turn.at turn.waits (sym turn.station ∙ at))
 
-    -- or is passed
+    -- the walk goes on to the next station, where the entry at this one doesn't show
     pub reached_next : shows ≡ false → Reached k → Reached (k + 1)
     reached_next q t =
         goes_on _ _ (window_of s) k p.position p.entry.now keeps t turn.at turn.waits (sym turn.station ∙ at)

@@ -18,7 +18,7 @@ use Rattle.entry_marks.proofs.Before.{before_step, drop_step, found_at}
 abbrev pub from : Desc → Marks → List Entry → List EntryMarks → ℕ → Option Shown
 from d m window owns i = operands_shown d m (before_at window i) (marks_before owns i) (drop i window) (drop i owns)
 
--- it is what shows in all
+-- what shows from position i on is what shows first in the whole window
 abbrev pub ShowsFrom : Desc → Marks → List Entry → List EntryMarks → ℕ → Type 0
 ShowsFrom d m window owns i = from d m window owns i ≡ operands_shown d m [] [] window owns
 
@@ -40,11 +40,11 @@ module _ (d : Desc) (m : Marks) (window : List Entry) (owns : List EntryMarks) w
         ∙ ap₂ (λ es ms. if shows then Some (shown_by e) else operands_shown d m es ms (drop (i + 1) window) (drop (i + 1) owns))
         (sym (before_step window (i + 1) i e refl here)) (sym (before_step owns (i + 1) i own refl here2))
 
-    -- that of an entry that shows
+    -- an entry that shows is what shows first in the whole window
     pub shows_here : (s : Shown) → shows ≡ true → s ≡ shown_by e → ShowsFrom d m window owns i → Some s ≡ operands_shown d m [] [] window owns
     shows_here s q p t = ap Some p ∙ ap (λ b. if b then Some (shown_by e) else from d m window owns (i + 1)) (sym q) ∙ sym one_on ∙ t
 
-    -- one that doesn't is passed
+    -- an entry that doesn't show is passed
     pub shows_later : shows ≡ false → ShowsFrom d m window owns i → ShowsFrom d m window owns (i + 1)
     shows_later q t = ap (λ b. if b then Some (shown_by e) else from d m window owns (i + 1)) (sym q) ∙ sym one_on ∙ t
 
@@ -52,7 +52,7 @@ module _ (d : Desc) (m : Marks) (window : List Entry) (owns : List EntryMarks) w
   none_left before marks [] = refl
   none_left before marks (own ∷ owns) = refl
 
-  -- behind all there is none
+  -- behind the last entry nothing shows in the whole window
   pub shows_nowhere : ShowsFrom d m window owns (length window) → None ≡ operands_shown d m [] [] window owns
   shows_nowhere t =
       let n = length window in

@@ -18,11 +18,11 @@ use Rattle.entry_marks.specs.Walk.{with_window}
 use Rattle.shown_marks.specs.declared.seen.Place.{Place}
 use Rattle.shown_marks.specs.declared.seen.Seen.{Seen}
 
--- the window
+-- the window that the walk looks at, oldest entry first
 abbrev pub window_of : Seen → List Entry
 window_of s = s.walk.rob.now.entries
 
--- the marks of its entries
+-- the marks of the window's entries, oldest first
 abbrev pub each_marks : Seen → List EntryMarks
 each_marks s = s.walk.marks.now.items
 
@@ -48,15 +48,15 @@ pub record Stands (s : Seen) : Type 0 where
 
 -- ---- an entry in its place
 
--- the older ones, youngest first
+-- the entries older than the one in its place, youngest first
 abbrev pub before_of : Seen → Place → List Entry
 before_of s p = before_at (window_of s) p.position
 
--- and their marks
+-- the marks of the entries older than this one, youngest first
 abbrev pub marks_before_of : Seen → Place → List EntryMarks
 marks_before_of s p = marks_before (each_marks s) p.position
 
--- it stands there, it waits at its station, and what it wants is there
+-- the entry of a place has its turn: it stands at its position, it waits at its station, and what it wants is there
 pub record HasTurn (s : Seen) (p : Place) : Type 0 where
   pub stands : Stands s
   pub at : slice_get (window_of s) p.position ≡ Some p.entry.now

@@ -55,7 +55,7 @@ impl<'a> Seen<'a> {
         }
     }
 
-    /// Whether it does, and is marked.
+    /// Whether the first operand of the entry tells an address or the time of a division, and is marked.
     pub(crate) fn operand_shows(&self, place: &Place) -> bool
         requires turn { HasTurn self.now place.now }
         ensures { result ≡ operand_shows self.now.desc.now (marks_in self.now) (before_of self.now place.now)

@@ -10,21 +10,21 @@ use window_model::Entry;
 pub(crate) struct Seen<'a> {
     /// The entries in flight and their sources, with the marks.
     pub(crate) walk: Walk<'a>,
-    /// The entries that wait.
+    /// The stations, with the entries that wait.
     pub(crate) stations: &'a Stations,
-    /// The visibility point.
+    /// The point up to which entries are visible.
     pub(crate) point: &'a VisPoint,
-    /// The machine's description.
+    /// The description of the machine.
     pub(crate) desc: &'a Desc,
 }
 
 /// An entry that waits in its place, where what it wants is there.
 #[derive(Clone, Copy)]
 pub(crate) struct Place<'a> {
-    /// Its position, counted from the oldest entry.
+    /// The position of the entry, counted from the oldest.
     pub(crate) position: u32,
-    /// The position of its station.
+    /// The position of the entry's station.
     pub(crate) station: u32,
-    /// The entry.
+    /// The entry at that position.
     pub(crate) entry: &'a Entry,
 }

@@ -1,4 +1,4 @@
--- Clear at its place: the store there is marked, and what is younger stays, or goes from a load on.
+-- Clear at the place that it finds: the store there is cleared, and what is younger stays, or goes from a load on.
 use Rattle.std.proofs.Common.{◌≡◌, Bool, true, false, not, ◌&&◌, List, [], ◌∷◌, ◌++◌, refl, ap, sym, ◌∙◌}
 use Rattle.std.specs.Prelude.{if◌then◌else◌, reverse}
 use Rattle.machine_desc.specs.declared.Desc.{Desc}
@@ -12,7 +12,7 @@ use Rattle.window_model.proofs.Booleans.{both, not_true}
 use Rattle.window_model.proofs.Counts.{Goes}
 use Rattle.window_model.proofs.Places.{Found, by_place, older_is}
 
--- ---- what it is
+-- ---- what a store that may be cleared is
 
 -- a store that isn't cleared, with a known, untainted address
 pub record MayClear (d : Desc) (b : List Entry) (e : Entry) : Type 0 where
@@ -31,7 +31,7 @@ clear_parts d b e h =
 pub cleared_goes : (e : Entry) → Goes e (cleared_one e)
 cleared_goes e = record { item = refl; serial = refl; waits = λ h. h }
 
--- ---- where it stands
+-- ---- where the store and the violated load stand
 
 -- what Clear knows of the store that it takes, and of the window
 pub record Cleared (d : Desc) (x : Machine) (p : Place) : Type 0 where
@@ -39,7 +39,7 @@ pub record Cleared (d : Desc) (x : Machine) (p : Place) : Type 0 where
   pub window : x.window ≡ reverse p.before ++ p.entry ∷ p.younger
   pub parts : MayClear d p.before p.entry
 
--- and of the load that is violated
+-- what Clear knows of the violated load: it is among the entries younger than the store, and passed the store wrongly
 pub record Violated (p q : Place) : Type 0 where
   pub younger : p.younger ≡ reverse q.before ++ q.entry ∷ q.younger
   pub has : is_violated p.entry q.entry ≡ true

@@ -30,7 +30,7 @@ use Rattle.window_model.specs.Issue.{Begun, Port, AluPort, AddressPort, DataPort
 use Rattle.window_model.proofs.Booleans.{both, not_true}
 use Rattle.window_model.proofs.Counts.{Goes, goes_same, goes_then, Evolves}
 
--- ---- who may issue
+-- ---- what entries that may issue are
 
 pub record MayIssue (d : Desc) (now : Around) (b : List Entry) (e : Entry) : Type 0 where
   pub waits : is_waiting e.state ≡ true
@@ -56,7 +56,7 @@ pub division_clean : (k : Kind) (d : Desc) (now : Around) (b : List Entry) (e : 
 division_clean Div d now b e h l = not_true _ (both _ _ h).0
 division_clean _ d now b e h l = absurd (cc)
 
--- ---- ports
+-- ---- what asks for which port
 
 pub same_self : (p : Port) → same_port p p ≡ true
 same_self AluPort = refl
@@ -100,9 +100,9 @@ asks_load d now b e h = let a = asks_whole d now LoadPort b e refl h in (a.may, 
 pub asks_division : (d : Desc) (now : Around) (b : List Entry) (e : Entry) → may_at d now DivPort b e ≡ true → (may_issue d now b e ≡ true) × (e.item.kind ≡ Div)
 asks_division d now b e h = let a = asks_whole d now DivPort b e refl h in (a.may, at_division_port e.item.kind a.own)
 
--- ---- a store's parts
+-- ---- the parts of a store
 
--- a store's part that may go: it hasn't, and its own source is there
+-- a part of a store may issue: it hasn't yet, and its own source is there
 pub record MayGo (d : Desc) (has : Bool) (own : List ℕ) (b : List Entry) : Type 0 where
   pub fresh : has ≡ false
   pub known : all_known d b own ≡ true
@@ -125,14 +125,14 @@ go_of has d own b e f h =
 
 -- ---- what becomes of it
 
--- the parts that go
+-- the store once its address part, its data part or both have issued, as two tests say
 abbrev pub gone_parts : Around → List Entry → Bool → Bool → Entry → Entry
 gone_parts now b address data_ e =
     let f = effect_of now.regs b e in
     let a = (if address then with_address now f e else e) in
     if data_ then with_data now f a else a
 
--- an entry remains as it is, or begins
+-- what Issue makes of an entry that is no store: it remains as it is, or begins
 pub data Comes (e r : Entry) : Type 0 where
   Remains : r ≡ e → Comes e r
   Begins : (cycle due : ℕ) (o : Outcome) → r ≡ begun cycle e due o → Comes e r
@@ -182,7 +182,7 @@ module _ (d : Desc) (now : Around) (b : List Entry) (e : Entry) (P : Entry → T
       by_kind true q = by_store q
       by_kind false q = by_whole q
 
--- ---- it goes on
+-- ---- what issues goes on as entries may
 
 comes_goes : (e r : Entry) → Comes e r → Goes e r
 comes_goes e r (Remains q) = subst (Goes e) (sym q) (goes_same e)
@@ -191,7 +191,7 @@ comes_goes e r (Begins cycle due o q) = subst (Goes e) (sym q) (record { item = 
 pub begin_goes : (k : Kind) (d : Desc) (now : Around) (b : List Entry) (e : Entry) → Goes e (begin_as k d now b e).entry
 begin_goes k d now b e = comes_goes e _ (begin_comes k d now b e)
 
--- a store's part goes: it keeps its item and serial, and doesn't wait again
+-- a store of which a part issues keeps its item and serial, and doesn't wait again
 both_goes : (a c : Option ℕ) (s : Progress) → is_waiting (busy_until_both a c s) ≡ true → is_waiting s ≡ true
 both_goes (Some a) (Some c) s h = absurd (cc)
 both_goes (Some a) None s h = h
@@ -287,11 +287,12 @@ some_bytes Lhu = omega arith
 some_bytes Sh = omega arith
 some_bytes _ = omega arith
 
--- the lines of an access as they are found
+-- the lines of an access of n bytes, as they are looked up
 abbrev pub looked : Desc → Around → ℕ → ℕ → List Line
 looked d now a n = map (look_up d now) (lines_of d a n)
 
--- and of an access without fault: its lines are looked up where there is room for the registers that they take
+-- what holds of forwarded bytes, of lines that there are miss registers enough for, and of waiting, holds of every access
+-- without fault
 module _ (d : Desc) (now : Around) (P : Access → Type 0) (forwards : P Forwards)
     (looks : (a n : ℕ) → 0 < n → let found = looked d now a n in length now.misses + length (requests found) ≤ d.cache_mshrs → P (Looks found (prefetched d now found)))
     (waits : (a n : ℕ) → 0 < n → d.cache_mshrs < length now.misses + length (requests (looked d now a n)) → P Waits) where
@@ -309,7 +310,7 @@ module _ (d : Desc) (now : Around) (P : Access → Type 0) (forwards : P Forward
       if_then true = forwards
       if_then false = by_lacking a n some
 
-  -- and of a load's access, where it holds of a fault
+  -- what holds of a fault, too, holds of every access of a load
   module _ (faults : (c : Cause) → P (Faults c)) where
     by_fault : (b : List Entry) (a n : ℕ) (o : Option Cause) → 0 < n → P (access_at d now b a n o)
     by_fault b a n (Some c) some = faults c

@@ -1,4 +1,5 @@
--- What passes goes on to, as it becomes Done, begins, is resolved or is cleared; and which entries don't pass.
+-- An entry that lets younger ones be visible still does as it becomes Done, begins, is resolved or is cleared; and which
+-- entries don't let them.
 use Rattle.std.proofs.Common.{◌≡◌, ℕ, Bool, true, false, not, ◌&&◌, ◌||◌, None, refl, ap, ap₂, sym, ◌∙◌}
 use Rattle.std.specs.Prelude.{is_some}
 use Rattle.rv_types.specs.declared.Kind.{Kind}
@@ -23,7 +24,7 @@ done_as Load e h = (both (is_done e.state) _ h).1
 done_as Store e h = let p = both (is_done e.state && not (is_faulty e)) _ h in ap₂ (λ a c. a && c) (both (is_done e.state) _ p.0).1 p.1
 done_as _ e h = h
 
--- once it is Done
+-- an entry that lets younger ones be visible still does once it is Done
 pub passes_done : (m : SttModel) (e : Entry) → passes m e ≡ true → passes m (record e { state = Done }) ≡ true
 passes_done Spectre e h = h
 passes_done Futuristic e h = done_as e.item.kind e h
@@ -36,7 +37,7 @@ begun_as Branch e cycle due o d u = ap (λ r. r && not (is_some o.fault)) u ∙ 
 begun_as Jalr e cycle due o d u = ap (λ r. r && not (is_some o.fault)) u ∙ sym (ap (λ r. r && not (is_faulty e)) u)
 begun_as _ e cycle due o d u = refl
 
--- once it has issued; and what doesn't pass doesn't then
+-- an entry that has issued lets younger ones be visible where it did before, and only there
 pub passes_begun : (m : SttModel) (e : Entry) (cycle due : ℕ) (o : Outcome) → is_waiting e.state ≡ true → e.resolved ≡ false → passes m (begun cycle e due o) ≡ passes m e
 passes_begun Spectre e cycle due o w u = refl
 passes_begun Futuristic e cycle due o w u = begun_as e.item.kind e cycle due o (waiting_done e.state w) u
@@ -53,7 +54,7 @@ resolved_as Branch e h = (both e.resolved _ h).1
 resolved_as Jalr e h = (both e.resolved _ h).1
 resolved_as _ e h = h
 
--- once it is resolved
+-- an entry that lets younger ones be visible still does once it is resolved
 pub passes_resolved : (m : SttModel) (e : Entry) → passes m e ≡ true → passes m (record e { resolved = true }) ≡ true
 passes_resolved Spectre e h = settled_resolved e.item.kind e.resolved e.cleared h
 passes_resolved Futuristic e h = resolved_as e.item.kind e h
@@ -74,7 +75,7 @@ cleared_as Call e h = h
 cleared_as (Stop cause) e h = h
 cleared_as _ e h = refl
 
--- once it is cleared
+-- an entry that lets younger ones be visible still does once it is cleared
 pub passes_cleared : (m : SttModel) (e : Entry) → passes m e ≡ true → passes m (cleared_one e) ≡ true
 passes_cleared Spectre e h = settled_cleared e.item.kind e.resolved e.cleared h
 passes_cleared Futuristic e h = cleared_as e.item.kind e h
@@ -133,7 +134,7 @@ hidden_as Store e s u = ap (λ c. is_done e.state && not (is_faulty e) && c) u �
     and_false false = refl
 hidden_as _ e s u = absurd (cc)
 
--- nor does a store that isn't cleared
+-- a store that isn't cleared lets no younger entry be visible, under each model that protects
 pub uncleared_fails : (m : SttModel) (e : Entry) → protects m ≡ true → is_store e.item.kind ≡ true → e.cleared ≡ false → passes m e ≡ false
 uncleared_fails Spectre e p s u = uncleared_as e.item.kind e.resolved e.cleared s u
 uncleared_fails Futuristic e p s u = hidden_as e.item.kind e s u

@@ -1,4 +1,4 @@
--- Resolve at its place: the entry there is marked, and what is younger than it stays or goes.
+-- Resolve at the place that it finds: the entry there is resolved, and what is younger than it stays or goes.
 use Rattle.std.proofs.Common.{◌≡◌, Bool, true, false, List, [], ◌∷◌, ◌++◌, Some, refl, sym, subst, append_assoc}
 use Rattle.std.specs.Prelude.{if◌then◌else◌, reverse}
 use Rattle.machine_desc.specs.declared.Desc.{Desc}
@@ -35,7 +35,7 @@ module _ (d : Desc) (P : Machine → Type 0) where
       at_place : (p : Place) → Found (may_resolve d) [] x.window p → P (resolve_at d (Some p) x).machine
       at_place p f = either p (record { window = placed d x.window p f; parts = resolve_parts d p.before p.entry f.has }) (squashes p.entry) refl
 
--- what holds of a window with a marked entry, and up to any place, Resolve keeps
+-- what holds of a window with a resolved entry, and up to any place, Resolve keeps
 module _ (d : Desc) (W : List Entry → Type 0) (cuts : (front back : List Entry) → W (front ++ back) → W front)
     (marks : (b : List Entry) (e : Entry) (ys : List Entry) → MayResolve d b e → W (reverse b ++ e ∷ ys) → W (reverse b ++ resolved_one e ∷ ys)) where
   marked : (x : Machine) (p : Place) → Taken d x p → W x.window → W (reverse p.before ++ resolved_one p.entry ∷ p.younger)

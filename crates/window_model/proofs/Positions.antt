@@ -11,7 +11,7 @@ use Rattle.window_model.specs.declared.Entry.{Entry}
 use Rattle.window_model.specs.Serials.{Rise, below}
 use Rattle.window_model.proofs.Serials.{all_below, none_below, rise_head, rise_tail, splits}
 
--- those up to one with a lower serial have lower serials
+-- in a window of rising serials, the entries up to one whose serial is below a number have serials below it
 up_to : (serial : ℕ) (es : List Entry) (j : ℕ) (e : Entry) → Rise es → 0 < j → j ≤ length es → slice_get es (j - 1) ≡ Some e → e.serial < serial → All (λ e. e.serial < serial) (take j es)
 up_to serial es j e rise some le h lt k d within =
     let n = length-take-le j es le in
@@ -54,7 +54,7 @@ older_at_start serial es (suc j) z walked = absurd (omega arith)
 
 -- ---- where the walk begins
 
--- serials rise by one at least
+-- where serials rise, entries behind one whose serial is at least this have greater ones
 next_lower : (lower : ℕ) (e : Entry) (es : List Entry) → Rise (e ∷ es) → lower ≤ e.serial → All (λ b. lower + 1 ≤ b.serial) es
 next_lower lower e es r l = All-weaker (λ b. e.serial < b.serial) (λ b. lower + 1 ≤ b.serial) (λ b lt. omega (arith, l, lt)) es (rise_head e es r)
 
@@ -83,11 +83,11 @@ reach_is serial (e ∷ es) head ahead n r h a q =
 
 -- ---- where the walk ends
 
--- so many as are taken
+-- where the first n entries are those with a serial below this one, n is how many of these there are
 pub count_of : (serial : ℕ) (es : List Entry) (n : ℕ) → n ≤ length es → take n es ≡ below serial es → n ≡ length (below serial es)
 count_of serial es n le q = sym (length-take-le n es le) ∙ ap length q
 
--- those that are taken are below the serial
+-- where the first n entries are those with a serial below this one, each of the n has such a serial
 pub below_of : (serial : ℕ) (es : List Entry) (n : ℕ) → Rise es → take n es ≡ below serial es → All (λ e. e.serial < serial) (take n es)
 below_of serial es n r q = subst (All (λ e. e.serial < serial)) (sym q) (splits serial es r).older
 
@@ -95,7 +95,7 @@ drop_left : (xs ys : List Entry) → drop (length xs) (xs ++ ys) ≡ ys
 drop_left [] ys = refl
 drop_left (x ∷ xs) ys = drop_left xs ys
 
--- and the others are not
+-- where the first n entries are those with a serial below this one, none of the others has such a serial
 pub above_of : (serial : ℕ) (es : List Entry) (n : ℕ) → Rise es → n ≤ length es → take n es ≡ below serial es → All (λ e. serial ≤ e.serial) (drop n es)
 above_of serial es n r le q =
     let s = splits serial es r in

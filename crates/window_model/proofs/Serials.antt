@@ -12,72 +12,72 @@ use Rattle.window_model.specs.Serials.{Rise, below}
 
 -- ---- what holds of all of a list
 
--- of its first elements
+-- what holds of all of a list holds of all its first elements
 pub all_left : {X : Type 0} (P : X → Type 0) (xs ys : List X) → All P (xs ++ ys) → All P xs
 all_left P [] ys a = All-nil P
 all_left P (x ∷ xs) ys a = All-cons P x xs (All-head P x (xs ++ ys) a) (all_left P xs ys (All-tail P x (xs ++ ys) a))
 
--- of its last elements
+-- what holds of all of a list holds of all its last elements
 pub all_right : {X : Type 0} (P : X → Type 0) (xs ys : List X) → All P (xs ++ ys) → All P ys
 all_right P [] ys a = a
 all_right P (x ∷ xs) ys a = all_right P xs ys (All-tail P x (xs ++ ys) a)
 
--- of the one at a place
+-- what holds of all of a list holds of the element at a position
 pub all_at : {X : Type 0} (P : X → Type 0) (xs : List X) (i : ℕ) (x : X) → All P xs → slice_get xs i ≡ Some x → P x
 all_at P [] i x a h = absurd (cc)
 all_at P (y ∷ ys) zero x a h = let e : y ≡ x = cc in subst P e (All-head P y ys a)
 all_at P (y ∷ ys) (suc i) x a h = all_at P ys i x (All-tail P y ys a) h
 
--- of one between the others
+-- what holds of all of a list holds of one between the others
 pub all_seam : {X : Type 0} (P : X → Type 0) (xs : List X) (x : X) (ys : List X) → All P (xs ++ x ∷ ys) → P x
 all_seam P xs x ys a = All-head P x ys (all_right P xs (x ∷ ys) a)
 
--- what holds of each along a list holds of each behind
+-- what holds of each along a list holds of each, looked back on from behind the list
 pub behind : (P : Fact) (before es : List Entry) → Behind P before → Along P before es → Behind P (reverse_aux es before)
 behind P before [] u k = u
 behind P before (e ∷ es) u k = behind P (e ∷ before) es (k.0, u) k.1
 
--- and behind a position
+-- what holds of each along a list holds of each before a position
 pub behind_at : (P : Fact) (before es : List Entry) (i : ℕ) → Behind P before → Along P before es → Behind P (reverse_aux (take i es) before)
 behind_at P before es zero u k = u
 behind_at P before [] (suc i) u k = u
 behind_at P before (e ∷ es) (suc i) u k = behind_at P (e ∷ before) es i (k.0, u) k.1
 
--- ---- serials that rise
+-- ---- serials that rise with age
 
--- of no entry
+-- serials rise in the empty window
 pub rise_nil : Rise []
 rise_nil i j d lt within = absurd (omega arith)
 
--- the oldest entry's is below the others'
+-- the oldest entry's serial is below the others'
 pub rise_head : (e : Entry) (es : List Entry) → Rise (e ∷ es) → All (λ d. e.serial < d.serial) es
 rise_head e es r k d within = r 0 (suc k) d (omega arith) (omega arith)
 
--- without the oldest entry
+-- serials still rise without the oldest entry
 pub rise_tail : (e : Entry) (es : List Entry) → Rise (e ∷ es) → Rise es
 rise_tail e es r i j d lt within = r (suc i) (suc j) d (omega arith) (omega arith)
 
--- with an older entry
+-- serials still rise with an older entry in front, whose serial is below the others
 pub rise_cons : (e : Entry) (es : List Entry) → All (λ d. e.serial < d.serial) es → Rise es → Rise (e ∷ es)
 rise_cons e es a r zero zero d lt within = absurd (omega arith)
 rise_cons e es a r zero (suc j) d lt within = a j d (omega arith)
 rise_cons e es a r (suc i) zero d lt within = absurd (omega arith)
 rise_cons e es a r (suc i) (suc j) d lt within = r i j d (omega arith) (omega arith)
 
--- with a younger entry
+-- serials still rise with a younger entry at the end, whose serial is above the others
 pub rise_push : (es : List Entry) (e : Entry) → Rise es → All (λ b. b.serial < e.serial) es → Rise (es ++ e ∷ [])
 rise_push [] e r a = rise_cons e [] (All-nil (λ d. e.serial < d.serial)) rise_nil
 rise_push (x ∷ es) e r a =
     rise_cons x (es ++ e ∷ []) (All-push (λ d. x.serial < d.serial) es e (rise_head x es r) (All-head (λ b. b.serial < e.serial) x es a))
     (rise_push es e (rise_tail x es r) (All-tail (λ b. b.serial < e.serial) x es a))
 
--- of the older entries
+-- serials rise among the oldest entries of a window in which they rise
 pub rise_left : (older gone : List Entry) → Rise (older ++ gone) → Rise older
 rise_left [] gone r = rise_nil
 rise_left (e ∷ older) gone r =
     rise_cons e older (all_left (λ d. e.serial < d.serial) older gone (rise_head e (older ++ gone) r)) (rise_left older gone (rise_tail e (older ++ gone) r))
 
--- the serials of these entries
+-- the serials of a list of entries, in order
 abbrev serials : List Entry → List ℕ
 serials es = map (λ (e : Entry). e.serial) es
 
@@ -86,7 +86,7 @@ serial_at : (es es2 : List Entry) (i : ℕ) (d : Entry) → serials es ≡ seria
 serial_at es es2 i d h in1 in2 =
     sym (get_or-map (λ (e : Entry). e.serial) es i d 0 in1) ∙ ap (λ ns. get_or ns i 0) h ∙ get_or-map (λ (e : Entry). e.serial) es2 i d 0 in2
 
--- the same serials rise as well
+-- serials rise in a window that has the serials of one in which they rise
 rise_same : (es es2 : List Entry) → serials es ≡ serials es2 → Rise es → Rise es2
 rise_same es es2 h r i j d lt within =
     let n1 = length-map es (λ (e : Entry). e.serial) in
@@ -98,7 +98,7 @@ rise_same es es2 h r i j d lt within =
     let rises = r i j d lt jn in
     omega (arith, a, b, rises)
 
--- an entry with the same serial in the place of another
+-- serials still rise with another entry of the same serial in an entry's place
 pub rise_with : (older younger : List Entry) (e e2 : Entry) → e2.serial ≡ e.serial → Rise (older ++ e ∷ younger) → Rise (older ++ e2 ∷ younger)
 rise_with older younger e e2 q r =
     let f : Entry → ℕ = λ e. e.serial in
@@ -125,7 +125,7 @@ falls es r = falls_from [] es (All-nil (λ b. All (λ e. b.serial < e.serial) es
 
 -- ---- the entries below a serial
 
--- all, where all have smaller serials
+-- where each entry has a serial below this one, those below it are the whole list
 pub all_below : (serial : ℕ) (es : List Entry) → All (λ e. e.serial < serial) es → below serial es ≡ es
 all_below serial [] a = refl
 all_below serial (e ∷ es) a =
@@ -133,7 +133,7 @@ all_below serial (e ∷ es) a =
     let t : nat_lt e.serial serial ≡ true = grind (arith, nat_tests) in
     ap (λ b. cond b (e ∷ below serial es) (below serial es)) t ∙ ap (λ es. e ∷ es) (all_below serial es (All-tail (λ e. e.serial < serial) e es a))
 
--- none, where none has
+-- where no entry has a serial below this one, those below it are none
 pub none_below : (serial : ℕ) (es : List Entry) → All (λ e. serial ≤ e.serial) es → below serial es ≡ []
 none_below serial [] a = refl
 none_below serial (e ∷ es) a =
@@ -141,7 +141,7 @@ none_below serial (e ∷ es) a =
     let f : nat_lt e.serial serial ≡ false = grind (arith, nat_tests) in
     ap (λ b. cond b (e ∷ below serial es) (below serial es)) f ∙ none_below serial es (All-tail (λ e. serial ≤ e.serial) e es a)
 
--- they are the oldest, and the others are not below it
+-- the entries below a serial are the oldest of the list, and each of the others has that serial or a later one
 pub record Splits (serial : ℕ) (es : List Entry) : Type 0 where
   pub gone : List Entry
   pub whole : es ≡ below serial es ++ gone
@@ -173,7 +173,7 @@ splits serial (e ∷ es) r = by_test (nat_lt e.serial serial) refl (splits seria
           younger = All-cons (λ d. serial ≤ d.serial) e es le young;
         }
 
--- as many are below an entry's serial as stand before it
+-- an entry stands at the position that counts the entries with serials below its own
 pub place_of : (es : List Entry) (i : ℕ) (e : Entry) → Rise es → slice_get es i ≡ Some e → length (below e.serial es) ≡ i
 place_of [] i e r h = absurd (cc)
 place_of (x ∷ es) zero e r h =
@@ -189,7 +189,7 @@ place_of (x ∷ es) (suc i) e r h =
     let n = ap (λ b. length (cond b (x ∷ below e.serial es) (below e.serial es))) t in
     omega (arith, k, n)
 
--- below the serial after an entry's are the entries up to it
+-- the entries below the serial after an entry's are those up to it
 pub below_next : (older : List Entry) (e : Entry) (younger : List Entry) → Rise (older ++ e ∷ younger) → below (e.serial + 1) (older ++ e ∷ younger) ≡ older ++ e ∷ []
 below_next [] e younger rise =
     let t : nat_lt e.serial (e.serial + 1) ≡ true = grind (arith, nat_tests) in

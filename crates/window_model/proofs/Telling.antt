@@ -68,11 +68,11 @@ told_most _ = one_of_three
 then_tells : (a c : List Event) (m n : ℕ) → length a ≤ m → length c ≤ n → length (a ++ c) ≤ m + n
 then_tells a c m n p q = let l = length-append a c in omega (arith, l, p, q)
 
--- what follows on a head
+-- the turns that follow on a head, on what it leaves
 abbrev behind : Desc → ℕ → Bool → Machine → Entry → List Entry → Retired
 behind d n stored x e rest = turns d n (stored || is_store e.item.kind) (head_leaves e.item.kind d e rest x).machine
 
--- at most three for each entry of the window
+-- the turns of Retire have at most three events for each entry of the window
 by_window : (d : Desc) (x : Machine) → length (retire d x).events ≤ 3 * length x.window
 by_window d x =
     retire_by d (λ n stored x r. length r.events ≤ 3 * length x.window) (λ n stored x s. omega arith)
@@ -85,7 +85,7 @@ by_window d x =
     omega (arith, c, left, all))
     (λ n stored x e rest cause u q l t. omega arith) x
 
--- without a call one for each turn, and two more until a store has retired
+-- the most events of n turns of Retire without a call: one for each, and two more until a store has retired
 abbrev left_by : ℕ → Bool → ℕ
 left_by n stored = if stored then n else n + 2
 
@@ -121,7 +121,7 @@ without_calls d x =
     omega (arith, c, k))
     (λ n stored x e rest cause u q l t h. omega arith) x
 
--- at most one for each turn, and two more
+-- Retire has at most one event for each turn, and two more
 pub retire_few : (d : Desc) (x : Machine) → CallAlone x.window → length (retire d x).events ≤ d.core_retire_width + 2
 retire_few d x alone = by_calls (count_by calls x.window) refl
   where

@@ -22,7 +22,7 @@ use Rattle.window_model.specs.Retire.{Retired, retire, turns, turn, head_turn, h
 use Rattle.window_model.specs.Rename.{rename, rename_up_to, rename_from, rename_one, fits}
 use Rattle.window_model.specs.Fetch.{fetch, fetch_up_to, fetch_from, fetch_one, item_at}
 
--- a head leaves the rest of the window
+-- what holds of a window and of what is left without its head holds after a head of any kind
 module _ (W : List Entry → Type 0) (drops : (e : Entry) (rest : List Entry) → W (e ∷ rest) → W rest) (d : Desc) where
   call_drops : (x : Machine) (e : Entry) (rest : List Entry) (t : Step) → x.window ≡ e ∷ rest → W x.window → W (call_leaves e rest x t).machine.window
   call_drops x e rest (Goes s piece) q h = drops e rest (subst W q h)
@@ -44,7 +44,7 @@ pub data Halts (n : ℕ) (stored : Bool) (x : Machine) : Type 0 where
   HeadStays : (e : Entry) (rest : List Entry) → x.window ≡ e ∷ rest → may_leave e ≡ false → Halts n stored x
   StoreWaits : (e : Entry) (rest : List Entry) → x.window ≡ e ∷ rest → store_waits stored e ≡ true → Halts n stored x
 
--- what holds of no turn, of an end, and of a turn with what follows it holds of so many turns
+-- what holds of no turn, of an end, and of a turn with what follows it, holds of as many turns as Retire has
 module _ (d : Desc) (Q : ℕ → Bool → Machine → Retired → Type 0)
     (stops : (n : ℕ) (stored : Bool) (x : Machine) → Halts n stored x → Q n stored x (stays x))
     (leaves : (n : ℕ) (stored : Bool) (x : Machine) (e : Entry) (rest : List Entry) → x.end ≡ None → x.window ≡ e ∷ rest → may_leave e ≡ true → trap_of e ≡ None → store_waits stored e ≡ false →
@@ -81,7 +81,7 @@ module _ (d : Desc) (Q : ℕ → Bool → Machine → Retired → Type 0)
   unfolding retire
   retire_by x = by_turns d.core_retire_width false x
 
--- the same of items that are renamed
+-- what holds of no item, and of a renamed item with what follows it, holds of as many items as Rename takes
 module _ (d : Desc) (Q : ℕ → Machine → After → Type 0)
     (stops : (n : ℕ) (x : Machine) → Q n x (nothing x))
     (renames : (n : ℕ) (x : Machine) (i : Item) (rest : List Item) → x.queue ≡ i ∷ rest → fits d x.window i ≡ true →
@@ -102,7 +102,7 @@ module _ (d : Desc) (Q : ℕ → Machine → After → Type 0)
   unfolding rename
   rename_by x = by_renamed d.core_fetch_width x
 
--- and of items that are fetched
+-- what holds of no item, and of a fetched item with what follows it, holds of as many items as Fetch takes
 module _ (d : Desc) (code : Code) (Q : ℕ → Machine → After → Type 0)
     (stops : (n : ℕ) (x : Machine) → Q n x (nothing x))
     (fetches : (n : ℕ) (x : Machine) (pc : ℕ) → x.fetch_pc ≡ Some pc → nat_lt (length x.queue) d.core_queue ≡ true →
@@ -123,7 +123,7 @@ module _ (d : Desc) (code : Code) (Q : ℕ → Machine → After → Type 0)
   unfolding fetch
   fetch_by x = by_fetched d.core_fetch_width x
 
--- ---- what is kept
+-- ---- what one phase keeps
 
 module _ (d : Desc) (P : Machine → Type 0) where
   -- what a head that may leave keeps, and an end, Retire keeps
@@ -132,16 +132,16 @@ module _ (d : Desc) (P : Machine → Type 0) where
   heads_keep leaves ends x h =
       retire_by d (λ n stored x r. P x → P r.machine) (λ n stored x s h. h) (λ n stored x e rest u q l t w more h. more (leaves x e rest q l t h)) (λ n stored x e rest cause u q l t h. ends x (Trap cause e.item.pc) h) x h
 
-  -- the same of a head of any kind
+  -- what a head of any kind keeps as it retires, and an end, Retire keeps
   pub retire_keep : ((k : Kind) (x : Machine) (e : Entry) (rest : List Entry) → x.window ≡ e ∷ rest → P x → P (head_leaves k d e rest x).machine) →
       ((x : Machine) (end : End) → P x → P (record x { end = Some end })) → (x : Machine) → P x → P (retire d x).machine
   retire_keep leaves ends = heads_keep (λ x e rest q l t h. leaves e.item.kind x e rest q h) ends
 
-  -- an item is renamed
+  -- what an item keeps as it is renamed, Rename keeps
   pub rename_keep : ((x : Machine) (i : Item) (rest : List Item) → x.queue ≡ i ∷ rest → fits d x.window i ≡ true → P x → P (rename_one d i rest x).machine) → (x : Machine) → P x → P (rename d x).machine
   rename_keep renames x h = rename_by d (λ n x a. P x → P a.machine) (λ n x h. h) (λ n x i rest q f more h. more (renames x i rest q f h)) x h
 
-  -- an item is fetched
+  -- what an item keeps as it is fetched, Fetch keeps
   pub fetch_keep : (code : Code) → ((x : Machine) (pc : ℕ) → x.fetch_pc ≡ Some pc → nat_lt (length x.queue) d.core_queue ≡ true → P x → P (fetch_one d (item_at d code x pc) x).machine) → (x : Machine) → P x → P (fetch d code x).machine
   fetch_keep code fetches x h = fetch_by d code (λ n x a. P x → P a.machine) (λ n x h. h) (λ n x pc q r more h. more (fetches x pc q r h)) x h
 
@@ -159,16 +159,16 @@ module _ (d : Desc) (P : Machine → Type 0) where
     pub after_keep : (x : Machine) → P x → P (after_retire d code x).machine
     after_keep x h = behind_keep x.end x h
 
-    -- and each from Resolve on
+    -- what Resolve, Clear and Retire keep, besides the phases after Retire
     module _ (resolves : (x : Machine) → P x → P (resolve d x).machine) (clears : (x : Machine) → P x → P (clear d x).machine) (retires : (x : Machine) → P x → P (retire d x).machine) where
-      -- a cycle has where its state after Complete has it
+      -- the state after a cycle has the property, where the state after Complete has it
       pub completed_keep : (x : Machine) → P (complete (fill d (record x { cycle = x.cycle + 1 })).machine).machine → P (cycle d code x).machine
       unfolding cycle
       completed_keep x h =
           let y = (clear d (resolve d (complete (fill d (record x { cycle = x.cycle + 1 })).machine).machine).machine).machine in
           after_keep (retire d y).machine (retires y (clears _ (resolves _ h)))
 
-      -- and a cycle keeps what the first phases keep, too
+      -- what a new number of the cycle, Fill and Complete keep as well, a cycle keeps
       pub cycle_keep : ((x : Machine) → P x → P (record x { cycle = x.cycle + 1 })) → ((x : Machine) → P x → P (fill d x).machine) → ((x : Machine) → P x → P (complete x).machine) → (x : Machine) → P x → P (cycle d code x).machine
       cycle_keep begins fills completes x h =
           let x1 : Machine = record x { cycle = x.cycle + 1 } in

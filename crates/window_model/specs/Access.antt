@@ -50,7 +50,7 @@ abbrev pub any_store_hidden : SttModel → List Entry → Bool
 any_store_hidden model [] = false
 any_store_hidden model (e ∷ before) = is_store e.item.kind && address_tainted model before e || any_store_hidden model before
 
--- ---- what is found
+-- ---- what a load's access finds
 
 -- a line that takes a miss register, and whether it comes from memory or from the second level
 pub record Request : Type 0 where
@@ -71,26 +71,27 @@ pub data Access : Type 0 where
   Looks : List Line → List Request → Access
   Waits : Access
 
--- a line that comes from the second level, where that has it
+-- the request of a line: it comes from the second level where that has the line, else from memory
 abbrev pub request : Desc → Around → ℕ → Request
 request d now line = record { line = line; from_memory = not (second_has d now.second line) }
 
--- a line that the cache lacks, by the register that waits for it, if one does
+-- what a line that the cache lacks comes to: it joins the miss register that waits for it, if one does, else it takes one
 abbrev pub joined : Desc → Around → ℕ → Option Miss → Line
 joined d now line (Some m) = Joins line m.due
 joined d now line None = Takes (request d now line)
 
--- a line
+-- what a line that is looked up comes to: a hit where the cache has it, else by the miss register that waits for it, if one
+-- does
 abbrev pub look_up : Desc → Around → ℕ → Line
 look_up d now line =
     if has_line d now.cache line then Hits line else joined d now line (find (λ m. m.line == line) now.misses)
 
--- a line, if it takes a register
+-- the line, if it takes a miss register
 abbrev pub request_by : Line → List Request
 request_by (Takes r) = r ∷ []
 request_by _ = []
 
--- the lines that take registers
+-- the lines of a load that take miss registers
 abbrev pub requests : List Line → List Request
 requests found = flat_map request_by found
 
@@ -100,7 +101,7 @@ line_at (Hits line) = line
 line_at (Joins line due) = line
 line_at (Takes r) = r.line
 
--- the line behind the last of these
+-- the line behind the last of a load's lines
 abbrev pub line_behind : Desc → List Line → ℕ
 line_behind d [] = 0
 line_behind d (l ∷ []) = line_at l + d.cache_line
@@ -114,7 +115,7 @@ prefetches d now found =
     && nat_lt (line_behind d found) (now.ram.base + length now.ram.bytes)
     && nat_lt (length now.misses + length (requests found)) d.cache_mshrs
 
--- it is prefetched, if it takes that register
+-- the request of the line behind a load's, where that is prefetched; none where the cache has it or a register waits for it
 abbrev pub prefetched : Desc → Around → List Line → List Request
 prefetched d now found = if prefetches d now found then request_by (look_up d now (line_behind d found)) else []
 
@@ -123,71 +124,73 @@ abbrev pub unless_lacking : Desc → Around → List Line → Access
 unless_lacking d now found =
     if nat_le (length now.misses + length (requests found)) d.cache_mshrs then Looks found (prefetched d now found) else Waits
 
--- the first that holds: a fault, wholly forwarded, or its lines
+-- what an access comes to: a fault where there is one, else forwarded where older stores cover all and none has a tainted
+-- address, else its lines
 abbrev pub access_at : Desc → Around → List Entry → ℕ → ℕ → Option Cause → Access
 access_at d now before a n (Some cause) = Faults cause
 access_at d now before a n None =
     if all_covered before a n && not (any_store_hidden d.stt_model before) then Forwards
     else unless_lacking d now (map (look_up d now) (lines_of d a n))
 
--- the access of n bytes at an address
+-- what an access of n bytes at an address comes to
 abbrev pub access : Desc → Around → List Entry → ℕ → ℕ → Access
 access d now before a n = access_at d now before a n (load_fault now.ram a n)
 
 -- ---- when it is done, and its events
 
--- where a line comes from
+-- where a line that takes a miss register comes from: memory or the second level
 abbrev pub source_of : Request → Look
 source_of r = if r.from_memory then look.Miss else look.Second
 
--- where a line was found
+-- where a line that was looked up was found
 abbrev pub look_at : Line → Look
 look_at (Hits line) = look.Hit
 look_at (Joins line due) = look.Join
 look_at (Takes r) = source_of r
 
--- how long a line takes
+-- the cycles that a line takes from memory or from the second level
 abbrev pub latency_of : Desc → Request → ℕ
 latency_of d r = if r.from_memory then d.cache_miss_latency else d.cache_second_latency
 
--- a register that a line takes in this cycle
+-- the miss register that a line takes in this cycle
 abbrev pub register : Desc → ℕ → Request → Miss
 register d cycle r = record { line = r.line; due = cycle + latency_of d r; from_memory = r.from_memory }
 
--- the cycle in which a line is there
+-- the cycle in which a line that was looked up is there
 abbrev pub due_of : Desc → Around → Line → ℕ
 due_of d now (Hits line) = now.cycle + d.cache_hit_latency
 due_of d now (Joins line due) = due
 due_of d now (Takes r) = (register d now.cycle r).due
 
--- the latest of these cycles
+-- the latest of a list of cycles, 0 of none
 abbrev pub latest : List ℕ → ℕ
 latest [] = 0
 latest (due ∷ []) = due
 latest (due ∷ dues) = max due (latest dues)
 
--- the cycle in which all lines are there
+-- the cycle in which all lines of a load are there
 abbrev pub due_by : Desc → Around → List Line → ℕ
 due_by d now found = latest (map (due_of d now) found)
 
--- an event for each line, and for what is prefetched
+-- the events of a load of this serial: one for each of its lines, and one for the line that is prefetched
 abbrev pub look_events : ℕ → List Line → List Request → List Event
 look_events serial found ahead =
     map (λ l. event.Ld serial (line_at l) (look_at l)) found ++ map (λ r. event.Pf r.line (source_of r)) ahead
 
--- ---- what it leaves
+-- ---- what a load's access leaves
 
--- each line of the load moves to the front of its set, where the cache has it
+-- the cache after an access: each line of the load moves to the front of its set, where the cache has it
 abbrev pub cache_after : Access → Desc → List (List ℕ) → List (List ℕ)
 cache_after (Looks found ahead) d cache = fold (touched d) cache (map line_at found)
 cache_after _ d cache = cache
 
--- each line that takes a register moves to the front of its set, where the second level has it
+-- the second level after an access: each line that takes a miss register moves to the front of its set, where the second level
+-- has it
 abbrev pub second_after : Access → Desc → List (List ℕ) → List (List ℕ)
 second_after (Looks found ahead) d second = fold (second_touched d) second (map (λ r. r.line) (requests found ++ ahead))
 second_after _ d second = second
 
--- each line that takes a register has one
+-- the miss registers after an access: a new one for each line that takes one, behind those that were taken before
 abbrev pub misses_after : Access → Desc → ℕ → List Miss → List Miss
 misses_after (Looks found ahead) d cycle misses = misses ++ map (register d cycle) (requests found ++ ahead)
 misses_after _ d cycle misses = misses

@@ -15,7 +15,7 @@ pub record Around : Type 0 where
   pub misses : List Miss
   pub free_from : ℕ
 
--- these of a machine
+-- what an entry that issues sees of this machine besides the older entries
 abbrev pub around : Machine → Around
 around x = record {
   cycle = x.cycle;

@@ -20,7 +20,7 @@ use Rattle.window_model.specs.Dependence.{passing, bit_index, bit_set}
 abbrev pub may_clear : Desc → List Entry → Entry → Bool
 may_clear d before e = is_store e.item.kind && not e.cleared && has_address e && not (address_tainted d.stt_model before e)
 
--- both cycles are there, and the first is before the second
+-- the first cycle is before the second; false where one of the two is not there
 abbrev pub is_before : Option ℕ → Option ℕ → Bool
 is_before (Some a) (Some b) = nat_lt a b
 is_before _ _ = false
@@ -29,7 +29,7 @@ is_before _ _ = false
 abbrev pub passed : Entry → Entry → Bool
 passed store load = is_load load.item.kind && is_before load.issued store.addr_due
 
--- both are without fault, and share a byte
+-- store and load are without fault and share a byte; false where the store's address isn't known
 abbrev pub shares : Entry → Entry → Bool
 shares store load = not (is_faulty load) && list_any (λ a. covers a store) (range (addr_of load.outcome) (width_of load))
 
@@ -37,9 +37,9 @@ shares store load = not (is_faulty load) && list_any (λ a. covers a store) (ran
 abbrev pub is_violated : Entry → Entry → Bool
 is_violated store load = passed store load && shares store load
 
--- ---- what is left
+-- ---- what Clear leaves of the window
 
--- the store, cleared
+-- the entry of a store, once it is cleared
 abbrev pub cleared_one : Entry → Entry
 cleared_one e = record e { cleared = true }
 
@@ -63,7 +63,7 @@ violates d p q x =
           ∷ event.Sq (length q.younger + 1 + length x.queue) ∷ [];
     }
 
--- by the load that is violated, if one is
+-- what Clear leaves of a store that it clears, by the violated load, if there is one
 abbrev pub clear_with : Desc → Place → Option Place → Machine → After
 clear_with d p None x = clears p x
 clear_with d p (Some q) x = violates d p q x
@@ -72,7 +72,7 @@ clear_with d p (Some q) x = violates d p q x
 abbrev pub violated_by : Place → Option Place
 violated_by p = first (λ between e. is_violated p.entry e) p.younger
 
--- by the store that may be cleared, if one may
+-- what Clear leaves, by the oldest store that may be cleared, if there is one
 abbrev pub clear_at : Desc → Option Place → Machine → After
 clear_at d None x = nothing x
 clear_at d (Some p) x = clear_with d p (violated_by p) x

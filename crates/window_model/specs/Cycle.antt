@@ -14,7 +14,7 @@ use Rattle.window_model.specs.Row.{Row}
 use Rattle.window_model.specs.Rename.{rename}
 use Rattle.window_model.specs.Fetch.{fetch}
 
--- the state, the row and the piece of output
+-- what a cycle comes to: the state that it leaves, the row and the piece of output
 pub record Cycled : Type 0 where
   pub machine : Machine
   pub row : Row
@@ -24,11 +24,11 @@ pub record Cycled : Type 0 where
 abbrev pub begins_cycle : Machine → Machine
 begins_cycle x = record x { cycle = x.cycle + 1 }
 
--- the phases before Retire
+-- the phases before Retire: Fill, Complete, Resolve and Clear, each on what the one before left
 abbrev pub before_retire : Desc → Machine → After
 before_retire d x = then_does (fill d x) (λ y. then_does (complete y) (λ z. then_does (resolve d z) (clear d)))
 
--- the phases after it, unless the run has ended
+-- the phases after Retire: Issue, Rename and Fetch, unless the run has ended
 abbrev pub after_retire : Desc → Code → Machine → After
 after_retire d code x = unless_ended x.end (nothing x) (then_does (issue d x) (λ y. then_does (rename d y) (fetch d code)))
 
@@ -59,7 +59,7 @@ abbrev pub pieces : Desc → Code → ℕ → Machine → List (List ℕ)
 pieces d code zero x = []
 pieces d code (suc n) x = unless_ended x.end [] (let c = cycle d code x in with_piece c.piece (pieces d code n c.machine))
 
--- the rows, and how it ended
+-- what a run comes to: its rows, how it ended, and how many instructions retired in how many cycles
 pub record Trace : Type 0 where
   pub rows : List Row
   pub end : Option End

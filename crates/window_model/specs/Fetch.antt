@@ -23,7 +23,7 @@ abbrev pub instr_at : Option ℕ → Instr
 instr_at None = instr.Illegal 0
 instr_at (Some w) = decode w
 
--- its kind; outside code a stop
+-- the kind of a word's instruction; outside code a stop
 abbrev pub kind_at : Option ℕ → Kind
 kind_at None = Stop outside_code
 kind_at (Some w) = kind_of (decode w)
@@ -58,7 +58,7 @@ predicted Jalr d targets m way pc i =
     Some (unless_returns (returns_to i m) (stored_target pc (slice_index_or targets (index pc d.predictor_btb) None)))
 predicted _ d targets m way pc i = Some (word_add pc 4)
 
--- the item of a pc
+-- the item that is fetched from a pc, with the history and stack that the machine has before it
 abbrev pub item_at : Desc → Code → Machine → ℕ → Item
 item_at d code x pc =
     let w = code pc in
@@ -88,11 +88,11 @@ fetch_from d code None x more = nothing x
 fetch_from d code (Some pc) x more =
     if nat_lt (length x.queue) d.core_queue then then_does (fetch_one d (item_at d code x pc) x) more else nothing x
 
--- up to n items
+-- at most n items are fetched, one after the other
 abbrev pub fetch_up_to : Desc → Code → ℕ → Machine → After
 fetch_up_to d code zero x = nothing x
 fetch_up_to d code (suc n) x = fetch_from d code x.fetch_pc x (fetch_up_to d code n)
 
--- as many items as are fetched in a cycle
+-- the phase Fetch: at most as many items as the description lets a cycle fetch
 unfoldable pub fetch : Desc → Code → Machine → After
 fetch d code x = fetch_up_to d code d.core_fetch_width x

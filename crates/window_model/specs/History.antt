@@ -9,11 +9,11 @@ use Rattle.rv_types.specs.declared.Kind.TheVariants.{Branch, Jalr, Jal}
 use Rattle.machine_desc.specs.declared.Desc.{Desc}
 use Rattle.window_model.specs.declared.Mark.{Mark}
 
--- no branch yet, and an empty stack
+-- history and stack before the first item: no branch yet, and an empty stack
 abbrev pub no_mark : Mark
 no_mark = record { history = 0; depth = 0; addresses = replicate 16 0 }
 
--- ---- history
+-- ---- the history and the counters
 
 -- where the counter of a branch stands that comes with this history
 abbrev pub counter_index : Desc → Mark → ℕ → ℕ
@@ -23,21 +23,21 @@ counter_index d m pc = bit_xor (pc / 4) m.history % d.predictor_counters
 abbrev pub shifted : Desc → Bool → Mark → Mark
 shifted d way m = record m { history = (2 * m.history + one_if way) % 2 ^ d.predictor_history }
 
--- ---- the stack
+-- ---- the stack of return addresses
 
--- the addresses on it, youngest first
+-- the addresses on the return stack, youngest first
 abbrev pub stack : Mark → List ℕ
 stack m = take m.depth m.addresses
 
--- with these addresses on it, in the first of the 16 places
+-- the mark with these addresses on its stack, in the first of the 16 places
 abbrev pub with_stack : List ℕ → Mark → Mark
 with_stack addresses m = record m { depth = length addresses; addresses = take 16 (addresses ++ replicate 16 0) }
 
--- an address is pushed; where there are then more than it holds, the oldest goes
+-- an address is pushed on the stack; where there are then more than the description lets it hold, the oldest goes
 abbrev pub pushed : Desc → ℕ → Mark → Mark
 pushed d a m = with_stack (take d.predictor_returns (a ∷ stack m)) m
 
--- the youngest address goes, if there is one
+-- the youngest address of the stack goes, if there is one
 abbrev pub popped : Mark → Mark
 popped m = with_stack (drop 1 (stack m)) m
 

@@ -27,7 +27,7 @@ use Rattle.window_model.specs.Dependence.{passing, waits_for_stores}
 use Rattle.window_model.specs.Retire.{op_of, width_of}
 use Rattle.window_model.specs.Access.{Access, Faults, Forwards, Looks, Waits, access, cache_after, covers, due_by, load_bytes, look_events, misses_after, second_after}
 
--- ---- operands
+-- ---- the operands of an entry
 
 -- the value of the first source
 abbrev pub first_operand : List ℕ → List Entry → List ℕ → ℕ
@@ -44,7 +44,7 @@ abbrev pub effect_of : List ℕ → List Entry → Entry → Effect
 effect_of regs before e =
     effect e.item.pc e.item.instr (first_operand regs before (sources e)) (second_operand regs before (sources e))
 
--- ---- who may issue
+-- ---- which entries may issue
 
 -- every older store has its address and value
 abbrev pub stores_done : List Entry → Bool
@@ -69,7 +69,7 @@ abbrev pub lets : SttModel → Bool → List ℕ → List Entry → Entry → Bo
 lets model passes bytes before e =
     (has_address e || passes) && (has_data e || not (address_tainted model before e) && not (list_any (λ a. covers a e) bytes))
 
--- each older store lets it go
+-- every older store lets a younger load of these bytes go
 abbrev pub stores_let : SttModel → Bool → List ℕ → List Entry → Bool
 stores_let model passes bytes [] = true
 stores_let model passes bytes (e ∷ before) =
@@ -91,7 +91,7 @@ may_issue_as _ d now before e = true
 abbrev pub may_issue : Desc → Around → List Entry → Entry → Bool
 may_issue d now before e = is_waiting e.state && ready d before e && may_issue_as e.item.kind d now before e
 
--- ---- ports
+-- ---- the ports of a cycle
 
 -- the ports of a cycle
 pub data Port : Type 0 where
@@ -109,7 +109,7 @@ port_of Div = DivPort
 port_of Load = LoadPort
 port_of _ = AluPort
 
--- the same port
+-- the two ports are the same
 abbrev pub same_port : Port → Port → Bool
 same_port AluPort AluPort = true
 same_port MulPort MulPort = true
@@ -119,7 +119,7 @@ same_port DataPort DataPort = true
 same_port LoadPort LoadPort = true
 same_port _ _ = false
 
--- how many there are of each
+-- how many of each port a cycle has
 abbrev pub ports : Desc → Port → ℕ
 ports d AluPort = d.units_alus
 ports d _ = 1
@@ -166,16 +166,16 @@ outcome f v fault = record { value = v; next = f.next; addr = f.addr; stored = f
 abbrev pub begun : ℕ → Entry → ℕ → Outcome → Entry
 begun cycle e due o = record e { state = Busy due; outcome = Some o; issued = Some cycle }
 
--- the entry and its events
+-- what an entry becomes in Issue, and the events of that
 pub record Begun : Type 0 where
   pub entry : Entry
   pub events : List Event
 
--- it issues, with these events
+-- what an entry that issues becomes: it executes until the cycle `due` and has this outcome; with the events of that
 abbrev pub begins : Around → Entry → ℕ → Outcome → List Event → Begun
 begins now e due o events = record { entry = begun now.cycle e due o; events = events }
 
--- it stays as it is
+-- what an entry that doesn't issue becomes: it stays as it is, with no event
 abbrev pub waits : Entry → Begun
 waits e = record { entry = e; events = [] }
 
@@ -214,7 +214,7 @@ begin_as _ d now before e =
     let f = effect_of now.regs before e in
     begins now e (now.cycle + 1) (outcome f f.value (fault_if f.misaligned)) (event.Alu e.serial ∷ [])
 
--- in one piece: an entry that is granted its port begins, any other waits
+-- what is no store issues in one piece: an entry that is granted its port begins, any other waits
 abbrev pub issue_whole : Desc → Around → List Entry → Entry → Begun
 issue_whole d now before e =
     if is_granted d now (port_of e.item.kind) before e then begin_as e.item.kind d now before e else waits e
@@ -269,7 +269,7 @@ issue_parts d now before e =
 abbrev pub issue_entry : Desc → Around → List Entry → Entry → Begun
 issue_entry d now before e = if is_store e.item.kind then issue_parts d now before e else issue_whole d now before e
 
--- ---- what they share
+-- ---- what all entries that issue share
 
 -- what the one load that is tried leaves
 abbrev pub after_load : Desc → Option Place → Machine → Machine
@@ -278,7 +278,7 @@ after_load d (Some p) x =
     let a = access_of d (around x) p.before p.entry in
     record x { cache = cache_after a d x.cache; second = second_after a d x.second; misses = misses_after a d x.cycle x.misses }
 
--- a division
+-- the kind is a division's
 abbrev pub is_division : Kind → Bool
 is_division Div = true
 is_division _ = false

@@ -16,16 +16,17 @@ use Rattle.window_model.specs.declared.Progress.TheVariants.{Waiting, Done}
 abbrev pub before_at : List Entry → ℕ → List Entry
 before_at window i = reverse (take i window)
 
--- each entry with those before it, oldest first
+-- the results of f, oldest entry first: f is given each entry of a list and the older ones, where `before` are older than the
+-- whole list
 abbrev pub each_from : {A : Type 0} → (List Entry → Entry → A) → List Entry → List Entry → List A
 each_from f before [] = []
 each_from f before (e ∷ es) = f before e ∷ each_from f (e ∷ before) es
 
--- this of each entry with those before it, in order
+-- the results of f for the whole window, oldest entry first: f is given each entry and the older ones
 abbrev pub each : {A : Type 0} → (List Entry → Entry → A) → List Entry → List A
 each f window = each_from f [] window
 
--- an entry in its place: those before it, youngest first, and those after it, oldest first
+-- an entry in its place: the older ones, youngest first, the entry, and the younger ones, oldest first
 pub record Place : Type 0 where
   pub before : List Entry
   pub entry : Entry
@@ -42,22 +43,22 @@ first p window = first_from p [] window
 
 -- ---- what an entry is
 
--- not yet issued
+-- the entry has not yet issued
 abbrev pub is_waiting : Progress → Bool
 is_waiting Waiting = true
 is_waiting _ = false
 
--- executed
+-- the entry has been executed
 abbrev pub is_done : Progress → Bool
 is_done Done = true
 is_done _ = false
 
--- a load
+-- the kind is a load's
 abbrev pub is_load : Kind → Bool
 is_load Load = true
 is_load _ = false
 
--- a store
+-- the kind is a store's
 abbrev pub is_store : Kind → Bool
 is_store Store = true
 is_store _ = false
@@ -81,7 +82,7 @@ abbrev pub value_of : Option Outcome → ℕ
 value_of None = 0
 value_of (Some o) = o.value
 
--- its fault, if any
+-- the fault of an outcome; none where there is no fault, or no outcome yet
 abbrev pub fault_of : Option Outcome → Option Cause
 fault_of None = None
 fault_of (Some o) = o.fault
@@ -104,7 +105,7 @@ abbrev pub others_of : List ℕ → List ℕ
 others_of [] = []
 others_of (r ∷ rs) = rs
 
--- this is the register
+-- the register that an instruction writes, if it writes one, is r
 abbrev pub is_register : ℕ → Option ℕ → Bool
 is_register r None = false
 is_register r (Some s) = s == r
@@ -113,7 +114,7 @@ is_register r (Some s) = s == r
 abbrev pub writes : ℕ → Entry → Bool
 writes r e = is_register r (writes_of e.item.instr)
 
--- ---- writers
+-- ---- writers and what they give
 
 -- the youngest older entry that writes the register
 abbrev pub writer : List Entry → ℕ → Option Entry

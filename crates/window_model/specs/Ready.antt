@@ -30,6 +30,6 @@ is_known d (e ∷ before) r = if writes r e then gives d before e else is_known 
 abbrev pub all_known : Desc → List Entry → List ℕ → Bool
 all_known d before rs = list_all (is_known d before) rs
 
--- so it is with each source
+-- the writer of each source of the entry gives its value, or there is none
 abbrev pub ready : Desc → List Entry → Entry → Bool
 ready d before e = all_known d before (sources e)

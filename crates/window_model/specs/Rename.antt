@@ -12,7 +12,7 @@ use Rattle.window_model.specs.State.{Machine, After, then_does, nothing}
 use Rattle.window_model.specs.Order.{is_waiting, is_load, is_store}
 use Rattle.window_model.specs.Dependence.{starts_cleared}
 
--- an ECALL
+-- the kind is an ECALL's
 abbrev pub is_call : Kind → Bool
 is_call Call = true
 is_call _ = false
@@ -25,16 +25,16 @@ calls e = is_call e.item.kind
 abbrev pub CallAlone : List Entry → Type 0
 CallAlone window = 1 ≤ count_by calls window → length window ≤ 1
 
--- what can only trap
+-- the kind is that of an item that can only trap
 abbrev pub is_stop : Kind → Bool
 is_stop (Stop cause) = true
 is_stop _ = false
 
--- done at once, and in no station
+-- an item of this kind is Done at once, and in no station
 abbrev pub at_once : Kind → Bool
 at_once k = is_call k || is_stop k
 
--- room for a load among the loads, for a store among the stores; a call goes alone
+-- by its kind, an item has room: a load among the loads in flight, a store among the stores; a call goes alone
 abbrev pub fits_as : Kind → Desc → List Entry → Bool
 fits_as Load d window = nat_lt (count_by (λ e. is_load e.item.kind) window) d.core_loads
 fits_as Store d window = nat_lt (count_by (λ e. is_store e.item.kind) window) d.core_stores
@@ -77,11 +77,11 @@ abbrev pub rename_from : Desc → List Item → Machine → (Machine → After) 
 rename_from d [] x more = nothing x
 rename_from d (item ∷ rest) x more = if fits d x.window item then then_does (rename_one d item rest x) more else nothing x
 
--- up to n items
+-- at most n items are renamed, one after the other
 abbrev pub rename_up_to : Desc → ℕ → Machine → After
 rename_up_to d zero x = nothing x
 rename_up_to d (suc n) x = rename_from d x.queue x (rename_up_to d n)
 
--- as many items as are fetched in a cycle
+-- the phase Rename: at most as many items as the description lets a cycle fetch
 unfoldable pub rename : Desc → Machine → After
 rename d x = rename_up_to d d.core_fetch_width x

@@ -31,7 +31,7 @@ pub record Retired : Type 0 where
   pub events : List Event
   pub piece : List ℕ
 
--- no turn
+-- no turn of Retire: no change, no event and no output
 abbrev pub stays : Machine → Retired
 stays x = record { machine = x; events = []; piece = [] }
 
@@ -75,11 +75,11 @@ op_of _ = Sb
 abbrev pub width_in : Instr → ℕ
 width_in i = size_of (op_of i)
 
--- and an entry
+-- the bytes that an entry moves as a load or store
 abbrev pub width_of : Entry → ℕ
 width_of e = width_in e.item.instr
 
--- ---- the cache
+-- ---- lines in the cache
 
 -- the line is in the cache
 abbrev pub has_line : Desc → List (List ℕ) → ℕ → Bool
@@ -91,7 +91,7 @@ touched d cache line = moved_up cache (set_of d line) line
 
 -- ---- what each kind of head does
 
--- the register, the pc and the count
+-- the state once a head has retired: its register, the pc and the count
 abbrev pub leaves : Entry → List Entry → Machine → Machine
 leaves e rest x = record x {
   window = rest;
@@ -131,14 +131,14 @@ head_leaves Store d e rest x = store_leaves d e rest x
 head_leaves Call d e rest x = call_leaves e rest x (call (hart_of x))
 head_leaves _ d e rest x = record { machine = leaves e rest x; events = event.Ret e.serial ∷ []; piece = [] }
 
--- ---- turns
+-- ---- the turns of Retire
 
--- this, but that where the run has ended
+-- the value `ended` where the run has ended, else the value `goes`
 abbrev pub unless_ended : {A : Type 0} → Option End → A → A → A
 unless_ended None ended goes = goes
 unless_ended (Some e) ended goes = ended
 
--- one turn after the other
+-- one turn of Retire and then the next, with the events and output of both
 abbrev pub then_retires : Retired → (Machine → Retired) → Retired
 then_retires r more = let s = more r.machine in record { machine = s.machine; events = r.events ++ s.events; piece = r.piece ++ s.piece }
 
@@ -157,16 +157,17 @@ turn d stored None e rest x more =
     if store_waits stored e then stays x
     else then_retires (head_leaves e.item.kind d e rest x) (more (stored || is_store e.item.kind))
 
--- a turn, if there is a head and it may leave
+-- a turn of Retire, if there is a head and it may leave
 abbrev pub head_turn : Desc → Bool → List Entry → Machine → (Bool → Machine → Retired) → Retired
 head_turn d stored [] x more = stays x
 head_turn d stored (e ∷ rest) x more = if may_leave e then turn d stored (trap_of e) e rest x more else stays x
 
--- at most n turns; whether a store has retired in this cycle. After an end the window is not looked at
+-- at most n turns of Retire, where `stored` says whether a store has retired in this cycle. After an end the window is not
+-- looked at
 abbrev pub turns : Desc → ℕ → Bool → Machine → Retired
 turns d zero stored x = stays x
 turns d (suc n) stored x = unless_ended x.end (stays x) (head_turn d stored x.window x (turns d n))
 
--- at most as many turns as the description says, with no store retired yet in this cycle
+-- the phase Retire: at most as many turns as the description says, with no store retired yet in this cycle
 unfoldable pub retire : Desc → Machine → Retired
 retire d x = turns d d.core_retire_width false x

@@ -11,7 +11,7 @@ pub record Row : Type 0 where
 abbrev pub row_room : ℕ
 row_room = 256
 
--- the row has room for so many events more
+-- the row has room for n more events
 abbrev pub HasRoom : ℕ → Row → Type 0
 HasRoom n row = length row.events + n ≤ row_room
 
@@ -19,7 +19,7 @@ HasRoom n row = length row.events + n ≤ row_room
 abbrev pub with_events : Row → List Event → Row
 with_events row events = record row { events = row.events ++ events }
 
--- one row has at most so many events more than another
+-- the new row has at most n more events than the old one
 abbrev pub IsLonger : ℕ → Row → Row → Type 0
 IsLonger n old new = length new.events ≤ length old.events + n
 
@@ -29,43 +29,44 @@ IsLonger n old new = length new.events ≤ length old.events + n
 abbrev pub most_entries : ℕ
 most_entries = 192
 
--- of Fill: as many as there are miss registers
+-- the most events of Fill: one for each miss register
 abbrev pub most_filled : ℕ
 most_filled = 8
 
--- of Complete: as many as there are entries
+-- the most events of Complete: one for each entry
 abbrev pub most_done : ℕ
 most_done = most_entries
 
--- of Resolve: what became of one branch or JALR, what the predictor learnt, and a squash
+-- the most events of Resolve: what became of one branch or JALR, what the predictor learnt, and a squash
 abbrev pub most_resolved : ℕ
 most_resolved = 3
 
--- of Clear: a store that is cleared, a load that passed it wrongly, the load's bit, and a squash
+-- the most events of Clear: a store that is cleared, a load that passed it wrongly, the load's bit, and a squash
 abbrev pub most_cleared : ℕ
 most_cleared = 4
 
--- of Retire: one for each of four entries, and two of the one store that retires a cycle; a call has one more, and is alone
+-- the most events of Retire: one for each of four entries, and two of the one store that retires a cycle; a call has one more,
+-- and is alone
 abbrev pub most_retired : ℕ
 most_retired = 6
 
--- of Issue: four arithmetic ones, a multiplication, a division, a store's address and data, and of one load its two lines and
--- the one that is prefetched
+-- the most events of Issue: four arithmetic ones, a multiplication, a division, a store's address and data, and of one load its
+-- two lines and the one that is prefetched
 abbrev pub most_issued : ℕ
 most_issued = 11
 
--- of Rename, and of Fetch: as many as are fetched in a cycle
+-- the most events of Rename, and also of Fetch: as many as are fetched in a cycle
 abbrev pub most_fetched : ℕ
 most_fetched = 4
 
--- of the phases before Retire
+-- the most events of the phases before Retire: Fill, Complete, Resolve and Clear
 abbrev pub most_before_retire : ℕ
 most_before_retire = most_filled + most_done + most_resolved + most_cleared
 
--- of those after it: Issue, Rename and Fetch
+-- the most events of the phases after Retire: Issue, Rename and Fetch
 abbrev pub most_after_retire : ℕ
 most_after_retire = most_issued + most_fetched + most_fetched
 
--- of a cycle
+-- the most events of a whole cycle
 abbrev pub most_events : ℕ
 most_events = most_before_retire + most_retired + most_after_retire

@@ -2,7 +2,7 @@
 use Rattle.std.specs.Prelude.{ℕ, ◌/◌, ◌%◌, Bool, not, ◌==◌, List, [], ◌∷◌, take, slice_set, slice_index_or, if◌then◌else◌}
 use Rattle.std.specs.List.{filter, list_any}
 
--- the set that a line of so many bytes belongs to, of so many sets
+-- the set that a line belongs to, by how many bytes a line has and how many sets there are
 abbrev pub set_in : ℕ → ℕ → ℕ → ℕ
 set_in bytes count line = line / bytes % count
 

@@ -17,13 +17,13 @@ pub use Rattle.window_model.specs.declared.Divider.{Divider}
 -- the machine at a cycle
 pub record Machine : Type 0 where
   pub cycle : ℕ
-  -- as retired
+  -- registers, pc and memory as retired: what the instruction set's state is
   pub regs : List ℕ
   pub pc : ℕ
   pub ram : Ram
-  -- in flight, oldest first
+  -- the entries in flight, oldest first
   pub window : List Entry
-  -- fetched and not renamed
+  -- the items that are fetched and not yet renamed, oldest first
   pub queue : List Item
   pub fetch_pc : Option ℕ
   pub counters : List ℕ
@@ -32,10 +32,10 @@ pub record Machine : Type 0 where
   pub dependence : List Bool
   -- history and return stack, as the next item comes to be fetched
   pub mark : Mark
-  -- of each level, per set a list of lines, most recent first
+  -- the two levels of the cache: for each set a list of lines, most recently used first
   pub cache : List (List ℕ)
   pub second : List (List ℕ)
-  -- in the order of taking
+  -- the miss registers that are taken, in the order of taking
   pub misses : List Miss
   pub divider : Divider
   pub retired : ℕ
@@ -47,11 +47,11 @@ pub record After : Type 0 where
   pub machine : Machine
   pub events : List Event
 
--- no change and no event
+-- a phase that changes nothing, with no event
 abbrev pub nothing : Machine → After
 nothing x = record { machine = x; events = [] }
 
--- one after the other, on what the first left
+-- one phase and then another on what the first left, with the events of both
 abbrev pub then_does : After → (Machine → After) → After
 then_does a more = let b = more a.machine in record { machine = b.machine; events = a.events ++ b.events }
 
@@ -84,7 +84,7 @@ opening d entry ram =
 abbrev pub line_of : Desc → ℕ → ℕ
 line_of d a = a / d.cache_line * d.cache_line
 
--- one line, or two, the lower first
+-- one line where both are the same, else the two, the lower first
 abbrev pub one_or_two : ℕ → ℕ → List ℕ
 one_or_two low high = if low == high then low ∷ [] else low ∷ high ∷ []
 

@@ -9,7 +9,7 @@ use Rattle.machine_desc.specs.declared.SttModel.{SttModel}
 use Rattle.machine_desc.specs.declared.SttModel.TheVariants.{Spectre, Futuristic, Off}
 use Rattle.window_model.specs.Order.{is_done, is_load, is_faulty, writes, sources, base_of}
 
--- nothing squashes what comes after it
+-- by its kind, the entry squashes nothing that comes after it
 abbrev pub safe_as : Kind → Entry → Bool
 safe_as Load e = is_done e.state && not (is_faulty e)
 safe_as Store e = is_done e.state && not (is_faulty e) && e.cleared
@@ -23,14 +23,14 @@ safe_as _ e = true
 abbrev pub safe : Entry → Bool
 safe e = safe_as e.item.kind e
 
--- nothing but a fault squashes what comes after it, by its kind, whether it is resolved and whether it is cleared
+-- by its kind, whether it is resolved and whether it is cleared: the entry squashes nothing that comes after it, but by a fault
 abbrev pub settled_as : Kind → Bool → Bool → Bool
 settled_as Branch resolved cleared = resolved
 settled_as Jalr resolved cleared = resolved
 settled_as Store resolved cleared = cleared
 settled_as _ resolved cleared = true
 
--- a branch or JALR is resolved, a store is cleared
+-- the entry, if it is a branch or JALR, is resolved, and if it is a store, is cleared
 abbrev pub settled : Entry → Bool
 settled e = settled_as e.item.kind e.resolved e.cleared
 

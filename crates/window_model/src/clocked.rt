@@ -14,7 +14,7 @@ use rv_types::{End, Piece};
 /// A core that is the written machine (`docs/machine.md`): what a call of it leaves is what `specs/Cycle.antt` says of the
 /// machine that it stands for. No call takes memory.
 pub trait Clocked {
-    /// The description.
+    /// The description by which the core was made.
     ghost desc: { Self → Desc };
 
     /// The words that may be fetched.
@@ -39,7 +39,7 @@ pub trait Clocked {
     fn end(&self) -> Option<End>
         ensures { result ≡ (machine self.now).end };
 
-    /// The cycles so far.
+    /// How many cycles there were so far.
     fn cycles(&self) -> u32
         ensures { result ≡ (machine self.now).cycle };
 
@@ -47,7 +47,7 @@ pub trait Clocked {
     fn retired(&self) -> u64
         ensures { result ≡ (machine self.now).retired };
 
-    /// The registers, as retired.
+    /// The registers, as the retired instructions left them.
     fn regs(&self) -> &[u32; 32]
         ensures { result.now ≡ (machine self.now).regs };
 
@@ -55,7 +55,7 @@ pub trait Clocked {
     fn pc(&self) -> u32
         ensures { result ≡ (machine self.now).pc };
 
-    /// Memory, as retired.
+    /// Memory, as the retired instructions left it.
     fn ram(&self) -> &Ram
         ensures { result.now ≡ (machine self.now).ram };
 }

@@ -32,16 +32,16 @@ pub struct Mark {
     pub history: u32,
     /// How many addresses are on the stack.
     pub depth: u32,
-    /// The addresses.
+    /// The addresses to which returns go, youngest first.
     pub addresses: [u32; RETURNS_MAX],
 }
 
 /// A fetched instruction (`docs/machine.md`, "State").
 #[derive(Clone, Copy, Debug, PartialEq, Eq)]
 pub struct Item {
-    /// Its address.
+    /// The address of the instruction.
     pub pc: u32,
-    /// The instruction.
+    /// The instruction that stands there; outside code an illegal one.
     pub instr: Instr,
     /// The kind by which the pipeline treats it.
     pub kind: Kind,
@@ -54,11 +54,12 @@ pub struct Item {
 /// How far an instruction in flight is.
 #[derive(Clone, Copy, Debug, PartialEq, Eq)]
 pub enum Progress {
-    /// It waits for its operands, for a port, or for what its kind asks for besides.
+    /// Not issued: operands, a port, or what its kind asks for besides are missing. A store stays so until both its
+    /// parts have issued.
     Waiting,
-    /// It executes, and is done in this cycle.
+    /// Executing, and Done in the cycle of this number.
     Busy(u64),
-    /// It has its result.
+    /// Executed: the result is there.
     Done,
 }
 
@@ -80,11 +81,11 @@ pub struct Outcome {
 /// An instruction in flight (`docs/machine.md`, "Entries").
 #[derive(Clone, Copy, Debug, PartialEq, Eq)]
 pub struct Entry {
-    /// Its number in the order of renaming.
+    /// The number in the order of renaming, never used again.
     pub serial: u64,
-    /// What was fetched.
+    /// The item that was fetched.
     pub item: Item,
-    /// How far it is.
+    /// How far the instruction is.
     pub state: Progress,
     /// What it comes to: there from the cycle in which it issues, of a store from the first of its two parts.
     pub outcome: Option<Outcome>,
@@ -105,16 +106,16 @@ pub struct Entry {
 pub enum Way {
     /// A branch that is taken.
     Taken,
-    /// A branch that isn't.
+    /// A branch that is not taken.
     NotTaken,
-    /// A JALR.
+    /// A JALR, which always jumps.
     Jump,
 }
 
 /// Where a load found a line, or what is prefetched is found.
 #[derive(Clone, Copy, Debug, PartialEq, Eq)]
 pub enum Look {
-    /// Its line.
+    /// The cache has the line.
     Hit,
     /// Not its line, and no level has it: a miss register was taken for it.
     Miss,
@@ -137,15 +138,15 @@ pub enum Event {
     Bp(u32, u8),
     /// An entry of the table of targets now has this target.
     Bt(u32, u32),
-    /// So many entries and fetched items were dropped.
+    /// Entries and fetched items were dropped, as many together as this.
     Sq(u32),
-    /// A store was cleared.
+    /// The store of this serial was cleared.
     Clr(u64),
     /// A load had passed that store wrongly, and was dropped.
     Vio(u64),
     /// A bit of dependence now has this value.
     Dp(u32, u8),
-    /// An entry retired.
+    /// The entry of this serial retired.
     Ret(u64),
     /// A store wrote memory; a line of it, and whether the cache had it.
     St(u64, u32, bool),
@@ -202,11 +203,11 @@ pub struct Miss {
 pub struct Target {
     /// The address of the JALR.
     pub pc: u32,
-    /// Where it went last.
+    /// The address to which the JALR went last.
     pub target: u32,
 }
 
-/// The divider.
+/// Until when the divider is taken, and by which division.
 #[derive(Clone, Copy, Debug, PartialEq, Eq)]
 pub struct Divider {
     /// The cycle from which on it is free.
@@ -217,10 +218,10 @@ pub struct Divider {
 
 /// The entries in flight, oldest first, as one list.
 pub trait Window {
-    /// The entries.
+    /// The entries in flight, oldest first.
     ghost entries: { Self → List Entry };
 
-    /// How many there are.
+    /// How many entries are in flight.
     fn len(&self) -> u32
         ensures { result ≡ length (entries self.now) };
 

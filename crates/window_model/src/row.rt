@@ -52,7 +52,7 @@ impl Row {
         self.events.push(event);
     }
 
-    /// The cycle's number.
+    /// The number of the cycle whose row this is.
     pub fn cycle(&self) -> u32
         ensures { result ≡ self.now.cycle }
     {

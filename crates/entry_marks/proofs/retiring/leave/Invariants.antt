@@ -5,7 +5,7 @@ use Rattle.entry_marks.specs.Oldest.{IsCopiedFrom}
 use Rattle.entry_marks.specs.Walk.{marks_of, marks_with}
 use Rattle.entry_marks.proofs.retiring.leave.Given as goal
 
--- those that are left to leave make of the marks what all make of those at the beginning
+-- the entries that are left to leave make of the marks what all make of those at the beginning
 abbrev pub invariant-loop-k : goal.invariant-loop-k
 invariant-loop-k l = record {
   marks : (window : List Entry) → IsCopiedFrom window l.initial.marks.window.items l.leaving.entries.items →

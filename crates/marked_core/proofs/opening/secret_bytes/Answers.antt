@@ -4,7 +4,7 @@ use Rattle.secret_marks.specs.Ranges.{secret_in}
 use Rattle.marked_core.proofs.Secrets.{marks_next}
 use Rattle.marked_core.proofs.opening.secret_bytes.Goals as goal
 
--- src/opening.rt:40:5
+-- the marks made so far, and those of the bytes that are left, are all, as one more is made
 pub loop-i-preserved : goal.loop-i-preserved
 loop-i-preserved c =
     let rest = map (secret_in c.args.secret.now) (range (c.args.base + (c.loop-i.i + 1)) (c.args.size - (c.loop-i.i + 1))) in

@@ -1,4 +1,4 @@
--- The bytes so far have their marks.
+-- The marks made so far, and those of the bytes that are left, are those of all bytes.
 use Rattle.std.proofs.Common.{◌≡◌, ◌+◌, ◌-◌, ◌++◌, map}
 use Rattle.rv_types.specs.Memory.{range}
 use Rattle.secret_marks.specs.Ranges.{secret_in}

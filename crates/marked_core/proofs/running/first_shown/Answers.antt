@@ -7,7 +7,7 @@ use Rattle.secret_marks.specs.Watch.{watch_cycle}
 use Rattle.marked_core.proofs.Looking.{looks_found, looks_next, running_at}
 use Rattle.marked_core.proofs.running.first_shown.Goals as goal
 
--- src/running.rt:33:13
+-- what shows in this cycle is what shows first in the run
 pub returns-in-Some-clause-shown : goal.returns-in-Some-clause-shown
 returns-in-Some-clause-shown g c =
     let y = c.loop.core in
@@ -16,7 +16,7 @@ returns-in-Some-clause-shown g c =
     looks_found _ _ _ c.loop.counter _ _ y.machine y.marks c.loop.invariant.looks c.loop-test.true running c.cycle.result
     (c.cycle.ensures.shown ∙ ap (λ d. shown_cycle d y.machine y.marks) c.loop.invariant.desc) c.in-Some.shown c.cycles.result c.in-Some.is number
 
--- src/running.rt:28:5
+-- the run stands one cycle further, in which nothing has shown
 pub loop-preserved : goal.loop-preserved
 loop-preserved g c =
     let y = c.loop.core in

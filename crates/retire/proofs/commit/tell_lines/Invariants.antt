@@ -1,4 +1,4 @@
--- The lines so far are told.
+-- The row has an event for each line so far.
 use Rattle.std.proofs.Common.{◌≡◌, take}
 use Rattle.std.specs.Prelude.{map}
 use Rattle.window_model.specs.Row.{with_events}

@@ -8,7 +8,7 @@ use Rattle.retire.proofs.phase.retire.Goals as goal
 pub loop-init : goal.loop-init
 loop-init g c = retires_start _ _ (ready _ _ c.requires.empty c.requires.call_alone c.requires.stores_fit)
 
--- ---- the head waits
+-- ---- the phase ends at a head that waits
 
 pub returns-in-Waits-clause-state : goal.returns-in-Waits-clause-state
 returns-in-Waits-clause-state g c =
@@ -30,7 +30,7 @@ pub returns-in-Waits-clause-few : goal.returns-in-Waits-clause-few
 returns-in-Waits-clause-few g c =
     (over_waits _ _ _ _ _ c.loop.invariant (ready _ _ c.requires.empty c.requires.call_alone c.requires.stores_fit) (sym c.turn_at.ensures.turn ∙ c.in-Waits.is)).few
 
--- ---- it traps
+-- ---- the phase ends at a head that traps
 
 pub returns-in-Traps-clause-state : goal.returns-in-Traps-clause-state
 returns-in-Traps-clause-state g c =
@@ -52,7 +52,7 @@ pub returns-in-Traps-clause-few : goal.returns-in-Traps-clause-few
 returns-in-Traps-clause-few g c =
     (over_traps _ _ _ _ _ _ _ c.loop.invariant (ready _ _ c.requires.empty c.requires.call_alone c.requires.stores_fit) c.loop-test.true (sym c.turn_at.ensures.turn ∙ c.in-Traps.is)).few
 
--- ---- it retires
+-- ---- a turn in which the head retires
 
 pub tell-requires-clause-room : goal.tell-requires-clause-room
 tell-requires-clause-room g c =
@@ -68,7 +68,7 @@ tell-requires-clause-line g c = ap (λ (d : Desc). d.cache_line) c.loop.invarian
 pub commit-ended-requires-clause-inside : goal.commit-ended-requires-clause-inside
 commit-ended-requires-clause-inside g c = head_inside _ _ _ _ c.loop.invariant.stores (record { turn = sym c.turn_at.ensures.turn ∙ c.in-Leaves.is; head = c.lend-head.ensures })
 
--- and ends the run
+-- the phase is over where the head retires and ends the run
 ends : (g : given.Over) (c : goal.In-Some g) → Over c.args.desc.now
     (record { rob = c.args.rob.now; writes = g.R.RenameTaint.writes c.args.table.now; table_room = g.R.RenameTaint.room c.args.table.now; queues = c.args.lsq.now; tags = c.args.tags.now; ram = c.args.ram.now; regs = c.args.regs.now; pc = c.args.pc.now; row = c.args.row.now; piece = c.args.piece.now })
     (Some c.in-Some.end)
@@ -114,7 +114,7 @@ returns-in-Some-clause-table g c = (ends g c).left.table
 pub returns-in-Some-clause-lsq : goal.returns-in-Some-clause-lsq
 returns-in-Some-clause-lsq g c = (ends g c).left.queues
 
--- and the run goes on
+-- the loop goes on where the head retires and the run goes on
 pub loop-preserved : goal.loop-preserved
 loop-preserved g c =
     retires_more _ _ _ _ _ _ c.lend-head.result.now _ _ c.loop.invariant c.loop-test.true (record { turn = sym c.turn_at.ensures.turn ∙ c.in-Leaves.is; head = c.lend-head.ensures })

@@ -1,4 +1,4 @@
--- What is left to retire makes the whole.
+-- The turns that are left make of what is left now what the whole phase makes of what was there at first.
 use Rattle.std.proofs.Common.{◌-◌}
 use Rattle.retire.proofs.Leaving.{RetiresOn}
 use Rattle.retire.proofs.phase.retire.Given as goal

@@ -1,4 +1,4 @@
--- The first range with a fault is among those that are left.
+-- The first range with a fault, if there is one, is the first with one among those that are left.
 use Rattle.std.proofs.Common.{◌≡◌, drop}
 use Rattle.run_inputs.specs.Loaded.{loaded}
 use Rattle.secrets_top.specs.Ranges.{first_faulty}

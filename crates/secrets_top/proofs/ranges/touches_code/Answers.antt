@@ -1,4 +1,4 @@
--- A byte that isn't code leaves it to those behind it.
+-- Where a byte of the range isn't code, the range touches code if a byte behind that one does.
 use Rattle.std.proofs.Common.{sym, ◌∙◌}
 use Rattle.elf_loader.specs.Code.{word_at}
 use Rattle.secrets_top.specs.Ranges.{in_code}

@@ -1,4 +1,4 @@
--- Whether a byte is code is told by the bytes that are left.
+-- The range touches code where one of the bytes that are left is code.
 use Rattle.std.proofs.Common.{◌≡◌, ◌+◌, ◌-◌}
 use Rattle.std.specs.List.{list_any}
 use Rattle.rv_types.specs.Memory.{range}

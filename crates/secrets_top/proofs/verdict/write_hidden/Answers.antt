@@ -1,4 +1,4 @@
--- The first line, and then the last line of the trace.
+-- What is written is the line that nothing shows, and then the last line of the trace.
 use Rattle.std.proofs.Common.{codes}
 use Rattle.line_text.specs.EndLine.{end_line}
 use Rattle.tool_io.proofs.Writing.{part_more, writes_part, writes_then}

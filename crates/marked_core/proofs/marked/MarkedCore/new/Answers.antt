@@ -8,7 +8,7 @@ use Rattle.marked_core.specs.InStep.{Between}
 use Rattle.marked_core.proofs.Secrets.{marks_length}
 use Rattle.marked_core.proofs.marked.MarkedCore.new.Goals as goal
 
--- src/marked.rt:75:26
+-- the core that is made has what is to hold between two cycles
 pub invariant_of-result : goal.invariant_of-result
 invariant_of-result g c =
     let begun : Kept (word_at c.args.image.code) (opened c.args.desc.now c.args.image.code c.args.image.entry c.args.image.ram) = search rules in

@@ -10,7 +10,7 @@ loop-station-init c = record {
   marks = c.able_marks-marks.ensures;
 }
 
--- ---- none is left
+-- ---- no able station is left
 
 pub returns-then-marks-eq0 : goal.returns-then-marks-eq0
 returns-then-marks-eq0 c =
@@ -27,7 +27,7 @@ returns-then-marks-eq0 c =
 pub is_marked-requires-clause-marks : goal.is_marked-requires-clause-marks
 is_marked-requires-clause-marks c = c.loop-station.invariant.marks
 
--- ---- one that isn't able
+-- ---- a station that isn't able
 
 pub loop-station-preserved-then-not-is_marked : goal.loop-station-preserved-then-not-is_marked
 loop-station-preserved-then-not-is_marked c =
@@ -40,7 +40,7 @@ loop-station-preserved-then-not-is_marked c =
       marks = λ i s low is. c.loop-station.invariant.marks i s (omega (arith, low)) is;
     }
 
--- ---- one that is
+-- ---- a station that is able
 
 pub place_at-place-requires-clause-able : goal.place_at-place-requires-clause-able
 place_at-place-requires-clause-able c = c.is_marked.ensures ∙ ap Some c.if-not-is_marked.false
@@ -57,7 +57,7 @@ loop-station-preserved c = record {
   marks = c.passed-marks.ensures.later;
 }
 
--- ---- all are passed
+-- ---- every station is passed
 
 pub returns : goal.returns
 returns c =
