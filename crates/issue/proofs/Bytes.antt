@@ -56,7 +56,7 @@ module _ (s : Seen) (i : ℕ) (e : Entry) (t : Stands s) (h : StandsAt s i e) wh
   pub stand : StoresStandFor stores before
   stand = stores_before s.lsq.now s.rob.now.entries i e t.queues t.parts.rise h
 
-  -- of each its root tells whether its address is tainted
+  -- the root of each older store tells whether its address is tainted
   each_told : map (λ s2. hides (λ root. nat_le root s.point.now.serial) s2.root) stores ≡ tainted_stores model before
   each_told = tells_each_store (parts_of t.next t.writes s) s.point.now s.lsq.now.stores i e t.parts t.advanced t.addresses h ∙ ap (λ m. tainted_stores m before) t.model
 

@@ -16,7 +16,7 @@ use Rattle.window_model.specs.Order.{Place, before_at, first, first_from}
 use Rattle.window_model.specs.Issue.{Port, DivPort, asking, is_granted, may_at, ports, taken_for}
 use Rattle.issue.specs.Shared.{divider_left}
 
--- one element more
+-- the first elements of a list, and the next one behind them
 pub one_more : {X : Type 0} (xs : List X) (i : ℕ) (x : X) → slice_get xs i ≡ Some x → take (i + 1) xs ≡ take i xs ++ x ∷ []
 one_more xs i x h = take_more xs i x (slice_get_within xs i x h) ∙ ap (λ x. take i xs ++ x ∷ []) (get_or_from_slice_get xs i x x h)
 
@@ -25,11 +25,11 @@ abbrev or_else : {A : Type 0} → Option A → Option A → Option A
 or_else None b = b
 or_else (Some a) b = Some a
 
--- this of an entry in its place
+-- the value of a function at an entry in its place, by the older ones
 abbrev pub at : {A : Type 0} → (List Entry → Entry → A) → Place → A
 at f place = f place.before place.entry
 
--- this of the oldest entry with a property
+-- the value of a function at the oldest entry that has a property
 abbrev pub of_first : {A : Type 0} → (List Entry → Entry → Bool) → (List Entry → Entry → A) → List Entry → Option A
 of_first p f window = option_map (at f) (first p window)
 
@@ -77,7 +77,7 @@ unasked f d now port window i =
     let o = first (may_at d now port) (take i window) in
     none_first f o ∙ sym (and-true (is_none o)) ∙ none_asks d now port [] (take i window)
 
--- ---- one entry more
+-- ---- one entry more behind those that were looked at
 
 value_more : {A : Type 0} (t : Bool) (old : Option A) (v : A) → (if t && is_none old then Some v else old) ≡ or_else old (if t then Some v else None)
 value_more true None v = refl
@@ -96,7 +96,7 @@ slot_more f d now port window i e old new h one n o =
     let g : is_granted d now port before e ≡ (t && is_none old) = ap (λ n. t && nat_lt (asking d now port before) n) one ∙ ap (λ b. t && b) none in
     n ∙ ap (λ b. if b then Some (f before e) else old) g ∙ value_more t old (f before e) ∙ ap (λ o. or_else o (if t then Some (f before e) else None)) o ∙ sym (first_more (may_at d now port) f window i e h)
 
--- and so is the divider that a division takes
+-- what is kept of the divider, taken by this division or not, is what the option of a division leaves of it
 left_by : (b : Bool) (v : Divider) (o : Option Divider) (start : Divider) → (if b then v else divider_left o start) ≡ divider_left (if b then Some v else o) start
 left_by true v o start = refl
 left_by false v o start = refl

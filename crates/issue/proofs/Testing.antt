@@ -49,7 +49,7 @@ module _ (s : Seen) (i : ℕ) (e : Entry) (t : Stands s) (h : StandsAt s i e) wh
       let both : Some b ≡ Some (has_sources (wants_of s.desc.now.version e) s.desc.now before e) = sym here ∙ told in
       cc
 
-  -- and whether the source of a part is
+  -- the flag of a station tells whether the source of this part of the store is known
   pub part_is : (part : Part) (n : ℕ) (b : Bool) → is_waiting e.state ≡ true → n ≡ station_of i s.rob.now.entries → option_map (ready_part part) (slice_get s.stations.now.held n) ≡ Some b → b ≡ all_known s.desc.now before (own_of part (sources e))
   part_is part n b w q k =
       let told = tells_part part s.desc.now (parts_of t.next t.writes s) s.point.now i e t.parts held_by h w in
@@ -65,7 +65,7 @@ module _ (s : Seen) (i : ℕ) (e : Entry) (t : Stands s) (h : StandsAt s i e) wh
       ap₂ (λ m b. m && b) p q ∙ sym (tells_issue s.desc.now (parts_of t.next t.writes s) s.point.now i e roots (around_of s) t.parts t.advanced t.model h k)
       ∙ sym (ap₂ (λ a b. a && b && may_issue_as e.item.kind s.desc.now (around_of s) before e) w r)
 
--- ---- ports
+-- ---- ports that are left
 
 some_less : (a : ℕ) → (a - 1) + one_if (nat_lt 0 a) ≡ a
 some_less zero = refl
@@ -108,7 +108,7 @@ divider_stays _ p = refl
 left_with : (d : Desc) (now : Around) (es : List Entry) (p : Ports) (v : Divider) → LeftAfter d now es p → LeftAfter d now es (record p { divider = v })
 left_with d now es p v l = record { each_port = λ q. with_divider q p v ∙ l.each_port q }
 
--- of each port as many fewer as are taken
+-- the ports that are left and the one that is taken, if one is, are those that were left
 pub asked_less : (may : Bool) (q : Port) (p : Ports) → left_in_all (if_asked may q p) + one_if (may && nat_lt 0 (left_at q p)) ≡ left_in_all p
 asked_less true q p = one_less q p
 asked_less false q p = omega arith
@@ -186,7 +186,7 @@ module _ (d : Desc) (now : Around) (before : List Entry) (e : Entry) (p : Ports)
     pub some_left : 1 ≤ left_in_all p
     some_left = let n = one_less own p in let one = ap one_if is_left in omega (arith, n, one)
 
-    -- and its events
+    -- the events of an entry that is granted its port are among those that the ports still allow
     pub events_served : most_events_of e.item.kind ≤ events_left p
     events_served =
         let all = one_less own p in
