@@ -1,4 +1,4 @@
--- Each step keeps the parts standing for the window.
+-- The steps of a cycle keep the parts standing for the window.
 use Rattle.std.proofs.Common.{◌≡◌, ◌≢◌, ℕ, zero, suc, ◌<◌, Bool, true, false, List, [], ◌∷◌, ◌++◌, length, map, Option, Some, None, refl, ap, sym, ◌∙◌, subst, arith, slice_get}
 use Rattle.std.specs.Prelude.{if◌then◌else◌, slice_set, is_some, ◌&&◌, ◌==◌, drop, take}
 use Rattle.std.specs.List.{All, AllZip}
@@ -126,7 +126,7 @@ addresses_noted : (store : Bool) (p : Parts) (stores : List Queued) (w : Width) 
 addresses_noted false p stores w e a = a
 addresses_noted true p stores w e a = addresses_by_stored (has_data e) p (with_span (has_address e) w e stores) e (addresses_by_span (has_address e) p stores w e a)
 
--- so does what is noted of a load, and that a store is cleared
+-- the roots of addresses stay where it is noted what a load reads, and where a store is cleared
 stores_of_read : (b : Bool) (w : Width) (e : Entry) (q : Queues) → (if b then record q { loads = map (issued_at e.serial (access_in w e)) q.loads } else q).stores ≡ q.stores
 stores_of_read true w e q = refl
 stores_of_read false w e q = refl
@@ -205,7 +205,7 @@ stands_cleared p i e s h k =
       point = point_clears p.point p.next p.window i e s.point h;
     }
 
--- ---- entries go
+-- ---- entries go, the youngest or the oldest
 
 queues_cut : (first : ℕ) (w : List Entry) (q : Queues) → Rise w → StandFor q w → StandFor (cut_at first q) (below first w)
 queues_cut first w q r s = let t = splits first w r in cut_stands q first (below first w) t.gone (subst (StandFor q) t.whole s) t.older t.younger
@@ -226,7 +226,7 @@ stands_dropped p first i e s h older l =
     (addresses_squash parts p.queues.stores first s.stand s.addresses)
     (point_squashes p.point p.next first p.window i e s.point s.stand.rise h older l)
 
--- none of those that are younger has its serial
+-- no younger entry has the serial of the oldest one
 younger_differ : (e : Entry) (es : List Entry) → All (λ d. e.serial < d.serial) es → Others e.serial es
 younger_differ e es a = All-weaker (λ (d : Entry). e.serial < d.serial) (λ (d : Entry). d.serial ≢ e.serial) (λ d l. omega (arith, l)) es a
 
@@ -249,7 +249,7 @@ stands_retired p head s h d =
     (addresses_retire parts p.queues.stores head s.stand s.addresses h)
     (point_retires p.point p.next p.window s.point)
 
--- ---- the point
+-- ---- the visibility point moves on
 
 pub stands_moved : PointMoves
 stands_moved p s = record {

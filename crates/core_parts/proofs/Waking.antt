@@ -26,7 +26,7 @@ Hidden p es = All (λ e. p < e.serial) es
 pub visible_before : (p h n : ℕ) (es : List Entry) → Rise es → h ≡ min (p + 1) (2 ^ 64 - 1) → take n es ≡ below h es → Visible p (take n es)
 visible_before p h n es r q o = All-weaker (λ e. e.serial < h) (λ e. e.serial ≤ p) (λ e l. omega (arith, l, q)) (take n es) (below_of h es n r o)
 
--- and the others: no entry has the last serial
+-- the entries from the position on that the point tells are hidden: no entry has the last serial
 pub hidden_behind : (p h n : ℕ) (es : List Entry) → Rise es → All (λ e. e.serial < 2 ^ 64 - 1) es → h ≡ min (p + 1) (2 ^ 64 - 1) → n ≤ length es → take n es ≡ below h es → Hidden p (drop n es)
 hidden_behind p h n es r few q w o =
     let not_last = All-drop (λ e. e.serial < 2 ^ 64 - 1) n es few in
@@ -51,7 +51,7 @@ drop_past (suc i) (e ∷ es) l = drop_past i es (omega (arith, l))
 
 -- ---- those that are given
 
--- of those that aren't visible none is
+-- the point gives no value of an entry that it hides
 given_hidden : (p : ℕ) (es : List Entry) → Hidden p es → filter (is_given p) es ≡ []
 given_hidden p [] a = refl
 given_hidden p (e ∷ es) a =
@@ -92,7 +92,7 @@ past_end p i es l = ap (λ fs. map (λ (e : Entry). e.serial) (filter (is_given 
 
 -- ---- the stations once they are told
 
--- of those from a position on
+-- the stations once they know of the values that the entries from a position on give by the point's move
 abbrev pub woken_from : ℕ → ℕ → List Entry → Stations → Stations
 woken_from i p es s = record s { held = struck_each (given_from i p es) s.held }
 
@@ -116,7 +116,7 @@ wakes_next i p es s t e h v q = ap (woken_from (i + 1) p es) q ∙ by_test (is_l
         by_both true k = ap (λ serials. record s { held = struck_each serials s.held }) (sym k)
         by_both false k = ap (λ serials. record s { held = struck_each serials s.held }) (sym k)
 
--- ---- a move
+-- ---- a move of the point
 
 -- an entry that was visible gave its value as it does
 gave : (h d : Bool) (n p p2 : ℕ) → n ≤ p → p ≤ p2 → (not (not (true && h && not (nat_le n p)) && d) && (not (true && h && not (nat_le n p2)) && d)) ≡ false
@@ -177,7 +177,7 @@ released_from p p2 i es k a b =
     ∙ sym (filter-append (newly p p2) (take i es) (drop i es))
     ∙ ap (filter (newly p p2)) (halves i es))
 
--- so the stations are told
+-- the stations that know of each value given from a position on are those that the definition of the point's move leaves
 pub woken_as : (p p2 i : ℕ) (es : List Entry) (s : Stations) → p ≤ p2 → Visible p (take i es) → Hidden p (drop i es) →
     woken_from i p2 es s ≡ record s { held = struck_by_move (at_point p) (at_point p2) es s.held }
 woken_as p p2 i es s k a b = ap (λ serials. record s { held = struck_each serials s.held }) (released_from p p2 i es k a b)
