@@ -4,14 +4,14 @@ use Rattle.std.specs.List.{range_with_len}
 use Rattle.std.proofs.lemmas.List.FromFn.{get_or-map-range_with_len}
 use Rattle.elf_loader.specs.Faults.{first_some}
 
--- where none is there, none of them is
+-- where a list of options has no first value, the option at each place is None
 pub none_at : {T : Type 0} (os : List (Option T)) (i : ℕ) → first_some os ≡ None → get_or os i None ≡ None
 none_at [] i h = refl
 none_at (None ∷ os) zero h = refl
 none_at (None ∷ os) (suc i) h = none_at os i h
 none_at (Some x ∷ os) i h = absurd (cc)
 
--- so it is for those made along the numbers below n
+-- where the options made along the numbers below n have no first value, that of each such number is None
 pub none_below : {T : Type 0} (f : ℕ → Option T) (i n : ℕ) → first_some (map f (range_with_len 0 n)) ≡ None → i < n → f i ≡ None
 none_below f i n h l = sym (get_or-map-range_with_len f 0 n i i None l (omega arith)) ∙ none_at (map f (range_with_len 0 n)) i h
 
@@ -30,14 +30,14 @@ first_skip {T} f i n all l e h =
     let rest = map f (range_with_len (i + 1) (n - (i + 1))) in
     sym (ap (λ (o : Option T). first_some (o ∷ rest)) e) ∙ sym (ap (λ (r : List ℕ). first_some (map f r)) (range_step i n l)) ∙ h
 
--- one that is there
+-- the first value along the numbers from i on is that of i, where i has one
 pub first_found : {T : Type 0} (f : ℕ → Option T) (i n : ℕ) (all : Option T) (x : T) → i < n → f i ≡ Some x
     → first_some (map f (range_with_len i (n - i))) ≡ all → all ≡ Some x
 first_found {T} f i n all x l e h =
     let rest = map f (range_with_len (i + 1) (n - (i + 1))) in
     sym h ∙ ap (λ (r : List ℕ). first_some (map f r)) (range_step i n l) ∙ ap (λ (o : Option T). first_some (o ∷ rest)) e
 
--- none is left
+-- past the last number there is no value to find
 pub first_none : {T : Type 0} (f : ℕ → Option T) (i n : ℕ) (all : Option T) → n ≤ i
     → first_some (map f (range_with_len i (n - i))) ≡ all → all ≡ None
 first_none f i n all l h = sym h ∙ ap (λ (r : List ℕ). first_some (map f r)) (range_end i n l)
