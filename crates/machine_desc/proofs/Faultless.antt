@@ -50,7 +50,7 @@ each_step v document h =
     none_first (top_fault document ∷ sections_fault v document ∷ keys_fault v document ∷ latency_fault v document ∷ end_fault v document ∷
     registers_fault v document ∷ second_fault v document ∷ []) h
 
--- so each key has none
+-- where the list of all keys has no fault, no key of the document has one
 key_clean : (v : ℕ) (document : Members) → Each (λ x. x ≡ None) (map (key_fault v document) keys) → (k : Key) → key_fault v document k ≡ None
 key_clean v document e CoreFetchWidth = e.0
 key_clean v document e CoreRetireWidth = e.1.0
