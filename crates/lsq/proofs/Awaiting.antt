@@ -26,7 +26,7 @@ four false true r s = refl
 four false false true s = refl
 four false false false s = one s
 
--- of an access without fault each byte is looked at
+-- what a store writes reaches one of a width's bytes where it reaches a byte that an access without fault asks for
 pub one_is : (k : Span) (a : ℕ) (w : Width) → reaches_one w a k ≡ list_any (λ a. reaches a k) (bytes_asked None a (bytes_in w))
 one_is k a B = one (reaches a k)
 one_is k a H = two (reaches a k) (reaches (a + 1) k)

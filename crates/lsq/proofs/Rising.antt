@@ -46,7 +46,7 @@ module _ {X : Type 0} (serial_of : X → ℕ) where
 
   -- ---- some are taken out, one more comes, and one is changed
 
-  -- those that are left rise
+  -- the serials of the items that a filter leaves rise
   pub rises_kept : (p : X → Bool) (xs ys : List X) → Rise serial_of xs → ys ≡ filter p xs → Rise serial_of ys
   rises_kept p xs ys r e = subst (Rise serial_of) (sym e) (AllPairs-filter (λ a b. serial_of a < serial_of b) p xs r)
 

@@ -43,7 +43,7 @@ filled_at serial stored s = if s.serial == serial then record s { stored = Some 
 abbrev pub cleared_at : ℕ → Store → Store
 cleared_at serial s = if s.serial == serial then record s { cleared = true } else s
 
--- both where the store writes and what are known
+-- where the store writes is known, and what it writes
 abbrev pub is_known : Store → Bool
 is_known s = is_some s.span && is_some s.stored
 

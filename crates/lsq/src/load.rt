@@ -1,4 +1,4 @@
-//! A load in flight.
+//! A load in flight, as the queue of loads holds it.
 use crate::serials::Queued;
 use rv_types::{Cause, Width};
 
@@ -15,10 +15,10 @@ pub struct Access {
     pub cycle: u64,
 }
 
-/// A load in flight.
+/// A load in flight, as the queue of loads holds it.
 #[derive(Clone, Copy, Debug, PartialEq, Eq)]
 pub struct Load {
-    /// Its number in the order of renaming.
+    /// The load's number in the order of renaming.
     pub serial: u64,
     /// What it reads, once that is noted as it issues.
     pub access: Option<Access>,

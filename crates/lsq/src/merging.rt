@@ -12,12 +12,12 @@ use byte_ram::Ram;
 use rename_taint::later;
 use rv_types::Width;
 
-/// What a load finds.
+/// What a load finds in older stores and in memory.
 #[derive(Clone, Copy, Debug, PartialEq, Eq)]
 pub struct Merged {
-    /// The number of its bytes, the lowest first.
+    /// The number of the load's bytes, the lowest first.
     pub value: u32,
-    /// Older stores give all its bytes.
+    /// Whether older stores give all bytes of the load.
     pub covered: bool,
     /// The serial of the youngest load from which an older store's address flows, if there is one.
     pub root: Option<u64>,
@@ -71,7 +71,7 @@ fn byte_by(store: &Store, addr: u64) -> Option<u8>
 }
 
 impl Gathered {
-    // What no store gives.
+    // What is gathered for a load where there is no store.
     fn nothing() -> Gathered
         ensures { result ≡ nothing }
     {
@@ -101,7 +101,7 @@ impl Gathered {
         }
     }
 
-    // The same, where the store is older than the load.
+    // What is gathered for the bytes from an address on, once this store is passed, if it is older than the load.
     fn passed_if_older(self, store: &Store, serial: u64, addr: u64) -> Gathered
         requires { addr < 2 ^ 32 }
         ensures { result ≡ (if nat_lt store.now.serial serial then passed addr store.now self else self) }
