@@ -19,7 +19,7 @@ length_left i next [] = refl
 length_left zero next (s ∷ held) = refl
 length_left (suc i) next (s ∷ held) = ap suc (length_left i next held)
 
--- each has the serial that it had
+-- every station keeps its serial, once one of them wants something else
 serial_left : (i : ℕ) (next : Wants) (held : List Station) (k : ℕ) (d : Station) → (get_or (left_wanting i next held) k d).serial ≡ (get_or held k d).serial
 serial_left i next [] k d = refl
 serial_left zero next (s ∷ held) zero d = refl
@@ -47,7 +47,7 @@ at_left i next [] = refl
 at_left zero next (s ∷ held) = refl
 at_left (suc i) next (s ∷ held) = at_left i next held
 
--- and no other is touched
+-- a station in another place isn't touched
 pub others_left : (i : ℕ) (next : Wants) (held : List Station) (k : ℕ) → k ≢ i → slice_get (left_wanting i next held) k ≡ slice_get held k
 others_left i next [] k ne = refl
 others_left zero next (s ∷ held) zero ne = absurd (ne refl)
@@ -55,7 +55,7 @@ others_left zero next (s ∷ held) (suc k) ne = refl
 others_left (suc i) next (s ∷ held) zero ne = refl
 others_left (suc i) next (s ∷ held) (suc k) ne = others_left i next held k (λ same. ne (ap suc same))
 
--- ---- the place
+-- ---- the place that is left
 
 module _ (places places2 : List Occupant) (p : ℕ) (next : Wants) (here : get_or places2 p nobody ≡ wanting next (get_or places p nobody)) (others : (q : ℕ) → q ≢ p → get_or places2 q nobody ≡ get_or places q nobody) where
   held_others : (ages : List ℕ) → ((k d : ℕ) → k < length ages → get_or ages k d ≢ p) → held_of places2 ages ≡ held_of places ages
@@ -80,7 +80,7 @@ module _ (places places2 : List Occupant) (p : ℕ) (next : Wants) (here : get_o
     | inr ne ↦ m group q (sym (ap (awaits_in group) (others q ne)) ∙ h)
   ]
 
--- those that are taken differ
+-- the places that are taken differ from one another
 pub taken_differ : (room : ℕ) (ages free : List ℕ) → IsPermutation (range_with_len 0 room) (ages ++ free) → AllPairs (λ a b. a ≢ b) ages
 taken_differ room ages free once i j d lt l same =
     let all = length-append ages free in
