@@ -85,7 +85,7 @@ module _ (d : Desc) (one two : Start) (same_code : Bool) (first second : Program
         (subst (λ k. Agree one.ram two.ram (reads (path_of d.stt_model) (word_at first.code) (start one.entry one.ram) k)) (sym e) p.agree);
   }
 
-  -- and what the runs come to is the answer
+  -- what the two runs come to is the answer on the two images
   pub answers : (premise : Bool) (differ : Differ) (last : Machine) (retired cycles : ℕ) → last ≡ at d (word_at first.code) one.entry one.ram n
       → IsTrue premise ↔ StartsAgree d.stt_model same_code (word_at path.code) one two steps
       → Differs (trace_from first.desc (word_at first.code) n first.machine) (trace_from second.desc (word_at second.code) n second.machine) differ
