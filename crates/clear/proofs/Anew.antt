@@ -34,7 +34,7 @@ module _ (v : Described) (serial : ℕ) (a : passing v.desc ≡ true) (f : Some 
   rises : Rise v.machine.window
   rises = rose v.desc v.machine serial it (subst Rise window_is rising)
 
-  -- it stands where its serial says
+  -- the violated load stands where its serial says, once the store is cleared
   here : slice_get seen.machine.window i ≡ Some one.place.entry
   here =
       ap (slice_get seen.machine.window) at
