@@ -44,7 +44,7 @@ rs1 w = reg_at w 15
 abbrev pub rs2 : ℕ → Reg
 rs2 w = reg_at w 20
 
--- the forms of instructions
+-- the instruction of an operation and a word, by the form of the word
 abbrev pub branch : Op → ℕ → Instr
 branch op w = Branch op (rs1 w) (rs2 w) (imm_b w)
 

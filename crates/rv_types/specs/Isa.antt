@@ -121,9 +121,9 @@ call s =
     else if not (a0 == 1 || a0 == 2) then Goes (answers s (minus 9)) []
     else write_of s (reg s.regs 11) (min (reg s.regs 12) 1024)
 
--- ---- One step
+-- ---- One step of the instruction set
 
--- the step, but for this fault
+-- the step, unless there is this fault
 abbrev pub or_trap : Option Cause → Step → Step
 or_trap None step = step
 or_trap (Some cause) step = Traps cause
@@ -156,7 +156,7 @@ step_at (Some w) s = step_of s (decode w)
 unfoldable pub isa_step : Code → Hart → Step
 isa_step code s = step_at (code s.pc) s
 
--- ---- Whole runs
+-- ---- Whole runs of the instruction set
 
 -- what a run comes to: the last state, the pieces that are not empty, the steps taken (an exit counts, a trap doesn't)
 -- and the end, if it ended

@@ -20,14 +20,14 @@ impl Cause {
         Cause { number: 1 }
     }
 
-    /// 2: an illegal instruction.
+    /// Cause 2: an illegal instruction, or a word that is none.
     pub fn illegal() -> Cause
         ensures { result ≡ illegal }
     {
         Cause { number: 2 }
     }
 
-    /// 3: an EBREAK.
+    /// Cause 3: an EBREAK was executed.
     pub fn breakpoint() -> Cause
         ensures { result ≡ breakpoint }
     {
