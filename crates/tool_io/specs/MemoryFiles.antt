@@ -25,7 +25,7 @@ abbrev pub count_at : List ℕ → ℕ → Option ℕ → ℕ
 count_at counts others None = others
 count_at counts others (Some i) = slice_index counts i
 
--- what these files tell
+-- what the files in memory tell
 abbrev pub shelf_of : FilesState → Shelf
 shelf_of s = record {
   content = λ name. option_map (λ f. f.bytes) (option_and_then (λ i. slice_get s.files i) (place_of name s.files));
