@@ -17,7 +17,7 @@ one_more file new whole n i s lt e h =
     ∙ ap (λ j. file ++ bytes_of (blocks_from j s)) (sym k)
     ∙ h
 
--- none is left
+-- the file is whole once no block is left to add
 pub all_there : (file whole : List ℕ) (n i s : ℕ) → n ≤ i → file ++ bytes_of (blocks_from (n - i) s) ≡ whole → file ≡ whole
 all_there file whole n i s le h =
     let k : n - i ≡ 0 = omega arith in
