@@ -32,6 +32,6 @@ by_none : (d : Desc) (x : Machine) (pc : ℕ) (w : Option ℕ) → None ≡ opti
 by_none d x pc None e = refl
 by_none d x pc (Some w) e = absurd (cc)
 
--- where there is none
+-- where there is no instruction, the item traps
 pub nothing_there : (d : Desc) (code : Code) (x : Machine) (pc : ℕ) → None ≡ option_map decode (code pc) → item_by d x pc None ≡ item_at d code x pc
 nothing_there d code x pc e = by_none d x pc (code pc) e
