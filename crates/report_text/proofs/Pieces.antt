@@ -10,7 +10,7 @@ unfolding piece_lines
 piece_lines_more [] ps = refl
 piece_lines_more (b ∷ bs) ps = refl
 
--- no piece, no line
+-- where there is no piece there is no line
 pub piece_lines_none : piece_lines [] ≡ []
 unfolding piece_lines
 piece_lines_none = refl
