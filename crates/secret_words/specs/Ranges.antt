@@ -33,7 +33,7 @@ range_of t =
     option_and_then (λ cut. option_and_then (λ addr. option_map (λ bytes. record { addr = addr; bytes = bytes }) (bytes_of (drop (cut + 1) t)))
     (address_of (take cut t))) (position is_colon t)
 
--- each of these texts is a range
+-- the ranges of these texts, where every one of them is a range
 unfoldable pub ranges_of : List Text → Option (List SecretRange)
 ranges_of [] = Some []
 ranges_of (t ∷ ts) = option_and_then (λ range. option_map (λ ranges. range ∷ ranges) (ranges_of ts)) (range_of t)
