@@ -35,7 +35,7 @@ module _ (point i : ℕ) (es : List Entry) (roots : List (List (Option ℕ))) (e
 
 -- ---- between entries that aren't settled
 
--- what is settled is no branch or JALR that isn't resolved
+-- an entry that is settled is no branch or JALR that isn't resolved
 is_closed : (k : Kind) (resolved cleared : Bool) → not (settled_as k resolved cleared) ≡ false → (is_control k && not resolved) ≡ false
 is_closed Branch r c h = h
 is_closed Jalr r c h = h
@@ -77,6 +77,6 @@ module _ (point : ℕ) (es : List Entry) (roots : List (List (Option ℕ))) (r :
   nothing_left i [] roots = refl
   nothing_left i (e ∷ es) roots = nothing_left i es roots
 
-  -- where there is none, nothing is found
+  -- where no entry is left that isn't settled, nothing is found
   pub pick_end : (i : ℕ) → i ≤ length es → HoldsNowhere (holds_at is_open es) i (length es) → Left i → None ≡ r
   pick_end i le none h = sym (nothing_left (length es) es (drop (length es) roots)) ∙ to_end is_open es Left past i le none h

@@ -52,7 +52,7 @@ module _ (v : Described) (serial : ℕ) (a : passing v.desc ≡ true) (f : Some 
     pub load_named : e.serial ≡ load
     load_named = ap (λ (e : Entry). e.serial) (sym same) ∙ one.named
 
-    -- with it all that is younger goes
+    -- the violated load goes, and with it all that is younger
     whole : clear v.desc v.machine ≡ record { machine = anew v.desc e (with_cleared v.desc v.machine); events = event.Clr serial ∷ anew_events v.desc e (with_cleared v.desc v.machine) }
     whole =
         anew_is v.desc v.machine serial a it rises one.place one.is

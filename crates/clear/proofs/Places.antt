@@ -28,7 +28,7 @@ get_seam (x ∷ xs) ys y = get_seam xs ys y
 stands_at : (t : List Entry → Entry → Bool) (w : List Entry) (p : Place) → first t w ≡ Some p → w ≡ reverse p.before ++ p.entry ∷ p.younger
 stands_at t w p h = let f = found t [] w p h in f.all ∙ ap (λ o. o ++ p.entry ∷ p.younger) (sym (older_is t w p f))
 
--- what is younger has a greater serial
+-- a younger entry has a greater serial
 pub above : (older : List Entry) (e : Entry) (younger : List Entry) → Rise (older ++ e ∷ younger) → All (λ d. e.serial < d.serial) younger
 above [] e younger rise = rise_head e younger rise
 above (x ∷ older) e younger rise = above older e younger (rise_tail x (older ++ e ∷ younger) rise)
@@ -132,7 +132,7 @@ module _ (d : Desc) (x : Machine) (serial : ℕ) (k : Store d x serial) (rises :
         all_seam (λ d. k.place.entry.serial < d.serial) (reverse q.before) q.entry q.younger
         (subst (All (λ d. k.place.entry.serial < d.serial)) younger_is (above (reverse k.place.before) k.place.entry k.place.younger rises_here))
 
-    -- what is older than it, once the store is cleared
+    -- the entries older than the violated load, once the store is cleared
     abbrev pub front : List Entry
     front = reverse k.place.before ++ cleared_one k.place.entry ∷ reverse q.before
 

@@ -24,7 +24,7 @@ use Rattle.clear.proofs.Effects.{none_is}
 
 -- ---- the walk over the stores
 
--- what is left at a place
+-- what is told of a place is told of the store there
 pub at_place : (stores : List Store) (i : ℕ) (info : StoreInfo) → option_map info_of (slice_get stores i) ≡ Some info →
     (s : Store) × (slice_get stores i ≡ Some s) × (info ≡ info_of s)
 at_place [] i info h = absurd (cc)
@@ -48,7 +48,7 @@ passed point (s ∷ stores) (suc i) info h n =
     let next : suc i + 1 ≡ suc (i + 1) = omega arith in
     ap (λ k. find (can_clear point) (drop k (s ∷ stores))) next ∙ passed point stores i info h n
 
--- one that may is found
+-- a store that may be cleared is found at its place
 pub is_found : (point : ℕ) (stores : List Store) (i : ℕ) (info : StoreInfo) → option_map info_of (slice_get stores i) ≡ Some info → may_clear_by point info ≡ true →
     Some info.serial ≡ option_map (λ s. s.serial) (find (can_clear point) (drop i stores))
 is_found point [] i info h n = absurd (cc)

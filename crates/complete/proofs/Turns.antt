@@ -83,14 +83,14 @@ pub record CompletesOn (s : Described) (row : Row) (i : ℕ) (now : Described) (
   pub same_cycle : row_now.cycle ≡ row.cycle
   pub few : length row_now.events ≤ length row.events + i
 
--- one entry of the window
+-- the window once one entry more is completed
 entries_more : (cycle : ℕ) (es now : List Entry) (i : ℕ) (e : Entry) (b : Bool) → now ≡ map (completed cycle) (take i es) ++ drop i es → slice_get es i ≡ Some e → completes cycle e ≡ b →
     (if b then slice_set now i (done e) else now) ≡ map (completed cycle) (take (suc i) es) ++ drop (suc i) es
 entries_more cycle es now i e true n h c =
     ap₂ (λ ys y. slice_set ys i y) n (sym (ap (λ b. if b then done e else e) c)) ∙ map_set (completed cycle) es i e h
 entries_more cycle es now i e false n h c = n ∙ map_stays (completed cycle) es i e h (ap (λ b. if b then done e else e) c)
 
--- what is told of the entry at a position
+-- a test that is told of the entry at a position is told of that entry
 told_of : (p : Entry → Bool) (o : Option Entry) (e : Entry) (b : Bool) → option_map p o ≡ Some b → o ≡ Some e → b ≡ p e
 told_of p o e b h g = let k : Some b ≡ Some (p e) = sym h ∙ ap (option_map p) g in cc
 
@@ -170,7 +170,7 @@ module _ (s : Described) (row : Row) (i : ℕ) (now : Described) (row_now : Row)
   past_idle : (e : Entry) → slice_get now.machine.window i ≡ Some e → is_busy e ≡ false → CompletesOn s row (i + 1) now row_now
   past_idle e at idle = completes_past (ap (option_map (completes now.machine.cycle)) at ∙ ap Some (not_due now.machine.cycle e.state idle))
 
-  -- there are as many entries as there were
+  -- the phase leaves as many entries as there were
   pub as_many : length now.machine.window ≡ length s.machine.window
   as_many =
       let a = ap length entries_are in

@@ -23,11 +23,11 @@ by_parts : (a b : Bool) → a && b ≡ true → a ≡ true
 by_parts true b m = refl
 by_parts false b m = m
 
--- one that may leave is Done
+-- an entry that may leave is Done
 leaves_done : (e : Entry) → may_leave e ≡ true → is_done e.state ≡ true
 leaves_done e m = by_parts (is_done e.state) (not (is_control e.item.kind) || e.resolved) m
 
--- one that is Done and visible gives its value
+-- an entry that is Done and visible gives its value
 gives_visible : (h : Hold) (e : Entry) → nat_le e.serial h.point ≡ true → is_done e.state ≡ true → gives_at h e ≡ true
 gives_visible h e v d = ap₂ (λ visible done. not (h.holds && is_load e.item.kind && not visible) && done) v d ∙ by_two h.holds (is_load e.item.kind)
   where

@@ -104,7 +104,7 @@ map_set [] i e e2 h q = absurd (cc)
 map_set (x ∷ w) zero e e2 h q = let same : x ≡ e = cc in ap (λ s. s ∷ map seen w) (q ∙ ap seen (sym same))
 map_set (x ∷ w) (suc i) e e2 h q = ap (λ ss. seen x ∷ ss) (map_set w i e e2 h q)
 
--- what is noted of a store leaves its root
+-- what is noted of where a store writes, and below of its data, leaves the roots of addresses as they are
 addresses_by_span : (noted : Bool) (p : Parts) (stores : List Queued) (w : Width) (e : Entry) → AddressesStand p.window p.roots stores → AddressesStand p.window p.roots (with_span noted w e stores)
 addresses_by_span false p stores w e a = a
 addresses_by_span true p stores w e a = addresses_know p stores (addressed_at e.serial (span_in w e)) (λ s. by_test (s.serial == e.serial) s) a
@@ -138,7 +138,7 @@ addresses_cleared p stores serial a = addresses_know p stores (cleared_at serial
     by_test true s = refl
     by_test false s = refl
 
--- what is noted of a load is noted where that is asked for
+-- the queues track the window once an entry has issued, where they are asked to
 tracks_issued : (b : Bool) (q : Queues) (window : List Entry) (i : ℕ) (e e2 : Entry) (w : Width) → b ≡ true → Tracks q window → slice_get window i ≡ Some e → Rise window → GoesOn e e2 →
     TracksOn w e e2 → Tracks (noted_load b w e2 (noted w e2 q)) (slice_set window i e2)
 tracks_issued b q window i e e2 w t k h r g on =

@@ -33,7 +33,7 @@ hidden_behind p h n es r few q w o =
     let above = above_of h es n r w o in
     λ k d within. (let l = not_last k d within in let m = above k d within in omega (arith, l, m, q))
 
--- behind one that isn't visible none is
+-- behind an entry that isn't visible no entry is
 pub hidden_from : (p : ℕ) (es : List Entry) (i : ℕ) (e : Entry) → Rise es → slice_get es i ≡ Some e → nat_le e.serial p ≡ false → Hidden p (drop i es)
 hidden_from p [] i e r h v = absurd (cc)
 hidden_from p (x ∷ es) zero e r h v =
@@ -80,7 +80,7 @@ given_then p (x ∷ es) zero e b h g =
     shown false = refl
 given_then p (x ∷ es) (suc i) e b h g = given_then p es i e b h g
 
--- the one at a position, and those behind it
+-- the serials that are given from a position on: that of the entry there, if its value is given, and those behind it
 given_next : (p : ℕ) (es : List Entry) (i : ℕ) (e : Entry) (b : Bool) → slice_get es i ≡ Some e → is_given p e ≡ b → given_from i p es ≡ cond b (e.serial ∷ given_from (i + 1) p es) (given_from (i + 1) p es)
 given_next p es i e b h g =
     let n : suc i ≡ i + 1 = omega arith in
@@ -99,7 +99,7 @@ woken_from i p es s = record s { held = struck_each (given_from i p es) s.held }
 pub none_woken : (i p : ℕ) (es : List Entry) (s : Stations) → given_from i p es ≡ [] → s ≡ woken_from i p es s
 none_woken i p es s h = ap (λ serials. record s { held = struck_each serials s.held }) (sym h)
 
--- the one at a position first
+-- the stations are told of the entry at a position first, and then of those behind it
 pub wakes_next : (i p : ℕ) (es : List Entry) (s t : Stations) (e : Entry) → slice_get es i ≡ Some e → nat_le e.serial p ≡ true →
     t ≡ record s { held = if is_load e.item.kind && is_done e.state then map (struck e.serial) s.held else s.held } → woken_from (i + 1) p es t ≡ woken_from i p es s
 wakes_next i p es s t e h v q = ap (woken_from (i + 1) p es) q ∙ by_test (is_load e.item.kind && is_done e.state) refl
@@ -131,7 +131,7 @@ gave h d n p p2 l k =
     both false true = refl
     both false false = refl
 
--- one that wasn't gives it where it is given
+-- an entry that wasn't visible gives its value by the move where it is a load that is Done and is now visible
 gets : (h d : Bool) (n p p2 : ℕ) → p < n → (not (not (true && h && not (nat_le n p)) && d) && (not (true && h && not (nat_le n p2)) && d)) ≡ (h && d && nat_le n p2)
 gets h d n p p2 l =
     let a : nat_le n p ≡ false = grind (arith, nat_tests) in

@@ -82,7 +82,7 @@ machine_of h = record {
 abbrev pub described : Held → Described
 described h = record { desc = h.desc; code = h.code; machine = machine_of h; point = h.point }
 
--- what they hold of the entries in flight
+-- what the parts hold of the entries in flight
 abbrev pub in_flight : Held → InFlight
 in_flight h = record {
   version = h.desc.version;

@@ -19,11 +19,11 @@ none_below f i n h l = sym (get_or-map-range_with_len f 0 n i i None l (omega ar
 pub range_step : (i n : ℕ) → i < n → range_with_len i (n - i) ≡ i ∷ range_with_len (i + 1) (n - (i + 1))
 range_step i n l = let e : n - i ≡ suc (n - (i + 1)) = omega arith in ap (range_with_len i) e
 
--- past the last there are none
+-- past the last number there are no numbers left
 pub range_end : (i n : ℕ) → n ≤ i → range_with_len i (n - i) ≡ []
 range_end i n l = let e : n - i ≡ 0 = omega arith in ap (range_with_len i) e
 
--- one more that isn't there
+-- the first value along the numbers from i on is that from the next on, where i has none
 pub first_skip : {T : Type 0} (f : ℕ → Option T) (i n : ℕ) (all : Option T) → i < n → f i ≡ None
     → first_some (map f (range_with_len i (n - i))) ≡ all → first_some (map f (range_with_len (i + 1) (n - (i + 1)))) ≡ all
 first_skip {T} f i n all l e h =

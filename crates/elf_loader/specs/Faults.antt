@@ -6,7 +6,7 @@ use Rattle.elf_loader.specs.declared.faults.ElfFault.{ElfFault}
 use Rattle.elf_loader.specs.declared.faults.ElfFault.TheVariants as fault
 use Rattle.elf_loader.specs.Fields.{has_magic, header_of, count_of, program_header, is_load}
 
--- the first of these that is there
+-- the first of several options that is there
 abbrev pub first_some : {T : Type 0} → List (Option T) → Option T
 first_some [] = None
 first_some (None ∷ rest) = first_some rest

@@ -24,7 +24,7 @@ by_word : (d : Desc) (x : Machine) (pc : ℕ) (i : Instr) (w : Option ℕ) → S
 by_word d x pc i None e = absurd (cc)
 by_word d x pc i (Some w) e = ap (item_of d x pc) (some_is w i e)
 
--- where there is an instruction
+-- where there is an instruction at the address, the item is its own
 pub item_there : (d : Desc) (code : Code) (x : Machine) (pc : ℕ) (i : Instr) → Some i ≡ option_map decode (code pc) → item_of d x pc i ≡ item_at d code x pc
 item_there d code x pc i e = by_word d x pc i (code pc) e
 

@@ -34,7 +34,7 @@ comes_alike model e r (Begins cycle due o q) w u = subst (Alike model e) (sym q)
 
 -- ---- a store whose parts go isn't Done, before or after
 
--- one that lacks a part waits
+-- a store that lacks a part waits
 pub lacks_address : (a b w : Bool) → (a && b) ≡ not w → a ≡ false → w ≡ true
 lacks_address false b true h q = refl
 lacks_address false b false h q = absurd (cc)

@@ -60,7 +60,7 @@ module _ (d : Desc) (now : Around) (before : List Entry) (e : Entry) where
   pub asks_own : is_store e.item.kind ≡ false → may_at d now (port_for e.item.kind) before e ≡ may_issue d now before e
   asks_own s = own_as e.item.kind (part_may (port_for e.item.kind) d before e) (may_issue d now before e) s
 
-  -- one that is granted its own may issue
+  -- an entry that is granted the port of its kind may issue
   pub granted_may : is_store e.item.kind ≡ false → is_granted d now (port_for e.item.kind) before e ≡ true → may_issue d now before e ≡ true
   granted_may s g = sym (asks_own s) ∙ (both (may_at d now (port_for e.item.kind) before e) _ g).0
 
@@ -75,7 +75,7 @@ module _ (d : Desc) (now : Around) (before : List Entry) (e : Entry) where
   pub part_asks : (port : Port) → is_store e.item.kind ≡ true → may_at d now port before e ≡ part_may port d before e
   part_asks port s = ap (λ t. if t then part_may port d before e else may_issue d now before e && same_port (port_of e.item.kind) port) s
 
-  -- one that is granted its port hasn't issued
+  -- a store whose address part is granted its port has issued no address
   pub fresh_address : is_store e.item.kind ≡ true → is_granted d now AddressPort before e ≡ true → has_address e ≡ false
   fresh_address s g = lacks (has_address e) (both (not (has_address e)) _ (sym (part_asks AddressPort s) ∙ (both (may_at d now AddressPort before e) _ g).0)).0
     where
@@ -141,7 +141,7 @@ module _ (d : Desc) (now : Around) (before : List Entry) (e : Entry) where
       store_none s (address_waits (ready_in true (base_of (sources e)) false q none)) (data_waits (ready_in true (others_of (sources e)) false q none))
   by_wants true false s q w h = parts_none (has_address e) (has_data e) q s refl refl h
 
-  -- one that waits, and lacks what it wants
+  -- an entry that waits and lacks what it wants asks for no port
   pub not_able : is_waiting e.state ≡ true → has_sources (wants_of d.version e) d before e ≡ false → AsksNone d now before e
   not_able w h = by_wants (is_store e.item.kind) (d.version == 1) refl refl w h
 
@@ -153,7 +153,7 @@ grants_none d now port before e h = ap (λ m. m && nat_lt (asking d now port bef
 
 -- ---- what is there where an entry is able
 
--- one in one piece has all its sources
+-- an entry that issues in one piece has all its sources where it has what it wants
 pub whole_ready : (d : Desc) (before : List Entry) (e : Entry) → is_store e.item.kind ≡ false → has_sources (wants_of d.version e) d before e ≡ true → ready d before e ≡ true
 whole_ready d before e s h = sym (ap (λ s. has_sources (if s && not (d.version == 1) then wants_by (has_address e) (has_data e) else wants.Whole) d before e) s) ∙ h
 
@@ -186,7 +186,7 @@ pub part_may_by : (part : Part) (d : Desc) (before : List Entry) (e : Entry) (r 
 part_may_by part.Base d before e r f h = ap₂ (λ a r. not a && r) f h
 part_may_by part.Other d before e r f h = ap₂ (λ a r. not a && r) f h
 
--- one that has issued may not
+-- a part of a store that has issued may not issue again
 pub part_gone : (part : Part) (d : Desc) (before : List Entry) (e : Entry) → has_issued part e ≡ true → part_may (part_port part) d before e ≡ false
 part_gone part.Base d before e h = ap (λ a. not a && ready_part d (base_of (sources e)) before e) h
 part_gone part.Other d before e h = ap (λ a. not a && ready_part d (others_of (sources e)) before e) h

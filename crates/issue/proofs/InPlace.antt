@@ -78,7 +78,7 @@ still_put window put m e lt k = record {
   tracks = k.tracks;
 }
 
--- the others are still to be put in their places, whatever comes in the youngest one's
+-- the older entries are still to be put in their places, whatever comes in the youngest one's
 still_left : (window : List Entry) (puts : List Put) (put : Put) (e : Entry) → ArePuts window (puts ++ put ∷ []) → ArePuts (slice_set window put.position e) puts
 still_left window puts put e a =
     let each = all_left (IsPut window) puts (put ∷ []) a.each_put in
@@ -115,7 +115,7 @@ same_room_known passes q e = room_by (passes && has_read e) (map (issued_at e.se
 
 -- ---- the loop over the puts
 
--- with those that are left these parts come to what the first ones come to with all
+-- the entries of the puts that are left, put into these parts, come to what all puts come to in the first parts
 pub record PlacesOn (d : Desc) (puts : List Put) (rob : Ring) (stations : Stations) (queues : Queues) (left : List Put) (r : Ring) (s : Stations) (q : Queues) : Type 0 where
   pub whole : placed left r.entries ≡ placed puts rob.entries
   pub rest : ArePuts r.entries left
@@ -175,7 +175,7 @@ module _ (d : Desc) (puts : List Put) (rob : Ring) (stations : Stations) (queues
       unresolved : All (λ e. is_waiting e.state ≡ true → e.resolved ≡ false) r.entries → here.old.resolved ≡ false
       unresolved all = all_at (λ e. is_waiting e.state ≡ true → e.resolved ≡ false) r.entries put.position here.old all here.here here.waits
 
-  -- what it then is, and the window with it
+  -- the entry once it has issued, and below the window with it
   abbrev new : Entry
   new = with_issued put.issued here.old
 

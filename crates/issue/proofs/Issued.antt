@@ -72,7 +72,7 @@ standing h w = (in_flight h, w.stands)
 abbrev pub now_with : Held → Divider → Around
 now_with h v = record { cycle = h.cycle; regs = h.regs; ram = h.ram; dependence = h.dependence; cache = h.tags.sets; second = h.second.sets; misses = h.mshrs.misses; free_from = v.free_from }
 
--- what is decided for what is seen is decided for the machine
+-- what is decided for the state that the phase looks at is decided for the machine
 pub decides : (h : Held) (v : Divider) (cycle : ℕ) (begun : Ports) (new : Divider) (decided : Decided) → Whole h → v ≡ h.ports.divider →
     begun ≡ begun_at cycle h.ports → Decides h.desc (now_with h v) h.rob.entries decided begun.divider new →
     Decides h.desc (around (machine_of h)) h.rob.entries decided h.ports.divider new

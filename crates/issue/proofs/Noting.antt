@@ -17,7 +17,7 @@ puts_by_events : (i station : ℕ) (e : Entry) (events : List Event) → length 
 puts_by_events i station e [] = omega arith
 puts_by_events i station e (v ∷ events) = omega arith
 
--- no more puts than events
+-- an entry has no more puts than events
 pub few_puts : (i station : ℕ) (b : Begun) → length (puts_of i station b) ≤ length b.events
 few_puts i station b = puts_by_events i station b.entry b.events
 

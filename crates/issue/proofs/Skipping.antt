@@ -53,7 +53,7 @@ one_unable held k unable j low high =
     let same : k ≡ j = omega (arith, low, high) in
     subst (λ j. option_map is_able (slice_get held j) ≡ Some false) same unable
 
--- stations of whose range the word of flags has no bit set are not able
+-- where a word of flags has no bit set, no station from there on is able
 pub unable_by : (held : List Station) (from k : ℕ) → MarksAble held from 0 → from ≤ k → k < length held → option_map is_able (slice_get held k) ≡ Some false
 unable_by held from k m low lt =
     let t = slice_get-some held k lt in

@@ -20,7 +20,7 @@ use Rattle.issue.specs.Shared.{divider_left}
 pub one_more : {X : Type 0} (xs : List X) (i : ℕ) (x : X) → slice_get xs i ≡ Some x → take (i + 1) xs ≡ take i xs ++ x ∷ []
 one_more xs i x h = take_more xs i x (slice_get_within xs i x h) ∙ ap (λ x. take i xs ++ x ∷ []) (get_or_from_slice_get xs i x x h)
 
--- the first of these, else the second
+-- the first of two options, else the second
 abbrev or_else : {A : Type 0} → Option A → Option A → Option A
 or_else None b = b
 or_else (Some a) b = Some a
@@ -85,7 +85,7 @@ value_more true (Some a) v = refl
 value_more false None v = refl
 value_more false (Some a) v = refl
 
--- what is kept of the one entry that is granted the port is of the first that asks for it
+-- what is kept of the entry that is granted the one port is what the first that asks for it makes
 pub slot_more : {A : Type 0} (f : List Entry → Entry → A) (d : Desc) (now : Around) (port : Port) (window : List Entry) (i : ℕ) (e : Entry) (old new : Option A) → slice_get window i ≡ Some e → ports d port ≡ 1 →
     new ≡ (if is_granted d now port (before_at window i) e then Some (f (before_at window i) e) else old) →
     old ≡ of_first (may_at d now port) f (take i window) → new ≡ of_first (may_at d now port) f (take (i + 1) window)
@@ -96,7 +96,7 @@ slot_more f d now port window i e old new h one n o =
     let g : is_granted d now port before e ≡ (t && is_none old) = ap (λ n. t && nat_lt (asking d now port before) n) one ∙ ap (λ b. t && b) none in
     n ∙ ap (λ b. if b then Some (f before e) else old) g ∙ value_more t old (f before e) ∙ ap (λ o. or_else o (if t then Some (f before e) else None)) o ∙ sym (first_more (may_at d now port) f window i e h)
 
--- what is kept of the divider, taken by this division or not, is what the option of a division leaves of it
+-- the divider that is kept, whether this division takes it or not, is what the first division leaves of it
 left_by : (b : Bool) (v : Divider) (o : Option Divider) (start : Divider) → (if b then v else divider_left o start) ≡ divider_left (if b then Some v else o) start
 left_by true v o start = refl
 left_by false v o start = refl

@@ -36,7 +36,7 @@ pub record WalksAll (s : Seen) (first ports : Ports) (decided : Decided) (start 
   pub few : IsLonger most_issued start last
 
 module _ (s : Seen) (first ports : Ports) (decided : Decided) (start row : Row) (stands : Stands s) where
-  -- past those that may not issue
+  -- the walk goes past the stations of entries that may not issue
   pub walks_past : (from k : ℕ) → from ≤ k → k ≤ length s.stations.now.held → ((j : ℕ) → from ≤ j → j < k → option_map is_able (slice_get s.stations.now.held j) ≡ Some false) →
       Walks s first ports decided start row from → Walks s first ports decided start row k
   walks_past from k le within unable t = record {
@@ -47,7 +47,7 @@ module _ (s : Seen) (first ports : Ports) (decided : Decided) (start row : Row) 
     cycle = t.cycle;
   }
 
-  -- past all that are left
+  -- the walk goes past all stations that are left, and all is decided
   pub walks_out : (k : ℕ) → k ≡ length s.stations.now.held → Walks s first ports decided start row k → WalksAll s first ports decided start row
   walks_out k end t =
       let room = t.room in

@@ -45,7 +45,7 @@ turn_by Div b d now before e s h = ap (λ b. if b then begin_as Div d now before
 turn_by Load b d now before e s h = ap (λ b. if b then begin_as Load d now before e else waits e) h
 turn_by k b d now before e s h = ap (λ b. if b then begin_as k d now before e else waits e) h
 
--- one that is served does what its kind does, one that is granted no port waits on
+-- an entry that is served does what its kind does, and one that is granted no port waits on
 pub turn_is : (b : Bool) (d : Desc) (now : Around) (before : List Entry) (e : Entry) → is_store e.item.kind ≡ false → is_granted d now (port_for e.item.kind) before e ≡ b →
     issue_entry d now before e ≡ (if b then begin_entry d now before e else waits e)
 turn_is b d now before e s h = turn_by e.item.kind b d now before e s h
@@ -65,7 +65,7 @@ store_turn a c d now before e s p q =
     ap (λ s. if s then issue_parts d now before e else (if is_granted d now (port_of e.item.kind) before e then begin_as e.item.kind d now before e else waits e)) s
     ∙ ap₂ (λ a c. parts_as a c d now before e) p q
 
--- one that asks for no port waits on
+-- an entry that asks for no port waits on
 pub turn_none : (d : Desc) (now : Around) (before : List Entry) (e : Entry) → AsksNone d now before e → issue_entry d now before e ≡ waits e
 turn_none d now before e n = by_store (is_store e.item.kind) refl
   where
@@ -130,7 +130,7 @@ begin_turns : (k : Kind) (d : Desc) (now : Around) (before : List Entry) (e : En
 begin_turns Load d now before e s w = load_turns d now before e _ _ s w
 begin_turns _ d now before e s w = one_event now e _ _ _ s w
 
--- an address that wasn't known before the part issued is known from the same cycle on as before: the case doesn't arise
+-- the address part that issues leaves the cycle from which on an address is known that was known before: there was none
 same_address : (e : Entry) (due : Option ℕ) → has_address e ≡ false → has_address e ≡ true → due ≡ e.addr_due
 same_address e due none some = absurd (cc)
 
@@ -236,7 +236,7 @@ begin_few : (k : Kind) (d : Desc) (now : Around) (before : List Entry) (e : Entr
 begin_few Load d now before e = load_few d now before e _ _
 begin_few _ d now before e = omega arith
 
--- one in one piece has at most those of its kind
+-- an entry in one piece has at most the events of its kind
 pub few_events : (d : Desc) (now : Around) (before : List Entry) (e : Entry) → length (begin_entry d now before e).events ≤ most_events_of e.item.kind
 few_events d now before e = begin_few e.item.kind d now before e
 

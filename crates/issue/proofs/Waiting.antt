@@ -49,7 +49,7 @@ no_younger window i m e h w le q = by_test (nat_le i m) refl
 
 -- ---- the entry of a station
 
--- at this position an entry waits, with so many before it
+-- at this position of the window an entry waits, with so many before it that wait
 pub record WaitsAt (window : List Entry) (k i : ℕ) : Type 0 where
   pub entry : Entry
   pub is : slice_get window i ≡ Some entry

@@ -95,7 +95,7 @@ module _ (s : Seen) (i : ℕ) (e : Entry) (stands : Stands s) (h : StandsAt s i 
       m ∙ ap (λ es. es ++ turn.events) k ∙ append_assoc earlier (flat_map (λ b. b.events) (turns i)) turn.events
       ∙ ap (λ es. earlier ++ es) (sym (ap (flat_map (λ b. b.events)) turns_more ∙ events_push (turns i) turn))
 
-  -- one entry more has had its turn
+  -- the decision goes on over an entry that has had its turn
   pub decided_more : (station : ℕ) (puts new_puts : List Put) (load new_load : Option Access) (start divider new_divider : Divider) (earlier events more : List Event) → station ≡ station_of i (window_of s) →
       new_puts ≡ puts ++ puts_of i station turn → more ≡ events ++ turn.events →
       new_load ≡ (if is_granted d now LoadPort before e then Some (access_of d now before e) else load) →
@@ -110,7 +110,7 @@ module _ (s : Seen) (i : ℕ) (e : Entry) (stands : Stands s) (h : StandsAt s i 
         divider_is = divider_more d now (window_of s) i e start divider new_divider h v t.divider_is;
       }
 
-  -- one that asks for no port leaves all as it is
+  -- the decision goes on as it is over an entry that asks for no port
   pub decided_past : (puts : List Put) (load : Option Access) (start divider : Divider) (earlier events : List Event) → AsksNone d now before e →
       DecidedTo s i puts load start divider earlier events → DecidedTo s (i + 1) puts load start divider earlier events
   decided_past puts load start divider earlier events m t =
@@ -135,7 +135,7 @@ pub record Walked (s : Seen) (ports : Ports) (puts : List Put) (load : Option Ac
   pub left : LeftAfter s.desc.now (around_of s) (before_at (window_of s) i) ports
 
 module _ (s : Seen) (ports : Ports) (puts : List Put) (load : Option Access) (start : Divider) (earlier events : List Event) (stands : Stands s) where
-  -- one that asks for no port leaves all as it is
+  -- the walk goes on as it is over an entry that asks for no port
   pub walked_past : (i : ℕ) (e : Entry) (h : StandsAt s i e) → AsksNone s.desc.now (around_of s) (before_at (window_of s) i) e →
       Walked s ports puts load start earlier events i → Walked s ports puts load start earlier events (i + 1)
   walked_past i e h m t = record { decided = decided_past s i e stands h puts load start ports.divider earlier events m t.decided; left = left_past s i e stands h ports m t.left }

@@ -105,7 +105,7 @@ impl<'a> Seen<'a> {
         self.look_up(lines.behind(self.desc) as u32).request()
     }
 
-    // Where there are too few registers for the lines, none is looked up.
+    // The lines are looked up, unless there are too few registers for them: then the load waits.
     fn unless_lacking(&self, lines: Lines) -> Access
         requires stands { Stands self.now }
         ensures { as_access result ≡ unless_lacking self.now.desc.now (around_of self.now) (as_lines lines) }

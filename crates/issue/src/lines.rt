@@ -126,7 +126,7 @@ impl Lines {
         }
     }
 
-    /// The upper one, if it takes a miss register.
+    /// The upper line, if it takes a miss register.
     pub(crate) fn upper_request(&self) -> Option<Request>
         ensures { option_to_list (option_map as_request result)
             ≡ flat_map request_by (option_to_list (option_map as_line self.now.upper)) }

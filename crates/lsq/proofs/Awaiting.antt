@@ -36,7 +36,7 @@ root_if : (b : Bool) (s : Store) (ss : List Store) → youngest_root (cond (not 
 root_if true s ss = refl
 root_if false s ss = refl
 
--- one more store is passed
+-- what a load awaits of stores with a younger one in front
 pub one_more : (bytes : List ℕ) (s : Store) (ss : List Store) → awaited bytes (s ∷ ss) ≡ awaits_too bytes s (awaited bytes ss)
 one_more bytes s ss =
     ap (λ r. record { address = lacks_address s || list_any lacks_address ss; overlap = lacks_data_for bytes s || list_any (lacks_data_for bytes) ss; root = r })

@@ -21,7 +21,7 @@ bytes_asked fault a n = unless_fault fault (range a n)
 abbrev pub lacks_address : Store → Bool
 lacks_address s = not (is_some s.span)
 
--- where it is known, what is written there reaches an address
+-- what a store writes reaches an address, where it is known
 abbrev pub reaches_span : ℕ → Option Span → Bool
 reaches_span a None = false
 reaches_span a (Some k) = reaches a k
@@ -48,7 +48,7 @@ awaits_too bytes s p = record {
   root = if is_some s.stored then p.root else later s.root p.root;
 }
 
--- what is written here reaches one of the bytes of a width
+-- what a store writes reaches one of the bytes of a width
 abbrev pub reaches_one : Width → ℕ → Span → Bool
 reaches_one B a k = reaches a k
 reaches_one H a k = reaches a k || reaches (a + 1) k

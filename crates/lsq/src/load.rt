@@ -20,7 +20,7 @@ pub struct Access {
 pub struct Load {
     /// The load's number in the order of renaming.
     pub serial: u64,
-    /// What it reads, once that is noted as it issues.
+    /// What the load reads, once that is noted as it issues.
     pub access: Option<Access>,
 }
 

@@ -50,6 +50,7 @@ fn byte_in(width: Width, number: u32, place: u64) -> u8
     match (width, place) {
         (_, 0) => (number % 256) as u8,
         (Width::H | Width::W, 1) => (number / 256 % 256) as u8,
+        // Divided byte by byte, as the definition takes a number apart.
         (Width::W, 2) => (number / 256 / 256 % 256) as u8,
         (Width::W, 3) => (number / 256 / 256 / 256 % 256) as u8,
         _ => 0,
@@ -125,6 +126,7 @@ impl Gathered {
             Width::H => first + 256 * byte_or_memory(self.second, ram, addr + 1) as u32,
             Width::W => {
                 let second = byte_or_memory(self.second, ram, addr + 1) as u32;
+                // Counted on by ones, as the definition's list of addresses is.
                 let third = byte_or_memory(self.third, ram, addr + 1 + 1) as u32;
                 let fourth = byte_or_memory(self.fourth, ram, addr + 1 + 1 + 1) as u32;
                 first + 256 * (second + 256 * (third + 256 * fourth))

@@ -32,6 +32,7 @@ fn reaches_one(span: &Span, addr: u64, width: Width) -> bool
         Width::B => reaches(span, addr),
         Width::H => reaches(span, addr) || reaches(span, addr + 1),
         Width::W => {
+            // Counted on by ones, as the definition's list of addresses is.
             reaches(span, addr)
                 || reaches(span, addr + 1)
                 || reaches(span, addr + 1 + 1)

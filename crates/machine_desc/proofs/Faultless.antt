@@ -10,7 +10,7 @@ use Rattle.machine_desc.specs.Description.{first, checked, top_fault, sections_f
 use Rattle.machine_desc.specs.Version.{comes_between}
 use Rattle.machine_desc.specs.Clean.{IsClean}
 
--- where there is no first fault there is none
+-- where a list of faults has no first one, it has none
 pub none_first : (xs : List (Option DescFault)) → first xs ≡ None → Each (λ x. x ≡ None) xs
 none_first [] h = tt
 none_first (None ∷ xs) h = (refl, none_first xs h)

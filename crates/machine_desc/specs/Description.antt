@@ -22,7 +22,7 @@ use Rattle.machine_desc.specs.declared.fault.DescFault.TheVariants.{Syntax, Unkn
 use Rattle.machine_desc.specs.Version.{newest, knows_off, knows_hold, comes_between}
 use Rattle.machine_desc.specs.Table.{row, section_of, name_of, section_name, version_name, sections, number_keys, keys, some_top, some_key}
 
--- the first fault of these places, if there is one
+-- the first fault of a list of places, if there is one
 abbrev pub first : List (Option DescFault) → Option DescFault
 first [] = None
 first (None ∷ more) = first more
@@ -47,7 +47,7 @@ version document = version_in (get_member version_name document)
 
 -- ---- names of tables and keys
 
--- the first name that isn't known, so the least one: members ascend by the bytes of their names
+-- the first name of a table that isn't known, so the least one: members ascend by the bytes of their names
 abbrev pub unknown : (List ℕ → Bool) → Members → Option (List ℕ)
 unknown known no_members = None
 unknown known (member name value more) = if known name then unknown known more else Some name
@@ -235,7 +235,7 @@ contents d = record {
   defence = d.stt_defence;
 }
 
--- the first fault, or else the contents
+-- the contents, unless there is a fault, of which the first is answered
 abbrev pub contents_or : Option DescFault → ℕ → List ℕ → Result SttModel DescFault → Result Defence DescFault → Result Contents DescFault
 contents_or (Some fault) version numbers model defence = Err fault
 contents_or None version numbers (Err fault) defence = Err fault

@@ -129,7 +129,7 @@ subject_text OfVersion = version_name
 subject_text (OfTable section) = section_name section
 subject_text (OfKey key) = key_text key
 
--- one of these tables has this name
+-- one of the tables has this name
 abbrev pub some_section : List Section → List ℕ → Bool
 some_section tables name = list_any (λ s. bytes_eq (section_name s) name) tables
 
@@ -142,6 +142,6 @@ abbrev pub stands_at : ℕ → Section → List ℕ → Key → Bool
 stands_at version section name key =
     is_known version key && bytes_eq (section_name (section_of key)) (section_name section) && bytes_eq (name_of key) name
 
--- one of these keys stands in this table under this name
+-- one of the keys stands in this table under this name
 abbrev pub some_key : ℕ → List Key → Section → List ℕ → Bool
 some_key version ks section name = list_any (stands_at version section name) ks

@@ -109,7 +109,7 @@ pub struct Desc {
     pub ram_size: u32,
     /// 1 where a load or store may have any address, 0 where its address has to be a multiple of its width.
     pub ram_misaligned: u32,
-    /// What a value that counts as a secret waits for until it counts no more: the model of taint.
+    /// Until when what a load has read counts as a secret.
     pub stt_model: SttModel,
     /// What becomes of a tainted value.
     pub stt_defence: Defence,

@@ -7,7 +7,7 @@ use Rattle.window_model.specs.Fill.{is_due}
 use Rattle.mshr_file.specs.Registers.{without_first}
 use Rattle.mshr_file.specs.Laws.{ArrivesFirst, ArrivesNone, LeavesTheRest}
 
--- the first that passes is the filter's first, and the others are the filter's rest
+-- the first register that passes a test is the filter's first, and the others are the filter's rest
 first_passes : (p : Miss → Bool) (ms : List Miss) (m : Miss) → find p ms ≡ Some m → filter p ms ≡ m ∷ filter p (without_first p ms)
 first_passes p [] m h = absurd (cc)
 first_passes p (n ∷ ms) m h = at (p n) refl (first_passes p ms m) h

@@ -66,7 +66,7 @@ pub hidden : (d : Desc) (one two : Image) (core core2 : Programmed) (n : ℕ) (r
 hidden d one two core core2 n r protected s s2 p h =
     one_trace _ _ r (its_trace d two core2 n s2 ∙ premise_traces d (loaded one) (loaded two) n protected (aligned one.code) p ∙ sym (its_trace d one core n s)) h
 
--- what is asked of codes and of starts is the premise
+-- the test of codes and of starts answers whether the premise holds
 module _ (d : Desc) (one two : Start) (same_code : Bool) (first second : Programmed) (path : IsaState) (n steps : ℕ) (o : Opened d one two same_code first second path)
     (e : steps ≡ (trace_of d (loaded (image_at one first.code)) n).retired + d.core_rob) where
   pub is_premise : StartsAgree d.stt_model same_code (word_at path.code) one two steps → Premise d (loaded (image_at one first.code)) (loaded (image_at two second.code)) n

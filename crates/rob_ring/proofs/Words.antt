@@ -24,7 +24,7 @@ low_is n k b lt l =
 pub low_all : (n k b : ℕ) → 64 ≤ k → b < 64 → bit_at n b ≡ (if nat_lt b k then bit_at n b else 0)
 low_all n k b le l = let t : nat_lt b k ≡ true = grind (arith, nat_tests) in ap (λ t. if t then bit_at n b else 0) (sym t)
 
--- one bit down, and a bit on top
+-- the bits of a word moved down by one, with the lowest bit of the next word on top
 pub down_is : (n m r b : ℕ) → bit_at r 63 ≡ one_if (nat_eq (m % 2) 1) → ((b : ℕ) → b < 64 → b ≢ 63 → bit_at r b ≡ bit_at (n / 2) b) → b < 64 →
     bit_at r b ≡ (if nat_lt b 63 then bit_at n (b + 1) else bit_at m 0)
 down_is n m r b top others l =

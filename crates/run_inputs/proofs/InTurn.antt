@@ -27,7 +27,7 @@ failed_after name old mid new s f =
       later = λ n. let a : mid.faults n ≡ old.faults n = s n in let b : mid.faults n ≤ new.faults n = f.later n in omega (arith, a, b);
     }
 
--- what is told of an image is told before
+-- what the files tell of an image later they told before
 bytes_before : (old mid : Shelf) (from : ImageFrom) (file : List ℕ) → SameContents old mid → HasBytes mid from file → HasBytes old from file
 bytes_before old mid (from_file name) file s h = let P : Option (List ℕ) → Type 0 = λ o. GetsTold o image_max (Bytes file) in subst P (s name) h
 bytes_before old mid (from_seed seed blocks) file s h = h

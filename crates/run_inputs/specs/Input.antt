@@ -103,7 +103,7 @@ abbrev pub misaligned_of : Option Desc → Bool
 misaligned_of None = false
 misaligned_of (Some d) = d.ram_misaligned == 1
 
--- what is got there is this image
+-- the image that is got from a source is this one
 pub record IsImage (shelf : Shelf) (desc : Option Desc) (from : ImageFrom) (image : ImageText) : Type 0 where
   pub file : List ℕ
   pub content : HasBytes shelf from file

@@ -133,7 +133,7 @@ table =
     ∷ row 0b0001111 (is 0) any Fence
     ∷ []
 
--- the first row that the word matches
+-- the instruction by the first row that the word matches, else an illegal one
 abbrev pub look_up : List Row → ℕ → Instr
 look_up [] w = Illegal w
 look_up (r ∷ rows) w = if field w 0 7 == r.opcode && matches r.funct3 (field w 12 3) && matches r.funct7 (field w 25 7) then r.instr w else look_up rows w

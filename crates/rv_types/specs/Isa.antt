@@ -166,7 +166,7 @@ pub record Run : Type 0 where
   pub steps : ℕ
   pub ended : Option End
 
--- one more piece in front, unless it is empty
+-- the pieces with one more in front, unless that one is empty
 abbrev pub with_piece : List ℕ → List (List ℕ) → List (List ℕ)
 with_piece [] ps = ps
 with_piece (b ∷ bs) ps = (b ∷ bs) ∷ ps

@@ -6,7 +6,7 @@ use Rattle.std.specs.Str.Parse.{digits_value, without_leading_plus}
 use Rattle.clap.specs.Words.{Text}
 use Rattle.secret_marks.specs.declared.SecretRange.{SecretRange}
 
--- one digit or more of this radix, and nothing else
+-- the text is a numeral of this radix: one digit or more, and nothing else
 abbrev pub is_numeral : ℕ → Text → Bool
 is_numeral radix digits = nat_lt 0 (length digits) && list_all (λ d. nat_lt (digit_value d) radix) digits
 

@@ -1,4 +1,4 @@
--- What is marked of who awaits a serial, as entries come and wake.
+-- The words that tell who may await a serial, as entries come and wake.
 use Rattle.std.proofs.Common.{◌≡◌, ◌≢◌, ℕ, ◌%◌, ◌+◌, ◌<◌, ◌≤◌, Bool, true, false, List, length, get_or, set, Option, Some, None, slice_get, refl, ap, ap₂, sym, ◌∙◌, arith, inl, inr, ⊎_elim}
 use mathlib.Core.Bool.{true≢false}
 use Rattle.std.specs.Prelude.{not, ◌==◌, ◌||◌, if◌then◌else◌}
@@ -17,7 +17,7 @@ pub neither : (a b : Bool) → (a || b) ≡ false → (a ≡ false) × (b ≡ fa
 neither true b h = absurd (cc)
 neither false b h = (refl, h)
 
--- who awaits none of the group isn't changed by a serial of it
+-- an entry that awaits no serial of a group isn't changed by a serial of it
 strike_other : (serial : ℕ) (a : Option ℕ) → is_in (serial % 64) a ≡ false → strike serial a ≡ a
 strike_other serial None h = refl
 strike_other serial (Some s) h =
@@ -31,7 +31,7 @@ woken_other serial o h =
     let none = neither _ _ h in
     ap₂ (λ a b. record o { first = a; second = b }) (strike_other serial o.first none.0) (strike_other serial o.second none.1)
 
--- who awaits something has a place
+-- an entry that awaits something has a place
 in_place : (group p : ℕ) (places : List Occupant) → awaits_in group (get_or places p nobody) ≡ true → p < length places
 in_place group p places h = elim (cases_lt p (length places)) [
   | inl lt ↦ lt

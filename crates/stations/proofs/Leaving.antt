@@ -13,7 +13,7 @@ use Rattle.stations.proofs.Numbers.{all_differ}
 
 -- ---- what is left as it was
 
--- there are as many entries
+-- there are as many stations once one of them wants something else
 pub length_left : (i : ℕ) (next : Wants) (held : List Station) → length (left_wanting i next held) ≡ length held
 length_left i next [] = refl
 length_left zero next (s ∷ held) = refl
@@ -41,7 +41,7 @@ map_left f same i next [] = refl
 map_left f same zero next (s ∷ held) = ap (λ x. x ∷ map f held) (same s next)
 map_left f same (suc i) next (s ∷ held) = ap (λ xs. f s ∷ xs) (map_left f same i next held)
 
--- the one at the position needs the other thing
+-- the station at the position wants the other thing
 pub at_left : (i : ℕ) (next : Wants) (held : List Station) → slice_get (left_wanting i next held) i ≡ option_map (now_wants next) (slice_get held i)
 at_left i next [] = refl
 at_left zero next (s ∷ held) = refl
@@ -73,7 +73,7 @@ module _ (places places2 : List Occupant) (p : ℕ) (next : Wants) (here : get_o
       ap₂ (λ o ss. station q o ∷ ss) (others q (λ same. differ 0 (suc i) p (omega arith) (omega (arith, lt)) (same ∙ at)))
       (held_left ages i (λ j k d l m. differ (suc j) (suc k) d (omega (arith, l)) (omega (arith, m))) (omega (arith, lt)) at)
 
-  -- what is awaited there is as before
+  -- the words that tell who awaits a serial do so still, once a station wants something else
   pub marked_left : (waiters : List ℕ) → MarkWaiters places waiters → MarkWaiters places2 waiters
   marked_left waiters m group q h = elim (cases_eq q p) [
     | inl same ↦ m group q (sym (ap (awaits_in group) (ap (λ k. get_or places2 k nobody) same ∙ here ∙ ap (λ k. wanting next (get_or places k nobody)) (sym same))) ∙ h)

@@ -37,7 +37,7 @@ pub record Placed (places : List Occupant) (ages free : List ℕ) : Type 0 where
   pub once : IsPermutation (range_with_len 0 (length places)) (ages ++ free)
   pub rise : Rise (held_of places ages)
 
--- there is an entry, and it passes the test
+-- there is a station, and it passes the test
 abbrev pub passes : (Station → Bool) → Option Station → Bool
 passes test None = false
 passes test (Some s) = test s

@@ -137,6 +137,7 @@ impl Stations {
     pub fn able_marks(&self) -> u128
         ensures { MarksAble self.now.held 0 result }
     {
+        // The taken places that don't wait, by the two operations of whose bits the proof speaks.
         self.taken ^ (self.taken & self.waiting)
     }
 

@@ -16,8 +16,8 @@ pub enum Wants {
 /// A part of an entry that issues in two.
 #[derive(Clone, Copy, Debug, PartialEq, Eq)]
 pub enum Part {
-    /// The one that needs the first source.
+    /// The part that needs the first source.
     Base,
-    /// The one that needs the second source.
+    /// The part that needs the second source.
     Other,
 }

@@ -27,7 +27,7 @@ at_start code s n t =
     let e : n - 0 ≡ n = omega arith in
     record { rest_is = runs.at_start code s n; lines = rw e (up_to_start _ t) }
 
--- one more step is left
+-- a run of which steps are left has one step more
 one_more : (n i : ℕ) → i < n → n - i ≡ suc (n - (i + 1))
 one_more n i h = omega arith
 

@@ -37,7 +37,7 @@ wrote_then_part a b s t u p q = record {
   later = let h : t.faults ≡ s.faults = p.count in let k : t.faults ≤ u.faults = q.later in omega arith;
 }
 
--- the first bytes of a list, as the first bytes of a longer one
+-- the first bytes of a list are the first bytes of a longer one
 pub take-longer : (n : ℕ) (a b : List ℕ) → (k : ℕ) × (take k (a ++ b) ≡ take n a)
 take-longer zero a b = (0, refl)
 take-longer (suc n) [] b = (0, refl)

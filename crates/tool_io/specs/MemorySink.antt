@@ -15,7 +15,7 @@ pub record SinkState : Type 0 where
 abbrev pub sent_at : ℕ → List MemFail → Option ℕ
 sent_at call fails = option_map (λ f. f.sent) (find (λ f. f.call == call) fails)
 
--- one more, as far as 64 bits go
+-- a count with one more, as far as 64 bits go
 abbrev pub one_more : ℕ → ℕ
 one_more n = min (n + 1) (2 ^ 64 - 1)
 
