@@ -184,7 +184,7 @@ woken_as p p2 i es s k a b = ap (λ serials. record s { held = struck_each seria
 
 -- ---- where nothing is held back
 
--- what gives its value gave it
+-- where no result is held back, a move of the point releases none
 pub none_released : (p p2 : ℕ) (es : List Entry) → released (record { holds = false; point = p }) (record { holds = false; point = p2 }) es ≡ []
 none_released p p2 es = ap (map (λ e. e.serial)) (all_gave es)
   where

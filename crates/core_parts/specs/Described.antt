@@ -41,7 +41,7 @@ opened d code entry ram = record { desc = d; code = code; machine = opening d en
 abbrev pub with_window : List Entry → Described → Described
 with_window window s = record s { machine = record (s.machine) { window = window } }
 
--- what phase Fetch makes of it
+-- what phase Fetch makes of a described machine
 abbrev pub fetch_of : Described → After
 fetch_of s = fetch s.desc (word_at s.code) s.machine
 

@@ -78,7 +78,7 @@ machine_of h = record {
   end = h.end;
 }
 
--- with its description, its code and its point
+-- the machine that the parts hold, with its description, its code and its point
 abbrev pub described : Held → Described
 described h = record { desc = h.desc; code = h.code; machine = machine_of h; point = h.point }
 

@@ -18,7 +18,7 @@ use Rattle.elf_loader.specs.Fields.{count_of}
 abbrev pub last_at : List SegmentText → ℕ → Option SegmentText
 last_at loads a = find (λ s. covers s a) (reverse loads)
 
--- memory has their bytes, and those places are left that none of them takes
+-- memory has the bytes of these segments, and the places are left that none of them takes
 pub record Placed (loads : List SegmentText) (old new : Ram) (left : List Bool) : Type 0 where
   pub base : new.base ≡ old.base
   pub misaligned : new.misaligned ≡ old.misaligned

@@ -81,7 +81,7 @@ pub record Acts (e : Entry) (b : Begun) : Type 0 where
   pub more : List Event
   pub has : b.events ≡ event ∷ more
   pub waits : is_waiting e.state ≡ true
-  -- nothing else of it changes
+  -- nothing else of the entry changes
   pub rest : with_issued (issued_of b.entry) e ≡ b.entry
   pub issues : Issues e b.entry
   pub stay : is_store e.item.kind ≡ true → PartsGoOn (width_for (width_of e)) e b.entry

@@ -23,7 +23,7 @@ use Rattle.issue.specs.declared.seen.Seen.{Seen}
 use Rattle.issue.specs.Accesses.{as_access}
 use Rattle.issue.specs.State.{around_of, before_of, here}
 
--- what its instruction makes of its operands
+-- what the instruction of the entry in its place makes of its operands
 abbrev pub effect_here : Seen → Place → Effect
 effect_here s p = effect_of s.regs.now (before_of s p) p.entry.now
 

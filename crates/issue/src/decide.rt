@@ -23,7 +23,7 @@ pub(crate) struct Put {
 }
 
 impl Default for Put {
-    /// To fill free places with: one whose bytes are all 0, so that all places are cleared at once.
+    /// A put to fill free places with, whose bytes are all 0, so that all places are cleared at once.
     fn default() -> Self {
         Put {
             position: 0,

@@ -19,7 +19,7 @@ use window_model::{Event, Row};
 /// What a load finds: how its bytes are served, and its value.
 #[derive(Clone, Copy, Debug, PartialEq, Eq)]
 pub(crate) struct Loaded {
-    /// What its access comes to.
+    /// What the load's access comes to.
     pub(crate) access: Access,
     /// The load's value, where it has no fault.
     pub(crate) value: u32,

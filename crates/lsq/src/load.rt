@@ -5,13 +5,13 @@ use rv_types::{Cause, Width};
 /// What a load reads, and when it issued.
 #[derive(Clone, Copy, Debug, PartialEq, Eq)]
 pub struct Access {
-    /// The address of its first byte.
+    /// The address of the load's first byte.
     pub addr: u32,
-    /// How many bytes it reads.
+    /// How many bytes the load reads.
     pub width: Width,
-    /// Why it traps once it is the oldest, if it does: it then reads nothing.
+    /// Why the load traps once it is the oldest, if it does: it then reads nothing.
     pub fault: Option<Cause>,
-    /// The cycle in which it issued.
+    /// The cycle in which the load issued.
     pub cycle: u64,
 }
 

@@ -334,7 +334,7 @@ impl fmt::Display for Key {
     }
 }
 
-// Has one of these tables this name?
+// Whether one of the tables has this name.
 pub(crate) fn some_section(sections: &[Section], name: &str) -> bool
     ensures { result ≡ some_section sections.now name.now }
 {
@@ -353,7 +353,7 @@ pub(crate) fn some_top(sections: &[Section], name: &str) -> bool
     name == VERSION_NAME || some_section(sections, name)
 }
 
-// Does one of these keys, of those that this version knows, stand in this table under this name?
+// Whether one of the keys, of those that this version knows, stands in this table under this name.
 pub(crate) fn some_key(version: u32, keys: &[Key], section: Section, name: &str) -> bool
     ensures { result ≡ some_key version keys.now section name.now }
 {

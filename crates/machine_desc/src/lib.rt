@@ -40,7 +40,8 @@ pub enum SttModel {
 /// What becomes of a value that counts as a secret.
 #[derive(Clone, Copy, Debug, PartialEq, Eq)]
 pub enum Defence {
-    /// What could show it waits: addresses of loads, divisions, and branches and indirect jumps that take effect.
+    /// What could show such a value waits: addresses of loads, divisions, and branches and indirect jumps that take
+    /// effect.
     Stt,
     /// No such value is used at all: a load's result is held back until the load is visible.
     Hold,

@@ -39,7 +39,7 @@ only pc v = record { value = v; next = word_add pc 4; addr = 0; stored = 0; misa
 abbrev pub jump : ℕ → ℕ → Effect
 jump v target = record { value = v; next = target; addr = 0; stored = 0; misaligned = is_misaligned target }
 
--- accesses this address, to store this value where it is a store
+-- an effect that accesses this address, to store this value where it is a store
 abbrev pub at_address : ℕ → ℕ → ℕ → Effect
 at_address pc a v = record { value = 0; next = word_add pc 4; addr = a; stored = v; misaligned = false }
 

@@ -35,7 +35,7 @@ rise_left i next held r j k d lt l =
     let c = r j k d lt (omega arith) in
     omega (arith, a, b, c)
 
--- what doesn't look at what is needed is told of them as before
+-- a function of a station that doesn't look at what it wants gives the same as before
 pub map_left : {X : Type 0} (f : Station → X) → ((s : Station) (next : Wants) → f (now_wants next s) ≡ f s) → (i : ℕ) (next : Wants) (held : List Station) → map f (left_wanting i next held) ≡ map f held
 map_left f same i next [] = refl
 map_left f same zero next (s ∷ held) = ap (λ x. x ∷ map f held) (same s next)

@@ -107,7 +107,7 @@ impl Occupant {
         }
     }
 
-    /// Whether it awaits a serial of this group.
+    /// Whether the entry awaits a serial of this group.
     pub fn awaits_in(&self, group: u64) -> bool
         ensures { result ≡ awaits_in group self.now }
     {

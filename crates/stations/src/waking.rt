@@ -8,7 +8,7 @@ use crate::occupant::Occupant;
 use crate::wants::Wants;
 use word_bits::{next_wide_bit, with_wide_bit};
 
-/// Serials are grouped by their remainder by this number.
+/// How many groups of serials there are: a serial's group is its remainder by this number.
 pub const GROUPS: usize = 64;
 
 // A place is marked for what one source of its entry awaits.

@@ -81,7 +81,7 @@ core_report_cut before d code n x y pc regs ram ending s t u c p q m e w =
 
 -- ---- Memory over a run
 
--- sizes, and memory where it lay in x
+-- the sizes of a machine, and its memory where the memory of x lay
 record Kept (d : Desc) (x y : Machine) : Type 0 where
   sized : Sized d y
   shape : SameShape x.ram y.ram

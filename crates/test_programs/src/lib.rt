@@ -37,7 +37,7 @@ pub const WRITES: [u32; 11] = [
     0x0000_0073,
 ];
 
-/// Overwrites its own third word before it gets there.
+/// A program that overwrites its own third word before it gets there.
 pub const OVERWRITES: [u32; 4] = [0x0000_0297, 0x0002_a423, 0x05d0_0893, 0x0000_0073];
 
 /// A load that hits is done before an older one that misses.

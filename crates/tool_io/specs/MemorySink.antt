@@ -31,7 +31,7 @@ sent_by s piece = min (min (unwrap_or (sent_at (one_more s.calls) s.fails) (leng
 abbrev pub takes_all : SinkState → List ℕ → Bool
 takes_all s piece = is_none (sent_at (one_more s.calls) s.fails) && nat_le (length piece) (s.room - length s.bytes)
 
--- what it holds after the next put of this piece
+-- what the sink holds after the next put of this piece
 abbrev pub sink_after : SinkState → List ℕ → SinkState
 sink_after s piece = record s {
   bytes = s.bytes ++ take (sent_by s piece) piece;

@@ -70,7 +70,7 @@ parted Store DataPort d b e m h = refl
 parted Store _ d b e m h = refl
 parted _ q d b e m h = absurd (cc)
 
--- what they leave of each port
+-- what the two parts of a store leave of each port
 both_left : (a b : Bool) (q : Port) (l : Ports) → left_at q (if_asked b DataPort (if_asked a AddressPort l)) ≡ (if part a b q then left_at q l - 1 else left_at q l)
 both_left true true q l = both q
   where

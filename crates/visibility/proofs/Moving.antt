@@ -293,7 +293,7 @@ module _ (p old : Point) (window : List Entry) (n next : ℕ) (found : Option �
       let m = moved in
       omega (arith, l, s, m)
 
--- under `off` it is left
+-- under `off` the point is left as it is
 pub left_advanced : (p old : Point) (window : List Entry) → p ≡ old → p.model ≡ Off → Rise window → ShowsAll p → All (λ e. e.serial < 2 ^ 64 - 1) window → CanAdvance old window → HasAdvanced old window
 left_advanced p old window same off rise all few can =
     let none : protects p.model ≡ false = ap protects off in

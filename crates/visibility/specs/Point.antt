@@ -65,7 +65,7 @@ pub record CanAdvance (p : Point) (window : List Entry) : Type 0 where
   pub passed : Passed p window
   pub near : IsNear p window
 
--- what it is once it has moved over a window that isn't empty
+-- the point once it has moved over a window that isn't empty
 pub record HasMoved (p : Point) (window : List Entry) : Type 0 where
   -- the point says which entries are visible
   pub each : IsPoint p window
@@ -76,7 +76,7 @@ pub record HasMoved (p : Point) (window : List Entry) : Type 0 where
   -- the point can move again
   pub again : CanAdvance p window
 
--- what it is once it has moved over the window. It stays where there is none
+-- the point once it has moved over the window; it stays where there is none
 abbrev pub HasAdvanced : Point → List Entry → Type 0
 HasAdvanced p [] = Unit {0}
 HasAdvanced p (e ∷ es) = HasMoved p (e ∷ es)
