@@ -1,5 +1,5 @@
--- The state that the phase looks at, when it stands for a machine, and an entry in its place (docs/machine.md, "Issue", "The
--- parts stand for the machine").
+-- The state that the phase looks at, where its parts stand for a machine, and an entry in its place (docs/machine.md, "Issue";
+-- docs/architecture.md, "How they stand for it").
 use Rattle.std.specs.Prelude.{◌≡◌, ℕ, ◌+◌, ◌^◌, ◌≤◌, List, true, length, slice_get, Some}
 use Rattle.std.specs.List.{AllByRecursion as Each}
 use Rattle.machine_desc.specs.declared.Desc.{Desc}
