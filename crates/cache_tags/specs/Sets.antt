@@ -13,7 +13,7 @@ pub record Lines : Type 0 where
   pub bytes : ℕ
   pub sets : List (List ℕ)
 
--- the lines of a level are stored as these four
+-- a level is stored as how many sets it has, its ways, the bytes of a line, and its sets
 abbrev pub lines_code : Coded Lines
 lines_code =
     code_by (ℕ × (ℕ × (ℕ × List (List ℕ)))) (coded× coded_ℕ (coded× coded_ℕ (coded× coded_ℕ (coded_list (coded_list coded_ℕ)))))

@@ -25,7 +25,7 @@ cleared_at (Some p) x = (clears p x).machine
 abbrev pub with_cleared : Desc → Machine → Machine
 with_cleared d x = cleared_at (first (may_clear d) x.window) x
 
--- the serial of the oldest load that is violated as the oldest store that may be cleared is
+-- the serial of the load that is violated, if one is, as the oldest store that may be cleared is cleared
 abbrev pub violated : Desc → Machine → Option ℕ
 violated d x = option_map (λ q. q.entry.serial) (option_and_then violated_by (first (may_clear d) x.window))
 

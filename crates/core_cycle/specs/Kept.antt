@@ -20,7 +20,7 @@ pub record Kept (code : Code) (s : Described) : Type 0 where
   pub sized : Sized s.desc s.machine
   pub timely : Timely s.desc s.machine
 
--- the invariant of a core that knows of no event in the cycles before the one with this number
+-- the invariant of a core between two cycles, where nothing happens in the cycles before the one with this number
 pub record KeptUntil (n : ℕ) (code : Code) (s : Described) : Type 0 where
   pub kept : Kept code s
   pub still : StillUntil n s.desc code s.machine

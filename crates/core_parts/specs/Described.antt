@@ -122,7 +122,7 @@ machine_code =
 abbrev pub point_code : Coded Point
 point_code = code_by (ℕ × SttModel) (coded× coded_ℕ model.the_row.coded) (λ p. (p.serial, p.model)) (λ p. record { serial = p.0; model = p.1 }) (λ _. refl)
 
--- the code of a described machine: its description, its code, the machine and its point
+-- a described machine is stored as its description, its code, the machine and its point
 abbrev pub described_code : Coded Described
 described_code =
     code_by (Desc × (CodeText × (Machine × Point))) (coded× desc.the_row.coded (coded× code.the_row.coded (coded× machine_code point_code)))

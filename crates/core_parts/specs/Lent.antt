@@ -23,7 +23,8 @@ use Rattle.parts_stand.specs.Telling.{source_by}
 abbrev pub NamesWriters : List Write → List Entry → Type 0
 NamesWriters writes window = (r : ℕ) → source_of writes r ≡ source_by (writer (reverse window) r)
 
--- the table has for each register the youngest root of its writer in the window; for one without maybe a root that has retired
+-- the table has for each register the youngest root of its value for an entry behind the window; for one without maybe a root that has
+-- retired
 abbrev pub NamesRoots : ℕ → List Write → List Entry → Type 0
 NamesRoots next writes window = (r : ℕ) → unretired (oldest_of next window) (root_of writes r) ≡ youngest_root (reverse window) r
 

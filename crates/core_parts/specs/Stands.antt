@@ -37,7 +37,7 @@ pub record InFlight : Type 0 where
   -- how far entries are visible
   pub point : Point
 
--- what holds results back: the description's defence, up to the point
+-- how results are held back: whether they are, and by which point
 abbrev pub hold_in : InFlight → Hold
 hold_in p = record { holds = p.holds; point = p.point.serial }
 

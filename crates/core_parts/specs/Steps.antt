@@ -93,7 +93,7 @@ with_done i e p =
 abbrev pub CompletesAt : Type 0
 CompletesAt = (p : InFlight) (i : ℕ) (e : Entry) → Stands p → slice_get p.window i ≡ Some e → is_waiting e.state ≡ false → Stands (with_done i e p)
 
--- the entry at a position, a branch or JALR, becomes resolved
+-- the entry at a position becomes resolved
 abbrev pub with_resolved : ℕ → Entry → InFlight → InFlight
 with_resolved i e p = record p { window = slice_set p.window i (record e { resolved = true }) }
 

@@ -130,7 +130,7 @@ begin_turns : (k : Kind) (d : Desc) (now : Around) (before : List Entry) (e : En
 begin_turns Load d now before e s w = load_turns d now before e _ _ s w
 begin_turns _ d now before e s w = one_event now e _ _ _ s w
 
--- the address part that issues leaves the cycle from which on an address is known that was known before: there was none
+-- where the address was known it is known from the same cycle on: an address part that issues had no address before
 same_address : (e : Entry) (due : Option ℕ) → has_address e ≡ false → has_address e ≡ true → due ≡ e.addr_due
 same_address e due none some = absurd (cc)
 

@@ -16,7 +16,7 @@ use Rattle.issue.specs.State.{around_of, before_of}
 
 -- ---- of an entry in its place
 
--- the entry in its place may issue, whether its operands are tainted or not
+-- the entry in its place has what it asks for besides untainted operands
 abbrev pub besides : Seen → Place → Bool
 besides s p = asks_besides p.entry.now.item.kind s.desc.now (around_of s) (before_of s p) p.entry.now
 

@@ -7,7 +7,7 @@ use window_model::lines_of;
 /// What the access of a load comes to.
 #[derive(Clone, Copy, Debug, PartialEq, Eq)]
 pub(crate) enum Access {
-    /// The load faults before it looks at memory.
+    /// The load has a fault, and reads nothing.
     Faults(Cause),
     /// Older stores have all bytes of the load.
     Forwards,

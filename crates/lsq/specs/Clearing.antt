@@ -19,7 +19,7 @@ info_of s = record { serial = s.serial; root = s.root; known = is_some s.span; c
 abbrev pub is_wrong : Span → Access → Bool
 is_wrong k a = nat_lt a.cycle k.known_from && not (is_some a.fault) && list_any (λ b. reaches b k) (range a.addr (bytes_in a.width))
 
--- the load passed the store wrongly: what it read is known, and where the store writes, and they are so
+-- the load passed the store wrongly, where it is known what the load reads and where the store writes
 abbrev pub passed_wrongly : Option Span → Option Access → Bool
 passed_wrongly (Some k) (Some a) = is_wrong k a
 passed_wrongly _ _ = false

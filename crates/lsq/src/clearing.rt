@@ -43,7 +43,7 @@ fn is_wrong(span: &Span, access: &Access) -> bool
     shares(span, access.addr as u64, access.width, access.fault)
 }
 
-// Whether the load passed the store wrongly: it has issued, and it is known where the store writes.
+// Whether the load passed the store wrongly, where it has issued and it is known where the store writes.
 fn passed_wrongly(span: &Option<Span>, access: &Option<Access>) -> bool
     ensures { result ≡ passed_wrongly span.now access.now }
 {

@@ -40,10 +40,10 @@ pub enum SttModel {
 /// What becomes of a value that counts as a secret.
 #[derive(Clone, Copy, Debug, PartialEq, Eq)]
 pub enum Defence {
-    /// What could show such a value waits: addresses of loads, divisions, and branches and indirect jumps that take
-    /// effect.
+    /// What could show a value that counts as a secret waits: addresses of loads, divisions, and branches and indirect
+    /// jumps that take effect.
     Stt,
-    /// No such value is used at all: a load's result is held back until the load is visible.
+    /// No value that counts as a secret is used at all: a load's result is held back until the load is visible.
     Hold,
 }
 

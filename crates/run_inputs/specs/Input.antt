@@ -119,7 +119,7 @@ abbrev pub HasTooMany : Shelf → ImageFrom → Type 0
 HasTooMany shelf (from_file name) = MayBeLonger shelf name image_max
 HasTooMany shelf (from_seed seed blocks) = ⊥
 
--- the image's bytes load into no image of this description's memory
+-- the image's bytes have this fault, in the memory of this description
 pub record HasFault (shelf : Shelf) (desc : Option Desc) (from : ImageFrom) (fault : ElfFault) : Type 0 where
   pub file : List ℕ
   pub content : HasBytes shelf from file

@@ -44,7 +44,7 @@ rs1 w = reg_at w 15
 abbrev pub rs2 : ℕ → Reg
 rs2 w = reg_at w 20
 
--- the instruction of an operation and a word, by the form of the word
+-- an instruction by its operation and the fields of its word, for each form
 abbrev pub branch : Op → ℕ → Instr
 branch op w = Branch op (rs1 w) (rs2 w) (imm_b w)
 

@@ -8,7 +8,7 @@ use Rattle.stations.specs.declared.wants.Wants.{Wants}
 use Rattle.stations.specs.declared.wants.Wants.TheVariants.{Whole}
 use Rattle.stations.specs.Stations.{Rise, Station, able_as, strike}
 
--- the serials of the writers that an entry awaits, one for each source
+-- for each of an entry's two sources the serial of the writer that it awaits, if it awaits one
 abbrev pub awaited : Occupant → List (Option ℕ)
 awaited o = o.first ∷ o.second ∷ []
 

@@ -129,7 +129,7 @@ impl Ports {
         };
     }
 
-    /// The divider, as the last division left it.
+    /// The divider: from when on it is free, and who uses it.
     pub fn divider(&self) -> Divider
         ensures { result ≡ self.now.divider }
     {
