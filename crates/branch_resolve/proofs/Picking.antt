@@ -14,9 +14,9 @@ use Rattle.rob_ring.specs.Ring.{IsNext, is_open}
 use Rattle.rob_ring.proofs.Gaps.{to_end, to_next}
 use Rattle.visibility.specs.Pick.{pick_from, can_resolve}
 
--- ---- at a position
+-- ---- the search at a position
 
--- what is left there
+-- what is left of a list at a position
 drop_here : {X : Type 0} (xs : List X) (i : ℕ) (x : X) → slice_get xs i ≡ Some x → drop i xs ≡ x ∷ drop (i + 1) xs
 drop_here xs i x h = drop_more xs i x (slice_get_within xs i x h) ∙ ap (λ y. y ∷ drop (i + 1) xs) (get_or_from_slice_get xs i x x h)
 
@@ -35,13 +35,13 @@ module _ (point i : ℕ) (es : List Entry) (roots : List (List (Option ℕ))) (e
 
 -- ---- between entries that aren't settled
 
--- what is settled is no branch or JALR that isn't resolved
+-- an entry that is settled is no branch or JALR that isn't resolved
 is_closed : (k : Kind) (resolved cleared : Bool) → not (settled_as k resolved cleared) ≡ false → (is_control k && not resolved) ≡ false
 is_closed Branch r c h = h
 is_closed Jalr r c h = h
 is_closed _ r c h = refl
 
--- so it can't be resolved
+-- an entry that is settled can't be resolved any more
 closed_stays : (point : ℕ) (e : Entry) (rs : List (Option ℕ)) → is_open e ≡ false → can_resolve point e rs ≡ false
 closed_stays point e rs h =
     by_parts (is_control e.item.kind) (is_done e.state) (not e.resolved) (not (list_any (is_hidden point) rs)) (is_closed e.item.kind e.resolved e.cleared h)
@@ -69,7 +69,7 @@ module _ (point : ℕ) (es : List Entry) (roots : List (List (Option ℕ))) (r :
       let rs = roots_there roots i (omega (arith, within, l)) in
       pick_on point i es roots e rs.0 r false at rs.1 (sym (closed_stays point e rs.0 closed)) h refl
 
-  -- it can go on at the next one
+  -- the search can go on at the next entry that isn't settled
   pub pick_over : (i j : ℕ) → IsNext is_open es i j → Left i → Left j
   pick_over i j next h = to_next is_open es Left past i j next h
 
@@ -77,6 +77,6 @@ module _ (point : ℕ) (es : List Entry) (roots : List (List (Option ℕ))) (r :
   nothing_left i [] roots = refl
   nothing_left i (e ∷ es) roots = nothing_left i es roots
 
-  -- where there is none, nothing is found
+  -- where no entry is left that isn't settled, nothing is found
   pub pick_end : (i : ℕ) → i ≤ length es → HoldsNowhere (holds_at is_open es) i (length es) → Left i → None ≡ r
   pick_end i le none h = sym (nothing_left (length es) es (drop (length es) roots)) ∙ to_end is_open es Left past i le none h

@@ -15,7 +15,7 @@ taught p e = record p {
   targets = (learn p.desc e p.counters p.targets).targets;
 }
 
--- the events of that
+-- the events of what the predictor learns of an entry
 abbrev pub told : Tables → Entry → List Event
 told p e = (learn p.desc e p.counters p.targets).events
 

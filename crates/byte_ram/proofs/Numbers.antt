@@ -4,12 +4,12 @@ use Rattle.std.specs.Prelude.{slice_range, slice_index}
 use Rattle.byteorder.specs.Endian.{little_from, little_number}
 use Rattle.rv_types.specs.Word.{from_le}
 
--- there is nothing to take from nothing
+-- the first bytes of no bytes make the number 0
 take_nothing : (n : ℕ) → from_le (take n []) ≡ 0
 take_nothing zero = refl
 take_nothing (suc n) = refl
 
--- one more byte in front; past the end there is none, and its number is 0
+-- the number of the bytes with one more in front; past the end there is none, and its number is 0
 one_more : (n i : ℕ) (xs : List ℕ) → slice_index xs i + 256 * from_le (take n (drop (suc i) xs)) ≡ from_le (take (suc n) (drop i xs))
 one_more n zero [] = let e = take_nothing n in omega arith
 one_more n zero (x ∷ xs) = refl

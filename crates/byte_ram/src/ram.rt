@@ -1,4 +1,4 @@
-//! The memory itself.
+//! Memory by bytes, and its accesses.
 ghost use Rattle.std.specs.Prelude.{◌≡◌, ◌<◌, ◌≤◌, ◌+◌, ◌-◌, ◌*◌, ◌%◌, ◌^◌, length, IfOk, IsTrue, IsNone, Option, ℕ, Result};
 ghost use Rattle.rv_types.specs.Memory.{Ram, zeros, in_ram, access_fault, load_fault, store_fault, with_bytes};
 ghost use Rattle.byte_ram.specs.Access.{get_of, put_of, byte_of};
@@ -57,7 +57,7 @@ impl Ram {
         self.base
     }
 
-    /// The number of bytes.
+    /// The number of bytes of memory.
     pub fn size(&self) -> u32
         ensures value { result ≡ length self.now.bytes }
         ensures aligned { result % 16 ≡ 0 }
@@ -74,7 +74,7 @@ impl Ram {
         self.misaligned
     }
 
-    /// All the bytes, from the base on.
+    /// The bytes of memory, from the base on.
     pub fn bytes(&self) -> &[u8]
         ensures { result.now ≡ self.now.bytes }
     {

@@ -13,7 +13,7 @@ pub record Lines : Type 0 where
   pub bytes : ℕ
   pub sets : List (List ℕ)
 
--- it is stored as the four
+-- a level is stored as how many sets it has, its ways, the bytes of a line, and its sets
 abbrev pub lines_code : Coded Lines
 lines_code =
     code_by (ℕ × (ℕ × (ℕ × List (List ℕ)))) (coded× coded_ℕ (coded× coded_ℕ (coded× coded_ℕ (coded_list (coded_list coded_ℕ)))))
@@ -28,7 +28,7 @@ pub record Cache : Type 0 where
   pub desc : Desc
   pub sets : List (List ℕ)
 
--- it is stored as the two
+-- a cache is stored as the description and its sets
 abbrev pub cache_code : Coded Cache
 cache_code =
     code_by (Desc × List (List ℕ)) (coded× desc.the_row.coded (coded_list (coded_list coded_ℕ))) (λ c. (c.desc, c.sets)) (λ p. record { desc = p.0; sets = p.1 }) (λ _. refl)

@@ -71,7 +71,7 @@ impl Level {
         false
     }
 
-    /// This line arrives: it goes to the front of its set, whose last line goes where there are more than the ways then.
+    /// A line arrives: it goes to the front of its set, whose last line goes where there are more than the ways then.
     pub fn enter(&mut self, line: u32)
         ensures entered { self.new ≡ record self.old {
           sets = entered self.old.ways self.old.sets (set_at self.old line) line;
@@ -112,7 +112,7 @@ fn put_in_front(sets: &mut Vec<LineSet>, set: usize, line: u32, ways: u32)
     sets[set].enter(line, ways);
 }
 
-// So many sets without lines.
+// A row of so many sets without lines.
 #[tactic(auto, using(std::proofs::lemmas::List::replicate_more))]
 fn empty_sets(alloc: Global, count: u32) -> Result<Vec<LineSet>, NoMemory>
     ensures { IfOk result (λ sets. sets.items ≡ replicate count []) }

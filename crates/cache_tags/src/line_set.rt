@@ -25,7 +25,7 @@ impl Model for LineSet {
 }
 
 impl LineSet {
-    /// A set without lines.
+    /// A set that holds no line.
     pub(crate) fn empty() -> LineSet
         ensures { result ≡ [] }
     {

@@ -56,7 +56,7 @@ impl Tags {
         self.level.touch(line)
     }
 
-    /// This line arrives: it goes to the front of its set, whose last line goes where there are more than the ways then.
+    /// A line arrives: it goes to the front of its set, whose last line goes where there are more than the ways then.
     pub fn fill(&mut self, line: u32)
         ensures entered { self.new ≡ record self.old { sets = with_line self.old.desc self.old.sets line } }
     {

@@ -34,7 +34,7 @@ module _ (v : Described) (serial : ℕ) (a : passing v.desc ≡ true) (f : Some 
   rises : Rise v.machine.window
   rises = rose v.desc v.machine serial it (subst Rise window_is rising)
 
-  -- it stands where its serial says
+  -- the violated load stands where its serial says, once the store is cleared
   here : slice_get seen.machine.window i ≡ Some one.place.entry
   here =
       ap (slice_get seen.machine.window) at
@@ -52,7 +52,7 @@ module _ (v : Described) (serial : ℕ) (a : passing v.desc ≡ true) (f : Some 
     pub load_named : e.serial ≡ load
     load_named = ap (λ (e : Entry). e.serial) (sym same) ∙ one.named
 
-    -- with it all that is younger goes
+    -- the violated load goes, and with it all that is younger
     whole : clear v.desc v.machine ≡ record { machine = anew v.desc e (with_cleared v.desc v.machine); events = event.Clr serial ∷ anew_events v.desc e (with_cleared v.desc v.machine) }
     whole =
         anew_is v.desc v.machine serial a it rises one.place one.is

@@ -12,7 +12,7 @@ use Rattle.window_model.specs.State.{After, Machine, nothing}
 use Rattle.clear.specs.Cleared.{anew, anew_events, cleared_at, clearing, violated, with_cleared}
 use Rattle.clear.proofs.Places.{Store, below_load, gone}
 
--- ---- nothing happens
+-- ---- where nothing happens at all
 
 -- where no store may be cleared
 no_place : (d : Desc) (x : Machine) (b : Bool) (o : Option Place) → None ≡ option_map (λ (p : Place). p.entry.serial) o → (if b then clear_at d o x else nothing x) ≡ nothing x

@@ -107,7 +107,7 @@ module _ (h : Held) (v : Described) (serial : ℕ) (w : Whole h) (s : described 
         ∙ sym (violated_is h.desc (machine_of h) it.place it.is)
         ∙ ap (λ (v : Described). violated v.desc v.machine) s
 
-    -- all from it on may go: the store stays, and the point isn't past it
+    -- the entries from the violated load on may go: the store stays, and the point isn't past it
     stops_by : (load : ℕ) → Load it.place load → StopsBelow load h.point rob.entries
     stops_by load l = record {
       position = length (below serial h.rob.entries);

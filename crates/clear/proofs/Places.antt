@@ -28,7 +28,7 @@ get_seam (x ∷ xs) ys y = get_seam xs ys y
 stands_at : (t : List Entry → Entry → Bool) (w : List Entry) (p : Place) → first t w ≡ Some p → w ≡ reverse p.before ++ p.entry ∷ p.younger
 stands_at t w p h = let f = found t [] w p h in f.all ∙ ap (λ o. o ++ p.entry ∷ p.younger) (sym (older_is t w p f))
 
--- what is younger has a greater serial
+-- a younger entry has a greater serial
 pub above : (older : List Entry) (e : Entry) (younger : List Entry) → Rise (older ++ e ∷ younger) → All (λ d. e.serial < d.serial) younger
 above [] e younger rise = rise_head e younger rise
 above (x ∷ older) e younger rise = above older e younger (rise_tail x (older ++ e ∷ younger) rise)
@@ -46,7 +46,7 @@ below_at (x ∷ older) e younger rise =
     ap (λ b. cond b (x ∷ below e.serial (older ++ e ∷ younger)) (below e.serial (older ++ e ∷ younger))) t
     ∙ ap (λ es. x ∷ es) (below_at older e younger (rise_tail x (older ++ e ∷ younger) rise))
 
--- ---- the store
+-- ---- the store that is cleared
 
 -- the oldest store that may be cleared
 pub record Store (d : Desc) (x : Machine) (serial : ℕ) : Type 0 where
@@ -85,7 +85,7 @@ load_at p serial h = by_first (violated_by p) refl h
     by_first None q n = absurd (cc)
     by_first (Some l) q n = record { place = l; is = q; named = some_of _ _ (sym n) }
 
--- ---- where they stand
+-- ---- where store and load stand
 
 -- serials rose before the store was cleared if they do then
 pub rose : (d : Desc) (x : Machine) (serial : ℕ) (k : Store d x serial) → Rise (clears k.place x).machine.window → Rise x.window
@@ -95,44 +95,44 @@ module _ (d : Desc) (x : Machine) (serial : ℕ) (k : Store d x serial) (rises :
   rises_here : Rise (reverse k.place.before ++ k.place.entry ∷ k.place.younger)
   rises_here = subst Rise k.whole rises
 
-  -- as many are below its serial as stand before it
+  -- the entries below the store's serial are as many as stand before the store
   pub place_is : length (below serial x.window) ≡ length (reverse k.place.before)
   place_is =
       ap (λ n. length (below n x.window)) (sym k.named)
       ∙ ap (λ w. length (below k.place.entry.serial w)) k.whole
       ∙ ap length (below_at (reverse k.place.before) k.place.entry k.place.younger rises_here)
 
-  -- it stands there,
+  -- the store stands at the position that its serial tells
   pub stands_there : slice_get x.window (length (below serial x.window)) ≡ Some k.place.entry
   stands_there =
       ap (slice_get x.window) place_is
       ∙ ap (λ w. slice_get w (length (reverse k.place.before))) k.whole
       ∙ get_seam (reverse k.place.before) k.place.younger k.place.entry
 
-  -- and is cleared there
+  -- the store is cleared at the position that its serial tells
   pub set_there : slice_set x.window (length (below serial x.window)) (cleared_one k.place.entry) ≡ (clears k.place x).machine.window
   set_there =
       ap (λ n. slice_set x.window n (cleared_one k.place.entry)) place_is
       ∙ ap (λ w. slice_set w (length (reverse k.place.before)) (cleared_one k.place.entry)) k.whole
       ∙ set-append_seam (reverse k.place.before) k.place.entry k.place.younger (cleared_one k.place.entry)
 
-  -- then serials rise as before
+  -- serials rise once the store is cleared, as before
   pub rises_cleared : Rise (clears k.place x).machine.window
   rises_cleared = rise_with (reverse k.place.before) k.place.younger k.place.entry (cleared_one k.place.entry) refl rises_here
 
-  -- ---- and the load
+  -- ---- the load that is violated
 
   module _ (q : Place) (v : violated_by k.place ≡ Some q) where
     younger_is : k.place.younger ≡ reverse q.before ++ q.entry ∷ q.younger
     younger_is = stands_at (λ between e. is_violated k.place.entry e) k.place.younger q v
 
-    -- it is younger
+    -- the violated load is younger than the store
     pub load_younger : k.place.entry.serial < q.entry.serial
     load_younger =
         all_seam (λ d. k.place.entry.serial < d.serial) (reverse q.before) q.entry q.younger
         (subst (All (λ d. k.place.entry.serial < d.serial)) younger_is (above (reverse k.place.before) k.place.entry k.place.younger rises_here))
 
-    -- what is older than it, once the store is cleared
+    -- the entries older than the violated load, once the store is cleared
     abbrev pub front : List Entry
     front = reverse k.place.before ++ cleared_one k.place.entry ∷ reverse q.before
 
@@ -144,14 +144,14 @@ module _ (d : Desc) (x : Machine) (serial : ℕ) (k : Store d x serial) (rises :
     pub below_load : below q.entry.serial (clears k.place x).machine.window ≡ front
     below_load = ap (below q.entry.serial) front_is ∙ below_at front q.entry q.younger (subst Rise front_is rises_cleared)
 
-    -- it stands behind these
+    -- the violated load stands behind the entries that are older than it
     pub load_there : slice_get (clears k.place x).machine.window (length (below q.entry.serial (clears k.place x).machine.window)) ≡ Some q.entry
     load_there =
         ap (λ es. slice_get (clears k.place x).machine.window (length es)) below_load
         ∙ ap (λ w. slice_get w (length front)) front_is
         ∙ get_seam front q.younger q.entry
 
-    -- and so many go
+    -- the violated load and those younger than it are what goes
     pub gone : length (clears k.place x).machine.window - length (below q.entry.serial (clears k.place x).machine.window) ≡ length q.younger + 1
     gone =
         let a = ap length front_is in

@@ -22,9 +22,9 @@ use Rattle.parts_stand.proofs.Clearing.{finds_clearable}
 use Rattle.queue_laws.proofs.Renaming.{room_is}
 use Rattle.clear.proofs.Effects.{none_is}
 
--- ---- the walk
+-- ---- the walk over the stores
 
--- what is left at a place
+-- what is told of a place is told of the store there
 pub at_place : (stores : List Store) (i : ℕ) (info : StoreInfo) → option_map info_of (slice_get stores i) ≡ Some info →
     (s : Store) × (slice_get stores i ≡ Some s) × (info ≡ info_of s)
 at_place [] i info h = absurd (cc)
@@ -48,7 +48,7 @@ passed point (s ∷ stores) (suc i) info h n =
     let next : suc i + 1 ≡ suc (i + 1) = omega arith in
     ap (λ k. find (can_clear point) (drop k (s ∷ stores))) next ∙ passed point stores i info h n
 
--- one that may is found
+-- a store that may be cleared is found at its place
 pub is_found : (point : ℕ) (stores : List Store) (i : ℕ) (info : StoreInfo) → option_map info_of (slice_get stores i) ≡ Some info → may_clear_by point info ≡ true →
     Some info.serial ≡ option_map (λ s. s.serial) (find (can_clear point) (drop i stores))
 is_found point [] i info h n = absurd (cc)
@@ -65,9 +65,9 @@ none_left point [] (suc i) h = refl
 none_left point (s ∷ stores) zero h = absurd (cc)
 none_left point (s ∷ stores) (suc i) h = none_left point stores i h
 
--- ---- what it finds
+-- ---- what the walk finds
 
--- so many stores that their places can be counted
+-- the stores of the queue are so few that their places can be counted
 pub few_stores : (h : Held) → Whole h → length h.queues.stores < 2 ^ 32
 few_stores h w =
     let a = w.sized.stores_fit in
@@ -85,9 +85,9 @@ finds h v o w s a moved e =
     ∙ finds_clearable h.desc (table_and_stations (in_flight h)) h.point h.queues w.stands.stand here (ap (λ (s : Sizes). s.model) w.made) w.stands.addresses tracks
     ∙ ap (λ (v : Described). clearing v.desc v.machine) s
 
--- ---- nothing happens
+-- ---- where nothing happens at all
 
--- where none is found
+-- where no store is found that may be cleared
 module _ (v : Described) (row : Row) (n : None ≡ clearing v.desc v.machine) where
   pub none_shown : v ≡ record v { machine = (clear v.desc v.machine).machine }
   none_shown = ap (λ (a : After). record v { machine = a.machine }) (sym (none_is v.desc v.machine n))

@@ -39,11 +39,11 @@ set_here (x ∷ w) (suc i) e e2 h = set_here w i e e2 h
 set_there : (h : Held) (i : ℕ) (e : Entry) (rob : Ring) → slice_get h.rob.entries i ≡ Some e → rob ≡ record (h.rob) { entries = slice_set h.rob.entries i (done e) } → slice_get rob.entries i ≡ Some (done e)
 set_there h i e rob here sets = ap (λ (r : Ring). slice_get r.entries i) sets ∙ set_here h.rob.entries i e (done e) here
 
--- so there still is an entry at the position
+-- there still is an entry at the position, once the one that stood there is Done
 pub still_inside : (h : Held) (i : ℕ) (e : Entry) (rob : Ring) → Whole h → slice_get h.rob.entries i ≡ Some e → rob ≡ record (h.rob) { entries = slice_set h.rob.entries i (done e) } → i < length rob.entries
 still_inside h i e rob w here sets = slice_get_within rob.entries i _ (set_there h i e rob here sets)
 
--- ---- the parts
+-- ---- the parts once an entry is Done
 
 module _ (h : Held) (v : Described) (i : ℕ) (e then : Entry) (rob : Ring) (stations : Stations) (w : Whole h) (s : described h ≡ v) (a : option_map (λ (e : Entry). is_waiting e.state) (slice_get v.machine.window i) ≡ Some false)
     (here : slice_get h.rob.entries i ≡ Some e) (sets : rob ≡ record (h.rob) { entries = slice_set h.rob.entries i (done e) }) (there : slice_get rob.entries i ≡ Some then)
@@ -99,14 +99,14 @@ pub told_here : (h : Held) (v : Described) (i : ℕ) (b : Bool) → Whole h → 
     option_map (completes v.machine.cycle) (slice_get v.machine.window i) ≡ Some b
 told_here h v i b w s t = subst (λ (v : Described). option_map (completes v.machine.cycle) (slice_get v.machine.window i) ≡ Some b) s t
 
--- so is the next that executes
+-- the next entry that executes in the parts is the next one in the machine's window
 pub next_here : (h : Held) (v : Described) (from i : ℕ) → Whole h → described h ≡ v → IsNext is_busy h.rob.entries from i → IsNext is_busy v.machine.window from i
 next_here h v from i w s t = subst (λ (v : Described). IsNext is_busy v.machine.window from i) s t
 
 pub none_here : (h : Held) (v : Described) (from : ℕ) → Whole h → described h ≡ v → HoldsNowhere (holds_at is_busy h.rob.entries) from (length h.rob.entries) → HoldsNowhere (holds_at is_busy v.machine.window) from (length v.machine.window)
 none_here h v from w s t = subst (λ (v : Described). HoldsNowhere (holds_at is_busy v.machine.window) from (length v.machine.window)) s t
 
--- no more than 192
+-- the window has no more than 192 entries
 pub few_entries : (h : Held) (v : Described) → Whole h → described h ≡ v → length v.machine.window ≤ 192
 few_entries h v w e =
     let m = ap (λ (v : Described). length v.machine.window) e in

@@ -30,7 +30,7 @@ finished cycle entries = filter (completes cycle) entries
 abbrev with_done : List Event → Entry → List Event
 with_done events e = events ++ event.Done e.serial ∷ []
 
--- ---- lists
+-- ---- lists of entries in places
 
 -- a map that has come to a position leaves the element there as it was
 get_mapped : (f : Entry → Entry) (es : List Entry) (i : ℕ) → slice_get (map f (take i es) ++ drop i es) i ≡ slice_get es i
@@ -38,14 +38,14 @@ get_mapped f es zero = refl
 get_mapped f [] (suc i) = refl
 get_mapped f (e ∷ es) (suc i) = get_mapped f es i
 
--- it goes on over that element
+-- a map that has come to a position goes on over the element there, once that is mapped
 map_set : (f : Entry → Entry) (es : List Entry) (i : ℕ) (e : Entry) → slice_get es i ≡ Some e →
     slice_set (map f (take i es) ++ drop i es) i (f e) ≡ map f (take (suc i) es) ++ drop (suc i) es
 map_set f [] i e h = absurd (cc)
 map_set f (x ∷ es) zero e h = let q : x ≡ e = cc in ap (λ y. f y ∷ es) (sym q)
 map_set f (x ∷ es) (suc i) e h = ap (λ ys. f x ∷ ys) (map_set f es i e h)
 
--- also where it changes nothing there
+-- a map that has come to a position goes on over an element that it doesn't change
 map_stays : (f : Entry → Entry) (es : List Entry) (i : ℕ) (e : Entry) → slice_get es i ≡ Some e → f e ≡ e →
     map f (take i es) ++ drop i es ≡ map f (take (suc i) es) ++ drop (suc i) es
 map_stays f [] i e h k = absurd (cc)
@@ -70,7 +70,7 @@ events_all events [] = sym (append-nil events)
 events_all events (e ∷ es) =
     events_all (with_done events e) es ∙ append_assoc events (event.Done e.serial ∷ []) (map (λ e. event.Done e.serial) es)
 
--- ---- the phase
+-- ---- the phase, entry by entry
 
 -- the entries below a position are through
 abbrev through : ℕ → List Entry → ℕ → List Entry
@@ -83,14 +83,14 @@ pub record CompletesOn (s : Described) (row : Row) (i : ℕ) (now : Described) (
   pub same_cycle : row_now.cycle ≡ row.cycle
   pub few : length row_now.events ≤ length row.events + i
 
--- one entry of the window
+-- the window once one entry more is completed
 entries_more : (cycle : ℕ) (es now : List Entry) (i : ℕ) (e : Entry) (b : Bool) → now ≡ map (completed cycle) (take i es) ++ drop i es → slice_get es i ≡ Some e → completes cycle e ≡ b →
     (if b then slice_set now i (done e) else now) ≡ map (completed cycle) (take (suc i) es) ++ drop (suc i) es
 entries_more cycle es now i e true n h c =
     ap₂ (λ ys y. slice_set ys i y) n (sym (ap (λ b. if b then done e else e) c)) ∙ map_set (completed cycle) es i e h
 entries_more cycle es now i e false n h c = n ∙ map_stays (completed cycle) es i e h (ap (λ b. if b then done e else e) c)
 
--- what is told of the entry at a position
+-- a test that is told of the entry at a position is told of that entry
 told_of : (p : Entry → Bool) (o : Option Entry) (e : Entry) (b : Bool) → option_map p o ≡ Some b → o ≡ Some e → b ≡ p e
 told_of p o e b h g = let k : Some b ≡ Some (p e) = sym h ∙ ap (option_map p) g in cc
 
@@ -129,7 +129,7 @@ module _ (s : Described) (row : Row) (i : ℕ) (now : Described) (row_now : Row)
         few = omega (arith, more, longer, c.few);
       }
 
-  -- so it does where all that is said of it is its serial, and what becomes of whichever entry stands there
+  -- the phase goes on over an entry that is due where its serial alone is told, and what becomes of whichever entry stands there
   serial_by : (o : Option Entry) (n : ℕ) (next : Described) (row_next : Row) → slice_get now.machine.window i ≡ o → option_map (completes now.machine.cycle) o ≡ Some true → option_map (λ (e : Entry). e.serial) o ≡ Some n →
       ((e : Entry) → slice_get now.machine.window i ≡ Some e → next ≡ record now { machine = record (now.machine) { window = slice_set now.machine.window i (done e) } }) →
       row_next ≡ record row_now { events = row_now.events ++ event.Done n ∷ [] } → CompletesOn s row (i + 1) next row_next
@@ -162,15 +162,15 @@ module _ (s : Described) (row : Row) (i : ℕ) (now : Described) (row_now : Row)
         few = omega (arith, c.few);
       }
 
-  -- it is not, and all stays
+  -- the phase goes on over an entry that isn't due, and all stays
   pub completes_past : option_map (completes now.machine.cycle) (slice_get now.machine.window i) ≡ Some false → CompletesOn s row (i + 1) now row_now
   completes_past due = past_by (slice_get now.machine.window i) refl due
 
-  -- so does all where an entry doesn't execute
+  -- the phase goes on over an entry that doesn't execute, and all stays
   past_idle : (e : Entry) → slice_get now.machine.window i ≡ Some e → is_busy e ≡ false → CompletesOn s row (i + 1) now row_now
   past_idle e at idle = completes_past (ap (option_map (completes now.machine.cycle)) at ∙ ap Some (not_due now.machine.cycle e.state idle))
 
-  -- there are as many entries as there were
+  -- the phase leaves as many entries as there were
   pub as_many : length now.machine.window ≡ length s.machine.window
   as_many =
       let a = ap length entries_are in
@@ -180,7 +180,7 @@ module _ (s : Described) (row : Row) (i : ℕ) (now : Described) (row_now : Row)
       let f = ap length (halves i s.machine.window) in
       omega (arith, a, b, k, d, f)
 
-  -- ---- all entries
+  -- ---- once all entries are through
 
   pub machine_over : length s.machine.window ≤ i → now ≡ record s { machine = (complete s.machine).machine }
   machine_over le =

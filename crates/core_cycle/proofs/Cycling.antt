@@ -39,20 +39,20 @@ fetched_advanced s s1 e a =
 
 -- ---- what each step of a cycle leaves
 
--- it begins
+-- a described machine as its next cycle begins
 abbrev pub starts : Described → Described
 starts s = record s { machine = begins_cycle s.machine }
 
--- and the phases before Retire go
+-- the cycle begins, and the phases before Retire go
 pub record Fronts (s s1 s2 : Described) : Type 0 where
   pub begins : s1 ≡ starts s
   pub goes : s2 ≡ record s1 { machine = (phases_before s1).machine; point = s2.point }
 
--- Retire goes
+-- the phase Retire goes, and leaves the rest as it is
 abbrev pub Leaves : Described → Described → Type 0
 Leaves s2 s3 = s3 ≡ record s2 { machine = (retire s2.desc s2.machine).machine }
 
--- and those after it
+-- the phases after Retire go
 abbrev pub Backs : Described → Described → Type 0
 Backs s3 s4 = s4 ≡ record s3 { machine = (phases_after s3).machine; point = s4.point }
 
@@ -70,7 +70,7 @@ joined : (number : ℕ) (f r b : List Event) (r1 r2 r3 r4 : Row) → r1 ≡ empt
     r4 ≡ written number f r b
 joined number f r b r1 r2 r3 r4 e1 e2 e3 e4 = cc
 
--- all of them are the written cycle
+-- the steps of a cycle together, as the definition writes the cycle
 abbrev all : Described → Cycled
 all s =
     let f = phases_before (starts s) in
@@ -106,7 +106,7 @@ module _ (s s1 s2 : Described) (p : Fronts s s1 s2) where
   retired : retire s2.desc s2.machine ≡ retire s.desc (at_retire s.desc s.machine)
   retired = ap₂ retire desc_fronted machine_fronted
 
-  -- and so is the next serial until Rename
+  -- what Retire leaves of the machine, before the phases after it go
   module _ (s3 : Described) (q : Leaves s2 s3) where
     pub desc_left : s3.desc ≡ s.desc
     desc_left = ap (λ (s : Described). s.desc) q ∙ desc_fronted
@@ -117,7 +117,7 @@ module _ (s s1 s2 : Described) (p : Fronts s s1 s2) where
     pub machine_left : s3.machine ≡ (retire s.desc (at_retire s.desc s.machine)).machine
     machine_left = ap (λ (s : Described). s.machine) q ∙ ap (λ (r : Retired). r.machine) retired
 
-    -- and no store executes
+    -- no store executes in the window that Retire leaves
     pub settled_left : Timely s.desc s.machine → Each WaitsOrDone s3.machine.window
     settled_left t = subst (λ (x : Machine). Each WaitsOrDone x.window) (sym machine_left) (none_busy s.desc s.machine t)
 
@@ -165,7 +165,7 @@ module _ (s s1 s2 : Described) (p : Fronts s s1 s2) where
           ∙ ap (λ (b : After). written number f.events r.events b.events) backed
           ∙ ap (λ (c : Cycled). c.row) (whole s)
 
-      -- the written cycle
+      -- what the steps of a cycle leave is the definition's cycle
       pub cycle_is : (r1 r2 r3 r4 : Row) (piece : List ℕ) → Writes s s1 s2 s3 r1 r2 r3 r4 → piece ≡ (retire s2.desc s2.machine).piece →
           record { machine = s4.machine; row = r4; piece = piece } ≡ cycle s.desc (word_at s.code) s.machine
       cycle_is r1 r2 r3 r4 piece w p =

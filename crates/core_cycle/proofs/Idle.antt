@@ -17,7 +17,7 @@ idle n cycle (Busy due) h = absurd (cc)
 idle n cycle Done h = tt
 
 module _ (n cycle : ℕ) (es : List Entry) where
-  -- none of the entries up to a position is Done before this cycle
+  -- no entry up to a position is Done before this cycle
   abbrev pub UpTo : ℕ → Type 0
   UpTo i = All (λ e. NotDoneBefore n cycle e.state) (take i es)
 

@@ -1,4 +1,4 @@
--- As the oldest entries retire, what stands beside the window goes on to stand for it.
+-- Once the oldest entries have retired, what stands beside the window still stands for it.
 use Rattle.std.proofs.Common.{◌≡◌, ℕ, suc, zero, Bool, true, false, List, [], ◌∷◌, ◌++◌, length, drop, refl, ap₂, ◌∙◌, subst}
 use Rattle.std.specs.Prelude.{◌&&◌, ◌||◌, not, nat_le}
 use Rattle.std.specs.List.{AllByRecursion as Each}
@@ -23,11 +23,11 @@ by_parts : (a b : Bool) → a && b ≡ true → a ≡ true
 by_parts true b m = refl
 by_parts false b m = m
 
--- one that may leave is Done
+-- an entry that may leave is Done
 leaves_done : (e : Entry) → may_leave e ≡ true → is_done e.state ≡ true
 leaves_done e m = by_parts (is_done e.state) (not (is_control e.item.kind) || e.resolved) m
 
--- one that is Done and visible gives its value
+-- an entry that is Done and visible gives its value
 gives_visible : (h : Hold) (e : Entry) → nat_le e.serial h.point ≡ true → is_done e.state ≡ true → gives_at h e ≡ true
 gives_visible h e v d = ap₂ (λ visible done. not (h.holds && is_load e.item.kind && not visible) && done) v d ∙ by_two h.holds (is_load e.item.kind)
   where
@@ -36,11 +36,11 @@ gives_visible h e v d = ap₂ (λ visible done. not (h.holds && is_load e.item.k
     by_two true false = refl
     by_two false b = refl
 
--- the oldest is visible
+-- the oldest entry in flight is visible
 head_visible : (p : Point) (e : Entry) (es : List Entry) → HasAdvanced p (e ∷ es) → nat_le e.serial p.serial ≡ true
 head_visible p e es a = a.each.0
 
--- the oldest entry goes
+-- once the oldest entry has retired, what stands beside the window stands for the others
 one_gone : (p : InFlight) (e : Entry) (es : List Entry) (sources : List Sources) (writes : List Write) (q : Queues) → is_done e.state ≡ true → HasAdvanced p.point (e ∷ es) →
     Tied p (e ∷ es) sources writes q → Tied p es (drop 1 sources) (without_retired e.serial writes) (without e.serial q)
 one_gone p e es sources writes q d a t =

@@ -34,7 +34,7 @@ module _ (code : Code) (s s1 : Described) (e : s1.machine ≡ (cycle s.desc code
     timely = subst (λ d. Timely d s1.machine) (sym q) (subst (Timely s.desc) (sym e) (timely_cycle s.desc code s.machine (every_desc s.desc) h.sized h.timely));
   }
 
-  -- and what retires are steps of the instruction set
+  -- what retires in a cycle are steps of the instruction set
   pub commits_after : (piece : List ℕ) → piece ≡ (cycle s.desc code s.machine).piece → Commits code s.machine s1.machine piece
   commits_after piece p =
       subst (Commits code s.machine s1.machine) (sym p)
@@ -43,7 +43,7 @@ module _ (code : Code) (s s1 : Described) (e : s1.machine ≡ (cycle s.desc code
 -- ---- one that is passed over
 
 module _ (n : ℕ) (s s1 : Described) (begins : s1 ≡ record s { machine = at_cycle (s.machine.cycle + 1) s.machine }) (h : StillUntil n s.desc (word_at s.code) s.machine) (l : s.machine.cycle + 1 < n) where
-  -- is the written cycle
+  -- a cycle that is passed over is the definition's cycle
   passed_whole : record { machine = s1.machine; row = empty_row (s.machine.cycle + 1); piece = [] } ≡ cycle s.desc (word_at s.code) s.machine
   passed_whole =
       let whole : Described → Cycled = λ s1. record { machine = s1.machine; row = empty_row (s.machine.cycle + 1); piece = [] } in
@@ -57,7 +57,7 @@ module _ (n : ℕ) (s s1 : Described) (begins : s1 ≡ record s { machine = at_c
   passed_machine : s1.machine ≡ (cycle s.desc (word_at s.code) s.machine).machine
   passed_machine = ap (λ (c : Cycled). c.machine) passed_whole
 
-  -- and those after it stay as still as they were
+  -- the cycles after one that is passed over are as still as they were
   still_stays : StillUntil n s1.desc (word_at s1.code) s1.machine
   still_stays = subst (λ (s : Described). StillUntil n s.desc (word_at s.code) s.machine) (sym begins) (λ c k m. h c (omega arith) m)
 

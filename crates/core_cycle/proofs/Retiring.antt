@@ -40,7 +40,7 @@ takes_by : (ram : Ram) (width : ℕ) (o : Option Outcome) → FaultIs ram width 
 takes_by ram width None f s n = absurd (cc)
 takes_by ram width (Some o) f s n = sym f ∙ n
 
--- its address part has issued, since it doesn't wait
+-- the address part of a store that is Done has issued, since the store doesn't wait
 done_address : (e : Entry) → HasParts e → is_store e.item.kind ≡ true → is_done e.state ≡ true → has_address e ≡ true
 done_address e p s d = (both (has_address e) (has_data e) (p s ∙ ap not (done_waits e.state d))).0
 

@@ -4,10 +4,10 @@ use Rattle.window_model.specs.State.{After}
 use Rattle.window_model.specs.Cycle.{after_retire, before_retire}
 use Rattle.core_parts.specs.Described.{Described}
 
--- those before Retire
+-- what the phases before Retire leave of the machine
 abbrev pub phases_before : Described → After
 phases_before s = before_retire s.desc s.machine
 
--- those after it
+-- what the phases after Retire leave of the machine
 abbrev pub phases_after : Described → After
 phases_after s = after_retire s.desc (word_at s.code) s.machine

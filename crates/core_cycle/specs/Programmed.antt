@@ -14,7 +14,7 @@ pub record Programmed : Type 0 where
   pub code : CodeText
   pub machine : Machine
 
--- it is stored as these three
+-- a machine with its program is stored as the description, the code and the machine
 abbrev pub programmed_code : Coded Programmed
 programmed_code =
     code_by (Desc × (CodeText × Machine)) (coded× desc.the_row.coded (coded× code.the_row.coded machine_code))

@@ -1,4 +1,4 @@
-//! The core.
+//! The core, held by its parts and seen as the machine.
 ghost use Rattle.std.specs.Prelude.{◌≡◌, ◌<◌, true, length, IfOk};
 ghost use Rattle.queue_laws.specs.Window.{StandFor, Tracks};
 ghost use Rattle.window_model.specs.Dependence.{passing};

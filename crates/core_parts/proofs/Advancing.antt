@@ -14,7 +14,7 @@ use Rattle.visibility.specs.Point.{CanAdvance, HasAdvanced, HasMoved, IsPoint, N
 
 -- ---- what it says of each entry is all that is to be kept
 
--- it tells whether an entry is visible
+-- the visibility point tells whether an entry is visible
 abbrev pub Tells : Point → List Entry → Entry → Type 0
 Tells p before e = nat_le e.serial p.serial ≡ visible p.model before
 

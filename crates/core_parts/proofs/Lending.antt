@@ -30,7 +30,7 @@ lent_name_roots h v w s = subst (λ (v : Described). NamesRoots v.machine.next_s
 pub lent_waiting : (h : Held) (v : Described) → Whole h → described h ≡ v → HoldsWaiting v.desc.version (hold_of v.desc v.point) h.stations v.machine.window
 lent_waiting h v w s = subst (λ (v : Described). HoldsWaiting v.desc.version (hold_of v.desc v.point) h.stations v.machine.window) s w.stands.stand.held
 
--- what they tell of who is ready, where the point has advanced
+-- the stations tell who is ready, where the point has advanced
 ready_by : (h : Held) → Whole h → HasAdvanced h.point h.rob.entries → TellsReady h.desc h.stations h.rob.entries
 ready_by h w a i e b c = tells_ready h.desc _ h.point i e w.stands.stand (record { advanced = a; model = ap (λ (s : Sizes). s.model) w.made; hold = refl }) b c
 
@@ -91,7 +91,7 @@ point_older q p window e a = older_by q window (subst (λ p. HasAdvanced p windo
 
 -- ---- the sources at a position
 
--- there is one for each entry
+-- the parts hold the sources of each entry of the window, and no others
 pub each_has_sources : (h : Held) → Whole h → length h.sources.items ≡ length h.rob.entries
 each_has_sources h w = sym (as_many_roots h.sources.items) ∙ (counts_room _ w.stands.stand).roots
 

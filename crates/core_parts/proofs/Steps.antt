@@ -1,4 +1,4 @@
--- Each step keeps the parts standing for the window.
+-- The steps of a cycle keep the parts standing for the window.
 use Rattle.std.proofs.Common.{◌≡◌, ◌≢◌, ℕ, zero, suc, ◌<◌, Bool, true, false, List, [], ◌∷◌, ◌++◌, length, map, Option, Some, None, refl, ap, sym, ◌∙◌, subst, arith, slice_get}
 use Rattle.std.specs.Prelude.{if◌then◌else◌, slice_set, is_some, ◌&&◌, ◌==◌, drop, take}
 use Rattle.std.specs.List.{All, AllZip}
@@ -104,7 +104,7 @@ map_set [] i e e2 h q = absurd (cc)
 map_set (x ∷ w) zero e e2 h q = let same : x ≡ e = cc in ap (λ s. s ∷ map seen w) (q ∙ ap seen (sym same))
 map_set (x ∷ w) (suc i) e e2 h q = ap (λ ss. seen x ∷ ss) (map_set w i e e2 h q)
 
--- what is noted of a store leaves its root
+-- what is noted of where a store writes, and below of its data, leaves the roots of addresses as they are
 addresses_by_span : (noted : Bool) (p : Parts) (stores : List Queued) (w : Width) (e : Entry) → AddressesStand p.window p.roots stores → AddressesStand p.window p.roots (with_span noted w e stores)
 addresses_by_span false p stores w e a = a
 addresses_by_span true p stores w e a = addresses_know p stores (addressed_at e.serial (span_in w e)) (λ s. by_test (s.serial == e.serial) s) a
@@ -126,7 +126,7 @@ addresses_noted : (store : Bool) (p : Parts) (stores : List Queued) (w : Width) 
 addresses_noted false p stores w e a = a
 addresses_noted true p stores w e a = addresses_by_stored (has_data e) p (with_span (has_address e) w e stores) e (addresses_by_span (has_address e) p stores w e a)
 
--- so does what is noted of a load, and that a store is cleared
+-- the roots of addresses stay where it is noted what a load reads, and where a store is cleared
 stores_of_read : (b : Bool) (w : Width) (e : Entry) (q : Queues) → (if b then record q { loads = map (issued_at e.serial (access_in w e)) q.loads } else q).stores ≡ q.stores
 stores_of_read true w e q = refl
 stores_of_read false w e q = refl
@@ -138,7 +138,7 @@ addresses_cleared p stores serial a = addresses_know p stores (cleared_at serial
     by_test true s = refl
     by_test false s = refl
 
--- what is noted of a load is noted where that is asked for
+-- the queues track the window once an entry has issued, where they are asked to
 tracks_issued : (b : Bool) (q : Queues) (window : List Entry) (i : ℕ) (e e2 : Entry) (w : Width) → b ≡ true → Tracks q window → slice_get window i ≡ Some e → Rise window → GoesOn e e2 →
     TracksOn w e e2 → Tracks (noted_load b w e2 (noted w e2 q)) (slice_set window i e2)
 tracks_issued b q window i e e2 w t k h r g on =
@@ -205,7 +205,7 @@ stands_cleared p i e s h k =
       point = point_clears p.point p.next p.window i e s.point h;
     }
 
--- ---- entries go
+-- ---- entries go, the youngest or the oldest
 
 queues_cut : (first : ℕ) (w : List Entry) (q : Queues) → Rise w → StandFor q w → StandFor (cut_at first q) (below first w)
 queues_cut first w q r s = let t = splits first w r in cut_stands q first (below first w) t.gone (subst (StandFor q) t.whole s) t.older t.younger
@@ -226,7 +226,7 @@ stands_dropped p first i e s h older l =
     (addresses_squash parts p.queues.stores first s.stand s.addresses)
     (point_squashes p.point p.next first p.window i e s.point s.stand.rise h older l)
 
--- none of those that are younger has its serial
+-- no younger entry has the serial of the oldest one
 younger_differ : (e : Entry) (es : List Entry) → All (λ d. e.serial < d.serial) es → Others e.serial es
 younger_differ e es a = All-weaker (λ (d : Entry). e.serial < d.serial) (λ (d : Entry). d.serial ≢ e.serial) (λ d l. omega (arith, l)) es a
 
@@ -249,7 +249,7 @@ stands_retired p head s h d =
     (addresses_retire parts p.queues.stores head s.stand s.addresses h)
     (point_retires p.point p.next p.window s.point)
 
--- ---- the point
+-- ---- the visibility point moves on
 
 pub stands_moved : PointMoves
 stands_moved p s = record {

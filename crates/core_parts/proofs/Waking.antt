@@ -26,14 +26,14 @@ Hidden p es = All (λ e. p < e.serial) es
 pub visible_before : (p h n : ℕ) (es : List Entry) → Rise es → h ≡ min (p + 1) (2 ^ 64 - 1) → take n es ≡ below h es → Visible p (take n es)
 visible_before p h n es r q o = All-weaker (λ e. e.serial < h) (λ e. e.serial ≤ p) (λ e l. omega (arith, l, q)) (take n es) (below_of h es n r o)
 
--- and the others: no entry has the last serial
+-- the entries from the position on that the point tells are hidden: no entry has the last serial
 pub hidden_behind : (p h n : ℕ) (es : List Entry) → Rise es → All (λ e. e.serial < 2 ^ 64 - 1) es → h ≡ min (p + 1) (2 ^ 64 - 1) → n ≤ length es → take n es ≡ below h es → Hidden p (drop n es)
 hidden_behind p h n es r few q w o =
     let not_last = All-drop (λ e. e.serial < 2 ^ 64 - 1) n es few in
     let above = above_of h es n r w o in
     λ k d within. (let l = not_last k d within in let m = above k d within in omega (arith, l, m, q))
 
--- behind one that isn't visible none is
+-- behind an entry that isn't visible no entry is
 pub hidden_from : (p : ℕ) (es : List Entry) (i : ℕ) (e : Entry) → Rise es → slice_get es i ≡ Some e → nat_le e.serial p ≡ false → Hidden p (drop i es)
 hidden_from p [] i e r h v = absurd (cc)
 hidden_from p (x ∷ es) zero e r h v =
@@ -51,7 +51,7 @@ drop_past (suc i) (e ∷ es) l = drop_past i es (omega (arith, l))
 
 -- ---- those that are given
 
--- of those that aren't visible none is
+-- the point gives no value of an entry that it hides
 given_hidden : (p : ℕ) (es : List Entry) → Hidden p es → filter (is_given p) es ≡ []
 given_hidden p [] a = refl
 given_hidden p (e ∷ es) a =
@@ -80,7 +80,7 @@ given_then p (x ∷ es) zero e b h g =
     shown false = refl
 given_then p (x ∷ es) (suc i) e b h g = given_then p es i e b h g
 
--- the one at a position, and those behind it
+-- the serials that are given from a position on: that of the entry there, if its value is given, and those behind it
 given_next : (p : ℕ) (es : List Entry) (i : ℕ) (e : Entry) (b : Bool) → slice_get es i ≡ Some e → is_given p e ≡ b → given_from i p es ≡ cond b (e.serial ∷ given_from (i + 1) p es) (given_from (i + 1) p es)
 given_next p es i e b h g =
     let n : suc i ≡ i + 1 = omega arith in
@@ -92,14 +92,14 @@ past_end p i es l = ap (λ fs. map (λ (e : Entry). e.serial) (filter (is_given 
 
 -- ---- the stations once they are told
 
--- of those from a position on
+-- the stations once they know of the values that the entries from a position on give by the point's move
 abbrev pub woken_from : ℕ → ℕ → List Entry → Stations → Stations
 woken_from i p es s = record s { held = struck_each (given_from i p es) s.held }
 
 pub none_woken : (i p : ℕ) (es : List Entry) (s : Stations) → given_from i p es ≡ [] → s ≡ woken_from i p es s
 none_woken i p es s h = ap (λ serials. record s { held = struck_each serials s.held }) (sym h)
 
--- the one at a position first
+-- the stations are told of the entry at a position first, and then of those behind it
 pub wakes_next : (i p : ℕ) (es : List Entry) (s t : Stations) (e : Entry) → slice_get es i ≡ Some e → nat_le e.serial p ≡ true →
     t ≡ record s { held = if is_load e.item.kind && is_done e.state then map (struck e.serial) s.held else s.held } → woken_from (i + 1) p es t ≡ woken_from i p es s
 wakes_next i p es s t e h v q = ap (woken_from (i + 1) p es) q ∙ by_test (is_load e.item.kind && is_done e.state) refl
@@ -116,7 +116,7 @@ wakes_next i p es s t e h v q = ap (woken_from (i + 1) p es) q ∙ by_test (is_l
         by_both true k = ap (λ serials. record s { held = struck_each serials s.held }) (sym k)
         by_both false k = ap (λ serials. record s { held = struck_each serials s.held }) (sym k)
 
--- ---- a move
+-- ---- a move of the point
 
 -- an entry that was visible gave its value as it does
 gave : (h d : Bool) (n p p2 : ℕ) → n ≤ p → p ≤ p2 → (not (not (true && h && not (nat_le n p)) && d) && (not (true && h && not (nat_le n p2)) && d)) ≡ false
@@ -131,7 +131,7 @@ gave h d n p p2 l k =
     both false true = refl
     both false false = refl
 
--- one that wasn't gives it where it is given
+-- an entry that wasn't visible gives its value by the move where it is a load that is Done and is now visible
 gets : (h d : Bool) (n p p2 : ℕ) → p < n → (not (not (true && h && not (nat_le n p)) && d) && (not (true && h && not (nat_le n p2)) && d)) ≡ (h && d && nat_le n p2)
 gets h d n p p2 l =
     let a : nat_le n p ≡ false = grind (arith, nat_tests) in
@@ -177,14 +177,14 @@ released_from p p2 i es k a b =
     ∙ sym (filter-append (newly p p2) (take i es) (drop i es))
     ∙ ap (filter (newly p p2)) (halves i es))
 
--- so the stations are told
+-- the stations that know of each value given from a position on are those that the definition of the point's move leaves
 pub woken_as : (p p2 i : ℕ) (es : List Entry) (s : Stations) → p ≤ p2 → Visible p (take i es) → Hidden p (drop i es) →
     woken_from i p2 es s ≡ record s { held = struck_by_move (at_point p) (at_point p2) es s.held }
 woken_as p p2 i es s k a b = ap (λ serials. record s { held = struck_each serials s.held }) (released_from p p2 i es k a b)
 
 -- ---- where nothing is held back
 
--- what gives its value gave it
+-- where no result is held back, a move of the point releases none
 pub none_released : (p p2 : ℕ) (es : List Entry) → released (record { holds = false; point = p }) (record { holds = false; point = p2 }) es ≡ []
 none_released p p2 es = ap (map (λ e. e.serial)) (all_gave es)
   where

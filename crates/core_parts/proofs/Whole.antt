@@ -16,7 +16,7 @@ use Rattle.core_parts.specs.Steps.{with_moved}
 use Rattle.core_parts.proofs.Steps.{stands_moved}
 use Rattle.core_parts.proofs.Waking.{at_point, none_released}
 
--- ---- what is shown
+-- ---- what is shown of the parts
 
 -- a phase of the machine that the parts hold is a phase of the machine that is seen
 pub shown_by : (phase : Desc → Machine → Machine) (h : Held) (y : Machine) (v : Described) → y ≡ phase h.desc (machine_of h) → described h ≡ v →
@@ -26,14 +26,14 @@ shown_by phase h y v e s =
     let after : Described → Described = λ v. record v { machine = phase v.desc v.machine } in
     ap shown e ∙ ap after s
 
--- so are its events
+-- the events of a phase of the machine that the parts hold are those of the machine that is seen
 pub told_by : (phase : Desc → Machine → After) (h : Held) (v : Described) (old new : Row) → new ≡ record old { events = old.events ++ (phase h.desc (machine_of h)).events } → described h ≡ v →
     new ≡ record old { events = old.events ++ (phase v.desc v.machine).events }
 told_by phase h v old new e s = e ∙ ap (λ (v : Described). record old { events = old.events ++ (phase v.desc v.machine).events }) s
 
 -- ---- the steps that are no phase
 
--- the next cycle begins
+-- the parts stay whole as the next cycle begins
 pub begin_whole : (h : Held) (cycle : ℕ) → Whole h → cycle ≡ h.cycle + 1 → Whole (record h { cycle = cycle })
 begin_whole h cycle w e = record {
   sized = subst (λ c. Sized h.desc (record (machine_of h) { cycle = c })) (sym e) (sized_begin h.desc (machine_of h) (every_desc h.desc) w.sized);

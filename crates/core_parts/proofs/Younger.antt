@@ -60,7 +60,7 @@ pub record Dropped (h : Held) (first : ℕ) (next : Option ℕ) (rob : Ring) (so
   pub divider : ports ≡ record (h.ports) { divider = freed_from first h.ports.divider }
   pub fetches : fetch_unit ≡ record (h.fetch_unit) { queue = []; fetch_pc = next }
 
--- all parts, so cut
+-- the parts once the entries from a serial on are dropped, and fetching goes on elsewhere
 abbrev pub dropped : Held → ℕ → Option ℕ → Held
 dropped h first next = record h {
   rob = record (h.rob) { entries = below first h.rob.entries };
@@ -99,7 +99,7 @@ module _ (h : Held) (first : ℕ) (next : Option ℕ) (rob : Ring) (sources : Bu
   pub drop_whole : StopsBelow first h.point h.rob.entries → Whole (record h { rob = rob; sources = sources; writes = writes; table_room = room; stations = stations; queues = q; ports = ports; fetch_unit = fetch_unit })
   drop_whole s = subst Whole (sym are) (dropped_whole h first next w s)
 
--- ---- what is asked
+-- ---- what a caller is asked
 
 pub stops_here : (h : Held) (v : Described) (first : ℕ) → Whole h → described h ≡ v → StopsBelow first v.point v.machine.window → StopsBelow first h.point h.rob.entries
 stops_here h v first w s t = subst (λ (v : Described). StopsBelow first v.point v.machine.window) (sym s) t

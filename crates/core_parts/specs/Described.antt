@@ -33,15 +33,15 @@ pub record Described : Type 0 where
   pub machine : Machine
   pub point : Point
 
--- before the first cycle
+-- a described machine before the first cycle
 abbrev pub opened : Desc → CodeText → ℕ → Ram → Described
 opened d code entry ram = record { desc = d; code = code; machine = opening d entry ram; point = first_point d.stt_model }
 
--- with this window in the place of its own
+-- a described machine with another window in the place of its own
 abbrev pub with_window : List Entry → Described → Described
 with_window window s = record s { machine = record (s.machine) { window = window } }
 
--- what phase Fetch makes of it
+-- what phase Fetch makes of a described machine
 abbrev pub fetch_of : Described → After
 fetch_of s = fetch s.desc (word_at s.code) s.machine
 
@@ -67,7 +67,7 @@ Unretired = List Entry × (ℕ × (List Item × (Option ℕ × Mark)))
 abbrev pub unretired_code : Coded Unretired
 unretired_code = coded× (coded_list entry.the_row.coded) (coded× coded_ℕ (coded× (coded_list item.the_row.coded) (coded× (coded_option coded_ℕ) mark.the_row.coded)))
 
--- both levels of a cache
+-- the sets of lines of both levels of a cache
 abbrev pub Levels : Type 0
 Levels = List (List ℕ) × List (List ℕ)
 
@@ -122,7 +122,7 @@ machine_code =
 abbrev pub point_code : Coded Point
 point_code = code_by (ℕ × SttModel) (coded× coded_ℕ model.the_row.coded) (λ p. (p.serial, p.model)) (λ p. record { serial = p.0; model = p.1 }) (λ _. refl)
 
--- and the machine beside its description, its code and its point
+-- a described machine is stored as its description, its code, the machine and its point
 abbrev pub described_code : Coded Described
 described_code =
     code_by (Desc × (CodeText × (Machine × Point))) (coded× desc.the_row.coded (coded× code.the_row.coded (coded× machine_code point_code)))

@@ -18,6 +18,6 @@ pub record StopsBelow (first : ℕ) (p : Point) (window : List Entry) : Type 0 w
 abbrev pub cut_from : ℕ → Option ℕ → Machine → Machine
 cut_from first next x = record x { window = below first x.window; queue = []; fetch_pc = next; divider = freed_from first x.divider }
 
--- how many those are
+-- how many entries from a serial on, and fetched items, are dropped
 abbrev pub count_from : ℕ → Machine → ℕ
 count_from first x = length x.window - length (below first x.window) + length x.queue

@@ -26,7 +26,7 @@ use Rattle.visibility.specs.Point.{Point}
 use Rattle.core_parts.specs.Described.{Described}
 use Rattle.core_parts.specs.Stands.{InFlight, Stands}
 
--- all parts
+-- what all parts of a core hold
 pub record Held : Type 0 where
   pub desc : Desc
   pub code : CodeText
@@ -78,11 +78,11 @@ machine_of h = record {
   end = h.end;
 }
 
--- with its description, its code and its point
+-- the machine that the parts hold, with its description, its code and its point
 abbrev pub described : Held → Described
 described h = record { desc = h.desc; code = h.code; machine = machine_of h; point = h.point }
 
--- what they hold of the entries in flight
+-- what the parts hold of the entries in flight
 abbrev pub in_flight : Held → InFlight
 in_flight h = record {
   version = h.desc.version;
@@ -134,7 +134,7 @@ sizes h = record {
   model = h.point.model;
 }
 
--- those of a description
+-- how large the parts are to be by a description
 abbrev pub sizes_for : Desc → Sizes
 sizes_for d = record {
   entries = d.core_rob;
@@ -154,11 +154,11 @@ sizes_for d = record {
   model = d.stt_model;
 }
 
--- what holds of them in every state
+-- the invariant of the parts of a core, in every state
 pub record Whole (h : Held) : Type 0 where
-  -- each part holds at most what the description says
+  -- what each part holds is within the sizes of the description
   pub sized : Sized h.desc (machine_of h)
   -- what stands beside the window so that it needn't be searched stands for it
   pub stands : Stands (in_flight h)
-  -- and each part is made for the description
+  -- the parts are made for the description, with its sizes
   pub made : sizes h ≡ sizes_for h.desc

@@ -23,7 +23,8 @@ use Rattle.parts_stand.specs.Telling.{source_by}
 abbrev pub NamesWriters : List Write → List Entry → Type 0
 NamesWriters writes window = (r : ℕ) → source_of writes r ≡ source_by (writer (reverse window) r)
 
--- and the youngest root that each has; for one without maybe one that has retired
+-- the table has for each register the youngest root of its value for an entry behind the window; for one without maybe a root that has
+-- retired
 abbrev pub NamesRoots : ℕ → List Write → List Entry → Type 0
 NamesRoots next writes window = (r : ℕ) → unretired (oldest_of next window) (root_of writes r) ≡ youngest_root (reverse window) r
 
@@ -42,7 +43,7 @@ HasAddressRoots next stores window = map (λ s. unretired (oldest_of next window
 abbrev pub HoldsWaiting : ℕ → Hold → Stations → List Entry → Type 0
 HoldsWaiting version hold s window = map waiter_in s.held ≡ waiters_from version hold [] window
 
--- and one awaits nothing exactly where its entry is ready
+-- a station awaits nothing exactly where its entry is ready
 abbrev pub TellsReady : Desc → Stations → List Entry → Type 0
 TellsReady d s window = (i : ℕ) (e : Entry) → slice_get window i ≡ Some e → is_waiting e.state ≡ true →
     option_map awaits_none (slice_get s.held (station_of i window)) ≡ Some (ready d (before_at window i) e)
@@ -51,7 +52,7 @@ TellsReady d s window = (i : ℕ) (e : Entry) → slice_get window i ≡ Some e 
 abbrev pub TellsVisible : SttModel → Point → List Entry → Type 0
 TellsVisible model p window = (i : ℕ) (e : Entry) → slice_get window i ≡ Some e → nat_le e.serial p.serial ≡ visible model (before_at window i)
 
--- and serials below those of the window are
+-- serials below those of the window's entries are visible, where there is an entry
 abbrev pub ShowsOlder : Point → List Entry → Type 0
 ShowsOlder p window = (s : ℕ) → 1 ≤ length window → All (λ e. s < e.serial) window → s ≤ p.serial
 

@@ -24,24 +24,24 @@ pub record InFlight : Type 0 where
   pub tracked : Bool
   -- the serial that the next entry gets
   pub next : ℕ
-  -- the entries
+  -- the entries in flight, oldest first
   pub window : List Entry
   -- at each entry's position the youngest roots of its sources, and their writers
   pub sources : List Sources
-  -- the rename table's writes
+  -- the writes in the rename table
   pub writes : List Write
   -- the stations of the entries that wait
   pub held : List Station
-  -- the loads and stores
+  -- the queues of loads and stores in flight
   pub queues : Queues
   -- how far entries are visible
   pub point : Point
 
--- what holds results back
+-- how results are held back: whether they are, and by which point
 abbrev pub hold_in : InFlight → Hold
 hold_in p = record { holds = p.holds; point = p.point.serial }
 
--- those of which `parts_stand` speaks
+-- the window, the table and the stations, in the form in which `parts_stand` speaks of them
 abbrev pub table_and_stations : InFlight → Parts
 table_and_stations p = record { version = p.version; hold = hold_in p; next = p.next; window = p.window; roots = each_roots p.sources; writes = p.writes; held = p.held }
 
@@ -49,13 +49,13 @@ table_and_stations p = record { version = p.version; hold = hold_in p; next = p.
 pub record Stands (p : InFlight) : Type 0 where
   -- serials rise below the next one; the roots, the table and the stations say what the window says
   pub stand : Stand (table_and_stations p)
-  -- so do the writers by position
+  -- the writers beside each entry's position are those that the window says
   pub writers : WritersOf p.next p.window (each_writers p.sources)
   -- the queues hold the loads and stores
   pub queues : StandFor p.queues p.window
-  -- and track them where loads may pass stores
+  -- where loads may pass stores, the queues also hold what loads read and which stores are cleared
   pub tracks : p.tracked ≡ true → Tracks p.queues p.window
-  -- with the roots of the stores' addresses
+  -- the queue of stores has the youngest roots of the stores' addresses
   pub addresses : AddressesStand p.window (each_roots p.sources) p.queues.stores
-  -- and the point can move on
+  -- the visibility point says which entries are visible, and can move on
   pub point : PointStands p.point p.next p.window

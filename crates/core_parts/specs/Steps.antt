@@ -55,7 +55,8 @@ with_entry place s awaits e p = record p {
   queues = queued e.item.kind e.serial (base_root s.roots) p.queues;
 }
 
--- it has the next serial, isn't resolved, it and no part of it has issued, and a store that loads may pass isn't cleared
+-- an entry as it is renamed: it has the next serial, isn't resolved, it and no part of it has issued, and a store that loads may pass
+-- isn't cleared
 pub record Fresh (p : InFlight) (e : Entry) : Type 0 where
   pub serial : e.serial ≡ p.next
   pub unresolved : e.resolved ≡ false
@@ -70,8 +71,8 @@ RenamesIn = (p : InFlight) (e : Entry) (s : Sources) (awaits : List (Option ℕ)
 
 -- ---- the entry at a position goes on
 
--- it issues, or a part of it: its station is freed or waits for what is left, and a store's parts that have issued are noted, with
--- the width of its access; so is what a load reads, where loads may pass stores
+-- the entry at a position issues, or a part of it: its station is freed or waits for what is left, and a store's parts that have issued
+-- are noted, with the width of its access; so is what a load reads, where loads may pass stores
 abbrev pub with_issued : ℕ → Width → Entry → InFlight → InFlight
 with_issued i w e p = record p {
   window = slice_set p.window i e;
@@ -83,7 +84,7 @@ abbrev pub IssuesAt : Type 0
 IssuesAt = (p : InFlight) (i : ℕ) (e e2 : Entry) (w : Width) → Stands p → slice_get p.window i ≡ Some e → is_waiting e.state ≡ true →
     Issues e e2 → (is_store e.item.kind ≡ true → PartsGoOn w e e2) → (p.tracked ≡ true → TracksOn w e e2) → Stands (with_issued i w e2 p)
 
--- it becomes Done: no station awaits it any more, unless its value is held back
+-- the entry at a position becomes Done: no station awaits it any more, unless its value is held back
 abbrev pub with_done : ℕ → Entry → InFlight → InFlight
 with_done i e p =
     let done = record e { state = Done } in
@@ -92,23 +93,23 @@ with_done i e p =
 abbrev pub CompletesAt : Type 0
 CompletesAt = (p : InFlight) (i : ℕ) (e : Entry) → Stands p → slice_get p.window i ≡ Some e → is_waiting e.state ≡ false → Stands (with_done i e p)
 
--- it is marked as resolved
+-- the entry at a position becomes resolved
 abbrev pub with_resolved : ℕ → Entry → InFlight → InFlight
 with_resolved i e p = record p { window = slice_set p.window i (record e { resolved = true }) }
 
 abbrev pub ResolvesAt : Type 0
 ResolvesAt = (p : InFlight) (i : ℕ) (e : Entry) → Stands p → slice_get p.window i ≡ Some e → is_waiting e.state ≡ false → Stands (with_resolved i e p)
 
--- it is a store, and is cleared
+-- the entry at a position, a store, is cleared, in the window and in the queue of stores
 abbrev pub with_cleared : ℕ → Entry → InFlight → InFlight
 with_cleared i e p = record p { window = slice_set p.window i (cleared_one e); queues = cleared_in e.serial p.queues }
 
 abbrev pub ClearsAt : Type 0
 ClearsAt = (p : InFlight) (i : ℕ) (e : Entry) → Stands p → slice_get p.window i ≡ Some e → is_store e.item.kind ≡ true → Stands (with_cleared i e p)
 
--- ---- entries go
+-- ---- entries go: the youngest, or the oldest
 
--- those from a serial on
+-- what is in flight once the entries from a serial on have gone
 abbrev pub below_serial : ℕ → InFlight → InFlight
 below_serial first p = record p {
   window = below first p.window;
@@ -135,7 +136,7 @@ without_head head p = record p {
 abbrev pub RetiresHead : Type 0
 RetiresHead = (p : InFlight) (head : Entry) → Stands p → slice_get p.window 0 ≡ Some head → gives_at (hold_in p) head ≡ true → Stands (without_head head p)
 
--- ---- the point moves
+-- ---- the visibility point moves on
 
 -- over the window; no station awaits an entry that then gives its value
 abbrev pub with_moved : InFlight → InFlight
@@ -146,6 +147,6 @@ with_moved p =
 abbrev pub PointMoves : Type 0
 PointMoves = (p : InFlight) → Stands p → Stands (with_moved p)
 
--- it stops at a branch or JALR that isn't resolved, and at a store that isn't cleared
+-- the point stops at a branch or JALR that isn't resolved, and at a store that isn't cleared
 abbrev pub PointStops : Type 0
 PointStops = (p : InFlight) (i : ℕ) (e : Entry) → Stands p → slice_get p.window i ≡ Some e → settled e ≡ false → NotPast p.point e.serial

@@ -1,4 +1,4 @@
-//! The youngest entries go.
+//! The youngest entries go, as a squash or a violated load demands (`docs/machine.md`, "Resolve", "Clear").
 ghost use Rattle.std.specs.Prelude.{◌≡◌};
 ghost use Rattle.core_parts.specs.Dropped.{StopsBelow, count_from, cut_from};
 
@@ -7,9 +7,9 @@ use rename_taint::RenameTaint;
 use squash::squash_after;
 
 impl<R: RenameTaint> Parts<R> {
-    /// All parts let go of the entries from this serial on, and of all fetched items, and fetching goes on at this address, or
-    /// nowhere. The answer is how many there were. An older entry stays, and the visibility point of a model that protects isn't past
-    /// it.
+    /// Drops the entries from this serial on in all parts, and all fetched items; fetching goes on at this address, or
+    /// nowhere. The answer is how many there were. An older entry stays, and the visibility point of a model that
+    /// protects isn't past it.
     pub fn drop_from(&mut self, first: u64, next: Option<u32>) -> u32
         requires stops { StopsBelow first self.old.point self.old.machine.window }
         ensures dropped { result ≡ count_from first self.old.machine }

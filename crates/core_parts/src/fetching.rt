@@ -8,7 +8,7 @@ use rename_taint::RenameTaint;
 use window_model::Row;
 
 impl<R: RenameTaint> Parts<R> {
-    /// Phase Fetch (`docs/machine.md`, "Fetch").
+    /// Phase Fetch of a cycle (`docs/machine.md`, "Fetch").
     pub fn fetch(&mut self, row: &mut Row)
         requires room { HasRoom most_fetched row.old }
         ensures machine { self.new ≡ record self.old { machine = (fetch_of self.old).machine } }

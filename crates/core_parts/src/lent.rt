@@ -50,7 +50,7 @@ impl<R: RenameTaint> Parts<R> {
         &self.lsq
     }
 
-    /// The visibility point.
+    /// The visibility point, lent to read.
     pub fn point(&self) -> &VisPoint
         ensures same { result.now ≡ self.now.point }
         ensures model { result.now.model ≡ self.now.desc.stt_model }

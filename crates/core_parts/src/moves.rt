@@ -8,7 +8,7 @@ use machine_desc::Defence;
 use rename_taint::RenameTaint;
 
 impl<R: RenameTaint> Parts<R> {
-    /// The next cycle begins.
+    /// Begins the next cycle: its number is one more.
     pub fn begin(&mut self)
         requires few { self.old.machine.cycle < 2 ^ 32 - 1 }
         ensures { self.new ≡ record self.old {

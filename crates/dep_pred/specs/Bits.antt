@@ -15,6 +15,6 @@ is_set bits pc = slice_index_or bits (place bits pc) false
 abbrev pub with_set : List Bool → ℕ → List Bool
 with_set bits pc = slice_set bits (place bits pc) true
 
--- so it is in the machine of each description that asks for as many bits
+-- what is so in the machine of every description that asks for as many bits
 abbrev pub InEach : List Bool → (Desc → Type 0) → Type 0
 InEach bits So = (d : Desc) → length bits ≡ d.predictor_depend → So d

@@ -1,4 +1,4 @@
-//! The bits of dependence.
+//! The bits of dependence, one for all loads that share it.
 ghost use Rattle.std.specs.Prelude.{◌≡◌, ◌<◌, ◌^◌, false, length, replicate, IfOk};
 ghost use Rattle.window_model.specs.Dependence.{bit_index, bit_set, waits_for_stores};
 ghost use Rattle.window_model.specs.Resolve.{index};
@@ -26,7 +26,7 @@ impl Model for DepPred {
 }
 
 impl DepPred {
-    /// As many bits as the description says, none of them set. It takes all memory that they take; the one error is want of it.
+    /// The bits of a description, none of them set. It takes all memory that they take; the one error is want of it.
     pub fn new(alloc: Global, desc: &Desc) -> Result<DepPred, NoMemory>
         ensures { IfOk result (λ bits. bits ≡ replicate desc.now.predictor_depend false) }
     {

@@ -24,7 +24,7 @@ word_there code pc a l =
 pub instr_there : (code : CodeText) (decoded : List (Option Decoded)) (pc : ℕ) → pc % 4 ≡ 0 → code.base ≤ pc → AreDecoded code.words decoded → shown (get_or decoded ((pc - code.base) / 4) None) ≡ instr_at code pc
 instr_there code decoded pc a l h = decoded_at code.words decoded ((pc - code.base) / 4) h ∙ sym (ap (option_map decode) (word_there code pc a l))
 
--- one more word is decoded
+-- the words are decoded up to one more, once that one is
 pub decoded_more : (words : List (Option ℕ)) (i : ℕ) (word : Option ℕ) (decoded decoded' : List (Option Decoded)) (d : Option Decoded) → i < length words → word ≡ get_or words i None
     → AreDecoded (take i words) decoded → shown d ≡ option_map decode word → decoded' ≡ decoded ++ d ∷ [] → AreDecoded (take (i + 1) words) decoded'
 decoded_more words i word decoded decoded' d l w h e f =

@@ -19,7 +19,7 @@ header_inside file h =
     let e : nat_lt (length file) 52 ≡ false = failed_test _ (fault.Short 52 (length file)) (none_at (header_faults file) 0 h) in
     grind (arith, nat_tests)
 
--- so does the table of program headers
+-- a table of program headers that gives no fault ends within the file
 inside_by : (n count end : ℕ) → fault_if (not (count == 0) && nat_lt n end) (fault.TableOutside end n) ≡ None → 0 < count → end ≤ n
 inside_by n count end e l = let f : (not (count == 0) && nat_lt n end) ≡ false = failed_test _ (fault.TableOutside end n) e in grind (arith, nat_tests)
 
@@ -35,7 +35,7 @@ pub program_header_good : (file : List ℕ) (i : ℕ) → header_fault file ≡ 
 unfolding header_fault
 program_header_good file i h l = none_below (program_header_fault file) i (count_of file) (none_at (header_faults file) 4 h) l
 
--- so the bytes of a segment lie in the file
+-- the bytes of a segment that gives no fault end within the file
 bytes_by : (n kind filesz end i : ℕ) → fault_if ((kind == 1) && (not (filesz == 0) && nat_lt n end)) (fault.FileOutside i) ≡ None → kind ≡ 1 → 0 < filesz → end ≤ n
 bytes_by n kind filesz end i e k l =
     let f : ((kind == 1) && (not (filesz == 0) && nat_lt n end)) ≡ false = failed_test _ (fault.FileOutside i) e in

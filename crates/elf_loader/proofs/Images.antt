@@ -22,14 +22,14 @@ image_without file base size misaligned h r =
     ap (λ (o : Option ElfFault). first_some (o ∷ ram_fault file ram ∷ [])) h ∙ ap (λ (o : Option ElfFault). first_some (o ∷ [])) r in
     ap (λ (o : Option ElfFault). unless o (image_in file ram)) e
 
--- else its first fault, one of the headers
+-- a file whose headers have a fault loads no image, and is refused for it
 pub image_headers : (file : List ℕ) (base size : ℕ) (misaligned : Bool) (e : ElfFault) → header_fault file ≡ Some e → image_of file base size misaligned ≡ Err e
 unfolding image_of
 image_headers file base size misaligned e h =
     let ram : Ram = record { base = base; bytes = zeros size; misaligned = misaligned } in
     ap (λ (o : Option ElfFault). unless (first_some (o ∷ ram_fault file ram ∷ [])) (image_in file ram)) h
 
--- or a segment outside memory
+-- a file with good headers and a segment outside memory loads no image, and is refused for that segment
 pub image_outside : (file : List ℕ) (base size : ℕ) (misaligned : Bool) (e : ElfFault) → header_fault file ≡ None → ram_fault file (record { base = base; bytes = zeros size; misaligned = misaligned }) ≡ Some e → image_of file base size misaligned ≡ Err e
 unfolding image_of
 image_outside file base size misaligned e h r =
@@ -37,13 +37,13 @@ image_outside file base size misaligned e h r =
     ap (λ (o : Option ElfFault). unless (first_some (o ∷ ram_fault file ram ∷ [])) (image_in file ram)) h
     ∙ ap (λ (o : Option ElfFault). unless (first_some (o ∷ [])) (image_in file ram)) r
 
--- ---- Where code stands
+-- ---- Where code stands in memory
 
 whole_by : (n : ℕ) (b : Bool) (x : Option ℕ) (whole : Bool) → (n == 0) ≡ whole → IsSome (cond (whole && b) x None) → n ≡ 0
 whole_by n b x true e h = grind (arith, nat_tests)
 whole_by n b x false e h = absurd (false≢true h)
 
--- at multiples of 4
+-- the words of code stand at multiples of 4
 pub code_aligned : (code : CodeText) (pc : ℕ) → IsSome (word_at code pc) → pc % 4 ≡ 0
 code_aligned code pc h = whole_by (pc % 4) (nat_le code.base pc) (get_or code.words ((pc - code.base) / 4) None) (pc % 4 == 0) refl h
 
@@ -73,7 +73,7 @@ any_by x true true h = refl
 any_by x true false h = absurd (false≢true h)
 any_by x false any h = absurd (false≢true h)
 
--- and in memory
+-- an instruction that may be fetched stands in memory
 pub inside_by : (low high pc : ℕ) (any : Bool) → any ≡ true → ((pc < low) ⊎ (high < pc + 4) → any ≡ false) → (pc < low) ⊎ (low ≤ pc) → (high < pc + 4) ⊎ (pc + 4 ≤ high) → (low ≤ pc) × (pc + 4 ≤ high)
 inside_by low high pc any t none (inl l) b = let f = none (inl l) in absurd (cc)
 inside_by low high pc any t none (inr l) (inl u) = let f = none (inr u) in absurd (cc)

@@ -36,7 +36,7 @@ jumps_set js p x h l h0 fits none = record {
     over_by k m lk km mk (inl e) (inr e2) = let f = none m (omega arith) (omega arith) in omega arith
     over_by k m lk km mk (inr e) (inr e2) = let f = h.over k m lk km (omega arith) in omega arith
 
--- that leaves those places left that were, but for this one
+-- a place that is set to a jump is left no longer, and the others are left as before
 pub left_set : (js : List ℕ) (p x : ℕ) → 0 < x → left_by (set js p x) ≡ set (left_by js) p false
 left_set js p x h = let e : eqb x 0 ≡ false = grind (arith, nat_tests) in map-set (λ j. eqb j 0) js p x ∙ ap (set (left_by js) p) e
 
@@ -46,7 +46,7 @@ left_same js p l h =
     let f : get_or (left_by js) p false ≡ false = get_or-map (λ j. eqb j 0) js p 0 false l ∙ e in
     sym (ap (set (left_by js) p) f) ∙ set-get_or (left_by js) p false
 
--- all places of a row of zeros are left
+-- in a row of zeros every place is left
 pub left_zeros : (n : ℕ) → left_by (replicate n 0) ≡ replicate n true
 left_zeros zero = refl
 left_zeros (suc n) = ap (λ r. true ∷ r) (left_zeros n)

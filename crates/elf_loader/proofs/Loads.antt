@@ -17,21 +17,21 @@ use Rattle.elf_loader.proofs.Faultless.{failed_test, program_header_good}
 abbrev pub loads_from : List ℕ → ℕ → List SegmentText
 loads_from file i = filter_map (segment_at file) (range_with_len i (count_of file - i))
 
--- program header i has a segment
+-- where program header i has a segment, the segments from i on begin with it
 pub loads_more : (file : List ℕ) (i : ℕ) (s : SegmentText) → i < count_of file → segment_at file i ≡ Some s → loads_from file i ≡ s ∷ loads_from file (i + 1)
 loads_more file i s l e =
     ap (filter_map (segment_at file)) (range_step i (count_of file) l) ∙ ap (λ (o : Option SegmentText). cons_option o (loads_from file (i + 1))) e
 
--- it has none
+-- where program header i has no segment, the segments from i on are those from the next one on
 pub loads_skip : (file : List ℕ) (i : ℕ) → i < count_of file → segment_at file i ≡ None → loads_from file i ≡ loads_from file (i + 1)
 loads_skip file i l e =
     ap (filter_map (segment_at file)) (range_step i (count_of file) l) ∙ ap (λ (o : Option SegmentText). cons_option o (loads_from file (i + 1))) e
 
--- past the last there is none
+-- past the last program header there is no segment
 pub loads_none : (file : List ℕ) (i : ℕ) → count_of file ≤ i → loads_from file i ≡ []
 loads_none file i l = ap (filter_map (segment_at file)) (range_end i (count_of file) l)
 
--- from the first one on there are all
+-- from the first program header on there are all segments of the file
 pub loads_all : (file : List ℕ) → loads_from file 0 ≡ loads_of file
 loads_all file = let e : count_of file - 0 ≡ count_of file = omega arith in ap (λ (n : ℕ). filter_map (segment_at file) (range_with_len 0 n)) e
 

@@ -138,7 +138,7 @@ module _ (xs : List ℕ) (from to : ℕ) (new : List ℕ) (a : from ≤ to) (b :
       ∙ take-append-le 4 (drop j new) rest left
       ∙ sym (ap (λ (n : ℕ). take n (drop j new)) few)
 
--- there is room for as many bytes as a memory has
+-- a part of a memory takes as many bytes as lie in it
 pub room : (p : Ram) (misaligned : Bool) (base from to : ℕ) (xs : List ℕ) → p ≡ record { base = base; bytes = zeros (to - from); misaligned = misaligned } → to ≤ length xs → in_ram p base (length (slice_range xs from to)) ≡ true
 room p misaligned base from to xs e b =
     let low : p.base ≡ base = ap (λ (r : Ram). r.base) e in

@@ -14,11 +14,11 @@ use Rattle.elf_loader.specs.Filling.{Inside, FillsBytes, PlacesBytes}
 use Rattle.elf_loader.proofs.Loads.{loads_from, loads_more, loads_skip, loads_all}
 use Rattle.elf_loader.specs.Fields.{count_of}
 
--- the last of these segments that takes the address
+-- the last of the segments that takes the address
 abbrev pub last_at : List SegmentText → ℕ → Option SegmentText
 last_at loads a = find (λ s. covers s a) (reverse loads)
 
--- memory has their bytes, and those places are left that none of them takes
+-- memory has the bytes of these segments, and the places are left that none of them takes
 pub record Placed (loads : List SegmentText) (old new : Ram) (left : List Bool) : Type 0 where
   pub base : new.base ≡ old.base
   pub misaligned : new.misaligned ≡ old.misaligned
@@ -27,7 +27,7 @@ pub record Placed (loads : List SegmentText) (old new : Ram) (left : List Bool) 
   pub cells : (k : ℕ) → k < length old.bytes → get_or new.bytes k 0 ≡ byte_after loads (old.base + k) (get_or old.bytes k 0)
   pub places : (k : ℕ) → k < length old.bytes → get_or left k false ≡ is_none (last_at loads (old.base + k))
 
--- one more in front is found where none behind it is
+-- a segment in front of others is the last to take an address where none behind it does
 pub last_more : (s : SegmentText) (loads : List SegmentText) (a : ℕ) → last_at (s ∷ loads) a ≡ option_or (last_at loads a) (cond (covers s a) (Some s) None)
 last_more s loads a = ap (find (λ t. covers t a)) (reverse_onto loads s []) ∙ find-append (λ t. covers t a) (reverse loads) (s ∷ [])
 
@@ -41,7 +41,7 @@ place_by s None true = refl
 place_by s None false = refl
 place_by s (Some t) c = refl
 
--- one more segment is placed
+-- the segments are placed once one more is placed in front of them
 pub placed_more : (s : SegmentText) (loads : List SegmentText) (old mid new : Ram) (left left' : List Bool) → Placed loads old mid left → FillsBytes s mid new left left' → Placed (s ∷ loads) old new left'
 placed_more s loads old mid new left left' h f = record {
   base = f.base ∙ h.base;
@@ -92,7 +92,7 @@ inside_still loads old new left o h i =
     let Q : ℕ → Type 0 = λ n. IfSome o (Inside new.base n) in
     subst Q (sym h.size) (subst P (sym h.base) i)
 
--- once all are placed memory is what it is after loading
+-- memory is what it is after loading, once all segments are placed
 ram_of : Bool → ℕ → List ℕ → Ram
 ram_of misaligned base bytes = record { base = base; bytes = bytes; misaligned = misaligned }
 

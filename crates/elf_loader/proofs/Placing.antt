@@ -26,7 +26,7 @@ goes_on at next left left' up within here e = record {
   here = λ l. ap (λ (v : List Bool). get_or v next false) e ∙ here (subst (λ (v : List Bool). next < length v) e l);
 }
 
--- after one more cell
+-- once one more cell has its value and its place is taken, the cells are filled up to the next place that is left
 step : {X : Type 0} (covered : ℕ → Bool) (value : ℕ → X) (at next : ℕ) (old new new' : List X) (left left' left2 left3 : List Bool) → Fills covered value at old new left left'
     → at < length old → at < length left → covered at ≡ true → get_or left' at false ≡ true
     → new' ≡ set new at (value at) → left2 ≡ set left' at false → left3 ≡ left2

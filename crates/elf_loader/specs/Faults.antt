@@ -6,13 +6,13 @@ use Rattle.elf_loader.specs.declared.faults.ElfFault.{ElfFault}
 use Rattle.elf_loader.specs.declared.faults.ElfFault.TheVariants as fault
 use Rattle.elf_loader.specs.Fields.{has_magic, header_of, count_of, program_header, is_load}
 
--- the first of these that is there
+-- the first of several options that is there
 abbrev pub first_some : {T : Type 0} → List (Option T) → Option T
 first_some [] = None
 first_some (None ∷ rest) = first_some rest
 first_some (Some x ∷ rest) = Some x
 
--- this fault, where the test holds
+-- a fault, where its test holds
 abbrev pub fault_if : Bool → ElfFault → Option ElfFault
 fault_if true e = Some e
 fault_if false e = None
@@ -47,7 +47,7 @@ program_header_faults file i =
     ∷ fault_if (is_load p && (not (p.filesz == 0) && nat_lt (length file) (p.offset + p.filesz))) (fault.FileOutside i)
     ∷ []
 
--- the first of them
+-- the first fault of program header i, if it has one
 abbrev pub program_header_fault : List ℕ → ℕ → Option ElfFault
 program_header_fault file i = first_some (program_header_faults file i)
 
@@ -61,6 +61,6 @@ header_faults file =
     ∷ first_some (map (program_header_fault file) (range_with_len 0 (count_of file)))
     ∷ []
 
--- the first of them
+-- the first fault of the headers, if they have one
 unfoldable pub header_fault : List ℕ → Option ElfFault
 header_fault file = first_some (header_faults file)

@@ -20,6 +20,6 @@ pub record LiesBetween (low high : ℕ) (s : SegmentText) : Type 0 where
   pub above : low ≤ s.vaddr
   pub below : s.vaddr + s.memsz ≤ high
 
--- all segments of the file lie in a memory of this base and size
+-- every segment of the file lies in a memory of this base and size
 abbrev pub AllInside : List ℕ → ℕ → ℕ → Type 0
 AllInside file base size = (i : ℕ) → IfSome (segment_at file i) (Inside base size)

@@ -35,16 +35,16 @@ pub enum ElfFault {
     /// The table of program headers ends past the end of the file: its end, and the size of the file.
     #[error("E10: the table of program headers ends at byte {0}, and the file has {1}")]
     TableOutside(u64, u64),
-    /// This program header asks for an interpreter.
+    /// The program header of this number asks for an interpreter.
     #[error("E11: program header {0} asks for an interpreter")]
     Interp(u16),
-    /// This segment has more bytes in the file than in memory.
+    /// The segment of this number has more bytes in the file than in memory.
     #[error("E12: segment {0} has more bytes in the file than in memory")]
     SegmentSize(u16),
-    /// The bytes of this segment end past the end of the file.
+    /// The bytes of the segment of this number end past the end of the file.
     #[error("E13: the bytes of segment {0} end past the end of the file")]
     FileOutside(u16),
-    /// This segment lies outside the memory.
+    /// The segment of this number lies outside the memory.
     #[error("E14: segment {0} lies outside the memory")]
     RamOutside(u16),
     /// There was no memory for loading.

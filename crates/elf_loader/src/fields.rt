@@ -19,7 +19,7 @@ pub const CLASS_32: u8 = 1;
 /// The encoding of numbers with their lowest byte first.
 pub const LITTLE_ENDIAN: u8 = 1;
 
-/// The one version.
+/// The one version of ELF that there is.
 pub const VERSION: u8 = 1;
 
 /// The type of executable files.
@@ -88,7 +88,7 @@ pub fn has_magic(file: &[u8]) -> bool
     file.starts_with(&MAGIC)
 }
 
-/// The header.
+/// The fields of a file's header, its first 52 bytes.
 pub fn header_of(file: &[u8]) -> Header
     requires { 52 ≤ length file.now }
     ensures { result ≡ header_of file.now }

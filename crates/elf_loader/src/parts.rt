@@ -11,9 +11,9 @@ pub struct Segment<'a> {
     pub vaddr: u32,
     /// The number of its bytes in memory.
     pub memsz: u32,
-    /// Bit 0 says that its bytes may be fetched. The other bits say nothing here.
+    /// Bit 0 says that the segment's bytes may be fetched. The other bits say nothing here.
     pub flags: u32,
-    /// The bytes that the file has for it, the first ones; those past them are 0.
+    /// The bytes that the file has for the segment, the first ones; those past them are 0.
     pub bytes: &'a [u8],
 }
 

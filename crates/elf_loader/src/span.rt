@@ -52,6 +52,7 @@ fn with_segment(segments: &Segments<'_>, i: u16, ram: &Ram, span: Span) -> Span
     ensures to { span.to ≤ result.to }
     ensures span { InRows (length ram.now.bytes) result.from result.to }
 {
+    // Asked for its clauses alone: memory's size and end bound the sums below.
     let _size = ram.size();
     match segments.at(i) {
         Some(segment) => {
@@ -110,6 +111,7 @@ pub fn part_of(alloc: Global, ram: &Ram, span: Span) -> Result<Ram, NoMemory>
     requires span { InRows (length ram.now.bytes) span.from span.to }
     ensures { IfOk result (λ p. p ≡ part ram.now span.from span.to) }
 {
+    // Asked for its clauses alone: memory's size and end bound the sums below.
     let _size = ram.size();
     let base = ram.base() + span.from as u32;
     let size = (span.to - span.from) as u32;

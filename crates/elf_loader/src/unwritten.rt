@@ -61,7 +61,7 @@ fn walk(jumps: &[u32], from: usize) -> usize
 }
 
 impl Unwritten {
-    /// All of so many places are left. The one error is want of memory.
+    /// A row of so many places, every one of them left. The one error is want of memory.
     pub fn new(alloc: Global, size: usize) -> Result<Unwritten, NoMemory>
         requires { size < 2 ^ 32 }
         ensures { IfOk result (λ u. u ≡ replicate size true) }

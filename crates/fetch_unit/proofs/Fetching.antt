@@ -37,7 +37,7 @@ fetches_start code t f p row =
     let e : f.desc.core_fetch_width - 0 ≡ f.desc.core_fetch_width = omega arith in
     record { whole = λ x. ap (λ n. behind row.events (fetch_up_to f.desc code n (with_unit f t p x))) e; desc = refl; past_desc = refl; cycle = refl; few = omega arith }
 
--- ---- one item
+-- ---- one item that is fetched
 
 by_room : (b : Bool) (o : Option ℕ) (pc : ℕ) → (if b then o else None) ≡ Some pc → (b ≡ true) × (o ≡ Some pc)
 by_room true o pc h = (refl, h)
@@ -89,7 +89,7 @@ fetches_more code t first past row i f p now pc item way f2 p2 now2 s lt q same 
       few = (let l = ap length es in let l2 = length-append now.events (event.Fet pc ∷ []) in omega (arith, l, l2, s.few, n));
     }
 
--- ---- no item more
+-- ---- when no item more comes
 
 no_more : (d : Desc) (code : Code) (n : ℕ) (x : Machine) (o : Option ℕ) (b : Bool) → x.fetch_pc ≡ o → nat_lt (length x.queue) d.core_queue ≡ b → (if b then o else None) ≡ None →
     fetch_up_to d code n x ≡ nothing x

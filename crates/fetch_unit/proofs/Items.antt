@@ -24,7 +24,7 @@ by_word : (d : Desc) (x : Machine) (pc : ℕ) (i : Instr) (w : Option ℕ) → S
 by_word d x pc i None e = absurd (cc)
 by_word d x pc i (Some w) e = ap (item_of d x pc) (some_is w i e)
 
--- where there is an instruction
+-- where there is an instruction at the address, the item is its own
 pub item_there : (d : Desc) (code : Code) (x : Machine) (pc : ℕ) (i : Instr) → Some i ≡ option_map decode (code pc) → item_of d x pc i ≡ item_at d code x pc
 item_there d code x pc i e = by_word d x pc i (code pc) e
 
@@ -32,6 +32,6 @@ by_none : (d : Desc) (x : Machine) (pc : ℕ) (w : Option ℕ) → None ≡ opti
 by_none d x pc None e = refl
 by_none d x pc (Some w) e = absurd (cc)
 
--- where there is none
+-- where there is no instruction, the item traps
 pub nothing_there : (d : Desc) (code : Code) (x : Machine) (pc : ℕ) → None ≡ option_map decode (code pc) → item_by d x pc None ≡ item_at d code x pc
 nothing_there d code x pc e = by_none d x pc (code pc) e

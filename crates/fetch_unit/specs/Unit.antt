@@ -17,7 +17,7 @@ pub record FetchUnit : Type 0 where
   pub queue : List Item
   pub fetch_pc : Option ℕ
 
--- it is stored as the three
+-- the fetch unit is stored as the description, the queue and the address where fetching goes on
 abbrev pub unit_code : Coded FetchUnit
 unit_code =
     code_by (Desc × (List Item × Option ℕ)) (coded× desc.the_row.coded (coded× (coded_list item.the_row.coded) (coded_option coded_ℕ)))

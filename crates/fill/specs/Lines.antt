@@ -1,4 +1,4 @@
--- Both levels of the cache once lines have entered (docs/machine.md, "Fill").
+-- The sets of both levels of the cache once lines have entered (docs/machine.md, "Fill").
 use Rattle.std.specs.Prelude.{ℕ, Bool, List, if◌then◌else◌}
 use Rattle.std.specs.List.{filter, fold}
 use Rattle.window_model.specs.declared.Miss.{Miss}
@@ -6,7 +6,7 @@ use Rattle.window_model.specs.Fill.{lines, with_line}
 use Rattle.window_model.specs.SecondLevel.{second_with_line}
 use Rattle.cache_tags.specs.Sets.{Cache}
 
--- each enters behind those before it
+-- the cache once these lines have entered, one after the other
 abbrev pub with_lines : List ℕ → Cache → Cache
 with_lines lines tags = record tags { sets = fold (with_line tags.desc) tags.sets lines }
 
@@ -14,11 +14,11 @@ with_lines lines tags = record tags { sets = fold (with_line tags.desc) tags.set
 abbrev pub from_memory : List Miss → List ℕ
 from_memory misses = lines (filter (λ m. m.from_memory) misses)
 
--- each enters the second level behind those before it
+-- the second level once these lines have entered, one after the other
 abbrev pub with_second_lines : List ℕ → Cache → Cache
 with_second_lines lines second = record second { sets = fold (second_with_line second.desc) second.sets lines }
 
--- a line enters it, if it comes from memory
+-- the second level once a line has entered, if it comes from memory
 abbrev pub with_second_line : Bool → ℕ → Cache → Cache
 with_second_line memory line second =
     if memory then record second { sets = second_with_line second.desc second.sets line } else second

@@ -5,7 +5,7 @@ use Rattle.rv_types.specs.Word.{to_le}
 use Rattle.rv_decode.specs.Forms.{word_of}
 use Rattle.gen_image.specs.Generated.{bytes_of, block_of, after_block, blocks_from}
 
--- one block more is there, and one less is left
+-- the file and the blocks that are left make the whole, once one block is moved from these to that
 pub one_more : (file new whole : List ℕ) (n i s : ℕ) → i < n → new ≡ file ++ bytes_of (block_of s) → file ++ bytes_of (blocks_from (n - i) s) ≡ whole → new ++ bytes_of (blocks_from (n - (i + 1)) (after_block s)) ≡ whole
 one_more file new whole n i s lt e h =
     let m = n - (i + 1) in
@@ -17,7 +17,7 @@ one_more file new whole n i s lt e h =
     ∙ ap (λ j. file ++ bytes_of (blocks_from j s)) (sym k)
     ∙ h
 
--- none is left
+-- the file is whole once no block is left to add
 pub all_there : (file whole : List ℕ) (n i s : ℕ) → n ≤ i → file ++ bytes_of (blocks_from (n - i) s) ≡ whole → file ≡ whole
 all_there file whole n i s le h =
     let k : n - i ≡ 0 = omega arith in

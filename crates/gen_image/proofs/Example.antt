@@ -1,4 +1,4 @@
--- The smallest image, computed.
+-- The smallest image that is generated, computed.
 use Rattle.std.proofs.Common.{◌≡◌, [], ◌∷◌, refl}
 use Rattle.std.specs.Prelude.{map}
 use Rattle.rv_decode.specs.Forms.{word_of}

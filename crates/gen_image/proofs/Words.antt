@@ -217,7 +217,7 @@ jump_back d n le =
       small = omega arith;
     }
 
--- ECALL
+-- the instruction ECALL has a word
 pub ecall : HasWord Ecall
 unfolding decode
 ecall = record { decodes = refl; small = omega arith }

@@ -10,7 +10,7 @@ use Rattle.rv_types.specs.declared.Instr.{Instr}
 use Rattle.rv_types.specs.declared.Instr.TheVariants.{Jal, Branch, Load, Store, OpImm, OpReg, Ecall}
 use Rattle.rv_decode.specs.Forms.{word_of}
 
--- ---- draws
+-- ---- draws of random numbers
 
 -- the state of the draws at first, and the next one: a linear congruence modulo 2 ^ 31
 abbrev pub seeded : ℕ → ℕ
@@ -23,7 +23,7 @@ next s = (1103515245 * s + 12345) % 2 ^ 31
 abbrev pub drawn : ℕ → ℕ
 drawn s = s / 2 ^ 16
 
--- ---- blocks
+-- ---- blocks of two instructions
 
 -- the register of a number
 abbrev pub register : ℕ → Reg
@@ -57,7 +57,7 @@ abbrev pub blocks_from : ℕ → ℕ → List Instr
 blocks_from zero s = []
 blocks_from (suc n) s = block_of s ++ blocks_from n (after_block s)
 
--- ---- the program
+-- ---- the program of an image
 
 -- x8 is 1,024 bytes below the stack pointer, x9 counts the rounds: four
 abbrev pub beginning : List Instr
@@ -77,13 +77,13 @@ ending blocks =
 abbrev pub program : ℕ → ℕ → List Instr
 program seed blocks = beginning ++ blocks_from blocks (seeded seed) ++ ending blocks
 
--- ---- the file
+-- ---- the file of a program
 
 -- the bytes of instructions: four each
 abbrev pub bytes_of : List Instr → List ℕ
 bytes_of instrs = flat_map (λ i. to_le 4 (word_of i)) instrs
 
--- so many numbers of two and of four bytes
+-- the bytes of a list of numbers, two for each; below four for each
 abbrev pub twos : List ℕ → List ℕ
 twos ns = flat_map (to_le 2) ns
 

@@ -7,7 +7,7 @@ ghost use Rattle.rv_types.specs.declared.Instr.TheVariants.{Branch, Load, Store,
 use crate::draws::Draws;
 use rv_types::{Instr, Op, Reg};
 
-/// The forms of blocks.
+/// How many forms of blocks there are.
 const FORMS: u32 = 6;
 
 /// The offsets that are drawn, in words.
@@ -30,7 +30,7 @@ pub(crate) fn register(number: u32) -> Reg
     }
 }
 
-/// An ADDI.
+/// The instruction ADDI of two registers and an immediate.
 pub(crate) fn add_immediate(rd: Reg, rs1: Reg, imm: i32) -> Instr
     ensures { result ≡ OpImm Add rd rs1 imm }
 {

@@ -26,7 +26,7 @@ impl Draws {
         }
     }
 
-    /// The next number.
+    /// The next number of the draws.
     pub(crate) fn draw(&mut self) -> u32
         ensures state { self.new.state ≡ next self.old.state }
         ensures drawn { result ≡ drawn (next self.old.state) }

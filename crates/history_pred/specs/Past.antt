@@ -11,6 +11,6 @@ pub record Past : Type 0 where
   pub desc : Desc
   pub mark : Mark
 
--- they are stored as the two
+-- history and stack are stored as the description and the mark
 abbrev pub past_code : Coded Past
 past_code = code_by (Desc × Mark) (coded× desc.the_row.coded mark.the_row.coded) (λ p. (p.desc, p.mark)) (λ p. record { desc = p.0; mark = p.1 }) (λ _. refl)

@@ -81,7 +81,7 @@ impl History {
         &self.mark
     }
 
-    /// History and stack are again as they were at this mark.
+    /// Puts history and stack back to what they were at this mark.
     pub fn restore(&mut self, mark: &Mark)
         ensures { self.new ≡ record self.old { mark = mark.now } }
     {

@@ -40,7 +40,7 @@ pub(crate) fn popped(mark: &Mark) -> Mark
     with_stack(mark, all_but_first(stack(mark)))
 }
 
-// All but the first.
+// The addresses but for the first, which is the youngest.
 fn all_but_first(addresses: &[u32]) -> &[u32]
     ensures { result.now ≡ drop 1 addresses.now }
 {

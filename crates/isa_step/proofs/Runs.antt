@@ -63,7 +63,7 @@ pub traps_at : (code : Code) (s s' : Hart) (p : List ℕ) (c : Cause) (n i : ℕ
     → isa code s (n - i) ≡ stopped s' 0 (Some (EndTrap c s'.pc))
 traps_at code s s' p c n i h e = ap (isa code s) (left n i h) ∙ run_traps code s s' p c (n - (i + 1)) e
 
--- all steps are taken
+-- a run of which all steps are taken stops where it is, without an end
 pub ends_at : (code : Code) (s : Hart) (n i : ℕ) → n ≤ i → isa code s (n - i) ≡ stopped s 0 None
 ends_at code s n i h = let e : n - i ≡ 0 = omega arith in ap (isa code s) e
 

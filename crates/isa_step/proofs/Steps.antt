@@ -17,7 +17,7 @@ pub step_there : (word : Option ℕ) (i : Instr) (o : Operation) (s : Hart) → 
 step_there None i o s e f = absurd (cc)
 step_there (Some w) i o s e f = ap (step_of s) (f ∙ sym (some_is w i e))
 
--- none
+-- where there is no instruction the step traps
 pub nothing_there : (word : Option ℕ) (s : Hart) → None ≡ option_map decode word → Traps outside_code ≡ step_at word s
 nothing_there None s e = refl
 nothing_there (Some w) s e = absurd (cc)

@@ -8,7 +8,7 @@ use crate::stepped::Stepped;
 use rv_types::Piece;
 
 impl Isa {
-    // An ECALL.
+    // Executes an ECALL: the run goes on with the call's answer in a0, or ends with an exit's value.
     pub(crate) fn call(&mut self, out: &mut Piece) -> Stepped
         requires { out.old ≡ [] }
         ensures stepped { record { hart = self.new.hart; piece = out.new; stepped = result }

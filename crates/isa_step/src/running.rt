@@ -1,4 +1,4 @@
-//! Whole runs.
+//! Whole runs of the instruction set.
 ghost use Rattle.std.specs.Prelude.{◌≡◌};
 ghost use Rattle.rv_types.specs.Isa.{isa};
 ghost use Rattle.elf_loader.specs.Code.{word_at};

@@ -54,14 +54,14 @@ impl Isa {
         self.pc
     }
 
-    /// The registers.
+    /// The registers of the instruction set's state.
     pub fn regs(&self) -> &[u32; 32]
         ensures { result.now ≡ self.now.hart.regs }
     {
         &self.regs
     }
 
-    /// The memory.
+    /// The memory of the instruction set's state.
     pub fn ram(&self) -> &Ram
         ensures { result.now ≡ self.now.hart.ram }
     {

@@ -34,7 +34,7 @@ comes_alike model e r (Begins cycle due o q) w u = subst (Alike model e) (sym q)
 
 -- ---- a store whose parts go isn't Done, before or after
 
--- one that lacks a part waits
+-- a store that lacks a part waits
 pub lacks_address : (a b w : Bool) → (a && b) ≡ not w → a ≡ false → w ≡ true
 lacks_address false b true h q = refl
 lacks_address false b false h q = absurd (cc)
@@ -74,7 +74,7 @@ parts_alike model now b e false true s h p q =
     let d = waiting_done e.state (lacks_data (has_address e) (has_data e) (is_waiting e.state) (h s) (q refl)) in
     (refl, undone_alike model e (with_data now (effect_of now.regs b e) e) s d refl refl refl (still_undone e.addr_due (Some (now.cycle + 1)) e.state d))
 
--- ---- each entry
+-- ---- each entry as it issues, and all of them
 
 module _ (d : Desc) (now : Around) (model : SttModel) where
   issued_alike : (b : List Entry) (e : Entry) → HasParts e → Unresolved e → Alike model e (issue_entry d now b e).entry

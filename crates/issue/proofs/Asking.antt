@@ -24,7 +24,7 @@ use Rattle.issue.specs.Ports.{has_issued, part_port}
 use Rattle.issue.specs.declared.seen.Seen.{Seen}
 use Rattle.issue.specs.State.{Stands, StandsAt}
 
--- it asks for no port
+-- the entry may issue at no port
 abbrev pub AsksNone : Desc → Around → Fact
 AsksNone d now before e = (port : Port) → may_at d now port before e ≡ false
 
@@ -39,7 +39,7 @@ pub record InStep (d : Desc) (e : Entry) : Type 0 where
   pub parts : HasParts e
   pub together : Together d e
 
--- of the entry at a position
+-- an entry at a position of the window is within a step, where each entry has its parts and they go together
 pub step_at : (d : Desc) (es : List Entry) (i : ℕ) (e : Entry) → Each HasParts es → Each (Together d) es → slice_get es i ≡ Some e → InStep d e
 step_at d es i e p t h = record { parts = each_here HasParts es i e p h; together = each_here (Together d) es i e t h }
 
@@ -56,11 +56,11 @@ own_as Load p m h = and-true m
 own_as _ p m h = and-true m
 
 module _ (d : Desc) (now : Around) (before : List Entry) (e : Entry) where
-  -- it may issue at its own port exactly where it may issue
+  -- an entry that is no store may issue at the port of its kind exactly where it may issue at all
   pub asks_own : is_store e.item.kind ≡ false → may_at d now (port_for e.item.kind) before e ≡ may_issue d now before e
   asks_own s = own_as e.item.kind (part_may (port_for e.item.kind) d before e) (may_issue d now before e) s
 
-  -- one that is granted its own may issue
+  -- an entry that is granted the port of its kind may issue
   pub granted_may : is_store e.item.kind ≡ false → is_granted d now (port_for e.item.kind) before e ≡ true → may_issue d now before e ≡ true
   granted_may s g = sym (asks_own s) ∙ (both (may_at d now (port_for e.item.kind) before e) _ g).0
 
@@ -69,13 +69,13 @@ module _ (d : Desc) (now : Around) (before : List Entry) (e : Entry) where
       ap (λ t. if t then part_may port d before e else may_issue d now before e && same_port (port_of e.item.kind) port) s
       ∙ ap (λ m. m && same_port (port_of e.item.kind) port) n
 
-  -- ---- a store
+  -- ---- a store, which asks for two ports
 
   -- a part of it asks at its port where it may issue
   pub part_asks : (port : Port) → is_store e.item.kind ≡ true → may_at d now port before e ≡ part_may port d before e
   part_asks port s = ap (λ t. if t then part_may port d before e else may_issue d now before e && same_port (port_of e.item.kind) port) s
 
-  -- one that is granted its port hasn't issued
+  -- a store whose address part is granted its port has issued no address
   pub fresh_address : is_store e.item.kind ≡ true → is_granted d now AddressPort before e ≡ true → has_address e ≡ false
   fresh_address s g = lacks (has_address e) (both (not (has_address e)) _ (sym (part_asks AddressPort s) ∙ (both (may_at d now AddressPort before e) _ g).0)).0
     where
@@ -112,7 +112,7 @@ module _ (d : Desc) (now : Around) (before : List Entry) (e : Entry) where
 
   -- ---- who asks for none
 
-  -- one that doesn't wait
+  -- an entry that doesn't wait asks for no port
   pub not_waiting : InStep d e → is_waiting e.state ≡ false → AsksNone d now before e
   not_waiting t w = by_store (is_store e.item.kind) refl
     where
@@ -141,7 +141,7 @@ module _ (d : Desc) (now : Around) (before : List Entry) (e : Entry) where
       store_none s (address_waits (ready_in true (base_of (sources e)) false q none)) (data_waits (ready_in true (others_of (sources e)) false q none))
   by_wants true false s q w h = parts_none (has_address e) (has_data e) q s refl refl h
 
-  -- one that waits, and lacks what it wants
+  -- an entry that waits and lacks what it wants asks for no port
   pub not_able : is_waiting e.state ≡ true → has_sources (wants_of d.version e) d before e ≡ false → AsksNone d now before e
   not_able w h = by_wants (is_store e.item.kind) (d.version == 1) refl refl w h
 
@@ -153,11 +153,11 @@ grants_none d now port before e h = ap (λ m. m && nat_lt (asking d now port bef
 
 -- ---- what is there where an entry is able
 
--- one in one piece has all its sources
+-- an entry that issues in one piece has all its sources where it has what it wants
 pub whole_ready : (d : Desc) (before : List Entry) (e : Entry) → is_store e.item.kind ≡ false → has_sources (wants_of d.version e) d before e ≡ true → ready d before e ≡ true
 whole_ready d before e s h = sym (ap (λ s. has_sources (if s && not (d.version == 1) then wants_by (has_address e) (has_data e) else wants.Whole) d before e) s) ∙ h
 
--- so has a store in version 1, which has issued neither part
+-- a store in version 1 that waits has issued neither part, since both issue together
 whole_by : (a b w : Bool) → (a && b) ≡ not w → a ≡ b → w ≡ true → not (a || b) ≡ true
 whole_by true true true h q p = absurd (cc)
 whole_by false false true h q p = refl
@@ -186,7 +186,7 @@ pub part_may_by : (part : Part) (d : Desc) (before : List Entry) (e : Entry) (r 
 part_may_by part.Base d before e r f h = ap₂ (λ a r. not a && r) f h
 part_may_by part.Other d before e r f h = ap₂ (λ a r. not a && r) f h
 
--- one that has issued may not
+-- a part of a store that has issued may not issue again
 pub part_gone : (part : Part) (d : Desc) (before : List Entry) (e : Entry) → has_issued part e ≡ true → part_may (part_port part) d before e ≡ false
 part_gone part.Base d before e h = ap (λ a. not a && ready_part d (base_of (sources e)) before e) h
 part_gone part.Other d before e h = ap (λ a. not a && ready_part d (others_of (sources e)) before e) h

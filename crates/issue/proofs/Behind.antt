@@ -45,7 +45,7 @@ address_is regs before e = by_base e.item.pc e.item.instr (first_operand regs be
 
 -- ---- stores of which both parts have issued
 
--- they let every load go
+-- a store of which both parts have issued lets every load go
 complete_one : (store a c f r : Bool) → (not store || a && c) ≡ true → (not store || (a || f) && (c || r)) ≡ true
 complete_one false a c f r h = refl
 complete_one true true true f r h = refl
@@ -98,11 +98,11 @@ module _ (s : Seen) (i : ℕ) (e : Entry) (t : Stands s) (h : StandsAt s i e) wh
   pub goes_is : goes_behind s.desc.now (around_of s) before e ≡ stores_let s.desc.now.stt_model (passes_stores s.desc.now (around_of s) e) (bytes_of (around_of s) before e) before
   goes_is = goes_as_let s.desc.now (around_of s) before e parts_before (each_back (Together s.desc.now) s.rob.now.entries [] i t.together tt) settled_before
 
-  -- so it does where they are all known
+  -- a load goes behind its older stores where the queue says that they are all known
   pub goes_known : list_all is_known (stores s i e t h) ≡ true → goes_behind s.desc.now (around_of s) before e ≡ true
   goes_known k = goes_is ∙ complete_lets s.desc.now.stt_model (passes_stores s.desc.now (around_of s) e) (bytes_of (around_of s) before e) before (sym (known_is (stores s i e t h) before (stand s i e t h)) ∙ k)
 
-  -- and in version 1 only there
+  -- in version 1 a load goes behind its older stores only where the queue says that they are all known
   pub goes_not : (s.desc.now.version == 1) ≡ true → list_all is_known (stores s i e t h) ≡ false → goes_behind s.desc.now (around_of s) before e ≡ false
   goes_not v k =
       ap (λ v. if v then stores_done before else stores_let s.desc.now.stt_model (passes_stores s.desc.now (around_of s) e) (bytes_of (around_of s) before e) before) v

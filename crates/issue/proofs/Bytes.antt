@@ -56,7 +56,7 @@ module _ (s : Seen) (i : ℕ) (e : Entry) (t : Stands s) (h : StandsAt s i e) wh
   pub stand : StoresStandFor stores before
   stand = stores_before s.lsq.now s.rob.now.entries i e t.queues t.parts.rise h
 
-  -- of each its root tells whether its address is tainted
+  -- the root of each older store tells whether its address is tainted
   each_told : map (λ s2. hides (λ root. nat_le root s.point.now.serial) s2.root) stores ≡ tainted_stores model before
   each_told = tells_each_store (parts_of t.next t.writes s) s.point.now s.lsq.now.stores i e t.parts t.advanced t.addresses h ∙ ap (λ m. tainted_stores m before) t.model
 
@@ -68,7 +68,7 @@ module _ (s : Seen) (i : ℕ) (e : Entry) (t : Stands s) (h : StandsAt s i e) wh
       lets_are model passes (λ root. nat_le root s.point.now.serial) (down s.point.now.serial) stores before fault a n stand each_told
       ∙ ap (λ b. (passes || not (list_any lacks_address stores)) && not (list_any (lacks_data_for (bytes_asked fault a n)) stores) && not b) (hides_root s.point.now.serial (youngest_root (filter (λ s. not (is_some s.stored)) stores)))
 
-  -- then it finds their bytes
+  -- the number that the queue merges for a load is that of the bytes that the definition loads
   pub number_is : (passes : Bool) (a : ℕ) (w : Width) → bytes_in w ≡ width_of e → stores_let model passes (range a (width_of e)) before ≡ true →
       from_le (merged_bytes s.ram.now stores a (bytes_in w)) ≡ from_le (load_bytes s.ram.now before a (width_of e))
   number_is passes a w n d =

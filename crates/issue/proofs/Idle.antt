@@ -78,7 +78,7 @@ module _ (d : Desc) (x : Machine) (h : Along (AsksNone d (around x)) [] x.window
   pub idle_events : (issue d x).events ≡ []
   idle_events = ap (flat_map (λ b. b.events)) (each_waits d (around x) [] x.window h) ∙ no_events x.window
 
-  -- and leaves the machine as it is
+  -- the phase leaves the machine as it is, where no entry issues
   pub idle_machine : x ≡ (issue d x).machine
   idle_machine =
       leaves d x x.window None x.cache x.second x.misses x.divider
@@ -95,7 +95,7 @@ none_may h w a none =
     let held : HoldsBy h.desc (table_and_stations (in_flight h)) h.point = record { advanced = a; model = ap (λ (s : Sizes). s.model) w.made; hold = refl } in
     all_stay h.desc (around (machine_of h)) (table_and_stations (in_flight h)) h.point refl w.stands.stand held w.sized.parts w.sized.together none
 
--- so the phase leaves what is seen of them, and has no event
+-- where no station is able, the phase leaves what is described of the parts, and has no event
 pub idle_shown : (h : Held) (v : Described) → Whole h → HasAdvanced h.point h.rob.entries → list_any is_able h.stations.held ≡ false → described h ≡ v → described h ≡ record v { machine = (issue v.desc v.machine).machine }
 idle_shown h v w a none s = shown_by (λ d x. (issue d x).machine) h (machine_of h) v (idle_machine h.desc (machine_of h) (none_may h w a none)) s
 

@@ -29,7 +29,7 @@ use Rattle.issue.specs.declared.decide.Put.{Put}
 use Rattle.issue.specs.Puts.{ArePuts, IsPut, known_in, placed, width_for}
 use Rattle.issue.proofs.Turning.{issues_here, placed_push}
 
--- ---- what stands
+-- ---- what the parts stand for, before and behind
 
 -- whatever stood for the one window, with these stations and queues, does for the other with those
 abbrev pub Ties : Desc → List Entry → List Station → Queues → List Entry → List Station → Queues → Type 0
@@ -47,7 +47,7 @@ ties_more d entries held queues now held_now queues_now put t k =
     subst P (sym k.station)
     (λ p s. stands_issued (record p { version = d.version; tracked = passing d; window = now; held = held_now; queues = queues_now }) put.position k.old new (width_for (width_of k.old)) (t p s) k.here k.waits k.issues k.stay (λ t. k.tracks))
 
--- ---- the puts
+-- ---- entries that are put in place
 
 -- an entry that comes in a place stands there
 get_set : (es : List Entry) (i : ℕ) (e e2 : Entry) → slice_get es i ≡ Some e → slice_get (slice_set es i e2) i ≡ Some e2
@@ -55,7 +55,7 @@ get_set [] i e e2 h = absurd (cc)
 get_set (x ∷ es) zero e e2 h = refl
 get_set (x ∷ es) (suc i) e e2 h = get_set es i e e2 h
 
--- one entry alone does
+-- at a position of the window one entry alone stands
 one_there : (es : List Entry) (i : ℕ) (a b : Entry) → slice_get es i ≡ Some a → slice_get es i ≡ Some b → a ≡ b
 one_there es i a b p q = let same : Some a ≡ Some b = sym p ∙ q in cc
 
@@ -66,7 +66,7 @@ get_other [] i (suc m) e lt = refl
 get_other (x ∷ es) zero (suc m) e lt = refl
 get_other (x ∷ es) (suc i) (suc m) e lt = get_other es i m e (omega (arith, lt))
 
--- and so an older one is still to be put there
+-- an older entry is still to be put in its place, once a younger one is in its own
 still_put : (window : List Entry) (put : Put) (m : ℕ) (e : Entry) → put.position < m → IsPut window put → IsPut (slice_set window m e) put
 still_put window put m e lt k = record {
   old = k.old;
@@ -78,7 +78,7 @@ still_put window put m e lt k = record {
   tracks = k.tracks;
 }
 
--- the others are still to be put in their places, whatever comes in the youngest one's
+-- the older entries are still to be put in their places, whatever comes in the youngest one's
 still_left : (window : List Entry) (puts : List Put) (put : Put) (e : Entry) → ArePuts window (puts ++ put ∷ []) → ArePuts (slice_set window put.position e) puts
 still_left window puts put e a =
     let each = all_left (IsPut window) puts (put ∷ []) a.each_put in
@@ -113,9 +113,9 @@ room_by false loads q = (refl, refl)
 same_room_known : (passes : Bool) (q : Queues) (e : Entry) → ((known_in passes q e).max_loads ≡ q.max_loads) × ((known_in passes q e).max_stores ≡ q.max_stores)
 same_room_known passes q e = room_by (passes && has_read e) (map (issued_at e.serial (access_in (width_for (width_of e)) e)) q.loads) (noted (width_for (width_of e)) e q)
 
--- ---- the loop
+-- ---- the loop over the puts
 
--- with those that are left these parts come to what the first ones come to with all
+-- the entries of the puts that are left, put into these parts, come to what all puts come to in the first parts
 pub record PlacesOn (d : Desc) (puts : List Put) (rob : Ring) (stations : Stations) (queues : Queues) (left : List Put) (r : Ring) (s : Stations) (q : Queues) : Type 0 where
   pub whole : placed left r.entries ≡ placed puts rob.entries
   pub rest : ArePuts r.entries left
@@ -150,11 +150,11 @@ module _ (d : Desc) (puts : List Put) (rob : Ring) (stations : Stations) (queues
   here : IsPut r.entries put
   here = All-head (IsPut r.entries) put [] (all_right (IsPut r.entries) rest (put ∷ []) are.each_put)
 
-  -- its place is in the window, and its station among the stations
+  -- the position of the entry that is put is in the window
   pub place_within : put.position < length r.entries
   place_within = slice_get_within r.entries put.position here.old here.here
 
-  -- these stand for the window as it is now
+  -- the stations and queues of this turn of the loop stand for the window of this turn
   now_stands : (p : InFlight) × Stands (record p { version = d.version; tracked = passing d; window = rob.entries; held = stations.held; queues = queues }) →
       (p : InFlight) × Stands (record p { version = d.version; tracked = passing d; window = r.entries; held = s.held; queues = q })
   now_stands k = (k.0, t.ties k.0 k.1)
@@ -175,7 +175,7 @@ module _ (d : Desc) (puts : List Put) (rob : Ring) (stations : Stations) (queues
       unresolved : All (λ e. is_waiting e.state ≡ true → e.resolved ≡ false) r.entries → here.old.resolved ≡ false
       unresolved all = all_at (λ e. is_waiting e.state ≡ true → e.resolved ≡ false) r.entries put.position here.old all here.here here.waits
 
-  -- what it then is, and the window with it
+  -- the entry once it has issued, and below the window with it
   abbrev new : Entry
   new = with_issued put.issued here.old
 
@@ -189,7 +189,7 @@ module _ (d : Desc) (puts : List Put) (rob : Ring) (stations : Stations) (queues
     new_there : slice_get r2.entries put.position ≡ Some new
     new_there = ap (λ (r : Ring). slice_get r.entries put.position) ring_is ∙ get_set r.entries put.position here.old new here.here
 
-    -- its place is still in the window
+    -- the position of the entry that was put is in the window that has it
     pub still_within : put.position < length r2.entries
     still_within = slice_get_within r2.entries put.position new new_there
 

@@ -35,17 +35,17 @@ use Rattle.issue.specs.Shared.{cache_left, misses_left, requested, second_left}
 use Rattle.issue.proofs.Advanced.{issue_advanced}
 use Rattle.issue.proofs.Leaving.{has_room, leaves}
 
--- ---- before the phase
+-- ---- what holds before the phase
 
 -- the point said which entries are visible
 pub advanced : (h : Held) (v : Described) → Whole h → described h ≡ v → HasAdvanced v.point v.machine.window → HasAdvanced h.point h.rob.entries
 advanced h v w s a = subst (λ (v : Described). HasAdvanced v.point v.machine.window) (sym s) a
 
--- no store executed
+-- no store executed before the phase: each store waits or is done
 pub settled : (h : Held) (v : Described) → Whole h → described h ≡ v → Each WaitsOrDone v.machine.window → Each WaitsOrDone h.rob.entries
 settled h v w s a = subst (λ (v : Described). Each WaitsOrDone v.machine.window) (sym s) a
 
--- as the cycle of the ports begins at most so many are left
+-- at most so many ports are left, as their cycle begins, as entries may begin in a cycle
 pub few_left : (h : Held) (cycle : ℕ) (ports : Ports) → Whole h → ports ≡ begun_at cycle h.ports → left_in_all ports ≤ most_begun
 few_left h cycle ports w b =
     let n = ap left_in_all b in
@@ -53,14 +53,14 @@ few_left h cycle ports w b =
     let few = (every_desc h.desc).alus.1 in
     omega (arith, n, alus, few)
 
--- and as many events
+-- the ports that are left as their cycle begins allow at most so many events as a cycle may issue
 pub events_few : (h : Held) (cycle : ℕ) (ports : Ports) → Whole h → ports ≡ begun_at cycle h.ports → events_left ports ≤ most_issued
 events_few h cycle ports w b =
     let left = few_left h cycle ports w b in
     let one = ap (λ (p : Ports). p.load) b in
     omega (arith, left, one)
 
--- and all of them are
+-- where no entry has had its turn, every port is left as its cycle begins
 pub all_left : (h : Held) (cycle : ℕ) (now : Around) (ports : Ports) → Whole h → ports ≡ begun_at cycle h.ports → LeftAfter h.desc now [] ports
 all_left h cycle now ports w b = subst (LeftAfter h.desc now []) (sym b) (left_first h.desc now cycle h.ports (ap (λ (s : Sizes). s.alus) w.made))
 
@@ -72,7 +72,7 @@ standing h w = (in_flight h, w.stands)
 abbrev pub now_with : Held → Divider → Around
 now_with h v = record { cycle = h.cycle; regs = h.regs; ram = h.ram; dependence = h.dependence; cache = h.tags.sets; second = h.second.sets; misses = h.mshrs.misses; free_from = v.free_from }
 
--- what is decided for what is seen is decided for the machine
+-- what is decided for the state that the phase looks at is decided for the machine
 pub decides : (h : Held) (v : Divider) (cycle : ℕ) (begun : Ports) (new : Divider) (decided : Decided) → Whole h → v ≡ h.ports.divider →
     begun ≡ begun_at cycle h.ports → Decides h.desc (now_with h v) h.rob.entries decided begun.divider new →
     Decides h.desc (around (machine_of h)) h.rob.entries decided h.ports.divider new
@@ -91,7 +91,7 @@ registers_left h decided new w k =
     subst (λ n. length h.mshrs.misses + length (requested (option_map as_access decided.load)) ≤ n) (sym (ap (λ (s : Sizes). s.registers) w.made))
     (has_room h.desc (machine_of h) w.sized.misses (option_map as_access decided.load) k.load)
 
--- and so are its events
+-- the events of the entries' turns are those of the definition of the phase
 pub issued_row : (h : Held) (divider : Divider) (v : Described) (old new : Row) → Whole h → divider ≡ h.ports.divider →
     new ≡ with_events old (flat_map (λ b. b.events) (each (issue_entry h.desc (now_with h divider)) h.rob.entries)) → described h ≡ v → new ≡ with_events old (issue v.desc v.machine).events
 issued_row h divider v old new w q e s =
@@ -110,7 +110,7 @@ module _ (h : Held) (decided : Decided) (rob : Ring) (stations : Stations) (queu
   abbrev new : Held
   new = record h { rob = rob; stations = stations; queues = queues; tags = tags; second = second; mshrs = mshrs; ports = ports }
 
-  -- they hold what the definition leaves
+  -- the parts that the phase leaves hold the machine that the definition leaves
   issued_machine : machine_of new ≡ (issue h.desc (machine_of h)).machine
   issued_machine =
       leaves h.desc (machine_of h) rob.entries (option_map as_access decided.load) tags.sets second.sets mshrs.misses ports.divider
@@ -138,7 +138,7 @@ module _ (h : Held) (decided : Decided) (rob : Ring) (stations : Stations) (queu
   pub issued_shown : (v : Described) → described h ≡ v → described new ≡ record v { machine = (issue v.desc v.machine).machine }
   issued_shown v s = shown_by (λ d x. (issue d x).machine) h (machine_of new) v issued_machine s
 
-  -- and the point goes on to say which entries are visible
+  -- the visibility point still says which entries are visible, once they have issued
   pub issued_advanced : (v : Described) → described h ≡ v → HasAdvanced v.point v.machine.window → HasAdvanced h.point rob.entries
   issued_advanced v s a =
       subst (HasAdvanced h.point) (sym (ap (λ (x : Machine). x.window) issued_machine))

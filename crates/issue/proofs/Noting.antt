@@ -17,11 +17,11 @@ puts_by_events : (i station : ℕ) (e : Entry) (events : List Event) → length 
 puts_by_events i station e [] = omega arith
 puts_by_events i station e (v ∷ events) = omega arith
 
--- no more puts than events
+-- an entry has no more puts than events
 pub few_puts : (i station : ℕ) (b : Begun) → length (puts_of i station b) ≤ length b.events
 few_puts i station b = puts_by_events i station b.entry b.events
 
--- one at most
+-- at most one put stands for what issues of an entry
 one_put : (i station : ℕ) (after : Option Issued) → length (puts_by i station after) ≤ 1
 one_put i station None = omega arith
 one_put i station (Some o) = omega arith
@@ -40,7 +40,7 @@ as_many_events events more b m = ap length m ∙ length-append events b.events
 pub row_is : (row new : Row) (events : List Event) → new.cycle ≡ row.cycle → new.events ≡ events → new ≡ record row { events = events }
 row_is row new events c e = let same : new ≡ record new { cycle = new.cycle } = refl in cc
 
--- no event more
+-- a row with no further event is the row itself
 pub same_row : (row : Row) → with_events row [] ≡ row
 same_row row = ap (λ es. record row { events = es }) (append-nil row.events)
 

@@ -25,7 +25,7 @@ module _ (s : Seen) (ports : Ports) (puts : List Put) (load : Option Access) (st
   abbrev able_at : ℕ → Option Bool
   able_at k = option_map is_able (slice_get s.stations.now.held k)
 
-  -- one station
+  -- the walk passes one station that isn't able
   past_one : (k : ℕ) → k < length s.stations.now.held → able_at k ≡ Some false → At k → At (k + 1)
   past_one k lt unable t =
       let w = waits_at (parts_of stands.next stands.writes s) stands.parts k lt in
@@ -41,19 +41,19 @@ module _ (s : Seen) (ports : Ports) (puts : List Put) (load : Option Access) (st
       let here = past_one k (omega (arith, le)) (unable k (omega arith) (omega arith)) t in
       subst At (omega arith) (past_some n (k + 1) (omega (arith, le)) (λ j low high. unable j (omega (arith, low)) (omega (arith, high))) here)
 
-  -- all from one up to another
+  -- the walk passes all stations from one up to another, where none of them is able
   pub skipped : (from k : ℕ) → from ≤ k → k ≤ length s.stations.now.held → ((j : ℕ) → from ≤ j → j < k → able_at j ≡ Some false) → At from → At k
   skipped from k le within unable t =
       let there : from + (k - from) ≡ k = omega (arith, le) in
       subst At there (past_some (k - from) from (omega (arith, le, within)) (λ j low high. unable j low (omega (arith, high, le))) t)
 
--- one alone
+-- where one station isn't able, none of the range that has it alone is
 pub one_unable : (held : List Station) (k : ℕ) → option_map is_able (slice_get held k) ≡ Some false → (j : ℕ) → k ≤ j → j < k + 1 → option_map is_able (slice_get held j) ≡ Some false
 one_unable held k unable j low high =
     let same : k ≡ j = omega (arith, low, high) in
     subst (λ j. option_map is_able (slice_get held j) ≡ Some false) same unable
 
--- those of which a word without marks says that they may not
+-- where a word of flags has no bit set, no station from there on is able
 pub unable_by : (held : List Station) (from k : ℕ) → MarksAble held from 0 → from ≤ k → k < length held → option_map is_able (slice_get held k) ≡ Some false
 unable_by held from k m low lt =
     let t = slice_get-some held k lt in

@@ -16,20 +16,20 @@ use Rattle.window_model.specs.Order.{Place, before_at, first, first_from}
 use Rattle.window_model.specs.Issue.{Port, DivPort, asking, is_granted, may_at, ports, taken_for}
 use Rattle.issue.specs.Shared.{divider_left}
 
--- one element more
+-- the first elements of a list, and the next one behind them
 pub one_more : {X : Type 0} (xs : List X) (i : ℕ) (x : X) → slice_get xs i ≡ Some x → take (i + 1) xs ≡ take i xs ++ x ∷ []
 one_more xs i x h = take_more xs i x (slice_get_within xs i x h) ∙ ap (λ x. take i xs ++ x ∷ []) (get_or_from_slice_get xs i x x h)
 
--- the first of these, else the second
+-- the first of two options, else the second
 abbrev or_else : {A : Type 0} → Option A → Option A → Option A
 or_else None b = b
 or_else (Some a) b = Some a
 
--- this of an entry in its place
+-- the value of a function at an entry in its place, by the older ones
 abbrev pub at : {A : Type 0} → (List Entry → Entry → A) → Place → A
 at f place = f place.before place.entry
 
--- this of the oldest entry with a property
+-- the value of a function at the oldest entry that has a property
 abbrev pub of_first : {A : Type 0} → (List Entry → Entry → Bool) → (List Entry → Entry → A) → List Entry → Option A
 of_first p f window = option_map (at f) (first p window)
 
@@ -77,7 +77,7 @@ unasked f d now port window i =
     let o = first (may_at d now port) (take i window) in
     none_first f o ∙ sym (and-true (is_none o)) ∙ none_asks d now port [] (take i window)
 
--- ---- one entry more
+-- ---- one entry more behind those that were looked at
 
 value_more : {A : Type 0} (t : Bool) (old : Option A) (v : A) → (if t && is_none old then Some v else old) ≡ or_else old (if t then Some v else None)
 value_more true None v = refl
@@ -85,7 +85,7 @@ value_more true (Some a) v = refl
 value_more false None v = refl
 value_more false (Some a) v = refl
 
--- what is kept of the one entry that is granted the port is of the first that asks for it
+-- what is kept of the entry that is granted the one port is what the first that asks for it makes
 pub slot_more : {A : Type 0} (f : List Entry → Entry → A) (d : Desc) (now : Around) (port : Port) (window : List Entry) (i : ℕ) (e : Entry) (old new : Option A) → slice_get window i ≡ Some e → ports d port ≡ 1 →
     new ≡ (if is_granted d now port (before_at window i) e then Some (f (before_at window i) e) else old) →
     old ≡ of_first (may_at d now port) f (take i window) → new ≡ of_first (may_at d now port) f (take (i + 1) window)
@@ -96,7 +96,7 @@ slot_more f d now port window i e old new h one n o =
     let g : is_granted d now port before e ≡ (t && is_none old) = ap (λ n. t && nat_lt (asking d now port before) n) one ∙ ap (λ b. t && b) none in
     n ∙ ap (λ b. if b then Some (f before e) else old) g ∙ value_more t old (f before e) ∙ ap (λ o. or_else o (if t then Some (f before e) else None)) o ∙ sym (first_more (may_at d now port) f window i e h)
 
--- and so is the divider that a division takes
+-- the divider that is kept, whether this division takes it or not, is what the first division leaves of it
 left_by : (b : Bool) (v : Divider) (o : Option Divider) (start : Divider) → (if b then v else divider_left o start) ≡ divider_left (if b then Some v else o) start
 left_by true v o start = refl
 left_by false v o start = refl

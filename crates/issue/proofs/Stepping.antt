@@ -27,7 +27,7 @@ pub record Walks (s : Seen) (first ports : Ports) (decided : Decided) (start row
   pub room : length row.events + events_left ports ≤ length start.events + most_issued
   pub cycle : row.cycle ≡ start.cycle
 
--- what all have
+-- what has been decided once each entry has had its turn
 pub record WalksAll (s : Seen) (first ports : Ports) (decided : Decided) (start last : Row) : Type 0 where
   pub decides : DecidesFor s decided first.divider ports.divider
   pub puts : ArePuts (window_of s) decided.puts.items
@@ -36,7 +36,7 @@ pub record WalksAll (s : Seen) (first ports : Ports) (decided : Decided) (start 
   pub few : IsLonger most_issued start last
 
 module _ (s : Seen) (first ports : Ports) (decided : Decided) (start row : Row) (stands : Stands s) where
-  -- past those that may not issue
+  -- the walk goes past the stations of entries that may not issue
   pub walks_past : (from k : ℕ) → from ≤ k → k ≤ length s.stations.now.held → ((j : ℕ) → from ≤ j → j < k → option_map is_able (slice_get s.stations.now.held j) ≡ Some false) →
       Walks s first ports decided start row from → Walks s first ports decided start row k
   walks_past from k le within unable t = record {
@@ -47,7 +47,7 @@ module _ (s : Seen) (first ports : Ports) (decided : Decided) (start row : Row) 
     cycle = t.cycle;
   }
 
-  -- past all that are left
+  -- the walk goes past all stations that are left, and all is decided
   pub walks_out : (k : ℕ) → k ≡ length s.stations.now.held → Walks s first ports decided start row k → WalksAll s first ports decided start row
   walks_out k end t =
       let room = t.room in
@@ -66,7 +66,7 @@ module _ (s : Seen) (first ports : Ports) (decided : Decided) (start row : Row) 
   pub left_here : (k : ℕ) (p : Place) → HasTurn s p → p.station ≡ k → Walks s first ports decided start row k → LeftFor s p ports
   left_here k p turn at t = (at_next _ (window_of s) k p.position p.entry.now (keeps s ports _ _ _ _ _ stands) t.walked turn.at turn.waits (sym turn.station ∙ at)).left
 
-  -- it has its turn
+  -- the walk goes on behind an entry that has had its turn
   pub walks_on : (k : ℕ) (p : Place) (new_ports : Ports) (new_decided : Decided) (new_row : Row) → HasTurn s p → p.station ≡ k → HadTurn s p ports decided row new_ports new_decided new_row →
       Walks s first ports decided start row k → Walks s first new_ports new_decided start new_row (k + 1)
   walks_on k p new_ports new_decided new_row turn at had t =

@@ -27,7 +27,7 @@ use Rattle.issue.proofs.Noting.{few_puts, only_both, same_row}
 use Rattle.issue.proofs.Testing.{asked_address_load, asked_data_load, asked_divider, asked_less, asked_only, data_left}
 use Rattle.issue.proofs.Turning.{few_parts, not_alone, parts_as, parts_put, store_turn}
 
--- one of two
+-- a part of a store issues, where the address part does, or the data part alone
 pub some_part : (a c : Bool) → (a ≡ true) ⊎ ((a ≡ false) × (c ≡ true)) → (a || c) ≡ true
 some_part a c (inl h) = ap (λ a. a || c) h
 some_part a c (inr h) = ap₂ (λ a c. a || c) h.0 h.1
@@ -63,7 +63,7 @@ module _ (s : Seen) (p : Place) (ports first new : Ports) (address stored : Bool
   turn_is : here issue_entry s p ≡ parts_as address stored d now before e
   turn_is = store_turn address stored d now before e store (sym g) (sym g2)
 
-  -- ---- the ports
+  -- ---- the ports that a store takes
 
   left_new : LeftBehind s p new
   left_new = subst (LeftAfter d now (e ∷ before)) (sym (a2 ∙ ap (if_asked (may_here DataPort s p) DataPort) a)) (left_by_store d now before e ports store left)
@@ -123,9 +123,9 @@ module _ (s : Seen) (p : Place) (ports first new : Ports) (address stored : Bool
   events : length (here issue_entry s p).events + events_left new ≤ events_left ports
   events = let one = one_each in let same = same_load in omega (arith, one, same)
 
-  -- ---- the turn
+  -- ---- the turn of a store
 
-  -- a part issues
+  -- the turn of a store of which a part issues
   pub went : (decided new_decided : Decided) (row new_row : Row) (after : Issued) → (address || stored) ≡ true → Goes (parts_by address stored s p) after row new_row →
       new_decided.puts.items ≡ decided.puts.items ++ puts_by p.position p.station (Some after) → new_decided.load ≡ decided.load → HadTurn s p ports decided row new new_decided new_row
   went decided new_decided row new_row after h goes puts load =
@@ -143,7 +143,7 @@ module _ (s : Seen) (p : Place) (ports first new : Ports) (address stored : Bool
         only = only;
       }
 
-  -- none does
+  -- the turn of a store of which no part issues
   pub stayed : (decided : Decided) (row : Row) → address ≡ false → stored ≡ false → HadTurn s p ports decided row new decided row
   stayed decided row x y =
       let stays : here issue_entry s p ≡ waits e = turn_is ∙ ap₂ (λ a c. parts_as a c d now before e) x y in

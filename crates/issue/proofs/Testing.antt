@@ -49,7 +49,7 @@ module _ (s : Seen) (i : ℕ) (e : Entry) (t : Stands s) (h : StandsAt s i e) wh
       let both : Some b ≡ Some (has_sources (wants_of s.desc.now.version e) s.desc.now before e) = sym here ∙ told in
       cc
 
-  -- and whether the source of a part is
+  -- a station tells whether the source that this part of its store needs is known
   pub part_is : (part : Part) (n : ℕ) (b : Bool) → is_waiting e.state ≡ true → n ≡ station_of i s.rob.now.entries → option_map (ready_part part) (slice_get s.stations.now.held n) ≡ Some b → b ≡ all_known s.desc.now before (own_of part (sources e))
   part_is part n b w q k =
       let told = tells_part part s.desc.now (parts_of t.next t.writes s) s.point.now i e t.parts held_by h w in
@@ -65,7 +65,7 @@ module _ (s : Seen) (i : ℕ) (e : Entry) (t : Stands s) (h : StandsAt s i e) wh
       ap₂ (λ m b. m && b) p q ∙ sym (tells_issue s.desc.now (parts_of t.next t.writes s) s.point.now i e roots (around_of s) t.parts t.advanced t.model h k)
       ∙ sym (ap₂ (λ a b. a && b && may_issue_as e.item.kind s.desc.now (around_of s) before e) w r)
 
--- ---- ports
+-- ---- ports that are left
 
 some_less : (a : ℕ) → (a - 1) + one_if (nat_lt 0 a) ≡ a
 some_less zero = refl
@@ -84,11 +84,11 @@ left_asked : (b : Bool) (d : Desc) (now : Around) (before : List Entry) (e : Ent
     LeftAfter d now (e ∷ before) (asked b e p)
 left_asked b d now before e p s h l = subst (λ b. LeftAfter d now (e ∷ before) (asked b e p)) h (left_more d now before e p s l)
 
--- one that asks for no port takes none
+-- an entry that asks for no port takes none
 pub left_none : (d : Desc) (now : Around) (before : List Entry) (e : Entry) (p : Ports) → AsksNone d now before e → LeftAfter d now before p → LeftAfter d now (e ∷ before) p
 left_none d now before e p none l = record { each_port = λ q. let a = l.each_port q in let b = ap one_if (none q) in omega (arith, a, b) }
 
--- where none is left none is taken
+-- where no port is left none is taken
 none_less : (a : ℕ) → nat_lt 0 a ≡ false → a - 1 ≡ a
 none_less a h = let k = some_less a in let n = ap one_if h in omega (arith, k, n)
 
@@ -108,7 +108,7 @@ divider_stays _ p = refl
 left_with : (d : Desc) (now : Around) (es : List Entry) (p : Ports) (v : Divider) → LeftAfter d now es p → LeftAfter d now es (record p { divider = v })
 left_with d now es p v l = record { each_port = λ q. with_divider q p v ∙ l.each_port q }
 
--- of each port as many fewer as are taken
+-- the ports that are left and the one that is taken, if one is, are those that were left
 pub asked_less : (may : Bool) (q : Port) (p : Ports) → left_in_all (if_asked may q p) + one_if (may && nat_lt 0 (left_at q p)) ≡ left_in_all p
 asked_less true q p = one_less q p
 asked_less false q p = omega arith
@@ -126,7 +126,7 @@ pub data_left : (may : Bool) (p : Ports) → left_at DataPort (if_asked may Addr
 data_left true p = refl
 data_left false p = refl
 
--- neither part of a store takes the load's
+-- neither part of a store takes the port of loads
 pub asked_address_load : (may : Bool) (p : Ports) → (if_asked may AddressPort p).load ≡ p.load
 asked_address_load true p = refl
 asked_address_load false p = refl
@@ -168,7 +168,7 @@ module _ (d : Desc) (now : Around) (before : List Entry) (e : Entry) (p : Ports)
   pub refused_where_none : nat_lt 0 (left_at own p) ≡ false → is_granted d now own before e ≡ false
   refused_where_none n = grants_left false n ∙ and-false (may_issue d now before e)
 
-  -- one that is refused takes none
+  -- an entry that is refused its port takes none
   pub left_refused : is_granted d now own before e ≡ false → LeftAfter d now (e ∷ before) p
   left_refused h = by_may (may_at d now own before e) refl
     where
@@ -178,7 +178,7 @@ module _ (d : Desc) (now : Around) (before : List Entry) (e : Entry) (p : Ports)
           subst (LeftAfter d now (e ∷ before)) (taken_none own p refused) (left_asked true d now before e p s m l)
       by_may false m = left_asked false d now before e p s m l
 
-  -- one that is served takes one
+  -- an entry that is served takes one port
   module _ (h : is_granted d now own before e ≡ true) where
     is_left : nat_lt 0 (left_at own p) ≡ true
     is_left = (both (may_at d now own before e) _ (granted_own ∙ h)).1
@@ -186,7 +186,7 @@ module _ (d : Desc) (now : Around) (before : List Entry) (e : Entry) (p : Ports)
     pub some_left : 1 ≤ left_in_all p
     some_left = let n = one_less own p in let one = ap one_if is_left in omega (arith, n, one)
 
-    -- and its events
+    -- the events of an entry that is granted its port are among those that the ports still allow
     pub events_served : most_events_of e.item.kind ≤ events_left p
     events_served =
         let all = one_less own p in

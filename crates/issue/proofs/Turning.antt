@@ -45,7 +45,7 @@ turn_by Div b d now before e s h = ap (λ b. if b then begin_as Div d now before
 turn_by Load b d now before e s h = ap (λ b. if b then begin_as Load d now before e else waits e) h
 turn_by k b d now before e s h = ap (λ b. if b then begin_as k d now before e else waits e) h
 
--- one that is served does what its kind does, one that is granted no port waits on
+-- an entry that is served does what its kind does, and one that is granted no port waits on
 pub turn_is : (b : Bool) (d : Desc) (now : Around) (before : List Entry) (e : Entry) → is_store e.item.kind ≡ false → is_granted d now (port_for e.item.kind) before e ≡ b →
     issue_entry d now before e ≡ (if b then begin_entry d now before e else waits e)
 turn_is b d now before e s h = turn_by e.item.kind b d now before e s h
@@ -65,7 +65,7 @@ store_turn a c d now before e s p q =
     ap (λ s. if s then issue_parts d now before e else (if is_granted d now (port_of e.item.kind) before e then begin_as e.item.kind d now before e else waits e)) s
     ∙ ap₂ (λ a c. parts_as a c d now before e) p q
 
--- one that asks for no port waits on
+-- an entry that asks for no port waits on
 pub turn_none : (d : Desc) (now : Around) (before : List Entry) (e : Entry) → AsksNone d now before e → issue_entry d now before e ≡ waits e
 turn_none d now before e n = by_store (is_store e.item.kind) refl
   where
@@ -75,13 +75,13 @@ turn_none d now before e n = by_store (is_store e.item.kind) refl
 
 -- ---- it waits on, or it goes on with an event
 
--- it waited, and goes on with an event
+-- the entry waited, and goes on in this turn with an event
 pub record Acts (e : Entry) (b : Begun) : Type 0 where
   pub event : Event
   pub more : List Event
   pub has : b.events ≡ event ∷ more
   pub waits : is_waiting e.state ≡ true
-  -- nothing else of it changes
+  -- nothing else of the entry changes
   pub rest : with_issued (issued_of b.entry) e ≡ b.entry
   pub issues : Issues e b.entry
   pub stay : is_store e.item.kind ≡ true → PartsGoOn (width_for (width_of e)) e b.entry
@@ -130,7 +130,7 @@ begin_turns : (k : Kind) (d : Desc) (now : Around) (before : List Entry) (e : En
 begin_turns Load d now before e s w = load_turns d now before e _ _ s w
 begin_turns _ d now before e s w = one_event now e _ _ _ s w
 
--- its address is known from the same cycle on as it was, since it wasn't known
+-- where the address was known it is known from the same cycle on: an address part that issues had no address before
 same_address : (e : Entry) (due : Option ℕ) → has_address e ≡ false → has_address e ≡ true → due ≡ e.addr_due
 same_address e due none some = absurd (cc)
 
@@ -236,7 +236,7 @@ begin_few : (k : Kind) (d : Desc) (now : Around) (before : List Entry) (e : Entr
 begin_few Load d now before e = load_few d now before e _ _
 begin_few _ d now before e = omega arith
 
--- one in one piece has at most those of its kind
+-- an entry in one piece has at most the events of its kind
 pub few_events : (d : Desc) (now : Around) (before : List Entry) (e : Entry) → length (begin_entry d now before e).events ≤ most_events_of e.item.kind
 few_events d now before e = begin_few e.item.kind d now before e
 
@@ -247,21 +247,21 @@ data_few d e v q = by_version (d.version == 1)
     by_version true = omega arith
     by_version false = omega arith
 
--- and a store one at most for each part
+-- the events of a store are at most one for each part that issues
 pub few_parts : (a c : Bool) (d : Desc) (now : Around) (before : List Entry) (e : Entry) → length (parts_as a c d now before e).events ≤ one_if a + one_if c
 few_parts true true d now before e = let few = data_few d e (d.version == 1) refl in omega (arith, few)
 few_parts true false d now before e = omega arith
 few_parts false true d now before e = let few = data_few d e (d.version == 1) refl in omega (arith, few)
 few_parts false false d now before e = omega arith
 
--- so what changes has a put
+-- a store of which a part issues has a put, since it has an event
 pub parts_put : (a c : Bool) (d : Desc) (now : Around) (before : List Entry) (e : Entry) → (a || c) ≡ true → (a ≡ false → c ≡ true → (d.version == 1) ≡ false) →
     after_by (parts_as a c d now before e).entry (parts_as a c d now before e).events ≡ Some (issued_of (parts_as a c d now before e).entry)
 parts_put true c d now before e h v = refl
 parts_put false true d now before e h v = ap (λ one. after_by (parts_as false true d now before e).entry (if one then [] else event.Std e.serial ∷ [])) (v refl refl)
 parts_put false false d now before e h v = absurd (cc)
 
--- ---- the puts
+-- ---- the puts of the entries' turns
 
 -- the puts of the entries before a position
 pub record PutsTo (window : List Entry) (i : ℕ) (puts : List Put) : Type 0 where
@@ -301,11 +301,11 @@ pub placed_push : (puts : List Put) (p : Put) (window : List Entry) → placed (
 placed_push [] p window = refl
 placed_push (q ∷ ps) p window = ap (issue_in q) (placed_push ps p window)
 
--- it changes the entry that stands there
+-- a put changes the entry that stands at its position
 pub issues_here : (p : Put) (window : List Entry) (e : Entry) → slice_get window p.position ≡ Some e → issue_in p window ≡ slice_set window p.position (with_issued p.issued e)
 issues_here p window e h = ap (issue_by p window) h
 
--- behind so many
+-- the entry behind a list stands at the position that is the list's length
 here_between : (older : List Entry) (e : Entry) (younger : List Entry) (i : ℕ) → length older ≡ i → slice_get (older ++ e ∷ younger) i ≡ Some e
 here_between older e younger i l = subst (λ i. slice_get (older ++ e ∷ younger) i ≡ Some e) l (seam older)
   where

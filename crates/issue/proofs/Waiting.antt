@@ -49,7 +49,7 @@ no_younger window i m e h w le q = by_test (nat_le i m) refl
 
 -- ---- the entry of a station
 
--- at this position an entry waits, with so many before it
+-- at this position of the window an entry waits, with so many before it that wait
 pub record WaitsAt (window : List Entry) (k i : ℕ) : Type 0 where
   pub entry : Entry
   pub is : slice_get window i ≡ Some entry
@@ -59,7 +59,7 @@ pub record WaitsAt (window : List Entry) (k i : ℕ) : Type 0 where
 abbrev HasWaiter : List Entry → ℕ → Type 0
 HasWaiter window k = (i : ℕ) × WaitsAt window k i
 
--- behind one entry more
+-- a station finds its entry behind one more entry, counted on by one where that one waits
 behind : (e : Entry) (es : List Entry) (b : Bool) (k n : ℕ) → is_waiting e.state ≡ b → n ≡ cond b 1 0 + k → HasWaiter es k → HasWaiter (e ∷ es) n
 behind e es b k n w q t =
     let all = count_is (λ e. is_waiting e.state) (e ∷ take t.0 es) in
@@ -79,11 +79,11 @@ counted [] k lt = absurd (omega (arith, lt))
 counted (e ∷ es) k lt = counted_by e es (is_waiting e.state) refl (counted es) k lt
 
 module _ (p : Parts) (s : Stand p) where
-  -- as many wait as there are stations
+  -- there are as many stations as entries of the window that wait
   pub all_wait : station_of (length p.window) p.window ≡ length p.held
   all_wait = ap (count_by (λ e. is_waiting e.state)) (take_all (length p.window) p.window (omega arith)) ∙ sym (counts_room p s).held
 
-  -- each station has its entry
+  -- to each station there is an entry of the window that waits there
   pub waits_at : (k : ℕ) → k < length p.held → (i : ℕ) × WaitsAt p.window k i
   waits_at k lt =
       let many = (counts_room p s).held in
@@ -97,7 +97,7 @@ module _ (p : Parts) (s : Stand p) where
       let b : st.serial ≡ serial = cc in
       sym b ∙ ap (λ (w : Waiter). w.serial) a
 
-  -- its serial tells the position
+  -- the entry of a station stands at the position that the station's serial tells
   pub stands_at : (k serial i : ℕ) → k < length p.held → option_map (λ s. s.serial) (slice_get p.held k) ≡ Some serial →
       i ≡ length (below serial p.window) → WaitsAt p.window k i
   stands_at k serial i lt h q =
@@ -108,7 +108,7 @@ module _ (p : Parts) (s : Stand p) where
       let same = serial_of (slice_get p.held (station_of w.0 p.window)) _ serial told at in
       subst (WaitsAt p.window k) (sym (q ∙ ap (λ n. length (below n p.window)) same ∙ place_of p.window w.0 t.entry s.rise t.is)) t
 
-  -- and is in flight
+  -- the serial of a station is that of an entry in flight
   pub in_window : (k serial : ℕ) → k < length p.held → option_map (λ s. s.serial) (slice_get p.held k) ≡ Some serial → All (λ e. e.serial ≢ serial) p.window → ⊥
   in_window k serial lt h none =
       let w = waits_at k lt in
@@ -118,7 +118,7 @@ module _ (p : Parts) (s : Stand p) where
       let same = serial_of (slice_get p.held (station_of w.0 p.window)) _ serial told at in
       all_at (λ e. e.serial ≢ serial) p.window w.0 t.entry none t.is (sym same)
 
--- ---- the walk
+-- ---- the walk from station to station
 
 -- what an entry that doesn't wait leaves as it is
 abbrev pub Keeps : (ℕ → Type 0) → List Entry → Type 0
@@ -136,20 +136,20 @@ on_to P window keeps (suc n) i m r le q p =
     let k = on_by P window keeps i m t.0 t.1 (rises window n (i + 1) m (omega (arith, r)) le) q p (is_waiting t.0.state) refl in
     on_to P window keeps n (i + 1) m (omega (arith, r)) le k.1 k.0
 
--- it holds at a position with so many before it that wait
+-- a property holds at a position of the window before which so many entries wait
 pub record Reaches (P : ℕ → Type 0) (window : List Entry) (k : ℕ) : Type 0 where
   pub position : ℕ
   pub within : position ≤ length window
   pub station : station_of position window ≡ k
   pub holds : P position
 
--- and so at the next entry that waits
+-- what holds before a station's entry, and is kept by entries that don't wait, holds at that entry
 pub at_next : (P : ℕ → Type 0) (window : List Entry) (k m : ℕ) (e : Entry) → Keeps P window → Reaches P window k → slice_get window m ≡ Some e → is_waiting e.state ≡ true → station_of m window ≡ k → P m
 at_next P window k m e keeps t h w q =
     let older = no_younger window t.position m e h w t.within (t.station ∙ sym q) in
     on_to P window keeps (m - t.position) t.position m (omega (arith, older)) (let lt = slice_get_within window m e h in omega (arith, lt)) (q ∙ sym t.station) t.holds
 
--- so it reaches one further, where what holds there holds behind it
+-- the walk reaches one station further, where what holds at an entry that waits leads to what is to hold behind it
 pub goes_on : (P Q : ℕ → Type 0) (window : List Entry) (k m : ℕ) (e : Entry) → Keeps P window → Reaches P window k →
     slice_get window m ≡ Some e → is_waiting e.state ≡ true → station_of m window ≡ k → (P m → Q (m + 1)) → Reaches Q window (k + 1)
 goes_on P Q window k m e keeps t h w q on = record {
@@ -159,7 +159,7 @@ goes_on P Q window k m e keeps t h w q on = record {
   holds = on (at_next P window k m e keeps t h w q);
 }
 
--- and behind the last, where none is left that waits
+-- what the walk has reached holds behind the last entry, where no entry is left that waits
 pub at_end : (P : ℕ → Type 0) (window : List Entry) (k : ℕ) → Keeps P window → Reaches P window k → station_of (length window) window ≡ k → P (length window)
 at_end P window k keeps t q =
     let le = t.within in

@@ -37,7 +37,7 @@ use Rattle.issue.proofs.Turning.{PutsTo, entry_turns, placed_more, puts_more, tu
 -- what is decided once the entries before a position have had their turns
 pub record DecidedTo (s : Seen) (i : ℕ) (puts : List Put) (load : Option Access) (start divider : Divider) (earlier events : List Event) : Type 0 where
   pub puts_to : PutsTo (window_of s) i puts
-  -- whatever entries are younger
+  -- the window with the older entries put in their places, whatever entries are younger
   pub window : (younger : List Entry) → placed puts (take i (window_of s) ++ younger) ≡ map (λ b. b.entry) (each (issue_entry s.desc.now (around_of s)) (take i (window_of s))) ++ younger
   pub events_are : events ≡ earlier ++ flat_map (λ b. b.events) (each (issue_entry s.desc.now (around_of s)) (take i (window_of s)))
   pub load_is : load ≡ of_first (may_at s.desc.now (around_of s) LoadPort) (access_of s.desc.now (around_of s)) (take i (window_of s))
@@ -95,7 +95,7 @@ module _ (s : Seen) (i : ℕ) (e : Entry) (stands : Stands s) (h : StandsAt s i 
       m ∙ ap (λ es. es ++ turn.events) k ∙ append_assoc earlier (flat_map (λ b. b.events) (turns i)) turn.events
       ∙ ap (λ es. earlier ++ es) (sym (ap (flat_map (λ b. b.events)) turns_more ∙ events_push (turns i) turn))
 
-  -- one entry more has had its turn
+  -- the decision goes on over an entry that has had its turn
   pub decided_more : (station : ℕ) (puts new_puts : List Put) (load new_load : Option Access) (start divider new_divider : Divider) (earlier events more : List Event) → station ≡ station_of i (window_of s) →
       new_puts ≡ puts ++ puts_of i station turn → more ≡ events ++ turn.events →
       new_load ≡ (if is_granted d now LoadPort before e then Some (access_of d now before e) else load) →
@@ -110,7 +110,7 @@ module _ (s : Seen) (i : ℕ) (e : Entry) (stands : Stands s) (h : StandsAt s i 
         divider_is = divider_more d now (window_of s) i e start divider new_divider h v t.divider_is;
       }
 
-  -- one that asks for no port leaves all as it is
+  -- the decision goes on as it is over an entry that asks for no port
   pub decided_past : (puts : List Put) (load : Option Access) (start divider : Divider) (earlier events : List Event) → AsksNone d now before e →
       DecidedTo s i puts load start divider earlier events → DecidedTo s (i + 1) puts load start divider earlier events
   decided_past puts load start divider earlier events m t =
@@ -127,7 +127,7 @@ module _ (s : Seen) (i : ℕ) (e : Entry) (stands : Stands s) (h : StandsAt s i 
   pub left_past : (p : Ports) → AsksNone d now before e → LeftAfter d now before p → LeftAfter d now (before_at (window_of s) (i + 1)) p
   left_past p m l = left_on p (left_none d now before e p m l)
 
--- ---- the walk
+-- ---- the walk over the window
 
 -- what is decided before a position, and the ports that are left there
 pub record Walked (s : Seen) (ports : Ports) (puts : List Put) (load : Option Access) (start : Divider) (earlier events : List Event) (i : ℕ) : Type 0 where
@@ -135,16 +135,16 @@ pub record Walked (s : Seen) (ports : Ports) (puts : List Put) (load : Option Ac
   pub left : LeftAfter s.desc.now (around_of s) (before_at (window_of s) i) ports
 
 module _ (s : Seen) (ports : Ports) (puts : List Put) (load : Option Access) (start : Divider) (earlier events : List Event) (stands : Stands s) where
-  -- one that asks for no port leaves all as it is
+  -- the walk goes on as it is over an entry that asks for no port
   pub walked_past : (i : ℕ) (e : Entry) (h : StandsAt s i e) → AsksNone s.desc.now (around_of s) (before_at (window_of s) i) e →
       Walked s ports puts load start earlier events i → Walked s ports puts load start earlier events (i + 1)
   walked_past i e h m t = record { decided = decided_past s i e stands h puts load start ports.divider earlier events m t.decided; left = left_past s i e stands h ports m t.left }
 
-  -- so does one that doesn't wait
+  -- an entry that doesn't wait leaves what the walk has reached as it is
   pub keeps : Keeps (Walked s ports puts load start earlier events) (window_of s)
   keeps i e h w t = walked_past i e h (not_waiting s.desc.now (around_of s) (before_at (window_of s) i) e (in_step s i e stands h) w) t
 
--- ---- at the end
+-- ---- at the end of the walk
 
 -- what is decided once all have had their turns is what the definition decides
 pub record DecidesAll (s : Seen) (decided : Decided) (start divider : Divider) (earlier events : List Event) : Type 0 where

@@ -13,21 +13,21 @@ use Rattle.issue.specs.declared.lines.Line.TheVariants.{Hits, Joins, Takes}
 use Rattle.issue.specs.declared.lines.Lines.{Lines}
 use Rattle.issue.specs.declared.lines.Request.{Request}
 
--- field by field
+-- a line that takes a miss register, as the definitions have it, field by field
 abbrev pub as_request : Request → access.Request
 as_request r = record { line = r.line; from_memory = r.from_memory }
 
--- variant by variant
+-- what looking up a line comes to, as the definitions have it, variant by variant
 abbrev pub as_line : Line → access.Line
 as_line (Hits line) = access.Hits line
 as_line (Joins line due) = access.Joins line due
 as_line (Takes r) = access.Takes (as_request r)
 
--- the lower first
+-- the one or two lines of an access as a list, the lower first
 abbrev pub as_lines : Lines → List access.Line
 as_lines l = as_line l.lower ∷ option_to_list (option_map as_line l.upper)
 
--- variant by variant
+-- what the access of a load comes to, as the definitions have it, variant by variant
 abbrev pub as_access : Access → access.Access
 as_access (Faults cause) = access.Faults cause
 as_access Forwards = access.Forwards

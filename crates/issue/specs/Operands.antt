@@ -14,7 +14,7 @@ abbrev pub value_by : List ℕ → List Entry → Option ℕ → Option ℕ → 
 value_by regs window None writer = 0
 value_by regs window (Some r) writer = from_writer (in_flight window writer) (reg regs r)
 
--- those of the entry in its place
+-- the first operand of the entry in its place, and the second below
 abbrev pub first_of : Seen → Place → ℕ
 first_of s p = first_operand s.regs.now (before_of s p) (sources p.entry.now)
 

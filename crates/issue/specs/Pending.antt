@@ -9,15 +9,15 @@ use Rattle.issue.specs.declared.seen.Place.{Place}
 use Rattle.issue.specs.declared.seen.Seen.{Seen}
 use Rattle.issue.specs.State.{around_of, before_of}
 
--- it passes stores of unknown address
+-- the load in its place passes older stores whose address isn't known
 abbrev pub passes_here : Seen → Place → Bool
 passes_here s p = passes_stores s.desc.now (around_of s) p.entry.now
 
--- what the queue says of its bytes
+-- what the queue of stores says of the bytes that the load asks for
 abbrev pub pending_here : Seen → Place → Pending
 pending_here s p = awaited (bytes_of (around_of s) (before_of s p) p.entry.now) (older p.entry.now.serial s.lsq.now.stores)
 
--- each older store has its address, or the load passes those that lack it; none without data covers a byte of the load, or has a
--- tainted address
+-- no older store keeps the load: one whose address isn't known lets it go where the load passes stores, and none without data covers a
+-- byte of the load or has a tainted address
 abbrev pub lets_by : Bool → ℕ → Pending → Bool
 lets_by passes point p = (passes || not p.address) && not p.overlap && not (is_hidden point p.root)

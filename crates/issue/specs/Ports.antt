@@ -16,11 +16,11 @@ use Rattle.issue.specs.State.{around_of, before_of}
 
 -- ---- of an entry in its place
 
--- it may issue, but for tainted operands
+-- the entry in its place has what it asks for besides untainted operands
 abbrev pub besides : Seen → Place → Bool
 besides s p = asks_besides p.entry.now.item.kind s.desc.now (around_of s) (before_of s p) p.entry.now
 
--- it may issue at this port
+-- the entry in its place may issue at this port
 abbrev pub may_here : Port → Seen → Place → Bool
 may_here port s p = may_at s.desc.now (around_of s) port (before_of s p) p.entry.now
 
@@ -34,28 +34,28 @@ abbrev pub part_port : Part → Port
 part_port part.Base = AddressPort
 part_port part.Other = DataPort
 
--- it is granted this port
+-- the entry in its place is granted this port
 abbrev pub granted_at : Port → Seen → Place → Bool
 granted_at port s p = is_granted s.desc.now (around_of s) port (before_of s p) p.entry.now
 
--- it is granted its own
+-- the entry in its place is granted the port of its kind
 abbrev pub is_served : Seen → Place → Bool
 is_served s p = granted_at (port_for p.entry.now.item.kind) s p
 
--- these ports are left to it, and to those behind it
+-- the ports that are left to the entry in its place, and below those that are left to the entries behind it
 abbrev pub LeftFor : Seen → Place → Ports → Type 0
 LeftFor s p ports = LeftAfter s.desc.now (around_of s) (before_of s p) ports
 
 abbrev pub LeftBehind : Seen → Place → Ports → Type 0
 LeftBehind s p ports = LeftAfter s.desc.now (around_of s) (p.entry.now ∷ before_of s p) ports
 
--- ---- of all entries
+-- ---- the ports of all entries
 
--- how many are left in all
+-- how many ports are left in all, of every kind
 abbrev pub left_in_all : Ports → ℕ
 left_in_all p = p.alu + p.mul + p.div + p.address_part + p.data_part + p.load
 
--- how many events they allow: the load's two more than any other, since it may have two lines and one that is prefetched
+-- how many events the ports that are left allow: a load's two more than any other, since it may have two lines and one that is prefetched
 abbrev pub events_left : Ports → ℕ
 events_left p = left_in_all p + 2 * p.load
 
@@ -64,7 +64,7 @@ abbrev pub most_events_of : Kind → ℕ
 most_events_of Load = 3
 most_events_of _ = 1
 
--- but for the ports that are left, and the divider, nothing changes
+-- nothing of the ports changes but how many are left, and the divider
 pub record OnlyPorts (old new : Ports) : Type 0 where
   pub alus : new.alus ≡ old.alus
   pub cycle : new.cycle ≡ old.cycle

@@ -27,7 +27,7 @@ pub record IsPut (window : List Entry) (p : Put) : Type 0 where
   pub stay : is_store old.item.kind ≡ true → PartsGoOn (width_for (width_of old)) old (with_issued p.issued old)
   pub tracks : TracksOn (width_for (width_of old)) old (with_issued p.issued old)
 
--- each is one, and they are named by age
+-- every put names an entry of the window that issues, and they are named by age
 pub record ArePuts (window : List Entry) (puts : List Put) : Type 0 where
   pub each_put : All (IsPut window) puts
   pub by_age : AllPairs (λ p q. p.position < q.position) puts
@@ -37,11 +37,11 @@ abbrev pub issue_by : Put → List Entry → Option Entry → List Entry
 issue_by p window None = window
 issue_by p window (Some e) = slice_set window p.position (with_issued p.issued e)
 
--- once the one that stands there has
+-- the window once the entry that stands at the put's position has issued
 abbrev pub issue_in : Put → List Entry → List Entry
 issue_in p window = issue_by p window (slice_get window p.position)
 
--- all have issued in their places
+-- the window once the entries of all puts have issued in their places
 abbrev pub placed : List Put → List Entry → List Entry
 placed [] window = window
 placed (p ∷ ps) window = issue_in p (placed ps window)

@@ -10,7 +10,7 @@ abbrev pub cache_left : Desc → Option Access → List (List ℕ) → List (Lis
 cache_left d None cache = cache
 cache_left d (Some a) cache = cache_after a d cache
 
--- its second level after the load's access, if a load was tried
+-- the second level of the cache after the load's access, if a load was tried
 abbrev pub second_left : Desc → Option Access → List (List ℕ) → List (List ℕ)
 second_left d None second = second
 second_left d (Some a) second = second_after a d second

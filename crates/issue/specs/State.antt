@@ -1,5 +1,5 @@
--- The state that the phase looks at, when it stands for a machine, and an entry in its place (docs/machine.md, "Issue", "The
--- parts stand for the machine").
+-- The state that the phase looks at, where its parts stand for a machine, and an entry in its place (docs/machine.md, "Issue";
+-- docs/architecture.md, "How they stand for it").
 use Rattle.std.specs.Prelude.{◌≡◌, ℕ, ◌+◌, ◌^◌, ◌≤◌, List, true, length, slice_get, Some}
 use Rattle.std.specs.List.{AllByRecursion as Each}
 use Rattle.machine_desc.specs.declared.Desc.{Desc}
@@ -24,7 +24,7 @@ use Rattle.issue.specs.declared.seen.Seen.{Seen}
 abbrev pub around_of : Seen → Around
 around_of s = record { cycle = s.cycle; regs = s.regs.now; ram = s.ram.now; dependence = s.dependence.now; cache = s.tags.now.sets; second = s.second.now.sets; misses = s.mshrs.now.misses; free_from = s.free_from }
 
--- the window
+-- the window that the phase looks at
 abbrev pub window_of : Seen → List Entry
 window_of s = s.rob.now.entries
 
@@ -45,7 +45,7 @@ pub record Stands (s : Seen) : Type 0 where
   -- a store that waits lacks a part, and its parts go together
   pub store_parts : Each HasParts s.rob.now.entries
   pub together : Each (Together s.desc.now) s.rob.now.entries
-  -- and no store executes
+  -- no store executes as the phase begins
   pub settled : Each WaitsOrDone s.rob.now.entries
   pub advanced : HasAdvanced s.point.now s.rob.now.entries
   pub model : s.point.now.model ≡ s.desc.now.stt_model
@@ -71,7 +71,7 @@ here f s p = f s.desc.now (around_of s) (before_of s p) p.entry.now
 abbrev pub StandsAt : Seen → ℕ → Entry → Type 0
 StandsAt s i e = slice_get s.rob.now.entries i ≡ Some e
 
--- it stands there, it waits at its station, and what it wants is there
+-- the entry stands in the window at its place, waits at its station, and what it wants is there
 pub record HasTurn (s : Seen) (p : Place) : Type 0 where
   pub stands : Stands s
   pub at : StandsAt s p.position p.entry.now

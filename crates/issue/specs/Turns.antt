@@ -23,7 +23,7 @@ use Rattle.issue.specs.declared.seen.Seen.{Seen}
 use Rattle.issue.specs.Accesses.{as_access}
 use Rattle.issue.specs.State.{around_of, before_of, here}
 
--- what its instruction makes of its operands
+-- what the instruction of the entry in its place makes of its operands
 abbrev pub effect_here : Seen → Place → Effect
 effect_here s p = effect_of s.regs.now (before_of s p) p.entry.now
 
@@ -45,14 +45,14 @@ address_by granted s p f = if_granted granted (with_address (around_of s) f) (ev
 abbrev pub data_by : Bool → Seen → Entry → Effect → Begun
 data_by granted s e f = if_granted granted (with_data (around_of s) f) (data_events s.desc.now e) e
 
--- by both, the address first
+-- what a store comes to by whether each part is granted its port, the address first
 abbrev pub parts_by : Bool → Bool → Seen → Place → Begun
 parts_by address stored s p =
     let a = address_by address s p (effect_here s p) in
     let b = data_by stored s a.entry (effect_here s p) in
     record { entry = b.entry; events = a.events ++ b.events }
 
--- this has then issued of the entry, changed or not, and the row has its events
+-- what has then issued of the store, changed or not, and the row with its events
 pub record Goes (b : Begun) (after : Issued) (old new : Row) : Type 0 where
   pub issued : after ≡ issued_of b.entry
   pub row : new ≡ with_events old b.events
@@ -69,12 +69,12 @@ after_by e (event ∷ events) = Some (issued_of e)
 abbrev pub after_of : Begun → Option Issued
 after_of b = after_by b.entry b.events
 
--- this has then issued of the entry, and the row has its events
+-- what has then issued of an entry in one piece, and the row with its events
 pub record Comes (b : Begun) (after : Option Issued) (old new : Row) : Type 0 where
   pub issued : after ≡ after_of b
   pub row : new ≡ with_events old b.events
 
--- it is put in its place then
+-- the put of an entry at its position and station, if anything of it has issued
 abbrev pub puts_by : ℕ → ℕ → Option Issued → List Put
 puts_by i station after = option_to_list (option_map (λ o. record { position = i; station = station; issued = o }) after)
 

@@ -7,13 +7,13 @@ use window_model::lines_of;
 /// What the access of a load comes to.
 #[derive(Clone, Copy, Debug, PartialEq, Eq)]
 pub(crate) enum Access {
-    /// It faults.
+    /// The load has a fault, and reads nothing.
     Faults(Cause),
-    /// All its bytes come from older stores.
+    /// Older stores have all bytes of the load.
     Forwards,
-    /// Its lines are looked up, and this line is prefetched with them.
+    /// The load's lines are looked up, and this line, if any, is prefetched with them.
     Looks(Lines, Option<Request>),
-    /// Too few miss registers are free for its lines.
+    /// Too few miss registers are free for the load's lines.
     Waits,
 }
 
@@ -49,7 +49,7 @@ impl<'a> Seen<'a> {
         }
     }
 
-    // A line.
+    // What looking up a line comes to: it hits, joins a miss register, or takes one.
     fn look_up(&self, line: u32) -> Line
         requires stands { Stands self.now }
         ensures { as_line result ≡ look_up self.now.desc.now (around_of self.now) line }
@@ -93,7 +93,7 @@ impl<'a> Seen<'a> {
             && taken < self.mshrs.free()
     }
 
-    // It is prefetched, if it takes that register.
+    // The line behind an access, if it is prefetched: it takes the register that is left.
     fn prefetched(&self, lines: &Lines) -> Option<Request>
         requires stands { Stands self.now }
         ensures { option_to_list (option_map as_request result)
@@ -105,7 +105,7 @@ impl<'a> Seen<'a> {
         self.look_up(lines.behind(self.desc) as u32).request()
     }
 
-    // Where there are too few registers for the lines, none is looked up.
+    // The lines are looked up, unless there are too few registers for them: then the load waits.
     fn unless_lacking(&self, lines: Lines) -> Access
         requires stands { Stands self.now }
         ensures { as_access result ≡ unless_lacking self.now.desc.now (around_of self.now) (as_lines lines) }

@@ -93,7 +93,7 @@ impl<'a> Seen<'a> {
         )
     }
 
-    // A multiplication.
+    // A multiplication executes for the description's latency of multiplications.
     fn begin_product(&self, place: &Place, made: &Effect, row: &mut Row) -> Issued
         requires effect { seen made.now ≡ effect_here self.now place.now }
         requires room { HasRoom 1 row.old }

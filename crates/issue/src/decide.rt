@@ -13,16 +13,17 @@ pub(crate) const PUTS_MAX: usize = 9;
 /// An entry that issues, or of which a part does, before it does in its place.
 #[derive(Clone, Copy, Debug, PartialEq, Eq)]
 pub(crate) struct Put {
-    /// Its position, counted from the oldest entry.
+    /// The position of the entry, counted from the oldest one.
     pub(crate) position: u32,
-    /// The position of its station, as the stations are before the phase. It is freed where the entry no longer waits.
+    /// The position of the entry's station, as the stations are before the phase. It is freed where the entry no longer
+    /// waits.
     pub(crate) station: u32,
-    /// What has then issued of it: all that changes.
+    /// What has then issued of the entry: all that changes.
     pub(crate) issued: Issued,
 }
 
 impl Default for Put {
-    /// To fill free places with: one whose bytes are all 0, so that all places are cleared at once.
+    /// A put to fill free places with, whose bytes are all 0, so that all places are cleared at once.
     fn default() -> Self {
         Put {
             position: 0,
@@ -38,7 +39,7 @@ impl Default for Put {
     }
 }
 
-/// What is decided.
+/// What is decided of all entries before any of them issues in its place.
 #[derive(Drop)]
 pub(crate) struct Decided {
     /// The entries that issue, or of which a part does, oldest first.
@@ -52,7 +53,7 @@ impl Decided {
     ghost use Rattle.issue.specs.Decisions.{IsNothing, most_begun};
     ghost use Rattle.issue.specs.Turns.{puts_by};
 
-    /// Nothing as yet.
+    /// The decision as the phase begins: no entry issues, no load was tried.
     pub(crate) fn nothing() -> Decided
         ensures { IsNothing result }
     {

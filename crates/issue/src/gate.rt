@@ -69,7 +69,7 @@ impl<'a> Seen<'a> {
             .pending(place.entry.serial, addr, place.entry.width(), fault)
     }
 
-    // What loads and divisions ask for beside untainted operands: older stores that let it go, a divider that is free.
+    // What an entry asks for besides untainted operands: a load older stores that let it go, a division a free divider.
     fn has_besides(&self, place: &Place) -> bool
         requires turn { HasTurn self.now place.now }
         ensures { result ≡ besides self.now place.now }

@@ -5,9 +5,9 @@ use window_model::Look;
 /// A line that takes a miss register.
 #[derive(Clone, Copy, Debug, PartialEq, Eq)]
 pub(crate) struct Request {
-    /// Its first address.
+    /// The first address of the line.
     pub(crate) line: u32,
-    /// Whether it comes from memory, and not from the second level.
+    /// Whether the line comes from memory, and not from the second level.
     pub(crate) from_memory: bool,
 }
 
@@ -16,7 +16,7 @@ impl Request {
     ghost use Rattle.window_model.specs.Access.{register, source_of};
     ghost use Rattle.issue.specs.Accesses.{as_request};
 
-    /// Where it comes from.
+    /// Where the line comes from: the second level, or memory.
     pub(crate) fn source(&self) -> Look
         ensures { result ≡ source_of (as_request self.now) }
     {
@@ -26,7 +26,7 @@ impl Request {
         Look::Second
     }
 
-    /// The cycle in which it comes, once it takes a miss register in this one.
+    /// The cycle in which the line comes, if it takes a miss register in this cycle.
     pub(crate) fn due(&self, cycle: u64, desc: &Desc) -> u64
         requires soon { cycle < 2 ^ 32 }
         ensures { result ≡ (register desc.now cycle (as_request self.now)).due }
@@ -41,11 +41,11 @@ impl Request {
 /// What looking up one line comes to.
 #[derive(Clone, Copy, Debug, PartialEq, Eq)]
 pub(crate) enum Line {
-    /// The cache has it.
+    /// The cache has the line.
     Hits(u32),
-    /// A miss register waits for it, until this cycle.
+    /// A miss register waits for the line, until this cycle.
     Joins(u32, u64),
-    /// It takes a miss register.
+    /// The line takes a miss register.
     Takes(Request),
 }
 
@@ -76,7 +76,7 @@ impl Line {
         }
     }
 
-    /// Its first address.
+    /// The first address of the line that was looked up.
     pub(crate) fn line(&self) -> u32
         ensures { result ≡ line_at (as_line self.now) }
     {
@@ -87,7 +87,7 @@ impl Line {
         }
     }
 
-    /// Where it was found.
+    /// Where the line was found, as the trace tells it.
     pub(crate) fn look(&self) -> Look
         ensures { result ≡ look_at (as_line self.now) }
     {
@@ -102,9 +102,9 @@ impl Line {
 /// The lines of an access.
 #[derive(Clone, Copy, Debug, PartialEq, Eq)]
 pub(crate) struct Lines {
-    /// That of its first byte.
+    /// The line of the access's first byte.
     pub(crate) lower: Line,
-    /// That of its last byte, where it is another one.
+    /// The line of the access's last byte, where it is another line.
     pub(crate) upper: Option<Line>,
 }
 
@@ -126,7 +126,7 @@ impl Lines {
         }
     }
 
-    /// The upper one, if it takes a miss register.
+    /// The upper line, if it takes a miss register.
     pub(crate) fn upper_request(&self) -> Option<Request>
         ensures { option_to_list (option_map as_request result)
             ≡ flat_map request_by (option_to_list (option_map as_line self.now.upper)) }

@@ -16,12 +16,12 @@ use rv_alu::extend;
 use rv_effect::Effect;
 use window_model::{Event, Row};
 
-/// What a load finds.
+/// What a load finds: how its bytes are served, and its value.
 #[derive(Clone, Copy, Debug, PartialEq, Eq)]
 pub(crate) struct Loaded {
-    /// What its access comes to.
+    /// What the load's access comes to.
     pub(crate) access: Access,
-    /// Its value, where it has no fault.
+    /// The load's value, where it has no fault.
     pub(crate) value: u32,
 }
 
@@ -110,7 +110,7 @@ impl<'a> Seen<'a> {
         }
     }
 
-    // The cycle in which all are.
+    // The cycle in which all lines of an access are there.
     fn due_by(&self, lines: &Lines) -> u64
         ensures { result ≡ due_by self.now.desc.now (around_of self.now) (as_lines lines.now) }
     {

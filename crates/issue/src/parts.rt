@@ -116,7 +116,7 @@ impl<'a> Seen<'a> {
         ports.grant(place.entry.item.kind)
     }
 
-    // Whether the data part is, once the address part has asked for its own.
+    // Whether the data part is granted its port, once the address part has asked for its own.
     fn grant_data(&self, place: &Place, ports: &mut Ports) -> bool
         requires turn { HasTurn self.now place.now }
         requires store { is_store place.now.entry.now.item.kind ≡ true }

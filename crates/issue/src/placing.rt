@@ -103,7 +103,8 @@ fn note_load(lsq: &mut Lsq, desc: &Desc, entry: &Entry)
     }
 }
 
-// Both queues know of it.
+// What has issued of an entry is known to the queues: of a store its parts, of a load what it reads, where loads may
+// pass stores.
 fn note(lsq: &mut Lsq, desc: &Desc, entry: &Entry)
     ensures { lsq.new ≡ known_in (passing desc.now) lsq.old entry.now }
 {
@@ -111,9 +112,9 @@ fn note(lsq: &mut Lsq, desc: &Desc, entry: &Entry)
     note_load(lsq, desc, entry);
 }
 
-/// Each entry issues in its place, its station is freed or waits for what is left, a store's parts that have issued are known to
-/// its queue, and so is what a load reads, where loads may pass stores. The youngest comes first, so that the others' stations stay
-/// where they are.
+/// Puts entries in their places, youngest first, so that the older ones' stations stay where they are: an entry issues,
+/// its station is freed or waits for what is left, a store's parts that have issued are known to its queue, and so is
+/// what a load reads, where loads may pass stores.
 pub(crate) fn place(
     puts: &ArrayVec<Put, PUTS_MAX>,
     desc: &Desc,

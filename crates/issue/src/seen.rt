@@ -30,13 +30,13 @@ pub(crate) struct Seen<'a> {
     pub(crate) dependence: &'a DepPred,
     /// The cache.
     pub(crate) tags: &'a Tags,
-    /// Its second level.
+    /// The second level of the cache.
     pub(crate) second: &'a Second,
     /// The miss registers.
     pub(crate) mshrs: &'a Mshrs,
     /// Memory.
     pub(crate) ram: &'a Ram,
-    /// The address behind its last byte, which is at most 2^32.
+    /// The address behind memory's last byte, at most 2^32.
     pub(crate) memory_end: u64,
     /// The registers, as retired.
     pub(crate) regs: &'a [u32; REGISTERS],
@@ -51,9 +51,9 @@ pub(crate) struct Seen<'a> {
 /// An entry that has its turn, in its place: it waits, and what it wants is there.
 #[derive(Clone, Copy)]
 pub(crate) struct Place<'a> {
-    /// Its position, counted from the oldest entry.
+    /// The position of the entry, counted from the oldest one.
     pub(crate) position: u32,
-    /// The position of its station.
+    /// The position of the entry's station, counted from the first one.
     pub(crate) station: u32,
     /// The entry.
     pub(crate) entry: &'a Entry,

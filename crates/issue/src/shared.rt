@@ -14,7 +14,7 @@ use machine_desc::Desc;
 use mshr_file::Mshrs;
 use second_level::Second;
 
-/// Each line of a load moves to the front of its set, where the cache has it.
+/// Moves each line of a load to the front of its set, where the cache has it.
 pub(crate) fn touch(tags: &mut Tags, load: Option<Access>)
     ensures { tags.new ≡ record tags.old { sets = cache_left tags.old.desc (option_map as_access load) tags.old.sets } }
 {
@@ -26,7 +26,7 @@ pub(crate) fn touch(tags: &mut Tags, load: Option<Access>)
     }
 }
 
-// This line takes a register, if there is one, and moves to the front of its set where the second level has it.
+// A line takes a miss register, if one is asked for, and moves to the front of its set where the second level has it.
 fn take_register(
     mshrs: &mut Mshrs,
     second: &mut Second,
@@ -50,7 +50,7 @@ fn take_register(
     }
 }
 
-/// Each line of a load that misses takes a register, the lower first, and then the line that is prefetched does.
+/// Lines of a load that miss take a register each, the lower first, and then the line that is prefetched does.
 pub(crate) fn take_registers(
     mshrs: &mut Mshrs,
     second: &mut Second,

@@ -9,7 +9,7 @@ abbrev are_pairs : List ℕ → (ℕ → ℕ) → (ℕ → ℕ) → ℕ → Bool
 are_pairs table high low zero = true
 are_pairs table high low (suc p) = (eqb (get_or table (p * 2) 0) (high p) && eqb (get_or table (p * 2 + 1) 0) (low p)) && are_pairs table high low p
 
--- each of them is
+-- where all pairs of a table are so, that of each number below n is
 pair_at : (table : List ℕ) (high low : ℕ → ℕ) (n p : ℕ) → T (are_pairs table high low n) → p < n → (get_or table (p * 2) 0 ≡ high p) × (get_or table (p * 2 + 1) 0 ≡ low p)
 pair_at table high low zero p t h = absurd (omega arith)
 pair_at table high low (suc n) p t h =

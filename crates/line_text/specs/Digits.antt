@@ -1,4 +1,4 @@
--- Numbers in digits.
+-- Numbers written in digits, decimal and hexadecimal.
 use Rattle.std.specs.Prelude.{ℕ, ◌+◌, ◌/◌, ◌%◌, ◌^◌, List, [], ◌∷◌, ◌++◌, codes, slice_index}
 
 -- the digit of a number below 16

@@ -25,7 +25,7 @@ impl Model for Line {
 }
 
 impl Line {
-    /// The empty line.
+    /// A line without any byte.
     pub fn new() -> Self
         ensures { result ≡ [] }
     {
@@ -42,7 +42,7 @@ impl Line {
         self.len = 0;
     }
 
-    /// The bytes.
+    /// The bytes of the line, in order.
     pub fn as_slice(&self) -> &[u8]
         ensures { result.now ≡ self.now }
     {

@@ -1,4 +1,4 @@
--- Who isn't in a queue needn't be taken out of it.
+-- A load or store that isn't in a queue needn't be taken out of it.
 use Rattle.std.proofs.Common.{◌≡◌, ◌∙◌, Bool, false, cond, List, [], ◌∷◌, refl, ap}
 use Rattle.std.specs.Prelude.{not}
 use Rattle.std.specs.List.{filter, list_any}

@@ -26,7 +26,7 @@ four false true r s = refl
 four false false true s = refl
 four false false false s = one s
 
--- of an access without fault each byte is looked at
+-- what a store writes reaches one of a width's bytes where it reaches a byte that an access without fault asks for
 pub one_is : (k : Span) (a : ℕ) (w : Width) → reaches_one w a k ≡ list_any (λ a. reaches a k) (bytes_asked None a (bytes_in w))
 one_is k a B = one (reaches a k)
 one_is k a H = two (reaches a k) (reaches (a + 1) k)
@@ -36,7 +36,7 @@ root_if : (b : Bool) (s : Store) (ss : List Store) → youngest_root (cond (not 
 root_if true s ss = refl
 root_if false s ss = refl
 
--- one more store is passed
+-- what a load awaits of stores with a younger one in front
 pub one_more : (bytes : List ℕ) (s : Store) (ss : List Store) → awaited bytes (s ∷ ss) ≡ awaits_too bytes s (awaited bytes ss)
 one_more bytes s ss =
     ap (λ r. record { address = lacks_address s || list_any lacks_address ss; overlap = lacks_data_for bytes s || list_any (lacks_data_for bytes) ss; root = r })

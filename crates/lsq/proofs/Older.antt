@@ -18,6 +18,6 @@ filtered : (serial : ℕ) (stores : List Store) → list_all is_known (filter (�
 filtered serial [] = refl
 filtered serial (s ∷ stores) = all_if (nat_lt s.serial serial) (nat_le serial s.serial) s (filter (λ s. nat_lt s.serial serial) stores) _ (not_older s.serial serial) (filtered serial stores)
 
--- each older store is known where each store is not older or is known
+-- the older stores are all known where each store of the queue is not older or is known
 pub all_older : (serial : ℕ) (stores : List Store) → list_all is_known (older serial stores) ≡ list_all (λ s. nat_le serial s.serial || is_known s) stores
 all_older serial stores = all_reverse is_known (filter (λ s. nat_lt s.serial serial) stores) ∙ filtered serial stores

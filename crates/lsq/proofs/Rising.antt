@@ -11,7 +11,7 @@ use Rattle.lsq.specs.Queues.{Rise}
 use Rattle.lsq.proofs.Absent.{none_taken}
 
 module _ {X : Type 0} (serial_of : X → ℕ) where
-  -- who is below all isn't there
+  -- a serial that is below all serials isn't among them
   none_above : (serial : ℕ) (xs : List X) → All (λ x. serial < serial_of x) xs → list_any (λ x. serial_of x == serial) xs ≡ false
   none_above serial [] a = refl
   none_above serial (x ∷ xs) a =
@@ -46,7 +46,7 @@ module _ {X : Type 0} (serial_of : X → ℕ) where
 
   -- ---- some are taken out, one more comes, and one is changed
 
-  -- those that are left rise
+  -- the serials of the items that a filter leaves rise
   pub rises_kept : (p : X → Bool) (xs ys : List X) → Rise serial_of xs → ys ≡ filter p xs → Rise serial_of ys
   rises_kept p xs ys r e = subst (Rise serial_of) (sym e) (AllPairs-filter (λ a b. serial_of a < serial_of b) p xs r)
 
@@ -63,7 +63,7 @@ module _ {X : Type 0} (serial_of : X → ℕ) where
       let same = ap serial_of (get_or_default xs k d e within ∙ ap (λ k. get_or xs k e) at) in
       omega (arith, same, h)
 
-  -- one behind the last that is above it
+  -- the serials rise where an item comes behind the last that is above it
   pub rises_more : (xs : List X) (x last e : X) → Rise serial_of xs → last ≡ get_or xs (length xs - 1) e → nat_lt (serial_of last) (serial_of x) ≡ true → Rise serial_of (xs ++ x ∷ [])
   rises_more xs x last e r is h =
       let same = ap serial_of is in
@@ -92,7 +92,7 @@ module _ {X : Type 0} (serial_of : X → ℕ) where
       let q = ap serial_of (get_or-map at xs j d d there) ∙ same y in
       omega (arith, less, p, q)
 
-  -- one that is changed keeps its serial
+  -- the serials rise where an item is changed that keeps its own
   pub rises_changed : (serial : ℕ) (change : X → X) → ((x : X) → serial_of (change x) ≡ serial_of x) → (xs ys : List X) → Rise serial_of xs →
       ys ≡ map (changed_at serial change) xs → Rise serial_of ys
   rises_changed serial change keeps xs ys r e = subst (Rise serial_of) (sym e) (rises_map serial change keeps xs r)

@@ -13,7 +13,7 @@ use Rattle.lsq.specs.Clearing.{is_violated, violated}
 use Rattle.lsq.specs.Merging.{reaches}
 use Rattle.lsq.specs.Pending.{bytes_asked}
 
--- one with a fault asks for no byte
+-- an access with a fault asks for no byte
 pub shared_is : (k : Span) (fault : Option Cause) (a n : ℕ) → list_any (λ a. reaches a k) (bytes_asked fault a n) ≡ (not (is_some fault) && list_any (λ a. reaches a k) (range a n))
 shared_is k None a n = refl
 shared_is k (Some cause) a n = refl
@@ -26,7 +26,7 @@ either_serial (Some l) b = refl
 pub violated_more : (s : Store) (xs ys : List Load) → violated s (xs ++ ys) ≡ option_or (violated s xs) (violated s ys)
 violated_more s xs ys = ap (option_map (λ (l : Load). l.serial)) (find-append (is_violated s) xs ys) ∙ either_serial (find (is_violated s) xs) (find (is_violated s) ys)
 
--- one load more is looked at
+-- the first violated load is looked for in one load more
 pub violated_next : (s : Store) (xs : List Load) (i : ℕ) (x : Load) (o r : Option ℕ) → i < length xs → x ≡ get_or xs i x → o ≡ violated s (take i xs) → r ≡ option_or o (violated s (x ∷ [])) →
     r ≡ violated s (take (i + 1) xs)
 violated_next s xs i x o r within at before next =

@@ -19,7 +19,7 @@ info_of s = record { serial = s.serial; root = s.root; known = is_some s.span; c
 abbrev pub is_wrong : Span → Access → Bool
 is_wrong k a = nat_lt a.cycle k.known_from && not (is_some a.fault) && list_any (λ b. reaches b k) (range a.addr (bytes_in a.width))
 
--- so it is with a load, where it has issued and it is known where the store writes
+-- the load passed the store wrongly, where it is known what the load reads and where the store writes
 abbrev pub passed_wrongly : Option Span → Option Access → Bool
 passed_wrongly (Some k) (Some a) = is_wrong k a
 passed_wrongly _ _ = false
@@ -28,7 +28,7 @@ passed_wrongly _ _ = false
 abbrev pub is_violated : Store → Load → Bool
 is_violated s l = nat_lt s.serial l.serial && passed_wrongly s.span l.access
 
--- the oldest of them
+-- the serial of the oldest load that the store violates
 abbrev pub violated : Store → List Load → Option ℕ
 violated s loads = option_map (λ l. l.serial) (find (is_violated s) loads)
 

@@ -11,7 +11,7 @@ use Rattle.lsq.specs.declared.merging.Gathered.{Gathered}
 use Rattle.lsq.specs.Queues.{youngest_root}
 use Rattle.lsq.specs.Merging.{byte_by, byte_or_memory, forwarded}
 
--- what these stores, youngest first, give to a load of the bytes from an address on
+-- what stores, youngest first, give to a load of the bytes from an address on
 abbrev pub gathered : List Store → ℕ → Gathered
 gathered stores a = record {
   first = forwarded stores a;
@@ -21,7 +21,7 @@ gathered stores a = record {
   root = youngest_root stores;
 }
 
--- what no store gives
+-- what is gathered where there is no store
 abbrev pub nothing : Gathered
 nothing = record { first = None; second = None; third = None; fourth = None; root = None }
 
@@ -42,7 +42,7 @@ number_in ram a H g = from_le (byte_or_memory ram a g.first ∷ byte_or_memory r
 number_in ram a W g =
     from_le (byte_or_memory ram a g.first ∷ byte_or_memory ram (a + 1) g.second ∷ byte_or_memory ram (a + 1 + 1) g.third ∷ byte_or_memory ram (a + 1 + 1 + 1) g.fourth ∷ [])
 
--- all of so many bytes were gathered
+-- stores gave every byte of this width
 abbrev pub covered_in : Width → Gathered → Bool
 covered_in B g = is_some g.first
 covered_in H g = is_some g.first && is_some g.second

@@ -37,6 +37,6 @@ byte_or_memory ram a (Some byte) = byte
 abbrev pub merged_bytes : Ram → List Store → ℕ → ℕ → List ℕ
 merged_bytes ram stores a n = map (λ b. byte_or_memory ram b (forwarded stores b)) (range a n)
 
--- these stores give all n bytes from an address on
+-- stores give all n bytes from an address on
 abbrev pub all_forwarded : List Store → ℕ → ℕ → Bool
 all_forwarded stores a n = list_all (λ b. is_some (forwarded stores b)) (range a n)

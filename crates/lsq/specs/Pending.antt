@@ -17,11 +17,11 @@ use Rattle.lsq.specs.Merging.{reaches}
 abbrev pub bytes_asked : Option Cause → ℕ → ℕ → List ℕ
 bytes_asked fault a n = unless_fault fault (range a n)
 
--- it isn't known where the store writes
+-- where the store writes isn't known
 abbrev pub lacks_address : Store → Bool
 lacks_address s = not (is_some s.span)
 
--- where it is known, what is written there reaches an address
+-- what a store writes reaches an address, where it is known
 abbrev pub reaches_span : ℕ → Option Span → Bool
 reaches_span a None = false
 reaches_span a (Some k) = reaches a k
@@ -30,7 +30,7 @@ reaches_span a (Some k) = reaches a k
 abbrev pub lacks_data_for : List ℕ → Store → Bool
 lacks_data_for bytes s = not (is_some s.stored) && list_any (λ a. reaches_span a s.span) bytes
 
--- ---- one walk
+-- ---- one walk over the stores
 
 -- what a load of these bytes waits for in these stores, youngest first
 abbrev pub awaited : List ℕ → List Store → Pending
@@ -40,7 +40,7 @@ awaited bytes stores = record {
   root = youngest_root (filter (λ s. not (is_some s.stored)) stores);
 }
 
--- what it waits for once a younger store is passed
+-- what a load waits for once a younger store is passed
 abbrev pub awaits_too : List ℕ → Store → Pending → Pending
 awaits_too bytes s p = record {
   address = lacks_address s || p.address;
@@ -48,7 +48,7 @@ awaits_too bytes s p = record {
   root = if is_some s.stored then p.root else later s.root p.root;
 }
 
--- what is written here reaches one of the bytes of a width
+-- what a store writes reaches one of the bytes of a width
 abbrev pub reaches_one : Width → ℕ → Span → Bool
 reaches_one B a k = reaches a k
 reaches_one H a k = reaches a k || reaches (a + 1) k

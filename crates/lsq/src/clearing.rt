@@ -10,13 +10,13 @@ use crate::store::{Span, Store};
 /// What is told of a store in its place.
 #[derive(Clone, Copy, Debug, PartialEq, Eq)]
 pub struct StoreInfo {
-    /// Its number in the order of renaming.
+    /// The store's number in the order of renaming.
     pub serial: u64,
-    /// The serial of the youngest load from which its address flows, if there is one.
+    /// The serial of the youngest load from which the store's address flows, if there is one.
     pub root: Option<u64>,
-    /// It is known where it writes.
+    /// Whether it is known where the store writes.
     pub known: bool,
-    /// It is cleared.
+    /// Whether the store is cleared.
     pub cleared: bool,
 }
 
@@ -43,7 +43,7 @@ fn is_wrong(span: &Span, access: &Access) -> bool
     shares(span, access.addr as u64, access.width, access.fault)
 }
 
-// Whether it is known of both, and so it is.
+// Whether the load passed the store wrongly, where it has issued and it is known where the store writes.
 fn passed_wrongly(span: &Option<Span>, access: &Option<Access>) -> bool
     ensures { result ≡ passed_wrongly span.now access.now }
 {

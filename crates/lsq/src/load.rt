@@ -1,26 +1,26 @@
-//! A load in flight.
+//! A load in flight, as the queue of loads holds it.
 use crate::serials::Queued;
 use rv_types::{Cause, Width};
 
 /// What a load reads, and when it issued.
 #[derive(Clone, Copy, Debug, PartialEq, Eq)]
 pub struct Access {
-    /// The address of its first byte.
+    /// The address of the load's first byte.
     pub addr: u32,
-    /// How many bytes it reads.
+    /// How many bytes the load reads.
     pub width: Width,
-    /// Why it traps once it is the oldest, if it does: it then reads nothing.
+    /// Why the load traps once it is the oldest, if it does: it then reads nothing.
     pub fault: Option<Cause>,
-    /// The cycle in which it issued.
+    /// The cycle in which the load issued.
     pub cycle: u64,
 }
 
-/// A load in flight.
+/// A load in flight, as the queue of loads holds it.
 #[derive(Clone, Copy, Debug, PartialEq, Eq)]
 pub struct Load {
-    /// Its number in the order of renaming.
+    /// The load's number in the order of renaming.
     pub serial: u64,
-    /// What it reads, once that is noted as it issues.
+    /// What the load reads, once that is noted as it issues.
     pub access: Option<Access>,
 }
 

@@ -12,12 +12,12 @@ use byte_ram::Ram;
 use rename_taint::later;
 use rv_types::Width;
 
-/// What a load finds.
+/// What a load finds in older stores and in memory.
 #[derive(Clone, Copy, Debug, PartialEq, Eq)]
 pub struct Merged {
-    /// The number of its bytes, the lowest first.
+    /// The number of the load's bytes, the lowest first.
     pub value: u32,
-    /// Older stores give all its bytes.
+    /// Whether older stores give all bytes of the load.
     pub covered: bool,
     /// The serial of the youngest load from which an older store's address flows, if there is one.
     pub root: Option<u64>,
@@ -50,6 +50,7 @@ fn byte_in(width: Width, number: u32, place: u64) -> u8
     match (width, place) {
         (_, 0) => (number % 256) as u8,
         (Width::H | Width::W, 1) => (number / 256 % 256) as u8,
+        // Divided byte by byte, as the definition takes a number apart.
         (Width::W, 2) => (number / 256 / 256 % 256) as u8,
         (Width::W, 3) => (number / 256 / 256 / 256 % 256) as u8,
         _ => 0,
@@ -71,7 +72,7 @@ fn byte_by(store: &Store, addr: u64) -> Option<u8>
 }
 
 impl Gathered {
-    // What no store gives.
+    // What is gathered for a load where there is no store.
     fn nothing() -> Gathered
         ensures { result ≡ nothing }
     {
@@ -101,7 +102,7 @@ impl Gathered {
         }
     }
 
-    // The same, where the store is older than the load.
+    // What is gathered for the bytes from an address on, once this store is passed, if it is older than the load.
     fn passed_if_older(self, store: &Store, serial: u64, addr: u64) -> Gathered
         requires { addr < 2 ^ 32 }
         ensures { result ≡ (if nat_lt store.now.serial serial then passed addr store.now self else self) }
@@ -125,6 +126,7 @@ impl Gathered {
             Width::H => first + 256 * byte_or_memory(self.second, ram, addr + 1) as u32,
             Width::W => {
                 let second = byte_or_memory(self.second, ram, addr + 1) as u32;
+                // Counted on by ones, as the definition's list of addresses is.
                 let third = byte_or_memory(self.third, ram, addr + 1 + 1) as u32;
                 let fourth = byte_or_memory(self.fourth, ram, addr + 1 + 1 + 1) as u32;
                 first + 256 * (second + 256 * (third + 256 * fourth))

@@ -14,9 +14,9 @@ use rv_types::{Cause, Width};
 /// What a load still waits for in the stores before it.
 #[derive(Clone, Copy, Debug, PartialEq, Eq)]
 pub struct Pending {
-    /// Of some older store it isn't known where it writes.
+    /// Whether of some older store it isn't known where it writes.
     pub address: bool,
-    /// Some older store writes bytes that the load asks for, and it isn't known what.
+    /// Whether some older store writes bytes that the load asks for, and it isn't known what.
     pub overlap: bool,
     /// The serial of the youngest load from which the address flows of an older store of which it isn't known what it
     /// writes, if there is one.
@@ -32,6 +32,7 @@ fn reaches_one(span: &Span, addr: u64, width: Width) -> bool
         Width::B => reaches(span, addr),
         Width::H => reaches(span, addr) || reaches(span, addr + 1),
         Width::W => {
+            // Counted on by ones, as the definition's list of addresses is.
             reaches(span, addr)
                 || reaches(span, addr + 1)
                 || reaches(span, addr + 1 + 1)
@@ -64,7 +65,7 @@ impl Pending {
         }
     }
 
-    // What it waits for, once this younger store is passed. One with both its parts is passed at once.
+    // What a load waits for, once this younger store is passed. One with both its parts is passed at once.
     fn passed(self, store: &Store, addr: u64, width: Width, fault: Option<Cause>) -> Pending
         requires { addr < 2 ^ 32 }
         ensures { result ≡ awaits_too (bytes_asked fault addr (bytes_in width)) store.now self }
@@ -85,7 +86,7 @@ impl Pending {
         }
     }
 
-    // The same, where the store is older than the load.
+    // What a load waits for, once this store is passed, if it is older than the load.
     fn passed_if_older(
         self,
         store: &Store,

@@ -3,11 +3,11 @@ ghost use Rattle.std.specs.Prelude.{◌≡◌, ℕ, not, ◌==◌, nat_lt, [], �
 ghost use Rattle.std.specs.List.{filter};
 ghost use Rattle.lsq.specs.Queues.{Rise};
 
-/// What a queue holds.
+/// What a queue holds: loads, or stores.
 pub(crate) trait Queued {
     ghost serial: { Self → ℕ };
 
-    /// Its number in the order of renaming.
+    /// The item's number in the order of renaming.
     fn serial(&self) -> u64
         ensures { result ≡ serial self.now };
 }

@@ -1,4 +1,4 @@
--- All that is asked of a description holds of each.
+-- Whatever is asked of a description holds of every value of the type.
 use Rattle.std.proofs.Common.{◌≡◌, ◌<◌, ◌⊎◌, inl, inr, ℕ, Bool, true, false, IsTrue, refl, arith, eqb-true, ltb-true}
 use Rattle.std.specs.Prelude.{◌==◌, ◌&&◌, ◌||◌, nat_lt}
 use Rattle.machine_desc.specs.declared.Desc.{Desc}

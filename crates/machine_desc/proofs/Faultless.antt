@@ -10,7 +10,7 @@ use Rattle.machine_desc.specs.Description.{first, checked, top_fault, sections_f
 use Rattle.machine_desc.specs.Version.{comes_between}
 use Rattle.machine_desc.specs.Clean.{IsClean}
 
--- where there is no first fault there is none
+-- where a list of faults has no first one, it has none
 pub none_first : (xs : List (Option DescFault)) → first xs ≡ None → Each (λ x. x ≡ None) xs
 none_first [] h = tt
 none_first (None ∷ xs) h = (refl, none_first xs h)
@@ -50,7 +50,7 @@ each_step v document h =
     none_first (top_fault document ∷ sections_fault v document ∷ keys_fault v document ∷ latency_fault v document ∷ end_fault v document ∷
     registers_fault v document ∷ second_fault v document ∷ []) h
 
--- so each key has none
+-- where the list of all keys has no fault, no key of the document has one
 key_clean : (v : ℕ) (document : Members) → Each (λ x. x ≡ None) (map (key_fault v document) keys) → (k : Key) → key_fault v document k ≡ None
 key_clean v document e CoreFetchWidth = e.0
 key_clean v document e CoreRetireWidth = e.1.0

@@ -58,7 +58,7 @@ by_table = (refl, refl, refl, refl)
 
 -- ---- nor does version 1 know the third model and the second defence
 
--- what is told of a text in a version
+-- the fault of a text as a key's value in a version
 abbrev named : ℕ → Key → List ℕ → Option DescFault
 named version key text = value_fault key (row version key).values (Some (string text))
 

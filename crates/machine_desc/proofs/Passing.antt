@@ -16,7 +16,7 @@ use Rattle.machine_desc.specs.Ranges.{MayBe}
 use Rattle.machine_desc.proofs.Fitting.{fits_from_test}
 use Rattle.machine_desc.proofs.Versions.{first_within}
 
--- both tests hold where no fault is found
+-- a number passes the tests of its range and its shape where reading it gives no fault
 passes : (n least most : ℕ) (shape : Shape) (low high fits : Bool) (a b : DescFault) → nat_le least n ≡ low → nat_le n most ≡ high → has_shape shape n ≡ fits
     → fault_of (if low && high then (if fits then Ok n else Err a) else Err b) ≡ None
     → PassesAs (Numbers least most shape) (number_or_zero (if low && high then (if fits then Ok n else Err a) else Err b))

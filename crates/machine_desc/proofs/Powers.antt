@@ -27,7 +27,7 @@ from_ones : (d n : ℕ) → n ≤ d → count_ones n ≡ 1 → IsPowerOfTwo n
 from_ones zero n h e = absurd (omega (arith, ones_le_self n))
 from_ones (suc d) n h e = by_parity n (parity n) e (from_ones d (n / 2) (halved n d h))
 
--- one bit is set only in a power of two
+-- a number with one bit set is a power of two
 pub power_from_test : (n : ℕ) → IsTrue (is_power_of_two n) → IsPowerOfTwo n
 power_from_test n h = from_ones n n (omega arith) (eqb-true _ _ h)
 

@@ -120,7 +120,7 @@ desc_of v known document m t by_model by_defence clean =
       defence_known = by_defence;
     }
 
--- its contents are the document's
+-- the contents of the description that is made of a document are the document's
 contents_are : (v : ℕ) (known : IsKnown v) (document : Members) (m : SttModel) (t : Defence) (by_model : IsTrue (knows_model v m))
     (by_defence : IsTrue (knows_defence v t)) (clean : IsClean v document)
     → contents (desc_of v known document m t by_model by_defence clean) ≡ record { version = v; numbers = map (number v document) number_keys; model = m; defence = t }

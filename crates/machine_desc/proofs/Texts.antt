@@ -13,7 +13,7 @@ unless : (b : Bool) {X : Type 0} (x y : X) → (b ≡ true → ⊥) → (if b th
 unless true x y h = absurd (h refl)
 unless false x y h = refl
 
--- bytes that aren't UTF-8
+-- bytes that aren't UTF-8 are refused for their syntax
 pub not_text : (bytes : List ℕ) → ¬ (IsUtf8 bytes) → description_of bytes ≡ Err Syntax
 unfolding description_of
 not_text bytes h = unless (is_utf8 bytes) _ _ (λ e. h (IsUtf8-from_is_utf8 bytes e))

@@ -6,7 +6,7 @@ use Rattle.toml.specs.View.{members_view}
 use Rattle.toml.specs.declared.value.Value.{Value}
 use Rattle.machine_desc.specs.Description.{unknown}
 
--- the first of these names that isn't known
+-- the first of several names that isn't known
 abbrev pub unknown_name : (List ℕ → Bool) → List (String Global) → Option (List ℕ)
 unknown_name known [] = None
 unknown_name known (k ∷ ks) = if known (string_bytes k) then unknown_name known ks else Some (string_bytes k)

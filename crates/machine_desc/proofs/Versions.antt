@@ -70,7 +70,7 @@ of_text = refl
 
 -- ---- the ranges that differ: the most in each version, and one more
 
--- what is told of a number in a version
+-- the fault of a number as a key's value in a version
 abbrev pub told : ℕ → Key → ℕ → Option DescFault
 told version key n = value_fault key (row version key).values (Some (integer (pos n)))
 

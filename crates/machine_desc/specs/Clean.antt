@@ -1,4 +1,4 @@
--- A document without fault.
+-- What it is for a document to have no fault.
 use Rattle.std.specs.Prelude.{◌≡◌, ◌+◌, ◌*◌, ◌^◌, ◌<◌, ◌≤◌, ◌%◌, ℕ, IsTrue, None}
 use Rattle.toml.specs.Data.{Members}
 use Rattle.machine_desc.specs.declared.keys.Key.{Key}
@@ -26,7 +26,7 @@ Fits (Optional least most shape) n = (least ≤ n) × (n ≤ most) × HasShape s
 Fits (Models off) n = Unit {0}
 Fits (Defences hold) n = Unit {0}
 
--- the same, with the shape as a test
+-- a number is one of these values, where a test tells its shape
 abbrev pub PassesAs : Values → ℕ → Type 0
 PassesAs (Numbers least most shape) n = (least ≤ n) × (n ≤ most) × IsTrue (has_shape shape n)
 PassesAs (Optional least most shape) n = (least ≤ n) × (n ≤ most) × IsTrue (has_shape shape n)

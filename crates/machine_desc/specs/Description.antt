@@ -22,7 +22,7 @@ use Rattle.machine_desc.specs.declared.fault.DescFault.TheVariants.{Syntax, Unkn
 use Rattle.machine_desc.specs.Version.{newest, knows_off, knows_hold, comes_between}
 use Rattle.machine_desc.specs.Table.{row, section_of, name_of, section_name, version_name, sections, number_keys, keys, some_top, some_key}
 
--- the first fault of these places, if there is one
+-- the first fault of a list of places, if there is one
 abbrev pub first : List (Option DescFault) → Option DescFault
 first [] = None
 first (None ∷ more) = first more
@@ -33,7 +33,7 @@ abbrev pub checked : Option DescFault → Result (Unit {0}) DescFault
 checked None = Ok tt
 checked (Some fault) = Err fault
 
--- ---- the version
+-- ---- the version of a document
 
 -- the version of a value: 1 where there is none, else a whole number, from 1 to the newest
 abbrev pub version_in : Option Data → Result ℕ DescFault
@@ -45,18 +45,18 @@ version_in (Some other) = Err (Kind OfVersion)
 abbrev pub version : Members → Result ℕ DescFault
 version document = version_in (get_member version_name document)
 
--- ---- names
+-- ---- names of tables and keys
 
--- the first name that isn't known, so the least one: members ascend by the bytes of their names
+-- the first name of a table that isn't known, so the least one: members ascend by the bytes of their names
 abbrev pub unknown : (List ℕ → Bool) → Members → Option (List ℕ)
 unknown known no_members = None
 unknown known (member name value more) = if known name then unknown known more else Some name
 
--- of a name at the top, the first 64 bytes are kept
+-- the first unknown name at the top of a document; the first 64 bytes of it are kept
 unfoldable pub top_fault : Members → Option DescFault
 top_fault document = option_map (λ name. Unknown (take 64 name)) (unknown (some_top sections) document)
 
--- of a name in a table too, behind the table's name and a dot
+-- the first unknown name of a table, behind the table's name and a dot; the first 64 bytes of it are kept
 abbrev pub name_fault : ℕ → Section → Members → Option DescFault
 name_fault version section members =
     option_map (λ name. Unknown (section_name section ++ codes "." ++ take 64 name)) (unknown (some_key version keys section) members)
@@ -71,11 +71,11 @@ table_fault version section (Some other) = Some (Kind (OfTable section))
 abbrev pub section_fault : ℕ → Members → Section → Option DescFault
 section_fault version document section = table_fault version section (get_member (section_name section) document)
 
--- the tables in order
+-- the first fault of the tables, in their order
 unfoldable pub sections_fault : ℕ → Members → Option DescFault
 sections_fault version document = first (map (section_fault version document) sections)
 
--- ---- values
+-- ---- values of a document's keys
 
 -- the value of a key, where it and its table are there
 abbrev pub value_at : Members → Key → Option Data
@@ -149,7 +149,7 @@ value_fault key (Defences hold) value = fault_of (defence_in key hold value)
 unfoldable pub key_fault : ℕ → Members → Key → Option DescFault
 key_fault version document key = value_fault key (row version key).values (value_at document key)
 
--- the keys in order
+-- the first fault of the keys' values, in the order of the keys
 unfoldable pub keys_fault : ℕ → Members → Option DescFault
 keys_fault version document = first (map (key_fault version document) keys)
 
@@ -198,7 +198,7 @@ second_fault v document =
     if comes_between (number v document CacheSecondSets) (number v document CacheHitLatency) (number v document CacheSecondLatency) (number v document CacheMissLatency)
     then None else Some (WrongShape CacheSecondLatency)
 
--- ---- the whole
+-- ---- the whole of a document
 
 -- the first fault of a document of this version: names at the top, tables, keys, and the four facts on several numbers
 unfoldable pub document_fault : ℕ → Members → Option DescFault
@@ -218,7 +218,7 @@ pub record Contents : Type 0 where
   pub model : SttModel
   pub defence : Defence
 
--- each number in its key's place
+-- the contents of a description, each number in its key's place
 abbrev pub contents : Desc → Contents
 contents d = record {
   version = d.version;
@@ -235,7 +235,7 @@ contents d = record {
   defence = d.stt_defence;
 }
 
--- the first fault, or else the contents
+-- the contents, unless there is a fault, of which the first is answered
 abbrev pub contents_or : Option DescFault → ℕ → List ℕ → Result SttModel DescFault → Result Defence DescFault → Result Contents DescFault
 contents_or (Some fault) version numbers model defence = Err fault
 contents_or None version numbers (Err fault) defence = Err fault
@@ -262,6 +262,6 @@ text_contents (Some document) = document_contents document
 unfoldable pub description_of : List ℕ → Result Contents DescFault
 description_of bytes = if is_utf8 bytes then text_contents (parse_document bytes) else Err Syntax
 
--- the bytes describe d
+-- a text describes d: its bytes are those of a description with the contents of d
 abbrev pub Describes : List ℕ → Desc → Type 0
 Describes bytes d = description_of bytes ≡ Ok (contents d)

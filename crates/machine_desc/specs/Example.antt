@@ -4,7 +4,7 @@ use Rattle.machine_desc.specs.declared.Desc.{Desc}
 use Rattle.machine_desc.specs.declared.SttModel.TheVariants.{Spectre}
 use Rattle.machine_desc.specs.declared.Defence.TheVariants.{Stt}
 
--- its numbers, and that each is what its key asks for
+-- the numbers of the example, and that each is what its key asks for
 abbrev pub example : Desc
 example = record {
   version = 1;

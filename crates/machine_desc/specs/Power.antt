@@ -31,7 +31,7 @@ not_both n z p =
     let above : 0 < 2 ^ p.0 = pow_pos p.0 in
     omega (arith, z, p.1, above)
 
--- any two proofs of it are one
+-- any two proofs that a number is zero or a power of two are one
 pub zero_or_power_prop : (n : ℕ) → IsProp (IsZeroOrPower n)
 zero_or_power_prop n (inl x) (inl y) = ap inl (hedberg ℕ_discrete n 0 x y)
 zero_or_power_prop n (inl x) (inr y) = absurd (not_both n x y)

@@ -11,9 +11,9 @@ use Rattle.machine_desc.specs.Clean.{Fits}
 abbrev pub MayBe : ℕ → Key → ℕ → Type 0
 MayBe version key n = Fits (row version key).values n
 
--- the version is 1 or 2; every number is in its key's range and of its key's shape; the version knows the model and the defence; a miss takes longer than a hit; RAM ends at or
--- below 2^32; an access that may lie in two lines has two miss registers; a line of the second level, where there is one, comes later
--- than a hit and sooner than from memory
+-- the version is 1 or 2; every number is in the range of its key and of the shape of its key; the version knows the model and the
+-- defence; a miss takes longer than a hit; RAM ends at or below 2^32; an access that may lie in two lines has two miss registers; a line
+-- of the second level, where there is one, comes later than a hit and sooner than from memory
 pub record IsDesc (d : Desc) : Type 0 where
   pub version : IsKnown d.version
   pub fetch_width : MayBe d.version CoreFetchWidth d.core_fetch_width
@@ -47,6 +47,6 @@ pub record IsDesc (d : Desc) : Type 0 where
   pub model : IsTrue (knows_model d.version d.stt_model)
   pub defence : IsTrue (knows_defence d.version d.stt_defence)
 
--- within so many cycles one more instruction retires, or the run ends
+-- the most cycles from one retirement to the next: within so many one more instruction retires, or the run ends
 abbrev pub bound : Desc → ℕ
 bound d = 96 + 2 * d.cache_miss_latency + d.cache_hit_latency + d.units_mul_latency

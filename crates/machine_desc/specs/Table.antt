@@ -24,7 +24,7 @@ pub record Row : Type 0 where
 abbrev pub whole : Section → List ℕ → ℕ → ℕ → Shape → Row
 whole section name least most shape = record { section = section; name = name; values = Numbers least most shape }
 
--- the same of a key that may be left out: it has the least then
+-- a row of a key that may be left out: it then has the least of its numbers
 abbrev pub optional : Section → List ℕ → ℕ → ℕ → Shape → Row
 optional section name least most shape = record { section = section; name = name; values = Optional least most shape }
 
@@ -64,7 +64,7 @@ row v SttDefence = record { section = Stt; name = codes "defence"; values = Defe
 abbrev pub section_of : Key → Section
 section_of key = (row 1 key).section
 
--- and under which name
+-- the name of a key in its table
 abbrev pub name_of : Key → List ℕ
 name_of key = (row 1 key).name
 
@@ -88,7 +88,7 @@ optional_numbers =
 abbrev pub number_keys : List Key
 number_keys = required_numbers ++ optional_numbers
 
--- all keys, in order
+-- the keys of a description, in order
 abbrev pub keys : List Key
 keys = required_numbers ++ SttModel ∷ optional_numbers ++ SttDefence ∷ []
 
@@ -129,7 +129,7 @@ subject_text OfVersion = version_name
 subject_text (OfTable section) = section_name section
 subject_text (OfKey key) = key_text key
 
--- one of these tables has this name
+-- one of the tables has this name
 abbrev pub some_section : List Section → List ℕ → Bool
 some_section tables name = list_any (λ s. bytes_eq (section_name s) name) tables
 
@@ -142,6 +142,6 @@ abbrev pub stands_at : ℕ → Section → List ℕ → Key → Bool
 stands_at version section name key =
     is_known version key && bytes_eq (section_name (section_of key)) (section_name section) && bytes_eq (name_of key) name
 
--- one of these keys stands in this table under this name
+-- one of the keys stands in this table under this name
 abbrev pub some_key : ℕ → List Key → Section → List ℕ → Bool
 some_key version ks section name = list_any (stands_at version section name) ks

@@ -34,7 +34,8 @@ impl fmt::Display for Subject {
     }
 }
 
-/// Why a text is no description: each is shown by its number, its key or name, and in words. `docs/formats.md` has the order in which faults are looked for.
+/// Why a text is no description: each is shown by its number, its key or name, and in words. `docs/formats.md` has the
+/// order in which faults are looked for.
 #[derive(Debug, Drop, Error)]
 pub enum DescFault {
     /// The bytes aren't UTF-8, or aren't a TOML document.
@@ -50,7 +51,7 @@ pub enum DescFault {
     /// name.
     #[error("K4: {0} is of another kind")]
     Kind(Subject),
-    /// This program doesn't know the version: it knows versions 1 and 2.
+    /// The version is one that this program doesn't know: it knows versions 1 and 2.
     #[error("K5: version is {0}, and the versions that are known are 1 and 2")]
     Version(i64),
     /// The number is outside the key's range.

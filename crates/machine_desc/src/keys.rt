@@ -70,7 +70,7 @@ pub(crate) enum Shape {
 pub(crate) enum Values {
     /// The whole numbers from `least` to `most` that have the shape.
     Numbers { least: u32, most: u32, shape: Shape },
-    /// The same, and the least of them where the key is left out.
+    /// The whole numbers from `least` to `most` that have the shape; `least` where the key is left out.
     Optional { least: u32, most: u32, shape: Shape },
     /// The texts that name a model, and whether `off` is one.
     Models { off: bool },
@@ -97,7 +97,7 @@ pub(crate) const SECTIONS: [Section; 6] = [
     Section::Stt,
 ];
 
-/// The keys, in order.
+/// The keys of a description, in order.
 pub(crate) const KEYS: [Key; 29] = [
     Key::CoreFetchWidth,
     Key::CoreRetireWidth,
@@ -131,7 +131,7 @@ pub(crate) const KEYS: [Key; 29] = [
 ];
 
 impl Section {
-    /// The table's name.
+    /// The name of the table in a description.
     pub fn name(self) -> &'static str
         ensures name { result.now ≡ section_name self }
         ensures few { length result.now ≤ 9 }
@@ -334,7 +334,7 @@ impl fmt::Display for Key {
     }
 }
 
-// Has one of these tables this name?
+// Whether one of the tables has this name.
 pub(crate) fn some_section(sections: &[Section], name: &str) -> bool
     ensures { result ≡ some_section sections.now name.now }
 {
@@ -353,7 +353,7 @@ pub(crate) fn some_top(sections: &[Section], name: &str) -> bool
     name == VERSION_NAME || some_section(sections, name)
 }
 
-// Does one of these keys, of those that this version knows, stand in this table under this name?
+// Whether one of the keys, of those that this version knows, stands in this table under this name.
 pub(crate) fn some_key(version: u32, keys: &[Key], section: Section, name: &str) -> bool
     ensures { result ≡ some_key version keys.now section name.now }
 {

@@ -8,7 +8,7 @@ ghost use Rattle.machine_desc.specs.Description.{Contents, contents, description
 
 use crate::Desc;
 
-/// All that is asked of a description holds of each.
+/// Whatever is asked of a description holds of every value of the type.
 #[tactic(auto, using(crate::proofs::EveryDesc::every_desc))]
 pub fn every_desc(desc: &Desc)
     ensures { IsDesc desc.now }

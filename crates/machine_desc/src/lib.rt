@@ -40,16 +40,18 @@ pub enum SttModel {
 /// What becomes of a value that counts as a secret.
 #[derive(Clone, Copy, Debug, PartialEq, Eq)]
 pub enum Defence {
-    /// What could show it waits: addresses of loads, divisions, and branches and indirect jumps that take effect.
+    /// What could show a value that counts as a secret waits: addresses of loads, divisions, and branches and indirect
+    /// jumps that take effect.
     Stt,
-    /// It isn't used at all.
+    /// No value that counts as a secret is used at all: a load's result is held back until the load is visible.
     Hold,
 }
 
 /// A machine description of a known version: every number is in its key's range in that version and of its key's shape,
-/// the model and the defence are ones that the version knows, a miss takes longer than a hit, RAM ends at or below 2^32, there are two miss registers where an access may lie in two
-/// lines, and a line of the second level comes later than a hit and sooner than from memory. A number that its version
-/// doesn't know has the value that it has where it is left out.
+/// the model and the defence are ones that the version knows, a miss takes longer than a hit, RAM ends at or below
+/// 2^32, there are two miss registers where an access may lie in two lines, and a line of the second level comes later
+/// than a hit and sooner than from memory. A number that its version doesn't know has the value that it has where it is
+/// left out.
 #[derive(Clone, Copy, Debug, PartialEq, Eq)]
 pub struct Desc {
     /// The version of the machine that is described.
@@ -108,7 +110,7 @@ pub struct Desc {
     pub ram_size: u32,
     /// 1 where a load or store may have any address, 0 where its address has to be a multiple of its width.
     pub ram_misaligned: u32,
-    /// When taint ends.
+    /// Until when what a load has read counts as a secret.
     pub stt_model: SttModel,
     /// What becomes of a tainted value.
     pub stt_defence: Defence,

@@ -26,7 +26,7 @@ impl std::marker::Model for Name {
     ghost view = { λ n. n.bytes.items };
 }
 
-// Appends the bytes.
+// Appends these bytes to those of a name.
 fn add(to: &mut ArrayVec<u8, NAME_MAX>, bytes: &[u8])
     requires { length to.old.items + length bytes.now ≤ 80 }
     ensures { to.new.items ≡ to.old.items ++ bytes.now }
@@ -36,7 +36,7 @@ fn add(to: &mut ArrayVec<u8, NAME_MAX>, bytes: &[u8])
     }
 }
 
-// The first n bytes.
+// The first n bytes, or all where there are fewer.
 fn first_of(bytes: &[u8], n: usize) -> &[u8]
     ensures first { result.now ≡ take n bytes.now }
     ensures few { length result.now ≤ n }

@@ -4,7 +4,8 @@ ghost use Rattle.machine_desc.specs.Ranges.{bound};
 
 use crate::Desc;
 
-/// Within so many cycles one more instruction retires, or the run ends (`docs/machine.md`, "Progress").
+/// The most cycles from one retirement to the next: within so many one more instruction retires, or the run ends
+/// (`docs/machine.md`, "Progress").
 pub fn bound(desc: &Desc) -> u64
     ensures { result ≡ bound desc.now }
 {

@@ -26,7 +26,7 @@ fn version(document: &Table) -> Result<u32, DescFault>
     version_in(member_of(document, VERSION_NAME))
 }
 
-// Each name at the top is the version's or a table's.
+// Refuses a name at the top that is neither the version's nor a table's.
 #[tactic(auto, unfolding(crate::specs::Description::top_fault))]
 fn check_top(document: &Table) -> Result<(), DescFault>
     ensures { result ≡ checked (top_fault (table_view document.now)) }
@@ -37,7 +37,7 @@ fn check_top(document: &Table) -> Result<(), DescFault>
     }
 }
 
-// Each name of a table is that of a key of this version.
+// Refuses a name of a table that is no key of this version.
 fn check_names(version: u32, table: &Table, section: Section) -> Result<(), DescFault>
     ensures { result ≡ checked (name_fault version section (table_view table.now)) }
 {
@@ -69,7 +69,7 @@ fn check_each_section(version: u32, document: &Table, sections: &[Section]) -> R
     Ok(())
 }
 
-// Each table, in order.
+// Refuses the first fault of the tables, in their order.
 #[tactic(auto, unfolding(crate::specs::Description::sections_fault))]
 fn check_sections(version: u32, document: &Table) -> Result<(), DescFault>
     ensures { result ≡ checked (sections_fault version (table_view document.now)) }
@@ -109,7 +109,7 @@ fn check_each_key(version: u32, document: &Table, keys: &[Key]) -> Result<(), De
     Ok(())
 }
 
-// Each key, in order.
+// Refuses the first fault of the keys' values, in the order of the keys.
 #[tactic(auto, unfolding(crate::specs::Description::keys_fault))]
 fn check_keys(version: u32, document: &Table) -> Result<(), DescFault>
     ensures { result ≡ checked (keys_fault version (table_view document.now)) }

@@ -7,7 +7,7 @@ use Rattle.window_model.specs.Fill.{is_due}
 use Rattle.mshr_file.specs.Registers.{without_first}
 use Rattle.mshr_file.specs.Laws.{ArrivesFirst, ArrivesNone, LeavesTheRest}
 
--- the first that passes is the filter's first, and the others are the filter's rest
+-- the first register that passes a test is the filter's first, and the others are the filter's rest
 first_passes : (p : Miss → Bool) (ms : List Miss) (m : Miss) → find p ms ≡ Some m → filter p ms ≡ m ∷ filter p (without_first p ms)
 first_passes p [] m h = absurd (cc)
 first_passes p (n ∷ ms) m h = at (p n) refl (first_passes p ms m) h
@@ -16,7 +16,7 @@ first_passes p (n ∷ ms) m h = at (p n) refl (first_passes p ms m) h
     at true e r h = let q : n ≡ m = cc in ap (λ m. m ∷ filter p ms) q
     at false e r h = r h ∙ sym (ap (λ b. m ∷ cond b (n ∷ filter p (without_first p ms)) (filter p (without_first p ms))) e)
 
--- those that don't pass are the same without it
+-- the registers that don't pass the test are the same without the first that does
 others_stay : (p : Miss → Bool) (ms : List Miss) → filter (λ m. not (p m)) (without_first p ms) ≡ filter (λ m. not (p m)) ms
 others_stay p [] = refl
 others_stay p (n ∷ ms) = at (p n) refl (others_stay p ms)
@@ -25,7 +25,7 @@ others_stay p (n ∷ ms) = at (p n) refl (others_stay p ms)
     at true e r = refl
     at false e r = ap (λ b. cond (not b) (n ∷ filter (λ m. not (p m)) (without_first p ms)) (filter (λ m. not (p m)) (without_first p ms))) e ∙ ap (λ ms. n ∷ ms) r
 
--- where none passes
+-- where no register passes the test, the filter by it leaves none, and the filter by its contrary all
 none_passes : (p : Miss → Bool) (ms : List Miss) → find p ms ≡ None → (filter p ms ≡ []) × (filter (λ m. not (p m)) ms ≡ ms)
 none_passes p [] h = (refl, refl)
 none_passes p (n ∷ ms) h = at (p n) (none_passes p ms) h
@@ -34,7 +34,7 @@ none_passes p (n ∷ ms) h = at (p n) (none_passes p ms) h
     at true f h = absurd (cc)
     at false f h = let r = f h in (r.0, ap (λ ms. n ∷ ms) r.1)
 
--- ---- the laws
+-- ---- the laws of freeing registers
 
 pub due_first : ArrivesFirst
 due_first cycle misses m h = first_passes (is_due cycle) misses m h

@@ -18,7 +18,7 @@ removed : (p : Miss → Bool) (ms : List Miss) → position_or_len p ms < length
 removed p [] lt = absurd (omega (arith, lt))
 removed p (m ∷ ms) lt = removed_more (p m) m ms (without_first p ms) (position_or_len p ms) (removed p ms) lt
 
--- there is none
+-- where no register passes the test, all stay
 unmoved_more : (b : Bool) (m : Miss) (ms rest : List Miss) (i : ℕ) → (nat_lt i (length ms) ≡ false → ms ≡ rest) → nat_lt (cond (not b) (1 + i) 0) (suc (length ms)) ≡ false →
     m ∷ ms ≡ (if b then ms else m ∷ rest)
 unmoved_more true m ms rest i h n = absurd (grind (arith, nat_tests))
@@ -35,7 +35,7 @@ is_place : (b : Bool) (i j : ℕ) → Some i ≡ cond b (Some j) None → (i ≡
 is_place true i j e = (cc, refl)
 is_place false i j e = absurd (cc)
 
--- none is found
+-- where no place is found, the test fails
 no_place : (b : Bool) (j : ℕ) → None ≡ cond b (Some j) None → b ≡ false
 no_place true j e = absurd (cc)
 no_place false j e = refl

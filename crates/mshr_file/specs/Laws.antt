@@ -18,11 +18,11 @@ abbrev pub ArrivesFirst : Type 0
 ArrivesFirst = (cycle : ℕ) (misses : List Miss) (m : Miss) → find (is_due cycle) misses ≡ Some m →
     arriving cycle misses ≡ m ∷ arriving cycle (without_first (is_due cycle) misses)
 
--- those that stay do so whether it is freed or not
+-- the registers that stay are the same whether the first that is due is freed or not
 abbrev pub LeavesTheRest : Type 0
 LeavesTheRest = (cycle : ℕ) (misses : List Miss) → staying cycle (without_first (is_due cycle) misses) ≡ staying cycle misses
 
--- where none is due no line arrives, and all stay
+-- where no register is due no line arrives, and all stay
 abbrev pub ArrivesNone : Type 0
 ArrivesNone = (cycle : ℕ) (misses : List Miss) → find (is_due cycle) misses ≡ None →
     (arriving cycle misses ≡ []) × (staying cycle misses ≡ misses)

@@ -1,4 +1,4 @@
-//! The registers themselves.
+//! The miss registers, as a list of those taken.
 ghost use Rattle.std.specs.Prelude.{◌≡◌, ◌<◌, ◌≤◌, ◌-◌, ◌==◌, not, nat_lt, [], ◌∷◌, ◌++◌, length, IfOk, vec_len, vec_capacity};
 ghost use Rattle.std.specs.List.{find, position};
 ghost use Rattle.std.specs.Option.{option_map};
@@ -11,12 +11,12 @@ use std::alloc::Global;
 use std::marker::Model;
 use window_model::Miss;
 
-/// The miss registers.
+/// The miss registers of a core.
 #[derive(Drop)]
 pub struct Mshrs {
-    /// Those taken, in the order of taking.
+    /// The registers that are taken, in the order of taking.
     misses: Vec<Miss>,
-    /// How many there are.
+    /// How many registers there are in all.
     room: u32,
 }
 
@@ -32,7 +32,7 @@ impl Model for Mshrs {
 }
 
 impl Mshrs {
-    /// As many registers as the description says, all free. No later call takes memory. The one error is want of memory.
+    /// The registers of a description, every one free. No later call takes memory. The one error is want of memory.
     pub fn new(alloc: Global, desc: &Desc) -> Result<Mshrs, NoMemory>
         ensures { IfOk result (λ m. m ≡ record { misses = []; room = desc.now.cache_mshrs }) }
     {

@@ -66,7 +66,7 @@ pub hidden : (d : Desc) (one two : Image) (core core2 : Programmed) (n : ℕ) (r
 hidden d one two core core2 n r protected s s2 p h =
     one_trace _ _ r (its_trace d two core2 n s2 ∙ premise_traces d (loaded one) (loaded two) n protected (aligned one.code) p ∙ sym (its_trace d one core n s)) h
 
--- what is asked of codes and of starts is the premise
+-- the test of codes and of starts answers whether the premise holds
 module _ (d : Desc) (one two : Start) (same_code : Bool) (first second : Programmed) (path : IsaState) (n steps : ℕ) (o : Opened d one two same_code first second path)
     (e : steps ≡ (trace_of d (loaded (image_at one first.code)) n).retired + d.core_rob) where
   pub is_premise : StartsAgree d.stt_model same_code (word_at path.code) one two steps → Premise d (loaded (image_at one first.code)) (loaded (image_at two second.code)) n
@@ -85,7 +85,7 @@ module _ (d : Desc) (one two : Start) (same_code : Bool) (first second : Program
         (subst (λ k. Agree one.ram two.ram (reads (path_of d.stt_model) (word_at first.code) (start one.entry one.ram) k)) (sym e) p.agree);
   }
 
-  -- and what the runs come to is the answer
+  -- what the two runs come to is the answer on the two images
   pub answers : (premise : Bool) (differ : Differ) (last : Machine) (retired cycles : ℕ) → last ≡ at d (word_at first.code) one.entry one.ram n
       → IsTrue premise ↔ StartsAgree d.stt_model same_code (word_at path.code) one two steps
       → Differs (trace_from first.desc (word_at first.code) n first.machine) (trace_from second.desc (word_at second.code) n second.machine) differ

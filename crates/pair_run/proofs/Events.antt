@@ -35,11 +35,11 @@ same_way NotTaken NotTaken e = refl
 same_way Jump Jump e = refl
 same_way _ _ e = absurd (true≢false (sym e))
 
--- one number
+-- two events of one kind and one equal number are equal
 one_is : (f : ℕ → Event) (n m : ℕ) → ((n == m) ≡ true) → f n ≡ f m
 one_is f n m e = ap f ((unsigned_Decides n m).0 e)
 
--- two of them
+-- two events of one kind and two equal numbers are equal
 two_is : (f : ℕ → ℕ → Event) (n m n2 m2 : ℕ) → ((n == n2) && (m == m2)) ≡ true → f n m ≡ f n2 m2
 two_is f n m n2 m2 e =
     let x = both _ _ e in

@@ -24,7 +24,7 @@ pub record FirstUnequal (rows rows2 : List Row) (cycle : ℕ) : Type 0 where
   pub before : (k : ℕ) → k + 1 < cycle → slice_get rows k ≡ slice_get rows2 k
   pub there : slice_get rows (cycle - 1) ≢ slice_get rows2 (cycle - 1)
 
--- how two runs differ
+-- how two traces differ: not, in a cycle's rows, or in their ends
 abbrev pub Differs : Trace → Trace → Differ → Type 0
 Differs t t2 Same = t2 ≡ t
 Differs t t2 (Cycle k) = FirstUnequal t.rows t2.rows k

@@ -18,7 +18,7 @@ pub record Images : Type 0 where
   pub one : Image
   pub two : Image
 
--- they are stored as these three
+-- two images with their description are stored as the description and the two
 abbrev pub images_code : Coded Images
 images_code =
     code_by (Desc × (Image × Image)) (coded× desc.the_row.coded (coded× image.the_row.coded image.the_row.coded))

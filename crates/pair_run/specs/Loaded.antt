@@ -11,7 +11,7 @@ use Rattle.isa_step.specs.declared.stepped.Stepped.{Stepped}
 use Rattle.pair_run.specs.declared.starting.Start.{Start}
 use Rattle.isa_step.specs.declared.stepped.Stepped.TheVariants.{Next, Exit, Trap}
 
--- these bytes, from the memory's first address on, have the memory's byte at this address
+-- the memory's byte at an address is the one in these bytes, which begin at the memory's first address
 abbrev pub SameByte : Ram → List ℕ → ℕ → Type 0
 SameByte m bytes a = slice_index bytes (a - m.base) ≡ slice_index m.bytes (a - m.base)
 

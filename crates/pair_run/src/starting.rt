@@ -1,4 +1,4 @@
-//! Where two runs begin.
+//! Where the two runs of a comparison begin.
 ghost use Rattle.std.specs.Prelude.{◌≡◌, IfOk, length};
 ghost use Rattle.pair_run.specs.Images.{CoreStarts, start_of, path_of};
 
@@ -56,7 +56,7 @@ impl Starts {
     }
 }
 
-/// Two cores.
+/// The two cores of a comparison, before their first cycle.
 #[derive(Drop)]
 pub struct Cores<R: RenameTaint + Drop> {
     pub first: Core<R>,

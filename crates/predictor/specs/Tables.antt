@@ -13,7 +13,7 @@ pub record Tables : Type 0 where
   pub counters : List ℕ
   pub targets : List (Option Target)
 
--- they are stored as the three
+-- the tables are stored as the description, the counters and the targets
 abbrev pub tables_code : Coded Tables
 tables_code =
     code_by (Desc × (List ℕ × List (Option Target))) (coded× desc.the_row.coded (coded× (coded_list coded_ℕ) (coded_list (coded_option target.the_row.coded))))

@@ -61,7 +61,7 @@ load_fits d w q s r = ap₂ nat_lt (room_is q w s).0 r
 pub store_fits : (d : Desc) (w : List Entry) (q : Queues) → StandFor q w → q.max_stores ≡ d.core_stores → nat_lt (length q.stores) q.max_stores ≡ fits_as Store d w
 store_fits d w q s r = ap₂ nat_lt (room_is q w s).1 r
 
--- ---- what fits
+-- ---- what an item fits into
 
 pub record Fits (d : Desc) (w : List Entry) (item : Item) : Type 0 where
   pub entries : length w < d.core_rob
@@ -95,7 +95,7 @@ pub untold : (o : Option Item) → option_map (λ (i : Item). i.pc) o ≡ None �
 untold None h = refl
 untold (Some item) h = absurd (cc)
 
--- ---- room for it
+-- ---- room for an item that fits
 
 pub station_room : (b : Bool) (m n : ℕ) → (b || nat_lt m n) ≡ true → b ≡ false → m < n
 station_room true m n h w = absurd (cc)

@@ -31,7 +31,7 @@ renames_start s row =
     let e : s.desc.core_fetch_width - 0 ≡ s.desc.core_fetch_width = omega arith in
     record { left = ap (λ n. behind row (rename_up_to s.desc n s.machine)) e; same = refl; cycle = refl; serials = omega arith; few = omega arith }
 
--- ---- one item
+-- ---- one item that is renamed
 
 one_more : (d : Desc) (n : ℕ) (x : Machine) (item : Item) (rest : List Item) → x.queue ≡ item ∷ rest → fits d x.window item ≡ true →
     rename_up_to d (suc n) x ≡ then_does (rename_one d item rest x) (rename_up_to d n)
@@ -68,7 +68,7 @@ renames_more s0 row0 i s row item s2 row2 h lt q g r =
       few = (let l = ap length es in let l2 = length-append row.events (event.Ren y.next_serial item.pc ∷ []) in omega (arith, l, l2, h.few, n));
     }
 
--- ---- no item more
+-- ---- when no item more fits
 
 no_more : (d : Desc) (n : ℕ) (x : Machine) → fitting d x.window (slice_get x.queue 0) ≡ None → rename_up_to d n x ≡ nothing x
 no_more d zero x h = refl
@@ -103,6 +103,6 @@ over_early s0 row0 n s row h q =
     let same = ap (λ (s : Described). s.desc) h.same in
     over s0 row0 n s row (no_more s0.desc n s.machine (ap (λ d. fitting d s.machine.window (slice_get s.machine.queue 0)) (sym same) ∙ q)) h
 
--- as many as may be have come in
+-- the phase is over once as many items have come in as the description allows a cycle
 pub over_last : (s0 : Described) (row0 : Row) (i : ℕ) (s : Described) (row : Row) → RenamesOn s0 row0 (s0.desc.core_fetch_width - i) s row → s0.desc.core_fetch_width ≤ i → Over s0 row0 s row
 over_last s0 row0 i s row h le = let z : s0.desc.core_fetch_width - i ≡ 0 = omega (arith, le) in over s0 row0 0 s row refl (subst (λ n. RenamesOn s0 row0 n s row) z h)

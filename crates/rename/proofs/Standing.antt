@@ -76,13 +76,13 @@ room_for h item w q =
       store = λ is. let l = store_room item.kind h.desc h.rob.entries f.kind is in omega (arith, l, k.1, t);
     }
 
--- ---- an entry more
+-- ---- one entry that comes in
 
 -- the youngest roots of an entry's sources, as the table names them
 abbrev pub roots_at : List Write → Entry → List (Option ℕ)
 roots_at writes e = map (root_at writes) (two (sources e))
 
--- and their writers
+-- the youngest roots and the writers of an entry's sources, as the table names them
 abbrev pub sources_at : List Write → Entry → Sources
 sources_at writes e = record { roots = roots_at writes e; writers = writers_at writes e }
 
@@ -116,7 +116,7 @@ entered_by h item s awaits rob beside writes room stations q fetch_unit w are_wr
       fetched = taken;
     }
 
--- all parts, with it
+-- the parts once an entry has come in
 abbrev entered : ℕ → Entry → Held → Held
 entered place e h = record h {
   rob = record (h.rob) { entries = h.rob.entries ++ e ∷ [] };
@@ -128,7 +128,7 @@ entered place e h = record h {
   next_serial = h.next_serial + 1;
 }
 
--- the queues' room stays
+-- an entry that comes in leaves the room of the queues as it is
 keeps_loads : (k : Kind) (serial : ℕ) (root : Option ℕ) (q : Queues) → (queued k serial root q).max_loads ≡ q.max_loads
 keeps_loads Load serial root q = refl
 keeps_loads Store serial root q = refl

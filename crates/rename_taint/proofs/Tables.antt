@@ -35,7 +35,7 @@ all_map : (P : Write → Type 0) (us : List Undo) → All (λ u. P u.write) us �
 all_map P [] a = All-nil P
 all_map P (u ∷ us) a = All-cons P u.write (writes_of us) (All-head (λ u. P u.write) u us a) (all_map P us (All-tail (λ u. P u.write) u us a))
 
--- ---- nothing is held
+-- ---- a table that holds nothing
 
 pub table_new : (undo : List Undo) → undo ≡ [] → Table (replicate 32 empty) undo
 table_new undo e = subst (Table (replicate 32 empty)) (sym e) (record { registers = refl; cells = λ r lt. get_or-replicate 32 r empty empty lt; linked = λ i d lt. absurd (omega arith) })
@@ -56,7 +56,7 @@ last_is us r = ap (find (λ w. w.register == r)) (writes_back us)
 pub cell_is : (slots : List Slot) (us : List Undo) (r : ℕ) → Table slots us → r < 32 → get_or slots r empty ≡ slot_of (last_write (writes_of us) r)
 cell_is slots us r t lt = t.cells r lt ∙ ap slot_of (sym (last_is us r))
 
--- ---- a write
+-- ---- a write is added
 
 pub table_append : (slots : List Slot) (us : List Undo) (w : Write) → Table slots us → w.register < 32 → All (λ v. v.serial < w.serial) (writes_of us) →
     Table (set slots w.register (slot_of (Some w))) (us ++ record { write = w; previous = get_or slots w.register empty } ∷ [])
@@ -71,7 +71,7 @@ table_append slots us w t lt young =
       linked = subst Linked (sym (reverse_push us u)) l;
     }
 
--- ---- the oldest goes
+-- ---- the oldest write goes
 
 oldest_same : (us : List Undo) → oldest_in (reverse us) ≡ oldest_of us
 oldest_same [] = refl
@@ -106,7 +106,7 @@ pop_front_keeps slots slots2 (x ∷ us) us2 u t h e f =
     let p = subst (λ (u : Undo). Table (set slots u.write.register (forgotten u.write.serial (get_or slots u.write.register empty))) us) i (pop_front_at slots x us t) in
     rw (f) (rw e p)
 
--- ---- the youngest goes
+-- ---- the youngest write goes
 
 last_split : (us : List Undo) (u : Undo) → Some u ≡ slice_get us (length us - 1) → reverse us ≡ u ∷ reverse (take (length us - 1) us)
 last_split us u h =
@@ -135,7 +135,7 @@ pub pop_none_keeps : (slots : List Slot) (us us2 : List Undo) → Table slots us
 pop_none_keeps slots [] us2 t h e = rw e t
 pop_none_keeps slots (u ∷ us) us2 t h e = let g = slice_get-get_or (u ∷ us) (length (u ∷ us) - 1) u (omega arith) in absurd (cc)
 
--- ---- which writes stay
+-- ---- which writes of the list stay
 
 filter_all : {X : Type 0} (p : X → Bool) (xs : List X) → All (λ x. p x ≡ true) xs → filter p xs ≡ xs
 filter_all p [] a = refl

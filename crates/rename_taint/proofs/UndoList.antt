@@ -36,7 +36,7 @@ linked_from [] l f i d lt = absurd (omega arith)
 linked_from (u ∷ older) l f zero d lt = (l.0, l.1, f.0)
 linked_from (u ∷ older) l f (suc i) d lt = linked_from older l.2 f.1 i d (omega arith)
 
--- ---- the oldest
+-- ---- the oldest write of the list
 
 pub oldest_some : (u : Undo) (older : List Undo) → (n : ℕ) × (oldest_in (u ∷ older) ≡ Some n)
 oldest_some u older = by_rest (oldest_in older)
@@ -67,7 +67,7 @@ oldest_has P (u ∷ older) n a h =
     (λ e. subst P e.1 (All-head (λ u. P u.write.serial) u older a))
     (oldest_step u older n (oldest_in older) refl h)
 
--- none is older than the oldest
+-- no write of the list is older than the oldest
 pub least : (us : List Undo) (n : ℕ) → Falls us → oldest_in us ≡ Some n → All (λ u. n ≤ u.write.serial) us
 least [] n f h = All-nil (λ u. n ≤ u.write.serial)
 least (u ∷ older) n f h =
@@ -190,7 +190,7 @@ last_other : (us : List Undo) (x : Undo) (r : ℕ) → (x.write.register == r) �
 last_other [] x r h = ap (λ b. cond b (Some x.write) None) h
 last_other (u ∷ us) x r h = ap (λ o. cond (u.write.register == r) (Some u.write) o) (last_other us x r h)
 
--- ---- the slots
+-- ---- the slots of the table
 
 -- by whether the register is the one that is written
 by_register : (slots : List Slot) (reg r : ℕ) (v t : Slot) → length slots ≡ 32 → reg < 32 →
@@ -202,14 +202,14 @@ by_register slots reg r v t n lt false q p o =
     let e : r ≢ reg = grind (arith, nat_tests) in
     get_or-set_other slots reg r v empty e ∙ o refl
 
--- undoing the youngest write
+-- the slots stand for the older writes once the youngest is undone
 pub undo_keeps : (slots : List Slot) (u : Undo) (older : List Undo) → length slots ≡ 32 → LeadsBack (u ∷ older) → IsTable slots (u ∷ older) → IsTable (set slots u.write.register (held (oldest_in older) u.previous)) older
 undo_keeps slots u older n l t r lt =
     by_register slots u.write.register r (held (oldest_in older) u.previous) (slot_of (last_of r older)) n l.1 (u.write.register == r) refl
     (λ q. let e : u.write.register ≡ r = grind (arith, nat_tests) in l.0 ∙ ap (λ r. slot_of (last_of r older)) e)
     (λ q. t r lt ∙ ap (λ b. slot_of (cond b (Some u.write) (last_of r older))) q)
 
--- writing
+-- the slots stand for the writes once a younger one is added
 pub write_keeps : (slots : List Slot) (w : Write) (p : Slot) (older : List Undo) → length slots ≡ 32 → w.register < 32 → IsTable slots older →
     IsTable (set slots w.register (slot_of (Some w))) (record { write = w; previous = p } ∷ older)
 write_keeps slots w p older n lt t r rt =
@@ -217,7 +217,7 @@ write_keeps slots w p older n lt t r rt =
     (λ q. ap (λ b. slot_of (cond b (Some w) (last_of r older))) (sym q))
     (λ q. t r rt ∙ ap (λ b. slot_of (cond b (Some w) (last_of r older))) (sym q))
 
--- the oldest retires
+-- the slots stand for the younger writes once the oldest has retired
 pub retire_keeps : (slots : List Slot) (us : List Undo) (x : Undo) → length slots ≡ 32 → x.write.register < 32 → Falls (us ++ x ∷ []) → IsTable slots (us ++ x ∷ []) →
     IsTable (set slots x.write.register (forgotten x.write.serial (get_or slots x.write.register empty))) us
 retire_keeps slots us x n lt f t r rt =

@@ -17,7 +17,7 @@ writes_of undo = map (λ u. u.write) undo
 abbrev pub slot_of : Option Write → Slot
 slot_of o = record { source = source_from o; root = root_from o }
 
--- what it says where there is none
+-- what a slot says of a register that no held write writes
 abbrev pub empty : Slot
 empty = slot_of None
 
@@ -25,12 +25,12 @@ empty = slot_of None
 abbrev pub oldest_of : List Undo → Option ℕ
 oldest_of undo = option_map (λ u. u.write.serial) (slice_get undo 0)
 
--- the first of a list passes
+-- the first write of the list passes the test
 abbrev pub is_first : (Undo → Bool) → List Undo → Bool
 is_first p [] = false
 is_first p (u ∷ us) = p u
 
--- the last does
+-- the last write of the list passes the test
 abbrev pub is_last : (Undo → Bool) → List Undo → Bool
 is_last p undo = is_first p (reverse undo)
 
@@ -59,7 +59,7 @@ held (Some oldest) s = if names_from oldest s.source then s else empty
 abbrev pub last_of : ℕ → List Undo → Option Write
 last_of r undo = find (λ w. w.register == r) (map (λ u. u.write) undo)
 
--- the serial of the oldest
+-- the serial of the oldest write of a list, which is youngest first
 abbrev pub oldest_in : List Undo → Option ℕ
 oldest_in [] = None
 oldest_in (u ∷ older) = option_or (oldest_in older) (Some u.write.serial)
@@ -69,11 +69,11 @@ abbrev pub LinkedTo : List Undo → Undo → Type 0
 LinkedTo older u =
     (held (oldest_in older) u.previous ≡ slot_of (last_of u.write.register older)) × (u.write.register < 32) × All (λ v. v.write.serial < u.write.serial) older
 
--- each of a list does
+-- for an undo list, youngest first: every write is linked to the older ones
 abbrev pub Linked : List Undo → Type 0
 Linked undo = (i : ℕ) (d : Undo) → i < length undo → LinkedTo (drop (suc i) undo) (get_or undo i d)
 
--- each slot says what the last write of its register does
+-- a register's slot says what the last write of the register does
 abbrev pub IsTable : List Slot → List Undo → Type 0
 IsTable slots undo = (r : ℕ) → r < 32 → slice_index_or slots r empty ≡ slot_of (last_of r undo)
 

@@ -29,7 +29,7 @@ source_of writes r = source_from (last_write writes r)
 abbrev pub root_of : List Write → ℕ → Option ℕ
 root_of writes r = root_from (last_write writes r)
 
--- the same of a source, if there is one
+-- the youngest root of a source's value, if there is a source
 abbrev pub root_at : List Write → Option ℕ → Option ℕ
 root_at writes None = None
 root_at writes (Some r) = root_of writes r

@@ -73,7 +73,7 @@ impl RenameTaint for ByTable {
     }
 }
 
-// Adds a write.
+// Adds a write, younger than all, to its slot and to the undo list.
 fn append(slots: &mut [Slot], undo: &mut HeapCircularBuffer<Undo>, write: Write)
     requires table { Table slots.old undo.old.items }
     requires register { write.register < 32 }
@@ -165,7 +165,7 @@ fn pop_oldest(slots: &mut [Slot], undo: &mut HeapCircularBuffer<Undo>)
     }
 }
 
-// Undoes the youngest write.
+// Undoes the youngest write, if there is one.
 fn pop_youngest(slots: &mut [Slot], undo: &mut HeapCircularBuffer<Undo>)
     requires table { Table slots.old undo.old.items }
     ensures table { Table slots.new undo.new.items }

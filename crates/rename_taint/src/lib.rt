@@ -26,9 +26,9 @@ pub use roots::{later, root_written, roots_of};
 /// A write of a register by an entry in flight.
 #[derive(Clone, Copy, Debug, PartialEq, Eq)]
 pub struct Write {
-    /// The entry's serial.
+    /// The serial of the entry that writes.
     pub serial: u64,
-    /// The register's number.
+    /// The number of the register.
     pub register: u8,
     /// The serial of the youngest root of the value, None where it has no root.
     pub root: Option<u64>,
@@ -37,9 +37,9 @@ pub struct Write {
 /// Where a register's value stands.
 #[derive(Clone, Copy, Debug, PartialEq, Eq)]
 pub enum Source {
-    /// In the retired registers.
+    /// The value stands in the retired registers.
     Committed,
-    /// With the entry of this serial.
+    /// The value is that of the entry of this serial.
     Entry(u64),
 }
 

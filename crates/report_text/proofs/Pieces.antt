@@ -4,13 +4,13 @@ use Rattle.rv_types.specs.Isa.{with_piece, Run}
 use Rattle.rv_types.specs.Memory.{Ram}
 use Rattle.report_text.specs.Report.{piece_text, piece_lines, state_text, report_text}
 
--- one more piece in front
+-- the lines of pieces with one more in front, which may be empty
 pub piece_lines_more : (p : List ℕ) (ps : List (List ℕ)) → piece_lines (with_piece p ps) ≡ piece_text p ++ piece_lines ps
 unfolding piece_lines
 piece_lines_more [] ps = refl
 piece_lines_more (b ∷ bs) ps = refl
 
--- no piece, no line
+-- where there is no piece there is no line
 pub piece_lines_none : piece_lines [] ≡ []
 unfolding piece_lines
 piece_lines_none = refl

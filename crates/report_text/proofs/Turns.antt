@@ -4,7 +4,7 @@ use Rattle.tool_io.specs.Outside.{Told, Wrote, WrotePart}
 use Rattle.tool_io.proofs.Writing.{WroteUpTo, up_to_start, up_to_more, up_to_part, up_to_end}
 use Rattle.report_text.specs.Report.{each_from}
 
--- of the numbers from i on and below n, the first one's text and the others'
+-- the texts of the numbers from i on and below n are the first one's, and then the others'
 each_more : (text : ℕ → List ℕ) (n i : ℕ) → i < n → each_from text i (n - i) ≡ text i ++ each_from text (i + 1) (n - (i + 1))
 unfolding each_from
 each_more text n i h = let e : n - i ≡ suc (n - (i + 1)) = omega arith in rw e refl

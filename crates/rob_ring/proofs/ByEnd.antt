@@ -32,7 +32,7 @@ module _ (serial : ℕ) where
   pub serial_at : (es : List Entry) (i : ℕ) (e : Entry) → slice_get es i ≡ Some e → e.serial ≡ serial → option_map (λ e. e.serial) (slice_get es i) ≡ Some serial
   serial_at es i e is same = ap (option_map (λ e. e.serial)) is ∙ ap Some same
 
-  -- none has the serial, where the one that stands in its place has another
+  -- no entry has the serial, where the one in the serial's place has another
   pub lacks : (es : List Entry) → Rise es → ((e : Entry) → slice_get es (length (below serial es)) ≡ Some e → e.serial ≢ serial) → All (λ e. e.serial ≢ serial) es
   lacks es r other k d lt same =
       let is = slice_get-get_or es k d lt in

@@ -25,7 +25,7 @@ module _ (p : Entry → Bool) (es : List Entry) (P : ℕ → Type 0) (step : (k 
       let within = next.within in
       over i (j - i) j (omega (arith, low)) (omega (arith, within)) next.before h
 
-  -- or up to the end, where there is none
+  -- what holds at a position holds at the end, where no entry from there on passes the test
   pub to_end : (i : ℕ) → i ≤ length es → HoldsNowhere (holds_at p es) i (length es) → P i → P (length es)
   to_end i le none h = over i (length es - i) (length es) (omega (arith, le)) (omega arith) none h
 

@@ -19,7 +19,7 @@ use Rattle.rob_ring.specs.Marks.{Marked, MarksOf, mark_at}
 
 -- the marks of one set, by which an entry passes
 module _ (p : Entry → Bool) (es : List Entry) (words : List ℕ) (is : MarksOf p es words) where
-  -- a mark that was put
+  -- the bits tell of the entries which pass the test, once one of them is put anew
   pub put_is : (i : ℕ) (e : Entry) (b : Bool) (words2 : List ℕ) → i < length es → b ≡ p e → mark_at words2 i ≡ one_if b → ((k : ℕ) → k ≢ i → mark_at words2 k ≡ mark_at words k) →
       MarksOf p (slice_set es i e) words2
   put_is i e b words2 lt same here others k = elim (cases_eq k i) [
@@ -29,7 +29,7 @@ module _ (p : Entry → Bool) (es : List Entry) (words : List ℕ) (is : MarksOf
     | inr ne ↦ others k ne ∙ is k ∙ ap one_if (sym (ap (λ ms. get_or ms k false) (map-set p es i e) ∙ get_or-set_other (map p es) i k (p e) false ne))
   ]
 
-  -- one for an entry that came
+  -- the bits tell of the entries which pass the test, once one more entry has come
   pub push_is : (e : Entry) (b : Bool) (words2 : List ℕ) → b ≡ p e → mark_at words2 (length es) ≡ one_if b → ((k : ℕ) → k ≢ length es → mark_at words2 k ≡ mark_at words k) →
       MarksOf p (es ++ e ∷ []) words2
   push_is e b words2 same here others k = elim (cases_eq k (length es)) [
@@ -153,7 +153,7 @@ module _ (es : List Entry) (room : ℕ) (busy open_ones unsafes : List ℕ) (m :
             unsafe_is = put_is is_unsafe es unsafes m.unsafe_is i e c unsafe2 (within_ring i lt) (tells d at) u v;
           })
 
-  -- nor one of which something issues, which is as safe as it was
+  -- the bits are those of the entries once something issues of one, which is as safe as it was
   pub issue_marked : (o : Issued) (b : Bool) (i : ℕ) (busy2 : List ℕ) (es2 : List Entry) (room2 : ℕ) → i < length r.entries → b ≡ in_execution o.state → mark_at busy2 i ≡ one_if b → ((k : ℕ) → k ≢ i → mark_at busy2 k ≡ mark_at busy k) →
       ((d : Entry) → slice_get r.entries i ≡ Some d → is_unsafe (with_issued o d) ≡ is_unsafe d) →
       ((d : Entry) → slice_get es i ≡ Some d → buffer es2 room2 ≡ buffer (slice_set es i (with_issued o d)) room) → Marked es2 room2 busy2 open_ones unsafes
@@ -173,7 +173,8 @@ module _ (es : List Entry) (room : ℕ) (busy open_ones unsafes : List ℕ) (m :
             unsafe_is = stays is_unsafe es unsafes m.unsafe_is i d e at (alike d (ap (λ (r : Ring). slice_get r.entries i) (sym seen) ∙ at));
           })
 
-  -- one that is resolved or cleared executes or not as it did; whether it is settled and whether it is safe is told
+  -- the bits are those of the entries once one is resolved or cleared: it executes or not as it did, and is told to be settled and safe
+  -- or not
   settle_marked : (f : Entry → Entry) → ((d : Entry) → is_busy (f d) ≡ is_busy d) → (i : ℕ) (open2 unsafe2 : List ℕ) (b c : Bool) (es2 : List Entry) (room2 : ℕ) → i < length r.entries →
       mark_at open2 i ≡ one_if b → ((k : ℕ) → k ≢ i → mark_at open2 k ≡ mark_at open_ones k) → mark_at unsafe2 i ≡ one_if c → ((k : ℕ) → k ≢ i → mark_at unsafe2 k ≡ mark_at unsafes k) →
       ((e : Entry) → slice_get es i ≡ Some e → b ≡ is_open (f e)) → ((e : Entry) → slice_get es i ≡ Some e → c ≡ is_unsafe (f e)) →

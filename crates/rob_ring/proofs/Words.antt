@@ -24,7 +24,7 @@ low_is n k b lt l =
 pub low_all : (n k b : ℕ) → 64 ≤ k → b < 64 → bit_at n b ≡ (if nat_lt b k then bit_at n b else 0)
 low_all n k b le l = let t : nat_lt b k ≡ true = grind (arith, nat_tests) in ap (λ t. if t then bit_at n b else 0) (sym t)
 
--- one bit down, and a bit on top
+-- the bits of a word moved down by one, with the lowest bit of the next word on top
 pub down_is : (n m r b : ℕ) → bit_at r 63 ≡ one_if (nat_eq (m % 2) 1) → ((b : ℕ) → b < 64 → b ≢ 63 → bit_at r b ≡ bit_at (n / 2) b) → b < 64 →
     bit_at r b ≡ (if nat_lt b 63 then bit_at n (b + 1) else bit_at m 0)
 down_is n m r b top others l =
@@ -40,7 +40,7 @@ down_is n m r b top others l =
     odd (suc zero) lt = refl
     odd (suc (suc d)) lt = absurd (omega (arith, lt))
 
--- a mark is a bit of its word
+-- the flag of a position is a bit of one of the three words
 
 pub at_low : (words : List ℕ) (k : ℕ) → k < 64 → mark_at words k ≡ bit_at (get_or words 0 0) k
 at_low words k lt = let j : k / 64 ≡ 0 = omega (arith, lt) in let b : k % 64 ≡ k = omega (arith, lt) in ap₂ (λ j b. bit_at (get_or words j 0) b) j b
@@ -54,14 +54,14 @@ at_high words k le lt = let j : k / 64 ≡ 2 = omega (arith, le, lt) in let b : 
 pub at_past : (words : List ℕ) (k : ℕ) → length words ≡ 3 → 192 ≤ k → mark_at words k ≡ 0
 at_past words k three le = let past : length words ≤ k / 64 = omega (arith, three, le) in ap (λ w. bit_at w (k % 64)) (get_or_past words (k / 64) 0 past) ∙ bit_at-zero (k % 64)
 
--- each place lies in a word or past them
+-- a place lies in one of the three words, or past them
 pub by_words : {P : Type 0} (k : ℕ) → (k < 64 → P) → (64 ≤ k → k < 128 → P) → (128 ≤ k → k < 192 → P) → (192 ≤ k → P) → P
 by_words k low middle high past =
     ⊎_elim low (λ a. ⊎_elim (middle a) (λ b. ⊎_elim (high b) past (cases_lt k 192)) (cases_lt k 128)) (cases_lt k 64)
 
 -- the words kept and dropped, place by place
 
--- the same distance below a length
+-- a position less a distance lies below a length less that distance exactly where it lies below the length
 below : (k len n d : ℕ) → n ≡ len - d → d ≤ k → nat_lt (k - d) n ≡ nat_lt k len
 below k len n d e le =
     ⊎_elim
@@ -128,7 +128,7 @@ dropped_low words x three middle high h =
     none : Down 0 0 0
     none b lt = bit_at-zero b ∙ either (nat_lt b 63) b
 
--- the same, where the words are written one after the other
+-- the bits move down by one place also where the words are written one after the other
 pub dropped_in_place : (words : List ℕ) (x y z : ℕ) → length words ≡ 3 → Down (get_or words 0 0) (get_or words 1 0) x →
     Down (get_or (slice_set words 0 x) 1 0) (get_or (slice_set words 0 x) 2 0) y → Down (get_or (slice_set (slice_set words 0 x) 1 y) 2 0) 0 z →
     (k : ℕ) → mark_at (slice_set (slice_set (slice_set words 0 x) 1 y) 2 z) k ≡ mark_at words (k + 1)
@@ -138,7 +138,7 @@ dropped_in_place (a ∷ b ∷ []) x y z three hx hy hz = absurd (omega (arith, t
 dropped_in_place (a ∷ b ∷ c ∷ []) x y z three hx hy hz = dropped (a ∷ b ∷ c ∷ []) x y z three hx hy hz
 dropped_in_place (a ∷ b ∷ c ∷ d ∷ rest) x y z three hx hy hz = absurd (omega (arith, three))
 
--- and where the first alone is written, since the others have none
+-- the bits move down by one place also where the first word alone is written, since the others have none
 pub dropped_low_in_place : (words : List ℕ) (x : ℕ) → length words ≡ 3 → get_or words 1 0 ≡ 0 → get_or words 2 0 ≡ 0 → Down (get_or words 0 0) 0 x →
     (k : ℕ) → mark_at (slice_set words 0 x) k ≡ mark_at words (k + 1)
 dropped_low_in_place [] x three middle high h = absurd (omega (arith, three))

@@ -12,12 +12,12 @@ pub record Ring : Type 0 where
   pub entries : List Entry
   pub room : ℕ
 
--- in execution
+-- the entry in this state executes
 abbrev pub in_execution : Progress → Bool
 in_execution (Busy due) = true
 in_execution _ = false
 
--- the entry executes
+-- the entry executes: it is busy until some cycle
 abbrev pub is_busy : Entry → Bool
 is_busy e = in_execution e.state
 
@@ -36,7 +36,7 @@ pub record IsNext (p : Entry → Bool) (entries : List Entry) (from i : ℕ) : T
   pub before : HoldsNowhere (holds_at p entries) from i
   pub here : holds_at p entries i ≡ true
 
--- that position, None where no entry from there on passes
+-- the position of the next entry that passes the test, None where no entry from there on does
 abbrev pub Next : (Entry → Bool) → List Entry → ℕ → Option ℕ → Type 0
 Next p entries from None = HoldsNowhere (holds_at p entries) from (length entries)
 Next p entries from (Some i) = IsNext p entries from i

@@ -5,9 +5,9 @@ use window_model::{Outcome, Progress};
 /// place.
 #[derive(Clone, Copy, Debug, PartialEq, Eq)]
 pub struct Issued {
-    /// How far it is.
+    /// How far the entry is.
     pub state: Progress,
-    /// What it comes to.
+    /// What the entry comes to, once it has issued.
     pub outcome: Option<Outcome>,
     /// The cycle in which it issued, where it did in one piece.
     pub issued: Option<u64>,

@@ -1,4 +1,4 @@
-//! The ring itself.
+//! The ring of the entries in flight.
 ghost use Rattle.std.specs.Prelude.{◌≡◌, ◌≢◌, ◌<◌, ◌≤◌, ◌^◌, ◌++◌, ◌∷◌, [], length, take, drop};
 ghost use Rattle.std.specs.Prelude.{slice_get, slice_set, None, Some, IfOk, IfSome};
 ghost use Rattle.std.specs.List.{All};
@@ -24,9 +24,9 @@ pub struct RobRing {
     items: HeapCircularBuffer<Entry>,
     // By position, whether the entry executes.
     busy: [u64; 3],
-    // And whether it isn't settled.
+    // By position, whether the entry isn't settled.
     unsettled: [u64; 3],
-    // And whether it may yet squash what comes after it.
+    // By position, whether the entry may yet squash what comes after it.
     unsafes: [u64; 3],
     // The oldest entry's serial where none is missing up to the youngest's: a guess, by which an entry is looked for first.
     counted_from: u64,
@@ -35,7 +35,7 @@ pub struct RobRing {
 /// An entry in its place.
 #[derive(Clone, Copy)]
 pub struct Found<'a> {
-    /// Its position, counted from the oldest entry.
+    /// The position of the entry, counted from the oldest one.
     pub position: u32,
     /// The entry.
     pub entry: &'a Entry,
@@ -178,7 +178,7 @@ impl RobRing {
         self.items.truncate_back(len as usize);
     }
 
-    /// Drops the oldest entry.
+    /// Drops the oldest entry, which has retired.
     pub fn pop_head(&mut self)
         requires { 0 < length self.old.entries }
         ensures { self.new ≡ record self.old { entries = drop 1 self.old.entries } }

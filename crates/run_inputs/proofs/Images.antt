@@ -77,7 +77,7 @@ image_stays file base size misaligned i e =
     subst (λ (x : ImageText). LiesAt base size misaligned x.ram) same
     (record { base_is = stays.base_is; size_is = stays.size_is ∙ length_zeros size; misaligned_is = stays.misaligned_is })
 
--- so does one that is loaded, if any is
+-- if an image is loaded, its memory begins at the base that was asked for; below, it has the size
 pub loaded_base : (file : List ℕ) (base size : ℕ) (misaligned : Bool) (r : Result Image Refusal) (Q : Refusal → Type 0)
     → MatchResult r (λ i. image_of file base size misaligned ≡ Ok (loaded i)) Q → IfOk r (λ i. i.ram.base ≡ base)
 loaded_base file base size misaligned (Ok i) Q h = (image_stays file base size misaligned (loaded i) h).base_is

@@ -27,7 +27,7 @@ failed_after name old mid new s f =
       later = λ n. let a : mid.faults n ≡ old.faults n = s n in let b : mid.faults n ≤ new.faults n = f.later n in omega (arith, a, b);
     }
 
--- what is told of an image is told before
+-- what the files tell of an image later they told before
 bytes_before : (old mid : Shelf) (from : ImageFrom) (file : List ℕ) → SameContents old mid → HasBytes mid from file → HasBytes old from file
 bytes_before old mid (from_file name) file s h = let P : Option (List ℕ) → Type 0 = λ o. GetsTold o image_max (Bytes file) in subst P (s name) h
 bytes_before old mid (from_seed seed blocks) file s h = h
@@ -43,7 +43,7 @@ fails_before old mid new (from_seed seed blocks) s h = h
 pub image_before : (old mid : Shelf) (desc : Option Desc) (from : ImageFrom) (image : ImageText) → SameContents old mid → IsImage mid desc from image → IsImage old desc from image
 image_before old mid desc from image s i = record { file = i.file; content = bytes_before old mid from i.file s i.content; loads = i.loads }
 
--- ---- Refusals in turn
+-- ---- Refusals in their turn
 
 -- what was read before an image: the description, and the images before it
 pub record ReadBefore (old mid : Shelf) (name : Option (List ℕ)) (sources : List ImageFrom) (place : ℕ) (desc : Option Desc) : Type 0 where
@@ -83,15 +83,15 @@ image_refused old mid new name sources which desc from (Image w fault) r t h =
 image_refused old mid new name sources which desc from Memory r t h = counts_after old mid new r.counts h
 image_refused old mid new name sources which desc from _ r t h = absurd h
 
--- ---- What is read
+-- ---- What was read before
 
--- a description, and then one image
+-- a description was read, and then one image
 pub one_read : (old mid new : Shelf) (name : Option (List ℕ)) (desc : Option Desc) (from : ImageFrom) (image : ImageText) → HasDesc old name desc → SameCounts old mid → SameContents old mid
     → IsImage mid desc from image → SameCounts mid new → IsRead old new name (from ∷ []) desc (image ∷ [])
 one_read old mid new name desc from image d s c i t =
     record { described = d; are_images = (image_before old mid desc from image c i, tt); counts = counts_after old mid new s t }
 
--- and then a second one
+-- a description was read, then one image and then a second
 pub two_read : (old mid new : Shelf) (name : Option (List ℕ)) (desc : Option Desc) (from from2 : ImageFrom) (one two : ImageText) → IsRead old mid name (from ∷ []) desc (one ∷ [])
     → SameContents old mid → IsImage mid desc from2 two → SameCounts mid new → IsRead old new name (from ∷ from2 ∷ []) desc (one ∷ two ∷ [])
 two_read old mid new name desc from from2 one two r c i t =

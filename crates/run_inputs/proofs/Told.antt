@@ -44,7 +44,7 @@ told_desc shelf (Some name) desc desc' t h =
 pub not_both : (text read : List ℕ) (d : Desc) (fault : DescFault) → read ≡ text → Describes read d → description_of text ≡ Err fault → ⊥
 not_both text read d fault e h f = let k : description_of read ≡ Err fault = ap description_of e ∙ f in cc
 
--- ---- The description
+-- ---- The description of a run
 
 -- a told description is not longer than it may be
 pub not_longer : (shelf new : Shelf) (d : Option (List ℕ)) (desc : Option Desc) → TellsDesc shelf d desc → NamedRefused d shelf new DescriptionTooLong → ⊥
@@ -54,7 +54,7 @@ not_longer shelf new (Some name) desc t h =
     let short : length t.0 ≤ description_max = t.3 in
     omega (arith, short, longer)
 
--- and has no fault
+-- a description that the files tell has no fault
 pub not_refused : (shelf new : Shelf) (d : Option (List ℕ)) (desc : Option Desc) (f : DescFault) → TellsDesc shelf d desc → NamedRefused d shelf new (Description f) → ⊥
 not_refused shelf new None desc f t h = h
 not_refused shelf new (Some name) desc f t h =
@@ -74,7 +74,7 @@ no_desc shelf d desc name text e t m (inr f) =
     let h : HasDesc shelf (Some name) desc = subst P e m in
     not_both text h.0 h.1 f.0 (told_bytes (shelf.content name) description_max text h.0 t h.2).0 h.3 f.1
 
--- ---- An image
+-- ---- An image of a run
 
 -- the bytes that are told are those that a command had
 same_bytes : (shelf : Shelf) (from : ImageFrom) (file file' : List ℕ) → TellsBytes shelf from file → HasBytes shelf from file' → (file' ≡ file) × (IsTooLong from file → ⊥)
@@ -119,12 +119,12 @@ no_fault shelf desc desc' from image fault d t f =
     let had = f.refused in
     cc
 
--- and not too many bytes
+-- an image that the files tell has not too many bytes
 pub not_too_many : (shelf : Shelf) (desc : Option Desc) (from : ImageFrom) (image : ImageText) → TellsImage shelf desc from image → HasTooMany shelf from → ⊥
 not_too_many shelf desc (from_file name) image t h = t.short (told_longer (shelf.content name) image_max t.file t.told h)
 not_too_many shelf desc (from_seed seed blocks) image t h = h
 
--- ---- Images
+-- ---- Images of a run
 
 -- where all are told, each is
 pub told_at : (shelf : Shelf) (desc : Option Desc) (sources : List ImageFrom) (images : List ImageText) (place : ℕ) (from : ImageFrom) → TellsImages shelf desc sources images

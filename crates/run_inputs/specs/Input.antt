@@ -27,7 +27,7 @@ description_max = 65536
 abbrev pub image_max : ℕ
 image_max = 33554432
 
--- these may be the bytes under a name, of which there are at most so many: all that is told of them is so
+-- the file of this name may hold these bytes, at most so many: all that is told of it agrees with them
 abbrev pub MayHold : Shelf → List ℕ → ℕ → List ℕ → Type 0
 MayHold shelf name max bytes = GetsTold (shelf.content name) max (Bytes bytes)
 
@@ -41,7 +41,7 @@ UnreadBy name max old new ReadFailed = NameFailed name old new
 UnreadBy name max old new TooMany = MayBeLonger old name max × SameCounts old new
 UnreadBy name max old new NoMemory = SameCounts old new
 
--- ---- The description
+-- ---- The description of a run
 
 -- a run has this description: none, or that which the file named may hold
 abbrev pub HasDesc : Shelf → Option (List ℕ) → Option Desc → Type 0
@@ -72,7 +72,7 @@ NamedRefused (Some name) old new refusal = DescriptionRefused name old new refus
 abbrev pub ReadsDesc : Option (List ℕ) → Shelf → Shelf → Result (Option Desc) Refusal → Type 0
 ReadsDesc name old new result = MatchResult result (λ desc. HasDesc old name desc × SameCounts old new) (NamedRefused name old new)
 
--- ---- An image
+-- ---- An image of a run
 
 -- where an image comes from: the file of this name, or a seed and a number of blocks that generate it
 pub data ImageFrom : Type 0 where
@@ -83,7 +83,7 @@ abbrev pub source_of : Source → ImageFrom
 source_of (File name) = from_file name.now
 source_of (Seed seed blocks) = from_seed seed blocks.count
 
--- these are an image's bytes: such as the file may hold, or those that are generated
+-- the bytes of an image: such as the file may hold, or those that are generated
 abbrev pub HasBytes : Shelf → ImageFrom → List ℕ → Type 0
 HasBytes shelf (from_file name) file = MayHold shelf name image_max file
 HasBytes shelf (from_seed seed blocks) file = file ≡ generated_image seed blocks
@@ -103,23 +103,23 @@ abbrev pub misaligned_of : Option Desc → Bool
 misaligned_of None = false
 misaligned_of (Some d) = d.ram_misaligned == 1
 
--- what is got there is this image
+-- the image that is got from a source is this one
 pub record IsImage (shelf : Shelf) (desc : Option Desc) (from : ImageFrom) (image : ImageText) : Type 0 where
   pub file : List ℕ
   pub content : HasBytes shelf from file
   pub loads : image_of file (base_of desc) (size_of desc) (misaligned_of desc) ≡ Ok image
 
--- it can't be read
+-- the image's file can't be read
 abbrev pub FailsToRead : Shelf → Shelf → ImageFrom → Type 0
 FailsToRead old new (from_file name) = NameFailed name old new
 FailsToRead old new (from_seed seed blocks) = ⊥
 
--- it may have too many bytes
+-- the image's file may have too many bytes
 abbrev pub HasTooMany : Shelf → ImageFrom → Type 0
 HasTooMany shelf (from_file name) = MayBeLonger shelf name image_max
 HasTooMany shelf (from_seed seed blocks) = ⊥
 
--- its bytes are no image
+-- the image's bytes have this fault, in the memory of this description
 pub record HasFault (shelf : Shelf) (desc : Option Desc) (from : ImageFrom) (fault : ElfFault) : Type 0 where
   pub file : List ℕ
   pub content : HasBytes shelf from file
@@ -167,7 +167,7 @@ AreImages shelf desc (from ∷ rest) (image ∷ images) = IsImage shelf desc fro
 AreImages shelf desc [] (image ∷ images) = ⊥
 AreImages shelf desc (from ∷ rest) [] = ⊥
 
--- this description and these images were read, and no count of the files rose
+-- a description and images were read, and no count of the files rose
 pub record IsRead (old new : Shelf) (name : Option (List ℕ)) (sources : List ImageFrom) (desc : Option Desc) (images : List ImageText) : Type 0 where
   pub described : HasDesc old name desc
   pub are_images : AreImages old desc sources images

@@ -12,7 +12,7 @@ abbrev pub place_of : Which → ℕ
 place_of First = 0
 place_of Second = 1
 
--- the refusal of words
+-- the refusal of words, by why they gave no command
 abbrev pub words_refused : Refused → Refusal
 words_refused refused.Words = Words
 words_refused refused.Memory = Memory

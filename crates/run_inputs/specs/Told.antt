@@ -26,7 +26,7 @@ abbrev pub IsTooLong : ImageFrom → List ℕ → Type 0
 IsTooLong (from_file name) file = image_max < length file
 IsTooLong (from_seed seed blocks) file = ⊥
 
--- these bytes are too many for an image, or are none for the memory of this description
+-- the bytes are too many for an image, or are no image for the memory of this description
 abbrev pub IsFaultyImage : ImageFrom → List ℕ → Option Desc → Type 0
 IsFaultyImage from file desc = IsTooLong from file ⊎ ((fault : ElfFault) × (image_of file (base_of desc) (size_of desc) (misaligned_of desc) ≡ Err fault))
 
@@ -36,19 +36,19 @@ TellsDesc shelf None desc = desc ≡ None
 TellsDesc shelf (Some name) desc =
     (text : List ℕ) × (d : Desc) × (shelf.content name ≡ Some text) × (length text ≤ description_max) × Describes text d × (desc ≡ Some d)
 
--- these are an image's bytes, as the files tell, or as they are generated
+-- the bytes of an image, as the files tell them, or as they are generated
 abbrev pub TellsBytes : Shelf → ImageFrom → List ℕ → Type 0
 TellsBytes shelf (from_file name) file = shelf.content name ≡ Some file
 TellsBytes shelf (from_seed seed blocks) file = file ≡ generated_image seed blocks
 
--- they tell that this image is there
+-- the files tell that an image is this one
 pub record TellsImage (shelf : Shelf) (desc : Option Desc) (from : ImageFrom) (image : ImageText) : Type 0 where
   pub file : List ℕ
   pub told : TellsBytes shelf from file
   pub short : ¬ IsTooLong from file
   pub loads : image_of file (base_of desc) (size_of desc) (misaligned_of desc) ≡ Ok image
 
--- and so at each of these places
+-- the files tell that the images are these, one by one
 abbrev pub TellsImages : Shelf → Option Desc → List ImageFrom → List ImageText → Type 0
 TellsImages shelf desc [] [] = Unit {0}
 TellsImages shelf desc (from ∷ rest) (image ∷ images) = TellsImage shelf desc from image × TellsImages shelf desc rest images

@@ -13,9 +13,9 @@ use tool_words::Refused;
 /// Which of a command's images.
 #[derive(Clone, Copy, Debug, PartialEq, Eq)]
 pub enum Which {
-    /// The first, or the one that there is.
+    /// The first image, or the one that there is.
     First,
-    /// The second.
+    /// The second image of two.
     Second,
 }
 

@@ -5,10 +5,10 @@ ghost use Rattle.rv_types.specs.Word.{signed, word};
 
 use rv_types::Op;
 
-// -2^31, as a word.
+// The least signed number, -2^31, as a word.
 const LEAST: u32 = 0x8000_0000;
 
-// -1, as a word.
+// The signed number -1, as a word.
 const MINUS_ONE: u32 = 0xffff_ffff;
 
 /// DIV: the quotient of signed numbers, rounded towards zero; by 0 it is -1, and -2^31 by -1 is -2^31.

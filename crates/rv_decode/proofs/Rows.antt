@@ -8,7 +8,7 @@ use Rattle.rv_types.specs.Decode.{decode, table, look_up, matches, Row}
 use Rattle.rv_types.specs.declared.Instr.{Instr}
 use Rattle.rv_types.specs.declared.Instr.TheVariants.{Illegal, Ecall, Ebreak}
 
--- the first row for these fields
+-- the instruction of the first row for these fields
 abbrev pub look : List Row → ℕ → ℕ → ℕ → ℕ → Instr
 look [] op f3 f7 w = Illegal w
 look (r ∷ rows) op f3 f7 w = if op == r.opcode && matches r.funct3 f3 && matches r.funct7 f7 then r.instr w else look rows op f3 f7 w
@@ -17,7 +17,7 @@ look_up-fields : (rows : List Row) (w : ℕ) → look_up rows w ≡ look rows (f
 look_up-fields [] w = refl
 look_up-fields (r ∷ rows) w = ap (λ rest. if field w 0 7 == r.opcode && matches r.funct3 (field w 12 3) && matches r.funct7 (field w 25 7) then r.instr w else rest) (look_up-fields rows w)
 
--- neither ECALL nor EBREAK, which have the opcode 115
+-- a word with another opcode than 115 is neither ECALL nor EBREAK
 not_system : (w op : ℕ) → field w 0 7 ≡ op → (op == 115) ≡ false → ((w == 0x73) ≡ false) × ((w == 0x100073) ≡ false)
 not_system w op e ne = (grind (arith, nat_tests), grind (arith, nat_tests))
 

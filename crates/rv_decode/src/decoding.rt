@@ -10,7 +10,7 @@ use crate::opcodes::{
 };
 use rv_types::{Instr, Op};
 
-// The field funct3.
+// The field funct3 of a word.
 #[inline]
 fn funct3(word: u32) -> u32
     ensures { result ≡ field word 12 3 }
@@ -18,7 +18,7 @@ fn funct3(word: u32) -> u32
     field(word, 12, 3)
 }
 
-// The field funct7.
+// The field funct7 of a word.
 #[inline]
 fn funct7(word: u32) -> u32
     ensures { result ≡ field word 25 7 }
@@ -104,7 +104,7 @@ fn op_reg_with(op: Op, word: u32) -> Instr
     }
 }
 
-// JALR.
+// The instruction of a word with the opcode JALR.
 #[tactic(auto, using(crate::proofs::Rows::decode_jalr))]
 fn jalr(word: u32) -> Instr
     requires { field word 0 7 ≡ JALR }
@@ -120,7 +120,7 @@ fn jalr(word: u32) -> Instr
     }
 }
 
-// The branches.
+// The instruction of a word with the opcode of branches.
 #[tactic(auto, using(crate::proofs::Rows::decode_branch))]
 fn branch(word: u32) -> Instr
     requires { field word 0 7 ≡ BRANCH }
@@ -137,7 +137,7 @@ fn branch(word: u32) -> Instr
     }
 }
 
-// The loads.
+// The instruction of a word with the opcode of loads.
 #[tactic(auto, using(crate::proofs::Rows::decode_load))]
 fn load(word: u32) -> Instr
     requires { field word 0 7 ≡ LOAD }
@@ -153,7 +153,7 @@ fn load(word: u32) -> Instr
     }
 }
 
-// The stores.
+// The instruction of a word with the opcode of stores.
 #[tactic(auto, using(crate::proofs::Rows::decode_store))]
 fn store(word: u32) -> Instr
     requires { field word 0 7 ≡ STORE }
@@ -206,7 +206,7 @@ fn op_base(word: u32) -> Instr
     }
 }
 
-// The multiplications and divisions.
+// The multiplication or division of a word with the opcode OP.
 #[tactic(auto, using(crate::proofs::Rows::decode_op_muldiv))]
 fn op_muldiv(word: u32) -> Instr
     requires opcode { field word 0 7 ≡ OP }
@@ -225,7 +225,7 @@ fn op_muldiv(word: u32) -> Instr
     }
 }
 
-// SUB and SRA.
+// SUB or SRA, for a word with the opcode OP and the funct7 of the two; any other such word is illegal.
 #[tactic(auto, using(crate::proofs::Rows::decode_op_other))]
 fn op_other(word: u32) -> Instr
     requires opcode { field word 0 7 ≡ OP }
@@ -253,7 +253,7 @@ fn op_reg(word: u32) -> Instr
     }
 }
 
-// FENCE.
+// The instruction of a word with the opcode of FENCE.
 #[tactic(auto, using(crate::proofs::Rows::decode_misc_mem))]
 fn misc_mem(word: u32) -> Instr
     requires { field word 0 7 ≡ MISC_MEM }
@@ -265,7 +265,7 @@ fn misc_mem(word: u32) -> Instr
     }
 }
 
-// ECALL and EBREAK.
+// The instruction of a word with the opcode of ECALL and EBREAK.
 #[tactic(auto, using(crate::proofs::Rows::decode_system))]
 fn system(word: u32) -> Instr
     requires { field word 0 7 ≡ SYSTEM }

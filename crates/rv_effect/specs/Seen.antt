@@ -2,6 +2,6 @@
 use Rattle.rv_types.specs.Isa as isa
 use Rattle.rv_effect.specs.declared.fields.Effect.{Effect}
 
--- field by field
+-- an effect as the instruction set's definition has it, field by field
 abbrev pub seen : Effect → isa.Effect
 seen f = record { value = f.value; next = f.next; addr = f.addr; stored = f.stored; misaligned = f.misaligned }

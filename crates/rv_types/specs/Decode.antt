@@ -44,7 +44,7 @@ rs1 w = reg_at w 15
 abbrev pub rs2 : ℕ → Reg
 rs2 w = reg_at w 20
 
--- the forms of instructions
+-- an instruction by its operation and the fields of its word, for each form
 abbrev pub branch : Op → ℕ → Instr
 branch op w = Branch op (rs1 w) (rs2 w) (imm_b w)
 
@@ -133,7 +133,7 @@ table =
     ∷ row 0b0001111 (is 0) any Fence
     ∷ []
 
--- the first row that the word matches
+-- the instruction by the first row that the word matches, else an illegal one
 abbrev pub look_up : List Row → ℕ → Instr
 look_up [] w = Illegal w
 look_up (r ∷ rows) w = if field w 0 7 == r.opcode && matches r.funct3 (field w 12 3) && matches r.funct7 (field w 25 7) then r.instr w else look_up rows w

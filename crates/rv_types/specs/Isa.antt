@@ -39,7 +39,7 @@ only pc v = record { value = v; next = word_add pc 4; addr = 0; stored = 0; misa
 abbrev pub jump : ℕ → ℕ → Effect
 jump v target = record { value = v; next = target; addr = 0; stored = 0; misaligned = is_misaligned target }
 
--- accesses this address, to store this value where it is a store
+-- an effect that accesses this address, to store this value where it is a store
 abbrev pub at_address : ℕ → ℕ → ℕ → Effect
 at_address pc a v = record { value = 0; next = word_add pc 4; addr = a; stored = v; misaligned = false }
 
@@ -121,9 +121,9 @@ call s =
     else if not (a0 == 1 || a0 == 2) then Goes (answers s (minus 9)) []
     else write_of s (reg s.regs 11) (min (reg s.regs 12) 1024)
 
--- ---- One step
+-- ---- One step of the instruction set
 
--- the step, but for this fault
+-- the step, unless there is this fault
 abbrev pub or_trap : Option Cause → Step → Step
 or_trap None step = step
 or_trap (Some cause) step = Traps cause
@@ -156,7 +156,7 @@ step_at (Some w) s = step_of s (decode w)
 unfoldable pub isa_step : Code → Hart → Step
 isa_step code s = step_at (code s.pc) s
 
--- ---- Whole runs
+-- ---- Whole runs of the instruction set
 
 -- what a run comes to: the last state, the pieces that are not empty, the steps taken (an exit counts, a trap doesn't)
 -- and the end, if it ended
@@ -166,7 +166,7 @@ pub record Run : Type 0 where
   pub steps : ℕ
   pub ended : Option End
 
--- one more piece in front, unless it is empty
+-- the pieces with one more in front, unless that one is empty
 abbrev pub with_piece : List ℕ → List (List ℕ) → List (List ℕ)
 with_piece [] ps = ps
 with_piece (b ∷ bs) ps = (b ∷ bs) ∷ ps

@@ -16,7 +16,7 @@ pub use piece::{PIECE_MAX, Piece};
 use std::alloc::{AllocError, AllocFailed};
 use thiserror::Error;
 
-/// The number of registers.
+/// The number of registers, x0 among them.
 pub const REGISTERS: usize = 32;
 
 /// There was no memory: the one answer that has no stated cause.
@@ -205,7 +205,7 @@ pub enum End {
 /// What the last line of a report or a trace says.
 #[derive(Clone, Copy, Debug, PartialEq, Eq)]
 pub struct Ending {
-    /// None where the budget was used up.
+    /// How the run ended, None where the budget was used up.
     pub end: Option<End>,
     /// The number of instructions that took effect. An exit call counts, a trap doesn't.
     pub retired: u64,

@@ -22,7 +22,7 @@ impl Model for Piece {
 }
 
 impl Piece {
-    /// The empty piece.
+    /// A piece of output without any byte.
     pub fn new() -> Self
         ensures { result ≡ [] }
     {
@@ -31,7 +31,7 @@ impl Piece {
         }
     }
 
-    /// The bytes.
+    /// The bytes of the piece, in order.
     pub fn as_slice(&self) -> &[u8]
         ensures value { result.now ≡ self.now }
         ensures few { length result.now ≤ 1024 }
@@ -39,14 +39,14 @@ impl Piece {
         self.bytes.as_slice()
     }
 
-    /// Takes all bytes out.
+    /// Takes all bytes out of the piece.
     pub fn clear(&mut self)
         ensures { self.new ≡ [] }
     {
         self.bytes.clear();
     }
 
-    /// Appends one byte.
+    /// Appends one byte to the piece.
     pub fn push(&mut self, byte: u8)
         requires { length self.old < 1024 }
         ensures { self.new ≡ self.old ++ byte ∷ [] }
@@ -54,7 +54,7 @@ impl Piece {
         self.bytes.push(byte);
     }
 
-    /// Appends the bytes.
+    /// Appends these bytes to the piece.
     pub fn extend(&mut self, bytes: &[u8])
         requires { length self.old + length bytes.now ≤ 1024 }
         ensures { self.new ≡ self.old ++ bytes.now }

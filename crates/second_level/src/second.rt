@@ -14,7 +14,7 @@ use std::marker::Model;
 #[derive(Drop)]
 pub struct Second {
     desc: Desc,
-    /// None exactly where the description gives it no sets.
+    /// The sets of the level, None exactly where the description gives it none.
     level: Option<Level>,
 }
 
@@ -62,8 +62,8 @@ impl Second {
         }
     }
 
-    /// This line arrives from memory: it goes to the front of its set, whose last line goes where there are more than the ways
-    /// then. Nothing changes where the description gives the level no sets.
+    /// A line arrives from memory: it goes to the front of its set, whose last line goes where there are more than the
+    /// ways then. Nothing changes where the description gives the level no sets.
     pub fn fill(&mut self, line: u32)
         ensures entered { self.new ≡ record self.old { sets = second_with_line self.old.desc self.old.sets line } }
     {

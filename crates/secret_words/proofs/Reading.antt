@@ -132,7 +132,7 @@ go_on-more all rest got t range h e = h ∙ rw (← e) (by (ranges_of rest))
     by None = refl
     by (Some ranges) = ap Some (sym (append_assoc got (range ∷ []) ranges))
 
--- the next text, and none behind the last one
+-- the ranges are read on with the next text, and none behind the last one
 pub go_on-next : (texts : List (Bor Text)) (got : List SecretRange) (i : ℕ) (d : Bor Text) → i < length texts → GoOn (map (λ t. t.now) texts) got (map (λ t. t.now) (drop i texts))
     → GoOn (map (λ t. t.now) texts) got ((get_or texts i d).now ∷ map (λ t. t.now) (drop (i + 1) texts))
 go_on-next texts got i d l h =

@@ -63,7 +63,7 @@ no_range_is_read : (range_of (codes "126976") ≡ None) × (range_of (codes "126
 unfolding range_of address_of bytes_of number_of
 no_range_is_read = (refl, refl, refl, refl, refl, refl, refl, refl)
 
--- one text that is no range, and the words ask for nothing
+-- where one text is no range, the words ask for nothing
 one_is_none : wanted_of (codes "d.toml" ∷ codes "p.elf" ∷ codes "--secret" ∷ codes "0x1f000:64" ∷ codes "--secret" ∷ codes "7" ∷ codes "--cycles" ∷ codes "9" ∷ []) ≡ None
 unfolding wanted_of faults rows_in word_of ranges_of range_of address_of bytes_of number_of clap_on_literals
 one_is_none = refl

@@ -6,7 +6,7 @@ use Rattle.std.specs.Str.Parse.{digits_value, without_leading_plus}
 use Rattle.clap.specs.Words.{Text}
 use Rattle.secret_marks.specs.declared.SecretRange.{SecretRange}
 
--- one digit or more of this radix, and nothing else
+-- the text is a numeral of this radix: one digit or more, and nothing else
 abbrev pub is_numeral : ℕ → Text → Bool
 is_numeral radix digits = nat_lt 0 (length digits) && list_all (λ d. nat_lt (digit_value d) radix) digits
 
@@ -33,7 +33,7 @@ range_of t =
     option_and_then (λ cut. option_and_then (λ addr. option_map (λ bytes. record { addr = addr; bytes = bytes }) (bytes_of (drop (cut + 1) t)))
     (address_of (take cut t))) (position is_colon t)
 
--- each of these texts is a range
+-- the ranges of these texts, where every one of them is a range
 unfoldable pub ranges_of : List Text → Option (List SecretRange)
 ranges_of [] = Some []
 ranges_of (t ∷ ts) = option_and_then (λ range. option_map (λ ranges. range ∷ ranges) (ranges_of ts)) (range_of t)

@@ -7,7 +7,7 @@ use Rattle.tool_words.specs.Words.{name_rule, cycles_rule, word_in, if_none}
 use Rattle.secret_words.specs.Ranges.{ranges_of}
 use Rattle.secret_words.specs.declared.Wanted.{Wanted}
 
--- one range or several, each behind its own --secret
+-- the argument of ranges: one or several, each behind its own --secret
 abbrev pub secret_rule : Rule
 secret_rule = record (new_rule (codes "secret")) { long = Some (codes "secret"); required = true; action = Some Append }
 

@@ -11,7 +11,7 @@ abbrev pub LeavesTheOlder : Type 0
 LeavesTheOlder = (d : Desc) (p : Place) (x : Machine) → Rise (keep p x).machine.window →
     below (p.entry.serial + 1) (keep p x).machine.window ≡ (squash d p x).machine.window
 
--- so many go as are younger
+-- the entries that a squash drops are as many as are younger
 abbrev pub DropsTheYounger : Type 0
 DropsTheYounger = (p : Place) (x : Machine) → Rise (keep p x).machine.window →
     length (keep p x).machine.window - length (below (p.entry.serial + 1) (keep p x).machine.window) ≡ length p.younger

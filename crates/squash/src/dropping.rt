@@ -1,4 +1,4 @@
-//! The squash itself.
+//! The squash: what the parts drop (`docs/machine.md`, "Resolve").
 ghost use Rattle.std.specs.Prelude.{◌≡◌, ◌-◌, length, nat_lt};
 ghost use Rattle.std.specs.List.{filter};
 ghost use Rattle.window_model.specs.Resolve.{freed_from};

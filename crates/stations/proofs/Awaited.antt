@@ -1,4 +1,4 @@
--- What is marked of who awaits a serial, as entries come and wake.
+-- The words that tell who may await a serial, as entries come and wake.
 use Rattle.std.proofs.Common.{◌≡◌, ◌≢◌, ℕ, ◌%◌, ◌+◌, ◌<◌, ◌≤◌, Bool, true, false, List, length, get_or, set, Option, Some, None, slice_get, refl, ap, ap₂, sym, ◌∙◌, arith, inl, inr, ⊎_elim}
 use mathlib.Core.Bool.{true≢false}
 use Rattle.std.specs.Prelude.{not, ◌==◌, ◌||◌, if◌then◌else◌}
@@ -17,7 +17,7 @@ pub neither : (a b : Bool) → (a || b) ≡ false → (a ≡ false) × (b ≡ fa
 neither true b h = absurd (cc)
 neither false b h = (refl, h)
 
--- who awaits none of the group isn't changed by a serial of it
+-- an entry that awaits no serial of a group isn't changed by a serial of it
 strike_other : (serial : ℕ) (a : Option ℕ) → is_in (serial % 64) a ≡ false → strike serial a ≡ a
 strike_other serial None h = refl
 strike_other serial (Some s) h =
@@ -31,7 +31,7 @@ woken_other serial o h =
     let none = neither _ _ h in
     ap₂ (λ a b. record o { first = a; second = b }) (strike_other serial o.first none.0) (strike_other serial o.second none.1)
 
--- who awaits something has a place
+-- an entry that awaits something has a place
 in_place : (group p : ℕ) (places : List Occupant) → awaits_in group (get_or places p nobody) ≡ true → p < length places
 in_place group p places h = elim (cases_lt p (length places)) [
   | inl lt ↦ lt
@@ -77,7 +77,7 @@ woken_less group serial o h = or_less _ _ _ _ (struck_less group serial o.first)
 
 -- an entry in its place awaits a serial no longer
 module _ (serial : ℕ) (places : List Occupant) (place : ℕ) (o : Occupant) (lt : place < length places) (woke : o ≡ woken serial (get_or places place nobody)) where
-  -- who was marked is enough
+  -- the words that have a bit for each place that awaits their group still do, once an entry awaits a serial less
   pub marked_woken : (waiters : List ℕ) → MarkWaiters places waiters → MarkWaiters (set places place o) waiters
   marked_woken waiters m group p h = elim (cases_eq p place) [
     | inl q ↦
@@ -88,7 +88,7 @@ module _ (serial : ℕ) (places : List Occupant) (place : ℕ) (o : Occupant) (l
     | inr ne ↦ m group p (sym (ap (awaits_in group) (get_or-set_other places place p o nobody ne)) ∙ h)
   ]
 
-  -- so is who is marked when its own mark goes from a group of which it awaits none
+  -- a word still has a bit for each place that awaits its group, where the bit of a place that awaits none of the group goes
   pub marked_out : (waiters : List ℕ) (group word : ℕ) → group < length waiters → length places ≤ 128 → awaits_in group o ≡ false →
       ((p : ℕ) → p < 128 → p ≢ place → bit_at word p ≡ bit_at (get_or waiters group 0) p) → MarkWaiters places waiters →
       MarkWaiters (set places place o) (set waiters group word)
@@ -137,7 +137,7 @@ module _ (serial : ℕ) (old places : List Occupant) (waiters : List ℕ) (from 
     | inr low ↦ as_it_was p low (none p low)
   ]
 
--- ---- who may issue
+-- ---- who may issue at all
 
 bit_tells : (a b : Bool) → one_if a ≡ one_if b → not a ≡ not b
 bit_tells true true h = refl

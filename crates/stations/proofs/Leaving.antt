@@ -13,13 +13,13 @@ use Rattle.stations.proofs.Numbers.{all_differ}
 
 -- ---- what is left as it was
 
--- there are as many entries
+-- there are as many stations once one of them wants something else
 pub length_left : (i : ℕ) (next : Wants) (held : List Station) → length (left_wanting i next held) ≡ length held
 length_left i next [] = refl
 length_left zero next (s ∷ held) = refl
 length_left (suc i) next (s ∷ held) = ap suc (length_left i next held)
 
--- each has the serial that it had
+-- every station keeps its serial, once one of them wants something else
 serial_left : (i : ℕ) (next : Wants) (held : List Station) (k : ℕ) (d : Station) → (get_or (left_wanting i next held) k d).serial ≡ (get_or held k d).serial
 serial_left i next [] k d = refl
 serial_left zero next (s ∷ held) zero d = refl
@@ -35,19 +35,19 @@ rise_left i next held r j k d lt l =
     let c = r j k d lt (omega arith) in
     omega (arith, a, b, c)
 
--- what doesn't look at what is needed is told of them as before
+-- a function of a station that doesn't look at what it wants gives the same as before
 pub map_left : {X : Type 0} (f : Station → X) → ((s : Station) (next : Wants) → f (now_wants next s) ≡ f s) → (i : ℕ) (next : Wants) (held : List Station) → map f (left_wanting i next held) ≡ map f held
 map_left f same i next [] = refl
 map_left f same zero next (s ∷ held) = ap (λ x. x ∷ map f held) (same s next)
 map_left f same (suc i) next (s ∷ held) = ap (λ xs. f s ∷ xs) (map_left f same i next held)
 
--- the one at the position needs the other thing
+-- the station at the position wants the other thing
 pub at_left : (i : ℕ) (next : Wants) (held : List Station) → slice_get (left_wanting i next held) i ≡ option_map (now_wants next) (slice_get held i)
 at_left i next [] = refl
 at_left zero next (s ∷ held) = refl
 at_left (suc i) next (s ∷ held) = at_left i next held
 
--- and no other is touched
+-- a station in another place isn't touched
 pub others_left : (i : ℕ) (next : Wants) (held : List Station) (k : ℕ) → k ≢ i → slice_get (left_wanting i next held) k ≡ slice_get held k
 others_left i next [] k ne = refl
 others_left zero next (s ∷ held) zero ne = absurd (ne refl)
@@ -55,7 +55,7 @@ others_left zero next (s ∷ held) (suc k) ne = refl
 others_left (suc i) next (s ∷ held) zero ne = refl
 others_left (suc i) next (s ∷ held) (suc k) ne = others_left i next held k (λ same. ne (ap suc same))
 
--- ---- the place
+-- ---- the place that is left
 
 module _ (places places2 : List Occupant) (p : ℕ) (next : Wants) (here : get_or places2 p nobody ≡ wanting next (get_or places p nobody)) (others : (q : ℕ) → q ≢ p → get_or places2 q nobody ≡ get_or places q nobody) where
   held_others : (ages : List ℕ) → ((k d : ℕ) → k < length ages → get_or ages k d ≢ p) → held_of places2 ages ≡ held_of places ages
@@ -73,14 +73,14 @@ module _ (places places2 : List Occupant) (p : ℕ) (next : Wants) (here : get_o
       ap₂ (λ o ss. station q o ∷ ss) (others q (λ same. differ 0 (suc i) p (omega arith) (omega (arith, lt)) (same ∙ at)))
       (held_left ages i (λ j k d l m. differ (suc j) (suc k) d (omega (arith, l)) (omega (arith, m))) (omega (arith, lt)) at)
 
-  -- what is awaited there is as before
+  -- the words that tell who awaits a serial do so still, once a station wants something else
   pub marked_left : (waiters : List ℕ) → MarkWaiters places waiters → MarkWaiters places2 waiters
   marked_left waiters m group q h = elim (cases_eq q p) [
     | inl same ↦ m group q (sym (ap (awaits_in group) (ap (λ k. get_or places2 k nobody) same ∙ here ∙ ap (λ k. wanting next (get_or places k nobody)) (sym same))) ∙ h)
     | inr ne ↦ m group q (sym (ap (awaits_in group) (others q ne)) ∙ h)
   ]
 
--- those that are taken differ
+-- the places that are taken differ from one another
 pub taken_differ : (room : ℕ) (ages free : List ℕ) → IsPermutation (range_with_len 0 room) (ages ++ free) → AllPairs (λ a b. a ≢ b) ages
 taken_differ room ages free once i j d lt l same =
     let all = length-append ages free in

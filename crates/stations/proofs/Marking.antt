@@ -12,7 +12,7 @@ use Rattle.stations.specs.Stations.{MarksAble, Station, able_as, is_able}
 use Rattle.stations.specs.Places.{MarkWaiting, awaited, held_of, nobody, station_in}
 use Rattle.stations.proofs.Taken.{apart_at}
 
--- ---- the word
+-- ---- the word of flags
 
 apart_able : (t w : ℕ) (b : Bool) → t ≡ 1 → w ≡ one_if (not b) → (t + min t w) % 2 ≡ one_if b
 apart_able t w true et ew = omega (arith, et, ew)
@@ -33,7 +33,7 @@ marks_able places ages taken waiting below few m set i s from is =
     ∙ apart_able (bit_at taken p) (bit_at waiting p) (able_as o.wants (awaited o)) (set i 0 lt) (m p (omega (arith, low, few)))
     ∙ ap (λ (s : Station). one_if (is_able s)) (sym e)
 
--- ---- one entry
+-- ---- one entry and its flag
 
 same_bit : (a b : Bool) → one_if a ≡ one_if b → a ≡ b
 same_bit true true h = refl
@@ -58,7 +58,7 @@ place_is : (o : Option Station) (place : ℕ) (s : Station) → option_map (λ s
 place_is None place s at is = absurd (cc)
 place_is (Some t) place s at is = cc
 
--- those behind it keep their marks
+-- the stations behind one keep their flags, where only that station's flag changes
 pub marks_behind : (held : List Station) (i place marks left : ℕ) → i < length held → option_map (λ s. s.place) (slice_get held i) ≡ Some place → AllPairs (λ a b. a.place ≢ b.place) held → All (λ s. s.place < 96) held →
     MarksAble held i marks → ((b : ℕ) → b < 128 → b ≢ place → bit_at left b ≡ bit_at marks b) → MarksAble held (i + 1) left
 marks_behind held i place marks left lt at differ few m others j s from is =
@@ -69,7 +69,7 @@ marks_behind held i place marks left lt at differ few m others j s from is =
     let apart : s.place ≢ place = λ same. differ i j s (omega (arith, from)) within (sym first ∙ sym same ∙ ap (λ (t : Station). t.place) (sym own)) in
     others s.place (omega (arith, small)) apart ∙ m j s (omega (arith, from)) is
 
--- its place is small
+-- the place of a station is small enough for a bit of the word
 pub marked_low : (held : List Station) (i place : ℕ) → i < length held → option_map (λ s. s.place) (slice_get held i) ≡ Some place → All (λ s. s.place < 96) held → place < 128
 marked_low held i place lt at few =
     low (slice_get held i) place at (λ s e. subst (λ (t : Station). t.place < 96) (get_or_from_slice_get held i s s e) (few i s lt))

@@ -25,12 +25,12 @@ pub all_differ : (room : ℕ) (numbers : List ℕ) → IsPermutation (range_with
 all_differ room numbers once =
     AllPairs-from_IsDistinct Decides-eqb numbers (IsDistinct-IsPermutation (λ a b. a == b) flips (range_with_len 0 room) numbers once (IsDistinct-from_AllPairs Decides-eqb (range_with_len 0 room) (range_differs room)))
 
--- each is a place's
+-- every number of a permutation of the places is a place's
 pub all_below : (room : ℕ) (numbers : List ℕ) → IsPermutation (range_with_len 0 room) numbers → All (λ p. p < room) numbers
 all_below room numbers once =
     All-permutation (λ p. p < room) (range_with_len 0 room) numbers once (λ k d l. let n = length-range_with_len 0 room in let e = get_or-range_with_len 0 room k d (omega arith) in omega (arith, e, n, l))
 
--- those that are taken are places'
+-- the numbers of taken places are below the number of places
 pub taken_below : (room : ℕ) (ages free : List ℕ) → IsPermutation (range_with_len 0 room) (ages ++ free) → All (λ p. p < room) ages
 taken_below room ages free once k d lt =
     let longer = length-append ages free in

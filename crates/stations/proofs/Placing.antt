@@ -19,7 +19,7 @@ Once places numbers = IsPermutation (range_with_len 0 (length places)) numbers
 pub range_more : (n : ℕ) → range_with_len 0 (n + 1) ≡ range_with_len 0 n ++ n ∷ []
 range_more n = sym (map-id (range_with_len 0 (n + 1))) ∙ map-range_with_len_more (λ k. k) 0 n n (omega arith) ∙ ap (λ ns. ns ++ n ∷ []) (map-id (range_with_len 0 n))
 
--- ---- one more waits
+-- ---- one more entry waits
 
 -- the entry is seen as it was made
 pub new_station : (p : ℕ) (o : Occupant) (serial : ℕ) (wants : Wants) (awaits : List (Option ℕ)) → o.serial ≡ serial → o.wants ≡ wants → awaited o ≡ awaits → station p o ≡ record { serial = serial; wants = wants; awaits = awaits; place = p }
@@ -47,7 +47,7 @@ module _ (places : List Occupant) (ages free rest : List ℕ) (p : ℕ) (o : Occ
     rise = subst Rise (sym held_push) (all_pairs_push (λ a b. a.serial < b.serial) (held_of places ages) (station p o) s.rise y);
   }
 
--- ---- one fewer waits
+-- ---- one entry fewer waits
 
 map_remove : {X Y : Type 0} (f : X → Y) (xs : List X) (i : ℕ) → map f (remove xs i) ≡ remove (map f xs) i
 map_remove f xs i = map-append f (take i xs) (drop (suc i) xs) ∙ sym (ap₂ (λ a b. a ++ b) (take-map f i xs) (drop-map f (suc i) xs))

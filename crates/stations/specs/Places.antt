@@ -8,7 +8,7 @@ use Rattle.stations.specs.declared.wants.Wants.{Wants}
 use Rattle.stations.specs.declared.wants.Wants.TheVariants.{Whole}
 use Rattle.stations.specs.Stations.{Rise, Station, able_as, strike}
 
--- what an entry awaits
+-- for each of an entry's two sources the serial of the writer that it awaits, if it awaits one
 abbrev pub awaited : Occupant → List (Option ℕ)
 awaited o = o.first ∷ o.second ∷ []
 
@@ -32,12 +32,12 @@ held_of places ages = map (station_in places) ages
 abbrev pub woken : ℕ → Occupant → Occupant
 woken serial o = record o { first = strike serial o.first; second = strike serial o.second }
 
--- each place is named once, as taken or as free, and no other is; serials rise with age
+-- every place is named once, as taken or as free, and nothing else is; serials rise with age
 pub record Placed (places : List Occupant) (ages free : List ℕ) : Type 0 where
   pub once : IsPermutation (range_with_len 0 (length places)) (ages ++ free)
   pub rise : Rise (held_of places ages)
 
--- there is an entry, and it passes the test
+-- there is a station, and it passes the test
 abbrev pub passes : (Station → Bool) → Option Station → Bool
 passes test None = false
 passes test (Some s) = test s

@@ -8,7 +8,8 @@ use Rattle.stations.specs.declared.wants.Part.TheVariants as part
 use Rattle.stations.specs.declared.wants.Wants.{Wants}
 use Rattle.stations.specs.declared.wants.Wants.TheVariants as wants
 
--- an entry that waits: what it needs before it or a part of it may issue, the serials that it awaits, at most two, and the place that it has
+-- an entry that waits: what it needs before it or a part of it may issue, the serials that it awaits, at most two, and the place that it
+-- has
 pub record Station : Type 0 where
   pub serial : ℕ
   pub wants : Wants
@@ -24,7 +25,7 @@ pub record Stations : Type 0 where
 abbrev pub Rise : List Station → Type 0
 Rise held = AllPairs (λ a b. a.serial < b.serial) held
 
--- what is awaited, but for this serial
+-- what a source awaits, but for this serial
 abbrev pub strike : ℕ → Option ℕ → Option ℕ
 strike serial None = None
 strike serial (Some awaited) = if awaited == serial then None else Some awaited

@@ -1,4 +1,4 @@
-//! The stations by age.
+//! The stations by age, each entry in a place of its own.
 ghost use Rattle.std.specs.Prelude.{◌≡◌, ◌≢◌, ◌+◌, ◌-◌, ◌<◌, ◌≤◌, ℕ, [], ◌∷◌, ◌++◌, length, map, IfOk, Some, slice_get, nat_lt, nat_le};
 ghost use Rattle.std.specs.List.{filter, list_any, remove, All, AllPairs};
 ghost use Rattle.std.specs.Option.{option_map};
@@ -66,7 +66,7 @@ impl Stations {
         })
     }
 
-    /// How many entries wait.
+    /// How many entries wait in stations.
     pub fn len(&self) -> u32
         ensures len { result ≡ length self.now.held }
         ensures within { result ≤ self.now.room }
@@ -97,7 +97,7 @@ impl Stations {
         push_within(&mut self.ages, place);
     }
 
-    /// Tells all that the entry with a serial is Done: none awaits it any more.
+    /// Tells all stations that the entry with this serial gives its value: none awaits it any more.
     pub fn wake(&mut self, serial: u64)
         ensures { self.new ≡ record self.old { held = map (struck serial) self.old.held } }
     {
@@ -133,10 +133,11 @@ impl Stations {
         !has_wide_bit(self.waiting, self.ages[i as usize])
     }
 
-    /// A word that marks which entries may issue, or a part of them.
+    /// A word with a bit set for the place of each entry that may issue, or of which a part may.
     pub fn able_marks(&self) -> u128
         ensures { MarksAble self.now.held 0 result }
     {
+        // The taken places that don't wait, by the two operations of whose bits the proof speaks.
         self.taken ^ (self.taken & self.waiting)
     }
 

@@ -8,17 +8,17 @@ use crate::wants::{Part, Wants};
 /// An entry that waits, and the serials that it awaits.
 #[derive(Clone, Copy, Debug, PartialEq, Eq)]
 pub struct Occupant {
-    /// Its serial.
+    /// The serial of the entry.
     pub serial: u64,
-    /// What it, or a part of it, needs before it may issue.
+    /// What the entry, or a part of it, needs before it may issue.
     pub wants: Wants,
-    /// The writer of its first source, if it is awaited.
+    /// The writer of the entry's first source, if it is awaited.
     pub first: Option<u64>,
-    /// The writer of its second source, if it is awaited.
+    /// The writer of the entry's second source, if it is awaited.
     pub second: Option<u64>,
 }
 
-// This serial is awaited no longer.
+// Takes the serial out, where it is the one that is awaited.
 fn strike(awaited: &mut Option<u64>, serial: u64)
     ensures { awaited.new ≡ strike serial awaited.old }
 {
@@ -107,7 +107,7 @@ impl Occupant {
         }
     }
 
-    /// Whether it awaits a serial of this group.
+    /// Whether the entry awaits a serial of this group.
     pub fn awaits_in(&self, group: u64) -> bool
         ensures { result ≡ awaits_in group self.now }
     {

@@ -7,7 +7,7 @@ use crate::occupant::Occupant;
 use rv_types::NoMemory;
 use std::alloc::Global;
 
-/// So many places, which no entry has had. The one error is want of memory.
+/// A row of so many places, which no entry has had. The one error is want of memory.
 pub fn empty_places(alloc: Global, room: u32) -> Result<Vec<Occupant>, NoMemory>
     ensures items { IfOk result (λ v. v.items ≡ replicate room nobody) }
     ensures len { IfOk result (λ v. vec_len v ≡ room) }

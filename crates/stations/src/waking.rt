@@ -1,4 +1,4 @@
-//! Who may await a serial: marks, so that who becomes Done wakes those alone.
+//! Who may await a serial: bits of words, so that an entry that gives its value wakes those alone.
 ghost use Rattle.std.specs.Prelude.{◌≡◌, ◌≢◌, ◌+◌, ◌%◌, ◌<◌, ◌≤◌, ℕ, true, min, slice_index, slice_index_or, vec_len};
 ghost use Rattle.std.specs.Int.{bit_at};
 ghost use Rattle.word_bits.specs.Bits.{NextBit, one_if};
@@ -8,7 +8,7 @@ use crate::occupant::Occupant;
 use crate::wants::Wants;
 use word_bits::{next_wide_bit, with_wide_bit};
 
-/// Serials are grouped by their remainder by this number.
+/// How many groups of serials there are: a serial's group is its remainder by this number.
 pub const GROUPS: usize = 64;
 
 // A place is marked for what one source of its entry awaits.

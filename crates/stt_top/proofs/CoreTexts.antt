@@ -23,7 +23,7 @@ use Rattle.pair_run.specs.Running.{trace_from, ending_at}
 use Rattle.stt_top.specs.Clocking.{run_from, report_from, CameTo}
 use Rattle.stt_top.proofs.Turns.{same_hart}
 
--- ---- The trace
+-- ---- The trace of a run
 
 -- a part of the rows is a part of the trace
 pub rows_alone : (d : Desc) (code : Code) (n : ℕ) (x : Machine) (s t : Told) → WrotePart (rows_text (rows d code n x)) s t → WrotePart (trace_text (trace_from d code n x)) s t
@@ -44,7 +44,7 @@ trace_cut d code n x y ending s t u c e w =
     rw (trace_parts (trace_from d code n x))
     (wrote_then_part (rows_text (rows d code n x)) (end_line (ending_at (after_cycles d code n x))) s t u c.lines (subst P (e ∙ ap ending_at c.last) w))
 
--- ---- The report
+-- ---- The report of a run
 
 -- a part of the output is a part of the report
 pub output_alone : (before : Ram) (d : Desc) (code : Code) (n : ℕ) (x : Machine) (s t : Told) → WrotePart (piece_lines (pieces d code n x)) s t
@@ -79,9 +79,9 @@ core_report_cut before d code n x y pc regs ram ending s t u c p q m e w =
     (wrote_then_part (piece_lines (pieces d code n x)) (state_text (hart_of z) before (ending_at z)) s t u c.lines
     (subst P (last_state before d code n x y pc regs ram ending c.last p q m e) w))
 
--- ---- Memory
+-- ---- Memory over a run
 
--- sizes, and memory where it lay in x
+-- the sizes of a machine, and its memory where the memory of x lay
 record Kept (d : Desc) (x y : Machine) : Type 0 where
   sized : Sized d y
   shape : SameShape x.ram y.ram

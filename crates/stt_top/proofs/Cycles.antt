@@ -18,7 +18,7 @@ use Rattle.stt_top.specs.Clocking.{CameTo}
 
 -- ---- Any text of a run
 
--- of n cycles from x, i are done and led to y; of the text of so many cycles from a state, the lines so far are written
+-- i of the n cycles from x are done and led to y, and the lines of a text of the n cycles are written up to those of the cycles left
 pub record LinesLeft (text : ℕ → Machine → List ℕ) (d : Desc) (code : Code) (n i : ℕ) (x y : Machine) (old new : Told) : Type 0 where
   pub left : Left d code n i x y
   pub lines : WroteUpTo (text n x) (text (n - i) y) old new
@@ -42,7 +42,7 @@ module _ (text : ℕ → Machine → List ℕ) (d : Desc) (code : Code) (n : ℕ
       let P : List ℕ → Type 0 = λ rest. WroteUpTo (text n x) rest told t in
       record { lines = up_to_end _ _ _ (subst P none l.lines); last = last }
 
--- ---- The rows
+-- ---- The rows of a run
 
 abbrev pub row_lines : Desc → Code → ℕ → Machine → List ℕ
 row_lines d code k y = rows_text (rows d code k y)
@@ -75,7 +75,7 @@ pub rows_done : (d : Desc) (code : Code) (n i : ℕ) (x y : Machine) (told t : T
 rows_done d code n i x y told t h l =
     lines_done (row_lines d code) d code n x i y told t (ap (λ k. row_lines d code k y) (none_left n i h) ∙ rows_text_none) (left_done d code n i x y h l.left) l
 
--- ---- The output
+-- ---- The output of a run
 
 abbrev pub output_lines : Desc → Code → ℕ → Machine → List ℕ
 output_lines d code k y = piece_lines (pieces d code k y)

@@ -26,7 +26,7 @@ use Rattle.stt_top.specs.Work.{TaskText, report_task, trace_task, pair_task, Per
 use Rattle.run_inputs.specs.Told.{world}
 use Rattle.stt_top.specs.Top.{Runs, Ends}
 
--- ---- Tasks
+-- ---- Tasks, and what is written
 
 -- anything of a core that starts with an image is that of the machine there
 at_start : {A : Type 0} (f : Desc → Code → Machine → A) (image : ImageText) (desc d : Desc) (code : Code) (x : Machine) → Starts image desc d code x
@@ -34,7 +34,7 @@ at_start : {A : Type 0} (f : Desc → Code → Machine → A) (image : ImageText
 at_start f image desc d code x s =
     ap (λ k. f k code x) s.desc_is ∙ (ap (λ k. f desc k x) s.code_is ∙ ap (f desc image.code) s.machine_is)
 
--- so is the part of a trace, or of a report, that a failing sink has taken
+-- the part of a trace that a failing sink has taken is one of the task's trace; below, of its report
 pub trace_part : (image : ImageText) (desc d : Desc) (code : Code) (x : Machine) (n : ℕ) (out out' : Told) → Starts image desc d code x
     → WrotePart (trace_text (trace_from d code n x)) out out' → Performs (trace_task desc image n) out out' (Err Write)
 trace_part image desc d code x n out out' s w =
@@ -61,9 +61,9 @@ pub compared_part : (d : Desc) (one two : ImageText) (n : ℕ) (answer : PairAns
     → Performs (pair_task d one two n) out out' (Err Write)
 compared_part d one two n answer out out' a w = (pair_work answer, (answer, a, refl), w)
 
--- ---- The program
+-- ---- The program as a whole
 
--- what it asks for is done
+-- what the words ask for is done, once their task is performed
 pub task_end : (words : List (List ℕ)) (old new : Shelf) (out out' : Told) (command : CommandText) (task : TaskText) (r : Result Ended Refusal) → command_of words ≡ Some command
     → Runs command old new task → Performs task out out' r → Ends words (world old out) (world new out') r
 task_end words old new out out' command task (Ok ended) k c p = (command, k, (record { task = task; runs = c; work = p.0; comes_to = p.1 }, p.2, p.3))

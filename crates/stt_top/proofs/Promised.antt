@@ -32,14 +32,14 @@ use Rattle.stt_top.specs.Promises.{Commits, MovesOn, Hides, Compares, Keeps, Pro
 use Rattle.stt_top.proofs.Tasks.{SuitedTask, task_suited}
 use Rattle.stt_top.proofs.Statuses.{statuses_at}
 
--- ---- Committed state
+-- ---- Committed state of a run
 
 -- the law of committed state, of an image
 committed : (d : Desc) (image : ImageText) (n : ℕ) → Aligned image.code
     → Committed image.code (start image.entry image.ram) (state_at d image n).retired (state_at d image n) (pieces d image.code n (opening_of d image))
 committed d image n al = run_commits d image.code image.entry image.ram n al
 
--- so the machine's report is that of the instruction set's run
+-- the report of the machine's run is that of the instruction set's run
 commits : (d : Desc) (image : ImageText) (n : ℕ) (out out' : Told) → Aligned image.code → Wrote (run_work d image n).text out out' → Commits d image n out out'
 commits d image n out out' al w =
     let c = committed d image n al in
@@ -53,7 +53,7 @@ commits d image n out out' al w =
       trap = subst (λ s. TrapsNext image.code s end) (sym (ap (λ (r : Run). r.last) c.runs)) c.trap;
     }
 
--- ---- Progress
+-- ---- Progress of a run
 
 moves_on : (d : Desc) (image : ImageText) (n : ℕ) → Allows d image.ram → MovesOn d image n
 moves_on d image n allows = record {
@@ -62,7 +62,7 @@ moves_on d image n allows = record {
       subst P (sym q) (λ f. retires_in_budget d image.code image.entry image.ram m (every_desc d) allows f) e;
 }
 
--- ---- Noninterference
+-- ---- Noninterference of two runs
 
 hides : (d : Desc) (image : ImageText) (n : ℕ) (out out' : Told) → Aligned image.code → Wrote (text.trace_text (trace_of d image n)) out out' → Hides d image n out out'
 hides d image n out out' al w = record {
@@ -75,7 +75,7 @@ traces_agree d a b one two n protected f g e c agree =
     let first : trace_of d two n ≡ trace d one.code one.entry two.ram n = ap (λ (x : ℕ). trace d two.code x two.ram n) e ∙ ap (λ (x : Code). trace d x one.entry two.ram n) c in
     ap text.trace_text (first ∙ same_trace d one.code one.entry one.ram two.ram n protected (at_words a _ _ _ one f) agree)
 
--- and so the answer on two images whose premise is true is that their runs are the same
+-- the answer on two images whose premise is true is that their runs are the same
 compares : (d : Desc) (one two : ImageText) (n : ℕ) (answer : PairAnswer) (out out' : Told) → Aligned one.code → Answers d one two n answer → Wrote (comparison answer) out out'
     → Compares d one two n out out'
 compares d one two n answer out out' al a w = record {
@@ -85,7 +85,7 @@ compares d one two n answer out out' al a w = record {
   equal = λ protected t. one_trace (trace_of d one n) (trace_of d two n) answer.first (premise_traces d one two n protected al (a.premise.0 t)) a.first;
 }
 
--- ---- The program
+-- ---- The program as a whole
 
 -- a task whose whole text is written keeps what is promised besides
 keeps : (task : TaskText) (work : Work) (out out' : Told) → SuitedTask task → ComesTo task work → Wrote work.text out out' → Keeps task out out'
@@ -101,6 +101,6 @@ promises words old new status s = record {
       (a.0, a.1, (d.task, d.runs, keeps d.task d.work old.out new.out (task_suited a.0 old.files new.files d.task d.runs) d.comes_to a.2.1));
 }
 
--- so does the program, with the status of how it ended
+-- the program keeps its promises, with the status of how it ended
 pub promises_at : (words : List (List ℕ)) (old new : World) (r : Result Ended Refusal) (status : ℕ) → Ends words old new r → status ≡ status_of r → Promises words old new status
 promises_at words old new r status e s = promises words old new status (statuses_at words old new r status e s)

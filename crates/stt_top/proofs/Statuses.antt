@@ -40,7 +40,7 @@ run_status Budget = inr (inr refl)
 run_status Alike = inl refl
 run_status Unlike = inr (inl refl)
 
--- so it has no other
+-- a status that is no run's isn't the status of a command whose text is written whole
 other_status : (e : Ended) (n : ℕ) → (IsRun n → ⊥) → status_of (Ok e) ≡ n → ⊥
 other_status e n h q = h (subst IsRun q (run_status e))
 
@@ -134,7 +134,7 @@ module _ (words : List (List ℕ)) (old new : World) where
   not_six (Err Write) e h = e.2.0.runs.read.counts
   not_six (Err Memory) e h = e.0
 
-  -- all refusals but that of a write write nothing
+  -- every refusal but that of a write wrote nothing
   wrote_nothing : (e : Refusal) → Ends words old new (Err e) → (status_of (Err e) ≡ 7 → ⊥) → new.out ≡ old.out
   wrote_nothing Words e h = e.2
   wrote_nothing Write e h = absurd (h refl)
@@ -158,7 +158,7 @@ module _ (words : List (List ℕ)) (old new : World) where
   no_command (Err Memory) e h = inr refl
   no_command (Err _) e h = absurd (clash e.0.1 h)
 
-  -- of the command that the words give
+  -- what an outcome says of the command that the words give
   module _ (command : CommandText) (k : command_of words ≡ Some command) where
     whole : (ended : Ended) → Ends words old new (Ok ended) → (done : Done command old new) × Wrote done.work.text old.out new.out × (ended ≡ done.work.ended)
     whole ended a = of_command words (λ c. (done : Done c old new) × Wrote done.work.text old.out new.out × (ended ≡ done.work.ended)) command k a
@@ -190,7 +190,7 @@ module _ (words : List (List ℕ)) (old new : World) where
         absurd (no_desc old.files (description_name command) d.runs.desc name text m t d.runs.read.described x)
     faulty_description (Err Memory) e name text m t x = inr (inr refl)
 
-    -- and where the files tell its description
+    -- what an outcome says where the files tell the command's description
     module _ (desc : Option Desc) (told : TellsDesc old.files (description_name command) desc) where
       -- a command that is done had that description
       done_desc : (d : Done command old new) → d.runs.desc ≡ desc
@@ -214,7 +214,7 @@ module _ (words : List (List ℕ)) (old new : World) where
       faulty_image (Err Write) e place from file a t x = absurd (done_faulty (cut e).0 place from file a t x)
       faulty_image (Err Memory) e place from file a t x = inr (inr refl)
 
-      -- and its images
+      -- what an outcome says where the files tell the command's images too
       module _ (images : List ImageText) (all : TellsImages old.files desc (sources command) images) where
         same_task : (d : Done command old new) (task : TaskText) → task_of command desc images ≡ Some task → d.task ≡ task
         same_task d task m =
@@ -276,6 +276,6 @@ statuses words old new r e = record {
   complete = λ command desc images task k t a m files sink. complete words old new command k desc t images a r e task m files sink;
 }
 
--- so for the status that is answered
+-- what is said of an outcome is said of the status that is answered
 pub statuses_at : (words : List (List ℕ)) (old new : World) (r : Result Ended Refusal) (status : ℕ) → Ends words old new r → status ≡ status_of r → Statuses words old new status
 statuses_at words old new r status e s = subst (Statuses words old new) (sym s) (statuses words old new r e)

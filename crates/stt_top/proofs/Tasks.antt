@@ -32,7 +32,7 @@ abbrev SuitsBy : Option Desc → ImageText → Type 0
 SuitsBy None image = Unit {0}
 SuitsBy (Some d) image = Suits d image
 
--- and so each of these images
+-- every one of the images suits the description, if there is one
 abbrev AllSuit : Option Desc → List ImageText → Type 0
 AllSuit desc [] = Unit {0}
 AllSuit desc (image ∷ images) = SuitsBy desc image × AllSuit desc images
@@ -50,7 +50,7 @@ all_suit shelf desc [] (x ∷ xs) a = absurd a
 all_suit shelf desc (from ∷ rest) [] a = absurd a
 all_suit shelf desc (from ∷ rest) (image ∷ images) a = (suits desc a.0.file image a.0.loads, all_suit shelf desc rest images a.1)
 
--- and that which a machine's run is of, or the first of its runs
+-- the image that the machine runs for a task suits its description; of two images the first does
 abbrev pub SuitedTask : TaskText → Type 0
 SuitedTask (isa_task image steps) = Unit {0}
 SuitedTask (report_task d image cycles) = Suits d image

@@ -17,7 +17,7 @@ use Rattle.tool_io.proofs.Writing.{WroteUpTo, up_to_start, up_to_more, up_to_par
 use Rattle.stt_top.specs.Running.{RanAs}
 use Rattle.isa_step.proofs.Shape.{run_keeps}
 
--- of the whole run all but the rest is done, and the lines of its output are written so far
+-- a run with so much done that the rest is left, and with the lines of its output written so far
 pub record Turned (whole rest : Run) (done : ℕ) (old new : Told) : Type 0 where
   pub rest_is : Rest whole rest done
   pub lines : WroteUpTo (piece_lines whole.pieces) (piece_lines rest.pieces) old new
@@ -27,7 +27,7 @@ at_start code s n t =
     let e : n - 0 ≡ n = omega arith in
     record { rest_is = runs.at_start code s n; lines = rw e (up_to_start _ t) }
 
--- one more step is left
+-- a run of which steps are left has one step more
 one_more : (n i : ℕ) → i < n → n - i ≡ suc (n - (i + 1))
 one_more n i h = omega arith
 

@@ -20,7 +20,7 @@ run_from d code n x =
     let last = after_cycles d code n x in
     record { last = hart_of last; pieces = pieces d code n x; steps = last.retired; ended = last.end }
 
--- its report, which counts the cycles
+-- the report of a core's run, which counts the cycles
 abbrev pub report_from : Ram → Desc → Code → ℕ → Machine → List ℕ
 report_from before d code n x = report_text before (run_from d code n x) (Some (after_cycles d code n x).cycle)
 
@@ -43,6 +43,6 @@ WritesPieces d code n x y old new result =
 abbrev pub TellsTrace : Desc → Code → ℕ → Machine → Told → Told → Result Ended Failed → Type 0
 TellsTrace d code n x old new result = Tells (trace_text (trace_from d code n x)) (trace_from d code n x).end old new result
 
--- so is its report
+-- the report of a core's run is written, whole and with how the run ended, or in part
 abbrev pub TellsReport : Ram → Desc → Code → ℕ → Machine → Told → Told → Result Ended Failed → Type 0
 TellsReport before d code n x old new result = Tells (report_from before d code n x) (run_from d code n x).ended old new result

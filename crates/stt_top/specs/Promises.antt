@@ -23,7 +23,7 @@ use Rattle.stt_top.specs.Work.{TaskText, isa_task, report_task, trace_task, pair
 use Rattle.stt_top.specs.Top.{Asks, Runs, IsRun}
 use Rattle.run_inputs.specs.Told.{World}
 
--- ---- Committed state
+-- ---- Committed state of a run
 
 -- the instruction set's run of an image, of as many steps as the machine retires in n cycles
 abbrev pub retired_run : Desc → ImageText → ℕ → Run
@@ -37,7 +37,7 @@ pub record Commits (d : Desc) (image : ImageText) (n : ℕ) (out out' : Told) : 
   pub exit : (retired_run d image n).ended ≡ exit_of (trace_of d image n).end
   pub trap : TrapsNext image.code (retired_run d image n).last (trace_of d image n).end
 
--- ---- Progress
+-- ---- Progress of a run
 
 -- the machine after k cycles, fewer where the run ended
 abbrev pub state_at : Desc → ImageText → ℕ → Machine
@@ -49,7 +49,7 @@ pub record MovesOn (d : Desc) (image : ImageText) (n : ℕ) : Type 0 where
   pub one : (k : ℕ) → k + bound d ≤ n → (state_at d image (k + bound d)).end ≡ None → (state_at d image k).retired < (state_at d image (k + bound d)).retired
   pub many : (m : ℕ) → n ≡ m * bound d → (trace_of d image n).end ≡ None → m ≤ (trace_of d image n).retired
 
--- ---- Noninterference
+-- ---- Noninterference of two runs
 
 -- the image with another memory
 abbrev pub with_memory : ImageText → Ram → ImageText
@@ -77,7 +77,7 @@ pub record Compares (d : Desc) (one two : ImageText) (n : ℕ) (out out' : Told)
   pub text : Wrote (comparison answer) out out'
   pub equal : protects d.stt_model ≡ true → IsTrue answer.premise → answer.first ≡ Same
 
--- ---- The program
+-- ---- The program as a whole
 
 -- what a command that asks for this keeps besides
 abbrev pub Keeps : TaskText → Told → Told → Type 0

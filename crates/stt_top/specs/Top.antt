@@ -18,7 +18,7 @@ use Rattle.run_inputs.specs.Told.{World, IsFaultyDescription, TellsDesc, TellsBy
 use Rattle.stt_top.specs.declared.task.Task.{Task}
 use Rattle.stt_top.specs.Work.{TaskText, task_of, task_text, Work, ComesTo}
 
--- ---- Commands
+-- ---- Commands and what they read
 
 -- where a command's images come from, in the order in which they are read: that of bench is generated, and pair has two
 abbrev pub sources : CommandText → List ImageFrom
@@ -51,7 +51,7 @@ CommandRefused command old new refusal = Refuses (description_name command) (sou
 abbrev pub ReadsTask : CommandText → Shelf → Shelf → Result Task Refusal → Type 0
 ReadsTask command old new result = MatchResult result (λ task. Runs command old new (task_text task)) (CommandRefused command old new)
 
--- and the task comes to this
+-- a command is done: it had this task, and the task comes to this work
 pub record Done (command : CommandText) (old new : World) : Type 0 where
   pub task : TaskText
   pub runs : Runs command old.files new.files task
@@ -71,7 +71,7 @@ Ends words old new (Err Words) = (command_of words ≡ None) × SameCounts old.f
 Ends words old new (Err Memory) = SameCounts old.files new.files × (new.out ≡ old.out)
 Ends words old new (Err refusal) = Asks words (λ command. CommandRefused command old.files new.files refusal) × (new.out ≡ old.out)
 
--- ---- The statuses
+-- ---- The statuses of the program
 
 -- the image at this place of a command comes from there
 abbrev pub IsAt : CommandText → ℕ → ImageFrom → Type 0

@@ -13,7 +13,7 @@ use tool_io::{Failed, Sink};
 use trace_text::{write_end, write_row_with};
 use window_model::{Clocked, empty_row};
 
-// At most so many cycles: the row of each by one put.
+// Runs at most so many cycles, and writes the row of each by one put.
 fn write_rows<C: Clocked, S: Sink>(core: &mut C, cycles: u32, out: &mut S) -> Result<(), Failed>
     requires few { (C.machine core.old).cycle + cycles < 2 ^ 32 }
     ensures { WritesRows (C.desc core.old) (C.code core.old) cycles (C.machine core.old) (C.machine core.new)
@@ -32,7 +32,7 @@ fn write_rows<C: Clocked, S: Sink>(core: &mut C, cycles: u32, out: &mut S) -> Re
     Ok(())
 }
 
-// At most so many cycles: the output of each as it comes.
+// Runs at most so many cycles, and writes the output of each as it comes.
 fn write_pieces<C: Clocked, S: Sink>(core: &mut C, cycles: u32, out: &mut S) -> Result<(), Failed>
     requires few { (C.machine core.old).cycle + cycles < 2 ^ 32 }
     ensures { WritesPieces (C.desc core.old) (C.code core.old) cycles (C.machine core.old) (C.machine core.new)

@@ -9,15 +9,15 @@ use rv_types::End;
 /// How a command ended whose text is written whole.
 #[derive(Clone, Copy, Debug, PartialEq, Eq)]
 pub enum Ended {
-    /// Its run ended by an exit call, whatever its value.
+    /// The run ended by an exit call, whatever its value.
     Exit,
-    /// Its run ended by a trap.
+    /// The run ended by a trap.
     Trap,
-    /// Its run didn't end within the budget.
+    /// The run didn't end within the budget.
     Budget,
-    /// Its two runs are the same.
+    /// The two runs that are compared are the same.
     Alike,
-    /// Its two runs differ.
+    /// The two runs that are compared differ.
     Unlike,
 }
 

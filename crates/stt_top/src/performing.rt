@@ -42,7 +42,7 @@ fn report<O: Sink>(
     Ok(ended)
 }
 
-// The same run, cycle by cycle.
+// The machine's run of an image, as a trace, cycle by cycle.
 fn trace<O: Sink>(
     alloc: Global,
     read: Described,

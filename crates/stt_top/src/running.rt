@@ -11,7 +11,7 @@ use report_text::{write_piece, write_report};
 use rv_types::{End, Ending, Piece};
 use tool_io::{Failed, Sink};
 
-// At most so many steps.
+// Runs at most so many steps, and writes the output of each as it comes.
 fn run<S: Sink>(state: &mut Isa, steps: u64, out: &mut S) -> Result<Ran, Failed>
     ensures { WritesOutput (isa (word_at state.old.code) state.old.hart steps) state.new.hart
         (S.told out.old) (S.told out.new) result }

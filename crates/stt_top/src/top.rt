@@ -18,7 +18,7 @@ use std::alloc::Global;
 use tool_io::{Files, Sink};
 use tool_words::read_words;
 
-// All but the note.
+// The outcome of the words, with its text written to the output; no note is written.
 fn answer<F: Files, O: Sink>(
     alloc: Global,
     words: &[&str],

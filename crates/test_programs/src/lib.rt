@@ -6,7 +6,7 @@
 /// `addi x17,x0,93` and `ecall`: exits with value 0.
 pub const EXIT_IN_TWO: [u32; 2] = [0x05d0_0893, 0x0000_0073];
 
-/// `jal x0,0`.
+/// `jal x0,0`: a jump to itself, without end.
 pub const ENDLESS: [u32; 1] = [0x0000_006f];
 
 /// Divisions by zero and of the least number by -1, and then an exit.
@@ -37,7 +37,7 @@ pub const WRITES: [u32; 11] = [
     0x0000_0073,
 ];
 
-/// Overwrites its own third word before it gets there.
+/// A program that overwrites its own third word before it gets there.
 pub const OVERWRITES: [u32; 4] = [0x0000_0297, 0x0002_a423, 0x05d0_0893, 0x0000_0073];
 
 /// A load that hits is done before an older one that misses.

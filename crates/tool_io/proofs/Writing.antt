@@ -6,7 +6,7 @@ use Rattle.std.proofs.lemmas.Result.{MatchResult-weaker, MatchResult-from_err}
 use Rattle.tool_io.specs.declared.Failed.{Failed}
 use Rattle.tool_io.specs.Outside.{Told, Wrote, WrotePart, Writes, Rose}
 
--- appended twice
+-- two texts that are appended one after the other are appended as one
 pub appended_twice : (o : Option (List ℕ)) (a b : List ℕ) → option_map (λ w. w ++ b) (option_map (λ w. w ++ a) o) ≡ option_map (λ w. w ++ (a ++ b)) o
 appended_twice None a b = refl
 appended_twice (Some w) a b = ap Some (append_assoc w a b)
@@ -19,7 +19,7 @@ appended_nothing (Some w) = search rules
 pub wrote_nothing : (s : Told) → Wrote [] s s
 wrote_nothing s = record { appended = sym (appended_nothing s.written); count = refl }
 
--- one text after another
+-- two texts that are written one after the other are written as one
 pub wrote_then : (a b : List ℕ) (s t u : Told) → Wrote a s t → Wrote b t u → Wrote (a ++ b) s u
 wrote_then a b s t u p q = record {
   appended = q.appended ∙ (ap (option_map (λ w. w ++ b)) p.appended ∙ appended_twice s.written a b);
@@ -37,7 +37,7 @@ wrote_then_part a b s t u p q = record {
   later = let h : t.faults ≡ s.faults = p.count in let k : t.faults ≤ u.faults = q.later in omega arith;
 }
 
--- the first bytes of a list, as the first bytes of a longer one
+-- the first bytes of a list are the first bytes of a longer one
 pub take-longer : (n : ℕ) (a b : List ℕ) → (k : ℕ) × (take k (a ++ b) ≡ take n a)
 take-longer zero a b = (0, refl)
 take-longer (suc n) [] b = (0, refl)
@@ -49,7 +49,7 @@ part_more a b s t q =
     let k = take-longer q.sent a b in
     record { sent = k.0; appended = rw k.1 q.appended; rose = q.rose; later = q.later }
 
--- Of the text `all`, all but `rest` is written.
+-- a part of the text `all` is written, and `rest` is what is left of it
 pub record WroteUpTo (all rest : List ℕ) (s t : Told) : Type 0 where
   pub text : List ℕ
   pub wrote : Wrote text s t

@@ -25,7 +25,7 @@ abbrev pub count_at : List ℕ → ℕ → Option ℕ → ℕ
 count_at counts others None = others
 count_at counts others (Some i) = slice_index counts i
 
--- what these files tell
+-- what the files in memory tell
 abbrev pub shelf_of : FilesState → Shelf
 shelf_of s = record {
   content = λ name. option_map (λ f. f.bytes) (option_and_then (λ i. slice_get s.files i) (place_of name s.files));
@@ -36,7 +36,7 @@ shelf_of s = record {
 abbrev pub IsFileFault : FilesState → List ℕ → Type 0
 IsFileFault s name = Contains s.fails (one_more s.reads) ⊎ IsNone (place_of name s.files)
 
--- what is held under the name, or nothing
+-- what the files hold under this name, or nothing
 abbrev pub held_or_empty : List MemFile → List ℕ → List ℕ
 held_or_empty files name = unwrap_or (option_map (λ f. f.bytes) (option_and_then (λ i. slice_get files i) (place_of name files))) []
 
@@ -45,7 +45,7 @@ abbrev pub fault_counted : FilesState → Option ℕ → FilesState
 fault_counted s None = record s { others = one_more s.others }
 fault_counted s (Some i) = record s { counts = slice_set s.counts i (one_more (slice_index s.counts i)) }
 
--- what they hold after the next read of this name
+-- what the files hold after the next read of this name
 abbrev pub files_after : FilesState → List ℕ → FilesState
 files_after s name =
     let after = record s { reads = one_more s.reads } in

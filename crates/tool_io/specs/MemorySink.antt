@@ -15,7 +15,7 @@ pub record SinkState : Type 0 where
 abbrev pub sent_at : ℕ → List MemFail → Option ℕ
 sent_at call fails = option_map (λ f. f.sent) (find (λ f. f.call == call) fails)
 
--- one more, as far as 64 bits go
+-- a count with one more, as far as 64 bits go
 abbrev pub one_more : ℕ → ℕ
 one_more n = min (n + 1) (2 ^ 64 - 1)
 
@@ -31,7 +31,7 @@ sent_by s piece = min (min (unwrap_or (sent_at (one_more s.calls) s.fails) (leng
 abbrev pub takes_all : SinkState → List ℕ → Bool
 takes_all s piece = is_none (sent_at (one_more s.calls) s.fails) && nat_le (length piece) (s.room - length s.bytes)
 
--- what it holds after the next put of this piece
+-- what the sink holds after the next put of this piece
 abbrev pub sink_after : SinkState → List ℕ → SinkState
 sink_after s piece = record s {
   bytes = s.bytes ++ take (sent_by s piece) piece;

@@ -62,7 +62,7 @@ impl Content {
         Content { bytes }
     }
 
-    /// The bytes.
+    /// The bytes of the content, in order.
     pub fn as_slice(&self) -> &[u8]
         ensures { result.now ≡ self.now }
     {
@@ -70,12 +70,12 @@ impl Content {
     }
 }
 
-/// What a read gives.
+/// What a read of a file gives.
 #[derive(Drop)]
 pub enum Got {
-    /// All the bytes.
+    /// The file's bytes, all of them.
     Bytes(Content),
-    /// There are more bytes than the reader wanted.
+    /// The file has more bytes than the reader wanted.
     TooLong,
 }
 

@@ -8,7 +8,7 @@ use rv_types::NoMemory;
 use std::alloc::Global;
 use std::marker::Model;
 
-/// A file in memory.
+/// A file in memory: its name and its bytes.
 #[derive(Drop)]
 pub struct MemFile {
     pub name: Content,
@@ -54,7 +54,7 @@ pub(crate) fn find_name(files: &[MemFile], name: &str) -> Option<usize>
 }
 
 impl MemFiles {
-    /// These files, of which no read has failed, and the numbers of the reads that are to fail. The one error is want of
+    /// Files of which no read has failed, and the numbers of the reads that are to fail. The one error is want of
     /// memory.
     pub fn new(alloc: Global, files: Vec<MemFile>, fails: Vec<u64>) -> Result<MemFiles, NoMemory>
         ensures { IfOk result (λ s. s ≡ record {

@@ -65,7 +65,7 @@ impl MemSink {
         })
     }
 
-    /// What was written.
+    /// The bytes that were written, in order.
     pub fn as_slice(&self) -> &[u8]
         ensures { result.now ≡ self.now.bytes }
     {

@@ -34,7 +34,7 @@ fn held_or_empty<'a>(files: &'a [MemFile], name: &str) -> &'a [u8]
 }
 
 impl NeverFails {
-    /// These files. It takes no memory.
+    /// Files of which no read fails. It takes no memory.
     pub fn new(files: Vec<MemFile>) -> NeverFails
         ensures { result ≡ files.items }
     {

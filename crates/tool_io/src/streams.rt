@@ -12,8 +12,8 @@ use std::io::{Read, Write};
 /// How many bytes one read takes at most.
 const BUFFER: usize = 4096;
 
-// All the bytes of the stream, or that there are more than `max`: it reads at most one byte more than that. Errors:
-// `Failed` where a read fails, after however many bytes; `NoMemory`, only once the stream has given bytes.
+// Reads a stream to its end: its bytes, or that there are more than `max`; it reads at most one byte more than that.
+// Errors: `Failed` where a read fails, after however many bytes; `NoMemory`, only once the stream has given bytes.
 fn read_up_to<T: Read>(alloc: Global, from: &mut T, max: usize) -> Result<Got, ReadFail>
     ensures got { IfOk result (GetsTold (T.remaining from.old) max) }
     ensures wanting { IfErr result (λ e. e ≡ ReadFail.NoMemory → HasGiven (T.remaining from.old) (T.remaining from.new)) }
@@ -35,8 +35,8 @@ fn read_up_to<T: Read>(alloc: Global, from: &mut T, max: usize) -> Result<Got, R
     Ok(Got::TooLong)
 }
 
-// All the bytes of a stream that was opened, or that there are more than `max`. Errors: `Failed` where it couldn't be opened, or
-// a read of it fails; `NoMemory`, never of a stream that tells that it is empty.
+// Reads a stream that was opened to its end: its bytes, or that there are more than `max`. Errors: `Failed` where it
+// couldn't be opened, or a read of it fails; `NoMemory`, never of a stream that tells that it is empty.
 pub(crate) fn read_opened<T: Read + Drop>(
     alloc: Global,
     opened: io::Result<T>,

@@ -43,7 +43,7 @@ read_between least most t r n bits small_most h e l m =
     let value : digits_value 10 (without_leading_plus t) ≡ n = sym p.1 in
     yes _ _ _ (Accepts-accepts false (parser.Unsigned least most) t (p.0.0, omega (arith, value, m), omega (arith, value, l), omega (arith, value, m))) value
 
--- and no other
+-- a number outside the range is not one that the parser accepts
 read_outside : {E : Type 0} (least most : ℕ) (t : List ℕ) (r : Result ℕ E) (n bits : ℕ) → ParsesUnsigned bits 10 t r → r ≡ Ok n → (least ≤ n → n ≤ most → ⊥)
     → None ≡ number_between least most t
 read_outside least most t r n bits h e x =
@@ -120,17 +120,17 @@ no_words : faults [] ≡ kind.MissingSubcommand ∷ []
 unfolding faults clap_on_literals
 no_words = refl
 
--- so no words are no command
+-- where no words are given there is no command
 pub no_words_no_command : command_of [] ≡ None
 unfolding command_of
 no_words_no_command = rw no_words refl
 
--- nor are words of which there are none
+-- where a list of words is empty there is no command
 pub empty_words : {A : Type 0} (f : A → Text) (ws : List A) → length ws ≡ 0 → command_of (map f ws) ≡ None
 empty_words f [] n = no_words_no_command
 empty_words f (w ∷ ws) n = absurd (omega (arith, n))
 
--- a command computes
+-- the words of a command compute to it
 isa_is_read : command_of (codes "isa" ∷ codes "p.elf" ∷ codes "--steps" ∷ codes "5" ∷ []) ≡ Some (isa_text (codes "p.elf") 5 None)
 unfolding command_of faults rows_in number_of clap_on_literals
 isa_is_read = refl

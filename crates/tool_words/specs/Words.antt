@@ -60,7 +60,7 @@ bare_app = let a = new_app (codes "stt") in record a {
   top = record a.top { no_binary_name = true; disable_help_flag = true; disable_help_subcommand = true; disable_version_flag = true; subcommand_required = true };
 }
 
--- the tool's commands
+-- the commands of the tool, as clap's definition takes them
 abbrev pub tool_app : App
 tool_app =
     with_subcommand (with_subcommand (with_subcommand (with_subcommand (with_subcommand bare_app isa_shape) (cycles_shape (codes "run"))) (cycles_shape (codes "trace"))) bench_shape)

@@ -62,7 +62,7 @@ pub enum Command<'a> {
 /// Why the words give no command.
 #[derive(Clone, Copy, Debug, PartialEq, Eq, Error)]
 pub enum Refused {
-    /// They are no command.
+    /// The words are no command.
     #[error("the words are no command")]
     Words,
     /// There was no memory to read them.

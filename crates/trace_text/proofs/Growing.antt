@@ -10,7 +10,7 @@ pub rows_text_more : (row : Row) (rest : List Row) → rows_text (row ∷ rest) 
 unfolding rows_text
 rows_text_more row rest = refl
 
--- no cycle, no line
+-- where there is no cycle there is no line
 pub rows_text_none : rows_text [] ≡ []
 unfolding rows_text
 rows_text_none = refl

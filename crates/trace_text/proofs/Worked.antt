@@ -1,4 +1,4 @@
--- Lines of worked runs.
+-- Lines of traces of worked runs.
 use Rattle.std.proofs.Common.{◌≡◌, [], ◌∷◌, true, Some, refl, codes}
 use Rattle.std.specs.Fmt.{digits}
 use Rattle.rv_types.specs.declared.End.TheVariants.{Exit}

@@ -46,7 +46,8 @@ pub fn write_row<S: Sink>(row: &Row, out: &mut S) -> Result<(), Failed>
     write_row_with(row, &mut draft, out)
 }
 
-/// The same by a draft that is lent, so that many rows are written on one draft. What it said before doesn't matter.
+/// Writes the line of a row by a draft that is lent, so that many rows are written on one draft. What it said before
+/// doesn't matter.
 pub fn write_row_with<S: Sink>(row: &Row, draft: &mut Draft, out: &mut S) -> Result<(), Failed>
     ensures { Writes (row_text row.now) (S.told out.old) (S.told out.new) result }
 {

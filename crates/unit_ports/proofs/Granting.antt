@@ -45,13 +45,13 @@ own Div q d b e m h = ap (λ n. n && same_port DivPort q) (and_true m)
 own Load q d b e m h = ap (λ n. n && same_port LoadPort q) (and_true m)
 own _ q d b e m h = ap (λ n. n && same_port AluPort q) (and_true m)
 
--- one more that asks
+-- the ports that are left of a kind, once one entry more has asked for its own
 fewer : (m s t : Bool) (l n a : ℕ) → t ≡ (m && s) → l ≡ n - a → (if m then (if s then l - 1 else l) else l) ≡ n - (one_if t + a)
 fewer true true t l n a p h = subst (λ t. l - 1 ≡ n - (one_if t + a)) (sym p) (omega arith)
 fewer true false t l n a p h = subst (λ t. l ≡ n - (one_if t + a)) (sym p) (omega arith)
 fewer false s t l n a p h = subst (λ t. l ≡ n - (one_if t + a)) (sym p) (omega arith)
 
--- one more that asks at this port alone
+-- the ports that are left of a kind, once one entry more has asked at this kind alone
 fewer_one : (t : Bool) (l n a : ℕ) → l ≡ n - a → (if t then l - 1 else l) ≡ n - (one_if t + a)
 fewer_one true l n a h = omega (arith, h)
 fewer_one false l n a h = omega (arith, h)
@@ -70,7 +70,7 @@ parted Store DataPort d b e m h = refl
 parted Store _ d b e m h = refl
 parted _ q d b e m h = absurd (cc)
 
--- what they leave of each port
+-- what the two parts of a store leave of each port
 both_left : (a b : Bool) (q : Port) (l : Ports) → left_at q (if_asked b DataPort (if_asked a AddressPort l)) ≡ (if part a b q then left_at q l - 1 else left_at q l)
 both_left true true q l = both q
   where

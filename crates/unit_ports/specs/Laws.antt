@@ -20,7 +20,7 @@ if_asked may port p = if may then taken_at port p else p
 abbrev pub asked : Bool → Entry → Ports → Ports
 asked may e p = if_asked may (port_for e.item.kind) p
 
--- as a cycle begins none has asked
+-- every port is left as a cycle begins, since no entry has asked yet
 abbrev pub OpensWithAll : Type 0
 OpensWithAll = (d : Desc) (now : Around) (cycle : ℕ) (p : Ports) → p.alus ≡ d.units_alus → LeftAfter d now [] (begun_at cycle p)
 

@@ -23,11 +23,11 @@ pub record Ports : Type 0 where
 abbrev pub free_divider : Divider
 free_divider = record { free_from = 0; user = None }
 
--- all ports of a cycle: as many for arithmetic as there are units, and one of each other kind
+-- the ports of a cycle as it begins: as many for arithmetic as there are units, and one of each other kind
 abbrev pub begun_at : ℕ → Ports → Ports
 begun_at cycle p = record p { cycle = cycle; alu = p.alus; mul = 1; div = 1; address_part = 1; data_part = 1; load = 1 }
 
--- all ports of cycle 0, and a divider that is free
+-- the ports of cycle 0, and a divider that is free
 abbrev pub opening : Desc → Ports
 opening d = record {
   alus = d.units_alus;

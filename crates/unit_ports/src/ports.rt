@@ -1,4 +1,4 @@
-//! The ports themselves.
+//! The ports of a cycle, and the divider.
 ghost use Rattle.std.specs.Prelude.{◌≡◌, ◌-◌, nat_lt, nat_le, Some};
 ghost use Rattle.window_model.specs.Resolve.{freed_from};
 ghost use Rattle.window_model.specs.Issue.{DataPort};
@@ -21,7 +21,7 @@ pub struct Ports {
     div: u32,
     /// For the address part of a store.
     address_part: u32,
-    /// For its data part.
+    /// For the data part of a store.
     data_part: u32,
     load: u32,
     divider: Divider,
@@ -46,7 +46,7 @@ impl Model for Ports {
 }
 
 impl Ports {
-    /// All ports of cycle 0, with a divider that is free and that none has used.
+    /// The ports of cycle 0, with a divider that is free and that no entry has used.
     pub fn new(desc: &Desc) -> Ports
         ensures { result ≡ opening desc.now }
     {
@@ -89,7 +89,8 @@ impl Ports {
         }
     }
 
-    /// Takes a port for an entry of this kind; for a store, that of its address part. False exactly where none of that port is left, and nothing changes then.
+    /// Takes a port for an entry of this kind; for a store, that of its address part. False exactly where none of that
+    /// port is left, and nothing changes then.
     pub fn grant(&mut self, kind: Kind) -> bool
         ensures granted { result ≡ nat_lt 0 (left_at (port_for kind) self.old) }
         ensures left { self.new ≡ taken_at (port_for kind) self.old }
@@ -128,7 +129,7 @@ impl Ports {
         };
     }
 
-    /// The divider.
+    /// The divider: from when on it is free, and who uses it.
     pub fn divider(&self) -> Divider
         ensures { result ≡ self.now.divider }
     {

@@ -61,7 +61,7 @@ all_pass model (e ∷ es) h = let p = past model e es h (passes model e) refl in
 
 -- ---- what the point tells of each entry
 
--- it tells whether an entry is visible
+-- the visibility point tells whether an entry is visible
 abbrev pub Tells : Point → List Entry → Entry → Type 0
 Tells p before e = nat_le e.serial p.serial ≡ visible p.model before
 
@@ -96,7 +96,7 @@ stops p f before (e ∷ es) v h q r = by_test (passes p.model e) refl (stops p f
         let c : visible p.model (e ∷ before) ≡ false = ap₂ (λ a b. a && b) t v in
         (n ∙ sym v, hidden p (e ∷ before) es c (subst (λ n. All (λ b. n < b.serial) es) m (rise_head e es r)))
 
--- all pass, and the point is past them
+-- the point tells that every entry is visible where every one lets younger ones be, and it is past them
 passes_all : (p : Point) (before es : List Entry) → visible p.model before ≡ true → stop p.model es ≡ None → All (λ e. e.serial < p.serial) es → Along (Tells p) before es
 passes_all p before [] v h a = tt
 passes_all p before (e ∷ es) v h a =
@@ -192,7 +192,7 @@ shows_all p e es h a can =
     let i = all_tell p [] (e ∷ es) h a in
     record { each = i; smaller = smaller p e es i; next = λ s a le. all_visible p.model (reverse (e ∷ es)) h; again = can }
 
--- ---- either way
+-- ---- whether it stops or not
 
 module _ (p : Point) where
   -- the point where it goes, if the model protects
@@ -214,7 +214,7 @@ module _ (p : Point) where
       either true h = goes h
       either false h = stays h
 
-  -- it can move again,
+  -- the point can move again, once it has moved over a window
   pub can_again : (window : List Entry) → Rise window → CanAdvance p window → CanAdvance (moved_over window p) window
   can_again [] r can = by_model (λ q. CanAdvance q []) [] (λ _. can) (λ _. can)
   can_again (e ∷ es) r can =
@@ -223,7 +223,7 @@ module _ (p : Point) where
       (λ h. can_past (record p { serial = next_after p.serial (e ∷ es) }) p.serial e es h refl))
       (λ _. can)
 
-  -- it stands where the contract says,
+  -- the point says of the window what the contract says, once it has moved over it
   pub has_advanced : (window : List Entry) → Rise window → ShowsAll p → All (λ e. e.serial < 2 ^ 64 - 1) window → CanAdvance p window → HasAdvanced (moved_over window p) window
   has_advanced [] r all few can = tt
   has_advanced (e ∷ es) r all few can =
@@ -240,7 +240,7 @@ module _ (p : Point) where
       by_test true q = grind (arith, nat_tests)
       by_test false q = let l : m < n = grind (arith, nat_tests) in absurd (h l)
 
-  -- and it hasn't gone back
+  -- the point hasn't gone back where it moved over a window
   pub moves_on : (window : List Entry) → Rise window → CanAdvance p window → p.serial ≤ (moved_over window p).serial
   moves_on [] r can = by_model (λ q. p.serial ≤ q.serial) [] (λ _. omega arith) (λ _. omega arith)
   moves_on (e ∷ es) r can =
@@ -293,7 +293,7 @@ module _ (p old : Point) (window : List Entry) (n next : ℕ) (found : Option �
       let m = moved in
       omega (arith, l, s, m)
 
--- under `off` it is left
+-- under `off` the point is left as it is
 pub left_advanced : (p old : Point) (window : List Entry) → p ≡ old → p.model ≡ Off → Rise window → ShowsAll p → All (λ e. e.serial < 2 ^ 64 - 1) window → CanAdvance old window → HasAdvanced old window
 left_advanced p old window same off rise all few can =
     let none : protects p.model ≡ false = ap protects off in

@@ -17,7 +17,7 @@ stops_at_open model es from o q h = subst (λ model. Next (λ e. not (passes mod
 pub stops_at_unsafe : (model : SttModel) (es : List Entry) (from : ℕ) (o : Option ℕ) → model ≡ Futuristic → Next is_unsafe es from o → Next (λ e. not (passes model e)) es from o
 stops_at_unsafe model es from o q h = subst (λ model. Next (λ e. not (passes model e)) es from o) (sym q) h
 
--- and nowhere under one that doesn't protect
+-- a model that doesn't protect stops nowhere
 pub stops_nowhere : (model : SttModel) (es : List Entry) (from : ℕ) → model ≡ Off → Next (λ e. not (passes model e)) es from None
 stops_nowhere model es from q = subst (λ model. Next (λ e. not (passes model e)) es from None) (sym q) (λ k low high. none es k)
   where

@@ -48,7 +48,7 @@ stops_at window p = serial_of (find (λ e. not (passes p.model e)) window) (next
 abbrev pub moved_over : List Entry → Point → Point
 moved_over window p = record p { serial = if protects p.model then stops_at window p else p.serial }
 
--- each entry below the point passes
+-- the entries below the point let younger ones be visible
 abbrev pub Passed : Point → List Entry → Type 0
 Passed p window = All (λ e. e.serial < p.serial → passes p.model e ≡ true) window
 
@@ -65,18 +65,18 @@ pub record CanAdvance (p : Point) (window : List Entry) : Type 0 where
   pub passed : Passed p window
   pub near : IsNear p window
 
--- what it is once it has moved over a window that isn't empty
+-- the point once it has moved over a window that isn't empty
 pub record HasMoved (p : Point) (window : List Entry) : Type 0 where
-  -- it says which entries are visible,
+  -- the point says which entries are visible
   pub each : IsPoint p window
-  -- serials below the window's are visible,
+  -- serials below the window's are visible
   pub smaller : (s : ℕ) → All (λ e. s < e.serial) window → s ≤ p.serial
-  -- one above the window's is only where an entry behind them would be,
+  -- a serial above the window's is visible only where an entry behind the window would be
   pub next : (s : ℕ) → All (λ e. e.serial < s) window → s ≤ p.serial → visible p.model (reverse window) ≡ true
-  -- and it can move again
+  -- the point can move again
   pub again : CanAdvance p window
 
--- what it is once it has moved over the window. It stays where there is none
+-- the point once it has moved over the window; it stays where there is none
 abbrev pub HasAdvanced : Point → List Entry → Type 0
 HasAdvanced p [] = Unit {0}
 HasAdvanced p (e ∷ es) = HasMoved p (e ∷ es)

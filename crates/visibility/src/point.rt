@@ -1,4 +1,4 @@
-//! The point itself.
+//! The visibility point, and how it moves.
 ghost use Rattle.std.specs.Prelude.{◌≡◌, ◌+◌, ◌-◌, ◌<◌, ◌≤◌, ◌^◌, IsTrue, false, if◌then◌else◌, min, not, nat_le};
 ghost use Rattle.std.specs.List.{find, All};
 ghost use Rattle.std.specs.Option.{option_map};
@@ -115,7 +115,8 @@ fn find_stop(model: SttModel, rob: &RobRing) -> Option<u64>
     }
 }
 
-// Its position: the first entry that isn't settled, or the first that may yet squash what comes after it.
+// The position at which the point stops: the first entry that isn't settled, or the first that may yet squash what
+// comes after it.
 fn next_stop(model: SttModel, rob: &RobRing) -> Option<u32>
     ensures { Next (λ e. not (passes model e)) rob.now.entries 0 result }
 {

@@ -12,7 +12,7 @@ pub record IsFirstBit (bits : ℕ → ℕ) (from below i : ℕ) : Type 0 where
   pub before : (k : ℕ) → from ≤ k → k < i → bits k ≡ 0
   pub here : bits i ≡ 1
 
--- that place, None where there is no such bit
+-- the place of the next bit that is set, None where there is no such bit
 abbrev pub NextBit : (ℕ → ℕ) → ℕ → ℕ → Option ℕ → Type 0
 NextBit bits from below None = (k : ℕ) → from ≤ k → k < below → bits k ≡ 0
 NextBit bits from below (Some i) = IsFirstBit bits from below i

@@ -5,14 +5,14 @@ ghost use Rattle.word_bits.specs.Bits.{one_if, NextBit};
 
 use crate::bits::{has_bit, next_bit, with_bit};
 
-// Its bits below 64.
+// The word's bits below 64.
 fn low(word: u128) -> u64
     ensures { (b : ℕ) → b < 64 → bit_at result b ≡ bit_at word b }
 {
     (word % (1 << 64)) as u64
 }
 
-// Its bits from 64 on.
+// The word's bits from 64 on.
 fn high(word: u128) -> u64
     ensures { (b : ℕ) → bit_at result b ≡ bit_at word (64 + b) }
 {

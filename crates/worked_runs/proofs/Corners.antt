@@ -32,7 +32,7 @@ use Rattle.window_model.proofs.Worked.{memory}
 abbrev item_of : ℕ → Item
 item_of w = record { pc = 0x10000; instr = decode w; kind = kind_of (decode w); predicted = Some 0x10004; mark = no_mark }
 
--- an entry that waits
+-- an entry that waits, by its serial and its word
 abbrev waiting : ℕ → ℕ → Entry
 waiting serial w = record {
   serial = serial;
@@ -60,15 +60,15 @@ done_at serial w a fault = record {
   cleared = true;
 }
 
--- bgeu x0,x5,+16, not resolved
+-- the entry of bgeu x0,x5,+16, which isn't resolved
 abbrev branch : Entry
 branch = waiting 0 0x00507863
 
--- lbu x6,8(x2), done: a root that isn't visible behind the branch
+-- the entry of lbu x6,8(x2), done: a root that isn't visible behind the branch
 abbrev load : Entry
 load = done_at 1 0x00814303 0x1fff8 None
 
--- add x7,x2,x6
+-- the entry of add x7,x2,x6, which is done
 abbrev sum : Entry
 sum = done_at 2 0x006103b3 0 None
 
@@ -144,7 +144,7 @@ second_store_faults : (retire example (with_window (done_at 0 0x00512223 0x1fff4
 unfolding decode retire memory
 second_store_faults = refl
 
--- of two loads that may issue only the older one is tried: with no register free, neither issues
+-- where two loads may issue only the older one is tried: with no register free, neither issues
 full_registers : (issue example (record (with_window (waiting 0 0x00814303 ∷ waiting 1 0x00012283 ∷ [])) {
   misses = record { line = 0x10010; due = 9; from_memory = true } ∷ record { line = 0x10020; due = 9; from_memory = true } ∷ [];
 })).events ≡ []
@@ -202,7 +202,7 @@ load_behind_a_waiting_store : load_bytes (record { base = 0; bytes = 17 ∷ 34 �
 unfolding decode
 load_behind_a_waiting_store = refl
 
--- its tainted address (sw x5,4(x6)) hides all the same
+-- a store that hasn't issued (sw x5,4(x6)) with a tainted address hides all the same
 waiting_store_hides : any_store_hidden Spectre (waiting 2 0x00532223 ∷ load ∷ branch ∷ []) ≡ true
 unfolding decode
 waiting_store_hides = refl

@@ -56,7 +56,7 @@ faulting_store_cleared_code = 0x020002b3 ∷ 0x002282b3 ∷ 0x0022a123 ∷ 0x000
 abbrev faulting_load_not_violated_code : List ℕ
 faulting_load_not_violated_code = 0x020002b3 ∷ 0x002282b3 ∷ 0x0022a023 ∷ 0x00212303 ∷ []
 
--- under the futuristic model
+-- the description with bits of dependence, under the futuristic model
 abbrev futuristic_2 : Desc
 futuristic_2 = record with_bits { stt_model = Futuristic; model_known = refl }
 

@@ -12,7 +12,7 @@ use Rattle.window_model.specs.Path.{reads_of_trace}
 use Rattle.window_model.proofs.Worked.{code_of, memory, futuristic}
 use Rattle.worked_runs.proofs.Version2.{unprotected}
 
--- so many times addi x0,x0,0, and then lw x5,0(x2)
+-- a load behind so many instructions that do nothing: addi x0,x0,0 .., lw x5,0(x2)
 abbrev load_behind : ℕ → List ℕ
 load_behind count = replicate count 0x00000013 ++ 0x00012283 ∷ []
 

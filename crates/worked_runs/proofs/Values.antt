@@ -11,7 +11,7 @@ use Rattle.rv_types.specs.declared.Op.{Op}
 use Rattle.rv_types.specs.declared.Op.TheVariants.{Add, Sub, Sll, Slt, Sltu, Xor, Srl, Sra, Or, And, Mul, Mulh, Mulhsu, Mulhu, Div, Divu, Rem, Remu}
 use Rattle.rv_types.specs.declared.Op.TheVariants.{Beq, Bne, Blt, Bge, Bltu, Bgeu, Lb, Lh, Lw, Lbu, Lhu}
 
--- all of these hold
+-- every one of these tests holds
 abbrev all : List Bool → Bool
 all tests = list_all (λ test. test) tests
 
@@ -168,7 +168,7 @@ times_of_divisions : all (
 unfolding count_leading_zeros
 times_of_divisions = refl
 
--- ---- System calls
+-- ---- System calls of a program
 
 -- a state at 0x10 with the letters A to D at 0x20, and these in a7, a0, a1 and a2
 abbrev asking : ℕ → ℕ → ℕ → ℕ → Hart

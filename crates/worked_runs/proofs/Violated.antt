@@ -37,11 +37,11 @@ history_after_violation_code = 0x00000463 ∷ 0x00000013 ∷ 0x020002b3 ∷ 0x00
 abbrev violated_by_one_byte_code : List ℕ
 violated_by_one_byte_code = 0x020002b3 ∷ 0x002282b3 ∷ 0x002280a3 ∷ 0x00100413 ∷ 0x0002a303 ∷ 0x028143b3 ∷ 0xfe23a023 ∷ 0x00812483 ∷ 0x05d00893 ∷ 0x00000073 ∷ []
 
--- and with history
+-- the description with bits of dependence, and with history
 abbrev with_history : Desc
 with_history = record with_bits { predictor_history = 2; short_history = lit≤ tt }
 
--- Of two loads that passed the store wrongly the older one is fetched anew, and all behind it.
+-- Where two loads passed the store wrongly the older one is fetched anew, and all behind it.
 oldest_load_violated_rows : List Row
 oldest_load_violated_rows =
     row 1 (Fet 0x00010000 ∷ Fet 0x00010004 ∷ []) ∷

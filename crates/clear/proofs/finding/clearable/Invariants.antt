@@ -4,7 +4,7 @@ use Rattle.std.specs.List.{find}
 use Rattle.parts_stand.specs.Addresses.{can_clear}
 use Rattle.clear.proofs.finding.clearable.Given as goal
 
--- none of the stores so far may be cleared
+-- no store of those that the loop has passed may be cleared
 abbrev pub invariant-loop-store : goal.invariant-loop-store
 invariant-loop-store l = find (can_clear l.point.serial) (drop l.place l.queues.stores) ≡ find (can_clear l.point.serial) l.queues.stores
 

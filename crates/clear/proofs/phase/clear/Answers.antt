@@ -1,4 +1,4 @@
--- Where none is found nothing happens.
+-- Where no store is found that may be cleared, nothing happens.
 use Rattle.std.proofs.Common.{sym, ◌∙◌}
 use Rattle.clear.proofs.Walking.{none_row, none_shown}
 use Rattle.clear.proofs.phase.clear.Goals as goal

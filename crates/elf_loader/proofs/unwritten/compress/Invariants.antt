@@ -2,7 +2,7 @@ use Rattle.std.proofs.Common.{◌≡◌, ◌≤◌, ◌<◌, ◌-◌, ℕ, lengt
 use Rattle.elf_loader.specs.Jumps.{left_by, HasJumps}
 use Rattle.elf_loader.proofs.unwritten.compress.Given as goal
 
--- the same places are left, and none of those that the walk passed
+-- the places that are left stay the same, and none of them lies where the walk passed
 abbrev pub invariant-loop-place : goal.invariant-loop-place
 invariant-loop-place l =
     (l.from ≤ l.place)

@@ -1,4 +1,4 @@
--- Each fact of the description is what its keys' numbers have, or what the document has.
+-- The facts of a description are what its keys' numbers have, or what the document has.
 use Rattle.std.proofs.Common.{ℕ, List, ◌∷◌, ap, ap₂, refl}
 use Rattle.machine_desc.specs.declared.SttModel.{SttModel}
 use Rattle.machine_desc.specs.declared.Defence.{Defence}

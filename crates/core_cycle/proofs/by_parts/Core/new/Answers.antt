@@ -8,7 +8,7 @@ use Rattle.core_cycle.proofs.by_parts.Core.new.Goals as goal
 abbrev Between : Described → Type 0
 Between p = KeptUntil 0 (word_at p.code) p
 
--- src/by_parts.rt:64:26
+-- the parts of a new core meet the core's invariant
 pub invariant_of-result : goal.invariant_of-result
 invariant_of-result g c =
     let begun : Between (opened c.args.desc.now c.args.image.code c.args.image.entry c.args.image.ram) = search rules in

@@ -55,7 +55,7 @@ loop-station-preserved c = record {
   marks = c.passed-marks.ensures.later;
 }
 
--- ---- none is left
+-- ---- no further station is able
 
 out : (c : goal.Then-marks-eq0) → WalksAll c.args.self.now c.args.ports.now c.decide_entry.new.ports c.decide_entry.new.decided c.args.row.now c.decide_entry.new.row
 out c =
@@ -79,7 +79,7 @@ returns-then-marks-eq0-clause-puts c = (out c).puts
 pub returns-then-marks-eq0-clause-row : goal.returns-then-marks-eq0-clause-row
 returns-then-marks-eq0-clause-row c = (out c).row
 
--- ---- all are passed
+-- ---- the walk has passed all stations
 
 at_last : (c : goal.After-loop-station) → WalksAll c.args.self.now c.args.ports.now c.loop-station.ports c.loop-station.decided c.args.row.now c.loop-station.row
 at_last c =
