@@ -1,6 +1,7 @@
 -- What the parts that are lent tell of the machine that is shown.
 use Rattle.std.proofs.Common.{◌≡◌, ℕ, ◌<◌, Bool, true, false, List, [], ◌∷◌, length, map, Option, Some, refl, ap, ap₂, sym, ◌∙◌, subst, arith, slice_get}
-use Rattle.std.specs.Prelude.{if◌then◌else◌}
+use Rattle.std.specs.Prelude.{nat_le, if◌then◌else◌}
+use Rattle.std.proofs.lemmas.Bool.Decides.{nat_tests}
 use Rattle.machine_desc.specs.declared.SttModel.{SttModel}
 use Rattle.window_model.specs.declared.Entry.{Entry}
 use Rattle.lsq.specs.declared.store.Store.{Store}
@@ -79,9 +80,11 @@ lent_addresses h v w s =
 visible_by : (model : SttModel) (p : Point) (window : List Entry) → p.model ≡ model → HasAdvanced p window → TellsVisible model p window
 visible_by model p window m a = subst (λ m. TellsVisible m p window) m (λ i e h. tells_visible p window i e a h)
 
+-- the oldest entry is visible, and so is what is below its serial
 older_by : (p : Point) (window : List Entry) → HasAdvanced p window → ShowsOlder p window
-older_by p [] a s some all = absurd (omega (arith, some))
-older_by p (e ∷ es) a s some all = a.smaller s all
+older_by p window a s e h below =
+    let shown : nat_le e.serial p.serial ≡ true = tells_visible p window 0 e a h in
+    grind (arith, nat_tests)
 
 pub point_visible : (model : SttModel) (q p : Point) (window : List Entry) → q ≡ p → q.model ≡ model → HasAdvanced p window → TellsVisible model q window
 point_visible model q p window e m a = visible_by model q window m (subst (λ p. HasAdvanced p window) (sym e) a)

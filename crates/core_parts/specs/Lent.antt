@@ -1,6 +1,5 @@
 -- What the parts that a core lends tell of its machine (docs/architecture.md, "How they stand for it").
-use Rattle.std.specs.Prelude.{◌≡◌, ℕ, ◌<◌, ◌≤◌, nat_le, true, List, [], ◌∷◌, length, map, reverse, slice_get, Option, Some, if◌then◌else◌}
-use Rattle.std.specs.List.{All}
+use Rattle.std.specs.Prelude.{◌≡◌, ℕ, ◌<◌, ◌≤◌, nat_le, true, List, [], ◌∷◌, map, reverse, slice_get, Option, Some, if◌then◌else◌}
 use Rattle.std.specs.Option.{option_map}
 use Rattle.machine_desc.specs.declared.Desc.{Desc}
 use Rattle.machine_desc.specs.declared.SttModel.{SttModel}
@@ -51,9 +50,9 @@ TellsReady d s window = (i : ℕ) (e : Entry) → slice_get window i ≡ Some e 
 abbrev pub TellsVisible : SttModel → Point → List Entry → Type 0
 TellsVisible model p window = (i : ℕ) (e : Entry) → slice_get window i ≡ Some e → nat_le e.serial p.serial ≡ visible model (before_at window i)
 
--- and serials below those of the window are
+-- a serial below that of the oldest entry is visible
 abbrev pub ShowsOlder : Point → List Entry → Type 0
-ShowsOlder p window = (s : ℕ) → 1 ≤ length window → All (λ e. s < e.serial) window → s ≤ p.serial
+ShowsOlder p window = (s : ℕ) (e : Entry) → slice_get window 0 ≡ Some e → s < e.serial → s ≤ p.serial
 
 -- the pair has for each source of the entry at a position its youngest root; for one without maybe one that has retired
 abbrev pub HasRoots : ℕ → List Entry → ℕ → List (Option ℕ) → Type 0
