@@ -9,18 +9,19 @@ use Rattle.queue_laws.specs.Window.{StandFor, Tracks}
 use Rattle.window_model.specs.Dependence.{passing}
 use Rattle.window_model.specs.Order.{is_store}
 use Rattle.visibility.specs.Point.{Point, HasAdvanced}
-use Rattle.parts_stand.proofs.Answering.{counts_room, names_root, names_writer, tells_ready, tells_visible}
+use Rattle.parts_stand.proofs.Answering.{counts_room, names_root, names_writer, tells_part, tells_ready, tells_visible}
 use Rattle.rob_ring.specs.Beside.{each_roots}
 use Rattle.rob_ring.specs.declared.beside.Sources.{Sources}
 use Rattle.rob_ring.proofs.AtPositions.{as_many_roots, roots_here}
 use Rattle.parts_stand.specs.Addresses.{Addressed, address_in, addresses_of, base_root}
 use Rattle.parts_stand.specs.Parts.{RootsStand, oldest_of}
 use Rattle.parts_stand.specs.Roots.{source_roots, unretired}
-use Rattle.parts_stand.specs.Telling.{hold_of}
+use Rattle.parts_stand.specs.Telling.{HoldsBy, hold_of}
 use Rattle.parts_stand.proofs.Keeping.{roots_at}
 use Rattle.core_parts.specs.Described.{Described}
-use Rattle.core_parts.specs.Held.{Held, Sizes, Whole, described}
-use Rattle.core_parts.specs.Lent.{HasAddressRoots, HasRoots, HoldsWaiting, NamesRoots, NamesWriters, ShowsOlder, TellsReady, TellsVisible, address_roots}
+use Rattle.core_parts.specs.Held.{Held, Sizes, Whole, described, in_flight}
+use Rattle.core_parts.specs.Stands.{table_and_stations}
+use Rattle.core_parts.specs.Lent.{HasAddressRoots, HasRoots, HoldsWaiting, NamesRoots, NamesWriters, ShowsOlder, TellsPart, TellsReady, TellsVisible, address_roots}
 
 pub lent_names : (h : Held) (v : Described) → Whole h → described h ≡ v → NamesWriters h.writes v.machine.window
 lent_names h v w s = subst (λ (v : Described). NamesWriters h.writes v.machine.window) s (λ r. names_writer _ r w.stands.stand)
@@ -31,12 +32,23 @@ lent_name_roots h v w s = subst (λ (v : Described). NamesRoots v.machine.next_s
 pub lent_waiting : (h : Held) (v : Described) → Whole h → described h ≡ v → HoldsWaiting v.desc.version (hold_of v.desc v.point) h.stations v.machine.window
 lent_waiting h v w s = subst (λ (v : Described). HoldsWaiting v.desc.version (hold_of v.desc v.point) h.stations v.machine.window) s w.stands.stand.held
 
+-- results are held back by the point that has advanced
+held_by : (h : Held) → Whole h → HasAdvanced h.point h.rob.entries → HoldsBy h.desc (table_and_stations (in_flight h)) h.point
+held_by h w a = record { advanced = a; model = ap (λ (s : Sizes). s.model) w.made; hold = refl }
+
 -- what they tell of who is ready, where the point has advanced
 ready_by : (h : Held) → Whole h → HasAdvanced h.point h.rob.entries → TellsReady h.desc h.stations h.rob.entries
-ready_by h w a i e b c = tells_ready h.desc _ h.point i e w.stands.stand (record { advanced = a; model = ap (λ (s : Sizes). s.model) w.made; hold = refl }) b c
+ready_by h w a i e b c = tells_ready h.desc _ h.point i e w.stands.stand (held_by h w a) b c
+
+-- and of the parts of a store
+part_by : (h : Held) → Whole h → HasAdvanced h.point h.rob.entries → TellsPart h.desc h.stations h.rob.entries
+part_by h w a part i e b c = tells_part part h.desc _ h.point i e w.stands.stand (held_by h w a) b c
 
 pub lent_ready : (h : Held) (v : Described) → Whole h → described h ≡ v → HasAdvanced v.point v.machine.window → TellsReady v.desc h.stations v.machine.window
 lent_ready h v w s = subst (λ (v : Described). HasAdvanced v.point v.machine.window → TellsReady v.desc h.stations v.machine.window) s (ready_by h w)
+
+pub lent_parts : (h : Held) (v : Described) → Whole h → described h ≡ v → HasAdvanced v.point v.machine.window → TellsPart v.desc h.stations v.machine.window
+lent_parts h v w s = subst (λ (v : Described). HasAdvanced v.point v.machine.window → TellsPart v.desc h.stations v.machine.window) s (part_by h w)
 
 pub lent_queues : (h : Held) (v : Described) → Whole h → described h ≡ v → StandFor h.queues v.machine.window
 lent_queues h v w s = subst (λ (v : Described). StandFor h.queues v.machine.window) s w.stands.queues

@@ -4,19 +4,20 @@ use Rattle.std.specs.Option.{option_map}
 use Rattle.machine_desc.specs.declared.Desc.{Desc}
 use Rattle.machine_desc.specs.declared.SttModel.{SttModel}
 use Rattle.window_model.specs.declared.Entry.{Entry}
-use Rattle.window_model.specs.Order.{before_at, is_store, is_waiting, writer}
-use Rattle.window_model.specs.Ready.{ready}
+use Rattle.window_model.specs.Order.{before_at, is_store, is_waiting, sources, writer}
+use Rattle.window_model.specs.Ready.{all_known, ready}
 use Rattle.window_model.specs.Taint.{visible}
 use Rattle.rename_taint.specs.declared.Write.{Write}
 use Rattle.rename_taint.specs.Writes.{root_of, source_of}
-use Rattle.stations.specs.Stations.{Stations, awaits_none}
+use Rattle.stations.specs.Stations.{Stations, awaits_none, ready_part}
+use Rattle.stations.specs.declared.wants.Part.{Part}
 use Rattle.lsq.specs.declared.store.Store.{Store}
 use Rattle.visibility.specs.Point.{Point}
 use Rattle.parts_stand.specs.Addresses.{base_root}
 use Rattle.parts_stand.specs.Roots.{source_roots, unretired, youngest_root}
 use Rattle.parts_stand.specs.Parts.{Hold, oldest_of, waiter_in, waiters_from}
 use Rattle.parts_stand.specs.Steps.{station_of}
-use Rattle.parts_stand.specs.Telling.{source_by}
+use Rattle.parts_stand.specs.Telling.{own_of, source_by}
 
 -- the table names the writer that each register has for an entry behind the window
 abbrev pub NamesWriters : List Write → List Entry → Type 0
@@ -45,6 +46,11 @@ HoldsWaiting version hold s window = map waiter_in s.held ≡ waiters_from versi
 abbrev pub TellsReady : Desc → Stations → List Entry → Type 0
 TellsReady d s window = (i : ℕ) (e : Entry) → slice_get window i ≡ Some e → is_waiting e.state ≡ true →
     option_map awaits_none (slice_get s.held (station_of i window)) ≡ Some (ready d (before_at window i) e)
+
+-- a station awaits the source of a part of its entry no more exactly where that source is there
+abbrev pub TellsPart : Desc → Stations → List Entry → Type 0
+TellsPart d s window = (part : Part) (i : ℕ) (e : Entry) → slice_get window i ≡ Some e → is_waiting e.state ≡ true →
+    option_map (ready_part part) (slice_get s.held (station_of i window)) ≡ Some (all_known d (before_at window i) (own_of part (sources e)))
 
 -- entries up to the point are visible, and no others
 abbrev pub TellsVisible : SttModel → Point → List Entry → Type 0
