@@ -45,6 +45,7 @@ class SmallFiles(unittest.TestCase):
             # in one clause it is used, in none it is; a comment uses nothing
             ("grows : Grows f\ngrows zero b le some = some\ngrows (suc a) b le some = helper le some\n", []),
             ("grows : Grows f\ngrows zero b le some = some -- le\ngrows (suc a) b _ some = some\n", [every]),
+            ("grows : Grows f\ngrows zero b le some = record {\n  a = some;\n}\ngrows (suc a) b le some = helper le some\n", []),
             # a tactic reads all that is in scope
             ("grows : Grows f\ngrows a b le some = helper some (omega arith)\n", []),
             # another proof of the law uses it
