@@ -74,7 +74,7 @@ module _ (h : Held) (v : Described) (serial : ℕ) (w : Whole h) (s : described 
     marked_whole = subst Whole (sym are) (record {
       sized = sized_set h.desc (machine_of h) (length (below serial h.rob.entries)) it.place.entry (cleared_one it.place.entry) here (cleared_goes it.place.entry)
           (λ k. record { kind = k.kind; memory = k.memory; outcome = k.outcome; parts = k.parts; together = k.together }) w.sized;
-      stands = stands_cleared (in_flight h) (length (below serial h.rob.entries)) it.place.entry w.stands here it.may.store;
+      stands = stands_cleared (in_flight h) (length (below serial h.rob.entries)) it.place.entry w.stands here;
       made = w.made;
     })
 

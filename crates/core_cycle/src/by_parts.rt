@@ -4,7 +4,7 @@ ghost use Rattle.queue_laws.specs.Window.{StandFor, Tracks};
 ghost use Rattle.window_model.specs.Dependence.{passing};
 ghost use Rattle.window_model.specs.State.{opening};
 ghost use Rattle.core_parts.specs.Lent.{HasAddressRoots, HasRoots, NamesRoots, NamesWriters};
-ghost use Rattle.core_parts.specs.Lent.{ShowsOlder, TellsReady, TellsVisible};
+ghost use Rattle.core_parts.specs.Lent.{ShowsOlder, TellsPart, TellsReady, TellsVisible};
 ghost use Rattle.core_cycle.specs.Waiting.{HoldsByPoint};
 
 use crate::clocking::clock;
@@ -86,10 +86,11 @@ impl<R: RenameTaint> Core<R> {
     }
 
     /// The stations: they hold the entries that wait, and what these want and await, where results are held back by a visibility
-    /// point that has moved over the window; and they tell which are ready.
+    /// point that has moved over the window; and they tell which are ready, and of a store which part is.
     pub fn stations(&self) -> &Stations
         ensures waiting { HoldsByPoint self.now.desc result.now self.now.machine.window }
         ensures ready { TellsReady self.now.desc result.now self.now.machine.window }
+        ensures parts { TellsPart self.now.desc result.now self.now.machine.window }
     {
         stations_of(&self.parts)
     }

@@ -3,7 +3,6 @@ ghost use Rattle.std.specs.Prelude.{◌≡◌, ◌<◌, ◌≤◌, ◌-◌, ◌^
 ghost use Rattle.elf_loader.specs.Code.{word_at};
 ghost use Rattle.window_model.specs.Committed.{Commits};
 ghost use Rattle.window_model.specs.Cycle.{Cycled, cycle};
-ghost use Rattle.window_model.specs.Row.{most_events};
 ghost use Rattle.core_cycle.specs.Kept.{KeptUntil};
 
 use crate::cycle::{after_retire, before_retire};
@@ -31,7 +30,7 @@ pub(crate) fn clock<R: RenameTaint>(
     ensures desc { parts.new.desc ≡ parts.old.desc }
     ensures code { parts.new.code ≡ parts.old.code }
     ensures kept { KeptUntil result (word_at parts.new.code) parts.new }
-    ensures events { length row.new.events ≤ most_events }
+    ensures events { length row.new.events ≤ 232 }
 {
     parts.begin();
     row.begin(parts.cycle);

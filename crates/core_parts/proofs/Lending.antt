@@ -1,6 +1,7 @@
 -- What the parts that are lent tell of the machine that is shown.
 use Rattle.std.proofs.Common.{◌≡◌, ℕ, ◌<◌, Bool, true, false, List, [], ◌∷◌, length, map, Option, Some, refl, ap, ap₂, sym, ◌∙◌, subst, arith, slice_get}
-use Rattle.std.specs.Prelude.{if◌then◌else◌}
+use Rattle.std.specs.Prelude.{nat_le, if◌then◌else◌}
+use Rattle.std.proofs.lemmas.Bool.Decides.{nat_tests}
 use Rattle.machine_desc.specs.declared.SttModel.{SttModel}
 use Rattle.window_model.specs.declared.Entry.{Entry}
 use Rattle.lsq.specs.declared.store.Store.{Store}
@@ -8,18 +9,19 @@ use Rattle.queue_laws.specs.Window.{StandFor, Tracks}
 use Rattle.window_model.specs.Dependence.{passing}
 use Rattle.window_model.specs.Order.{is_store}
 use Rattle.visibility.specs.Point.{Point, HasAdvanced}
-use Rattle.parts_stand.proofs.Answering.{counts_room, names_root, names_writer, tells_ready, tells_visible}
+use Rattle.parts_stand.proofs.Answering.{counts_room, names_root, names_writer, tells_part, tells_ready, tells_visible}
 use Rattle.rob_ring.specs.Beside.{each_roots}
 use Rattle.rob_ring.specs.declared.beside.Sources.{Sources}
 use Rattle.rob_ring.proofs.AtPositions.{as_many_roots, roots_here}
 use Rattle.parts_stand.specs.Addresses.{Addressed, address_in, addresses_of, base_root}
 use Rattle.parts_stand.specs.Parts.{RootsStand, oldest_of}
 use Rattle.parts_stand.specs.Roots.{source_roots, unretired}
-use Rattle.parts_stand.specs.Telling.{hold_of}
+use Rattle.parts_stand.specs.Telling.{HoldsBy, hold_of}
 use Rattle.parts_stand.proofs.Keeping.{roots_at}
 use Rattle.core_parts.specs.Described.{Described}
-use Rattle.core_parts.specs.Held.{Held, Sizes, Whole, described}
-use Rattle.core_parts.specs.Lent.{HasAddressRoots, HasRoots, HoldsWaiting, NamesRoots, NamesWriters, ShowsOlder, TellsReady, TellsVisible, address_roots}
+use Rattle.core_parts.specs.Held.{Held, Sizes, Whole, described, in_flight}
+use Rattle.core_parts.specs.Stands.{table_and_stations}
+use Rattle.core_parts.specs.Lent.{HasAddressRoots, HasRoots, HoldsWaiting, NamesRoots, NamesWriters, ShowsOlder, TellsPart, TellsReady, TellsVisible, address_roots}
 
 pub lent_names : (h : Held) (v : Described) → Whole h → described h ≡ v → NamesWriters h.writes v.machine.window
 lent_names h v w s = subst (λ (v : Described). NamesWriters h.writes v.machine.window) s (λ r. names_writer _ r w.stands.stand)
@@ -30,12 +32,23 @@ lent_name_roots h v w s = subst (λ (v : Described). NamesRoots v.machine.next_s
 pub lent_waiting : (h : Held) (v : Described) → Whole h → described h ≡ v → HoldsWaiting v.desc.version (hold_of v.desc v.point) h.stations v.machine.window
 lent_waiting h v w s = subst (λ (v : Described). HoldsWaiting v.desc.version (hold_of v.desc v.point) h.stations v.machine.window) s w.stands.stand.held
 
+-- results are held back by the point that has advanced
+held_by : (h : Held) → Whole h → HasAdvanced h.point h.rob.entries → HoldsBy h.desc (table_and_stations (in_flight h)) h.point
+held_by h w a = record { advanced = a; model = ap (λ (s : Sizes). s.model) w.made; hold = refl }
+
 -- the stations tell who is ready, where the point has advanced
 ready_by : (h : Held) → Whole h → HasAdvanced h.point h.rob.entries → TellsReady h.desc h.stations h.rob.entries
-ready_by h w a i e b c = tells_ready h.desc _ h.point i e w.stands.stand (record { advanced = a; model = ap (λ (s : Sizes). s.model) w.made; hold = refl }) b c
+ready_by h w a i e b c = tells_ready h.desc _ h.point i e w.stands.stand (held_by h w a) b c
+
+-- the stations tell which part of a store is ready, where the point has advanced
+part_by : (h : Held) → Whole h → HasAdvanced h.point h.rob.entries → TellsPart h.desc h.stations h.rob.entries
+part_by h w a part i e b c = tells_part part h.desc _ h.point i e w.stands.stand (held_by h w a) b c
 
 pub lent_ready : (h : Held) (v : Described) → Whole h → described h ≡ v → HasAdvanced v.point v.machine.window → TellsReady v.desc h.stations v.machine.window
 lent_ready h v w s = subst (λ (v : Described). HasAdvanced v.point v.machine.window → TellsReady v.desc h.stations v.machine.window) s (ready_by h w)
+
+pub lent_parts : (h : Held) (v : Described) → Whole h → described h ≡ v → HasAdvanced v.point v.machine.window → TellsPart v.desc h.stations v.machine.window
+lent_parts h v w s = subst (λ (v : Described). HasAdvanced v.point v.machine.window → TellsPart v.desc h.stations v.machine.window) s (part_by h w)
 
 pub lent_queues : (h : Held) (v : Described) → Whole h → described h ≡ v → StandFor h.queues v.machine.window
 lent_queues h v w s = subst (λ (v : Described). StandFor h.queues v.machine.window) s w.stands.queues
@@ -79,9 +92,11 @@ lent_addresses h v w s =
 visible_by : (model : SttModel) (p : Point) (window : List Entry) → p.model ≡ model → HasAdvanced p window → TellsVisible model p window
 visible_by model p window m a = subst (λ m. TellsVisible m p window) m (λ i e h. tells_visible p window i e a h)
 
+-- the oldest entry is visible, and so is what is below its serial
 older_by : (p : Point) (window : List Entry) → HasAdvanced p window → ShowsOlder p window
-older_by p [] a s some all = absurd (omega (arith, some))
-older_by p (e ∷ es) a s some all = a.smaller s all
+older_by p window a s e h below =
+    let shown : nat_le e.serial p.serial ≡ true = tells_visible p window 0 e a h in
+    grind (arith, nat_tests)
 
 pub point_visible : (model : SttModel) (q p : Point) (window : List Entry) → q ≡ p → q.model ≡ model → HasAdvanced p window → TellsVisible model q window
 point_visible model q p window e m a = visible_by model q window m (subst (λ p. HasAdvanced p window) (sym e) a)

@@ -192,7 +192,7 @@ stands_resolved p i e s h w =
     }
 
 pub stands_cleared : ClearsAt
-stands_cleared p i e s h k =
+stands_cleared p i e s h =
     let parts = table_and_stations p in
     let new = slice_set p.window i (cleared_one e) in
     let on = goes_at p.window i e (cleared_one e) h (record { serial = refl; item = refl }) in
@@ -200,7 +200,7 @@ stands_cleared p i e s h k =
       stand = clears_at parts i e s.stand h;
       writers = writers_go_on parts (each_writers p.sources) new s.writers on;
       queues = clears_stand p.queues p.window i e s.queues h;
-      tracks = λ t. clears_tracked p.queues p.window i e (s.tracks t) h s.stand.rise k;
+      tracks = λ t. clears_tracked p.queues p.window i e (s.tracks t) h s.stand.rise;
       addresses = addresses_go_on parts (map (cleared_at e.serial) p.queues.stores) new (addresses_cleared parts p.queues.stores e.serial s.addresses) on;
       point = point_clears p.point p.next p.window i e s.point h;
     }

@@ -1,23 +1,23 @@
 -- What the parts that a core lends tell of its machine (docs/architecture.md, "How they stand for it").
-use Rattle.std.specs.Prelude.{◌≡◌, ℕ, ◌<◌, ◌≤◌, nat_le, true, List, [], ◌∷◌, length, map, reverse, slice_get, Option, Some, if◌then◌else◌}
-use Rattle.std.specs.List.{All}
+use Rattle.std.specs.Prelude.{◌≡◌, ℕ, ◌<◌, ◌≤◌, nat_le, true, List, [], ◌∷◌, map, reverse, slice_get, Option, Some, if◌then◌else◌}
 use Rattle.std.specs.Option.{option_map}
 use Rattle.machine_desc.specs.declared.Desc.{Desc}
 use Rattle.machine_desc.specs.declared.SttModel.{SttModel}
 use Rattle.window_model.specs.declared.Entry.{Entry}
-use Rattle.window_model.specs.Order.{before_at, is_store, is_waiting, writer}
-use Rattle.window_model.specs.Ready.{ready}
+use Rattle.window_model.specs.Order.{before_at, is_store, is_waiting, sources, writer}
+use Rattle.window_model.specs.Ready.{all_known, ready}
 use Rattle.window_model.specs.Taint.{visible}
 use Rattle.rename_taint.specs.declared.Write.{Write}
 use Rattle.rename_taint.specs.Writes.{root_of, source_of}
-use Rattle.stations.specs.Stations.{Stations, awaits_none}
+use Rattle.stations.specs.Stations.{Stations, awaits_none, ready_part}
+use Rattle.stations.specs.declared.wants.Part.{Part}
 use Rattle.lsq.specs.declared.store.Store.{Store}
 use Rattle.visibility.specs.Point.{Point}
 use Rattle.parts_stand.specs.Addresses.{base_root}
 use Rattle.parts_stand.specs.Roots.{source_roots, unretired, youngest_root}
 use Rattle.parts_stand.specs.Parts.{Hold, oldest_of, waiter_in, waiters_from}
 use Rattle.parts_stand.specs.Steps.{station_of}
-use Rattle.parts_stand.specs.Telling.{source_by}
+use Rattle.parts_stand.specs.Telling.{own_of, source_by}
 
 -- the table names the writer that each register has for an entry behind the window
 abbrev pub NamesWriters : List Write → List Entry → Type 0
@@ -48,13 +48,18 @@ abbrev pub TellsReady : Desc → Stations → List Entry → Type 0
 TellsReady d s window = (i : ℕ) (e : Entry) → slice_get window i ≡ Some e → is_waiting e.state ≡ true →
     option_map awaits_none (slice_get s.held (station_of i window)) ≡ Some (ready d (before_at window i) e)
 
+-- a station awaits the source of a part of its entry no more exactly where that source is there
+abbrev pub TellsPart : Desc → Stations → List Entry → Type 0
+TellsPart d s window = (part : Part) (i : ℕ) (e : Entry) → slice_get window i ≡ Some e → is_waiting e.state ≡ true →
+    option_map (ready_part part) (slice_get s.held (station_of i window)) ≡ Some (all_known d (before_at window i) (own_of part (sources e)))
+
 -- entries up to the point are visible, and no others
 abbrev pub TellsVisible : SttModel → Point → List Entry → Type 0
 TellsVisible model p window = (i : ℕ) (e : Entry) → slice_get window i ≡ Some e → nat_le e.serial p.serial ≡ visible model (before_at window i)
 
--- serials below those of the window's entries are visible, where there is an entry
+-- a serial below that of the oldest entry is visible
 abbrev pub ShowsOlder : Point → List Entry → Type 0
-ShowsOlder p window = (s : ℕ) → 1 ≤ length window → All (λ e. s < e.serial) window → s ≤ p.serial
+ShowsOlder p window = (s : ℕ) (e : Entry) → slice_get window 0 ≡ Some e → s < e.serial → s ≤ p.serial
 
 -- the pair has for each source of the entry at a position its youngest root; for one without maybe one that has retired
 abbrev pub HasRoots : ℕ → List Entry → ℕ → List (Option ℕ) → Type 0

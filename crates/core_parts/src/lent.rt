@@ -4,7 +4,8 @@ ghost use Rattle.parts_stand.specs.Telling.{hold_of};
 ghost use Rattle.queue_laws.specs.Window.{StandFor, Tracks};
 ghost use Rattle.visibility.specs.Point.{HasAdvanced};
 ghost use Rattle.window_model.specs.Dependence.{passing};
-ghost use Rattle.core_parts.specs.Lent.{HasAddressRoots, HasRoots, HoldsWaiting, NamesRoots, NamesWriters, TellsReady};
+ghost use Rattle.core_parts.specs.Lent.{HasAddressRoots, HasRoots, HoldsWaiting, NamesRoots, NamesWriters};
+ghost use Rattle.core_parts.specs.Lent.{TellsPart, TellsReady};
 
 use crate::parts::Parts;
 use lsq::Lsq;
@@ -30,12 +31,14 @@ impl<R: RenameTaint> Parts<R> {
     }
 
     /// The stations: they hold the entries that wait and what these want and await, as far as results are held back by the
-    /// visibility point; and they tell which are ready, where the point has moved over the window.
+    /// visibility point; and they tell which are ready, and of a store which part is, where the point has moved over the window.
     pub fn stations(&self) -> &Stations
         ensures waiting { HoldsWaiting self.now.desc.version (hold_of self.now.desc self.now.point) result.now
             self.now.machine.window }
         ensures ready { HasAdvanced self.now.point self.now.machine.window
             → TellsReady self.now.desc result.now self.now.machine.window }
+        ensures parts { HasAdvanced self.now.point self.now.machine.window
+            → TellsPart self.now.desc result.now self.now.machine.window }
     {
         &self.stations
     }

@@ -3,7 +3,6 @@ ghost use Rattle.std.specs.Prelude.{◌≡◌, ◌<◌, ◌≤◌, ◌-◌, ◌^
 ghost use Rattle.elf_loader.specs.Code.{word_at};
 ghost use Rattle.window_model.specs.Committed.{Commits};
 ghost use Rattle.window_model.specs.Cycle.{Cycled, cycle};
-ghost use Rattle.window_model.specs.Row.{most_events};
 ghost use Rattle.secret_marks.specs.Shown.{or_else, shown_cycle};
 ghost use Rattle.secret_marks.specs.Watch.{watch_cycle};
 ghost use Rattle.entry_marks.specs.Walk.{marks_of};
@@ -43,7 +42,7 @@ pub(crate) fn clock<R: RenameTaint>(
     ensures commits { Commits (word_at parts.old.code) parts.old.machine parts.new.machine piece.new }
     ensures desc { parts.new.desc ≡ parts.old.desc }
     ensures code { parts.new.code ≡ parts.old.code }
-    ensures events { length row.new.events ≤ most_events }
+    ensures events { length row.new.events ≤ 232 }
     ensures marks { marks_of marks.new ≡ (watch_cycle parts.old.desc (word_at parts.old.code) parts.old.machine
         (marks_of marks.old)).marks }
     ensures shown { result ≡ shown_cycle parts.old.desc parts.old.machine (marks_of marks.old) }

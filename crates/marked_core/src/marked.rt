@@ -3,7 +3,6 @@ ghost use Rattle.std.specs.Prelude.{◌≡◌, ◌<◌, ◌≤◌, ◌-◌, ◌^
 ghost use Rattle.elf_loader.specs.Code.{word_at};
 ghost use Rattle.window_model.specs.Committed.{Commits};
 ghost use Rattle.window_model.specs.Cycle.{Cycled, cycle};
-ghost use Rattle.window_model.specs.Row.{most_events};
 ghost use Rattle.window_model.specs.State.{opening};
 ghost use Rattle.secret_marks.specs.Marks.{opening_marks};
 ghost use Rattle.secret_marks.specs.Ranges.{secret_in};
@@ -89,7 +88,7 @@ impl<R: RenameTaint> MarkedCore<R> {
         ensures commits { Commits (word_at self.old.code) self.old.machine self.new.machine piece.new }
         ensures desc { self.new.desc ≡ self.old.desc }
         ensures code { self.new.code ≡ self.old.code }
-        ensures events { length row.new.events ≤ most_events }
+        ensures events { length row.new.events ≤ 232 }
         ensures marks { self.new.marks
             ≡ (watch_cycle self.old.desc (word_at self.old.code) self.old.machine self.old.marks).marks }
         ensures shown { result ≡ shown_cycle self.old.desc self.old.machine self.old.marks }

@@ -184,9 +184,9 @@ clear_one true s = refl
 clear_one false s = refl
 
 -- and that it is cleared
-pub clears_tracked : (q : Queues) (window : List Entry) (i : ℕ) (e : Entry) → Tracks q window → slice_get window i ≡ Some e → Rise window → is_store e.item.kind ≡ true →
+pub clears_tracked : (q : Queues) (window : List Entry) (i : ℕ) (e : Entry) → Tracks q window → slice_get window i ≡ Some e → Rise window →
     Tracks (cleared_in e.serial q) (slice_set window i (cleared_one e))
-clears_tracked q window i e s h r k = record {
+clears_tracked q window i e s h r = record {
   loads = s.loads ∙ same_at shown_load shown_reader loads_of window i e (cleared_one e) h refl (λ t. refl);
   stores = noted_at shown_cleared shown_clearing stores_of (λ s. s.serial) (λ s. s.serial) (λ q. refl) (λ e. refl)
       (cleared_at e.serial) (λ c. record c { cleared = true }) q.stores window i e (cleared_one e) (λ s. clear_one (s.serial == e.serial) s) s.stores h r refl (λ t. refl);

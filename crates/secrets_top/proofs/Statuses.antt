@@ -23,7 +23,7 @@ use Rattle.secrets_top.specs.declared.verdict.Verdict.{Verdict}
 use Rattle.secrets_top.specs.declared.verdict.Verdict.TheVariants.{Hidden, Shown}
 use Rattle.secrets_top.specs.Verdict.{hidden_status, verdict_text, verdict_status}
 use Rattle.secrets_top.specs.Refused.{status_of}
-use Rattle.secrets_top.specs.Top.{Wants, Inputs, Accepted, RefusedInputs, fault_in, verdict_in, verdict_on, Ends, Statuses, IsTold, IsRefusal}
+use Rattle.secrets_top.specs.Top.{Wants, Inputs, Accepted, RefusedInputs, fault_in, verdict_in, verdict_on, Ends, Statuses, IsTold}
 
 -- words that want something don't want nothing
 clash : {o : Option WantedText} {w : WantedText} → o ≡ Some w → o ≡ None → ⊥
@@ -153,9 +153,9 @@ module _ (words : List (List ℕ)) (old new : World) where
   not_seven (Ok v) e h = e.2.1.count
   not_seven (Err c) e h = ap (λ (t : Told). t.faults) (wrote_nothing c e h)
 
-  nothing : (r : Result Verdict Unjudged) → Ends words old new r → IsRefusal (status_of r) → new.out ≡ old.out
-  nothing (Ok v) e h = absurd (let k = told_status v in omega arith)
-  nothing (Err c) e h = wrote_nothing c e (λ k. omega arith)
+  nothing : (r : Result Verdict Unjudged) → Ends words old new r → (IsTold (status_of r) → ⊥) → (status_of r ≡ 7 → ⊥) → new.out ≡ old.out
+  nothing (Ok v) e h k = absurd (h (told_status v))
+  nothing (Err c) e h k = wrote_nothing c e k
 
   -- ---- When each status comes
 

@@ -74,10 +74,6 @@ Ends words old new (Err (Refused refusal)) = Wants words (λ wanted. RefusedInpu
 abbrev pub IsTold : ℕ → Type 0
 IsTold status = (status ≡ 0) ⊎ (status ≡ 1) ⊎ (status ≡ 3)
 
--- the status of a refusal that writes nothing
-abbrev pub IsRefusal : ℕ → Type 0
-IsRefusal status = (status ≡ 2) ⊎ (status ≡ 4) ⊎ (status ≡ 5) ⊎ (status ≡ 6) ⊎ (status ≡ 8)
-
 -- what each status says, and when it comes
 pub record Statuses (words : List (List ℕ)) (old new : World) (status : ℕ) : Type 0 where
   -- 0, 1 and 3: the whole text is written, with the status of what it tells: nothing shows and the run ended, something shows, or
@@ -111,8 +107,8 @@ pub record Statuses (words : List (List ℕ)) (old new : World) (status : ℕ) :
   -- 7 only where the count of the sink rose, with a part of the text written; any other status leaves that count
   pub seven : status ≡ 7 → Wants words (λ wanted. (a : Accepted wanted old.files new.files) × WrotePart (verdict_text (verdict_on a)) old.out new.out)
   pub not_seven : status ≢ 7 → new.out.faults ≡ old.out.faults
-  -- the other refusals write nothing
-  pub nothing : IsRefusal status → new.out ≡ old.out
+  -- any status but 0, 1, 3 and 7 writes nothing
+  pub nothing : ¬ IsTold status → status ≢ 7 → new.out ≡ old.out
   -- where the words, the description, the image and the ranges have no fault and no count rose, the whole text is written with its
   -- status, or memory was wanting and nothing is
   pub complete : (wanted : WantedText) (d : Desc) (image : ImageText) → wanted_of words ≡ Some wanted

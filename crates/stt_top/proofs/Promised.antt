@@ -57,7 +57,7 @@ commits d image n out out' al w =
 
 moves_on : (d : Desc) (image : ImageText) (n : ℕ) → Allows d image.ram → MovesOn d image n
 moves_on d image n allows = record {
-  one = λ k le e. retires_within_bound d image.code image.entry image.ram k (every_desc d) allows e;
+  one = λ k e. retires_within_bound d image.code image.entry image.ram k (every_desc d) allows e;
   many = λ m q e. let P : ℕ → Type 0 = λ n. (trace_of d image n).end ≡ None → m ≤ (trace_of d image n).retired in
       subst P (sym q) (λ f. retires_in_budget d image.code image.entry image.ram m (every_desc d) allows f) e;
 }
@@ -69,11 +69,12 @@ hides d image n out out' al w = record {
   agreeing = λ protected m agree. subst (λ t. Wrote (text.trace_text t) out out') (sym (same_trace d image.code image.entry image.ram m n protected al agree)) w;
 }
 
--- two files' images with one entry and code, whose memories agree on what the path loads, have one trace where the model protects
+-- a file's image and any other with its entry and code, whose memories agree on what the path loads, have one trace where the model
+-- protects
 pub traces_agree : TracesAgree
-traces_agree d a b one two n protected f g e c agree =
+traces_agree d file one two n protected f e c agree =
     let first : trace_of d two n ≡ trace d one.code one.entry two.ram n = ap (λ (x : ℕ). trace d two.code x two.ram n) e ∙ ap (λ (x : Code). trace d x one.entry two.ram n) c in
-    ap text.trace_text (first ∙ same_trace d one.code one.entry one.ram two.ram n protected (at_words a _ _ _ one f) agree)
+    ap text.trace_text (first ∙ same_trace d one.code one.entry one.ram two.ram n protected (at_words file _ _ _ one f) agree)
 
 -- the answer on two images whose premise is true is that their runs are the same
 compares : (d : Desc) (one two : ImageText) (n : ℕ) (answer : PairAnswer) (out out' : Told) → Aligned one.code → Answers d one two n answer → Wrote (comparison answer) out out'

@@ -17,7 +17,7 @@ use Rattle.stt_top.specs.Outcome.{status_of}
 use Rattle.run_inputs.specs.Refused.{place_of}
 use Rattle.run_inputs.specs.Input.{description_max, ImageFrom, from_file, from_seed, MayHold, MayBeLonger, DescriptionRefused, NamedRefused, RefusedAt, FailsToRead, HasTooMany, HasFault}
 use Rattle.stt_top.specs.Work.{TaskText, task_of, Work, ComesTo}
-use Rattle.stt_top.specs.Top.{Asks, Done, CommandRefused, Ends, Statuses, sources, description_name, IsAt, Names, ImageRefusedAt, IsRun, IsRefusal}
+use Rattle.stt_top.specs.Top.{Asks, Done, CommandRefused, Ends, Statuses, sources, description_name, IsAt, Names, ImageRefusedAt, IsRun}
 use Rattle.run_inputs.specs.Told.{World, IsFaultyDescription, IsFaultyImage, TellsDesc, TellsBytes, TellsImages, MayBeFaulty}
 use Rattle.run_inputs.proofs.Told.{told_desc, no_desc, not_longer, not_refused, told_at, none_faulty, same_images, no_fault, not_too_many}
 
@@ -145,9 +145,9 @@ module _ (words : List (List ℕ)) (old new : World) where
   not_seven (Ok ended) e h = e.2.1.count
   not_seven (Err refusal) e h = ap (λ (t : Told). t.faults) (wrote_nothing refusal e h)
 
-  nothing : (r : Result Ended Refusal) → Ends words old new r → IsRefusal (status_of r) → new.out ≡ old.out
-  nothing (Ok ended) e h = absurd (let k = run_status ended in omega arith)
-  nothing (Err refusal) e h = wrote_nothing refusal e (λ k. omega arith)
+  nothing : (r : Result Ended Refusal) → Ends words old new r → (IsRun (status_of r) → ⊥) → (status_of r ≡ 7 → ⊥) → new.out ≡ old.out
+  nothing (Ok ended) e h k = absurd (h (run_status ended))
+  nothing (Err refusal) e h k = wrote_nothing refusal e k
 
   -- ---- When each status comes
 

@@ -43,10 +43,10 @@ pub record Commits (d : Desc) (image : ImageText) (n : ℕ) (out out' : Told) : 
 abbrev pub state_at : Desc → ImageText → ℕ → Machine
 state_at d image k = at d image.code image.entry image.ram k
 
--- within every `bound d` of the n cycles one more instruction retires, or the run ends; so a budget of m times that
--- retires m, or the run ends before
+-- within every `bound d` cycles one more instruction retires, or the run ends; so of n cycles, a budget of m times that, m retire,
+-- or the run ends before
 pub record MovesOn (d : Desc) (image : ImageText) (n : ℕ) : Type 0 where
-  pub one : (k : ℕ) → k + bound d ≤ n → (state_at d image (k + bound d)).end ≡ None → (state_at d image k).retired < (state_at d image (k + bound d)).retired
+  pub one : (k : ℕ) → (state_at d image (k + bound d)).end ≡ None → (state_at d image k).retired < (state_at d image (k + bound d)).retired
   pub many : (m : ℕ) → n ≡ m * bound d → (trace_of d image n).end ≡ None → m ≤ (trace_of d image n).retired
 
 -- ---- Noninterference of two runs
@@ -64,9 +64,9 @@ pub record Hides (d : Desc) (image : ImageText) (n : ℕ) (out out' : Told) : Ty
 abbrev pub IsImageOf : Desc → List ℕ → ImageText → Type 0
 IsImageOf d file image = image_of file d.ram_base d.ram_size (d.ram_misaligned == 1) ≡ Ok image
 
--- two files' images with one entry and code, whose memories so agree, have one trace, where the model protects
+-- a file's image and any other with its entry and code, whose memories so agree, have one trace, where the model protects
 abbrev pub TracesAgree : Type 0
-TracesAgree = (d : Desc) (a b : List ℕ) (one two : ImageText) (n : ℕ) → protects d.stt_model ≡ true → IsImageOf d a one → IsImageOf d b two → two.entry ≡ one.entry
+TracesAgree = (d : Desc) (file : List ℕ) (one two : ImageText) (n : ℕ) → protects d.stt_model ≡ true → IsImageOf d file one → two.entry ≡ one.entry
     → two.code ≡ one.code → Agree one.ram two.ram (reads_of_trace d one.code one.entry one.ram n) → trace.trace_text (trace_of d two n) ≡ trace.trace_text (trace_of d one n)
 
 -- what is written is the answer on the runs of two images; and with the premise true it is that they are the same, where the model

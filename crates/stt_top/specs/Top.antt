@@ -89,10 +89,6 @@ ImageRefusedAt command old place Cause = RefusedAt old (description_name command
 abbrev pub IsRun : ℕ → Type 0
 IsRun status = (status ≡ 0) ⊎ (status ≡ 1) ⊎ (status ≡ 3)
 
--- the status of a refusal that writes nothing
-abbrev pub IsRefusal : ℕ → Type 0
-IsRefusal status = (status ≡ 2) ⊎ (status ≡ 4) ⊎ (status ≡ 5) ⊎ (status ≡ 6) ⊎ (status ≡ 8)
-
 -- what each status says, and when it comes
 pub record Statuses (words : List (List ℕ)) (old new : World) (status : ℕ) : Type 0 where
   -- 0, 1 and 3: the command's whole text is written, with the status of what it comes to: the run ended by an exit, by a
@@ -121,8 +117,8 @@ pub record Statuses (words : List (List ℕ)) (old new : World) (status : ℕ) :
   -- 7 only where the count of the sink rose, with a part of the text written; any other status leaves that count
   pub seven : status ≡ 7 → Asks words (λ command. (done : Done command old new) × WrotePart done.work.text old.out new.out)
   pub not_seven : status ≢ 7 → new.out.faults ≡ old.out.faults
-  -- the other refusals write nothing
-  pub nothing : IsRefusal status → new.out ≡ old.out
+  -- any status but 0, 1, 3 and 7 writes nothing
+  pub nothing : ¬ IsRun status → status ≢ 7 → new.out ≡ old.out
   -- where the words, the description and the images have no fault and no count rose, the whole text is written with its
   -- status, or memory was wanting and nothing is
   pub complete : (command : CommandText) (desc : Option Desc) (images : List ImageText) (task : TaskText) → command_of words ≡ Some command

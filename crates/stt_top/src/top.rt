@@ -69,9 +69,9 @@ pub fn one_work()
     ensures { OneWork }
 {}
 
-/// Two files' images with one entry and one code have one trace under a description, where their memories agree on each byte that the
-/// path loads in as many steps as the machine retires and the window may hold besides (`docs/theorems.md`,
-/// "Noninterference").
+/// A file's image and any other with its entry and code have one trace under a description whose model protects, where their memories
+/// agree on each byte that the path loads in as many steps as the machine retires and the window may hold besides
+/// (`docs/theorems.md`, "Noninterference").
 pub fn traces_agree()
     ensures { TracesAgree }
 {}

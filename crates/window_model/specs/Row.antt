@@ -66,7 +66,3 @@ most_before_retire = most_filled + most_done + most_resolved + most_cleared
 -- the most events of the phases after Retire: Issue, Rename and Fetch
 abbrev pub most_after_retire : ℕ
 most_after_retire = most_issued + most_fetched + most_fetched
-
--- the most events of a whole cycle
-abbrev pub most_events : ℕ
-most_events = most_before_retire + most_retired + most_after_retire

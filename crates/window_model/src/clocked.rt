@@ -4,7 +4,6 @@ ghost use Rattle.rv_types.specs.Memory.{Code};
 ghost use Rattle.machine_desc.specs.declared.Desc.{Desc};
 ghost use Rattle.window_model.specs.State.{Machine};
 ghost use Rattle.window_model.specs.Cycle.{Cycled, cycle};
-ghost use Rattle.window_model.specs.Row.{most_events};
 ghost use Rattle.window_model.specs.Committed.{Commits};
 
 use crate::Row;
@@ -33,7 +32,7 @@ pub trait Clocked {
         ensures commits { Commits (code self.old) (machine self.old) (machine self.new) piece.new }
         ensures desc { desc self.new ≡ desc self.old }
         ensures code { code self.new ≡ code self.old }
-        ensures events { length row.new.events ≤ most_events };
+        ensures events { length row.new.events ≤ 232 };
 
     /// How the run ended, None while it goes on.
     fn end(&self) -> Option<End>
