@@ -5,3 +5,4 @@ pub mod Watching
 pub mod Looking
 pub mod Secrets
 pub mod Stamps
+pub mod Unexposed

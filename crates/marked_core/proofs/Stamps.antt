@@ -29,7 +29,7 @@ use Rattle.window_model.proofs.Clearing.{clear_keep}
 use Rattle.window_model.proofs.Issuing.{by_issue, gone_parts}
 use Rattle.window_model.proofs.Placing.{place_keep}
 use Rattle.window_model.proofs.Quiet.{at_retire, cycle_is}
-use Rattle.window_model.proofs.Resolving.{resolved_one}
+use Rattle.window_model.proofs.Resolving.{MayResolve, resolved_one}
 use Rattle.window_model.proofs.Walks.{fetch_keep, rename_keep}
 use Rattle.machine_facts.specs.Timely.{PartDue, PartsDue}
 use Rattle.machine_facts.proofs.Adds.{complete_adds, fill_adds, resolve_adds, retire_turns}
@@ -63,7 +63,7 @@ module _ (P : Entry → Type 0) where
   each_more [] e h p = (p, tt)
   each_more (f ∷ es) e h p = (h.0, each_more es e h.1 p)
 
-  module _ (done : (e : Entry) → P e → P (record e { state = Done })) (resolved : (e : Entry) → P e → P (resolved_one e)) (cleared : (e : Entry) → P e → P (cleared_one e)) where
+  module _ (done : (e : Entry) → P e → P (record e { state = Done })) (resolved : (d : Desc) (b : List Entry) (e : Entry) → MayResolve d b e → P e → P (resolved_one e)) (cleared : (e : Entry) → P e → P (cleared_one e)) where
     one_completed : (b : Bool) (e : Entry) → P e → P (if b then record e { state = Done } else e)
     one_completed true e h = done e h
     one_completed false e h = h
@@ -74,7 +74,7 @@ module _ (P : Entry → Type 0) where
 
     all_resolved : (d : Desc) (x : Machine) → Each P x.window → Each P (resolve d x).machine.window
     all_resolved d x h =
-        place_keep d (Each P) each_front (λ b e ys may h. each_swap (reverse b) e (resolved_one e) ys ys (resolved e) (λ k. k) h) x h
+        place_keep d (Each P) each_front (λ b e ys may h. each_swap (reverse b) e (resolved_one e) ys ys (resolved d b e may) (λ k. k) h) x h
 
     all_cleared : (d : Desc) (x : Machine) → Each P x.window → Each P (clear d x).machine.window
     all_cleared d x h =
@@ -89,7 +89,7 @@ module _ (P : Entry → Type 0) where
     all_retired d x h = let w = retire_went d x in each_back w.gone (retire d x).machine.window (subst (Each P) w.is h)
 
     -- what holds of each entry between cycles, and doesn't ask for its progress, holds of each that Issue finds
-    found_by_issue : (d : Desc) (x : Machine) → Each P x.window → Each P (retire d (at_retire d x)).machine.window
+    pub found_by_issue : (d : Desc) (x : Machine) → Each P x.window → Each P (retire d (at_retire d x)).machine.window
     found_by_issue d x h =
         let x2 = (fill d (begins_cycle x)).machine in
         let x3 = (complete x2).machine in
@@ -128,7 +128,7 @@ pub found_not_yet : (d : Desc) (x : Machine) → Each (IssuedBy x.cycle) x.windo
 found_not_yet d x h p =
     let y = (retire d (at_retire d x)).machine in
     subst (λ n. Each (NotYet n) y.window) (sym (number_found d x))
-    (found_by_issue (NotYet (x.cycle + 1)) (λ e h. h) (λ e h. h) (λ e h. h) d x (all_not_yet x.cycle x.window h p))
+    (found_by_issue (NotYet (x.cycle + 1)) (λ e h. h) (λ d b e may h. h) (λ e h. h) d x (all_not_yet x.cycle x.window h p))
 
 -- ---- after a cycle no entry has issued in a later one
 
@@ -179,7 +179,7 @@ cycle_issued d code x h =
     let y = (retire d (at_retire d x)).machine in
     subst (λ (z : Machine). Each (IssuedBy (x.cycle + 1)) z.window) (sym (cycle_is d code x))
     (by_end d code (x.cycle + 1) y.end y (number_found d x)
-    (found_by_issue (IssuedBy (x.cycle + 1)) (λ e h. h) (λ e h. h) (λ e h. h) d x (all_later x.cycle x.window h)))
+    (found_by_issue (IssuedBy (x.cycle + 1)) (λ e h. h) (λ d b e may h. h) (λ e h. h) d x (all_later x.cycle x.window h)))
 
 -- ---- where Issue has no event, no mark moves
 

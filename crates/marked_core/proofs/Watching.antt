@@ -111,7 +111,7 @@ by_end : (d : Desc) (code : Code) (r : Watched) (o : Option End) →
 by_end d code r None = refl
 by_end d code r (Some e) = refl
 
-halves : (d : Desc) (code : Code) (x : Machine) (m : Marks) →
+pub halves : (d : Desc) (code : Code) (x : Machine) (m : Marks) →
     (let l = to_clear d (begins_cycle x) m in let t = watch_retire d l.machine l.marks in (from_issue d code t.machine t.marks).marks) ≡ (watch_cycle d code x m).marks
 halves d code x m = let r = watch_before d x m in sym (by_end d code r r.machine.end)
 

@@ -27,14 +27,16 @@ fn or_else(first: Option<Shown>, second: Option<Shown>) -> Option<Shown>
     }
 }
 
-/// One cycle, as that of any core; how the marks move in it, and what shows in it first.
+/// One cycle, as that of any core; how the marks move in it, and what shows in it first. Before it and after it `unexposed` notes
+/// whether nothing resolved is marked.
 pub(crate) fn clock<R: RenameTaint>(
     parts: &mut Parts<R>,
     marks: &mut Marks,
+    unexposed: &mut bool,
     row: &mut Row,
     piece: &mut Piece,
 ) -> Option<Shown>
-    requires between { Between parts.old marks.old }
+    requires between { Between parts.old marks.old unexposed.old }
     requires running { parts.old.machine.end ≡ None }
     requires few { parts.old.machine.cycle < 2 ^ 32 - 1 }
     ensures cycled { record { machine = parts.new.machine; row = row.new; piece = piece.new }
@@ -46,12 +48,13 @@ pub(crate) fn clock<R: RenameTaint>(
     ensures marks { marks_of marks.new ≡ (watch_cycle parts.old.desc (word_at parts.old.code) parts.old.machine
         (marks_of marks.old)).marks }
     ensures shown { result ≡ shown_cycle parts.old.desc parts.old.machine (marks_of marks.old) }
-    ensures between { Between parts.new marks.new }
+    ensures between { Between parts.new marks.new unexposed.new }
 {
     parts.begin();
     row.begin(parts.cycle);
     piece.clear();
-    let resolved = before_retire(parts, marks, row);
+    let resolved = before_retire(parts, marks, *unexposed, row);
+    *unexposed = resolved.is_none();
     let asked = retire_marked(parts, marks, row, piece);
     let operand = after_retire(parts, marks, row);
     or_else(resolved, or_else(asked, operand))

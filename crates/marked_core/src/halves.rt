@@ -14,7 +14,7 @@ ghost use Rattle.window_model.specs.Row.{
 };
 ghost use Rattle.core_cycle.specs.Phases.{phases_after, phases_before};
 ghost use Rattle.entry_marks.specs.Walk.{marks_of};
-ghost use Rattle.marked_core.specs.InStep.{InStep, NotYet};
+ghost use Rattle.marked_core.specs.InStep.{AsNoted, InStep, NotYet};
 ghost use Rattle.marked_core.specs.Watched.{from_issue, shown_from_issue, shown_to_clear, to_clear};
 
 use crate::phases::{clear_marked, issue_marked, rename_marked, resolve_marked};
@@ -27,15 +27,17 @@ use rename_taint::RenameTaint;
 use secret_marks::Shown;
 use window_model::Row;
 
-/// The phases before Retire, as those of any core, and what shows in them.
+/// The phases before Retire, as those of any core, and what shows in them. `unexposed` notes that nothing resolved is marked.
 pub(crate) fn before_retire<R: RenameTaint>(
     parts: &mut Parts<R>,
     marks: &mut Marks,
+    unexposed: bool,
     row: &mut Row,
 ) -> Option<Shown>
     requires advanced { HasAdvanced parts.old.point parts.old.machine.window }
     requires room { HasRoom most_before_retire row.old }
     requires step { InStep parts.old marks.old }
+    requires noted { AsNoted unexposed parts.old.machine.window marks.old.window.items }
     ensures machine { parts.new
         ≡ record parts.old { machine = (phases_before parts.old).machine; point = parts.new.point } }
     ensures row { row.new ≡ with_events row.old (phases_before parts.old).events }
@@ -50,7 +52,7 @@ pub(crate) fn before_retire<R: RenameTaint>(
     complete(parts, row);
     advance_after_complete(parts, filled, row);
     let completed = row.events().len();
-    let shown = resolve_marked(parts, marks, row);
+    let shown = resolve_marked(parts, marks, unexposed, row);
     advance_after(parts, completed, row);
     let resolved = row.events().len();
     clear_marked(parts, marks, row);

@@ -28,6 +28,8 @@ use window_model::Row;
 pub struct MarkedCore<R: RenameTaint> {
     parts: Box<Parts<R>>,
     marks: Marks,
+    // Whether it is noted that no branch or JALR in flight is resolved with a marked outcome.
+    unexposed: bool,
 }
 
 impl<R: RenameTaint> Model for MarkedCore<R> {
@@ -46,7 +48,7 @@ impl<R: RenameTaint> Model for MarkedCore<R> {
       marks = marks_of c.marks;
     } };
 
-    ghost invariant = { λ c. Between c.parts.value c.marks };
+    ghost invariant = { λ c. Between c.parts.value c.marks c.unexposed };
 }
 
 impl<R: RenameTaint + Drop> MarkedCore<R> {
@@ -71,7 +73,11 @@ impl<R: RenameTaint + Drop> MarkedCore<R> {
         let marks = opening_marks(alloc, desc, &ram, secret)?;
         let parts = Parts::new(alloc, desc, code, entry, ram)?;
         match Box::new(alloc, parts) {
-            Ok(parts) => Ok(MarkedCore { parts, marks }),
+            Ok(parts) => Ok(MarkedCore {
+                parts,
+                marks,
+                unexposed: true,
+            }),
             Err(_) => Err(NoMemory),
         }
     }
@@ -93,7 +99,13 @@ impl<R: RenameTaint> MarkedCore<R> {
             ≡ (watch_cycle self.old.desc (word_at self.old.code) self.old.machine self.old.marks).marks }
         ensures shown { result ≡ shown_cycle self.old.desc self.old.machine self.old.marks }
     {
-        clock(&mut self.parts, &mut self.marks, row, piece)
+        clock(
+            &mut self.parts,
+            &mut self.marks,
+            &mut self.unexposed,
+            row,
+            piece,
+        )
     }
 
     /// How the run ended, None while it goes on.

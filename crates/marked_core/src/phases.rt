@@ -24,7 +24,7 @@ ghost use Rattle.window_model.specs.Row.{
 ghost use Rattle.secret_marks.specs.Marks.{after_issue_marks, after_retire_marks, cut, extended};
 ghost use Rattle.secret_marks.specs.Shown.{head_shown, operands_shown, resolved_shown};
 ghost use Rattle.entry_marks.specs.Walk.{marks_of};
-ghost use Rattle.marked_core.specs.InStep.{InStep, NotYet};
+ghost use Rattle.marked_core.specs.InStep.{AsNoted, InStep, NotYet};
 
 use clear::clear;
 use core_cycle::retire;
@@ -55,15 +55,17 @@ fn base<R: RenameTaint>(parts: &Parts<R>) -> u32
 }
 
 /// Phase Resolve. Marks are left of the entries that are left. What shows is the oldest branch or JALR that is then resolved with a
-/// marked outcome.
+/// marked outcome. Where `unexposed` notes that none was so before, and the phase has no event, none is.
 pub(crate) fn resolve_marked<R: RenameTaint>(
     parts: &mut Parts<R>,
     marks: &mut Marks,
+    unexposed: bool,
     row: &mut Row,
 ) -> Option<Shown>
     requires advanced { HasAdvanced parts.old.point parts.old.machine.window }
     requires room { HasRoom most_resolved row.old }
     requires step { InStep parts.old marks.old }
+    requires noted { AsNoted unexposed parts.old.machine.window marks.old.window.items }
     ensures machine { parts.new ≡ record parts.old { machine = (resolve parts.old.desc parts.old.machine).machine } }
     ensures row { row.new ≡ with_events row.old (resolve parts.old.desc parts.old.machine).events }
     ensures few { IsLonger most_resolved row.old row.new }
@@ -71,7 +73,11 @@ pub(crate) fn resolve_marked<R: RenameTaint>(
     ensures shown { result ≡ resolved_shown parts.new.machine.window (marks_of marks.new).window }
     ensures step { InStep parts.new marks.new }
 {
+    let before = row.events().len();
     resolve(parts, row);
+    if unexposed && row.events().len() == before {
+        return None;
+    }
     cut(&mut marks.window, entries(parts));
     resolved_shown(parts.rob(), &marks.window)
 }

@@ -1,4 +1,4 @@
-use Rattle.std.proofs.Common.{◌∙◌, ap, arith, refl, subst, sym}
+use Rattle.std.proofs.Common.{◌≡◌, ◌∙◌, [], None, ap, arith, refl, subst, sym}
 use Rattle.std.specs.List.{AllByRecursion as Each}
 use Rattle.elf_loader.specs.Code.{word_at}
 use Rattle.machine_facts.proofs.FewEvents.{cycle_number}
@@ -6,18 +6,26 @@ use Rattle.window_model.specs.Cycle.{cycle}
 use Rattle.window_model.specs.State.{Machine}
 use Rattle.marked_core.specs.InStep.{IssuedBy, NotYet}
 use Rattle.quiet_cycles.specs.Still.{empty_row}
-use Rattle.secret_marks.specs.Shown.{or_else}
+use Rattle.secret_marks.specs.Marks.{Marks}
+use Rattle.secret_marks.specs.Shown.{or_else, resolved_shown}
+use Rattle.entry_marks.specs.Walk.{marks_of}
 use Rattle.core_parts.specs.Described.{Described}
 use Rattle.core_cycle.specs.Kept.{Kept}
 use Rattle.core_cycle.proofs.Cycling.{Fronts, code_backed, count_stays, cycle_is, cycle_retires, desc_backed, end_stays, machine_is, machine_left, serial_stays, settled_left, text_aligned}
 use Rattle.core_cycle.proofs.Passing.{kept_after}
 use Rattle.marked_core.proofs.Stamps.{cycle_issued, found_not_yet}
+use Rattle.marked_core.specs.Watched.{shown_to_clear}
 use Rattle.marked_core.proofs.Steps.{over_phase}
+use Rattle.marked_core.proofs.Unexposed.{cycle_unexposed, none_told, none_waits}
 use Rattle.marked_core.proofs.Watching.{bytes_backed, bytes_fronted, cycle_marks, cycle_shows}
 use Rattle.marked_core.proofs.clocking.clock.Goals as goal
 
 pub before_retire-resolved-requires-clause-step : goal.before_retire-resolved-requires-clause-step
 before_retire-resolved-requires-clause-step g c = over_phase _ c.begin.new.self _ _ c.begin.ensures refl c.requires.between.step
+
+pub before_retire-resolved-requires-clause-noted : goal.before_retire-resolved-requires-clause-noted
+before_retire-resolved-requires-clause-noted g c = λ h.
+    subst (λ (s : Described). resolved_shown s.machine.window c.args.marks.now.window.items ≡ None) (sym c.begin.ensures) (c.requires.between.noted h)
 
 pub retire_marked-asked-requires-clause-running : goal.retire_marked-asked-requires-clause-running
 retire_marked-asked-requires-clause-running g c =
@@ -86,6 +94,9 @@ returns-clause-between g c =
     let same = machine_is s s1 s2 p s3 c.retire_marked-asked.ensures.machine s4 c.after_retire-operand.ensures.machine in
     let desc = desc_backed s s1 s2 p s3 c.retire_marked-asked.ensures.machine s4 c.after_retire-operand.ensures.machine in
     let code = code_backed s s1 s2 p s3 c.retire_marked-asked.ensures.machine s4 c.after_retire-operand.ensures.machine in
+    let watched =
+    cycle_marks s s1 s2 p _ _ c.before_retire-resolved.ensures.marks s3 c.retire_marked-asked.ensures.machine _ c.retire_marked-asked.ensures.marks _ c.after_retire-operand.ensures.marks in
+    let told = c.before_retire-resolved.ensures.shown ∙ ap (λ (s : Described). shown_to_clear s.desc s.machine (marks_of c.args.marks.now)) c.begin.ensures in
     record {
       kept =
           subst (λ code. Kept (word_at code) s4) (sym code)
@@ -95,5 +106,10 @@ returns-clause-between g c =
           subst (λ (x : Machine). Each (IssuedBy x.cycle) x.window) (sym same)
           (subst (λ n. Each (IssuedBy n) (cycle s.desc (word_at s.code) s.machine).machine.window) (sym (cycle_number s.desc (word_at s.code) s.machine))
           (cycle_issued s.desc (word_at s.code) s.machine c.requires.between.issued));
+      noted = λ none.
+          subst (λ (x : Machine). resolved_shown x.window c.after_retire-operand.new.marks.window.items ≡ None) (sym same)
+          (subst (λ (m : Marks). resolved_shown (cycle s.desc (word_at s.code) s.machine).machine.window m.window ≡ None) (sym watched)
+          (cycle_unexposed s.desc (word_at s.code) s.machine (marks_of c.args.marks.now) (none_waits _ _ _ _ [] _ c.requires.between.kept.consistent.entries) c.requires.between.issued
+          c.requires.between.kept.timely.parts (sym told ∙ none_told c.before_retire-resolved.result c.is_none.result c.is_none.ensures none)));
       memory = bytes_backed s3 s4 c.after_retire-operand.ensures.machine c.retire_marked-asked.new.marks c.after_retire-operand.new.marks c.after_retire-operand.ensures.marks c.retire_marked-asked.ensures.memory;
     }

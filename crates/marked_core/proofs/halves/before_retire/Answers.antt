@@ -1,8 +1,10 @@
-use Rattle.std.proofs.Common.{ap, ◌∙◌, length, refl}
+use Rattle.std.proofs.Common.{◌≡◌, ap, ◌∙◌, None, length, refl, subst, sym}
 use Rattle.core_parts.specs.Described.{Described}
 use Rattle.core_cycle.proofs.Advanced.{complete_advanced}
 use Rattle.core_cycle.proofs.Moving.{clear_silent, complete_silent, described_advanced, resolve_silent}
 use Rattle.core_cycle.proofs.Fronts.{fronts_machine, fronts_row}
+use Rattle.secret_marks.specs.Shown.{resolved_shown}
+use Rattle.marked_core.proofs.Unexposed.{complete_unexposed}
 use Rattle.marked_core.proofs.Lengths.{complete_keeps}
 use Rattle.marked_core.proofs.Steps.{over_phase, over_point}
 use Rattle.marked_core.proofs.Watching.{front_marks, front_shows}
@@ -25,6 +27,13 @@ resolve_marked-shown-requires-clause-step g c =
     over_point c.complete.new.parts c.advance_after_complete.new.parts _ _ c.advance_after_complete.ensures.others
     (over_phase c.fill.new.parts c.complete.new.parts _ _ c.complete.ensures.machine (complete_keeps c.fill.new.parts.machine)
     (over_phase c.args.parts.now c.fill.new.parts _ _ c.fill.ensures.machine refl c.requires.step))
+
+pub resolve_marked-shown-requires-clause-noted : goal.resolve_marked-shown-requires-clause-noted
+resolve_marked-shown-requires-clause-noted g c = λ h.
+    let ms = c.args.marks.now.window.items in
+    let window = ap (λ (s : Described). s.machine.window) c.advance_after_complete.ensures.others ∙ ap (λ (s : Described). s.machine.window) c.complete.ensures.machine in
+    subst (λ w. resolved_shown w ms ≡ None) (sym window)
+    (complete_unexposed c.fill.new.parts.machine ms (subst (λ (s : Described). resolved_shown s.machine.window ms ≡ None) (sym c.fill.ensures.machine) (c.requires.noted h)))
 
 pub advance_after-requires : goal.advance_after-requires
 advance_after-requires g c = record {
