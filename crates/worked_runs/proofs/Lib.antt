@@ -11,3 +11,4 @@ pub mod Unprotected
 pub mod Held
 pub mod Values
 pub mod Paths
+pub mod Limits

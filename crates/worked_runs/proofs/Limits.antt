@@ -1,0 +1,247 @@
+-- Each size at its most: what the largest description has room for, and what it hasn't (docs/formats.md, "Keys" and "Keys that may be left
+-- out"; docs/machine.md).
+use Rattle.std.proofs.Common.{◌≡◌, ℕ, zero, suc, List, [], ◌∷◌, Option, Some, None, refl, inr, lit<, lit≤}
+use Rattle.std.specs.Prelude.{Bool, true, false, ◌+◌, ◌*◌, length, map, replicate, slice_index_or}
+use Rattle.std.specs.List.{fold}
+use Rattle.rv_types.specs.Decode.{decode}
+use Rattle.rv_types.specs.Kind.{kind_of}
+use Rattle.machine_desc.specs.declared.Desc.{Desc}
+use Rattle.machine_desc.specs.declared.SttModel.TheVariants.{Spectre}
+use Rattle.machine_desc.specs.declared.Defence.TheVariants.{Stt}
+use Rattle.machine_desc.specs.Ranges.{bound}
+use Rattle.window_model.specs.declared.Entry.{Entry}
+use Rattle.window_model.specs.declared.Item.{Item}
+use Rattle.window_model.specs.declared.Mark.{Mark}
+use Rattle.window_model.specs.declared.Progress.{Progress}
+use Rattle.window_model.specs.declared.Progress.TheVariants.{Waiting, Done}
+use Rattle.window_model.specs.Around.{around}
+use Rattle.window_model.specs.Access.{Access, Looks, Waits, Faults, Forwards, access}
+use Rattle.window_model.specs.Dependence.{bit_index}
+use Rattle.window_model.specs.Fetch.{fetch}
+use Rattle.window_model.specs.Fill.{with_line}
+use Rattle.window_model.specs.History.{no_mark, counter_index, shifted, pushed, stack}
+use Rattle.window_model.specs.Issue.{ports, AluPort}
+use Rattle.window_model.specs.Rename.{fits}
+use Rattle.window_model.specs.Resolve.{index}
+use Rattle.window_model.specs.SecondLevel.{second_set_of, second_with_line}
+use Rattle.window_model.specs.State.{Machine, Miss, opening, set_of}
+use Rattle.window_model.proofs.Worked.{memory}
+
+-- each number the most that version 2 knows, but for RAM's
+abbrev largest : Desc
+largest = record {
+  version = 2;
+  core_fetch_width = 4;
+  core_retire_width = 4;
+  core_rob = 192;
+  core_stations = 96;
+  core_loads = 64;
+  core_stores = 48;
+  core_queue = 32;
+  units_alus = 4;
+  units_mul_latency = 8;
+  predictor_counters = 4096;
+  predictor_btb = 256;
+  predictor_depend = 1024;
+  predictor_history = 12;
+  predictor_returns = 16;
+  cache_sets = 256;
+  cache_ways = 8;
+  cache_line = 64;
+  cache_hit_latency = 8;
+  cache_miss_latency = 200;
+  cache_mshrs = 8;
+  cache_second_sets = 1024;
+  cache_second_ways = 8;
+  cache_second_latency = 100;
+  cache_prefetch = 1;
+  ram_base = 65536;
+  ram_size = 65536;
+  ram_misaligned = 1;
+  stt_model = Spectre;
+  stt_defence = Stt;
+  some_version = lit≤ tt;
+  known_version = lit≤ tt;
+  some_fetches = lit≤ tt;
+  few_fetches = lit≤ tt;
+  some_retires = lit≤ tt;
+  few_retires = lit≤ tt;
+  some_entries = lit≤ tt;
+  few_entries = lit≤ tt;
+  some_stations = lit≤ tt;
+  few_stations = lit≤ tt;
+  some_loads = lit≤ tt;
+  few_loads = lit≤ tt;
+  some_stores = lit≤ tt;
+  few_stores = lit≤ tt;
+  some_queue = lit≤ tt;
+  short_queue = lit≤ tt;
+  some_alus = lit≤ tt;
+  few_alus = lit≤ tt;
+  some_mul_latency = lit≤ tt;
+  short_mul_latency = lit≤ tt;
+  some_counters = lit≤ tt;
+  few_counters = lit≤ tt;
+  counters_power = (12, refl);
+  some_targets = lit≤ tt;
+  few_targets = lit≤ tt;
+  targets_power = (8, refl);
+  some_sets = lit≤ tt;
+  few_sets = lit≤ tt;
+  sets_power = (8, refl);
+  some_ways = lit≤ tt;
+  few_ways = lit≤ tt;
+  some_bytes = lit≤ tt;
+  few_bytes = lit≤ tt;
+  line_power = (6, refl);
+  some_hit_latency = lit≤ tt;
+  short_hit_latency = lit≤ tt;
+  miss_above_hit = lit< tt;
+  short_miss_latency = lit≤ tt;
+  some_misses = lit≤ tt;
+  few_misses = lit≤ tt;
+  low_base = lit≤ tt;
+  base_aligned = refl;
+  some_ram = lit≤ tt;
+  small_ram = lit≤ tt;
+  size_aligned = refl;
+  ram_ends = lit≤ tt;
+  few_misaligned = lit≤ tt;
+  few_depend = lit≤ tt;
+  depend_power = inr (10, refl);
+  short_history = lit≤ tt;
+  few_returns = lit≤ tt;
+  few_second_sets = lit≤ tt;
+  second_sets_power = inr (10, refl);
+  some_second_ways = lit≤ tt;
+  few_second_ways = lit≤ tt;
+  some_second_latency = lit≤ tt;
+  short_second_latency = lit≤ tt;
+  few_prefetches = lit≤ tt;
+  two_lines = lit≤ tt;
+  second_between = refl;
+  model_known = refl;
+  defence_known = refl;
+}
+
+-- the item of a word at 0x10000
+abbrev item_of : ℕ → Item
+item_of w = record { pc = 0x10000; instr = decode w; kind = kind_of (decode w); predicted = Some 0x10004; mark = no_mark }
+
+-- an entry of a word, that waits or is done
+abbrev entry_of : Progress → ℕ → Entry
+entry_of state w = record {
+  serial = 0;
+  item = item_of w;
+  state = state;
+  outcome = None;
+  resolved = false;
+  issued = None;
+  addr_due = None;
+  data_due = None;
+  cleared = true;
+}
+
+-- so many of them, and one more of the word
+abbrev fits_behind : ℕ → Progress → ℕ → Bool
+fits_behind count state w = fits largest (replicate count (entry_of state w)) (item_of w)
+
+-- add x7,x2,x6, done: 192 entries
+window : map (λ n. fits_behind n Done 0x006103b3) (191 ∷ 192 ∷ []) ≡ true ∷ false ∷ []
+unfolding decode
+window = refl
+
+-- waiting: 96 stations
+stations : map (λ n. fits_behind n Waiting 0x006103b3) (95 ∷ 96 ∷ []) ≡ true ∷ false ∷ []
+unfolding decode
+stations = refl
+
+-- lw x5,0(x2): 64 loads
+loads : map (λ n. fits_behind n Done 0x00012283) (63 ∷ 64 ∷ []) ≡ true ∷ false ∷ []
+unfolding decode
+loads = refl
+
+-- sw x5,4(x2): 48 stores
+stores : map (λ n. fits_behind n Done 0x00512223) (47 ∷ 48 ∷ []) ≡ true ∷ false ∷ []
+unfolding decode
+stores = refl
+
+-- the machine as it begins, in a memory that takes any address
+abbrev start : Machine
+start = opening largest 0x10000 (record (memory 0 0) { misaligned = true })
+
+-- how many items more are fetched behind so many, where every word is add x7,x2,x6
+abbrev fetched_behind : ℕ → ℕ
+fetched_behind count = length (fetch largest (λ pc. Some 0x006103b3) (record start { queue = replicate count (item_of 0x006103b3) })).events
+
+-- 32 items in the queue, and four fetched a cycle
+queue : map fetched_behind (0 ∷ 28 ∷ 29 ∷ 31 ∷ 32 ∷ []) ≡ 4 ∷ 4 ∷ 3 ∷ 1 ∷ 0 ∷ []
+unfolding decode memory fetch
+queue = refl
+
+-- ---- lines
+
+-- how many lines an access looks up, besides how many are prefetched: none where registers lack
+abbrev looks : Access → List ℕ
+looks (Looks found ahead) = length found ∷ length ahead ∷ []
+looks _ = []
+
+-- the load of a word at an address while so many registers wait for other lines
+abbrev with_misses : ℕ → ℕ → List ℕ
+with_misses count address =
+    looks (access largest (around (record start { misses = replicate count (record { line = 0; due = 9; from_memory = true }) })) [] address 4)
+
+-- eight registers: one line needs one, the line behind it another, and an access across two lines two
+registers : map (λ n. with_misses n 0x18000) (6 ∷ 7 ∷ 8 ∷ []) ≡ (1 ∷ 1 ∷ []) ∷ (1 ∷ 0 ∷ []) ∷ [] ∷ []
+unfolding memory
+registers = refl
+
+registers_across : map (λ n. with_misses n 0x1803e) (5 ∷ 6 ∷ 7 ∷ []) ≡ (2 ∷ 1 ∷ []) ∷ (2 ∷ 0 ∷ []) ∷ [] ∷ []
+unfolding memory
+registers_across = refl
+
+-- nine lines of one set enter in turn, of the cache 16,384 bytes apart: the first goes, and eight stay
+ways : slice_index_or (fold (with_line largest) start.cache (map (λ k. 16384 * k) (0 ∷ 1 ∷ 2 ∷ 3 ∷ 4 ∷ 5 ∷ 6 ∷ 7 ∷ 8 ∷ []))) 0 []
+    ≡ map (λ k. 16384 * k) (8 ∷ 7 ∷ 6 ∷ 5 ∷ 4 ∷ 3 ∷ 2 ∷ 1 ∷ [])
+unfolding memory
+ways = refl
+
+-- of the second level 65,536 bytes apart
+second_ways : slice_index_or (fold (second_with_line largest) start.second (map (λ k. 65536 * k) (0 ∷ 1 ∷ 2 ∷ 3 ∷ 4 ∷ 5 ∷ 6 ∷ 7 ∷ 8 ∷ []))) 0 []
+    ≡ map (λ k. 65536 * k) (8 ∷ 7 ∷ 6 ∷ 5 ∷ 4 ∷ 3 ∷ 2 ∷ 1 ∷ [])
+unfolding memory
+second_ways = refl
+
+-- 256 sets of lines of 64 bytes, and 1,024 in the second level
+sets : map (set_of largest) (64 ∷ 16320 ∷ 16384 ∷ []) ≡ 1 ∷ 255 ∷ 0 ∷ []
+sets = refl
+
+second_sets : map (second_set_of largest) (64 ∷ 65472 ∷ 65536 ∷ []) ≡ 1 ∷ 1023 ∷ 0 ∷ []
+second_sets = refl
+
+-- ---- what is predicted, and the units
+
+-- 4,096 counters, 256 targets, 1,024 bits of dependence
+counters : map (counter_index largest no_mark) (4 ∷ 16380 ∷ 16384 ∷ []) ≡ 1 ∷ 4095 ∷ 0 ∷ []
+counters = refl
+
+targets : map (λ pc. index pc largest.predictor_btb) (4 ∷ 1020 ∷ 1024 ∷ []) ≡ 1 ∷ 255 ∷ 0 ∷ []
+targets = refl
+
+bits : map (bit_index largest) (4 ∷ 4092 ∷ 4096 ∷ []) ≡ 1 ∷ 1023 ∷ 0 ∷ []
+bits = refl
+
+-- thirteen branches are taken, of which twelve count; of seventeen addresses sixteen stay
+history : (fold (λ m way. shifted largest way m) no_mark (replicate 13 true)).history ≡ 4095
+history = refl
+
+addresses : stack (fold (λ m a. pushed largest a m) no_mark (1 ∷ 2 ∷ 3 ∷ 4 ∷ 5 ∷ 6 ∷ 7 ∷ 8 ∷ 9 ∷ 10 ∷ 11 ∷ 12 ∷ 13 ∷ 14 ∷ 15 ∷ 16 ∷ 17 ∷ []))
+    ≡ 17 ∷ 16 ∷ 15 ∷ 14 ∷ 13 ∷ 12 ∷ 11 ∷ 10 ∷ 9 ∷ 8 ∷ 7 ∷ 6 ∷ 5 ∷ 4 ∷ 3 ∷ 2 ∷ []
+addresses = refl
+
+units : ports largest AluPort ≡ 4
+units = refl
+
+-- 96, twice a miss of 200, a hit of 8 and a multiplication of 8
+bound_of_the_largest : bound largest ≡ 512
+bound_of_the_largest = refl
