@@ -21,6 +21,8 @@ mod hostile;
 #[cfg(test)]
 mod images;
 #[cfg(test)]
+mod largest;
+#[cfg(test)]
 mod lines;
 #[cfg(test)]
 mod machine;

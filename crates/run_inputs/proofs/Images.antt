@@ -46,7 +46,7 @@ loads file s base size misaligned ram i q h r f m e c =
 pub load_refused : (which : Which) (file s : List ℕ) (base size : ℕ) (misaligned : Bool) (ram : Ram) (e : ElfFault) → s ≡ file → header_fault file ≡ None
     → ram ≡ empty base size misaligned → ((e ≡ elf.NoMemory) × (ram_fault s ram ≡ None)) ⊎ (ram_fault s ram ≡ Some e)
     → LoadRefused which file base size misaligned (refusal_of which e)
-load_refused which file s base size misaligned ram elf.NoMemory q h r f = tt
+load_refused which file s base size misaligned ram elf.NoMemory q h r f = h
 load_refused which file s base size misaligned ram e q h r (inl m) = let k = m.0 in absurd (cc)
 load_refused which file s base size misaligned ram e q h r (inr f) = (refl, memory_refuses file s base size misaligned ram _ q h r f)
 

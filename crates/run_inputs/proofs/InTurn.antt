@@ -80,7 +80,7 @@ image_refused old mid new name sources which desc from (Image w fault) r t h =
       },
       counts_after old mid new r.counts h.2,
     )
-image_refused old mid new name sources which desc from Memory r t h = counts_after old mid new r.counts h
+image_refused old mid new name sources which desc from Memory r t h = counts_after old mid new r.counts h.1
 image_refused old mid new name sources which desc from _ r t h = absurd h
 
 -- ---- What was read before

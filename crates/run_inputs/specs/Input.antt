@@ -1,6 +1,7 @@
 -- What the program reads, and why it may be refused (docs/theorems.md, "What is read"): a description, if one is named, and
 -- then images in their order, each read and loaded before the next is read.
-use Rattle.std.specs.Prelude.{◌≡◌, ℕ, ◌==◌, Bool, false, List, [], ◌∷◌, take, slice_get, Option, Some, None, Result, Ok, Err, MatchResult}
+use Rattle.std.specs.Prelude.{◌≡◌, ◌⊎◌, ℕ, ◌==◌, IsUtf8, Bool, false, List, [], ◌∷◌, take, slice_get, Option, Some, None, Result, Ok, Err, MatchResult}
+use Rattle.elf_loader.specs.Faults.{header_fault}
 use Rattle.elf_loader.specs.Image.{ImageText, image_of}
 use Rattle.elf_loader.specs.declared.faults.ElfFault.{ElfFault}
 use Rattle.elf_loader.specs.declared.faults.ElfFault.TheVariants as elf
@@ -10,7 +11,7 @@ use Rattle.machine_desc.specs.Description.{description_of, Describes}
 use Rattle.machine_desc.specs.declared.Desc.{Desc}
 use Rattle.run_inputs.specs.Loaded.{loaded}
 use Rattle.tool_io.specs.declared.Got.TheVariants.{Bytes, TooLong}
-use Rattle.tool_io.specs.Outside.{Shelf, GetsTold, SameCounts, NameFailed}
+use Rattle.tool_io.specs.Outside.{Shelf, GetsTold, HasToCopy, SameCounts, NameFailed}
 use Rattle.run_inputs.specs.Refused.{place_of}
 use Rattle.run_inputs.specs.declared.sources.Source.{Source}
 use Rattle.run_inputs.specs.declared.sources.Source.TheVariants.{File, Seed}
@@ -39,7 +40,7 @@ MayBeLonger shelf name max = GetsTold (shelf.content name) max TooLong
 abbrev pub UnreadBy : List ℕ → ℕ → Shelf → Shelf → Unread → Type 0
 UnreadBy name max old new ReadFailed = NameFailed name old new
 UnreadBy name max old new TooMany = MayBeLonger old name max × SameCounts old new
-UnreadBy name max old new NoMemory = SameCounts old new
+UnreadBy name max old new NoMemory = HasToCopy (old.content name) max × SameCounts old new
 
 -- ---- The description of a run
 
@@ -48,11 +49,16 @@ abbrev pub HasDesc : Shelf → Option (List ℕ) → Option Desc → Type 0
 HasDesc shelf None desc = desc ≡ None
 HasDesc shelf (Some name) desc = (text : List ℕ) × (d : Desc) × MayHold shelf name description_max text × Describes text d × (desc ≡ Some d)
 
--- why a text is refused as a description
+-- why a text is refused as a description: memory may be wanting for what is UTF-8 alone
 abbrev pub TextRefused : List ℕ → Refusal → Type 0
 TextRefused text (Description fault) = description_of text ≡ Err fault
-TextRefused text Memory = Unit {0}
+TextRefused text Memory = IsUtf8 text
 TextRefused text _ = ⊥
+
+-- a description may need memory: to be copied, or to be read
+abbrev pub DescriptionWants : Shelf → List ℕ → Type 0
+DescriptionWants shelf name =
+    HasToCopy (shelf.content name) description_max ⊎ ((text : List ℕ) × MayHold shelf name description_max text × IsUtf8 text)
 
 -- why a description is refused
 abbrev pub DescriptionRefused : List ℕ → Shelf → Shelf → Refusal → Type 0
@@ -60,7 +66,7 @@ DescriptionRefused name old new ReadDescription = NameFailed name old new
 DescriptionRefused name old new DescriptionTooLong = MayBeLonger old name description_max × SameCounts old new
 DescriptionRefused name old new (Description fault) =
     (text : List ℕ) × MayHold old name description_max text × (description_of text ≡ Err fault) × SameCounts old new
-DescriptionRefused name old new Memory = SameCounts old new
+DescriptionRefused name old new Memory = DescriptionWants old name × SameCounts old new
 DescriptionRefused name old new _ = ⊥
 
 -- why the description of a run is refused, if it names one
@@ -130,17 +136,22 @@ abbrev pub refusal_of : Which → ElfFault → Refusal
 refusal_of which elf.NoMemory = Memory
 refusal_of which fault = NoImage which fault
 
--- why a file is refused as an image
+-- why a file is refused as an image: memory may be wanting where its headers have no fault alone
 abbrev pub LoadRefused : Which → List ℕ → ℕ → ℕ → Bool → Refusal → Type 0
 LoadRefused which file base size misaligned (NoImage w fault) = (w ≡ which) × (image_of file base size misaligned ≡ Err fault)
-LoadRefused which file base size misaligned Memory = Unit {0}
+LoadRefused which file base size misaligned Memory = header_fault file ≡ None
 LoadRefused which file base size misaligned _ = ⊥
+
+-- the bytes of an image may need memory: those of a file to be copied, and others to be made
+abbrev pub BytesWant : Shelf → ImageFrom → Type 0
+BytesWant shelf (from_file name) = HasToCopy (shelf.content name) image_max
+BytesWant shelf (from_seed seed blocks) = Unit {0}
 
 -- why there are no bytes of an image
 abbrev pub BytesRefused : Which → ImageFrom → Shelf → Shelf → Refusal → Type 0
 BytesRefused which from old new (ReadImage w) = (w ≡ which) × FailsToRead old new from
 BytesRefused which from old new (ImageTooLong w) = (w ≡ which) × HasTooMany old from × SameCounts old new
-BytesRefused which from old new Memory = SameCounts old new
+BytesRefused which from old new Memory = BytesWant old from × SameCounts old new
 BytesRefused which from old new _ = ⊥
 
 -- the bytes of an image are got, or there are none
@@ -148,9 +159,14 @@ abbrev pub ReadsBytes : Which → ImageFrom → Shelf → Shelf → Result (List
 ReadsBytes which from old new result =
     MatchResult result (λ file. HasBytes old from file × SameCounts old new) (BytesRefused which from old new)
 
+-- an image may need memory: for its bytes, or to be loaded
+abbrev pub ImageWants : Shelf → ImageFrom → Type 0
+ImageWants shelf from = BytesWant shelf from ⊎ ((file : List ℕ) × HasBytes shelf from file × (header_fault file ≡ None))
+
 -- why an image is refused
 abbrev pub ImageRefused : Which → Option Desc → ImageFrom → Shelf → Shelf → Refusal → Type 0
 ImageRefused which desc from old new (NoImage w fault) = (w ≡ which) × HasFault old desc from fault × SameCounts old new
+ImageRefused which desc from old new Memory = ImageWants old from × SameCounts old new
 ImageRefused which desc from old new refusal = BytesRefused which from old new refusal
 
 -- an image is read and loaded, or refused

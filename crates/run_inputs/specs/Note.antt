@@ -73,7 +73,11 @@ refusal_words Memory = codes "memory"
 unfoldable pub note_line : Refusal → List ℕ
 note_line refusal = refusal_words refusal ++ codes "\n"
 
--- the note gets the line of a refusal, all of it or, where it fails, a part; nothing else
+-- the note gets the line of a refusal, all of it or, where it fails, a part
+abbrev pub Tells : Refusal → Told → Told → Type 0
+Tells refusal old new = Wrote (note_line refusal) old new ⊎ WrotePart (note_line refusal) old new
+
+-- the note gets the line of a refusal, and nothing where there is none
 abbrev pub Notes : {T : Type 0} → Result T Refusal → Told → Told → Type 0
 Notes (Ok done) old new = new ≡ old
-Notes (Err refusal) old new = Wrote (note_line refusal) old new ⊎ WrotePart (note_line refusal) old new
+Notes (Err refusal) old new = Tells refusal old new

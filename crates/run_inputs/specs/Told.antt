@@ -6,7 +6,9 @@ use Rattle.gen_image.specs.Generated.{generated_image}
 use Rattle.machine_desc.specs.Description.{description_of, Describes}
 use Rattle.machine_desc.specs.declared.Desc.{Desc}
 use Rattle.machine_desc.specs.declared.fault.DescFault.{DescFault}
-use Rattle.tool_io.specs.Outside.{Told, Shelf}
+use Rattle.tool_io.specs.Outside.{Told, Shelf, SameCounts}
+use Rattle.run_inputs.specs.declared.refusal.Refusal.{Refusal}
+use Rattle.run_inputs.specs.Refused.{status_of}
 use Rattle.run_inputs.specs.Input.{description_max, image_max, ImageFrom, from_file, from_seed, HasTooMany, HasFault, base_of, size_of, misaligned_of}
 
 -- what the files and the sink tell at one time
@@ -16,6 +18,12 @@ pub record World : Type 0 where
 
 abbrev pub world : Shelf → Told → World
 world files out = record { files = files; out = out }
+
+-- a refusal before anything is read or written, and its status
+pub record RefusedAtOnce (refusal : Refusal) (old new : World) (status : ℕ) : Type 0 where
+  pub status_is : status ≡ status_of refusal
+  pub counts : SameCounts old.files new.files
+  pub out : new.out ≡ old.out
 
 -- a text is longer than a description may be, or is none
 abbrev pub IsFaultyDescription : List ℕ → Type 0

@@ -15,6 +15,6 @@ mod sources;
 
 pub use described::{Described, read_described};
 pub use description::{read_description, read_named};
-pub use note::note_line;
+pub use note::{note_line, refuse};
 pub use refusal::{Refusal, Which, status_of};
 pub use sources::{Source, read_image};

@@ -1,12 +1,14 @@
 //! The line that a refusal writes to the note (`docs/formats.md`, "Notes").
 ghost use Rattle.std.specs.Prelude.{◌≡◌, ◌≤◌, ◌+◌, ◌++◌, length, codes};
-ghost use Rattle.run_inputs.specs.Note.{numbered, image_fault, printable, printed, description_fault, image_word, refusal_words, note_line};
+ghost use Rattle.run_inputs.specs.Note.{numbered, image_fault, printable, printed, description_fault, image_word, refusal_words, note_line, Tells};
 ghost use Rattle.std.specs.Fmt.{signed_decimal};
+ghost use Rattle.run_inputs.specs.Refused.{status_of};
 
-use crate::refusal::{Refusal, Which};
+use crate::refusal::{Refusal, Which, status_of};
 use elf_loader::ElfFault;
 use line_text::Line;
 use machine_desc::DescFault;
+use tool_io::Sink;
 
 // Appends a text and a number in decimal.
 fn add_numbered(line: &mut Line, text: &[u8], number: u64)
@@ -167,4 +169,13 @@ pub fn note_line(refusal: &Refusal) -> Line
     add_refusal(&mut line, refusal);
     line.add(b"\n");
     line
+}
+
+/// Tells a refusal: its line goes to the note, whose failure changes nothing of the answer, the status.
+pub fn refuse<N: Sink>(refusal: &Refusal, note: &mut N) -> u8
+    ensures status { result ≡ status_of refusal.now }
+    ensures line { Tells refusal.now (N.told note.old) (N.told note.new) }
+{
+    let _ = note.put(note_line(refusal).as_slice());
+    status_of(refusal)
 }

@@ -1,5 +1,5 @@
 -- What clap's clauses say of the words of stt_secrets, and that the definitions compute on words.
-use Rattle.std.proofs.Common.{◌≡◌, ◌≢◌, List, [], ◌∷◌, Option, Some, None, Result, Ok, Err, IfOk, IfErr, true, refl, codes}
+use Rattle.std.proofs.Common.{◌≡◌, ◌≢◌, List, [], ◌∷◌, length, map, Option, Some, None, Result, Ok, Err, IfOk, IfErr, true, refl, codes, arith}
 use Rattle.clap.specs.Words.{Text, rows_of, found_of, is_simple, is_simple_and_free}
 use Rattle.clap.specs.declared.error.kind.ErrorKind.TheVariants as kind
 use Rattle.clap.specs.declared.parser.matches.ArgMatches.{ArgMatches}
@@ -32,6 +32,20 @@ words_are ws m o none rows e = rw (none, ← rows) e
 pub words_faulty : (ws : List Text) → (faults ws ≡ [] → ⊥) → wanted_of ws ≡ None
 unfolding wanted_of
 words_faulty ws h = none_of (faults ws) _ h
+
+no_words : faults [] ≡ kind.MissingRequiredArgument ∷ []
+unfolding faults clap_on_literals
+no_words = refl
+
+-- no words ask for nothing
+pub no_words_no_wish : wanted_of [] ≡ None
+unfolding wanted_of
+no_words_no_wish = rw no_words refl
+
+-- nor do words of which there are none
+pub empty_words : {A : Type 0} (f : A → Text) (ws : List A) → length ws ≡ 0 → wanted_of (map f ws) ≡ None
+empty_words f [] n = no_words_no_wish
+empty_words f (w ∷ ws) n = absurd (omega (arith, n))
 
 -- two ranges are read, in their order
 two_are_read : wanted_of (codes "d.toml" ∷ codes "p.elf" ∷ codes "--secret" ∷ codes "0x1f000:64" ∷ codes "--secret=131072:1" ∷ codes "--cycles" ∷ codes "9" ∷ [])

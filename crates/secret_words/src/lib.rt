@@ -99,11 +99,16 @@ fn wanted_in<'a>(alloc: Global, matches: &ArgMatches<'a>) -> Result<Wanted<'a>, 
     })
 }
 
-/// What the words after the program's name ask for. Errors: `Words`, only where they ask for nothing; `Memory`.
+/// What the words after the program's name ask for. Errors: `Words`, only where they ask for nothing; `Memory`, never where there are no
+/// words, since that is found before memory is taken.
 pub fn read_wanted<'a>(alloc: Global, words: &'a [&'a str]) -> Result<Wanted<'a>, Refused>
     ensures ok { IfOk result (λ w. wanted_of (map (λ w. w.now) words.now) ≡ Some (wanted_text w)) }
     ensures refused { IfErr result (λ e. e ≡ Refused.Words → wanted_of (map (λ w. w.now) words.now) ≡ None) }
+    ensures wanting { IfErr result (λ e. e ≡ Refused.Memory → map (λ w. w.now) words.now ≢ []) }
 {
+    if words.is_empty() {
+        return Err(Refused::Words);
+    }
     let matches = match parse(alloc, words) {
         Ok(matches) => matches,
         Err(refused) => return Err(refused),

@@ -1,14 +1,28 @@
 -- How the program ends, from what its parts do.
-use Rattle.std.proofs.Common.{◌≡◌, ℕ, List, Some, Result, Ok, Err, refl}
+use Rattle.std.proofs.Common.{◌≡◌, ℕ, List, [], Some, None, Result, Ok, Err, refl, ap, ◌∙◌}
 use Rattle.tool_io.specs.Outside.{Told, Shelf}
-use Rattle.run_inputs.specs.declared.refusal.Refusal.TheVariants.{Write, Memory}
+use Rattle.run_inputs.specs.declared.refusal.Refusal.{Refusal}
+use Rattle.run_inputs.specs.declared.refusal.Refusal.TheVariants.{Words, Write, Memory}
 use Rattle.run_inputs.specs.Told.{world}
 use Rattle.secret_words.specs.Words.{WantedText, wanted_of}
+use Rattle.secret_words.proofs.Secrets.{no_words_no_wish}
 use Rattle.secrets_top.specs.declared.ranges.FaultyRange.{FaultyRange}
 use Rattle.secrets_top.specs.declared.refusal.Unjudged.{Unjudged}
 use Rattle.secrets_top.specs.declared.refusal.Unjudged.TheVariants.{Range, Refused}
 use Rattle.secrets_top.specs.declared.verdict.Verdict.{Verdict}
-use Rattle.secrets_top.specs.Top.{Inputs, Accepted, fault_in, verdict_on, Performs, Ends}
+use Rattle.secrets_top.specs.Top.{Inputs, RefusedInputs, Accepted, fault_in, verdict_on, Performs, Ends}
+
+-- words that want something aren't none
+pub not_empty : (words : List (List ℕ)) (wanted : WantedText) → wanted_of words ≡ Some wanted → words ≡ [] → ⊥
+not_empty words wanted k e = let none : wanted_of words ≡ None = ap wanted_of e ∙ no_words_no_wish in cc
+
+-- what is read is refused
+pub inputs_refused : (words : List (List ℕ)) (old new : Shelf) (out : Told) (wanted : WantedText) (e : Refusal) → wanted_of words ≡ Some wanted
+    → RefusedInputs wanted old new e → Ends words (world old out) (world new out) (Err (Refused e))
+inputs_refused words old new out wanted Words k c = absurd c
+inputs_refused words old new out wanted Write k c = absurd c
+inputs_refused words old new out wanted Memory k c = (not_empty words wanted k, c, refl)
+inputs_refused words old new out wanted _ k c = ((wanted, k, c), refl)
 
 -- the program ends as it has to where a range of secret bytes is refused
 pub range_refused : (words : List (List ℕ)) (old new : Shelf) (out : Told) (wanted : WantedText) (inputs : Inputs wanted old new) (f : FaultyRange) → wanted_of words ≡ Some wanted
@@ -21,5 +35,5 @@ pub told_end : (words : List (List ℕ)) (old new : Shelf) (out out' : Told) (wa
 told_end words old new out out' wanted a (Ok told) k p = (wanted, k, (a, p.0, p.1))
 told_end words old new out out' wanted a (Err (Range f)) k p = absurd p
 told_end words old new out out' wanted a (Err (Refused Write)) k p = (wanted, k, (a, p))
-told_end words old new out out' wanted a (Err (Refused Memory)) k p = (a.inputs.read.counts, p)
+told_end words old new out out' wanted a (Err (Refused Memory)) k p = (not_empty words wanted k, a.inputs.read.counts, p)
 told_end words old new out out' wanted a (Err (Refused _)) k p = absurd p

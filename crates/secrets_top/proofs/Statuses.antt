@@ -23,6 +23,7 @@ use Rattle.secrets_top.specs.declared.verdict.Verdict.{Verdict}
 use Rattle.secrets_top.specs.declared.verdict.Verdict.TheVariants.{Hidden, Shown}
 use Rattle.secrets_top.specs.Verdict.{hidden_status, verdict_text, verdict_status}
 use Rattle.secrets_top.specs.Refused.{status_of}
+use Rattle.secrets_top.proofs.Outcomes.{not_empty}
 use Rattle.secrets_top.specs.Top.{Wants, Inputs, Accepted, RefusedInputs, fault_in, verdict_in, verdict_on, Ends, Statuses, IsTold}
 
 -- words that want something don't want nothing
@@ -139,14 +140,14 @@ module _ (words : List (List ℕ)) (old new : World) where
   not_six (Err (Refused (ImageTooLong which))) e h = e.0.2.1
   not_six (Err (Refused (Image which f))) e h = e.0.2.1
   not_six (Err (Refused Write)) e h = e.2.0.inputs.read.counts
-  not_six (Err (Refused Memory)) e h = e.0
+  not_six (Err (Refused Memory)) e h = e.1
 
   -- no cause but a failed write leaves anything written
   wrote_nothing : (c : Unjudged) → Ends words old new (Err c) → (status_of (Err c) ≡ 7 → ⊥) → new.out ≡ old.out
   wrote_nothing (Range f) e h = e.1
   wrote_nothing (Refused Words) e h = e.2
   wrote_nothing (Refused Write) e h = absurd (h refl)
-  wrote_nothing (Refused Memory) e h = e.1
+  wrote_nothing (Refused Memory) e h = e.2
   wrote_nothing (Refused _) e h = e.1
 
   not_seven : (r : Result Verdict Unjudged) → Ends words old new r → (status_of r ≡ 7 → ⊥) → new.out.faults ≡ old.out.faults
@@ -166,6 +167,15 @@ module _ (words : List (List ℕ)) (old new : World) where
   no_wish (Err (Refused Write)) e h = absurd (clash e.1 h)
   no_wish (Err (Refused Memory)) e h = inr refl
   no_wish (Err (Refused _)) e h = absurd (clash e.0.1 h)
+
+  -- without words every outcome has status 2
+  no_words : (r : Result Verdict Unjudged) → Ends words old new r → words ≡ [] → status_of r ≡ 2
+  no_words (Ok v) e h = absurd (not_empty words e.0 e.1 h)
+  no_words (Err (Range f)) e h = refl
+  no_words (Err (Refused Words)) e h = refl
+  no_words (Err (Refused Write)) e h = absurd (not_empty words e.0 e.1 h)
+  no_words (Err (Refused Memory)) e h = absurd (e.0 h)
+  no_words (Err (Refused _)) e h = absurd (not_empty words e.0.0 e.0.1 h)
 
   -- what each status says of what the words want
   module _ (wanted : WantedText) (k : wanted_of words ≡ Some wanted) where
@@ -290,13 +300,14 @@ module _ (words : List (List ℕ)) (old new : World) where
         complete (Err (Refused (ImageTooLong which))) e d is none a b c = absurd (not_long which e.0)
         complete (Err (Refused (Image which f))) e d is none a b c = absurd (not_at_fault which f e.0)
         complete (Err (Refused Write)) e d is none a b c = absurd (c (cut e).1.rose)
-        complete (Err (Refused Memory)) e d is none a b c = inl (refl, e.1)
+        complete (Err (Refused Memory)) e d is none a b c = inl (refl, e.2)
 
 pub statuses : (words : List (List ℕ)) (old new : World) (r : Result Verdict Unjudged) → Ends words old new r → Statuses words old new (status_of r)
 statuses words old new r e = record {
   told = told words old new r e;
   two = two words old new r e;
   no_wish = no_wish words old new r e;
+  no_words = no_words words old new r e;
   faulty_range = λ wanted desc image faulty k t i x. faulty_range words old new wanted k desc t image i r e faulty x;
   four = four words old new r e;
   faulty_description = λ wanted text k t x. faulty_description words old new wanted k r e text t x;

@@ -16,6 +16,7 @@ use Rattle.secrets_top.specs.declared.refusal.Unjudged.{Unjudged}
 use Rattle.secrets_top.specs.declared.refusal.Unjudged.TheVariants.{Range, Refused}
 use Rattle.secrets_top.specs.declared.verdict.Verdict.{Verdict}
 use Rattle.secrets_top.specs.Ranges.{first_faulty}
+use Rattle.secrets_top.specs.Refused.{Notes, status_of}
 use Rattle.secrets_top.specs.Verdict.{verdict_of, verdict_text, verdict_status}
 
 -- ---- What the words want
@@ -57,16 +58,20 @@ Performs verdict out out' (Err (Refused Write)) = WrotePart (verdict_text verdic
 Performs verdict out out' (Err (Refused Memory)) = out' ≡ out
 Performs verdict out out' (Err cause) = ⊥
 
--- how the program ends: what is told is written whole, or in part where the sink failed; or the words want nothing, there was no
--- memory, what is read or a range of it is refused, and nothing is written
+-- how the program ends: what is told is written whole, or in part where the sink failed; or the words want nothing, there are some and
+-- there was no memory, what is read or a range of it is refused, and nothing is written
 abbrev pub Ends : List (List ℕ) → World → World → Result Verdict Unjudged → Type 0
 Ends words old new (Ok told) = Wants words (λ wanted. (a : Accepted wanted old.files new.files) × Wrote (verdict_text (verdict_on a)) old.out new.out × (told ≡ verdict_on a))
 Ends words old new (Err (Range faulty)) =
     Wants words (λ wanted. (inputs : Inputs wanted old.files new.files) × (fault_in wanted inputs.image ≡ Some faulty)) × (new.out ≡ old.out)
 Ends words old new (Err (Refused Write)) = Wants words (λ wanted. (a : Accepted wanted old.files new.files) × WrotePart (verdict_text (verdict_on a)) old.out new.out)
 Ends words old new (Err (Refused Words)) = (wanted_of words ≡ None) × SameCounts old.files new.files × (new.out ≡ old.out)
-Ends words old new (Err (Refused Memory)) = SameCounts old.files new.files × (new.out ≡ old.out)
+Ends words old new (Err (Refused Memory)) = (words ≢ []) × SameCounts old.files new.files × (new.out ≡ old.out)
 Ends words old new (Err (Refused refusal)) = Wants words (λ wanted. RefusedInputs wanted old.files new.files refusal) × (new.out ≡ old.out)
+
+-- an outcome of the program, its status, and what the note gets of it
+abbrev pub EndsWith : List (List ℕ) → World → World → Told → Told → ℕ → Type 0
+EndsWith words old new note note' status = (outcome : Result Verdict Unjudged) × (status ≡ status_of outcome) × Ends words old new outcome × Notes outcome note note'
 
 -- ---- The statuses, and when each comes
 
@@ -85,6 +90,8 @@ pub record Statuses (words : List (List ℕ)) (old new : World) (status : ℕ) :
   pub two : status ≡ 2 → (wanted_of words ≡ None)
       ⊎ Wants words (λ wanted. (inputs : Inputs wanted old.files new.files) × (faulty : FaultyRange) × (fault_in wanted inputs.image ≡ Some faulty))
   pub no_wish : wanted_of words ≡ None → (status ≡ 2) ⊎ (status ≡ 8)
+  -- 2 wherever there are no words
+  pub no_words : words ≡ [] → status ≡ 2
   pub faulty_range : (wanted : WantedText) (desc : Option Desc) (image : ImageText) (faulty : FaultyRange) → wanted_of words ≡ Some wanted
       → TellsDesc old.files (Some wanted.description) desc → TellsImage old.files desc (from_file wanted.image) image → fault_in wanted image ≡ Some faulty
       → (status ≡ 2) ⊎ ((status ≡ 6) ⊎ (status ≡ 8))

@@ -1,11 +1,10 @@
 //! The top call: all that the program does, over files and sinks that it is handed.
 //!
 //! Its promises stand in `specs/Top.antt` and `Promises.antt`, and in plain words in `docs/theorems.md`.
-ghost use Rattle.std.specs.Prelude.{◌≡◌, map};
+ghost use Rattle.std.specs.Prelude.{map};
 ghost use Rattle.tool_io.specs.Outside.{SameContents};
 ghost use Rattle.run_inputs.specs.Told.{world};
-ghost use Rattle.secrets_top.specs.Refused.{Notes, status_of};
-ghost use Rattle.secrets_top.specs.Top.{Ends, Statuses};
+ghost use Rattle.secrets_top.specs.Top.{Ends, EndsWith, Statuses};
 ghost use Rattle.secrets_top.specs.Promises.{Promises};
 
 use crate::performing::perform;
@@ -41,7 +40,7 @@ fn answer<F: Files, O: Sink>(
 /// Statuses: 0 nothing of the secret shows, and the run ended; 1 something shows; 3 nothing shows within the budget, in which the run
 /// didn't end; 2 the words are no wish, or a range isn't within memory or touches code; 4 the description, 5 the image is too long or at
 /// fault; 6 a file couldn't be read; 7 the output couldn't be written whole; 8 there was no memory, which comes only before the first
-/// byte of output.
+/// byte of output, and never where there are no words.
 pub fn secrets_top<F: Files, O: Sink, N: Sink>(
     alloc: Global,
     words: &[&str],
@@ -49,10 +48,9 @@ pub fn secrets_top<F: Files, O: Sink, N: Sink>(
     out: &mut O,
     note: &mut N,
 ) -> u8
-    ensures ends { (outcome : _) × (result ≡ status_of outcome)
-        × Ends (map (λ w. w.now) words.now)
-        (world (F.shelf files.old) (O.told out.old)) (world (F.shelf files.new) (O.told out.new)) outcome
-        × Notes outcome (N.told note.old) (N.told note.new) }
+    ensures ends { EndsWith (map (λ w. w.now) words.now)
+        (world (F.shelf files.old) (O.told out.old)) (world (F.shelf files.new) (O.told out.new))
+        (N.told note.old) (N.told note.new) result }
     ensures statuses { Statuses (map (λ w. w.now) words.now)
         (world (F.shelf files.old) (O.told out.old)) (world (F.shelf files.new) (O.told out.new)) result }
     ensures promises { Promises (map (λ w. w.now) words.now)

@@ -1,47 +1,18 @@
 //! Wadrelwy's program: a simulator of an out-of-order RV32IM core under Speculative Taint Tracking.
 //!
-//! `main` hands the words, the host's files and the standard streams to `stt_top`, which does all the rest.
+//! `main` hands its words, the host's files and the standard streams to `stt_program`, which does all the rest.
 #![tactic(auto)]
 
-use std::alloc::Global;
-use std::io::ErrorKind;
 use std::process::ExitCode;
-use std::rt::Env;
-use std::{env, io};
-use stt_top::stt_top;
+use stt_top::stt_program;
 use tool_io::{RealFiles, RealSink};
-
-/// The status where there is no memory for the words.
-const NO_MEMORY: u8 = 8;
-
-// The words after the program's name.
-fn own_words(rt: &(impl Env + AllocGlobal), alloc: Global) -> io::Result<Vec<String>> {
-    let mut words = Vec::new(alloc);
-    for word in env::args(rt)?.skip(1) {
-        words.push(word)?;
-    }
-    Ok(words)
-}
+use tool_words::own_words;
 
 fn main(rt: HostRuntime) -> ExitCode {
     let alloc = rt.alloc();
-    let owned = match own_words(&rt, alloc) {
-        Ok(owned) => owned,
-        Err(error) => match error.kind() {
-            ErrorKind::OutOfMemory => return ExitCode::from(NO_MEMORY),
-            // A word that isn't UTF-8 is a wrong word, as no words are.
-            _ => Vec::new(alloc),
-        },
-    };
-    let mut words = Vec::new(alloc);
-    for word in &owned {
-        if words.push(word.as_str()).is_err() {
-            return ExitCode::from(NO_MEMORY);
-        }
-    }
+    let words = own_words(&rt, alloc);
     let mut files = RealFiles::new(&rt);
     let mut out = RealSink::new(rt.stdout());
     let mut note = RealSink::new(rt.stderr());
-    let status = stt_top(alloc, words.as_slice(), &mut files, &mut out, &mut note);
-    ExitCode::from(status)
+    stt_program(alloc, words, &mut files, &mut out, &mut note)
 }

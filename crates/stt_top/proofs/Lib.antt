@@ -5,3 +5,4 @@ pub mod Tasks
 pub mod Outcomes
 pub mod Statuses
 pub mod Promised
+pub mod Program

@@ -1,6 +1,6 @@
 -- How a task ends, and with it the program, from what the parts do.
 use Rattle.std.specs.Prelude.{IsErrAnd, MatchResult}
-use Rattle.std.proofs.Common.{◌≡◌, ℕ, List, Some, Result, Ok, Err, refl, sym, ap, ◌∙◌, subst}
+use Rattle.std.proofs.Common.{◌≡◌, ℕ, List, [], Option, Some, None, Result, Ok, Err, refl, sym, ap, ◌∙◌, subst}
 use Rattle.rv_types.specs.Memory.{Code, Ram}
 use Rattle.std.proofs.lemmas.Result.{err_from_is_err_and}
 use Rattle.elf_loader.specs.Image.{ImageText}
@@ -18,13 +18,15 @@ use Rattle.window_model.specs.State.{Machine}
 use Rattle.tool_words.specs.Words.{CommandText, command_of}
 use Rattle.stt_top.specs.declared.outcome.Ended.{Ended}
 use Rattle.run_inputs.specs.declared.refusal.Refusal.{Refusal}
-use Rattle.run_inputs.specs.declared.refusal.Refusal.TheVariants.{Write, Memory}
+use Rattle.run_inputs.specs.declared.refusal.Refusal.TheVariants.{Words, Write, Memory}
+use Rattle.run_inputs.specs.Input.{NamedRefused}
+use Rattle.tool_words.proofs.Tool.{no_words_no_command}
 use Rattle.stt_top.specs.Clocking.{report_from}
 use Rattle.stt_top.specs.Outcome.{compared_of}
 use Rattle.stt_top.specs.Running.{Starts, opening_of}
 use Rattle.stt_top.specs.Work.{TaskText, report_task, trace_task, pair_task, Performs, run_work, trace_work, pair_work}
 use Rattle.run_inputs.specs.Told.{world}
-use Rattle.stt_top.specs.Top.{Runs, Ends}
+use Rattle.stt_top.specs.Top.{Runs, CommandRefused, description_name, Ends}
 
 -- ---- Tasks, and what is written
 
@@ -63,10 +65,32 @@ compared_part d one two n answer out out' a w = (pair_work answer, (answer, a, r
 
 -- ---- The program as a whole
 
+-- words that give a command aren't none
+pub not_empty : (words : List (List ℕ)) (command : CommandText) → command_of words ≡ Some command → words ≡ [] → ⊥
+not_empty words command k e = let none : command_of words ≡ None = ap command_of e ∙ no_words_no_command in cc
+
+-- no read of a named file is refused for want of a write
+no_write : (name : Option (List ℕ)) (old new : Shelf) → NamedRefused name old new Write → ⊥
+no_write None old new h = h
+no_write (Some name) old new h = h
+
+-- no read of a named file is refused for its words
+no_wrong_words : (name : Option (List ℕ)) (old new : Shelf) → NamedRefused name old new Words → ⊥
+no_wrong_words None old new h = h
+no_wrong_words (Some name) old new h = h
+
+-- a refusal of what the command reads ends the program with that refusal
+pub command_refused : (words : List (List ℕ)) (old new : Shelf) (out : Told) (command : CommandText) (e : Refusal) → command_of words ≡ Some command
+    → CommandRefused command old new e → Ends words (world old out) (world new out) (Err e)
+command_refused words old new out command Words k c = absurd (no_wrong_words (description_name command) old new c)
+command_refused words old new out command Write k c = absurd (no_write (description_name command) old new c)
+command_refused words old new out command Memory k c = (not_empty words command k, c, refl)
+command_refused words old new out command _ k c = ((command, k, c), refl)
+
 -- what the words ask for is done, once their task is performed
 pub task_end : (words : List (List ℕ)) (old new : Shelf) (out out' : Told) (command : CommandText) (task : TaskText) (r : Result Ended Refusal) → command_of words ≡ Some command
     → Runs command old new task → Performs task out out' r → Ends words (world old out) (world new out') r
 task_end words old new out out' command task (Ok ended) k c p = (command, k, (record { task = task; runs = c; work = p.0; comes_to = p.1 }, p.2, p.3))
 task_end words old new out out' command task (Err Write) k c p = (command, k, (record { task = task; runs = c; work = p.0; comes_to = p.1 }, p.2))
-task_end words old new out out' command task (Err Memory) k c p = (c.read.counts, p)
+task_end words old new out out' command task (Err Memory) k c p = (not_empty words command k, c.read.counts, p)
 task_end words old new out out' command task (Err _) k c p = absurd p

@@ -1,6 +1,6 @@
 -- What each status says follows from how the program ends: by classes of ends. A text is written whole or in part, the words
 -- are no command, memory was wanting, or the description or an image is refused.
-use Rattle.std.proofs.Common.{◌≡◌, ◌⊎◌, ℕ, List, Option, Some, None, Result, Ok, Err, refl, sym, ap, ◌∙◌, subst, inl, inr, arith}
+use Rattle.std.proofs.Common.{◌≡◌, ◌⊎◌, ℕ, List, [], Option, Some, None, Result, Ok, Err, refl, sym, ap, ◌∙◌, subst, inl, inr, arith}
 use Rattle.elf_loader.specs.Image.{ImageText}
 use Rattle.elf_loader.specs.declared.faults.ElfFault.{ElfFault}
 use Rattle.machine_desc.specs.Description.{description_of}
@@ -19,9 +19,10 @@ use Rattle.run_inputs.specs.Input.{description_max, ImageFrom, from_file, from_s
 use Rattle.stt_top.specs.Work.{TaskText, task_of, Work, ComesTo}
 use Rattle.stt_top.specs.Top.{Asks, Done, CommandRefused, Ends, Statuses, sources, description_name, IsAt, Names, ImageRefusedAt, IsRun}
 use Rattle.run_inputs.specs.Told.{World, IsFaultyDescription, IsFaultyImage, TellsDesc, TellsBytes, TellsImages, MayBeFaulty}
+use Rattle.stt_top.proofs.Outcomes.{not_empty}
 use Rattle.run_inputs.proofs.Told.{told_desc, no_desc, not_longer, not_refused, told_at, none_faulty, same_images, no_fault, not_too_many}
 
--- words that are a command aren't none
+-- a command isn't none
 clash : {o : Option CommandText} {c : CommandText} → o ≡ Some c → o ≡ None → ⊥
 clash p q = cc
 
@@ -132,13 +133,13 @@ module _ (words : List (List ℕ)) (old new : World) where
   not_six (Err (ImageTooLong which)) e h = e.0.2.1
   not_six (Err (Image which f)) e h = e.0.2.1
   not_six (Err Write) e h = e.2.0.runs.read.counts
-  not_six (Err Memory) e h = e.0
+  not_six (Err Memory) e h = e.1
 
   -- every refusal but that of a write wrote nothing
   wrote_nothing : (e : Refusal) → Ends words old new (Err e) → (status_of (Err e) ≡ 7 → ⊥) → new.out ≡ old.out
   wrote_nothing Words e h = e.2
   wrote_nothing Write e h = absurd (h refl)
-  wrote_nothing Memory e h = e.1
+  wrote_nothing Memory e h = e.2
   wrote_nothing _ e h = e.1
 
   not_seven : (r : Result Ended Refusal) → Ends words old new r → (status_of r ≡ 7 → ⊥) → new.out.faults ≡ old.out.faults
@@ -157,6 +158,14 @@ module _ (words : List (List ℕ)) (old new : World) where
   no_command (Err Write) e h = absurd (clash e.1 h)
   no_command (Err Memory) e h = inr refl
   no_command (Err _) e h = absurd (clash e.0.1 h)
+
+  -- without words every outcome has status 2
+  no_words : (r : Result Ended Refusal) → Ends words old new r → words ≡ [] → status_of r ≡ 2
+  no_words (Ok ended) e h = absurd (not_empty words e.0 e.1 h)
+  no_words (Err Words) e h = refl
+  no_words (Err Write) e h = absurd (not_empty words e.0 e.1 h)
+  no_words (Err Memory) e h = absurd (e.0 h)
+  no_words (Err _) e h = absurd (not_empty words e.0.0 e.0.1 h)
 
   -- what an outcome says of the command that the words give
   module _ (command : CommandText) (k : command_of words ≡ Some command) where
@@ -257,13 +266,14 @@ module _ (words : List (List ℕ)) (old new : World) where
         complete (Err (ImageTooLong which)) e task m files sink = absurd (none_too_long which (its_refusal (ImageTooLong which) e.0).0)
         complete (Err (Image which f)) e task m files sink = absurd (no_faulty which f (its_refusal (Image which f) e.0).0)
         complete (Err Write) e task m files sink = absurd (sink (cut e).1.rose)
-        complete (Err Memory) e task m files sink = inl (refl, e.1)
+        complete (Err Memory) e task m files sink = inl (refl, e.2)
 
 pub statuses : (words : List (List ℕ)) (old new : World) (r : Result Ended Refusal) → Ends words old new r → Statuses words old new (status_of r)
 statuses words old new r e = record {
   ran = ran words old new r e;
   two = two words old new r e;
   no_command = no_command words old new r e;
+  no_words = no_words words old new r e;
   four = four words old new r e;
   faulty_description = λ command name text k m t x. faulty_description words old new command k r e name text m t x;
   five = five words old new r e;

@@ -5,7 +5,8 @@ use Rattle.elf_loader.specs.Image.{ImageText}
 use Rattle.machine_desc.specs.Description.{description_of}
 use Rattle.machine_desc.specs.declared.Desc.{Desc}
 use Rattle.machine_desc.specs.declared.fault.DescFault.{DescFault}
-use Rattle.tool_io.specs.Outside.{Shelf, Wrote, WrotePart, SameCounts, NameFailed, Rose}
+use Rattle.run_inputs.specs.Note.{Notes}
+use Rattle.tool_io.specs.Outside.{Shelf, Told, Wrote, WrotePart, SameCounts, NameFailed, Rose}
 use Rattle.tool_words.specs.Words.{CommandText, command_of, isa_text, run_text, trace_text, bench_text, pair_text}
 use Rattle.run_inputs.specs.declared.refusal.Which.{Which}
 use Rattle.stt_top.specs.declared.outcome.Ended.{Ended}
@@ -63,13 +64,17 @@ abbrev pub Asks : List (List ℕ) → (CommandText → Type 0) → Type 0
 Asks words P = (command : CommandText) × (command_of words ≡ Some command) × P command
 
 -- how the program ends: a command's text is written whole, or in part where the sink failed; or the words are no command,
--- there was no memory, or what the command reads is refused, and nothing is written
+-- there are some and there was no memory, or what the command reads is refused, and nothing is written
 abbrev pub Ends : List (List ℕ) → World → World → Result Ended Refusal → Type 0
 Ends words old new (Ok ended) = Asks words (λ command. (done : Done command old new) × Wrote done.work.text old.out new.out × (ended ≡ done.work.ended))
 Ends words old new (Err Write) = Asks words (λ command. (done : Done command old new) × WrotePart done.work.text old.out new.out)
 Ends words old new (Err Words) = (command_of words ≡ None) × SameCounts old.files new.files × (new.out ≡ old.out)
-Ends words old new (Err Memory) = SameCounts old.files new.files × (new.out ≡ old.out)
+Ends words old new (Err Memory) = (words ≢ []) × SameCounts old.files new.files × (new.out ≡ old.out)
 Ends words old new (Err refusal) = Asks words (λ command. CommandRefused command old.files new.files refusal) × (new.out ≡ old.out)
+
+-- an outcome of the program, its status, and what the note gets of it
+abbrev pub EndsWith : List (List ℕ) → World → World → Told → Told → ℕ → Type 0
+EndsWith words old new note note' status = (outcome : Result Ended Refusal) × (status ≡ status_of outcome) × Ends words old new outcome × Notes outcome note note'
 
 -- ---- The statuses of the program
 
@@ -94,9 +99,10 @@ pub record Statuses (words : List (List ℕ)) (old new : World) (status : ℕ) :
   -- 0, 1 and 3: the command's whole text is written, with the status of what it comes to: the run ended by an exit, by a
   -- trap, or not within its budget; for pair 0 where the runs are the same and 1 where they aren't
   pub ran : IsRun status → Asks words (λ command. (done : Done command old new) × Wrote done.work.text old.out new.out × (status ≡ status_of (Ok done.work.ended)))
-  -- 2 exactly where the words are no command, but for want of memory
+  -- 2 exactly where the words are no command, but for want of memory, which is never told of no words
   pub two : status ≡ 2 → command_of words ≡ None
   pub no_command : command_of words ≡ None → (status ≡ 2) ⊎ (status ≡ 8)
+  pub no_words : words ≡ [] → status ≡ 2
   -- 4 only where the description is too long or at fault, and there always, but for a failed read and want of memory
   pub four : status ≡ 4 → Asks words (λ command. (name : List ℕ) × (description_name command ≡ Some name)
       × (MayBeLonger old.files name description_max

@@ -1,13 +1,11 @@
 //! The top call: all that the program does, over files and sinks that it is handed.
 //!
 //! Its promises stand in `specs/Top.antt`, and in plain words in `docs/theorems.md`.
-ghost use Rattle.std.specs.Prelude.{◌≡◌, map};
+ghost use Rattle.std.specs.Prelude.{map};
 ghost use Rattle.tool_io.specs.Outside.{SameContents};
-ghost use Rattle.stt_top.specs.Outcome.{status_of};
-ghost use Rattle.run_inputs.specs.Note.{Notes};
 ghost use Rattle.stt_top.specs.Work.{OneWork};
 ghost use Rattle.run_inputs.specs.Told.{world};
-ghost use Rattle.stt_top.specs.Top.{Ends, Statuses};
+ghost use Rattle.stt_top.specs.Top.{Ends, EndsWith, Statuses};
 ghost use Rattle.stt_top.specs.Promises.{Promises, TracesAgree};
 
 use crate::outcome::{Ended, status_of};
@@ -39,7 +37,8 @@ fn answer<F: Files, O: Sink>(
 ///
 /// Statuses: 0 the run ended by an exit, 1 by a trap, 3 not within its budget; for two images 0 their runs are the same, 1
 /// they aren't; 2 the words are no command; 4 the description, 5 an image is too long or at fault; 6 a file couldn't be
-/// read; 7 the output couldn't be written whole; 8 there was no memory, which comes only before the first byte of output.
+/// read; 7 the output couldn't be written whole; 8 there was no memory, which comes only before the first byte of output, and
+/// never where there are no words.
 pub fn stt_top<F: Files, O: Sink, N: Sink>(
     alloc: Global,
     words: &[&str],
@@ -47,10 +46,9 @@ pub fn stt_top<F: Files, O: Sink, N: Sink>(
     out: &mut O,
     note: &mut N,
 ) -> u8
-    ensures ends { (outcome : _) × (result ≡ status_of outcome)
-        × Ends (map (λ w. w.now) words.now)
-        (world (F.shelf files.old) (O.told out.old)) (world (F.shelf files.new) (O.told out.new)) outcome
-        × Notes outcome (N.told note.old) (N.told note.new) }
+    ensures ends { EndsWith (map (λ w. w.now) words.now)
+        (world (F.shelf files.old) (O.told out.old)) (world (F.shelf files.new) (O.told out.new))
+        (N.told note.old) (N.told note.new) result }
     ensures statuses { Statuses (map (λ w. w.now) words.now)
         (world (F.shelf files.old) (O.told out.old)) (world (F.shelf files.new) (O.told out.new)) result }
     ensures promises { Promises (map (λ w. w.now) words.now)

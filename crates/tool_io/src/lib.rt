@@ -86,8 +86,8 @@ pub trait Files {
 
     /// Reads the whole of the file that has this name and at most `max` bytes. Where its content is told, the answer is
     /// those bytes, or `TooLong` exactly where there are more than `max`. Errors: `Failed`, only where the count of this
-    /// name rose; `NoMemory`. Any answer but `Failed` leaves the counts of all names as they were, and every answer all
-    /// contents.
+    /// name rose; `NoMemory`, where its content is told only if it has a byte and at most `max`. Any answer but `Failed`
+    /// leaves the counts of all names as they were, and every answer all contents.
     fn read(&mut self, alloc: Global, name: &str, max: usize) -> Result<Got, ReadFail>
         ensures answer { Reads name.now max (shelf self.old) (shelf self.new) result }
         ensures stays { SameContents (shelf self.old) (shelf self.new) };

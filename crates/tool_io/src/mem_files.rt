@@ -1,5 +1,5 @@
 //! Files in memory that fail at listed reads. What a read leaves stands in `specs/MemoryFiles.antt`.
-ghost use Rattle.std.specs.Prelude.{◌≡◌, ◌↔◌, IfOk, IsErrOf, replicate, length};
+ghost use Rattle.std.specs.Prelude.{◌≡◌, ◌<◌, ◌↔◌, IfOk, IsErr, IsErrOf, replicate, length};
 ghost use Rattle.tool_io.specs.Outside.{Reads, SameContents};
 ghost use Rattle.tool_io.specs.MemoryFiles.{FilesState, shelf_of, place_of, IsFileFault, files_after};
 
@@ -53,6 +53,18 @@ pub(crate) fn find_name(files: &[MemFile], name: &str) -> Option<usize>
         .position(|f| f.name.as_slice() == name.as_bytes())
 }
 
+// A copy of these bytes. The one error is want of memory, where there are some.
+pub(crate) fn copy_of(alloc: Global, bytes: &[u8]) -> Result<Content, NoMemory>
+    ensures copy { IfOk result (λ c. c ≡ bytes.now) }
+    ensures wanting { IsErr result → 0 < length bytes.now }
+{
+    let mut copy = Vec::new(alloc);
+    match copy.extend_from_slice(bytes) {
+        Ok(()) => Ok(Content::new(copy)),
+        Err(_) => Err(NoMemory),
+    }
+}
+
 impl MemFiles {
     /// Files of which no read has failed, and the numbers of the reads that are to fail. The one error is want of
     /// memory.
@@ -97,8 +109,8 @@ impl Files for MemFiles {
                 if bytes.len() > max {
                     return Ok(Got::TooLong);
                 }
-                match bytes.to_vec(alloc) {
-                    Ok(copy) => Ok(Got::Bytes(Content::new(copy))),
+                match copy_of(alloc, bytes) {
+                    Ok(copy) => Ok(Got::Bytes(copy)),
                     Err(_) => Err(ReadFail::NoMemory),
                 }
             }

@@ -2,8 +2,8 @@
 ghost use Rattle.std.specs.Prelude.{◌≡◌, Some, None};
 ghost use Rattle.tool_io.specs.MemoryFiles.{held_or_empty};
 
-use crate::mem_files::{MemFile, find_name};
-use crate::{Content, Failed, Files, Got, ReadFail, Sink};
+use crate::mem_files::{MemFile, copy_of, find_name};
+use crate::{Failed, Files, Got, ReadFail, Sink};
 use std::alloc::Global;
 use std::marker::Model;
 
@@ -50,8 +50,8 @@ impl Files for NeverFails {
         if bytes.len() > max {
             return Ok(Got::TooLong);
         }
-        match bytes.to_vec(alloc) {
-            Ok(copy) => Ok(Got::Bytes(Content::new(copy))),
+        match copy_of(alloc, bytes) {
+            Ok(copy) => Ok(Got::Bytes(copy)),
             Err(_) => Err(ReadFail::NoMemory),
         }
     }

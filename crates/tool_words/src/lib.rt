@@ -10,11 +10,13 @@ ghost use Rattle.clap.specs.declared.builder.command.Command.TheViews.{out-Comma
 ghost use Rattle.tool_words.specs.Words.{name_rule, number_rule, text_rule, run_text, trace_text, cycles_rule, isa_shape, cycles_shape, bench_shape, pair_shape, bare_app, tool_app, IsParser, IsCommand, FindsBy, faults, rows_in, command_text, number_of, number_in, word_of, word_in, blocks_of, blocks_in, isa_in, cycles_in, bench_in, pair_in, command_in, command_of};
 
 mod blocks;
+mod own;
 
 pub use blocks::{BLOCKS_MAX, Blocks};
 use clap::builder::ValueParser;
 use clap::error::ErrorKind;
 use clap::{Arg, ArgMatches, Command as Parser};
+pub use own::{lend_words, own_words};
 use std::alloc::{AllocError, Global};
 use thiserror::Error;
 

@@ -1,5 +1,5 @@
-"""The built program, once for each status and each way to it: the status, standard output and standard error (docs/formats.md,
-"Statuses" and "Notes"). No proof says what `main` does with them."""
+"""The built programs, once for each status and each way to it: the status, standard output and standard error (docs/formats.md,
+"Statuses", "Notes" and "The program stt_secrets"). No proof says which streams and words `main` hands on."""
 import os
 import resource
 import subprocess
@@ -13,6 +13,7 @@ sys.path.insert(0, os.path.join(ROOT, "tools"))
 from generate.generated import addi, image, jal, lw
 
 PROGRAM = os.environ.get("STT_CLI", os.path.join(ROOT, "crates", "stt_cli", "out", "stt_cli"))
+SECRETS = os.environ.get("STT_SECRETS", os.path.join(ROOT, "crates", "stt_secrets", "out", "stt_secrets"))
 EXIT = [addi(17, 0, 93), 0x00000073]
 TRAP = [lw(5, 1, 0)]
 LOOP = [jal(0, 0)]
@@ -28,8 +29,10 @@ def bytes_of(path):
         return file.read()
 
 
-@unittest.skipUnless(os.path.isfile(PROGRAM), "the program isn't built (crates/stt_cli/out/stt_cli, or STT_CLI)")
-class Statuses(unittest.TestCase):
+class Ran(unittest.TestCase):
+    """A program, and files for it."""
+    PROGRAM = None
+
     def setUp(self):
         folder = tempfile.TemporaryDirectory()
         self.addCleanup(folder.cleanup)
@@ -49,7 +52,7 @@ class Statuses(unittest.TestCase):
         return path
 
     def ran(self, *words, **more):
-        done = subprocess.run([PROGRAM, *words], stdout=subprocess.PIPE, stderr=subprocess.PIPE, timeout=60, check=False, **more)
+        done = subprocess.run([self.PROGRAM, *words], stdout=subprocess.PIPE, stderr=subprocess.PIPE, timeout=60, check=False, **more)
         return done.returncode, done.stdout, done.stderr
 
     def refused(self, status, note, *words):
@@ -60,6 +63,40 @@ class Statuses(unittest.TestCase):
         """A text goes whole to standard output, and nothing to standard error."""
         got, out, note = self.ran(*words)
         self.assertEqual((got, out.splitlines()[-1:], note), (status, [last_line], b""), words)
+
+    def cut(self, note, *words):
+        """What can't be written is told on standard error."""
+        with open("/dev/full", "wb") as full:
+            done = subprocess.run([self.PROGRAM, *words], stdout=full, stderr=subprocess.PIPE, timeout=60, check=False)
+        self.assertEqual((done.returncode, done.stderr), (7, note))
+
+    def untold(self, status, *words):
+        """A note that can't be written changes no status."""
+        with open("/dev/full", "wb") as full:
+            done = subprocess.run([self.PROGRAM, *words], stdout=subprocess.PIPE, stderr=full, timeout=60, check=False)
+        self.assertEqual((done.returncode, done.stdout), (status, b""))
+
+    def starved(self, *words):
+        """Under a rising limit of memory the program can't start, then refuses with 8, then writes its text."""
+        ways = []
+        for size in [2**k for k in range(20, 40)]:
+            def limit():
+                resource.setrlimit(resource.RLIMIT_AS, (size, size))
+            try:
+                ran = self.ran(*words, preexec_fn=limit)
+            except subprocess.SubprocessError:
+                continue
+            ways.append((ran[0], ran[1] == b"", ran[2]))
+            if ran[0] == 0:
+                break
+        started = [way for way in ways if way[0] >= 0 and way[0] != 127]
+        self.assertEqual(started[-1], (0, False, b""))
+        self.assertLessEqual(set(started[:-1]), {(8, True, b"memory\n")})
+
+
+@unittest.skipUnless(os.path.isfile(PROGRAM), "the program isn't built (crates/stt_cli/out/stt_cli, or STT_CLI)")
+class Statuses(Ran):
+    PROGRAM = PROGRAM
 
     def test_texts(self):
         self.written(0, b"end exit 0 retired 2", "isa", self.exit, "--steps", "9")
@@ -113,31 +150,53 @@ class Statuses(unittest.TestCase):
             self.refused(6, b"read image2\n", "pair", self.core, self.exit, path, "--cycles", "9")
 
     def test_output_that_fails(self):
-        with open("/dev/full", "wb") as full:
-            done = subprocess.run([PROGRAM, "isa", self.exit, "--steps", "9"], stdout=full, stderr=subprocess.PIPE, timeout=60, check=False)
-        self.assertEqual((done.returncode, done.stderr), (7, b"write\n"))
+        self.cut(b"write\n", "isa", self.exit, "--steps", "9")
 
     def test_a_note_that_fails_changes_no_status(self):
-        with open("/dev/full", "wb") as full:
-            done = subprocess.run([PROGRAM, "isa"], stdout=subprocess.PIPE, stderr=full, timeout=60, check=False)
-        self.assertEqual((done.returncode, done.stdout), (2, b""))
+        self.untold(2, "isa")
 
     def test_memory(self):
-        """Under a rising limit of memory the program can't start, then refuses with 8, then writes its text."""
-        ways = []
-        for size in [2**k for k in range(20, 40)]:
-            def limit():
-                resource.setrlimit(resource.RLIMIT_AS, (size, size))
-            try:
-                ran = self.ran("run", self.core, self.exit, "--cycles", "100", preexec_fn=limit)
-            except subprocess.SubprocessError:
-                continue
-            ways.append((ran[0], ran[1] == b"", ran[2]))
-            if ran[0] == 0:
-                break
-        started = [way for way in ways if way[0] >= 0 and way[0] != 127]
-        self.assertEqual(started[-1], (0, False, b""))
-        self.assertLessEqual(set(started[:-1]), {(8, True, b"memory\n"), (8, True, b"")})
+        self.starved("run", self.core, self.exit, "--cycles", "100")
+
+
+@unittest.skipUnless(os.path.isfile(SECRETS), "the program isn't built (crates/stt_secrets/out/stt_secrets, or STT_SECRETS)")
+class SecretsStatuses(Ran):
+    PROGRAM = SECRETS
+
+    def words(self, description="core.toml", path=None, secret="0x1fff8:1", cycles="100"):
+        return example(description), path or example("bounds_check.elf"), "--secret", secret, "--cycles", cycles
+
+    def test_texts(self):
+        for status, line, words in ((0, b"end exit 0 retired 5 cycles 21", self.words()),
+                                    (1, b"shown 15 access 6 00010018", self.words("core_unprotected.toml")),
+                                    (3, b"end budget retired 0 cycles 1", self.words(cycles="1"))):
+            self.written(status, line, *words)
+
+    def test_words(self):
+        no_texts = [b"\xff"], [*self.words()[:3], b"0x1fff8:\xff", "--cycles", "100"]
+        for words in ([], ["--help"], self.words(secret="7"), self.words(cycles="0"), *no_texts):
+            self.refused(2, b"words\n", *words)
+        self.refused(2, b"secret 0 outside\n", *self.words(secret="0:1"))
+
+    def test_files(self):
+        known = bytes_of(self.core)
+        longer = self.file("longer", known + b"#" * (DESCRIPTION_MAX + 1 - len(known)))
+        none = os.path.join(self.folder, "none")
+        self.refused(4, b"description K1\n", *self.words(self.file("bytes", b"\xff")))
+        self.refused(4, b"description too long\n", *self.words(longer))
+        self.refused(5, b"image E1 52 0\n", *self.words(path=self.file("empty", b"")))
+        self.refused(5, b"image too long\n", *self.words(path=self.file("long", image(EXIT), IMAGE_MAX + 1)))
+        self.refused(6, b"read description\n", *self.words(none))
+        self.refused(6, b"read image\n", *self.words(path=none))
+
+    def test_output_that_fails(self):
+        self.cut(b"write\n", *self.words())
+
+    def test_a_note_that_fails_changes_no_status(self):
+        self.untold(2)
+
+    def test_memory(self):
+        self.starved(*self.words())
 
 
 if __name__ == "__main__":

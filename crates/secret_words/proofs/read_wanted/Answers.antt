@@ -1,6 +1,10 @@
+use Rattle.std.proofs.Common.{rules}
 use Rattle.std.proofs.lemmas.Result.{IfOk-weaker, IfErr-weaker}
-use Rattle.secret_words.proofs.Secrets.{words_are, words_faulty}
+use Rattle.secret_words.proofs.Secrets.{empty_words, words_are, words_faulty}
 use Rattle.secret_words.proofs.read_wanted.Goals as goal
+
+pub returns-then-is_empty-clause-refused : goal.returns-then-is_empty-clause-refused
+returns-then-is_empty-clause-refused c = λ _. empty_words _ _ (search rules)
 
 pub returns-in-Err-clause-refused : goal.returns-in-Err-clause-refused
 returns-in-Err-clause-refused c = λ e. words_faulty _ (c.in-Err.ensures.refused e)

@@ -5,12 +5,22 @@ use Rattle.run_inputs.specs.Told.{world}
 use Rattle.run_inputs.proofs.Exits.{at_exit}
 use Rattle.secret_marks.specs.declared.SecretRange.{SecretRange}
 use Rattle.secret_words.specs.Words.{WantedText, wanted_text}
-use Rattle.secrets_top.specs.declared.refusal.Unjudged.TheVariants.{Range}
+use Rattle.secrets_top.specs.declared.refusal.Unjudged.TheVariants.{Range, Refused}
 use Rattle.secrets_top.specs.Ranges.{first_faulty}
 use Rattle.secrets_top.specs.Verdict.{verdict_of}
 use Rattle.secrets_top.specs.Top.{Inputs, Accepted, Performs, Ends}
-use Rattle.secrets_top.proofs.Outcomes.{range_refused, told_end}
+use Rattle.secrets_top.proofs.Outcomes.{inputs_refused, range_refused, told_end}
 use Rattle.secrets_top.proofs.top.answer.Goals as goal
+
+pub returns-in_err-read-clause-ends : goal.returns-in_err-read-clause-ends
+returns-in_err-read-clause-ends g c =
+    let words : List (List ℕ) = map (λ w. w.now) c.args.words.now in
+    let old = g.F.Files.shelf c.args.files.now in
+    let new = g.F.Files.shelf c.read_described.new.files in
+    let out = g.O.Sink.told c.args.out.now in
+    let wanted : WantedText = wanted_text c.in_ok-wanted.wanted in
+    at_exit (Ends words (world old out) (world new out)) _ (Refused c.in_err-read.field-0.0) c.from_residual-in_err-read.ensures.1
+    (inputs_refused words old new out wanted c.in_err-read.field-0.0 c.in_ok-wanted.ensures.ok c.in_err-read.ensures.answer)
 
 pub returns-in_err-check_ranges-clause-ends : goal.returns-in_err-check_ranges-clause-ends
 returns-in_err-check_ranges-clause-ends g c =

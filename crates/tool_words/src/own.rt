@@ -1,0 +1,52 @@
+//! The words after the program's name: as the host hands them over, and lent.
+ghost use Rattle.std.specs.Prelude.{◌≡◌, ◌≢◌, ◌×◌, IfOk, IfErr, Ok, Err, map, string_bytes, []};
+ghost use Rattle.std_io.specs.IoError.{error_kind};
+ghost use Rattle.std_io.specs.declared.io.kind.ErrorKind.TheVariants.{OutOfMemory};
+
+use crate::Refused;
+use std::alloc::Global;
+use std::io::ErrorKind;
+use std::rt::Env;
+use std::{env, io};
+
+// Why words can't be read: one that isn't UTF-8 is a wrong word.
+fn refused_by(error: &io::Error) -> Refused
+    ensures wanting { error_kind error.now ≡ OutOfMemory → result ≡ Refused.Memory }
+    ensures wrong { error_kind error.now ≢ OutOfMemory → result ≡ Refused.Words }
+{
+    match error.kind() {
+        ErrorKind::OutOfMemory => Refused::Memory,
+        _ => Refused::Words,
+    }
+}
+
+// All words behind the first, which is the program's name.
+fn behind_name(rt: &(impl Env + AllocGlobal), alloc: Global) -> io::Result<Vec<String>> {
+    let mut words = Vec::new(alloc);
+    for word in env::args(rt)?.skip(1) {
+        words.push(word)?;
+    }
+    Ok(words)
+}
+
+/// The words after the program's name. Errors: `Words` where one of them isn't UTF-8; `Memory`.
+pub fn own_words(rt: &(impl Env + AllocGlobal), alloc: Global) -> Result<Vec<String>, Refused> {
+    match behind_name(rt, alloc) {
+        Ok(words) => Ok(words),
+        Err(error) => Err(refused_by(&error)),
+    }
+}
+
+/// These words, lent. Error: `Memory`, where there are some.
+pub fn lend_words<'a>(alloc: Global, words: &'a [String]) -> Result<Vec<&'a str>, Refused>
+    ensures lent { IfOk result (λ lent. map (λ w. w.now) lent.items ≡ map string_bytes words.now) }
+    ensures wanting { IfErr result (λ e. (e ≡ Refused.Memory) × (words.now ≢ [])) }
+{
+    let mut lent = Vec::new(alloc);
+    for word in words {
+        if lent.push(word.as_str()).is_err() {
+            return Err(Refused::Memory);
+        }
+    }
+    Ok(lent)
+}
