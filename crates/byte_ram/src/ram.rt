@@ -30,8 +30,8 @@ impl Model for Ram {
 }
 
 impl Ram {
-    /// Memory with all bytes 0, in which an access may have any address, or only a multiple of its width. The one error is
-    /// want of memory.
+    /// Memory with all bytes 0, in which an access may have any address, or only a multiple of its width. The one error
+    /// is want of memory.
     #[tactic(auto, unfolding(rv_types::specs::Memory::zeros))]
     pub fn new(alloc: Global, base: u32, size: u32, misaligned: bool) -> Result<Ram, NoMemory>
         requires base16 { base % 16 ≡ 0 }
@@ -98,8 +98,8 @@ impl Ram {
         addr >= self.base && addr as u64 + size as u64 <= self.base as u64 + self.bytes.len() as u64
     }
 
-    /// The number at an address, zero-extended, the lowest byte first. Errors: cause 4 exactly where the address has to be
-    /// a multiple of the width and isn't, else cause 5 exactly where a byte is outside.
+    /// The number at an address, zero-extended, the lowest byte first. Errors: cause 4 exactly where the address has to
+    /// be a multiple of the width and isn't, else cause 5 exactly where a byte is outside.
     pub fn get(&self, addr: u32, width: Width) -> Result<u32, Cause>
         ensures { result ≡ get_of self.now addr width }
     {

@@ -5,8 +5,8 @@ use Rattle.machine_desc.specs.contracts.Desc as desc
 use Rattle.machine_desc.specs.declared.Desc.{Desc}
 use Rattle.window_model.specs.Sets.{set_in}
 
--- a level of a cache: so many sets of so many ways, with lines of so many bytes; for each set its lines, the most recently
--- used first
+-- a level of a cache: so many sets of so many ways, with lines of so many bytes; for each set its lines, the most
+-- recently used first
 pub record Lines : Type 0 where
   pub count : ℕ
   pub ways : ℕ

@@ -9,7 +9,8 @@ use rv_types::NoMemory;
 use std::alloc::Global;
 use std::marker::Model;
 
-/// One level of a cache, seen as its sizes and, for each set, the first addresses of its lines, the most recently used first.
+/// One level of a cache, seen as its sizes and, for each set, the first addresses of its lines, the most recently used
+/// first.
 #[derive(Drop)]
 pub struct Level {
     sets: Vec<LineSet>,
@@ -32,8 +33,8 @@ impl Model for Level {
 }
 
 impl Level {
-    /// A level without lines, of so many sets and ways and lines of so many bytes. It takes all memory that the level takes;
-    /// the one error is want of it.
+    /// A level without lines, of so many sets and ways and lines of so many bytes. It takes all memory that the level
+    /// takes; the one error is want of it.
     pub fn new(alloc: Global, count: u32, ways: u32, bytes: u32) -> Result<Level, NoMemory>
         requires some_sets { 0 < count }
         requires some_ways { 0 < ways }
@@ -58,7 +59,8 @@ impl Level {
         self.sets[set_of(line, self.bytes, self.count)].holds(line)
     }
 
-    /// Uses this line: where it is there, it moves to the front of its set; else nothing changes. Answers whether it is there.
+    /// Uses this line: where it is there, it moves to the front of its set; else nothing changes. Answers whether it is
+    /// there.
     pub fn touch(&mut self, line: u32) -> bool
         ensures here { result ≡ is_in self.old.sets (set_at self.old line) line }
         ensures moved { self.new ≡ record self.old { sets = moved_up self.old.sets (set_at self.old line) line } }

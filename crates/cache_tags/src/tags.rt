@@ -9,8 +9,8 @@ use rv_types::NoMemory;
 use std::alloc::Global;
 use std::marker::Model;
 
-/// The cache's tags, seen as the description that they are made for and, for each set, the first addresses of its lines,
-/// the most recently used first.
+/// The cache's tags, seen as the description that they are made for and, for each set, the first addresses of its
+/// lines, the most recently used first.
 #[derive(Drop)]
 pub struct Tags {
     desc: Desc,
@@ -32,7 +32,8 @@ impl Model for Tags {
 }
 
 impl Tags {
-    /// A cache of this description without lines. It takes all memory that the cache takes; the one error is want of it.
+    /// A cache of this description without lines. It takes all memory that the cache takes; the one error is want of
+    /// it.
     pub fn new(alloc: Global, desc: &Desc) -> Result<Tags, NoMemory>
         ensures { IfOk result (λ t. t ≡ record { desc = desc.now; sets = replicate desc.now.cache_sets [] }) }
     {
@@ -47,8 +48,8 @@ impl Tags {
         self.level.holds(line)
     }
 
-    /// Uses this line: where the cache has it, it moves to the front of its set; else nothing changes. Answers whether the
-    /// cache has it.
+    /// Uses this line: where the cache has it, it moves to the front of its set; else nothing changes. Answers whether
+    /// the cache has it.
     pub fn touch(&mut self, line: u32) -> bool
         ensures here { result ≡ has_line self.old.desc self.old.sets line }
         ensures moved { self.new ≡ record self.old { sets = touched self.old.desc self.old.sets line } }

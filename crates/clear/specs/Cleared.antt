@@ -1,5 +1,5 @@
--- Clear, step by step: the store that is found, what is left once it is cleared, and once the load that it violates goes
--- (docs/machine.md, "Clear").
+-- Clear, step by step: the store that is found, what is left once it is cleared, and once the load that it violates
+-- goes (docs/machine.md, "Clear").
 use Rattle.std.specs.Prelude.{ℕ, List, [], ◌∷◌, Option, Some, None}
 use Rattle.std.specs.Option.{option_and_then, option_map}
 use Rattle.machine_desc.specs.declared.Desc.{Desc}
@@ -29,8 +29,8 @@ with_cleared d x = cleared_at (first (may_clear d) x.window) x
 abbrev pub violated : Desc → Machine → Option ℕ
 violated d x = option_map (λ q. q.entry.serial) (option_and_then violated_by (first (may_clear d) x.window))
 
--- the machine without a load and all that is younger, with the load's bit set: fetching goes on at the load, with history and stack as
--- they were before it
+-- the machine without a load and all that is younger, with the load's bit set: fetching goes on at the load, with
+-- history and stack as they were before it
 abbrev pub anew : Desc → Entry → Machine → Machine
 anew d load x =
     cut_from load.serial (Some load.item.pc) (record x { dependence = bit_set d load.item.pc x.dependence; mark = load.item.mark })

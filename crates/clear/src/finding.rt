@@ -7,8 +7,8 @@ ghost use Rattle.parts_stand.specs.Addresses.{can_clear, may_clear_by};
 use lsq::{Lsq, StoreInfo};
 use visibility::VisPoint;
 
-/// The serial of the oldest store in the queue that may be cleared, once the visibility point has moved over the window. None
-/// where none may.
+/// The serial of the oldest store in the queue that may be cleared, once the visibility point has moved over the
+/// window. None where none may.
 pub(crate) fn clearable(queues: &Lsq, point: &VisPoint) -> Option<u64>
     requires few { length queues.now.stores < 2 ^ 32 }
     ensures { result ≡ option_map (λ s. s.serial) (find (can_clear point.now.serial) queues.now.stores) }

@@ -1,5 +1,5 @@
-//! The phase: a store is found and cleared; where a load passed it wrongly, that goes with all that is younger, and is fetched
-//! anew.
+//! The phase: a store is found and cleared; where a load passed it wrongly, that goes with all that is younger, and is
+//! fetched anew.
 ghost use Rattle.std.specs.Prelude.{◌≡◌, IfSome, Some, true};
 ghost use Rattle.core_parts.specs.Dropped.{StopsBelow};
 ghost use Rattle.visibility.specs.Point.{HasAdvanced};
@@ -13,10 +13,10 @@ use core_parts::Parts;
 use rename_taint::RenameTaint;
 use window_model::{Entry, Event, Row};
 
-/// Phase Clear, once the visibility point has moved over the window: the oldest store whose address is known and not tainted, and
-/// that isn't cleared, is, with its event in the row. Where younger loads passed it wrongly the oldest of them is dropped, with
-/// all that is younger and all fetched items, its bit of dependence is set, and fetching goes on at it, with history and stack
-/// as they were before it. Where there are no bits of dependence nothing is cleared.
+/// Phase Clear, once the visibility point has moved over the window: the oldest store whose address is known and not
+/// tainted, and that isn't cleared, is, with its event in the row. Where younger loads passed it wrongly the oldest of
+/// them is dropped, with all that is younger and all fetched items, its bit of dependence is set, and fetching goes on
+/// at it, with history and stack as they were before it. Where there are no bits of dependence nothing is cleared.
 pub fn clear<R: RenameTaint>(parts: &mut Parts<R>, row: &mut Row)
     requires advanced { HasAdvanced parts.old.point parts.old.machine.window }
     requires room { HasRoom most_cleared row.old }
@@ -33,7 +33,8 @@ pub fn clear<R: RenameTaint>(parts: &mut Parts<R>, row: &mut Row)
     clear_store(serial, parts, row);
 }
 
-// The serial of the store that is cleared next, once the visibility point has moved over the window. None where none may be.
+// The serial of the store that is cleared next, once the visibility point has moved over the window. None where none
+// may be.
 fn next_cleared<R: RenameTaint>(parts: &Parts<R>) -> Option<u64>
     requires passing { passing parts.now.desc ≡ true }
     requires advanced { HasAdvanced parts.now.point parts.now.machine.window }
@@ -60,8 +61,8 @@ fn clear_store<R: RenameTaint>(serial: u64, parts: &mut Parts<R>, row: &mut Row)
     fetch_anew(&load, parts, row);
 }
 
-// The store with this serial is marked as cleared, where it stands and in the queue. The answer is the serial of the oldest load
-// that it violates. The visibility point isn't past the store.
+// The store with this serial is marked as cleared, where it stands and in the queue. The answer is the serial of the
+// oldest load that it violates. The visibility point isn't past the store.
 fn mark<R: RenameTaint>(serial: u64, parts: &mut Parts<R>) -> Option<u64>
     requires passing { passing parts.old.desc ≡ true }
     requires found { Some serial ≡ clearing parts.old.desc parts.old.machine }
@@ -74,8 +75,8 @@ fn mark<R: RenameTaint>(serial: u64, parts: &mut Parts<R>) -> Option<u64>
     parts.lsq.clear(serial)
 }
 
-// A load that passed a store wrongly is dropped, with all that is younger: its bit of dependence is set, and it is fetched anew,
-// with history and stack as they were before it.
+// A load that passed a store wrongly is dropped, with all that is younger: its bit of dependence is set, and it is
+// fetched anew, with history and stack as they were before it.
 fn fetch_anew<R: RenameTaint>(load: &Entry, parts: &mut Parts<R>, row: &mut Row)
     requires passing { passing parts.old.desc ≡ true }
     requires stops { StopsBelow load.now.serial parts.old.point parts.old.machine.window }

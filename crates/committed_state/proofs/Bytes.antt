@@ -114,8 +114,8 @@ none_found : (lo co : Bool) (x v : ℕ) → co ≡ false → (if not lo && co th
 none_found true co x v q = refl
 none_found false co x v q = rw q refl
 
--- what a byte of the load needs of an older store: it is cleared, its address is known, and its data is where it covers the
--- byte
+-- what a byte of the load needs of an older store: it is cleared, its address is known, and its data is where it covers
+-- the byte
 pub record Covering (l e : Entry) (b : ℕ) : Type 0 where
   pub address : has_address e ≡ true
   pub issued : is_some e.outcome ≡ true

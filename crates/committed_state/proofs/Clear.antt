@@ -1,5 +1,5 @@
--- Clear: a store that is cleared shares no byte with a load that passed it and stays; the load that it is violated by goes, with all
--- that is younger.
+-- Clear: a store that is cleared shares no byte with a load that passed it and stays; the load that it is violated by
+-- goes, with all that is younger.
 use Rattle.std.proofs.Common.{◌≡◌, ℕ, Bool, true, false, List, [], ◌∷◌, ◌++◌, Option, Some, refl, ap, sym, ◌∙◌, subst, append_assoc}
 use Rattle.std.specs.Prelude.{map, reverse}
 use Rattle.std.specs.List.{AllZip}

@@ -67,7 +67,8 @@ module _ (ram ram2 : Ram) (i : Instr) (p : SameShape ram ram2) where
 abbrev pub is_access : Kind → Bool
 is_access k = is_load k || is_store k
 
--- the address of a load or store comes from its first operand, what it stores from its second, its next address from neither
+-- the address of a load or store comes from its first operand, what it stores from its second, its next address from
+-- neither
 pub record AccessEffect (i : Instr) : Type 0 where
   pub next : (pc a b a2 b2 : ℕ) → (effect pc i a2 b2).next ≡ (effect pc i a b).next
   pub addr : (pc a b b2 : ℕ) → (effect pc i a b2).addr ≡ (effect pc i a b).addr
@@ -96,8 +97,8 @@ effect_of_access (instr.Jal rd imm) h = absurd (let n = jal_no_access (word imm 
 effect_of_access (instr.OpReg o rd rs1 rs2) h = absurd (let n = op_no_access o in cc)
 effect_of_access _ h = absurd (cc)
 
--- every entry that is a load or store of the program takes its address from its first operand, and what it stores from its
--- second
+-- every entry that is a load or store of the program takes its address from its first operand, and what it stores from
+-- its second
 pub access_effect : (code : Code) (e : Entry) → IsItem code e.item → is_access e.item.kind ≡ true → AccessEffect e.item.instr
 access_effect code e item h = by_word (code e.item.pc) item.instr item.kind
   where

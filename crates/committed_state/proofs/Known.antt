@@ -1,5 +1,5 @@
--- What is known of an entry that has issued: its operands have their values. So what it computes is what the replay says, where each
--- older store is cleared.
+-- What is known of an entry that has issued: its operands have their values. So what it computes is what the replay
+-- says, where each older store is cleared.
 use Rattle.std.proofs.Common.{◌≡◌, ℕ, ◌+◌, Bool, true, false, not, ◌&&◌, List, [], ◌∷◌, length, Option, Some, refl, ap, sym, ◌∙◌, subst, arith}
 use Rattle.std.specs.Prelude.{if◌then◌else◌, reverse}
 use Rattle.std.specs.List.{find, list_all}
@@ -71,7 +71,8 @@ has_value d code s now (e ∷ b) r h t k =
 
 -- with as many registers as instructions name, what issued entries have computed is the replay's
 module _ (d : Desc) (code : Code) (s : Bank) (now : ℕ) (n : length s.regs ≡ 32) where
-  -- what an issued entry computes is what its replay comes to, where older entries have theirs and older stores are cleared
+  -- what an issued entry computes is what its replay comes to, where older entries have theirs and older stores are
+  -- cleared
   replayed_so : (b : List Entry) (e : Entry) → Replayed s b → list_all is_clear b ≡ true → Behind (Stands d code s now) b → Stands d code s now b e → is_issued e ≡ true → as_known e (replayed (bank s b) e) ≡ as_known e (computed s b e)
   replayed_so b e r cl h st i =
       let w = width_in e.item.instr in

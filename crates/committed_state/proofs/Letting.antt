@@ -1,5 +1,5 @@
--- A load that begins: it has passed no store of known address, so its bytes are those of the youngest, and the stores before it stand
--- as a load that has issued asks.
+-- A load that begins: it has passed no store of known address, so its bytes are those of the youngest, and the stores
+-- before it stand as a load that has issued asks.
 use Rattle.std.proofs.Common.{◌≡◌, ℕ, zero, suc, ◌+◌, Bool, true, false, not, ◌&&◌, ◌||◌, List, [], ◌∷◌, Option, Some, None, refl, ap, ◌∙◌, arith}
 use Rattle.std.proofs.lemmas.Bool.Decides.{nat_tests}
 use Rattle.std.specs.Prelude.{if◌then◌else◌, is_some, ◌==◌}
@@ -127,7 +127,8 @@ module _ (d : Desc) (code : Code) (s : Bank) (now : ℕ) (l : Entry) (begins : l
       (λ t. not_cleared (passing d) e h.0.clearing (pd t)))
       ∙ by_let bytes m p pd b h.1 qs.1
 
-  -- the older stores stand before a load as they have to, where its address and fault are those for which Issue asked them
+  -- the older stores stand before a load as they have to, where its address and fault are those for which Issue asked
+  -- them
   pub stands_behind : (x : Around) (b : List Entry) (e : Entry) → l.item ≡ e.item → (addr_of l.outcome ≡ address_of x.regs b e) → (fault_of l.outcome ≡ load_fault x.ram (address_of x.regs b e) (width_of e)) →
       Behind S b → goes_behind d x b e ≡ true → list_all (stands_before l) b ≡ true
   stands_behind x b e item at fault h q = by_version (d.version == 1) q

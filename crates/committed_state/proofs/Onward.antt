@@ -70,8 +70,8 @@ pub all_onward : (f g : ℕ → Bool) (rs : List ℕ) → ((r : ℕ) → f r ≡
 all_onward f g [] h k = refl
 all_onward f g (r ∷ rs) h k = both_then (f r) (g r) _ _ (h r) (all_onward f g rs h) k
 
--- operands that are there over some entries are there over others, where each register whose writer has executed has one that
--- has
+-- operands that are there over some entries are there over others, where each register whose writer has executed has
+-- one that has
 pub operands_then : (k : Kind) (a c i : Bool) (b b2 : List Entry) (rs : List ℕ) → ((r : ℕ) → executed b r ≡ true → executed b2 r ≡ true) → HasOperands k a c i b rs → HasOperands k a c i b2 rs
 operands_then Store a c i b b2 rs h o = (λ k. all_onward _ _ (base_of rs) h (o.0 k), λ k. all_onward _ _ (others_of rs) h (o.1 k))
 operands_then _ a c i b b2 rs h o = λ k. all_onward _ _ rs h (o k)

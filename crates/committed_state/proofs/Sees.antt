@@ -24,8 +24,8 @@ abbrev pub located : Option Outcome → Option Outcome
 located None = None
 located (Some o) = Some (record { value = 0; next = 0; addr = o.addr; stored = 0; fault = o.fault })
 
--- the instruction stays, and whether it is cleared; what is Done stays so with its outcome; a store's part that has issued stays as it
--- is, and an address that comes is known from this cycle on
+-- the instruction stays, and whether it is cleared; what is Done stays so with its outcome; a store's part that has
+-- issued stays as it is, and an address that comes is known from this cycle on
 pub record Moves (now : ℕ) (e e2 : Entry) : Type 0 where
   pub item : e2.item ≡ e.item
   pub cleared : e2.cleared ≡ e.cleared
@@ -242,8 +242,8 @@ module _ (now : ℕ) (l e e2 : Entry) (m : Moves now e e2) (load : is_load l.ite
       by_tests true true q k = by_known q k s
       by_tests true false q k = by_unknown q k s
 
--- an entry sees another as before it changed: the instruction, what is Done with its outcome, and where it is a load that has issued
--- before this cycle, how it stands before it and its bytes
+-- an entry sees another as before it changed: the instruction, what is Done with its outcome, and where it is a load
+-- that has issued before this cycle, how it stands before it and its bytes
 pub record Sees (now : ℕ) (l e e2 : Entry) : Type 0 where
   pub item : e2.item ≡ e.item
   pub done : is_done e.state ≡ true → (is_done e2.state ≡ true) × (e2.outcome ≡ e.outcome)

@@ -1,5 +1,5 @@
--- What an entry that has issued computed: what Issue makes of its operands in the window, over the retired registers and memory
--- (docs/theorems.md, "Committed state").
+-- What an entry that has issued computed: what Issue makes of its operands in the window, over the retired registers
+-- and memory (docs/theorems.md, "Committed state").
 use Rattle.std.specs.Prelude.{◌≡◌, ℕ, Bool, not, ◌&&◌, List, map, Option, Some, None, if◌then◌else◌}
 use Rattle.std.specs.List.{find}
 use Rattle.rv_types.specs.Word.{from_le}
@@ -43,8 +43,8 @@ abbrev pub ComesTo : Option Outcome → Outcome → Type 0
 ComesTo None v = Unit {0}
 ComesTo (Some o) v = o ≡ v
 
--- what is known of a store's outcome once these parts have issued: address and fault from the address part on, the data from
--- the data part on
+-- what is known of a store's outcome once these parts have issued: address and fault from the address part on, the data
+-- from the data part on
 abbrev pub known_of : Bool → Bool → Outcome → Outcome
 known_of address datum o = record o {
   addr = if address then o.addr else 0;

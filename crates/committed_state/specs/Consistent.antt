@@ -50,8 +50,8 @@ all_issued_by _ address datum issued = issued
 abbrev pub all_issued : Entry → Bool
 all_issued e = all_issued_by e.item.kind (has_address e) (has_data e) (is_issued e)
 
--- by its kind, the parts of an entry that have issued fit: only a store has parts, and its outcome is there from the first one
--- on
+-- by its kind, the parts of an entry that have issued fit: only a store has parts, and its outcome is there from the
+-- first one on
 abbrev pub FitsParts : Kind → Bool → Bool → Bool → Type 0
 FitsParts Store address datum issued = issued ≡ (address || datum)
 FitsParts _ address datum issued = (address ≡ false) × (datum ≡ false)
@@ -81,18 +81,19 @@ HasOperands Store address datum issued before rs =
     (address ≡ true → all_executed before (base_of rs) ≡ true) × (datum ≡ true → all_executed before (others_of rs) ≡ true)
 HasOperands _ address datum issued before rs = issued ≡ true → all_executed before rs ≡ true
 
--- how an older store of known address has to stand before a load that has issued: the load leaves it out, or they share no byte,
--- or the store's data is known and the load hasn't passed it
+-- how an older store of known address has to stand before a load that has issued: the load leaves it out, or they share
+-- no byte, or the store's data is known and the load hasn't passed it
 abbrev pub stands_apart : Entry → Entry → Bool
 stands_apart load store = left_out load store || not (shares store load) || (has_data store && not (passed store load))
 
--- how any older store has to stand before a load that has issued: while its address isn't known it isn't cleared, and then they
--- stand apart
+-- how any older store has to stand before a load that has issued: while its address isn't known it isn't cleared, and
+-- then they stand apart
 abbrev pub stands_before : Entry → Entry → Bool
 stands_before load store =
     not (is_store store.item.kind) || (if has_address store then stands_apart load store else not store.cleared)
 
--- whether the entry is cleared fits: where no load passes a store it is; where loads do, a store of unknown address isn't
+-- whether the entry is cleared fits: where no load passes a store it is; where loads do, a store of unknown address
+-- isn't
 abbrev pub FitsClearing : Bool → Entry → Type 0
 FitsClearing true e = is_store e.item.kind ≡ true → has_address e ≡ false → e.cleared ≡ false
 FitsClearing false e = e.cleared ≡ true
@@ -135,7 +136,8 @@ pub record Holds (d : Desc) (code : Code) (s : Hart) (now : ℕ) (window : List 
 abbrev pub ConsistentIn : ℕ → Desc → Code → Machine → Type 0
 ConsistentIn now d code x = Holds d code (hart_of x) now x.window x.queue x.fetch_pc
 
--- the machine is consistent between cycles: as Issue leaves it, Rename and Fetch keep it, and the next cycle begins with it
+-- the machine is consistent between cycles: as Issue leaves it, Rename and Fetch keep it, and the next cycle begins
+-- with it
 abbrev pub Consistent : Desc → Code → Machine → Type 0
 Consistent d code x = ConsistentIn (x.cycle + 1) d code x
 

@@ -54,7 +54,8 @@ bank s (e ∷ before) = bank_after e (bank s before)
 abbrev pub is_clear : Entry → Bool
 is_clear e = not (is_store e.item.kind) || e.cleared
 
--- every issued entry all of whose older stores are cleared has the outcome of the replay at its place, as far as it is known
+-- every issued entry all of whose older stores are cleared has the outcome of the replay at its place, as far as it is
+-- known
 abbrev pub Replayed : Bank → List Entry → Type 0
 Replayed s [] = Unit {0}
 Replayed s (e ∷ before) =

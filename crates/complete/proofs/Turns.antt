@@ -129,7 +129,8 @@ module _ (s : Described) (row : Row) (i : ℕ) (now : Described) (row_now : Row)
         few = omega (arith, more, longer, c.few);
       }
 
-  -- the phase goes on over an entry that is due where its serial alone is told, and what becomes of whichever entry stands there
+  -- the phase goes on over an entry that is due where its serial alone is told, and what becomes of whichever entry
+  -- stands there
   serial_by : (o : Option Entry) (n : ℕ) (next : Described) (row_next : Row) → slice_get now.machine.window i ≡ o → option_map (completes now.machine.cycle) o ≡ Some true → option_map (λ (e : Entry). e.serial) o ≡ Some n →
       ((e : Entry) → slice_get now.machine.window i ≡ Some e → next ≡ record now { machine = record (now.machine) { window = slice_set now.machine.window i (done e) } }) →
       row_next ≡ record row_now { events = row_now.events ++ event.Done n ∷ [] } → CompletesOn s row (i + 1) next row_next

@@ -50,8 +50,8 @@ fn is_due(state: Progress, cycle: u64) -> bool
     }
 }
 
-// The entry at a position, which doesn't wait, becomes Done: no station awaits it any more, unless its value is held back. The
-// answer is its serial.
+// The entry at a position, which doesn't wait, becomes Done: no station awaits it any more, unless its value is held
+// back. The answer is its serial.
 fn finish<R: RenameTaint>(i: u32, parts: &mut Parts<R>) -> u64
     requires { option_map (λ e. is_waiting e.state) (slice_get parts.old.machine.window i) ≡ Some false }
     ensures serial { option_map (λ e. e.serial) (slice_get parts.old.machine.window i) ≡ Some result }

@@ -9,7 +9,8 @@ use stations::Stations;
 use visibility::VisPoint;
 use window_model::Entry;
 
-/// No station awaits the entry any more, if it gives its value. A load that is held back gives it later, as the point moves.
+/// No station awaits the entry any more, if it gives its value. A load that is held back gives it later, as the point
+/// moves.
 pub(crate) fn wake_readers(entry: &Entry, desc: &Desc, point: &VisPoint, stations: &mut Stations)
     ensures { stations.new
         ≡ record stations.old { held = struck_if_given (hold_of desc.now point.now) entry.now stations.old.held } }

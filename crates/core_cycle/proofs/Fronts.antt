@@ -9,7 +9,8 @@ use Rattle.window_model.specs.State.{After}
 use Rattle.core_parts.specs.Described.{Described}
 use Rattle.core_cycle.specs.Phases.{phases_before}
 
--- the parts as they begin, after Fill, after Complete, once the point may have moved, after Resolve, and once it may have moved again
+-- the parts as they begin, after Fill, after Complete, once the point may have moved, after Resolve, and once it may
+-- have moved again
 pub record Resolved (s s1 s2 s3 s4 s5 : Described) : Type 0 where
   pub filled : s1 ≡ record s { machine = (fill s.desc s.machine).machine }
   pub completed : s2 ≡ record s1 { machine = (complete s1.machine).machine }

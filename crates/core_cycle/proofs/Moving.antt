@@ -1,5 +1,5 @@
--- Where the visibility point needn't move: it says of what a phase leaves which entries are visible, as it said of the window
--- before.
+-- Where the visibility point needn't move: it says of what a phase leaves which entries are visible, as it said of the
+-- window before.
 use Rattle.std.proofs.Common.{◌≡◌, ◌++◌, List, [], length, ap, sym, subst, arith}
 use Rattle.std.proofs.lemmas.List.{length-append, nil_from_length}
 use Rattle.std.specs.List.{AllByRecursion as Each}

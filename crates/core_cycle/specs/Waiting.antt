@@ -7,7 +7,8 @@ use Rattle.visibility.specs.Point.{HasAdvanced, Point}
 use Rattle.parts_stand.specs.Telling.{hold_of}
 use Rattle.core_parts.specs.Lent.{HoldsWaiting}
 
--- the entries that wait, where results are held back by a point of the description's model that has moved over the window
+-- the entries that wait, where results are held back by a point of the description's model that has moved over the
+-- window
 pub record HoldsByPoint (d : Desc) (s : Stations) (window : List Entry) : Type 0 where
   pub point : Point
   pub advanced : HasAdvanced point window

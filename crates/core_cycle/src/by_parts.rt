@@ -23,9 +23,9 @@ use std::marker::Model;
 use visibility::VisPoint;
 use window_model::{Clocked, Row};
 
-/// The written machine by its parts: seen as the machine (`docs/machine.md`, "State"), its description, and the words that it
-/// may fetch. Between two cycles the parts that it lends stand for the machine. In a cycle of which it knows that nothing happens
-/// no phase goes (`docs/machine.md`, "Cycles in which nothing happens").
+/// The written machine by its parts: seen as the machine (`docs/machine.md`, "State"), its description, and the words
+/// that it may fetch. Between two cycles the parts that it lends stand for the machine. In a cycle of which it knows
+/// that nothing happens no phase goes (`docs/machine.md`, "Cycles in which nothing happens").
 #[derive(Drop)]
 pub struct Core<R: RenameTaint> {
     parts: Box<Parts<R>>,
@@ -76,8 +76,8 @@ impl<R: RenameTaint> Core<R> {
         self.parts.rob()
     }
 
-    /// The rename table: it names the writer and the youngest root that each register has for an entry behind the window. For
-    /// a register without a root in flight the root may be one that has retired.
+    /// The rename table: it names the writer and the youngest root that each register has for an entry behind the
+    /// window. For a register without a root in flight the root may be one that has retired.
     pub fn rename(&self) -> &R
         ensures writers { NamesWriters (R.writes result.now) self.now.machine.window }
         ensures roots { NamesRoots self.now.machine.next_serial (R.writes result.now) self.now.machine.window }
@@ -85,8 +85,8 @@ impl<R: RenameTaint> Core<R> {
         self.parts.table()
     }
 
-    /// The stations: they hold the entries that wait, and what these want and await, where results are held back by a visibility
-    /// point that has moved over the window; and they tell which are ready, and of a store which part is.
+    /// The stations: they hold the entries that wait, and what these want and await, where results are held back by a
+    /// visibility point that has moved over the window; and they tell which are ready, and of a store which part is.
     pub fn stations(&self) -> &Stations
         ensures waiting { HoldsByPoint self.now.desc result.now self.now.machine.window }
         ensures ready { TellsReady self.now.desc result.now self.now.machine.window }
@@ -95,9 +95,9 @@ impl<R: RenameTaint> Core<R> {
         stations_of(&self.parts)
     }
 
-    /// The queues: they hold the window's loads and stores by age; and what loads have read and which stores are cleared, where
-    /// loads may pass stores. Each store has the youngest root of its address; one without a root in flight may have one that has
-    /// retired.
+    /// The queues: they hold the window's loads and stores by age; and what loads have read and which stores are
+    /// cleared, where loads may pass stores. Each store has the youngest root of its address; one without a root in
+    /// flight may have one that has retired.
     pub fn lsq(&self) -> &Lsq
         ensures queues { StandFor result.now self.now.machine.window }
         ensures tracks { passing self.now.desc ≡ true → Tracks result.now self.now.machine.window }
@@ -114,9 +114,10 @@ impl<R: RenameTaint> Core<R> {
         self.parts.point()
     }
 
-    /// The youngest roots of taint (YRoT in the papers on speculative taint tracking) of the entry at a position, counted from
-    /// the oldest: for its first and second source the serial of the youngest load from which the source's value flows. The
-    /// value is tainted until that load is visible. For a source without a root in flight it may be one that has retired.
+    /// The youngest roots of taint (YRoT in the papers on speculative taint tracking) of the entry at a position,
+    /// counted from the oldest: for its first and second source the serial of the youngest load from which the source's
+    /// value flows. The value is tainted until that load is visible. For a source without a root in flight it may be
+    /// one that has retired.
     pub fn yrot(&self, i: u32) -> [Option<u64>; 2]
         requires { i < length self.now.machine.window }
         ensures { HasRoots self.now.machine.next_serial self.now.machine.window i result }

@@ -1,4 +1,5 @@
-//! A cycle over the parts: its phases, or none where nothing happens (`docs/machine.md`, "Cycles in which nothing happens").
+//! A cycle over the parts: its phases, or none where nothing happens (`docs/machine.md`, "Cycles in which nothing
+//! happens").
 ghost use Rattle.std.specs.Prelude.{◌≡◌, ◌<◌, ◌≤◌, ◌-◌, ◌^◌, length, None};
 ghost use Rattle.elf_loader.specs.Code.{word_at};
 ghost use Rattle.window_model.specs.Committed.{Commits};
@@ -13,8 +14,8 @@ use rename_taint::RenameTaint;
 use rv_types::Piece;
 use window_model::Row;
 
-/// One cycle of parts of which it is known that nothing happens in the cycles below a number, in which no phase goes. The answer
-/// is that number as it is known after the cycle, 0 where that is known of none.
+/// One cycle of parts of which it is known that nothing happens in the cycles below a number, in which no phase goes.
+/// The answer is that number as it is known after the cycle, 0 where that is known of none.
 pub(crate) fn clock<R: RenameTaint>(
     parts: &mut Parts<R>,
     until: u32,

@@ -17,8 +17,8 @@ use rename_taint::RenameTaint;
 use resolve::resolve;
 use window_model::Row;
 
-/// The phases before Retire. The visibility point says which entries are visible as they begin, as Resolve and then Clear ask for
-/// it, and once they are through.
+/// The phases before Retire. The visibility point says which entries are visible as they begin, as Resolve and then
+/// Clear ask for it, and once they are through.
 pub(crate) fn before_retire<R: RenameTaint>(parts: &mut Parts<R>, row: &mut Row)
     requires advanced { HasAdvanced parts.old.point parts.old.machine.window }
     requires room { HasRoom most_before_retire row.old }
@@ -40,8 +40,8 @@ pub(crate) fn before_retire<R: RenameTaint>(parts: &mut Parts<R>, row: &mut Row)
     advance_after(parts, resolved, row);
 }
 
-/// The phases after Retire, unless the run has ended; no store executes as they begin. The visibility point says which entries are
-/// visible as Issue asks for it, and once Rename has brought in others.
+/// The phases after Retire, unless the run has ended; no store executes as they begin. The visibility point says which
+/// entries are visible as Issue asks for it, and once Rename has brought in others.
 pub(crate) fn after_retire<R: RenameTaint>(parts: &mut Parts<R>, row: &mut Row)
     requires advanced { HasAdvanced parts.old.point parts.old.machine.window }
     requires settled { Each WaitsOrDone parts.old.machine.window }

@@ -1,4 +1,5 @@
-//! What is due later, and from when on something may happen again (`docs/machine.md`, "Cycles in which nothing happens").
+//! What is due later, and from when on something may happen again (`docs/machine.md`, "Cycles in which nothing
+//! happens").
 ghost use Rattle.std.specs.Prelude.{◌≡◌, ◌<◌, ◌≤◌, All, [], None};
 ghost use Rattle.quiet_cycles.specs.Still.{NotDoneBefore, NotDueBefore, NothingDueBefore};
 
@@ -7,8 +8,8 @@ use rename_taint::RenameTaint;
 use rob_ring::RobRing;
 use window_model::{Miss, Progress, Row};
 
-/// After a cycle with this row: the number of a cycle before which nothing happens. 0, of which nothing is claimed, where
-/// the row has an event or the run has ended.
+/// After a cycle with this row: the number of a cycle before which nothing happens. 0, of which nothing is claimed,
+/// where the row has an event or the run has ended.
 pub(crate) fn still_until<R: RenameTaint>(parts: &Parts<R>, row: &Row) -> u32
     ensures empty { 0 < result → row.now.events ≡ [] }
     ensures running { 0 < result → parts.now.machine.end ≡ None }
@@ -43,7 +44,8 @@ fn sooner(due: u64, cycle: u64, least: u64) -> u64
     }
 }
 
-// The sooner of the cycle until which an entry is busy and the least so far; the least where it isn't busy, or not past this cycle.
+// The sooner of the cycle until which an entry is busy and the least so far; the least where it isn't busy, or not past
+// this cycle.
 fn done_sooner(state: Progress, cycle: u64, least: u64) -> u64
     ensures done { NotDoneBefore result cycle state }
     ensures sooner { result ≤ least }

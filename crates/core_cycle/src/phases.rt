@@ -1,4 +1,5 @@
-//! The phase that stands over loose parts: a call of its crate on the parts that it moves. A core beside which marks walk uses it, too.
+//! The phase that stands over loose parts: a call of its crate on the parts that it moves. A core beside which marks
+//! walk uses it, too.
 ghost use Rattle.std.specs.Prelude.{◌≡◌, ◌<◌, ◌+◌, ◌-◌, ◌^◌, [], None};
 ghost use Rattle.visibility.specs.Point.{HasAdvanced};
 ghost use Rattle.window_model.specs.Retire.{retire};
@@ -9,8 +10,8 @@ use rename_taint::RenameTaint;
 use rv_types::Piece;
 use window_model::Row;
 
-/// Phase Retire, once the visibility point has moved over the window: it says the same of the entries that stay. What is kept of
-/// sources by position goes with those that retire.
+/// Phase Retire, once the visibility point has moved over the window: it says the same of the entries that stay. What
+/// is kept of sources by position goes with those that retire.
 pub fn retire<R: RenameTaint>(parts: &mut Parts<R>, row: &mut Row, piece: &mut Piece)
     requires advanced { HasAdvanced parts.old.point parts.old.machine.window }
     requires room { HasRoom most_retired row.old }

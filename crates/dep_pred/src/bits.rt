@@ -34,7 +34,8 @@ impl DepPred {
         Ok(DepPred { bits })
     }
 
-    /// Whether a load at this address waits for the addresses of all older stores: its bit is set. There is a bit or more.
+    /// Whether a load at this address waits for the addresses of all older stores: its bit is set. There is a bit or
+    /// more.
     pub fn waits(&self, pc: u32) -> bool
         requires { 0 < length self.now }
         ensures bit { result ≡ is_set self.now pc }
@@ -43,8 +44,8 @@ impl DepPred {
         self.bits[index(pc, self.bits.len())]
     }
 
-    /// Learns that a load at this address passed a store wrongly: its bit is set, and no other changes. Answers the event that
-    /// tells the bit's value. There is a bit or more.
+    /// Learns that a load at this address passed a store wrongly: its bit is set, and no other changes. Answers the
+    /// event that tells the bit's value. There is a bit or more.
     pub fn learn(&mut self, pc: u32) -> Event
         requires { 0 < length self.old }
         ensures bit { self.new ≡ with_set self.old pc }

@@ -17,9 +17,10 @@ abbrev pub fault_if : Bool → ElfFault → Option ElfFault
 fault_if true e = Some e
 fault_if false e = None
 
--- the fault of the header's fields: the class is to be that of 32 bits, 1, the data encoding little-endian, 1, the version 1
--- and the file type executable, 2 (ELF specification, "ELF Identification" and "ELF Header"); the machine RISC-V, 243, with
--- bit 0 of the flags, compressed instructions, not set (RISC-V ELF psABI, "File Header"); a program header has 32 bytes
+-- the fault of the header's fields: the class is to be that of 32 bits, 1, the data encoding little-endian, 1, the
+-- version 1 and the file type executable, 2 (ELF specification, "ELF Identification" and "ELF Header"); the machine
+-- RISC-V, 243, with bit 0 of the flags, compressed instructions, not set (RISC-V ELF psABI, "File Header"); a program
+-- header has 32 bytes
 abbrev pub field_fault : Header → Option ElfFault
 field_fault h = first_some (
     fault_if (not (h.class == 1)) (fault.Class h.class)
@@ -37,8 +38,8 @@ table_fault file h =
     let end = h.table + 32 * h.count in
     fault_if (not (h.count == 0) && nat_lt (length file) end) (fault.TableOutside end (length file))
 
--- the faults of program header i, in order: its type is PT_INTERP, 3, or it is to be loaded and has more bytes in the file
--- than in memory, or ends past the end of the file
+-- the faults of program header i, in order: its type is PT_INTERP, 3, or it is to be loaded and has more bytes in the
+-- file than in memory, or ends past the end of the file
 abbrev pub program_header_faults : List ℕ → ℕ → List (Option ElfFault)
 program_header_faults file i =
     let p = program_header file i in

@@ -1,5 +1,5 @@
--- The fields of an ELF file that are looked at (ELF specification, "ELF Header" and "Program Header"). Numbers have one,
--- two or four bytes, the lowest byte first.
+-- The fields of an ELF file that are looked at (ELF specification, "ELF Header" and "Program Header"). Numbers have
+-- one, two or four bytes, the lowest byte first.
 use Rattle.std.specs.Prelude.{ℕ, ◌+◌, ◌*◌, ◌%◌, Bool, not, ◌==◌, nat_eq, List, ◌∷◌, codes, slice_index, slice_range}
 use Rattle.std.specs.List.{starts_with}
 use Rattle.rv_types.specs.Word.{from_le}

@@ -1,8 +1,8 @@
 //! Why a file is refused.
 use thiserror::Error;
 
-/// Why a file is no image, or doesn't fit: the first test that fails, in the order of the variants. Each is shown by its
-/// number and in words. `specs/Faults.antt` and `specs/Image.antt` say exactly when each comes.
+/// Why a file is no image, or doesn't fit: the first test that fails, in the order of the variants. Each is shown by
+/// its number and in words. `specs/Faults.antt` and `specs/Image.antt` say exactly when each comes.
 #[derive(Clone, Copy, Debug, PartialEq, Eq, Error)]
 pub enum ElfFault {
     /// Fewer bytes than the header has: the size of the header, and that of the file.

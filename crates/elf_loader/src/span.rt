@@ -1,7 +1,8 @@
 //! The part of memory that the segments take.
 //!
-//! Loading notes something for each byte and for each word. It does so for the span of the segments, from the first byte of
-//! any of them to behind the last, and not for all of memory: so a program starts as fast in a large memory as in a small.
+//! Loading notes something for each byte and for each word. It does so for the span of the segments, from the first
+//! byte of any of them to behind the last, and not for all of memory: so a program starts as fast in a large memory as
+//! in a small.
 ghost use Rattle.std.specs.Prelude.{◌≡◌, ◌≤◌, ◌<◌, ◌+◌, ◌-◌, ◌%◌, ◌^◌, length, None, IfSome, IfOk, ℕ};
 ghost use Rattle.elf_loader.specs.Image.{segment_at, ram_fault};
 ghost use Rattle.elf_loader.specs.Filling.{Inside};

@@ -13,8 +13,8 @@ use rename_taint::RenameTaint;
 use second_level::Second;
 use window_model::{Event, Row};
 
-/// Phase Fill: the miss registers that are due are freed, in the order of taking, and the line of each enters the cache, with
-/// its event. A line that comes from memory enters the second level too.
+/// Phase Fill: the miss registers that are due are freed, in the order of taking, and the line of each enters the
+/// cache, with its event. A line that comes from memory enters the second level too.
 pub fn fill<R: RenameTaint>(parts: &mut Parts<R>, row: &mut Row)
     requires room { HasRoom most_filled row.old }
     ensures machine { parts.new ≡ record parts.old { machine = (fill parts.old.desc parts.old.machine).machine } }

@@ -99,8 +99,8 @@ file_header =
     ++ fours (1 ∷ 0x00010000 ∷ 52 ∷ 0 ∷ 0 ∷ [])
     ++ twos (52 ∷ 32 ∷ 1 ∷ 0 ∷ 0 ∷ 0 ∷ [])
 
--- the header of the one part: a LOAD (1) of the bytes from 84 on, at 0x00010000, so many in the file and in memory, to be read
--- and executed (5), aligned to 4
+-- the header of the one part: a LOAD (1) of the bytes from 84 on, at 0x00010000, so many in the file and in memory, to
+-- be read and executed (5), aligned to 4
 abbrev pub part_header : ℕ → List ℕ
 part_header size = fours (1 ∷ 84 ∷ 0x00010000 ∷ 0x00010000 ∷ size ∷ size ∷ 5 ∷ 4 ∷ [])
 

@@ -142,8 +142,8 @@ fn ending(blocks: u32) -> [Instr; 5]
     ]
 }
 
-/// The ELF file of a seed and a number of blocks, 1 to 4096: the same bytes for the same numbers (`docs/formats.md`, "Generated
-/// images"). The one error is want of memory.
+/// The ELF file of a seed and a number of blocks, 1 to 4096: the same bytes for the same numbers (`docs/formats.md`,
+/// "Generated images"). The one error is want of memory.
 #[tactic(auto, unfolding(crate::specs::Generated::generated_image))]
 pub fn generate(alloc: Global, seed: u64, blocks: u32) -> Result<Vec<u8>, NoMemory>
     requires some { 1 ≤ blocks }

@@ -213,8 +213,8 @@ use Rattle.generated_runs.specs.Agreement.{Agrees}
 use Rattle.generated_runs.specs.Runs.{runs}
 use Rattle.generated_runs.proofs.Agreed.{agrees}
 
--- The numbers are those of the description. Five things compute: they fit, the description is read as these numbers, the image's
--- headers and its segments have no fault, and the trace of the written machine is the text.
+-- The numbers are those of the description. Five things compute: they fit, the description is read as these numbers,
+-- the image's headers and its segments have no fault, and the trace of the written machine is the text.
 across_two_lines_agrees : Agrees across_two_lines
 unfolding ones encode scan_numeral digits count_leading_zeros chars is_utf8 skip_from skip_ws decimal_number number
     plain_number underscore_fits unquoted word_len word_value body key_after one_line quoted simple_key special atom

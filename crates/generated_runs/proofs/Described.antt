@@ -27,8 +27,8 @@ holds [] k h = refl
 holds (b ∷ more) zero h = by_head b more h
 holds (b ∷ more) (suc k) h = holds more k (by_tail b more h)
 
--- what each key asks of its number in a version, in the order of the keys, that the version is known, and what keys that may be
--- left out ask
+-- what each key asks of its number in a version, in the order of the keys, that the version is known, and what keys
+-- that may be left out ask
 abbrev pub tests : ℕ → (ℕ → ℕ) → List Bool
 tests version n =
     (nat_le 1 (n 0)) ∷ (nat_le (n 0) 4) ∷

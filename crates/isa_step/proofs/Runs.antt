@@ -1,5 +1,5 @@
--- How a run goes on from step to step. A program that takes its steps one at a time keeps, beside what it writes, that the
--- rest of the whole run is the run from the state that it is in (`Rest`); what it has put out it adds by `goes_at`.
+-- How a run goes on from step to step. A program that takes its steps one at a time keeps, beside what it writes, that
+-- the rest of the whole run is the run from the state that it is in (`Rest`); what it has put out it adds by `goes_at`.
 use Rattle.std.proofs.Common.{◌≡◌, ◌<◌, ◌≤◌, ℕ, suc, ◌+◌, ◌-◌, List, [], Option, Some, None, refl, ap, sym, ◌∙◌, subst, arith}
 use Rattle.rv_types.specs.Memory.{Code}
 use Rattle.rv_types.specs.Isa.{Hart, Step, Goes, Exits, Traps, Run, isa_step, isa, run, after, stopped, with_piece}

@@ -32,7 +32,8 @@ impl Model for Isa {
 }
 
 impl Isa {
-    /// The state in which an image begins: pc is the entry, x2 is 16 bytes below memory's end, all other registers are 0.
+    /// The state in which an image begins: pc is the entry, x2 is 16 bytes below memory's end, all other registers are
+    /// 0.
     pub fn new(image: Image) -> Isa
         ensures { result ≡ record { code = image.code; hart = start image.entry image.ram } }
     {

@@ -1,5 +1,5 @@
--- The visibility point that has moved over a window goes on to say which entries are visible as entries begin: what waits doesn't
--- pass, and neither does what executes, unless it always does.
+-- The visibility point that has moved over a window goes on to say which entries are visible as entries begin: what
+-- waits doesn't pass, and neither does what executes, unless it always does.
 use Rattle.std.proofs.Common.{◌≡◌, ℕ, ◌+◌, Bool, true, false, not, ◌&&◌, List, [], ◌∷◌, Option, Some, None, refl, ap, ap₂, sym, ◌∙◌, subst}
 use Rattle.std.proofs.lemmas.List.Elements.{All-head, All-tail}
 use Rattle.std.specs.List.{All, AllZip, AllByRecursion as Each}

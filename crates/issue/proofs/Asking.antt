@@ -1,4 +1,5 @@
--- Which ports an entry asks for: one in one piece for its own, where it may issue; a store for that of each part, where the part may.
+-- Which ports an entry asks for: one in one piece for its own, where it may issue; a store for that of each part, where
+-- the part may.
 use Rattle.std.proofs.Common.{◌≡◌, ℕ, zero, suc, Bool, true, false, not, ◌&&◌, ◌||◌, List, [], ◌∷◌, Some, refl, ap, ap₂, sym, subst, ◌∙◌, slice_get, eqb-true}
 use Rattle.std.specs.Prelude.{◌==◌, if◌then◌else◌, nat_lt}
 use Rattle.std.specs.List.{AllByRecursion as Each}

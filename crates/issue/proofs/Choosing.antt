@@ -22,8 +22,8 @@ the_other b x y h = ap (λ b. if b then x else y) (sym h)
 none : (m l own : Bool) → ((m && false) && l) ≡ (own && false)
 none m l own = ap (λ b. b && l) (and-false m) ∙ sym (and-false own)
 
--- an entry is granted the port of loads where it is a load that is granted its own port, and that of divisions where it is such a
--- division
+-- an entry is granted the port of loads where it is a load that is granted its own port, and that of divisions where it
+-- is such a division
 at_load : (k : Kind) (m p : Bool) (left : Port → Bool) →
     ((if is_store k then false else m && same_port (port_of k) LoadPort) && left LoadPort)
     ≡ (((if is_store k then p else m && same_port (port_of k) (port_for k)) && left (port_for k)) && is_load k)

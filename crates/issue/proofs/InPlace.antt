@@ -1,5 +1,5 @@
--- Parts that stand for the window go on to do so as the entries that have issued, or of which a part has, come in their places, the
--- youngest first.
+-- Parts that stand for the window go on to do so as the entries that have issued, or of which a part has, come in their
+-- places, the youngest first.
 use Rattle.std.proofs.Common.{◌≡◌, ℕ, zero, suc, ◌+◌, ◌-◌, ◌<◌, ◌≤◌, Bool, true, false, not, ◌&&◌, List, [], ◌∷◌, ◌++◌, length, Some, refl, ap, sym, ◌∙◌, subst, arith, take, get_or, slice_get}
 use Rattle.std.specs.Prelude.{if◌then◌else◌, map, slice_set}
 use Rattle.std.specs.List.{All, AllPairs}

@@ -1,4 +1,5 @@
--- From station to station: what holds as the walk goes on, past one that may not issue, by one that has its turn, and at the end.
+-- From station to station: what holds as the walk goes on, past one that may not issue, by one that has its turn, and
+-- at the end.
 use Rattle.std.proofs.Common.{◌≡◌, ℕ, ◌+◌, ◌<◌, ◌≤◌, ◌++◌, false, length, Some, ap, sym, ◌∙◌, arith, slice_get}
 use Rattle.std.specs.List.{flat_map}
 use Rattle.std.specs.Option.{option_map}

@@ -32,8 +32,8 @@ load_of d now window = option_map (λ p. access_of d now p.before p.entry) (firs
 abbrev pub division_of : Desc → Around → List Entry → Option Divider
 division_of d now window = option_map (λ p. taken_for now p.before p.entry) (first (may_at d now DivPort) window)
 
--- the most entries that issue in a cycle, or of which a part does: four arithmetic ones, a multiplication, a division, a load and
--- two stores
+-- the most entries that issue in a cycle, or of which a part does: four arithmetic ones, a multiplication, a division,
+-- a load and two stores
 abbrev pub most_begun : ℕ
 most_begun = 9
 

@@ -17,7 +17,7 @@ passes_here s p = passes_stores s.desc.now (around_of s) p.entry.now
 abbrev pub pending_here : Seen → Place → Pending
 pending_here s p = awaited (bytes_of (around_of s) (before_of s p) p.entry.now) (older p.entry.now.serial s.lsq.now.stores)
 
--- no older store keeps the load: one whose address isn't known lets it go where the load passes stores, and none without data covers a
--- byte of the load or has a tainted address
+-- no older store keeps the load: one whose address isn't known lets it go where the load passes stores, and none
+-- without data covers a byte of the load or has a tainted address
 abbrev pub lets_by : Bool → ℕ → Pending → Bool
 lets_by passes point p = (passes || not p.address) && not p.overlap && not (is_hidden point p.root)

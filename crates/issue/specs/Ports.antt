@@ -55,7 +55,8 @@ LeftBehind s p ports = LeftAfter s.desc.now (around_of s) (p.entry.now ∷ befor
 abbrev pub left_in_all : Ports → ℕ
 left_in_all p = p.alu + p.mul + p.div + p.address_part + p.data_part + p.load
 
--- how many events the ports that are left allow: a load's two more than any other, since it may have two lines and one that is prefetched
+-- how many events the ports that are left allow: a load's two more than any other, since it may have two lines and one
+-- that is prefetched
 abbrev pub events_left : Ports → ℕ
 events_left p = left_in_all p + 2 * p.load
 

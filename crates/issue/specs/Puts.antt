@@ -1,5 +1,5 @@
--- Entries that issue, or of which a part does, before they do in their places (docs/machine.md, "Issue"): every test is made on the
--- window as it was before the phase.
+-- Entries that issue, or of which a part does, before they do in their places (docs/machine.md, "Issue"): every test is
+-- made on the window as it was before the phase.
 use Rattle.std.specs.Prelude.{◌≡◌, ℕ, Bool, ◌<◌, ◌==◌, true, List, [], ◌∷◌, Option, None, Some, slice_get, slice_set, if◌then◌else◌}
 use Rattle.std.specs.List.{All, AllPairs}
 use Rattle.rv_types.specs.declared.Width.{Width}
@@ -46,7 +46,7 @@ abbrev pub placed : List Put → List Entry → List Entry
 placed [] window = window
 placed (p ∷ ps) window = issue_in p (placed ps window)
 
--- what has issued of the entry is known to the queues, if it is a store; and if it is a load what it reads, where loads may pass
--- stores
+-- what has issued of the entry is known to the queues, if it is a store; and if it is a load what it reads, where loads
+-- may pass stores
 abbrev pub known_in : Bool → Queues → Entry → Queues
 known_in passing q e = noted_load passing (width_for (width_of e)) e (noted (width_for (width_of e)) e q)

@@ -1,5 +1,5 @@
--- The state that the phase looks at, where its parts stand for a machine, and an entry in its place (docs/machine.md, "Issue";
--- docs/architecture.md, "How they stand for it").
+-- The state that the phase looks at, where its parts stand for a machine, and an entry in its place (docs/machine.md,
+-- "Issue"; docs/architecture.md, "How they stand for it").
 use Rattle.std.specs.Prelude.{◌≡◌, ℕ, ◌+◌, ◌^◌, ◌≤◌, List, true, length, slice_get, Some}
 use Rattle.std.specs.List.{AllByRecursion as Each}
 use Rattle.machine_desc.specs.declared.Desc.{Desc}
@@ -28,13 +28,13 @@ around_of s = record { cycle = s.cycle; regs = s.regs.now; ram = s.ram.now; depe
 abbrev pub window_of : Seen → List Entry
 window_of s = s.rob.now.entries
 
--- what stands for the window, with the next serial and the writes of the rename table. What loads read is held back by the point, as
--- the description says
+-- what stands for the window, with the next serial and the writes of the rename table. What loads read is held back by
+-- the point, as the description says
 abbrev pub parts_of : ℕ → List Write → Seen → Parts
 parts_of next writes s = record { version = s.desc.now.version; hold = hold_of s.desc.now s.point.now; next = next; window = s.rob.now.entries; roots = each_roots s.sources.now.items; writes = writes; held = s.stations.now.held }
 
--- the parts stand for the window, the point has just moved, the bits of dependence, both levels of the cache and the registers are
--- of the description, and memory ends where it is said to
+-- the parts stand for the window, the point has just moved, the bits of dependence, both levels of the cache and the
+-- registers are of the description, and memory ends where it is said to
 pub record Stands (s : Seen) : Type 0 where
   pub next : ℕ
   pub writes : List Write

@@ -116,8 +116,8 @@ impl<'a> Seen<'a> {
         Access::Looks(lines, self.prefetched(&lines))
     }
 
-    /// What an access of so many bytes comes to that has no fault. `forwarded` says that older stores have all its bytes, and
-    /// that none of them hides its address.
+    /// What an access of so many bytes comes to that has no fault. `forwarded` says that older stores have all its
+    /// bytes, and that none of them hides its address.
     pub(crate) fn find(&self, forwarded: bool, addr: u32, bytes: u32) -> Access
         requires stands { Stands self.now }
         requires some { 0 < bytes }

@@ -1,4 +1,5 @@
-//! What an entry does in one piece that is granted a port, by its kind (`docs/machine.md`, "Issue"). Its events go into the row.
+//! What an entry does in one piece that is granted a port, by its kind (`docs/machine.md`, "Issue"). Its events go into
+//! the row.
 ghost use Rattle.std.specs.Prelude.{◌≡◌, None, Some};
 ghost use Rattle.rv_effect.specs.Seen.{seen};
 ghost use Rattle.window_model.specs.Issue.{begun, fault_if, outcome};
@@ -120,8 +121,8 @@ impl<'a> Seen<'a> {
         begun(self.cycle, place.entry, self.cycle as u64 + 1, outcome)
     }
 
-    /// What has then issued of the entry, which is no store, by its kind; None where it stays as it is. A load leaves what its
-    /// access came to, a division the divider. No port is taken.
+    /// What has then issued of the entry, which is no store, by its kind; None where it stays as it is. A load leaves
+    /// what its access came to, a division the divider. No port is taken.
     pub(crate) fn begin(
         &self,
         place: &Place,

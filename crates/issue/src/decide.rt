@@ -1,5 +1,5 @@
-//! What the phase decides as it goes over the entries that wait, oldest first (`docs/machine.md`, "Issue"). Every test is made on
-//! the state before the phase.
+//! What the phase decides as it goes over the entries that wait, oldest first (`docs/machine.md`, "Issue"). Every test
+//! is made on the state before the phase.
 use crate::access::Access;
 use crate::seen::{Place, Seen};
 use arrayvec::ArrayVec;
@@ -142,8 +142,8 @@ impl<'a> Seen<'a> {
         }
     }
 
-    /// Goes over the stations, oldest first, until none is left that may issue: entries that don't wait, or lack what they
-    /// want, stay as they are. All ports of the cycle are left, and nothing is decided as yet.
+    /// Goes over the stations, oldest first, until none is left that may issue: entries that don't wait, or lack what
+    /// they want, stay as they are. All ports of the cycle are left, and nothing is decided as yet.
     pub(crate) fn decide(&self, ports: &mut Ports, decided: &mut Decided, row: &mut Row)
         requires stands { Stands self.now }
         requires left { LeftAfter self.now.desc.now (around_of self.now) [] ports.old }

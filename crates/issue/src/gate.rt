@@ -26,8 +26,8 @@ impl<'a> Seen<'a> {
         *sources_at(self.sources, place.position)
     }
 
-    // Whether the older stores let a load go: each has both its parts; or in version 2 each has its address, unless the load passes
-    // stores, and each without data an untainted one that covers none of the load's bytes.
+    // Whether the older stores let a load go: each has both its parts; or in version 2 each has its address, unless the
+    // load passes stores, and each without data an untainted one that covers none of the load's bytes.
     fn goes(&self, place: &Place) -> bool
         requires turn { HasTurn self.now place.now }
         ensures { result ≡ here goes_behind self.now place.now }

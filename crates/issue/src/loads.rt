@@ -1,5 +1,5 @@
-//! A load that is granted its port (`docs/machine.md`, "Loads"): its access, its value from older stores' bytes and memory's, and
-//! what becomes of it.
+//! A load that is granted its port (`docs/machine.md`, "Loads"): its access, its value from older stores' bytes and
+//! memory's, and what becomes of it.
 ghost use Rattle.std.specs.Prelude.{◌≡◌};
 ghost use Rattle.std.specs.Option.{option_map, option_to_list};
 ghost use Rattle.window_model.specs.Access.{look_events};

@@ -1,5 +1,5 @@
-//! The values of an entry's sources (`docs/machine.md`, "Writers and roots"): a writer's that is in flight, else the retired
-//! one.
+//! The values of an entry's sources (`docs/machine.md`, "Writers and roots"): a writer's that is in flight, else the
+//! retired one.
 ghost use Rattle.std.specs.Prelude.{◌≡◌, Some, length, map, slice_get};
 ghost use Rattle.std.specs.Option.{option_map};
 ghost use Rattle.rv_types.specs.Regs.{reads_of, two};

@@ -86,8 +86,8 @@ impl<'a> Seen<'a> {
     ghost use Rattle.issue.specs.State.{HasTurn, around_of};
     ghost use Rattle.issue.specs.Turns.{Goes, parts_by};
 
-    // Whether a part of the store may issue: it hasn't issued, and its source is there; in version 1 both sources are, since the
-    // store has its turn.
+    // Whether a part of the store may issue: it hasn't issued, and its source is there; in version 1 both sources are,
+    // since the store has its turn.
     fn may_part(&self, place: &Place, part: Part) -> bool
         requires turn { HasTurn self.now place.now }
         requires store { is_store place.now.entry.now.item.kind ≡ true }

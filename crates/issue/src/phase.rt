@@ -14,12 +14,13 @@ use core_parts::Parts;
 use rename_taint::RenameTaint;
 use window_model::Row;
 
-/// Phase Issue of this cycle, once the visibility point has moved over the window, in which no store executes: each entry that may
-/// issue begins to execute, oldest first, as far as there are ports, with its event in the row, and its station is freed. A store
-/// issues in two parts, each at a port of its own, and begins to execute once both have issued; what has issued of it is known to
-/// the queue of stores. A load's lines move to the front of their sets where the cache has them, and take miss registers where they
-/// need them, with which the line behind them may be prefetched; what it reads is known to the queue of loads, where loads may pass
-/// stores. A division takes the divider. The point goes on to say which entries are visible.
+/// Phase Issue of this cycle, once the visibility point has moved over the window, in which no store executes: each
+/// entry that may issue begins to execute, oldest first, as far as there are ports, with its event in the row, and its
+/// station is freed. A store issues in two parts, each at a port of its own, and begins to execute once both have
+/// issued; what has issued of it is known to the queue of stores. A load's lines move to the front of their sets where
+/// the cache has them, and take miss registers where they need them, with which the line behind them may be prefetched;
+/// what it reads is known to the queue of loads, where loads may pass stores. A division takes the divider. The point
+/// goes on to say which entries are visible.
 pub fn issue<R: RenameTaint>(parts: &mut Parts<R>, row: &mut Row)
     requires advanced { HasAdvanced parts.old.point parts.old.machine.window }
     requires settled { Each WaitsOrDone parts.old.machine.window }

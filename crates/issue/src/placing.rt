@@ -39,8 +39,8 @@ fn wants_of(version: u32, entry: &Entry) -> Wants
     Wants::Whole
 }
 
-// The station of an entry that has issued, or of which a part has, is freed, where it no longer waits; else it waits for what is
-// left.
+// The station of an entry that has issued, or of which a part has, is freed, where it no longer waits; else it waits
+// for what is left.
 fn settle(stations: &mut Stations, version: u32, station: u32, entry: &Entry)
     requires within { station < length stations.old.held }
     ensures { stations.new ≡ record stations.old {
@@ -53,7 +53,8 @@ fn settle(stations: &mut Stations, version: u32, station: u32, entry: &Entry)
     }
 }
 
-// Where a store writes is known to the queue of stores once its address part has issued, and from which cycle on it is known.
+// Where a store writes is known to the queue of stores once its address part has issued, and from which cycle on it is
+// known.
 #[tactic(auto, using(crate::proofs::Width::width_is))]
 fn note_address(lsq: &mut Lsq, entry: &Entry)
     ensures { lsq.new ≡ record lsq.old {

@@ -1,4 +1,5 @@
-//! What the load of a cycle leaves of the cache, of its second level and of the miss registers (`docs/machine.md`, "Issue").
+//! What the load of a cycle leaves of the cache, of its second level and of the miss registers (`docs/machine.md`,
+//! "Issue").
 ghost use Rattle.std.specs.Prelude.{◌≡◌, ◌<◌, ◌≤◌, ◌+◌, ◌^◌, [], ◌∷◌, ◌++◌, length, map};
 ghost use Rattle.std.specs.List.{fold};
 ghost use Rattle.std.specs.Option.{option_map, option_to_list};

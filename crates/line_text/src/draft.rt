@@ -1,8 +1,8 @@
 //! What a text is written on.
 //!
-//! Each call writes from a place on and answers the place behind. So who writes has the place where the text goes on as a
-//! value of its own. A length beside the bytes would be read and written in memory with each piece of the text, since a
-//! compiler can't know that no byte is written over it.
+//! Each call writes from a place on and answers the place behind. So who writes has the place where the text goes on as
+//! a value of its own. A length beside the bytes would be read and written in memory with each piece of the text, since
+//! a compiler can't know that no byte is written over it.
 ghost use Rattle.std.specs.Prelude.{◌≡◌, ◌<◌, ◌≤◌, ◌+◌, ◌/◌, ◌%◌, ◌++◌, length, take, decimal};
 ghost use Rattle.line_text.specs.Digits.{hex2, hex8, decimal2, decimal4};
 
@@ -13,8 +13,8 @@ use std::marker::Model;
 /// The most bytes that a line has.
 pub const LINE_MAX: usize = 9600;
 
-/// 9,600 places with a byte each, seen as a list. They take no memory. A text that is written from a place on leaves what
-/// stands in front of it as it is; what stands behind it means nothing.
+/// 9,600 places with a byte each, seen as a list. They take no memory. A text that is written from a place on leaves
+/// what stands in front of it as it is; what stands behind it means nothing.
 #[derive(Drop)]
 pub struct Draft {
     places: [u8; LINE_MAX],

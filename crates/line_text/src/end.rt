@@ -51,8 +51,8 @@ fn end_line(ending: &Ending) -> Line
     line
 }
 
-/// Writes the last line, by one put. Error: `Failed`, only where the sink's count of faults rose; then the first bytes of
-/// the line were appended, maybe none.
+/// Writes the last line, by one put. Error: `Failed`, only where the sink's count of faults rose; then the first bytes
+/// of the line were appended, maybe none.
 pub fn write_end<S: Sink>(ending: &Ending, out: &mut S) -> Result<(), Failed>
     ensures { Writes (end_line ending.now) (S.told out.old) (S.told out.new) result }
 {

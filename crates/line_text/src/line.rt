@@ -5,8 +5,8 @@ ghost use Rattle.line_text.specs.Digits.{hex2, hex8};
 use crate::draft::{Draft, LINE_MAX};
 use std::marker::Model;
 
-/// A line of text: at most 9,600 bytes, seen as a list. It takes no memory. What is appended is written on its draft, from
-/// its length on.
+/// A line of text: at most 9,600 bytes, seen as a list. It takes no memory. What is appended is written on its draft,
+/// from its length on.
 #[derive(Drop)]
 pub struct Line {
     draft: Draft,

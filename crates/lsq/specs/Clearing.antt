@@ -15,7 +15,8 @@ use Rattle.lsq.specs.Merging.{reaches}
 abbrev pub info_of : Store → StoreInfo
 info_of s = record { serial = s.serial; root = s.root; known = is_some s.span; cleared = s.cleared }
 
--- the access was made before the store's address was known, and shares a byte with what the store writes; neither has a fault
+-- the access was made before the store's address was known, and shares a byte with what the store writes; neither has a
+-- fault
 abbrev pub is_wrong : Span → Access → Bool
 is_wrong k a = nat_lt a.cycle k.known_from && not (is_some a.fault) && list_any (λ b. reaches b k) (range a.addr (bytes_in a.width))
 

@@ -23,8 +23,8 @@ pub struct Merged {
     pub root: Option<u64>,
 }
 
-/// What stores give to a load: the bytes of the youngest stores that write them, as far as there are such, at its address
-/// and at the three behind; and the youngest root of the stores' addresses.
+/// What stores give to a load: the bytes of the youngest stores that write them, as far as there are such, at its
+/// address and at the three behind; and the youngest root of the stores' addresses.
 #[derive(Clone, Copy, Debug, PartialEq, Eq)]
 pub(crate) struct Gathered {
     pub(crate) first: Option<u8>,

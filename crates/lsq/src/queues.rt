@@ -30,8 +30,8 @@ pub struct Lsq {
     stores: Vec<Store>,
     max_loads: u32,
     max_stores: u32,
-    // Whether the loads are known to rise, and whether the stores are, as they do where each is the youngest as it comes: then who
-    // retires is found at the head.
+    // Whether the loads are known to rise, and whether the stores are, as they do where each is the youngest as it
+    // comes: then who retires is found at the head.
     loads_rise: bool,
     stores_rise: bool,
 }
@@ -100,8 +100,8 @@ impl Lsq {
         push_within(&mut self.loads, load);
     }
 
-    /// Appends a store of which nothing is known, and that isn't cleared, with the serial of the youngest load from which its
-    /// address flows.
+    /// Appends a store of which nothing is known, and that isn't cleared, with the serial of the youngest load from
+    /// which its address flows.
     pub fn add_store(&mut self, serial: u64, root: Option<u64>)
         requires room { length self.old.stores < self.old.max_stores }
         ensures { self.new ≡ record self.old {
@@ -120,8 +120,8 @@ impl Lsq {
         push_within(&mut self.stores, store);
     }
 
-    /// Notes where the store with this serial writes, whose address part has issued: a width's bytes from an address on, or
-    /// nothing where it has a fault. It is known from a cycle on.
+    /// Notes where the store with this serial writes, whose address part has issued: a width's bytes from an address
+    /// on, or nothing where it has a fault. It is known from a cycle on.
     pub fn store_addr(
         &mut self,
         serial: u64,
@@ -152,8 +152,8 @@ impl Lsq {
         fill_store(&mut self.stores, serial, stored);
     }
 
-    /// Notes what the load with this serial reads, which issued in this cycle: a width's bytes from an address on, or nothing
-    /// where it has a fault.
+    /// Notes what the load with this serial reads, which issued in this cycle: a width's bytes from an address on, or
+    /// nothing where it has a fault.
     pub fn load_issued(
         &mut self,
         serial: u64,
@@ -177,9 +177,9 @@ impl Lsq {
         issue_load(&mut self.loads, serial, access);
     }
 
-    /// What a load with this serial still waits for, if the fault is its own: whether of some older store it isn't known
-    /// where it writes; whether of one that writes bytes of the load it isn't known what; and the youngest root of the
-    /// addresses of those of which it isn't known what they write.
+    /// What a load with this serial still waits for, if the fault is its own: whether of some older store it isn't
+    /// known where it writes; whether of one that writes bytes of the load it isn't known what; and the youngest root
+    /// of the addresses of those of which it isn't known what they write.
     pub fn pending(&self, serial: u64, addr: u32, width: Width, fault: Option<Cause>) -> Pending
         ensures address { result.address ≡ list_any lacks_address (older serial self.now.stores) }
         ensures overlap { result.overlap
@@ -198,9 +198,9 @@ impl Lsq {
         are_known(self.stores.as_slice(), serial)
     }
 
-    /// What a load with this serial finds: the number of its bytes, each from the youngest older store that writes it, else
-    /// from memory; whether older stores give them all; and the youngest root of the older stores' addresses. The access has
-    /// no fault.
+    /// What a load with this serial finds: the number of its bytes, each from the youngest older store that writes it,
+    /// else from memory; whether older stores give them all; and the youngest root of the older stores' addresses. The
+    /// access has no fault.
     pub fn merge(&self, serial: u64, addr: u32, width: Width, ram: &Ram) -> Merged
         requires address { load_fault ram.now addr (bytes_in width) ≡ None }
         ensures value { result.value
@@ -222,9 +222,9 @@ impl Lsq {
         }
     }
 
-    /// Clears the store with this serial. The answer is the serial of the oldest load that is violated: it is younger, it
-    /// issued before the cycle from which on it was known where the store writes, and they share a byte. Where it isn't known
-    /// yet, and where the load or the store has a fault, no load is.
+    /// Clears the store with this serial. The answer is the serial of the oldest load that is violated: it is younger,
+    /// it issued before the cycle from which on it was known where the store writes, and they share a byte. Where it
+    /// isn't known yet, and where the load or the store has a fault, no load is.
     pub fn clear(&mut self, serial: u64) -> Option<u64>
         ensures violated { result ≡ violated_by serial self.old.stores self.old.loads }
         ensures cleared { self.new ≡ record self.old { stores = map (cleared_at serial) self.old.stores } }

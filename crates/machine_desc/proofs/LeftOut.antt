@@ -1,4 +1,5 @@
--- The facts that pin the keys that may be left out: the ends of their ranges, which versions know them, and what they are then.
+-- The facts that pin the keys that may be left out: the ends of their ranges, which versions know them, and what they
+-- are then.
 use Rattle.std.proofs.Common.{◌≡◌, ℕ, true, false, List, [], ◌∷◌, map, Option, Some, None, refl}
 use Rattle.std.specs.Prelude.{pos, codes}
 use lib.Count.{ones}

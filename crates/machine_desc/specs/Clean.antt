@@ -33,8 +33,8 @@ PassesAs (Optional least most shape) n = (least ≤ n) × (n ≤ most) × IsTrue
 PassesAs (Models off) n = Unit {0}
 PassesAs (Defences hold) n = Unit {0}
 
--- in this version no key has a fault, a miss takes longer than a hit, RAM ends at or below 2^32, an access that may lie in two
--- lines has two miss registers, and a line of the second level comes between a hit and a miss
+-- in this version no key has a fault, a miss takes longer than a hit, RAM ends at or below 2^32, an access that may lie
+-- in two lines has two miss registers, and a line of the second level comes between a hit and a miss
 pub record IsClean (version : ℕ) (document : Members) : Type 0 where
   pub keys : (k : Key) → key_fault version document k ≡ None
   pub latencies : number version document CacheHitLatency < number version document CacheMissLatency

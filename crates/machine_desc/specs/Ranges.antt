@@ -11,9 +11,10 @@ use Rattle.machine_desc.specs.Clean.{Fits}
 abbrev pub MayBe : ℕ → Key → ℕ → Type 0
 MayBe version key n = Fits (row version key).values n
 
--- the version is 1 or 2; every number is in the range of its key and of the shape of its key; the version knows the model and the
--- defence; a miss takes longer than a hit; RAM ends at or below 2^32; an access that may lie in two lines has two miss registers; a line
--- of the second level, where there is one, comes later than a hit and sooner than from memory
+-- the version is 1 or 2; every number is in the range of its key and of the shape of its key; the version knows the
+-- model and the defence; a miss takes longer than a hit; RAM ends at or below 2^32; an access that may lie in two lines
+-- has two miss registers; a line of the second level, where there is one, comes later than a hit and sooner than from
+-- memory
 pub record IsDesc (d : Desc) : Type 0 where
   pub version : IsKnown d.version
   pub fetch_width : MayBe d.version CoreFetchWidth d.core_fetch_width

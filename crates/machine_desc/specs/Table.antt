@@ -92,7 +92,8 @@ number_keys = required_numbers ++ optional_numbers
 abbrev pub keys : List Key
 keys = required_numbers ++ SttModel ∷ optional_numbers ++ SttDefence ∷ []
 
--- a key that may be left out has a choice where more than its least is allowed, or a second defence; any other always has one
+-- a key that may be left out has a choice where more than its least is allowed, or a second defence; any other always
+-- has one
 abbrev pub has_choice : Values → Bool
 has_choice (Optional least most shape) = nat_lt least most
 has_choice (Defences hold) = hold

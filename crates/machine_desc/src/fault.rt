@@ -47,8 +47,8 @@ pub enum DescFault {
     /// The key isn't there, or its table isn't.
     #[error("K3: {0} isn't there")]
     Missing(Key),
-    /// The version isn't a whole number; the table is no table; the key's value isn't a whole number, or isn't a model's
-    /// name.
+    /// The version isn't a whole number; the table is no table; the key's value isn't a whole number, or isn't a
+    /// model's name.
     #[error("K4: {0} is of another kind")]
     Kind(Subject),
     /// The version is one that this program doesn't know: it knows versions 1 and 2.

@@ -1,8 +1,8 @@
 //! The table of the keys: where each stands and which values it may have.
 //!
 //! `docs/formats.md`, "Machine descriptions", has the same table with what each key means. A further key is one more
-//! variant, its place in `KEYS`, and an arm of `section`, `name` and `values`. A version in which a key that may be left out
-//! has one value alone doesn't know its name.
+//! variant, its place in `KEYS`, and an arm of `section`, `name` and `values`. A version in which a key that may be
+//! left out has one value alone doesn't know its name.
 ghost use Rattle.std.specs.Prelude.{◌≡◌, ◌≤◌, ◌++◌, length, codes};
 ghost use Rattle.machine_desc.specs.Table.{section_name, row, section_of, name_of, key_text, has_choice, is_known};
 ghost use Rattle.machine_desc.specs.Table.{some_key, some_section, some_top, stands_at};

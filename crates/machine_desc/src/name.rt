@@ -12,7 +12,8 @@ pub const KEPT: usize = 64;
 /// The most bytes of a name with its table and the dot.
 pub const NAME_MAX: usize = 80;
 
-/// A name: at most its first 64 bytes, behind its table's name and a dot where it stands in a table. It takes no memory.
+/// A name: at most its first 64 bytes, behind its table's name and a dot where it stands in a table. It takes no
+/// memory.
 #[derive(Debug, Drop)]
 pub struct Name {
     bytes: ArrayVec<u8, NAME_MAX>,

@@ -31,8 +31,8 @@ evolves_front : (front back : List Entry) → Evolves (front ++ back) front
 evolves_front [] back = tt
 evolves_front (e ∷ front) back = (goes_same e, evolves_front front back)
 
--- what holds of each entry, and doesn't ask whether it is cleared, still does with the store cleared and what is left of the
--- younger ones
+-- what holds of each entry, and doesn't ask whether it is cleared, still does with the store cleared and what is left
+-- of the younger ones
 each_cleared : (P : Entry → Type 0) (d : Desc) (x : Machine) (p : Place) → Cleared d x p → (P p.entry → P (cleared_one p.entry)) → Each P x.window → (zs : List Entry) →
     (Each P p.younger → Each P zs) → Each P (reverse p.before ++ cleared_one p.entry ∷ zs)
 each_cleared P d x p t f h zs v =

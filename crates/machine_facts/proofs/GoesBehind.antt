@@ -1,5 +1,5 @@
--- What a load asks of the older stores is one test in both versions: in version 1 a store has both its parts or none, and no load
--- passes one.
+-- What a load asks of the older stores is one test in both versions: in version 1 a store has both its parts or none,
+-- and no load passes one.
 use Rattle.std.proofs.Common.{◌≡◌, ◌≤◌, ℕ, zero, suc, Bool, true, false, not, ◌&&◌, ◌||◌, List, [], ◌∷◌, refl, ap, ap₂, sym, ◌∙◌, arith, eqb-true}
 use Rattle.std.specs.Prelude.{if◌then◌else◌, nat_lt, ◌==◌}
 use Rattle.std.specs.List.{AllByRecursion as Each, list_any}

@@ -1,5 +1,5 @@
--- The lines for which a load takes miss registers, and the one that is prefetched: one above the other, and no register waits
--- for any of them.
+-- The lines for which a load takes miss registers, and the one that is prefetched: one above the other, and no register
+-- waits for any of them.
 use Rattle.std.proofs.Common.{◌≡◌, ℕ, suc, ◌+◌, ◌<◌, ◌≤◌, List, [], ◌∷◌, ◌++◌, length, None, refl, sym, subst, arith, length-append, append_assoc}
 use Rattle.std.specs.List.{find}
 use Rattle.std.specs.Prelude.{◌==◌, map}
@@ -14,7 +14,8 @@ pub record IsFresh (d : Desc) (now : Around) (r : Request) : Type 0 where
   pub own : r ≡ request d now r.line
   pub fresh : find (λ m. m.line == r.line) now.misses ≡ None
 
--- every request in the list is of the level that has its line, no miss register waits for any, and the lines rise from `low` on
+-- every request in the list is of the level that has its line, no miss register waits for any, and the lines rise from
+-- `low` on
 abbrev pub AllFresh : Desc → Around → ℕ → List Request → Type 0
 AllFresh d now low [] = Unit {0}
 AllFresh d now low (r ∷ rs) = (low ≤ r.line) × IsFresh d now r × AllFresh d now (suc r.line) rs
@@ -25,7 +26,8 @@ LinesRise low [] end = low ≤ end
 LinesRise low (l ∷ ls) end = (low ≤ l) × LinesRise (suc l) ls end
 
 module _ (d : Desc) (now : Around) where
-  -- what holds of no request and, where no miss register waits for the line, of its request holds of a line that is looked up
+  -- what holds of no request and, where no miss register waits for the line, of its request holds of a line that is
+  -- looked up
   pub by_request : (line : ℕ) (P : List Request → Type 0) → P [] → (find (λ m. m.line == line) now.misses ≡ None → P (request d now line ∷ [])) → P (request_by (look_up d now line))
   by_request line P none one = by_line d now line (λ l. P (request_by l)) (λ h. none) (λ m h. none) one
 

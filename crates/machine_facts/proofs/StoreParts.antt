@@ -1,5 +1,5 @@
--- What Issue makes of an entry is still what its instruction says: an outcome as its parts have it, and both parts once it
--- doesn't wait.
+-- What Issue makes of an entry is still what its instruction says: an outcome as its parts have it, and both parts once
+-- it doesn't wait.
 use Rattle.std.proofs.Common.{◌≡◌, ℕ, ◌+◌, Bool, true, false, not, ◌&&◌, List, Option, Some, None, refl, ap, sym, subst, ◌∙◌}
 use Rattle.std.specs.Prelude.{is_some}
 use Rattle.rv_types.specs.Isa.{Effect}

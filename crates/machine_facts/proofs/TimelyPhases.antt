@@ -104,8 +104,8 @@ module _ (d : Desc) where
     serials : (zs : List Entry) → Evolves p.younger zs → Rises 0 (Marked zs) x.next_serial
     serials zs v = rises_on 0 x.next_serial x.window _ (subst (λ w. Evolves w (Marked zs)) (sym t.window) (place_evolves (reverse p.before) p.entry (resolved_one p.entry) p.younger zs (resolved_goes p.entry) v)) h.serials
 
-    -- what holds of each entry, and doesn't ask whether it is resolved, still does with one resolved and what is left of the
-    -- younger ones
+    -- what holds of each entry, and doesn't ask whether it is resolved, still does with one resolved and what is left
+    -- of the younger ones
     marked : (P : Entry → Type 0) → (P p.entry → P (resolved_one p.entry)) → Each P x.window → (zs : List Entry) → (Each P p.younger → Each P zs) → Each P (Marked zs)
     marked P f k zs v =
         let all = subst (Each P) t.window k in

@@ -1,4 +1,5 @@
--- History and stack are as large as the description says, wherever they stand (docs/theorems.md, "What every state keeps").
+-- History and stack are as large as the description says, wherever they stand (docs/theorems.md, "What every state
+-- keeps").
 use Rattle.std.specs.Prelude.{◌<◌, ◌≤◌, ◌^◌}
 use Rattle.std.specs.List.{AllByRecursion as Each}
 use Rattle.machine_desc.specs.declared.Desc.{Desc}

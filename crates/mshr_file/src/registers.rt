@@ -97,8 +97,8 @@ impl Mshrs {
         push_within(&mut self.misses, miss);
     }
 
-    /// Frees the register that was taken first of those due in this cycle, and tells its line and whether that comes from
-    /// memory. None exactly where none is due, and nothing changes then.
+    /// Frees the register that was taken first of those due in this cycle, and tells its line and whether that comes
+    /// from memory. None exactly where none is due, and nothing changes then.
     pub fn due(&mut self, cycle: u64) -> Option<(u32, bool)>
         ensures line { result ≡ option_map (λ m. (m.line, m.from_memory)) (find (is_due cycle) self.old.misses) }
         ensures freed { self.new ≡ record self.old { misses = without_first (is_due cycle) self.old.misses } }

@@ -87,8 +87,8 @@ one_of false false q q2 o o2 h s t = t
 one_of true false q q2 o o2 h s t = absurd (cc)
 one_of false true q q2 o o2 h s t = absurd (cc)
 
--- the oldest younger entry with a property that is seen alike stands in one place; b are all older entries, c those since the
--- store
+-- the oldest younger entry with a property that is seen alike stands in one place; b are all older entries, c those
+-- since the store
 first_between : (model : SttModel) (f f2 : Entry → Bool) → ((b : List Entry) (y y2 : Entry) → SameEntry model b y y2 → f y ≡ f2 y2) → (es es2 c c2 b b2 : List Entry) → map without_outcome es ≡ map without_outcome es2 → map without_outcome c ≡ map without_outcome c2 →
     SameOutcomes model (reverse_aux es b) (reverse_aux es2 b2) → BothBetween (first_from (λ between y. f y) c es) (first_from (λ between y. f2 y) c2 es2)
 first_between model f f2 m [] [] c c2 b b2 l k s = tt
@@ -135,7 +135,8 @@ module _ (d : Desc) (p p2 : Place) (s : SameShape d.stt_model p p2) (m m2 : Mach
   with_tells None (Some v2) t = absurd t
   with_tells (Some v) None t = absurd t
 
--- what is looked back on from the window's end: first the entries younger than a place, then the place's, then the older ones
+-- what is looked back on from the window's end: first the entries younger than a place, then the place's, then the
+-- older ones
 back_from : (older : List Entry) (e : Entry) (ys b : List Entry) → reverse_aux (older ++ e ∷ ys) b ≡ reverse_aux ys (e ∷ reverse_aux older b)
 back_from [] e ys b = refl
 back_from (o ∷ older) e ys b = back_from older e ys (o ∷ b)

@@ -49,8 +49,8 @@ from_part (Some o) (Some o2) h =
 from_part None (Some o2) h = absurd (cc)
 from_part (Some o) None h = absurd (cc)
 
--- over memories of one place equal effects make equal a load's outcome but its value, and equal addresses a store's address and
--- fault
+-- over memories of one place equal effects make equal a load's outcome but its value, and equal addresses a store's
+-- address and fault
 module _ (ram ram2 : Ram) (p : SameShape ram ram2) (i : Instr) where
   load_but_value : (f f2 : Effect) (bytes bytes2 : List ℕ) → f ≡ f2 → but_value (outcome_as Load ram i f bytes) ≡ but_value (outcome_as Load ram2 i f2 bytes2)
   load_but_value f f2 bytes bytes2 q = let c = sym (same_fault load_misaligned load_outside ram ram2 f2.addr (width_in i) p) in cc
@@ -67,8 +67,8 @@ known_part false datum v v2 h = refl
 
 -- ---- entries of every kind
 
--- two entries of one instruction that have issued both or neither, each behind its older ones: what makes their outcomes equal
--- where they may be looked at
+-- two entries of one instruction that have issued both or neither, each behind its older ones: what makes their
+-- outcomes equal where they may be looked at
 module _ (model : SttModel) (s s2 : Bank) (b b2 : List Entry) (e e2 : Entry) (p : SameShape s.ram s2.ram) (o : is_some e.outcome ≡ is_some e2.outcome)
     (c : ComesTo e.outcome (as_known e (computed s b e))) (c2 : ComesTo e2.outcome (as_known e (computed s2 b2 e)))
     (seen : is_load e.item.kind ≡ true → visible model b ≡ true → e.outcome ≡ e2.outcome)

@@ -1,5 +1,5 @@
--- Programs that would show a secret of memory, and what the law says of them (docs/theorems.md, "Noninterference"). All but the
--- store bypass are those of the worked runs. The bound at 0x1fff0 is 0, and the secret byte stands at 0x1fff8.
+-- Programs that would show a secret of memory, and what the law says of them (docs/theorems.md, "Noninterference"). All
+-- but the store bypass are those of the worked runs. The bound at 0x1fff0 is 0, and the secret byte stands at 0x1fff8.
 use Rattle.std.specs.Prelude.{◌≡◌, ◌≢◌, ℕ, ◌<◌, ◌==◌, true, List, [], ◌∷◌}
 use Rattle.std.specs.List.{list_any}
 use Rattle.rv_types.specs.Memory.{Agree}
@@ -38,9 +38,9 @@ TaintedDivisor = Protected divisor
 abbrev pub TargetInjection : Type 0
 TargetInjection = Protected injection
 
--- a store whose address comes from a slow division, a load that passes it and reads an old pointer, a load of the secret by that
--- pointer, and a load at an address made of the secret: addi x8,x0,1; div x5,x2,x8; sw x8,0(x5); lw x6,0(x2); add x6,x6,x2;
--- lbu x7,8(x6); slli x7,x7,4; add x7,x7,x2; lw x9,-2048(x7); addi x17,x0,93; ecall
+-- a store whose address comes from a slow division, a load that passes it and reads an old pointer, a load of the
+-- secret by that pointer, and a load at an address made of the secret: addi x8,x0,1; div x5,x2,x8; sw x8,0(x5); lw
+-- x6,0(x2); add x6,x6,x2; lbu x7,8(x6); slli x7,x7,4; add x7,x7,x2; lw x9,-2048(x7); addi x17,x0,93; ecall
 abbrev pub store_bypass : List ℕ
 store_bypass = 0x00100413 ∷ 0x028142b3 ∷ 0x0082a023 ∷ 0x00012303 ∷ 0x00230333 ∷ 0x00834383 ∷ 0x00439393 ∷ 0x002383b3 ∷ 0x8003a483 ∷ 0x05d00893 ∷ 0x00000073 ∷ []
 
@@ -56,8 +56,8 @@ FaultShadow = (d : Desc) → d.stt_model ≡ Futuristic → HidesSecret d fault
 abbrev pub loaded_by : Desc → List ℕ → ℕ → List ℕ
 loaded_by d words n = reads_of_trace d (code_of words) 0x10000 (memory 0 0) n
 
--- the path of these words loads the secret, so no memory with another one agrees on what it loads: of no trace of them, of any
--- number of cycles, does the law say anything
+-- the path of these words loads the secret, so no memory with another one agrees on what it loads: of no trace of them,
+-- of any number of cycles, does the law say anything
 abbrev pub LoadsSecret : Desc → List ℕ → Type 0
 LoadsSecret d words = (n : ℕ) →
     (list_any (λ a. a == 0x1fff8) (loaded_by d words n) ≡ true)

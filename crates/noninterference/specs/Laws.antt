@@ -1,5 +1,5 @@
--- What the path doesn't load leaves no mark in the trace (docs/theorems.md, "Noninterference"). Of a description whose model
--- doesn't protect nothing is said: under it wrong paths show what they load.
+-- What the path doesn't load leaves no mark in the trace (docs/theorems.md, "Noninterference"). Of a description whose
+-- model doesn't protect nothing is said: under it wrong paths show what they load.
 use Rattle.std.specs.Prelude.{◌≡◌, ℕ, ◌+◌, ◌≤◌, true, length, None}
 use Rattle.rv_types.specs.Memory.{Code, Ram, Agree}
 use Rattle.machine_desc.specs.declared.Desc.{Desc}
@@ -45,14 +45,14 @@ ResolveTellsNothing = (d : Desc) (x x2 : Machine) → Alike x x2 → OutcomesAgr
 abbrev pub ClearTellsNothing : Type 0
 ClearTellsNothing = (d : Desc) (x x2 : Machine) → Alike x x2 → OutcomesAgree d.stt_model x x2 → TellsNothing (clear d x) (clear d x2)
 
--- Retire tells nothing of two machines that show the same, where the model protects and the path of both runs goes on in step
--- past the window
+-- Retire tells nothing of two machines that show the same, where the model protects and the path of both runs goes on
+-- in step past the window
 abbrev pub RetireTellsNothing : Type 0
 RetireTellsNothing = (now : ℕ) (d : Desc) (code : Code) (total : ℕ) (x x2 : Machine) → protects d.stt_model ≡ true → Aligned code → x.end ≡ None → ConsistentIn now d code x → ConsistentIn now d code x2 → x.retired + length x.window ≤ total → Alike x x2 →
     InStepUpTo d.stt_model code total x x2 → RetiresAlike d.stt_model code total (retire d x) (retire d x2)
 
--- Issue tells nothing of two machines that show the same, where the outcomes that may be looked at are equal, and memory lies
--- in one place
+-- Issue tells nothing of two machines that show the same, where the outcomes that may be looked at are equal, and
+-- memory lies in one place
 abbrev pub IssueTellsNothing : Type 0
 IssueTellsNothing = (now : ℕ) (d : Desc) (code : Code) (x x2 : Machine) → ConsistentIn now d code x → Alike x x2 → OutcomesAgree d.stt_model x x2 → SameShape x.ram x2.ram → TellsNothing (issue d x) (issue d x2)
 

@@ -17,8 +17,8 @@ pub record OwnFacts (now : ℕ) (d : Desc) (code : Code) (x : Machine) : Type 0 
   pub guarded : AllGuarded d.stt_model x.window
   pub fits : length x.window ≤ d.core_rob
 
--- what holds of two runs that go on together, as Issue of cycle `now` finds them: they show the same, and their retired states
--- run the path in step
+-- what holds of two runs that go on together, as Issue of cycle `now` finds them: they show the same, and their retired
+-- states run the path in step
 pub record TogetherIn (now : ℕ) (d : Desc) (code : Code) (total : ℕ) (x x2 : Machine) : Type 0 where
   pub alike : Alike x x2
   pub facts : OwnFacts now d code x

@@ -6,8 +6,8 @@
 ghost use Rattle.noninterference.specs.Gadgets.{BoundsCheckBypass, FaultShadow, FaultShadowSpectre, SpeculativeStoreBypass, TaintedBranch, TaintedDivisor, TaintedStoreAddress, TargetInjection};
 ghost use Rattle.noninterference.specs.Laws.{ClearTellsNothing, CompleteTellsNothing, CycleTellsNothing, FetchTellsNothing, FillTellsNothing, IssueTellsNothing, Noninterference, RenameTellsNothing, ResolveTellsNothing, RetireTellsNothing, TogetherAgree};
 
-/// Memories that agree on each byte that the path loads, in the steps that the trace retires and as many more as the window holds,
-/// give one trace, under every model that protects.
+/// Memories that agree on each byte that the path loads, in the steps that the trace retires and as many more as the
+/// window holds, give one trace, under every model that protects.
 pub fn traces_agree()
     ensures noninterference { Noninterference }
 {}
@@ -27,10 +27,10 @@ pub fn phases_tell_nothing()
     ensures cycle { CycleTellsNothing }
 {}
 
-/// Programs that would show a secret byte by what they do on a wrong path, or behind a load that has passed a store, have one trace
-/// for all its 256 values, under every description whose model protects. Behind a load that faults this is so under the futuristic
-/// model; under the spectre model the path itself loads the secret, for every description and number of cycles, and the law says
-/// nothing of it.
+/// Programs that would show a secret byte by what they do on a wrong path, or behind a load that has passed a store,
+/// have one trace for all its 256 values, under every description whose model protects. Behind a load that faults this
+/// is so under the futuristic model; under the spectre model the path itself loads the secret, for every description
+/// and number of cycles, and the law says nothing of it.
 pub fn secrets_stay_hidden()
     ensures bounds_check_bypass { BoundsCheckBypass }
     ensures tainted_store_address { TaintedStoreAddress }

@@ -1,4 +1,5 @@
--- What two runs come to from where two images begin, and that they are the same where the premise holds and the model protects.
+-- What two runs come to from where two images begin, and that they are the same where the premise holds and the model
+-- protects.
 use Rattle.std.proofs.Common.{◌≡◌, ◌↔◌, Bool, true, IsTrue, ℕ, ◌+◌, ◌-◌, ap, sym, subst, refl, ◌∙◌, Option}
 use Rattle.std.specs.Prelude.{slice_get, IsSome}
 use Rattle.rv_types.specs.Memory.{Code, Agree}

@@ -11,8 +11,8 @@ use Rattle.pair_run.specs.declared.answer.Differ.{Differ}
 use Rattle.pair_run.specs.declared.answer.Differ.TheVariants.{Same, Cycle, End}
 use Rattle.pair_run.specs.declared.answer.PairAnswer.{PairAnswer}
 
--- the images have one entry and one code, and their memories agree on each byte that the path of the first loads, in as many
--- steps as its run retires and as many more as the window holds
+-- the images have one entry and one code, and their memories agree on each byte that the path of the first loads, in as
+-- many steps as its run retires and as many more as the window holds
 pub record Premise (d : Desc) (one two : ImageText) (n : ℕ) : Type 0 where
   pub entry : two.entry ≡ one.entry
   pub code : two.code ≡ one.code

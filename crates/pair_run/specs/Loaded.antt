@@ -24,8 +24,8 @@ ends_path Off Next passed = false
 ends_path model (Exit v) passed = true
 ends_path model (Trap cause) passed = true
 
--- two runs of one code begin at one entry, and their memories agree on each byte that a model's path through this code loads in
--- so many steps
+-- two runs of one code begin at one entry, and their memories agree on each byte that a model's path through this code
+-- loads in so many steps
 pub record StartsAgree (model : SttModel) (same_code : Bool) (code : Code) (one two : Start) (steps : ℕ) : Type 0 where
   pub same : IsTrue same_code
   pub entry : two.entry ≡ one.entry

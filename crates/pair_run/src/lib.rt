@@ -1,8 +1,8 @@
 //! Two runs of a core side by side: whether they show the same, and whether the law that they must applies.
 //!
-//! A core is run on two images with one description. `specs/Answer.antt` says what is answered: where the rows of the two
-//! runs first differ, and whether the images agree on all that the path loads (`docs/theorems.md`, "Noninterference"). The three
-//! lines that tell an answer stand in `specs/Comparison.antt`.
+//! A core is run on two images with one description. `specs/Answer.antt` says what is answered: where the rows of the
+//! two runs first differ, and whether the images agree on all that the path loads (`docs/theorems.md`,
+//! "Noninterference"). The three lines that tell an answer stand in `specs/Comparison.antt`.
 #![tactic(auto)]
 
 ghost use Rattle.pair_run.specs.Laws.{OneAnswer};

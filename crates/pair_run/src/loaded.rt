@@ -32,7 +32,8 @@ fn same_byte(one: &Ram, two: &[u8], addr: u64) -> bool
     byte_or_zero(two, place) == byte_or_zero(one.bytes(), place)
 }
 
-// Whether these bytes, from the memory's first address on, have the memory's byte at each of so many addresses from one on.
+// Whether these bytes, from the memory's first address on, have the memory's byte at each of so many addresses from one
+// on.
 fn same_bytes(one: &Ram, two: &[u8], from: u32, len: u32) -> bool
     ensures { IsTrue result ↔ All (SameByte one.now two.now) (range from len) }
 {
@@ -57,8 +58,8 @@ fn ends_path(model: SttModel, stepped: Stepped, passed: Option<Cause>) -> bool
     }
 }
 
-// Whether these bytes, from the memory's first address on, have the memory's byte at each address that a model's path loads from,
-// in so many steps from a state. The state goes on as far as that takes.
+// Whether these bytes, from the memory's first address on, have the memory's byte at each address that a model's path
+// loads from, in so many steps from a state. The state goes on as far as that takes.
 fn loads_agree(state: &mut Isa, model: SttModel, one: &Ram, two: &[u8], steps: u64) -> bool
     ensures { IsTrue result
         ↔ All (SameByte one.now two.now) (reads (path model) (word_at state.old.code) state.old.hart steps) }
@@ -81,8 +82,8 @@ fn loads_agree(state: &mut Isa, model: SttModel, one: &Ram, two: &[u8], steps: u
     true
 }
 
-// Whether a memory and a second one at its place, with one rule for addresses and these bytes, agree on each byte that a model's
-// path loads in so many steps from a state. The state goes on as far as that takes.
+// Whether a memory and a second one at its place, with one rule for addresses and these bytes, agree on each byte that
+// a model's path loads in so many steps from a state. The state goes on as far as that takes.
 fn memories_agree(state: &mut Isa, model: SttModel, one: &Ram, two: &[u8], steps: u64) -> bool
     requires { length two.now ≡ length one.now.bytes }
     ensures { IsTrue result ↔ Agree one.now (record one.now { bytes = two.now })
@@ -91,9 +92,9 @@ fn memories_agree(state: &mut Isa, model: SttModel, one: &Ram, two: &[u8], steps
     loads_agree(state, model, one, two, steps)
 }
 
-/// Whether two images in memories of one place are to be told apart by nothing that a model's path through the code of both loads:
-/// they have one code, one entry and one rule for addresses, and their memories agree on each byte that the path loads in so
-/// many steps from where the first begins. The state goes on as far as that takes.
+/// Whether two images in memories of one place are to be told apart by nothing that a model's path through the code of
+/// both loads: they have one code, one entry and one rule for addresses, and their memories agree on each byte that the
+/// path loads in so many steps from where the first begins. The state goes on as far as that takes.
 pub fn agree_for(
     state: &mut Isa,
     model: SttModel,

@@ -47,8 +47,8 @@ impl<R: RenameTaint + Drop> Model for Pair<R> {
 }
 
 impl<R: RenameTaint + Drop> Pair<R> {
-    /// Makes a core and the instruction set's state of the images. It takes all the memory that the runs take: for each byte
-    /// of the description's memory 11, and what two cores take besides. The one error is want of it.
+    /// Makes a core and the instruction set's state of the images. It takes all the memory that the runs take: for each
+    /// byte of the description's memory 11, and what two cores take besides. The one error is want of it.
     pub fn new(alloc: Global, desc: &Desc, one: Image, two: Image) -> Result<Pair<R>, NoMemory>
         requires base { one.ram.base ≡ desc.now.ram_base }
         requires size { length one.ram.bytes ≡ desc.now.ram_size }
@@ -67,8 +67,8 @@ impl<R: RenameTaint + Drop> Pair<R> {
         })
     }
 
-    /// Runs a core on both images, for at most so many cycles each, and answers how the runs differ, and whether they have
-    /// to be the same under a model that protects (`docs/theorems.md`, "Noninterference"). It takes no memory.
+    /// Runs a core on both images, for at most so many cycles each, and answers how the runs differ, and whether they
+    /// have to be the same under a model that protects (`docs/theorems.md`, "Noninterference"). It takes no memory.
     pub fn run(self, cycles: u32) -> PairAnswer
         ensures answers { Answers self.desc (loaded self.one) (loaded self.two) cycles result }
         ensures hides { protects self.desc.stt_model ≡ true → IsTrue result.premise → result.first ≡ Same }

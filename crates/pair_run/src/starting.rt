@@ -40,8 +40,8 @@ pub struct Starts {
 }
 
 impl Starts {
-    /// Where the runs of these images begin. It copies both memories, and the first image for the path; the one error is want of
-    /// memory.
+    /// Where the runs of these images begin. It copies both memories, and the first image for the path; the one error
+    /// is want of memory.
     pub fn of(alloc: Global, one: &Image, two: &Image) -> Result<Starts, NoMemory>
         ensures one { IfOk result (λ s. s.one ≡ start_of one.now) }
         ensures two { IfOk result (λ s. s.two ≡ start_of two.now) }
@@ -64,8 +64,8 @@ pub struct Cores<R: RenameTaint + Drop> {
 }
 
 impl<R: RenameTaint + Drop> Cores<R> {
-    /// The cores of a description before their first cycles, with the images in their memories. They take all the memory that
-    /// two runs take; the one error is want of it.
+    /// The cores of a description before their first cycles, with the images in their memories. They take all the
+    /// memory that two runs take; the one error is want of it.
     pub fn of(alloc: Global, desc: &Desc, one: Image, two: Image) -> Result<Cores<R>, NoMemory>
         requires base { one.ram.base ≡ desc.now.ram_base }
         requires size { length one.ram.bytes ≡ desc.now.ram_size }

@@ -68,8 +68,9 @@ fn write_length<S: Sink>(retired: u64, cycles: u32, out: &mut S) -> Result<(), F
     out.put(length_line(retired, cycles).as_slice())
 }
 
-/// Writes how two runs compare, one put a line: whether they have to be the same, how they differ, and how long the first one
-/// was. Error: `Failed`, only where the sink's count of faults rose; then a prefix of the text was appended, maybe none of it.
+/// Writes how two runs compare, one put a line: whether they have to be the same, how they differ, and how long the
+/// first one was. Error: `Failed`, only where the sink's count of faults rose; then a prefix of the text was appended,
+/// maybe none of it.
 pub fn write_comparison<S: Sink>(answer: &PairAnswer, out: &mut S) -> Result<(), Failed>
     ensures { Writes (comparison answer.now) (S.told out.old) (S.told out.new) result }
 {

@@ -1,5 +1,5 @@
--- What stations await, as older entries come to give their values: one law for an entry that becomes Done and for a point that
--- moves on.
+-- What stations await, as older entries come to give their values: one law for an entry that becomes Done and for a
+-- point that moves on.
 use Rattle.std.proofs.Common.{◌≡◌, ℕ, zero, suc, ◌<◌, ◌≤◌, Bool, true, false, not, ◌&&◌, ◌||◌, cond, List, [], ◌∷◌, Option, Some, None, refl, ap, ap₂, sym, ◌∙◌, arith, subst, slice_get}
 use Rattle.std.specs.Prelude.{if◌then◌else◌, map, nat_le, ◌==◌, slice_set}
 use Rattle.std.specs.List.{All, AllZip, AllByRecursion as Each, filter, list_any}
@@ -50,7 +50,8 @@ own false n ss = sym (strike_some ss n)
 
 -- ---- entries that then give their values
 
--- an entry goes on, waiting or not as it was, and for the same; it gives its value where it did, or has one of these serials
+-- an entry goes on, waiting or not as it was, and for the same; it gives its value where it did, or has one of these
+-- serials
 pub record Wakes (h h2 : Hold) (ss : List ℕ) (e e2 : Entry) : Type 0 where
   pub on : GoesOn e e2
   pub gives : gives_at h2 e2 ≡ (gives_at h e || among e.serial ss)

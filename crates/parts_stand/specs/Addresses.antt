@@ -1,5 +1,5 @@
--- The roots that stores in the queue have: the youngest roots of their addresses (docs/machine.md, "The parts stand for the
--- machine"). That the queue's stores are the window's is `queue_laws`'s to say.
+-- The roots that stores in the queue have: the youngest roots of their addresses (docs/machine.md, "The parts stand for
+-- the machine"). That the queue's stores are the window's is `queue_laws`'s to say.
 use Rattle.std.specs.Prelude.{◌≡◌, ℕ, Bool, not, ◌&&◌, nat_le, List, [], ◌∷◌, map, slice_get, Option, Some, None, if◌then◌else◌}
 use Rattle.std.specs.List.{find}
 use Rattle.std.specs.Option.{option_map}
@@ -47,8 +47,8 @@ TellsEachStore = (p : Parts) (point : Point) (stores : List Store) (i : ℕ) (e 
     AddressesStand p.window p.roots stores → slice_get p.window i ≡ Some e →
     map (λ s. hides (λ root. nat_le root point.serial) s.root) (older e.serial stores) ≡ tainted_stores point.model (before_at p.window i)
 
--- what is told of a store says that it may be cleared, where entries up to the point are visible: it is known where it writes, it
--- isn't cleared, and its root isn't behind the point
+-- what is told of a store says that it may be cleared, where entries up to the point are visible: it is known where it
+-- writes, it isn't cleared, and its root isn't behind the point
 abbrev pub may_clear_by : ℕ → StoreInfo → Bool
 may_clear_by point s = s.known && not s.cleared && not (is_hidden point s.root)
 
@@ -56,7 +56,8 @@ may_clear_by point s = s.known && not s.cleared && not (is_hidden point s.root)
 abbrev pub can_clear : ℕ → Store → Bool
 can_clear point s = may_clear_by point (info_of s)
 
--- the oldest such store is the one that the machine clears, where the queue tracks the window and the point has advanced
+-- the oldest such store is the one that the machine clears, where the queue tracks the window and the point has
+-- advanced
 abbrev pub FindsClearable : Type 0
 FindsClearable = (d : Desc) (p : Parts) (point : Point) (q : Queues) → Stand p → HasAdvanced point p.window → point.model ≡ d.stt_model →
     AddressesStand p.window p.roots q.stores → Tracks q p.window →

@@ -1,5 +1,6 @@
--- What the parts of a core hold, and when they stand for the machine's window (docs/machine.md, "The parts stand for the
--- machine"). All lists are oldest first, as the parts have them; `before` is youngest first, as in the machine's definitions.
+-- What the parts of a core hold, and when they stand for the machine's window (docs/machine.md, "The parts stand for
+-- the machine"). All lists are oldest first, as the parts have them; `before` is youngest first, as in the machine's
+-- definitions.
 use Rattle.std.specs.Prelude.{◌≡◌, ℕ, ◌<◌, Bool, true, false, not, ◌&&◌, ◌==◌, nat_le, List, [], ◌∷◌, map, Option, Some, None, if◌then◌else◌}
 use Rattle.std.specs.List.{All, cons_option}
 use Rattle.std.specs.Option.{option_map}
@@ -51,7 +52,8 @@ abbrev pub oldest_of : ℕ → List Entry → ℕ
 oldest_of next [] = next
 oldest_of next (e ∷ es) = e.serial
 
--- there is a pair of roots for each entry: its sources' youngest roots, and for a source without one maybe one that has retired
+-- there is a pair of roots for each entry: its sources' youngest roots, and for a source without one maybe one that has
+-- retired
 abbrev pub RootsStand : ℕ → List Entry → List Entry → List (List (Option ℕ)) → Type 0
 RootsStand oldest before [] [] = Unit {0}
 RootsStand oldest before (e ∷ es) (rs ∷ roots) = (map (unretired oldest) rs ≡ source_roots before e) × RootsStand oldest (e ∷ before) es roots
@@ -91,7 +93,8 @@ wants_by false false = Either
 wants_by false true = Base
 wants_by true issued = Other
 
--- what an entry that waits wants: a store, but in version 1, the source of a part that hasn't issued; any other all its sources
+-- what an entry that waits wants: a store, but in version 1, the source of a part that hasn't issued; any other all its
+-- sources
 abbrev pub wants_of : ℕ → Entry → Wants
 wants_of version e = if is_store e.item.kind && not (version == 1) then wants_by (has_address e) (has_data e) else Whole
 

@@ -1,5 +1,5 @@
--- The youngest root of a value, by its serial (docs/machine.md, "Writers and roots"). `before` is always a list of older
--- entries, youngest first.
+-- The youngest root of a value, by its serial (docs/machine.md, "Writers and roots"). `before` is always a list of
+-- older entries, youngest first.
 use Rattle.std.specs.Prelude.{ℕ, nat_le, List, [], ◌∷◌, map, Option, Some, None, if◌then◌else◌}
 use Rattle.rv_types.specs.Regs.{two}
 use Rattle.window_model.specs.declared.Entry.{Entry}

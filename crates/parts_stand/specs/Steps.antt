@@ -33,8 +33,8 @@ pub record GoesOn (e e2 : Entry) : Type 0 where
   pub serial : e2.serial ≡ e.serial
   pub item : e2.item ≡ e.item
 
--- an entry that waits issues, or a part of it: then it executes, or waits still; it is marked as resolved and as cleared or not as
--- it was
+-- an entry that waits issues, or a part of it: then it executes, or waits still; it is marked as resolved and as
+-- cleared or not as it was
 pub record Issues (e e2 : Entry) : Type 0 where
   pub on : GoesOn e e2
   pub undone : is_done e2.state ≡ false

@@ -1,5 +1,5 @@
--- The serials of the sources' writers, by position (docs/architecture.md, "How they stand for it"): as they were when each
--- entry was renamed, so that a source's value is found without a search.
+-- The serials of the sources' writers, by position (docs/architecture.md, "How they stand for it"): as they were when
+-- each entry was renamed, so that a source's value is found without a search.
 use Rattle.std.specs.Prelude.{◌≡◌, ℕ, ◌==◌, List, [], ◌∷◌, length, map, slice_get, Option, Some, None, if◌then◌else◌}
 use Rattle.std.specs.Option.{option_map}
 use Rattle.rv_types.specs.Regs.{two}
@@ -27,7 +27,8 @@ writer_of_source before (Some r) = option_map (λ e. e.serial) (writer before r)
 abbrev pub source_writers : List Entry → Entry → List (Option ℕ)
 source_writers before e = map (writer_of_source before) (two (sources e))
 
--- there is a pair of serials for each entry: its sources' writers, and for a source without one maybe one that has retired
+-- there is a pair of serials for each entry: its sources' writers, and for a source without one maybe one that has
+-- retired
 abbrev pub WritersStand : ℕ → List Entry → List Entry → List (List (Option ℕ)) → Type 0
 WritersStand oldest before [] [] = Unit {0}
 WritersStand oldest before (e ∷ es) (ws ∷ writers) = (map (unretired oldest) ws ≡ source_writers before e) × WritersStand oldest (e ∷ before) es writers

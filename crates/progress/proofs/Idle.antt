@@ -68,8 +68,8 @@ pub record Idle (d : Desc) (code : Code) (x : Machine) : Type 0 where
   pub end : x.end ≡ None
   pub after : (cycle d code x).machine ≡ after_fetch d code (at_retire d x)
 
--- where nothing retires and the run doesn't end, Retire has changed nothing, and the phases after it follow; r is what Retire
--- leaves of x
+-- where nothing retires and the run doesn't end, Retire has changed nothing, and the phases after it follow; r is what
+-- Retire leaves of x
 idle_by : (d : Desc) (code : Code) (x r : Machine) (o : Option End) → r.end ≡ o → (r.end ≡ None → r.retired ≡ x.retired → (r ≡ x) × Stuck x.window) →
     let y = (unless_ended o (nothing r) (then_does (issue d r) (λ y. then_does (rename d y) (fetch d code)))).machine in
     y.end ≡ None → y.retired ≡ x.retired → (r ≡ x) × Stuck x.window × (y ≡ after_fetch d code x) × (r.end ≡ None)

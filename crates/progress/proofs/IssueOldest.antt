@@ -206,7 +206,8 @@ refused d now e h = ap (λ b. b && nat_lt 0 1) (busy_divider Div d now [] (made 
 
 -- ---- the oldest by its state and kind
 
--- what loads are served by: memory that takes no other addresses than the description says, and as many sets of the second level
+-- what loads are served by: memory that takes no other addresses than the description says, and as many sets of the
+-- second level
 pub record Served (d : Desc) (x : Machine) : Type 0 where
   pub allows : Allows d x.ram
   pub second : length x.second ≡ d.cache_second_sets
@@ -291,7 +292,8 @@ store_nearer d x e es p t s =
 busy_stays : (d : Desc) (now : Around) (e : Entry) (due : ℕ) → e.state ≡ Busy due → HasParts e → (issue_entry d now [] e).entry.state ≡ Busy due
 busy_stays d now e due q p = ap (λ (r : Entry). r.state) (issued_stays d now [] e p (ap is_waiting q)) ∙ q
 
--- an oldest entry that waits comes nearer to being done: it issues, or the last register or the divider gets free sooner
+-- an oldest entry that waits comes nearer to being done: it issues, or the last register or the divider gets free
+-- sooner
 waiting_nearer : (k : Kind) (d : Desc) (x0 x : Machine) (e : Entry) (es : List Entry) → Nearer Waiting k d x0 x e es
 waiting_nearer Load d x0 x e es p t r i s o =
     let x2 = headed x (made Waiting Load e) es in

@@ -19,8 +19,8 @@ abbrev pub Stuck : List Entry → Type 0
 Stuck [] = Unit {0}
 Stuck (e ∷ es) = may_go e ≡ false
 
--- n turns of Retire lower no count; and where there is a first turn, and nothing has retired or ended, nothing changed and the
--- oldest may not go
+-- n turns of Retire lower no count; and where there is a first turn, and nothing has retired or ended, nothing changed
+-- and the oldest may not go
 pub record Turned (n : ℕ) (stored : Bool) (x : Machine) (r : Retired) : Type 0 where
   pub retired : x.retired ≤ r.machine.retired
   pub stops : 1 ≤ n → stored ≡ false → r.machine.end ≡ None → r.machine.retired ≡ x.retired → (r.machine ≡ x) × Stuck x.window

@@ -17,7 +17,8 @@ abbrev pub last_due : List Miss → ℕ
 last_due [] = 0
 last_due (m ∷ ms) = max m.due (last_due ms)
 
--- the cycles until a waiting entry issues, if it is the oldest: a load has a register once all are free, a division the divider
+-- the cycles until a waiting entry issues, if it is the oldest: a load has a register once all are free, a division the
+-- divider
 abbrev pub wait : Kind → ℕ → List Miss → ℕ → ℕ
 wait Load cycle misses free_from = max 1 (last_due misses - cycle)
 wait Div cycle misses free_from = max 1 (free_from - cycle)
@@ -29,8 +30,8 @@ takes Done k d cycle misses free_from = 1
 takes (Busy due) k d cycle misses free_from = due - cycle
 takes Waiting k d cycle misses free_from = wait k cycle misses free_from + latency k d
 
--- the cycles until an item is renamed and retires, where no entry is in flight: the bound where nothing is fetched yet, and a
--- cycle less where something is
+-- the cycles until an item is renamed and retires, where no entry is in flight: the bound where nothing is fetched yet,
+-- and a cycle less where something is
 abbrev pub until_renamed : Desc → List Item → ℕ
 until_renamed d [] = bound d
 until_renamed d (i ∷ is) = bound d - 1

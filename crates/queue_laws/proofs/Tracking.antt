@@ -1,4 +1,5 @@
--- What queues track of a window's loads and stores stays true as entries are renamed, change unseen, are dropped and retire.
+-- What queues track of a window's loads and stores stays true as entries are renamed, change unseen, are dropped and
+-- retire.
 use Rattle.std.proofs.Common.{◌≡◌, ℕ, Bool, true, false, cond, not, List, [], ◌∷◌, ◌++◌, Option, Some, None, refl, ap, ap₂, sym, ◌∙◌}
 use Rattle.std.specs.Prelude.{map, nat_lt, ◌==◌, if◌then◌else◌}
 use Rattle.std.specs.List.{filter}

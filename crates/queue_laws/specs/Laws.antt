@@ -32,9 +32,9 @@ HoldsOlder = (q : Queues) (old rest : List Entry) (serial : ℕ) → StandFor q 
 abbrev pub KnownAsComplete : Type 0
 KnownAsComplete = (stores : List Store) (before : List Entry) → StoresStandFor stores before → list_all is_known stores ≡ all_complete before
 
--- they let a load go where the queue says so: the address of each is known, or the load passes those of which it isn't; none that
--- the load meets lacks its data; and the youngest root of the addresses of those that lack it is visible, if each store's root
--- isn't where its own address is tainted, and what is older than a visible load is visible
+-- they let a load go where the queue says so: the address of each is known, or the load passes those of which it isn't;
+-- none that the load meets lacks its data; and the youngest root of the addresses of those that lack it is visible, if
+-- each store's root isn't where its own address is tainted, and what is older than a visible load is visible
 abbrev pub LetsAsAsked : Type 0
 LetsAsAsked = (model : SttModel) (passes : Bool) (visible : ℕ → Bool) → ((a b : ℕ) → a ≤ b → visible b ≡ true → visible a ≡ true) →
     (stores : List Store) (before : List Entry) (fault : Option Cause) (a n : ℕ) → StoresStandFor stores before →
@@ -55,8 +55,8 @@ CoveredAsAsked = (model : SttModel) (passes : Bool) (stores : List Store) (befor
     StoresStandFor stores before → stores_let model passes (range a n) before ≡ true →
     all_forwarded stores a n ≡ all_covered before a n
 
--- the youngest root isn't visible where some older store has a tainted address, if each store's root isn't where its own
--- address is tainted, and what is older than a visible load is visible
+-- the youngest root isn't visible where some older store has a tainted address, if each store's root isn't where its
+-- own address is tainted, and what is older than a visible load is visible
 abbrev pub HiddenAsTainted : Type 0
 HiddenAsTainted = (model : SttModel) (visible : ℕ → Bool) → ((a b : ℕ) → a ≤ b → visible b ≡ true → visible a ≡ true) →
     (stores : List Store) (before : List Entry) → map (λ s. hides visible s.root) stores ≡ tainted_stores model before →

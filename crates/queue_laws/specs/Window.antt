@@ -25,7 +25,8 @@ pub record Area : Type 0 where
   pub bytes : ℕ
   pub fault : Option Cause
 
--- a store: its serial, where it writes and what, each once that part has issued, and whether it has its outcome once one has
+-- a store: its serial, where it writes and what, each once that part has issued, and whether it has its outcome once
+-- one has
 pub record Shown : Type 0 where
   pub serial : ℕ
   pub span : Option Area
@@ -67,8 +68,8 @@ serials_of loads = map (λ l. l.serial) loads
 abbrev pub loads_in : List Entry → List ℕ
 loads_in es = map (λ e. e.serial) (filter (λ e. is_load e.item.kind) es)
 
--- these stores are those of the entries: of each is known exactly what its parts that have issued tell. Of their roots it
--- says nothing
+-- these stores are those of the entries: of each is known exactly what its parts that have issued tell. Of their roots
+-- it says nothing
 abbrev pub StoresStandFor : List Store → List Entry → Type 0
 StoresStandFor stores es = map shown_store stores ≡ stores_in es
 
@@ -122,8 +123,8 @@ shown_clearing e = record { serial = e.serial; known_from = e.addr_due; cleared 
 abbrev pub clearings_in : List Entry → List ShownClearing
 clearings_in es = map shown_clearing (filter (λ e. is_store e.item.kind) es)
 
--- of each load the queues hold what it reads and when it issued, and of each store when its address became known, and whether it is
--- cleared
+-- of each load the queues hold what it reads and when it issued, and of each store when its address became known, and
+-- whether it is cleared
 pub record Tracks (q : Queues) (window : List Entry) : Type 0 where
   pub loads : map shown_load q.loads ≡ readers_in window
   pub stores : map shown_cleared q.stores ≡ clearings_in window
@@ -169,8 +170,8 @@ with_span noted w e stores = if noted then map (addressed_at e.serial (span_in w
 abbrev pub with_stored : Bool → Entry → List Store → List Store
 with_stored noted e stores = if noted then map (filled_at e.serial (stored_of e.outcome)) stores else stores
 
--- the stores once parts of an entry are noted, if it is a store: its address where the first says so, then its data where the
--- second does
+-- the stores once parts of an entry are noted, if it is a store: its address where the first says so, then its data
+-- where the second does
 abbrev pub parts_in : Bool → Bool → Width → Entry → List Store → List Store
 parts_in addressed filled w e stores =
     if is_store e.item.kind then with_stored filled e (with_span addressed w e stores) else stores
@@ -209,8 +210,8 @@ pub record PartsGoOn (w : Width) (e e2 : Entry) : Type 0 where
   pub outcome : (has_address e2 || has_data e2) ≡ true → is_some e2.outcome ≡ true
   pub size : bytes_in w ≡ width_of e2
 
--- what is tracked of it goes on too: an address that is known stays known from the same cycle on, and a load that has issued has an
--- outcome, with the width of its access
+-- what is tracked of it goes on too: an address that is known stays known from the same cycle on, and a load that has
+-- issued has an outcome, with the width of its access
 pub record TracksOn (w : Width) (e e2 : Entry) : Type 0 where
   pub known : has_address e ≡ true → e2.addr_due ≡ e.addr_due
   pub cleared : e2.cleared ≡ e.cleared

@@ -33,8 +33,8 @@ pub record SilentAfter (d : Desc) (code : Code) (x : Machine) : Type 0 where
   pub renames : (c : ℕ) → rename d (at_cycle c x) ≡ nothing (at_cycle c x)
   pub fetches : (c : ℕ) → fetch d code (at_cycle c x) ≡ nothing (at_cycle c x)
 
--- nothing happens in a cycle: no line comes, no entry becomes Done or is resolved, and whatever the cycle none is cleared or
--- retires; nor does anything happen after Retire, unless the run has ended
+-- nothing happens in a cycle: no line comes, no entry becomes Done or is resolved, and whatever the cycle none is
+-- cleared or retires; nor does anything happen after Retire, unless the run has ended
 pub record Silent (d : Desc) (code : Code) (x : Machine) : Type 0 where
   pub lines : NoLine x.cycle x.misses
   pub dones : NoneDone x.cycle x.window

@@ -1,4 +1,5 @@
--- Issue where nothing happens in it: no entry begins, and the load that is tried, if there is one, finds no miss register.
+-- Issue where nothing happens in it: no entry begins, and the load that is tried, if there is one, finds no miss
+-- register.
 use Rattle.std.proofs.Common.{◌≡◌, ℕ, ◌+◌, Bool, true, false, List, [], ◌∷◌, ◌++◌, Option, Some, None, refl, ap, ◌∙◌, subst, arith, eqb-true}
 use Rattle.std.specs.Prelude.{if◌then◌else◌, nat_lt, ◌==◌, map}
 use Rattle.std.specs.Cmp.Derive.{both_true}

@@ -1,7 +1,7 @@
 //! Cycles in which nothing happens: they change nothing but the cycle's number, and they repeat until something is due.
 //!
-//! What that is, and what is due, stands in `specs/Still.antt`; the laws in `specs/Laws.antt` (`docs/machine.md`, "Cycles in
-//! which nothing happens").
+//! What that is, and what is due, stands in `specs/Still.antt`; the laws in `specs/Laws.antt` (`docs/machine.md`,
+//! "Cycles in which nothing happens").
 #![tactic(auto)]
 
 ghost use Rattle.quiet_cycles.specs.Laws.{
@@ -12,9 +12,9 @@ ghost use Rattle.quiet_cycles.specs.Laws.{
   StillGoesOn,
 };
 
-/// A cycle with an empty row, in which the run goes on, leaves the machine as it is but for the cycle's number, and so do all
-/// cycles after it, up to the one in which an entry becomes Done, a line comes or the divider is free again. They may be taken
-/// one by one, or passed over at once (`docs/machine.md`, "Cycles in which nothing happens").
+/// A cycle with an empty row, in which the run goes on, leaves the machine as it is but for the cycle's number, and so
+/// do all cycles after it, up to the one in which an entry becomes Done, a line comes or the divider is free again.
+/// They may be taken one by one, or passed over at once (`docs/machine.md`, "Cycles in which nothing happens").
 pub fn quiet_cycles_repeat()
     ensures empty { EmptyRowStands }
     ensures until { StandsUntilDue }

@@ -79,7 +79,8 @@ pub(crate) fn add_write<R: RenameTaint>(
     }
 }
 
-// What an item that comes in waits for: all its sources, but a store in version 2 for either, since its parts issue apart.
+// What an item that comes in waits for: all its sources, but a store in version 2 for either, since its parts issue
+// apart.
 fn wants_of(version: u32, kind: Kind) -> Wants
     ensures { result ≡ (if is_store kind && not (version == 1) then wants.Either else wants.Whole) }
 {

@@ -18,9 +18,9 @@ use rob_ring::RobRing;
 use stations::Stations;
 use window_model::{Event, Item, Row};
 
-/// Phase Rename: up to the description's width of fetching, the oldest fetched items come into the window, each with the next
-/// serial and with its event in the row, as long as they fit. The visibility point doesn't yet say whether what comes in is
-/// visible.
+/// Phase Rename: up to the description's width of fetching, the oldest fetched items come into the window, each with
+/// the next serial and with its event in the row, as long as they fit. The visibility point doesn't yet say whether
+/// what comes in is visible.
 pub fn rename<R: RenameTaint>(parts: &mut Parts<R>, row: &mut Row)
     requires serials { parts.old.machine.next_serial + most_fetched < 2 ^ 64 }
     requires room { HasRoom most_fetched row.old }
@@ -37,10 +37,11 @@ pub fn rename<R: RenameTaint>(parts: &mut Parts<R>, row: &mut Row)
     }
 }
 
-// The oldest fetched item comes into the window with the next serial, and its entry into all parts: with the youngest roots and
-// the writers of its sources beside it, its write in the table, a station where it waits, for the writers that don't give their
-// values yet, and a load or a store in its queue. The sources are looked up before the entry's own write is held. The answer is the
-// item's address, None where there is no item or it can't go into the window; nothing changes then.
+// The oldest fetched item comes into the window with the next serial, and its entry into all parts: with the youngest
+// roots and the writers of its sources beside it, its write in the table, a station where it waits, for the writers
+// that don't give their values yet, and a load or a store in its queue. The sources are looked up before the entry's
+// own write is held. The answer is the item's address, None where there is no item or it can't go into the window;
+// nothing changes then.
 fn enter_next<R: RenameTaint>(parts: &mut Parts<R>) -> Option<u32>
     requires serials { parts.old.machine.next_serial + 1 < 2 ^ 64 }
     ensures address { result ≡ option_map (λ item. item.pc) (next_item parts.old.desc parts.old.machine) }

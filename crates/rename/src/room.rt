@@ -13,8 +13,8 @@ use rv_types::Kind;
 use stations::Stations;
 use window_model::Item;
 
-/// Whether the item can go into the window. Nothing is counted: stations and queues know how many they hold, and a call stands
-/// alone.
+/// Whether the item can go into the window. Nothing is counted: stations and queues know how many they hold, and a call
+/// stands alone.
 pub(crate) fn fits(item: &Item, desc: &Desc, rob: &RobRing, stations: &Stations, lsq: &Lsq) -> bool
     requires call_alone { CallAlone rob.now.entries }
     requires counted { Counted desc.now rob.now.entries stations.now lsq.now }
@@ -60,8 +60,8 @@ fn is_call(kind: Kind) -> bool
     kind == Kind::Call
 }
 
-// Room for a load among the loads, for a store among the stores, as every description with the queues' rooms has it. A call
-// goes alone.
+// Room for a load among the loads, for a store among the stores, as every description with the queues' rooms has it. A
+// call goes alone.
 fn has_place(kind: Kind, rob: &RobRing, lsq: &Lsq) -> bool
     requires { StandFor lsq.now rob.now.entries }
     ensures { (d : Desc) → lsq.now.max_loads ≡ d.core_loads → lsq.now.max_stores ≡ d.core_stores

@@ -1,10 +1,10 @@
 //! The writes as a slot for each register, and a list to undo them by.
 //!
-//! A slot has the register's youngest writer and the youngest root of its value, so a look-up takes constant time, and copies
-//! what it finds with no test. Each write that is held stands in a list with what its slot held before. A squash goes back over
-//! the list from its youngest end and restores the slots; a retirement takes the oldest off, and clears its slot where it was
-//! the last write. So what a list entry restores may name a writer that has retired since: that is one older than the oldest
-//! write that is held, and counts as none.
+//! A slot has the register's youngest writer and the youngest root of its value, so a look-up takes constant time, and
+//! copies what it finds with no test. Each write that is held stands in a list with what its slot held before. A squash
+//! goes back over the list from its youngest end and restores the slots; a retirement takes the oldest off, and clears
+//! its slot where it was the last write. So what a list entry restores may name a writer that has retired since: that
+//! is one older than the oldest write that is held, and counts as none.
 ghost use Rattle.std.specs.Prelude.{◌≡◌, ◌-◌, ◌<◌, ◌∷◌, ◌++◌, [], ◌==◌, length, nat_le, nat_lt, reverse, take, drop, slice_index_or, slice_set};
 ghost use Rattle.std.specs.List.{filter, list_any, All};
 ghost use Rattle.circular_buffer.specs.Buffer.{buffer};
@@ -206,8 +206,8 @@ fn is_back_from(undo: &HeapCircularBuffer<Undo>, first: u64) -> bool
     }
 }
 
-// Lets go of the write with this serial and of the older ones, where it is held. An entry that retires has the oldest write
-// that is held, or none.
+// Lets go of the write with this serial and of the older ones, where it is held. An entry that retires has the oldest
+// write that is held, or none.
 #[cold]
 #[inline(never)]
 fn retire_held(slots: &mut [Slot], undo: &mut HeapCircularBuffer<Undo>, serial: u64)

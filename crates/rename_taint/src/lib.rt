@@ -1,8 +1,9 @@
-//! Register renaming and taint: for each register the entry in flight that wrote it last, and one youngest root of taint.
+//! Register renaming and taint: for each register the entry in flight that wrote it last, and one youngest root of
+//! taint.
 //!
-//! A table holds the writes of the entries in flight by age (`docs/machine.md`, "Writers and roots"). Loads become visible in
-//! order of age, so of a value's roots the youngest alone tells whether it is tainted. [`ByScan`] searches the writes;
-//! [`ByTable`] answers in constant time. `specs/Writes.antt` says what each call answers and leaves.
+//! A table holds the writes of the entries in flight by age (`docs/machine.md`, "Writers and roots"). Loads become
+//! visible in order of age, so of a value's roots the youngest alone tells whether it is tainted. [`ByScan`] searches
+//! the writes; [`ByTable`] answers in constant time. `specs/Writes.antt` says what each call answers and leaves.
 #![tactic(auto)]
 
 ghost use Rattle.std.specs.Prelude.{◌≡◌, ◌++◌, ◌∷◌, ◌<◌, ℕ, List, [], length, IfOk};
@@ -78,8 +79,8 @@ pub trait RenameTaint: Sized {
         ensures left { writes self.new ≡ without_retired serial (writes self.old) }
         ensures same_room { room self.new ≡ room self.old };
 
-    /// Takes back the writes from this serial on, as their entries are dropped: each register has the writer and the root
-    /// that it had before them.
+    /// Takes back the writes from this serial on, as their entries are dropped: each register has the writer and the
+    /// root that it had before them.
     fn cut_back(&mut self, first: u64)
         ensures left { writes self.new ≡ before_serial first (writes self.old) }
         ensures same_room { room self.new ≡ room self.old };

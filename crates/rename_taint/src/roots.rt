@@ -25,8 +25,8 @@ fn root_at<R: RenameTaint>(table: &R, source: Option<Reg>) -> Option<u64>
     }
 }
 
-/// The youngest root of what an entry of this kind writes, by those of its sources: a load is its own root, and anything
-/// else has the roots of all its sources.
+/// The youngest root of what an entry of this kind writes, by those of its sources: a load is its own root, and
+/// anything else has the roots of all its sources.
 pub fn root_written(kind: Kind, serial: u64, roots: [Option<u64>; 2]) -> Option<u64>
     ensures { result ≡ root_written kind serial roots }
 {

@@ -19,7 +19,8 @@ fn out_line(bytes: &[u8]) -> Line
     line
 }
 
-// Writes the line of these bytes by one put. It stands apart, so that who has nothing to write doesn't make room for a line.
+// Writes the line of these bytes by one put. It stands apart, so that who has nothing to write doesn't make room for a
+// line.
 #[inline(never)]
 fn write_line<S: Sink>(bytes: &[u8], out: &mut S) -> Result<(), Failed>
     requires { length bytes.now ≤ 1024 }
@@ -28,8 +29,8 @@ fn write_line<S: Sink>(bytes: &[u8], out: &mut S) -> Result<(), Failed>
     out.put(out_line(bytes).as_slice())
 }
 
-/// Writes the line of a piece of output by one put, and nothing for an empty piece. Error: `Failed`, only where the sink's
-/// count of faults rose; then the first bytes of the line were appended, maybe none.
+/// Writes the line of a piece of output by one put, and nothing for an empty piece. Error: `Failed`, only where the
+/// sink's count of faults rose; then the first bytes of the line were appended, maybe none.
 #[inline]
 pub fn write_piece<S: Sink>(piece: &Piece, out: &mut S) -> Result<(), Failed>
     ensures { Writes (piece_text piece.now) (S.told out.old) (S.told out.new) result }

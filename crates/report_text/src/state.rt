@@ -60,10 +60,10 @@ fn write_registers<S: Sink>(regs: &[u32], line: &mut Line, out: &mut S) -> Resul
     Ok(())
 }
 
-/// Writes what a report says after the output: the registers, the pc, each row of memory that differs from memory before,
-/// by rising address, and the last line; one put a line. `regs` are the registers by number; both memories have one base
-/// and one size. Error: `Failed`, only where the sink's count of faults rose; then a prefix of the text was appended, maybe
-/// none of it.
+/// Writes what a report says after the output: the registers, the pc, each row of memory that differs from memory
+/// before, by rising address, and the last line; one put a line. `regs` are the registers by number; both memories have
+/// one base and one size. Error: `Failed`, only where the sink's count of faults rose; then a prefix of the text was
+/// appended, maybe none of it.
 pub fn write_report<S: Sink>(
     regs: &[u32; 32],
     pc: u32,

@@ -42,8 +42,8 @@ Tells phase old new = (x : Machine) → new ≡ with_events old (phase x).events
 abbrev pub head_retires : Desc → Entry → Cache → Ram → List ℕ → ℕ → Machine → List Entry → Retired
 head_retires d e tags ram regs pc x rest = head_leaves e.item.kind d e rest (with_effects tags ram regs pc None x)
 
--- a head that retires leaves this cache, memory, registers, pc and end, whatever the other fields of the machine and the other
--- entries are
+-- a head that retires leaves this cache, memory, registers, pc and end, whatever the other fields of the machine and
+-- the other entries are
 abbrev pub IsLeft : (Machine → List Entry → Retired) → Cache → Ram → List ℕ → ℕ → Option End → Type 0
 IsLeft head tags ram regs pc end = (x : Machine) (rest : List Entry) →
     record (with_effects tags ram regs pc end x) { window = rest; retired = x.retired + 1 } ≡ (head x rest).machine
@@ -69,7 +69,8 @@ lines_moved _ d e tags = tags
 abbrev pub line_told : Desc → List (List ℕ) → Entry → ℕ → Event
 line_told d cache e line = event.St e.serial line (has_line d cache line)
 
--- the events of a head: that it retires, each line of a store with whether the cache has it, and a call with so many bytes
+-- the events of a head: that it retires, each line of a store with whether the cache has it, and a call with so many
+-- bytes
 abbrev pub head_told : Kind → Desc → Cache → Entry → ℕ → List Event
 head_told Store d tags e bytes = event.Ret e.serial ∷ map (line_told d tags.sets e) (lines_in d e)
 head_told Call d tags e bytes = event.Ret e.serial ∷ event.Call e.serial bytes ∷ []

@@ -1,4 +1,5 @@
-//! What a head that retires does to memory, the registers and the pc, and what is told of it (`docs/machine.md`, "Retire").
+//! What a head that retires does to memory, the registers and the pc, and what is told of it (`docs/machine.md`,
+//! "Retire").
 ghost use Rattle.std.specs.Prelude.{◌≡◌, ◌≤◌, ◌+◌, ◌^◌, [], None, length, map};
 ghost use Rattle.rv_types.specs.Isa.{with_reg};
 ghost use Rattle.rv_types.specs.Memory.{store_fault, with_bytes};
@@ -22,9 +23,9 @@ use rv_effect::{call, write_reg};
 use rv_types::{End, Kind, Piece, REGISTERS, writes_of};
 use window_model::{Entry, Event, Row, lines_of};
 
-/// The head takes effect on memory, the registers and the pc, and a call on the piece. Answers how it ends the run, None where
-/// the run goes on. What it leaves is what the definition leaves of every machine with this memory, these registers and this
-/// pc, under every description and with every cache.
+/// The head takes effect on memory, the registers and the pc, and a call on the piece. Answers how it ends the run,
+/// None where the run goes on. What it leaves is what the definition leaves of every machine with this memory, these
+/// registers and this pc, under every description and with every cache.
 pub(crate) fn commit(
     head: &Entry,
     ram: &mut Ram,
@@ -88,9 +89,9 @@ fn end_of(exit: Option<u32>) -> Option<End>
     }
 }
 
-/// The row tells that the head retires, and with how many bytes in the piece, if it is a call. Each line of a store moves to
-/// the front of its set where the cache has it, the lower first, and the row tells of that too. It asks that the cache has the
-/// description's sets and lines.
+/// The row tells that the head retires, and with how many bytes in the piece, if it is a call. Each line of a store
+/// moves to the front of its set where the cache has it, the lower first, and the row tells of that too. It asks that
+/// the cache has the description's sets and lines.
 pub(crate) fn tell(head: &Entry, piece: &Piece, desc: &Desc, tags: &mut Tags, row: &mut Row)
     requires room { HasRoom
         (length (head_told head.now.item.kind desc.now tags.old head.now (length piece.now))) row.old }

@@ -20,13 +20,13 @@ use rob_ring::RobRing;
 use rv_types::{End, Piece, REGISTERS};
 use window_model::Row;
 
-/// Phase Retire: up to the description's width of retiring, the oldest entries take effect, with their events in the row and
-/// a call's bytes in the piece. Answers how the run ends: None exactly where it goes on.
+/// Phase Retire: up to the description's width of retiring, the oldest entries take effect, with their events in the
+/// row and a call's bytes in the piece. Answers how the run ends: None exactly where it goes on.
 ///
-/// What it leaves is what the definition leaves of every machine with this window, cache, memory, registers and pc, whose
-/// run hasn't ended. As many have retired as the reorder buffer has fewer entries then: those were its oldest, and the
-/// rename table and the queues of loads and stores have let go of them. It asks that the cache has the description's sets and
-/// lines, that a call stands alone, and that memory takes the stores.
+/// What it leaves is what the definition leaves of every machine with this window, cache, memory, registers and pc,
+/// whose run hasn't ended. As many have retired as the reorder buffer has fewer entries then: those were its oldest,
+/// and the rename table and the queues of loads and stores have let go of them. It asks that the cache has the
+/// description's sets and lines, that a call stands alone, and that memory takes the stores.
 pub fn retire<R: RenameTaint>(
     rob: &mut RobRing,
     table: &mut R,

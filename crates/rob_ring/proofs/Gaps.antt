@@ -1,5 +1,5 @@
--- A walk that asks for the next entry that passes: what holds at a position goes on to hold at the next one, where entries that don't
--- pass change nothing.
+-- A walk that asks for the next entry that passes: what holds at a position goes on to hold at the next one, where
+-- entries that don't pass change nothing.
 use Rattle.std.proofs.Common.{◌≡◌, ℕ, zero, suc, ◌+◌, ◌-◌, ◌<◌, ◌≤◌, Bool, true, false, List, [], ◌∷◌, length, Some, refl, subst, arith, slice_get}
 use Rattle.std.specs.Slice.Scan.{HoldsNowhere, holds_at}
 use Rattle.window_model.specs.declared.Entry.{Entry}

@@ -173,8 +173,8 @@ module _ (es : List Entry) (room : ℕ) (busy open_ones unsafes : List ℕ) (m :
             unsafe_is = stays is_unsafe es unsafes m.unsafe_is i d e at (alike d (ap (λ (r : Ring). slice_get r.entries i) (sym seen) ∙ at));
           })
 
-  -- the bits are those of the entries once one is resolved or cleared: it executes or not as it did, and is told to be settled and safe
-  -- or not
+  -- the bits are those of the entries once one is resolved or cleared: it executes or not as it did, and is told to be
+  -- settled and safe or not
   settle_marked : (f : Entry → Entry) → ((d : Entry) → is_busy (f d) ≡ is_busy d) → (i : ℕ) (open2 unsafe2 : List ℕ) (b c : Bool) (es2 : List Entry) (room2 : ℕ) → i < length r.entries →
       mark_at open2 i ≡ one_if b → ((k : ℕ) → k ≢ i → mark_at open2 k ≡ mark_at open_ones k) → mark_at unsafe2 i ≡ one_if c → ((k : ℕ) → k ≢ i → mark_at unsafe2 k ≡ mark_at unsafes k) →
       ((e : Entry) → slice_get es i ≡ Some e → b ≡ is_open (f e)) → ((e : Entry) → slice_get es i ≡ Some e → c ≡ is_unsafe (f e)) →

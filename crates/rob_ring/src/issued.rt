@@ -1,8 +1,8 @@
 //! What Issue changes of an entry.
 use window_model::{Outcome, Progress};
 
-/// What an entry is once it, or a part of it, has issued: all of it that Issue changes, so that this alone is carried to its
-/// place.
+/// What an entry is once it, or a part of it, has issued: all of it that Issue changes, so that this alone is carried
+/// to its place.
 #[derive(Clone, Copy, Debug, PartialEq, Eq)]
 pub struct Issued {
     /// How far the entry is.

@@ -28,7 +28,8 @@ pub struct RobRing {
     unsettled: [u64; 3],
     // By position, whether the entry may yet squash what comes after it.
     unsafes: [u64; 3],
-    // The oldest entry's serial where none is missing up to the youngest's: a guess, by which an entry is looked for first.
+    // The oldest entry's serial where none is missing up to the youngest's: a guess, by which an entry is looked for
+    // first.
     counted_from: u64,
 }
 
@@ -122,8 +123,8 @@ impl RobRing {
         put_entry(&mut self.items, i, &entry);
     }
 
-    /// What Issue makes of the entry at a position is written in its place: whether it executes may change, and it is as safe as
-    /// it was.
+    /// What Issue makes of the entry at a position is written in its place: whether it executes may change, and it is
+    /// as safe as it was.
     pub fn issue(&mut self, i: u32, issued: &Issued)
         requires within { i < length self.old.entries }
         requires alike { (e : Entry) → slice_get self.old.entries i ≡ Some e
@@ -199,8 +200,8 @@ impl RobRing {
         next_mark(self.busy, from)
     }
 
-    /// The first position from one on whose entry isn't settled: a branch or JALR that isn't resolved, or a store that isn't
-    /// cleared.
+    /// The first position from one on whose entry isn't settled: a branch or JALR that isn't resolved, or a store that
+    /// isn't cleared.
     pub fn next_open(&self, from: u32) -> Option<u32>
         ensures next { Next is_open self.now.entries from result }
         ensures within { IfSome result (λ i. i < self.now.room) }
@@ -218,9 +219,9 @@ impl RobRing {
         next_mark(self.unsafes, from)
     }
 
-    /// The position of the entry with this serial, or the one at which it would stand: how many entries have a serial below
-    /// it. Serials rise by one, but for gaps that squashes leave: where no entry behind it was squashed it is counted back from
-    /// the youngest, else the walk of `position_of` of `window_model` finds it from the oldest on.
+    /// The position of the entry with this serial, or the one at which it would stand: how many entries have a serial
+    /// below it. Serials rise by one, but for gaps that squashes leave: where no entry behind it was squashed it is
+    /// counted back from the youngest, else the walk of `position_of` of `window_model` finds it from the oldest on.
     pub fn position_of(&self, serial: u64) -> u32
         requires rise { Rise self.now.entries }
         ensures count { result ≡ length (below serial self.now.entries) }
@@ -310,7 +311,8 @@ fn issue_entry(items: &mut HeapCircularBuffer<Entry>, i: u32, issued: &Issued)
     }
 }
 
-// The entry at a position is marked as resolved. Whether it isn't settled, and whether it may yet squash what comes after it.
+// The entry at a position is marked as resolved. Whether it isn't settled, and whether it may yet squash what comes
+// after it.
 fn resolve_entry(items: &mut HeapCircularBuffer<Entry>, i: u32) -> (bool, bool)
     requires { i < length items.old.items }
     ensures open { (e : Entry) → slice_get items.old.items i ≡ Some e → result.0 ≡ is_open (as_resolved e) }
@@ -325,7 +327,8 @@ fn resolve_entry(items: &mut HeapCircularBuffer<Entry>, i: u32) -> (bool, bool)
     (false, false)
 }
 
-// The entry at a position is marked as cleared. Whether it isn't settled, and whether it may yet squash what comes after it.
+// The entry at a position is marked as cleared. Whether it isn't settled, and whether it may yet squash what comes
+// after it.
 fn clear_entry(items: &mut HeapCircularBuffer<Entry>, i: u32) -> (bool, bool)
     requires { i < length items.old.items }
     ensures open { (e : Entry) → slice_get items.old.items i ≡ Some e → result.0 ≡ is_open (cleared_one e) }

@@ -1,5 +1,5 @@
--- The word of an instruction's fields (RISC-V unprivileged manual, RV32I, "Base Instruction Formats" and "Immediate Encoding
--- Variants"; the opcodes, funct3 and funct7 from "RV32/64G Instruction Set Listings").
+-- The word of an instruction's fields (RISC-V unprivileged manual, RV32I, "Base Instruction Formats" and "Immediate
+-- Encoding Variants"; the opcodes, funct3 and funct7 from "RV32/64G Instruction Set Listings").
 use Rattle.std.specs.Prelude.{ℕ, ◌+◌, ◌*◌, ◌^◌}
 use Rattle.rv_types.specs.Word.{field, word, word_add}
 use Rattle.rv_types.specs.declared.Instr.{Instr}

@@ -175,9 +175,9 @@ fn is_same(one: &Instr, other: &Instr) -> bool
     *one == *other
 }
 
-/// The word that decodes to the instruction. None exactly where there is none: an immediate is out of its form's range or
-/// has a bit that the form keeps zero, the operation isn't of the instruction's group, or the word that a FENCE or an
-/// illegal instruction keeps isn't one.
+/// The word that decodes to the instruction. None exactly where there is none: an immediate is out of its form's range
+/// or has a bit that the form keeps zero, the operation isn't of the instruction's group, or the word that a FENCE or
+/// an illegal instruction keeps isn't one.
 ///
 /// The fields, each cut to its bits, make one word; it is the answer where it decodes to the instruction again.
 #[tactic(auto, using(crate::proofs::Words::comes_back_as))]

@@ -1,7 +1,8 @@
 //! Decoding: the instruction that a word of 32 bits encodes, and the word that encodes an instruction.
 //!
 //! The encodings are those of the RISC-V unprivileged manual, "RV32/64G Instruction Set Listings", RV32I and RV32M, and
-//! the forms R, I, S, B, U and J those of its chapter RV32I, "Base Instruction Formats" and "Immediate Encoding Variants".
+//! the forms R, I, S, B, U and J those of its chapter RV32I, "Base Instruction Formats" and "Immediate Encoding
+//! Variants".
 //! `docs/instruction-set.md` says what is left out.
 #![tactic(auto)]
 

@@ -1,6 +1,6 @@
--- The instruction that a word encodes: a row for each, by opcode (bits 6..0), funct3 (bits 14..12) and funct7 (bits 31..25).
--- The table is that of the RISC-V unprivileged manual, "RV32/64G Instruction Set Listings", RV32I and RV32M, without
--- what docs/instruction-set.md leaves out.
+-- The instruction that a word encodes: a row for each, by opcode (bits 6..0), funct3 (bits 14..12) and funct7 (bits
+-- 31..25). The table is that of the RISC-V unprivileged manual, "RV32/64G Instruction Set Listings", RV32I and RV32M,
+-- without what docs/instruction-set.md leaves out.
 use Rattle.std.specs.Prelude.{ℕ, ◌+◌, ◌-◌, ◌*◌, ◌/◌, ◌%◌, ◌^◌, Bool, true, ◌&&◌, ◌==◌, nat_lt, if◌then◌else◌, ℤ, pos, negsuc, List, [], ◌∷◌, Option, Some, None}
 use Rattle.std.proofs.Common.{lit<}
 use Rattle.std.proofs.lemmas.Nat.{mod_below}

@@ -9,8 +9,8 @@ use rv_types::NoMemory;
 use std::alloc::Global;
 use std::marker::Model;
 
-/// The second level's tags, seen as the description that they are made for and, for each set, the first addresses of its
-/// lines, the most recently used first.
+/// The second level's tags, seen as the description that they are made for and, for each set, the first addresses of
+/// its lines, the most recently used first.
 #[derive(Drop)]
 pub struct Second {
     desc: Desc,
@@ -32,7 +32,8 @@ impl Model for Second {
 }
 
 impl Second {
-    /// A second level of this description without lines. It takes all memory that the level takes; the one error is want of it.
+    /// A second level of this description without lines. It takes all memory that the level takes; the one error is
+    /// want of it.
     pub fn new(alloc: Global, desc: &Desc) -> Result<Second, NoMemory>
         ensures { IfOk result (λ s. s ≡ record { desc = desc.now; sets = replicate desc.now.cache_second_sets [] }) }
     {
@@ -50,8 +51,8 @@ impl Second {
         }
     }
 
-    /// Looks this line up: where the level has it, it moves to the front of its set; else nothing changes. Answers whether the
-    /// level has it.
+    /// Looks this line up: where the level has it, it moves to the front of its set; else nothing changes. Answers
+    /// whether the level has it.
     pub fn look(&mut self, line: u32) -> bool
         ensures here { result ≡ second_has self.old.desc self.old.sets line }
         ensures moved { self.new ≡ record self.old { sets = second_touched self.old.desc self.old.sets line } }

@@ -1,68 +1,70 @@
--- Small programs that load a secret byte, at 0x1fff8: 8(x2), since x2 begins at 0x1fff0. Where a program exits it ends with
--- addi x10,x0,0; addi x17,x0,93; ecall
+-- Small programs that load a secret byte, at 0x1fff8: 8(x2), since x2 begins at 0x1fff0. Where a program exits it ends
+-- with addi x10,x0,0; addi x17,x0,93; ecall
 use Rattle.std.specs.Prelude.{ℕ, List, [], ◌∷◌}
 
 -- a look-up by the secret: lbu x7,8(x2); add x7,x7,x2; lbu x8,-256(x7); exit
 abbrev pub lookup : List ℕ
 lookup = 0x00814383 ∷ 0x002383b3 ∷ 0xf003c403 ∷ 0x00000513 ∷ 0x05d00893 ∷ 0x00000073 ∷ []
 
--- one of two public words by a mask made of the secret's lowest bit: lbu x6,8(x2); andi x6,x6,1; sub x6,x0,x6; lw x7,0(x2); lw x8,4(x2);
--- xor x9,x7,x8; and x9,x9,x6; xor x7,x7,x9; sw x7,4(x2); exit
+-- one of two public words by a mask made of the secret's lowest bit: lbu x6,8(x2); andi x6,x6,1; sub x6,x0,x6; lw
+-- x7,0(x2); lw x8,4(x2); xor x9,x7,x8; and x9,x9,x6; xor x7,x7,x9; sw x7,4(x2); exit
 abbrev pub select : List ℕ
 select =
     0x00814303 ∷ 0x00137313 ∷ 0x40600333 ∷ 0x00012383 ∷ 0x00412403 ∷ 0x0083c4b3 ∷ 0x0064f4b3 ∷ 0x0093c3b3 ∷ 0x00712223 ∷
     0x00000513 ∷ 0x05d00893 ∷ 0x00000073 ∷ []
 
--- behind a slow division the secret is stored, loaded back from the store in flight, and looked up by: div x9,x2,x2; lbu x6,8(x2);
--- sb x6,4(x2); lbu x7,4(x2); add x7,x7,x2; lbu x8,-256(x7); exit
+-- behind a slow division the secret is stored, loaded back from the store in flight, and looked up by: div x9,x2,x2;
+-- lbu x6,8(x2); sb x6,4(x2); lbu x7,4(x2); add x7,x7,x2; lbu x8,-256(x7); exit
 abbrev pub forwarded : List ℕ
 forwarded = 0x022144b3 ∷ 0x00814303 ∷ 0x00610223 ∷ 0x00414383 ∷ 0x002383b3 ∷ 0xf003c403 ∷ 0x00000513 ∷ 0x05d00893 ∷ 0x00000073 ∷ []
 
--- the secret is stored, and once memory has it loaded by a pointer that a division makes: lbu x6,8(x2); sb x6,4(x2); addi x9,x0,1;
--- div x5,x2,x9; lbu x7,4(x5); add x7,x7,x2; lbu x8,-256(x7); exit
+-- the secret is stored, and once memory has it loaded by a pointer that a division makes: lbu x6,8(x2); sb x6,4(x2);
+-- addi x9,x0,1; div x5,x2,x9; lbu x7,4(x5); add x7,x7,x2; lbu x8,-256(x7); exit
 abbrev pub stored : List ℕ
 stored =
     0x00814303 ∷ 0x00610223 ∷ 0x00100493 ∷ 0x029142b3 ∷ 0x0042c383 ∷ 0x002383b3 ∷ 0xf003c403 ∷ 0x00000513 ∷ 0x05d00893 ∷
     0x00000073 ∷ []
 
--- behind a slow division the secret is byte 2 of a word in flight to memory, and its upper half is looked up by: div x9,x2,x2;
--- lbu x6,8(x2); slli x6,x6,16; sw x6,4(x2); lhu x7,6(x2); add x7,x7,x2; lbu x8,-256(x7); exit
+-- behind a slow division the secret is byte 2 of a word in flight to memory, and its upper half is looked up by: div
+-- x9,x2,x2; lbu x6,8(x2); slli x6,x6,16; sw x6,4(x2); lhu x7,6(x2); add x7,x7,x2; lbu x8,-256(x7); exit
 abbrev pub upper_half : List ℕ
 upper_half =
     0x022144b3 ∷ 0x00814303 ∷ 0x01031313 ∷ 0x00612223 ∷ 0x00615383 ∷ 0x002383b3 ∷ 0xf003c403 ∷ 0x00000513 ∷ 0x05d00893 ∷
     0x00000073 ∷ []
 
--- the lower half is looked up by of a word whose byte 2 is the secret: div x9,x2,x2; lbu x6,8(x2); slli x6,x6,16; sw x6,4(x2); lhu
--- x7,4(x2); add x7,x7,x2; lbu x8,-256(x7); exit
+-- the lower half is looked up by of a word whose byte 2 is the secret: div x9,x2,x2; lbu x6,8(x2); slli x6,x6,16; sw
+-- x6,4(x2); lhu x7,4(x2); add x7,x7,x2; lbu x8,-256(x7); exit
 abbrev pub lower_half : List ℕ
 lower_half =
     0x022144b3 ∷ 0x00814303 ∷ 0x01031313 ∷ 0x00612223 ∷ 0x00415383 ∷ 0x002383b3 ∷ 0xf003c403 ∷ 0x00000513 ∷ 0x05d00893 ∷
     0x00000073 ∷ []
 
--- the secret is the upper byte of a half word that is stored, and looked up by once memory has it: lbu x6,8(x2); slli x6,x6,8;
--- sh x6,4(x2); addi x9,x0,1; div x5,x2,x9; lbu x7,5(x5); add x7,x7,x2; lbu x8,-256(x7); exit
+-- the secret is the upper byte of a half word that is stored, and looked up by once memory has it: lbu x6,8(x2); slli
+-- x6,x6,8; sh x6,4(x2); addi x9,x0,1; div x5,x2,x9; lbu x7,5(x5); add x7,x7,x2; lbu x8,-256(x7); exit
 abbrev pub half_stored : List ℕ
 half_stored =
     0x00814303 ∷ 0x00831313 ∷ 0x00611223 ∷ 0x00100493 ∷ 0x029142b3 ∷ 0x0052c383 ∷ 0x002383b3 ∷ 0xf003c403 ∷ 0x00000513 ∷
     0x05d00893 ∷ 0x00000073 ∷ []
 
--- the secret is in flight, behind a slow division, as a branch that was wrongly predicted drops what is younger: div x9,x2,x2;
--- lbu x7,8(x2); lw x5,0(x2); beq x5,x0,+8; addi x7,x0,0; add x7,x7,x2; lbu x8,-256(x7); exit
+-- the secret is in flight, behind a slow division, as a branch that was wrongly predicted drops what is younger: div
+-- x9,x2,x2; lbu x7,8(x2); lw x5,0(x2); beq x5,x0,+8; addi x7,x0,0; add x7,x7,x2; lbu x8,-256(x7); exit
 abbrev pub squashed : List ℕ
 squashed =
     0x022144b3 ∷ 0x00814383 ∷ 0x00012283 ∷ 0x00028463 ∷ 0x00000393 ∷ 0x002383b3 ∷ 0xf003c403 ∷ 0x00000513 ∷ 0x05d00893 ∷
     0x00000073 ∷ []
 
--- the secret is looked up by behind a call of an unknown number: lbu x7,8(x2); addi x17,x0,1; ecall; add x7,x7,x2; lbu x8,-256(x7); exit
+-- the secret is looked up by behind a call of an unknown number: lbu x7,8(x2); addi x17,x0,1; ecall; add x7,x7,x2; lbu
+-- x8,-256(x7); exit
 abbrev pub called : List ℕ
 called = 0x00814383 ∷ 0x00100893 ∷ 0x00000073 ∷ 0x002383b3 ∷ 0xf003c403 ∷ 0x00000513 ∷ 0x05d00893 ∷ 0x00000073 ∷ []
 
--- a call of an unknown number answers in a0, where the secret was, and its answer is looked up by: lbu x10,8(x2); addi x17,x0,1; ecall;
--- addi x7,x10,64; add x7,x7,x2; lbu x8,-256(x7); exit
+-- a call of an unknown number answers in a0, where the secret was, and its answer is looked up by: lbu x10,8(x2); addi
+-- x17,x0,1; ecall; addi x7,x10,64; add x7,x7,x2; lbu x8,-256(x7); exit
 abbrev pub answered : List ℕ
 answered = 0x00814503 ∷ 0x00100893 ∷ 0x00000073 ∷ 0x04050393 ∷ 0x002383b3 ∷ 0xf003c403 ∷ 0x00000513 ∷ 0x05d00893 ∷ 0x00000073 ∷ []
 
--- the secret is the second source of a difference that is looked up by: lbu x6,8(x2); sub x7,x0,x6; add x7,x7,x2; lbu x8,-256(x7); exit
+-- the secret is the second source of a difference that is looked up by: lbu x6,8(x2); sub x7,x0,x6; add x7,x7,x2; lbu
+-- x8,-256(x7); exit
 abbrev pub second : List ℕ
 second = 0x00814303 ∷ 0x406003b3 ∷ 0x002383b3 ∷ 0xf003c403 ∷ 0x00000513 ∷ 0x05d00893 ∷ 0x00000073 ∷ []
 
@@ -70,8 +72,8 @@ second = 0x00814303 ∷ 0x406003b3 ∷ 0x002383b3 ∷ 0xf003c403 ∷ 0x00000513 
 abbrev pub address : List ℕ
 address = 0x00814383 ∷ 0x002383b3 ∷ 0xf0038023 ∷ 0x00000513 ∷ 0x05d00893 ∷ 0x00000073 ∷ []
 
--- a signed byte is loaded, and a copy of its sign is looked up by: lb x6,8(x2); srli x6,x6,24; andi x7,x6,16; add x7,x7,x2;
--- lbu x8,-256(x7); exit
+-- a signed byte is loaded, and a copy of its sign is looked up by: lb x6,8(x2); srli x6,x6,24; andi x7,x6,16; add
+-- x7,x7,x2; lbu x8,-256(x7); exit
 abbrev pub sign : List ℕ
 sign = 0x00810303 ∷ 0x01835313 ∷ 0x01037393 ∷ 0x002383b3 ∷ 0xf003c403 ∷ 0x00000513 ∷ 0x05d00893 ∷ 0x00000073 ∷ []
 
@@ -80,18 +82,18 @@ sign = 0x00810303 ∷ 0x01835313 ∷ 0x01037393 ∷ 0x002383b3 ∷ 0xf003c403 �
 abbrev pub carry : List ℕ
 carry = 0x00814303 ∷ 0x0fa30313 ∷ 0x00835393 ∷ 0x002383b3 ∷ 0xf003c403 ∷ 0x00000513 ∷ 0x05d00893 ∷ 0x00000073 ∷ []
 
--- a word is loaded of which the secret is the lowest byte, and its other bytes are looked up by: lw x6,8(x2); srli x7,x6,8;
--- add x7,x7,x2; lbu x8,-256(x7); exit
+-- a word is loaded of which the secret is the lowest byte, and its other bytes are looked up by: lw x6,8(x2); srli
+-- x7,x6,8; add x7,x7,x2; lbu x8,-256(x7); exit
 abbrev pub public_byte : List ℕ
 public_byte = 0x00812303 ∷ 0x00835393 ∷ 0x002383b3 ∷ 0xf003c403 ∷ 0x00000513 ∷ 0x05d00893 ∷ 0x00000073 ∷ []
 
--- the secret is the lowest byte of a word and masked off, and the others are looked up by: lw x6,8(x2); andi x7,x6,-256; add
--- x7,x7,x2; lbu x8,-256(x7); exit
+-- the secret is the lowest byte of a word and masked off, and the others are looked up by: lw x6,8(x2); andi
+-- x7,x6,-256; add x7,x7,x2; lbu x8,-256(x7); exit
 abbrev pub masked : List ℕ
 masked = 0x00812303 ∷ 0xf0037393 ∷ 0x002383b3 ∷ 0xf003c403 ∷ 0x00000513 ∷ 0x05d00893 ∷ 0x00000073 ∷ []
 
--- a sum is looked up by below its secret byte: lbu x6,8(x2); slli x6,x6,16; addi x6,x6,5; andi x7,x6,255; add x7,x7,x2; lbu x8,-256(x7);
--- exit
+-- a sum is looked up by below its secret byte: lbu x6,8(x2); slli x6,x6,16; addi x6,x6,5; andi x7,x6,255; add x7,x7,x2;
+-- lbu x8,-256(x7); exit
 abbrev pub carried : List ℕ
 carried = 0x00814303 ∷ 0x01031313 ∷ 0x00530313 ∷ 0x0ff37393 ∷ 0x002383b3 ∷ 0xf003c403 ∷ 0x00000513 ∷ 0x05d00893 ∷ 0x00000073 ∷ []
 
@@ -107,23 +109,24 @@ subtracted_from_itself = 0x00814303 ∷ 0x406303b3 ∷ 0x002383b3 ∷ 0xf003c403
 abbrev pub times_zero : List ℕ
 times_zero = 0x00814303 ∷ 0x020303b3 ∷ 0x002383b3 ∷ 0xf003c403 ∷ 0x00000513 ∷ 0x05d00893 ∷ 0x00000073 ∷ []
 
--- the secret is compared, and the bytes above the 0 or 1 are looked up by: lbu x6,8(x2); sltu x6,x0,x6; srli x7,x6,8; add x7,x7,x2;
--- lbu x8,-256(x7); exit
+-- the secret is compared, and the bytes above the 0 or 1 are looked up by: lbu x6,8(x2); sltu x6,x0,x6; srli x7,x6,8;
+-- add x7,x7,x2; lbu x8,-256(x7); exit
 abbrev pub compared : List ℕ
 compared = 0x00814303 ∷ 0x00603333 ∷ 0x00835393 ∷ 0x002383b3 ∷ 0xf003c403 ∷ 0x00000513 ∷ 0x05d00893 ∷ 0x00000073 ∷ []
 
--- a word whose lowest byte is the secret is copied, and its public bytes are looked up by: lw x6,8(x2); addi x6,x6,0; srli x7,x6,8;
--- add x7,x7,x2; lbu x8,-256(x7); exit
+-- a word whose lowest byte is the secret is copied, and its public bytes are looked up by: lw x6,8(x2); addi x6,x6,0;
+-- srli x7,x6,8; add x7,x7,x2; lbu x8,-256(x7); exit
 abbrev pub moved : List ℕ
 moved = 0x00812303 ∷ 0x00030313 ∷ 0x00835393 ∷ 0x002383b3 ∷ 0xf003c403 ∷ 0x00000513 ∷ 0x05d00893 ∷ 0x00000073 ∷ []
 
--- a public number is taken from a word whose byte 2 is the secret, and the bytes below are looked up by: lbu x6,8(x2); slli x6,x6,16;
--- sub x6,x6,x17; andi x7,x6,255; add x7,x7,x2; lbu x8,-256(x7); exit
+-- a public number is taken from a word whose byte 2 is the secret, and the bytes below are looked up by: lbu x6,8(x2);
+-- slli x6,x6,16; sub x6,x6,x17; andi x7,x6,255; add x7,x7,x2; lbu x8,-256(x7); exit
 abbrev pub subtracted : List ℕ
 subtracted = 0x00814303 ∷ 0x01031313 ∷ 0x41130333 ∷ 0x0ff37393 ∷ 0x002383b3 ∷ 0xf003c403 ∷ 0x00000513 ∷ 0x05d00893 ∷ 0x00000073 ∷ []
 
--- the secret is mixed, stored, loaded back by forwarding, multiplied and written over itself, and what was stored is overwritten:
--- lbu x6,8(x2); xori x7,x6,0x5a; sw x7,4(x2); lw x8,4(x2); mul x9,x8,x6; sb x9,8(x2); sw x0,4(x2); lw x10,4(x2); addi x17,x0,93; ecall
+-- the secret is mixed, stored, loaded back by forwarding, multiplied and written over itself, and what was stored is
+-- overwritten: lbu x6,8(x2); xori x7,x6,0x5a; sw x7,4(x2); lw x8,4(x2); mul x9,x8,x6; sb x9,8(x2); sw x0,4(x2); lw
+-- x10,4(x2); addi x17,x0,93; ecall
 abbrev pub mixes : List ℕ
 mixes =
     0x00814303 ∷ 0x05a34393 ∷ 0x00712223 ∷ 0x00412403 ∷ 0x026404b3 ∷ 0x00910423 ∷ 0x00012223 ∷ 0x00412503 ∷ 0x05d00893 ∷
@@ -135,7 +138,8 @@ exits = 0x00814503 ∷ 0x05d00893 ∷ 0x00000073 ∷ []
 
 -- ---- what shows, although the trace is one for all secrets
 
--- the secret is masked off by a register: lbu x6,8(x2); addi x5,x0,-256; and x7,x6,x5; add x7,x7,x2; lbu x8,-256(x7); exit
+-- the secret is masked off by a register: lbu x6,8(x2); addi x5,x0,-256; and x7,x6,x5; add x7,x7,x2; lbu x8,-256(x7);
+-- exit
 abbrev pub masked_by_register : List ℕ
 masked_by_register = 0x00814303 ∷ 0xf0000293 ∷ 0x005373b3 ∷ 0x002383b3 ∷ 0xf003c403 ∷ 0x00000513 ∷ 0x05d00893 ∷ 0x00000073 ∷ []
 
@@ -143,8 +147,8 @@ masked_by_register = 0x00814303 ∷ 0xf0000293 ∷ 0x005373b3 ∷ 0x002383b3 ∷
 abbrev pub filled_by_ones : List ℕ
 filled_by_ones = 0x00814303 ∷ 0x0ff36393 ∷ 0x002383b3 ∷ 0xf003c403 ∷ 0x00000513 ∷ 0x05d00893 ∷ 0x00000073 ∷ []
 
--- a shift brings in zeros above the secret: lbu x6,8(x2); slli x6,x6,24; srli x6,x6,24; andi x7,x6,256; add x7,x7,x2; lbu x8,-256(x7);
--- exit
+-- a shift brings in zeros above the secret: lbu x6,8(x2); slli x6,x6,24; srli x6,x6,24; andi x7,x6,256; add x7,x7,x2;
+-- lbu x8,-256(x7); exit
 abbrev pub filled_by_zeros : List ℕ
 filled_by_zeros =
     0x00814303 ∷ 0x01831313 ∷ 0x01835313 ∷ 0x10037393 ∷ 0x002383b3 ∷ 0xf003c403 ∷ 0x00000513 ∷ 0x05d00893 ∷ 0x00000073 ∷

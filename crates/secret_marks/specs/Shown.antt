@@ -1,4 +1,5 @@
--- What shows first, in a cycle (docs/theorems.md, "Secrets that are loaded"): by the order of the phases, and by age; and in a run.
+-- What shows first, in a cycle (docs/theorems.md, "Secrets that are loaded"): by the order of the phases, and by age;
+-- and in a run.
 use Rattle.std.specs.Prelude.{◌≡◌, ℕ, zero, suc, ◌+◌, ◌&&◌, List, [], ◌∷◌, Option, Some, None, is_some, if◌then◌else◌}
 use Rattle.std.specs.Option.{option_map}
 use Rattle.rv_types.specs.Memory.{Code}

@@ -46,8 +46,9 @@ head_shows (e ∷ window) x m = is_call e.item.kind && call_shows x m
 
 -- ---- Issue: addresses, and the time of a division
 
--- the first operand tells, now or soon, the address of a load or store or the time of a division. That of a load or division counts
--- as soon as the entry is ready and untainted: while it waits for a port or an older store, the wait depends on the operand
+-- the first operand tells, now or soon, the address of a load or store or the time of a division. That of a load or
+-- division counts as soon as the entry is ready and untainted: while it waits for a port or an older store, the wait
+-- depends on the operand
 abbrev pub decides_as : Kind → Desc → List Entry → Entry → Bool
 decides_as Load d before e = is_waiting e.state && ready d before e && not (address_tainted d.stt_model before e)
 decides_as Div d before e = is_waiting e.state && ready d before e && not (any_tainted d.stt_model before e)

@@ -29,7 +29,8 @@ faults ws = fault_of secrets_app ws
 unfoldable pub rows_in : List Text → List Row
 rows_in ws = matches_of secrets_app ws
 
--- what the words ask for, as contracts see it: the description's name, the image's, the ranges in their order, and the number of cycles
+-- what the words ask for, as contracts see it: the description's name, the image's, the ranges in their order, and the
+-- number of cycles
 pub record WantedText : Type 0 where
   pub description : Text
   pub image : Text

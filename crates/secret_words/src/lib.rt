@@ -1,6 +1,7 @@
 //! The words of `stt_secrets D IMAGE --secret ADDRESS:BYTES .. --cycles N`, read by clap.
 //!
-//! What words ask for is said in `specs/Words.antt`, over clap's own written definition of what it takes, and what a range is in
+//! What words ask for is said in `specs/Words.antt`, over clap's own written definition of what it takes, and what a
+//! range is in
 //! `specs/Ranges.antt`: `docs/formats.md`, "Words of stt_secrets", has both in plain words.
 #![tactic(auto)]
 
@@ -99,8 +100,8 @@ fn wanted_in<'a>(alloc: Global, matches: &ArgMatches<'a>) -> Result<Wanted<'a>, 
     })
 }
 
-/// What the words after the program's name ask for. Errors: `Words`, only where they ask for nothing; `Memory`, never where there are no
-/// words, since that is found before memory is taken.
+/// What the words after the program's name ask for. Errors: `Words`, only where they ask for nothing; `Memory`, never
+/// where there are no words, since that is found before memory is taken.
 pub fn read_wanted<'a>(alloc: Global, words: &'a [&'a str]) -> Result<Wanted<'a>, Refused>
     ensures ok { IfOk result (λ w. wanted_of (map (λ w. w.now) words.now) ≡ Some (wanted_text w)) }
     ensures refused { IfErr result (λ e. e ≡ Refused.Words → wanted_of (map (λ w. w.now) words.now) ≡ None) }

@@ -88,7 +88,8 @@ module _ (serial : ℕ) (places : List Occupant) (place : ℕ) (o : Occupant) (l
     | inr ne ↦ m group p (sym (ap (awaits_in group) (get_or-set_other places place p o nobody ne)) ∙ h)
   ]
 
-  -- a word still has a bit for each place that awaits its group, where the bit of a place that awaits none of the group goes
+  -- a word still has a bit for each place that awaits its group, where the bit of a place that awaits none of the group
+  -- goes
   pub marked_out : (waiters : List ℕ) (group word : ℕ) → group < length waiters → length places ≤ 128 → awaits_in group o ≡ false →
       ((p : ℕ) → p < 128 → p ≢ place → bit_at word p ≡ bit_at (get_or waiters group 0) p) → MarkWaiters places waiters →
       MarkWaiters (set places place o) (set waiters group word)

@@ -55,7 +55,8 @@ is_in group (Some serial) = serial % 64 == group
 abbrev pub awaits_in : ℕ → Occupant → Bool
 awaits_in group o = is_in group o.first || is_in group o.second
 
--- for each group there is a word, whose bits are set for the places where a serial of the group is awaited, and maybe for others
+-- for each group there is a word, whose bits are set for the places where a serial of the group is awaited, and maybe
+-- for others
 abbrev pub MarkWaiters : List Occupant → List ℕ → Type 0
 MarkWaiters places waiters = (group place : ℕ) → awaits_in group (slice_index_or places place nobody) ≡ true → bit_at (slice_index waiters group) place ≡ 1
 

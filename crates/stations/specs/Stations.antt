@@ -8,8 +8,8 @@ use Rattle.stations.specs.declared.wants.Part.TheVariants as part
 use Rattle.stations.specs.declared.wants.Wants.{Wants}
 use Rattle.stations.specs.declared.wants.Wants.TheVariants as wants
 
--- an entry that waits: what it needs before it or a part of it may issue, the serials that it awaits, at most two, and the place that it
--- has
+-- an entry that waits: what it needs before it or a part of it may issue, the serials that it awaits, at most two, and
+-- the place that it has
 pub record Station : Type 0 where
   pub serial : ℕ
   pub wants : Wants

@@ -16,8 +16,9 @@ use std::alloc::Global;
 use std::marker::Model;
 use word_bits::{has_wide_bit, with_wide_bit};
 
-/// The entries that wait, in `core.stations` places, in which they don't move. Beside the places stand the numbers of those that are
-/// taken, by age, and of those that are free. Positions count the entries by age, from the oldest, which has 0.
+/// The entries that wait, in `core.stations` places, in which they don't move. Beside the places stand the numbers of
+/// those that are taken, by age, and of those that are free. Positions count the entries by age, from the oldest, which
+/// has 0.
 #[derive(Drop)]
 pub struct Stations {
     places: Vec<Occupant>,

@@ -1,6 +1,8 @@
-//! The programs that tests run, as words of code: those of the worked traces (`docs/machine.md`, "Worked traces"), and small ones.
+//! The programs that tests run, as words of code: those of the worked traces (`docs/machine.md`, "Worked traces"), and
+//! small ones.
 //!
-//! Code stands at 0x00010000. A program begins with x2 16 bytes below the end of memory, where its data stands, if it has any.
+//! Code stands at 0x00010000. A program begins with x2 16 bytes below the end of memory, where its data stands, if it
+//! has any.
 #![tactic(auto)]
 
 /// `addi x17,x0,93` and `ecall`: exits with value 0.
@@ -50,7 +52,8 @@ pub const HIT_UNDER_MISS: [u32; 6] = [
     0x0000_0073,
 ];
 
-/// A bounds check on a slow bound, then a load of a secret byte past it, and a load whose address is made from that byte.
+/// A bounds check on a slow bound, then a load of a secret byte past it, and a load whose address is made from that
+/// byte.
 pub const BOUNDS_CHECK: [u32; 9] = [
     0x0001_2283,
     0x0252_82b3,

@@ -1,4 +1,5 @@
--- What a put leaves of a stream that tells the bytes that it holds, and what a read takes of one that tells those that are left.
+-- What a put leaves of a stream that tells the bytes that it holds, and what a read takes of one that tells those that
+-- are left.
 use Rattle.std.specs.Prelude.{◌<◌, ℕ, List, length, take, Option, Some, None, Result, MatchResult}
 use Rattle.std.specs.Io.KnownBytes.{Appends, Consumes}
 use Rattle.tool_io.specs.declared.Failed.{Failed}

@@ -1,10 +1,10 @@
 //! The outside of the program: named files that are read, and sinks that are written, each with a count of its faults.
 //!
-//! A contract can't say what a real file holds or a real stream takes. So `Files` and `Sink` tell what they can: the bytes
-//! under each name, or that these aren't told; what was written, or that it isn't told; and how often a call has failed.
-//! What the program promises is said in these words (`docs/theorems.md`), and holds over any implementation: those in
-//! memory, which tell all, and those over the host, which tell nothing but their counts and are the trusted edge.
-//! What a call may answer stands in `specs/Outside.antt`.
+//! A contract can't say what a real file holds or a real stream takes. So `Files` and `Sink` tell what they can: the
+//! bytes under each name, or that these aren't told; what was written, or that it isn't told; and how often a call has
+//! failed. What the program promises is said in these words (`docs/theorems.md`), and holds over any implementation:
+//! those in memory, which tell all, and those over the host, which tell nothing but their counts and are the trusted
+//! edge. What a call may answer stands in `specs/Outside.antt`.
 #![tactic(auto)]
 
 ghost use Rattle.std.specs.Prelude.{◌≡◌, List, ℕ};
@@ -81,13 +81,14 @@ pub enum Got {
 
 /// Files that are read by name.
 pub trait Files {
-    /// What is told of the bytes under each name, and how often a read of that name has failed, a number that never falls.
+    /// What is told of the bytes under each name, and how often a read of that name has failed, a number that never
+    /// falls.
     ghost shelf: { Self → Shelf };
 
     /// Reads the whole of the file that has this name and at most `max` bytes. Where its content is told, the answer is
-    /// those bytes, or `TooLong` exactly where there are more than `max`. Errors: `Failed`, only where the count of this
-    /// name rose; `NoMemory`, where its content is told only if it has a byte and at most `max`. Any answer but `Failed`
-    /// leaves the counts of all names as they were, and every answer all contents.
+    /// those bytes, or `TooLong` exactly where there are more than `max`. Errors: `Failed`, only where the count of
+    /// this name rose; `NoMemory`, where its content is told only if it has a byte and at most `max`. Any answer but
+    /// `Failed` leaves the counts of all names as they were, and every answer all contents.
     fn read(&mut self, alloc: Global, name: &str, max: usize) -> Result<Got, ReadFail>
         ensures answer { Reads name.now max (shelf self.old) (shelf self.new) result }
         ensures stays { SameContents (shelf self.old) (shelf self.new) };
@@ -98,8 +99,8 @@ pub trait Sink {
     /// What is told of the bytes that were written, and how often a put has failed, a number that never falls.
     ghost told: { Self → Told };
 
-    /// Appends the piece, and leaves the count as it was. Error: `Failed`, only where the count rose; then the first bytes
-    /// of the piece were appended, maybe none.
+    /// Appends the piece, and leaves the count as it was. Error: `Failed`, only where the count rose; then the first
+    /// bytes of the piece were appended, maybe none.
     fn put(&mut self, piece: &[u8]) -> Result<(), Failed>
         ensures { Writes piece.now (told self.old) (told self.new) result };
 }

@@ -15,9 +15,9 @@ pub struct MemFile {
     pub bytes: Content,
 }
 
-/// Files in memory. A read fails exactly where its number, counted from 1, is listed or no file has the name; of two files
-/// with one name the first counts. Each file has a count of its failed reads, all other names share one; a count stops at
-/// 2^64 - 1.
+/// Files in memory. A read fails exactly where its number, counted from 1, is listed or no file has the name; of two
+/// files with one name the first counts. Each file has a count of its failed reads, all other names share one; a count
+/// stops at 2^64 - 1.
 #[derive(Drop)]
 pub struct MemFiles {
     files: Vec<MemFile>,

@@ -15,8 +15,8 @@ pub struct MemFail {
     pub sent: usize,
 }
 
-/// A sink in memory with a fixed room in bytes, which it takes when it is made: a put takes no memory. A put fails exactly
-/// where its number is listed or the piece is longer than the room that is left. Its count stops at 2^64 - 1.
+/// A sink in memory with a fixed room in bytes, which it takes when it is made: a put takes no memory. A put fails
+/// exactly where its number is listed or the piece is longer than the room that is left. Its count stops at 2^64 - 1.
 #[derive(Drop)]
 pub struct MemSink {
     bytes: Vec<u8>,

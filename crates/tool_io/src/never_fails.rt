@@ -7,8 +7,8 @@ use crate::{Failed, Files, Got, ReadFail, Sink};
 use std::alloc::Global;
 use std::marker::Model;
 
-/// Files in which a name that no file has stands for the empty content, and a sink that takes every piece, keeps nothing
-/// and tells nothing. Both counts are always 0.
+/// Files in which a name that no file has stands for the empty content, and a sink that takes every piece, keeps
+/// nothing and tells nothing. Both counts are always 0.
 #[derive(Drop)]
 pub struct NeverFails {
     files: Vec<MemFile>,

@@ -1,6 +1,6 @@
-//! The trusted edge: the host's files and streams. A host's file tells no content, so files tell only how often a read has
-//! failed. A sink tells as little as `Sink` asks of it; what a put leaves of a stream that tells its bytes is a clause of
-//! its own.
+//! The trusted edge: the host's files and streams. A host's file tells no content, so files tell only how often a read
+//! has failed. A sink tells as little as `Sink` asks of it; what a put leaves of a stream that tells its bytes is a
+//! clause of its own.
 ghost use Rattle.std.specs.Prelude.{◌≡◌, None};
 ghost use Rattle.tool_io.specs.Outside.{Writes};
 ghost use Rattle.tool_io.specs.Streams.{StreamState, PutsAll};

@@ -1,5 +1,5 @@
-//! The whole of a stream read, and the whole of a piece written, whatever the single reads and writes of the stream take.
-//! What is promised over a stream that tells its bytes stands in `specs/Streams.antt`.
+//! The whole of a stream read, and the whole of a piece written, whatever the single reads and writes of the stream
+//! take. What is promised over a stream that tells its bytes stands in `specs/Streams.antt`.
 ghost use Rattle.std.specs.Prelude.{◌≡◌, IfOk, IfErr, IsErr, Err};
 ghost use Rattle.tool_io.specs.Outside.{GetsTold};
 ghost use Rattle.tool_io.specs.Streams.{GivesSome, HasGiven, PutsAll};

@@ -1,7 +1,7 @@
 //! The text of a trace: a line for each cycle with its events, and the last line.
 //!
-//! What each line says stands in `specs/TraceText.antt` (`docs/formats.md`, "The trace"). A put has one line, and nothing
-//! here takes memory. `proofs/Growing.antt` has the laws for a trace that is written as the run goes on.
+//! What each line says stands in `specs/TraceText.antt` (`docs/formats.md`, "The trace"). A put has one line, and
+//! nothing here takes memory. `proofs/Growing.antt` has the laws for a trace that is written as the run goes on.
 #![tactic(auto)]
 
 mod events;

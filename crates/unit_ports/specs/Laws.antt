@@ -24,7 +24,8 @@ asked may e p = if_asked may (port_for e.item.kind) p
 abbrev pub OpensWithAll : Type 0
 OpensWithAll = (d : Desc) (now : Around) (cycle : ℕ) (p : Ports) → p.alus ≡ d.units_alus → LeftAfter d now [] (begun_at cycle p)
 
--- an entry that is no store asks for the port of its kind where it may issue, and what is then left is left to those after it
+-- an entry that is no store asks for the port of its kind where it may issue, and what is then left is left to those
+-- after it
 abbrev pub LeavesAsCounted : Type 0
 LeavesAsCounted = (d : Desc) (now : Around) (before : List Entry) (e : Entry) (p : Ports) → is_store e.item.kind ≡ false →
     LeftAfter d now before p → LeftAfter d now (e ∷ before) (asked (may_at d now (port_for e.item.kind) before e) e p)

@@ -6,8 +6,8 @@ use Rattle.rv_types.specs.declared.Kind.{Kind}
 use Rattle.rv_types.specs.declared.Kind.TheVariants.{Store}
 use Rattle.window_model.specs.Issue.{Port, AluPort, MulPort, DivPort, AddressPort, DataPort, LoadPort, port_of}
 
--- how many arithmetic units there are, the cycle, how many ports of each kind are left in it (a store's address part and its data
--- part have each their own), and the divider
+-- how many arithmetic units there are, the cycle, how many ports of each kind are left in it (a store's address part
+-- and its data part have each their own), and the divider
 pub record Ports : Type 0 where
   pub alus : ℕ
   pub cycle : ℕ
@@ -41,7 +41,8 @@ opening d = record {
   divider = free_divider;
 }
 
--- the port that an entry of this kind asks for: a store for its address part's. Its data part asks for a port of its own
+-- the port that an entry of this kind asks for: a store for its address part's. Its data part asks for a port of its
+-- own
 abbrev pub port_for : Kind → Port
 port_for Store = AddressPort
 port_for k = port_of k

@@ -143,8 +143,8 @@ impl Ports {
         self.divider.free_from <= self.cycle
     }
 
-    /// Entries from this serial on are dropped: the divider is free again from cycle 0 on, with no user, where one of them
-    /// was the last to use it (`docs/machine.md`, "Resolve").
+    /// Entries from this serial on are dropped: the divider is free again from cycle 0 on, with no user, where one of
+    /// them was the last to use it (`docs/machine.md`, "Resolve").
     pub fn drop_from(&mut self, serial: u64)
         ensures { self.new ≡ record self.old { divider = freed_from serial self.old.divider } }
     {

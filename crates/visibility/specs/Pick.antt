@@ -9,7 +9,8 @@ use Rattle.visibility.specs.Point.{is_hidden}
 abbrev pub can_resolve : ℕ → Entry → List (Option ℕ) → Bool
 can_resolve point e roots = is_control e.item.kind && is_done e.state && not e.resolved && not (list_any (is_hidden point) roots)
 
--- the position of the first of these entries that can be resolved, where they begin at position i, with the roots of each
+-- the position of the first of these entries that can be resolved, where they begin at position i, with the roots of
+-- each
 abbrev pub pick_from : ℕ → ℕ → List Entry → List (List (Option ℕ)) → Option ℕ
 pick_from point i [] roots = None
 pick_from point i (e ∷ es) [] = None

@@ -39,8 +39,8 @@ abbrev pub serial_of : Option Entry → ℕ → ℕ
 serial_of None next = next
 serial_of (Some e) next = e.serial
 
--- where the point of a model that protects goes: to the oldest entry that doesn't pass, or to the serial after the youngest. An
--- empty window leaves it
+-- where the point of a model that protects goes: to the oldest entry that doesn't pass, or to the serial after the
+-- youngest. An empty window leaves it
 abbrev pub stops_at : List Entry → Point → ℕ
 stops_at window p = serial_of (find (λ e. not (passes p.model e)) window) (next_after p.serial window)
 

@@ -19,8 +19,8 @@ use machine_desc::{Desc, SttModel};
 use rob_ring::RobRing;
 use std::marker::Model;
 
-/// The visibility point of a model: entries up to its serial are visible, and younger ones are not. Under a model that doesn't
-/// protect it stands at the last serial from the start on, so that every entry is visible.
+/// The visibility point of a model: entries up to its serial are visible, and younger ones are not. Under a model that
+/// doesn't protect it stands at the last serial from the start on, so that every entry is visible.
 #[derive(Drop)]
 pub struct VisPoint {
     serial: u64,
@@ -38,7 +38,8 @@ impl Model for VisPoint {
 }
 
 impl VisPoint {
-    /// The point before anything is in flight: serial 0 alone is visible, or every serial where the model doesn't protect.
+    /// The point before anything is in flight: serial 0 alone is visible, or every serial where the model doesn't
+    /// protect.
     pub fn new(desc: &Desc) -> VisPoint
         ensures { result ≡ first_point desc.now.stt_model }
     {
@@ -56,9 +57,9 @@ impl VisPoint {
         serial <= self.serial
     }
 
-    /// The least serial that isn't visible: the one after the point's, or the last serial, 2^64 - 1, where the point stands there,
-    /// as it does where the model doesn't protect. No entry has the last serial, so each entry that isn't visible has this one
-    /// or a later one, and no other has.
+    /// The least serial that isn't visible: the one after the point's, or the last serial, 2^64 - 1, where the point
+    /// stands there, as it does where the model doesn't protect. No entry has the last serial, so each entry that isn't
+    /// visible has this one or a later one, and no other has.
     pub fn hidden_from(&self) -> u64
         ensures { result ≡ min (self.now.serial + 1) (2 ^ 64 - 1) }
     {
@@ -77,8 +78,8 @@ impl VisPoint {
     }
 
     /// Moves the point on: to the oldest entry that keeps younger ones from being visible, or to the serial after the
-    /// youngest where none does. The reorder buffer tells that entry, so no walk over the entries is needed. Where the model
-    /// doesn't protect the point stays where it shows all.
+    /// youngest where none does. The reorder buffer tells that entry, so no walk over the entries is needed. Where the
+    /// model doesn't protect the point stays where it shows all.
     pub fn advance(&mut self, rob: &RobRing)
         requires rise { Rise rob.now.entries }
         requires few { All (λ e. e.serial < 2 ^ 64 - 1) rob.now.entries }

@@ -219,7 +219,8 @@ issue_evolves d now b (e ∷ es) = (issue_goes d now b e, issue_evolves d now (e
 
 -- ---- what an access comes to
 
--- what holds in each case of a line holds of it: a load joins a register that was found, and takes one where none was found
+-- what holds in each case of a line holds of it: a load joins a register that was found, and takes one where none was
+-- found
 module _ (d : Desc) (now : Around) (line : ℕ) (L : Line → Type 0)
     (hits : has_line d now.cache line ≡ true → L (Hits line))
     (joins : (m : Miss) → find (λ m. m.line == line) now.misses ≡ Some m → L (Joins line m.due))
@@ -264,8 +265,8 @@ requests_few [] = omega arith
 requests_few (l ∷ found) =
     let a = length-append (request_by l) (requests found) in let o = request_few l in let r = requests_few found in omega (arith, a, o, r)
 
--- what holds of nothing holds of what is prefetched, if it holds of one line that lies in memory, for which no register waits
--- and one is left
+-- what holds of nothing holds of what is prefetched, if it holds of one line that lies in memory, for which no register
+-- waits and one is left
 pub by_prefetched : (d : Desc) (now : Around) (found : List Line) (P : List Request → Type 0) → P [] →
     (line_behind d found < now.ram.base + length now.ram.bytes → length now.misses + length (requests found) < d.cache_mshrs →
     find (λ m. m.line == line_behind d found) now.misses ≡ None → P (request d now (line_behind d found) ∷ [])) → P (prefetched d now found)
@@ -291,8 +292,8 @@ some_bytes _ = omega arith
 abbrev pub looked : Desc → Around → ℕ → ℕ → List Line
 looked d now a n = map (look_up d now) (lines_of d a n)
 
--- what holds of forwarded bytes, of lines that there are miss registers enough for, and of waiting, holds of every access
--- without fault
+-- what holds of forwarded bytes, of lines that there are miss registers enough for, and of waiting, holds of every
+-- access without fault
 module _ (d : Desc) (now : Around) (P : Access → Type 0) (forwards : P Forwards)
     (looks : (a n : ℕ) → 0 < n → let found = looked d now a n in length now.misses + length (requests found) ≤ d.cache_mshrs → P (Looks found (prefetched d now found)))
     (waits : (a n : ℕ) → 0 < n → d.cache_mshrs < length now.misses + length (requests (looked d now a n)) → P Waits) where

@@ -1,4 +1,5 @@
--- How many events Retire has: one for each entry that retires, and two more for the one store; a call has two, and is alone.
+-- How many events Retire has: one for each entry that retires, and two more for the one store; a call has two, and is
+-- alone.
 use Rattle.std.proofs.Common.{◌≡◌, ℕ, zero, suc, ◌+◌, ◌-◌, ◌*◌, ◌≤◌, Bool, true, false, ◌&&◌, ◌||◌, cond, List, [], ◌∷◌, ◌++◌, length, refl, ap, subst, ◌∙◌, arith, length-append}
 use Rattle.std.proofs.lemmas.List.{length-map}
 use Rattle.std.specs.Prelude.{if◌then◌else◌, ◌==◌, count_by}

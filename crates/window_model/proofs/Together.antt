@@ -1,4 +1,5 @@
--- In version 1 both parts of a store go in one cycle, in every state: they ask for their ports together, and so are granted them together.
+-- In version 1 both parts of a store go in one cycle, in every state: they ask for their ports together, and so are
+-- granted them together.
 use Rattle.std.proofs.Common.{◌≡◌, ℕ, ◌+◌, Bool, true, false, not, ◌&&◌, ◌||◌, List, [], ◌∷◌, refl, ap₂}
 use Rattle.std.specs.Prelude.{if◌then◌else◌, nat_lt, ◌==◌}
 use Rattle.rv_types.specs.Value.{one_if}

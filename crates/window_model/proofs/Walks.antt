@@ -1,4 +1,5 @@
--- Retire, Rename and Fetch step by step, a cycle phase by phase, and a run cycle by cycle: what each step keeps, the whole keeps.
+-- Retire, Rename and Fetch step by step, a cycle phase by phase, and a run cycle by cycle: what each step keeps, the
+-- whole keeps.
 use Rattle.std.proofs.Common.{◌≡◌, ℕ, zero, suc, ◌+◌, Bool, true, false, ◌||◌, List, [], ◌∷◌, length, Option, Some, None, refl, subst}
 use Rattle.std.specs.Prelude.{if◌then◌else◌, nat_lt}
 use Rattle.rv_types.specs.Memory.{Code}

@@ -19,7 +19,8 @@ use Rattle.window_model.specs.Taint.{address_tainted}
 use Rattle.window_model.specs.SecondLevel.{second_has, second_touched}
 use Rattle.window_model.specs.Retire.{has_line, touched, addr_of, stored_of, width_of}
 
--- an access of n bytes with this outcome reaches the byte at an address: it has no fault, and the byte is one of its own
+-- an access of n bytes with this outcome reaches the byte at an address: it has no fault, and the byte is one of its
+-- own
 abbrev pub reaches : ℕ → ℕ → Option Outcome → Bool
 reaches a n None = false
 reaches a n (Some o) = not (is_some o.fault) && nat_le o.addr a && nat_lt a (o.addr + n)
@@ -63,8 +64,8 @@ pub data Line : Type 0 where
   Joins : ℕ → ℕ → Line
   Takes : Request → Line
 
--- what an access comes to: a fault, older stores have all its bytes, its lines and what is prefetched with them, or too few
--- registers
+-- what an access comes to: a fault, older stores have all its bytes, its lines and what is prefetched with them, or too
+-- few registers
 pub data Access : Type 0 where
   Faults : Cause → Access
   Forwards : Access
@@ -75,13 +76,14 @@ pub data Access : Type 0 where
 abbrev pub request : Desc → Around → ℕ → Request
 request d now line = record { line = line; from_memory = not (second_has d now.second line) }
 
--- what a line that the cache lacks comes to: it joins the miss register that waits for it, if one does, else it takes one
+-- what a line that the cache lacks comes to: it joins the miss register that waits for it, if one does, else it takes
+-- one
 abbrev pub joined : Desc → Around → ℕ → Option Miss → Line
 joined d now line (Some m) = Joins line m.due
 joined d now line None = Takes (request d now line)
 
--- what a line that is looked up comes to: a hit where the cache has it, else by the miss register that waits for it, if one
--- does
+-- what a line that is looked up comes to: a hit where the cache has it, else by the miss register that waits for it, if
+-- one does
 abbrev pub look_up : Desc → Around → ℕ → Line
 look_up d now line =
     if has_line d now.cache line then Hits line else joined d now line (find (λ m. m.line == line) now.misses)
@@ -107,7 +109,8 @@ line_behind d [] = 0
 line_behind d (l ∷ []) = line_at l + d.cache_line
 line_behind d (l ∷ found) = line_behind d found
 
--- the line behind a load's is looked up as well: the load takes a register, the line begins in memory, and a register is left
+-- the line behind a load's is looked up as well: the load takes a register, the line begins in memory, and a register
+-- is left
 abbrev pub prefetches : Desc → Around → List Line → Bool
 prefetches d now found =
     d.cache_prefetch == 1
@@ -115,7 +118,8 @@ prefetches d now found =
     && nat_lt (line_behind d found) (now.ram.base + length now.ram.bytes)
     && nat_lt (length now.misses + length (requests found)) d.cache_mshrs
 
--- the request of the line behind a load's, where that is prefetched; none where the cache has it or a register waits for it
+-- the request of the line behind a load's, where that is prefetched; none where the cache has it or a register waits
+-- for it
 abbrev pub prefetched : Desc → Around → List Line → List Request
 prefetched d now found = if prefetches d now found then request_by (look_up d now (line_behind d found)) else []
 
@@ -124,8 +128,8 @@ abbrev pub unless_lacking : Desc → Around → List Line → Access
 unless_lacking d now found =
     if nat_le (length now.misses + length (requests found)) d.cache_mshrs then Looks found (prefetched d now found) else Waits
 
--- what an access comes to: a fault where there is one, else forwarded where older stores cover all and none has a tainted
--- address, else its lines
+-- what an access comes to: a fault where there is one, else forwarded where older stores cover all and none has a
+-- tainted address, else its lines
 abbrev pub access_at : Desc → Around → List Entry → ℕ → ℕ → Option Cause → Access
 access_at d now before a n (Some cause) = Faults cause
 access_at d now before a n None =
@@ -184,8 +188,8 @@ abbrev pub cache_after : Access → Desc → List (List ℕ) → List (List ℕ)
 cache_after (Looks found ahead) d cache = fold (touched d) cache (map line_at found)
 cache_after _ d cache = cache
 
--- the second level after an access: each line that takes a miss register moves to the front of its set, where the second level
--- has it
+-- the second level after an access: each line that takes a miss register moves to the front of its set, where the
+-- second level has it
 abbrev pub second_after : Access → Desc → List (List ℕ) → List (List ℕ)
 second_after (Looks found ahead) d second = fold (second_touched d) second (map (λ r. r.line) (requests found ++ ahead))
 second_after _ d second = second

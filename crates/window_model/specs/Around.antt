@@ -3,8 +3,8 @@ use Rattle.std.specs.Prelude.{ℕ, Bool, nat_le, List}
 use Rattle.rv_types.specs.Memory.{Ram}
 use Rattle.window_model.specs.State.{Machine, Miss}
 
--- the cycle, registers and memory as retired, the bits of dependence, both levels of the cache, the miss registers, and from
--- which cycle on the divider is free
+-- the cycle, registers and memory as retired, the bits of dependence, both levels of the cache, the miss registers, and
+-- from which cycle on the divider is free
 pub record Around : Type 0 where
   pub cycle : ℕ
   pub regs : List ℕ

@@ -1,5 +1,5 @@
--- The second part of the third phase: the oldest store that may be cleared is, and the oldest load that passed it wrongly is
--- fetched anew (docs/machine.md, "Clear").
+-- The second part of the third phase: the oldest store that may be cleared is, and the oldest load that passed it
+-- wrongly is fetched anew (docs/machine.md, "Clear").
 use Rattle.std.specs.Prelude.{ℕ, ◌+◌, Bool, true, false, not, ◌&&◌, nat_lt, List, [], ◌∷◌, ◌++◌, length, reverse, Option, Some, None, if◌then◌else◌}
 use Rattle.std.specs.List.{list_any}
 use Rattle.rv_types.specs.Memory.{range}
@@ -50,8 +50,8 @@ clears p x = record {
   events = event.Clr p.entry.serial ∷ [];
 }
 
--- the store is cleared; the violated load, found at q among the younger entries, goes with all that is younger than it, its bit is
--- set, and fetch goes on at it, with history and stack as they were before it
+-- the store is cleared; the violated load, found at q among the younger entries, goes with all that is younger than it,
+-- its bit is set, and fetch goes on at it, with history and stack as they were before it
 abbrev pub violates : Desc → Place → Place → Machine → After
 violates d p q x =
     let load = q.entry in

@@ -75,7 +75,8 @@ abbrev pub guessed_mark : Desc → List ℕ → Item → Mark
 guessed_mark d counters item =
     mark_after item.kind d item.pc item.instr (guess item.kind d counters item.mark item.pc) item.mark
 
--- the item goes to the end of the queue, and fetching goes on at its predicted next, with history and stack as they are after it
+-- the item goes to the end of the queue, and fetching goes on at its predicted next, with history and stack as they are
+-- after it
 abbrev pub fetch_one : Desc → Item → Machine → After
 fetch_one d item x = record {
   machine = record x { queue = x.queue ++ item ∷ []; fetch_pc = item.predicted; mark = guessed_mark d x.counters item };

@@ -63,8 +63,8 @@ bytes_of now before e =
 abbrev pub passes_stores : Desc → Around → Entry → Bool
 passes_stores d now e = passing d && not (waits_for_stores d now.dependence e.item.pc)
 
--- a store lets a younger load of these bytes go: its address is known, or the load passes it; and its data is known, or its address
--- is untainted and it covers none of them
+-- a store lets a younger load of these bytes go: its address is known, or the load passes it; and its data is known, or
+-- its address is untainted and it covers none of them
 abbrev pub lets : SttModel → Bool → List ℕ → List Entry → Entry → Bool
 lets model passes bytes before e =
     (has_address e || passes) && (has_data e || not (address_tainted model before e) && not (list_any (λ a. covers a e) bytes))
@@ -86,8 +86,8 @@ may_issue_as Load d now before e = not (address_tainted d.stt_model before e) &&
 may_issue_as Div d now before e = not (any_tainted d.stt_model before e) && is_free now
 may_issue_as _ d now before e = true
 
--- an entry in one piece: waiting and ready; a load with an untainted base, and behind stores that let it go; a division with
--- untainted operands, and a divider that is free
+-- an entry in one piece: waiting and ready; a load with an untainted base, and behind stores that let it go; a division
+-- with untainted operands, and a divider that is free
 abbrev pub may_issue : Desc → Around → List Entry → Entry → Bool
 may_issue d now before e = is_waiting e.state && ready d before e && may_issue_as e.item.kind d now before e
 
@@ -292,8 +292,8 @@ abbrev pub divider_after : Machine → Option Place → Divider
 divider_after x None = x.divider
 divider_after x (Some p) = taken_for (around x) p.before p.entry
 
--- every test is made on the state before the phase: the oldest load that may issue is tried, and the oldest such division
--- takes the divider
+-- every test is made on the state before the phase: the oldest load that may issue is tried, and the oldest such
+-- division takes the divider
 abbrev pub issue : Desc → Machine → After
 issue d x =
     let now = around x in

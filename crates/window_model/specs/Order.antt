@@ -16,8 +16,8 @@ use Rattle.window_model.specs.declared.Progress.TheVariants.{Waiting, Done}
 abbrev pub before_at : List Entry → ℕ → List Entry
 before_at window i = reverse (take i window)
 
--- the results of f, oldest entry first: f is given each entry of a list and the older ones, where `before` are older than the
--- whole list
+-- the results of f, oldest entry first: f is given each entry of a list and the older ones, where `before` are older
+-- than the whole list
 abbrev pub each_from : {A : Type 0} → (List Entry → Entry → A) → List Entry → List Entry → List A
 each_from f before [] = []
 each_from f before (e ∷ es) = f before e ∷ each_from f (e ∷ before) es

@@ -162,8 +162,8 @@ abbrev pub head_turn : Desc → Bool → List Entry → Machine → (Bool → Ma
 head_turn d stored [] x more = stays x
 head_turn d stored (e ∷ rest) x more = if may_leave e then turn d stored (trap_of e) e rest x more else stays x
 
--- at most n turns of Retire, where `stored` says whether a store has retired in this cycle. After an end the window is not
--- looked at
+-- at most n turns of Retire, where `stored` says whether a store has retired in this cycle. After an end the window is
+-- not looked at
 abbrev pub turns : Desc → ℕ → Bool → Machine → Retired
 turns d zero stored x = stays x
 turns d (suc n) stored x = unless_ended x.end (stays x) (head_turn d stored x.window x (turns d n))

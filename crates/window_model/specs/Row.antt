@@ -45,13 +45,13 @@ most_resolved = 3
 abbrev pub most_cleared : ℕ
 most_cleared = 4
 
--- the most events of Retire: one for each of four entries, and two of the one store that retires a cycle; a call has one more,
--- and is alone
+-- the most events of Retire: one for each of four entries, and two of the one store that retires a cycle; a call has
+-- one more, and is alone
 abbrev pub most_retired : ℕ
 most_retired = 6
 
--- the most events of Issue: four arithmetic ones, a multiplication, a division, a store's address and data, and of one load its
--- two lines and the one that is prefetched
+-- the most events of Issue: four arithmetic ones, a multiplication, a division, a store's address and data, and of one
+-- load its two lines and the one that is prefetched
 abbrev pub most_issued : ℕ
 most_issued = 11
 

@@ -23,7 +23,8 @@ safe_as _ e = true
 abbrev pub safe : Entry → Bool
 safe e = safe_as e.item.kind e
 
--- by its kind, whether it is resolved and whether it is cleared: the entry squashes nothing that comes after it, but by a fault
+-- by its kind, whether it is resolved and whether it is cleared: the entry squashes nothing that comes after it, but by
+-- a fault
 abbrev pub settled_as : Kind → Bool → Bool → Bool
 settled_as Branch resolved cleared = resolved
 settled_as Jalr resolved cleared = resolved

@@ -10,8 +10,8 @@ use crate::Row;
 use byte_ram::Ram;
 use rv_types::{End, Piece};
 
-/// A core that is the written machine (`docs/machine.md`): what a call of it leaves is what `specs/Cycle.antt` says of the
-/// machine that it stands for. No call takes memory.
+/// A core that is the written machine (`docs/machine.md`): what a call of it leaves is what `specs/Cycle.antt` says of
+/// the machine that it stands for. No call takes memory.
 pub trait Clocked {
     /// The description by which the core was made.
     ghost desc: { Self → Desc };
@@ -22,8 +22,9 @@ pub trait Clocked {
     /// The whole state of the machine.
     ghost machine: { Self → Machine };
 
-    /// One cycle. Row and piece are cleared first; then the row has the cycle's number and its events, and the piece the
-    /// bytes that it put out. What retires are steps of the instruction set (`docs/theorems.md`, "Committed state").
+    /// One cycle. Row and piece are cleared first; then the row has the cycle's number and its events, and the piece
+    /// the bytes that it put out. What retires are steps of the instruction set (`docs/theorems.md`, "Committed
+    /// state").
     fn cycle(&mut self, row: &mut Row, piece: &mut Piece)
         requires running { (machine self.old).end ≡ None }
         requires few { (machine self.old).cycle < 2 ^ 32 - 1 }

@@ -98,8 +98,8 @@ impl Entry {
         self.fault().is_some()
     }
 
-    /// The cause with which the entry ends the run once it is the oldest: that of a stop, or the fault of its outcome. None
-    /// for an entry that doesn't end it.
+    /// The cause with which the entry ends the run once it is the oldest: that of a stop, or the fault of its outcome.
+    /// None for an entry that doesn't end it.
     pub fn trap(&self) -> Option<Cause>
         ensures { result ≡ trap_of self.now }
     {
@@ -146,7 +146,8 @@ impl Entry {
         }
     }
 
-    /// Whether the entry may leave the window once it is the oldest: it is Done, and resolved if it is a branch or JALR.
+    /// Whether the entry may leave the window once it is the oldest: it is Done, and resolved if it is a branch or
+    /// JALR.
     pub fn may_leave(&self) -> bool
         ensures { result ≡ may_leave self.now }
     {

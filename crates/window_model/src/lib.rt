@@ -24,8 +24,8 @@ pub use row::{ROW_MAX, Row, empty_row};
 /// The most addresses that a return stack may hold.
 pub const RETURNS_MAX: usize = 16;
 
-/// Global history and return stack (`docs/machine.md`, "History and return stack"). The stack is the first `depth` of the
-/// addresses, youngest first; the others are 0.
+/// Global history and return stack (`docs/machine.md`, "History and return stack"). The stack is the first `depth` of
+/// the addresses, youngest first; the others are 0.
 #[derive(Clone, Copy, Debug, PartialEq, Eq)]
 pub struct Mark {
     /// The directions of the last branches, of the youngest in the lowest bit.
@@ -125,7 +125,8 @@ pub enum Look {
     Second,
 }
 
-/// What happened in a cycle (`docs/machine.md`, "Events"). A line is named by its first address, an entry by its serial.
+/// What happened in a cycle (`docs/machine.md`, "Events"). A line is named by its first address, an entry by its
+/// serial.
 #[derive(Clone, Copy, Debug, PartialEq, Eq)]
 pub enum Event {
     /// A line entered the cache.

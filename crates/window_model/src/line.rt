@@ -12,8 +12,8 @@ pub fn line_of(desc: &Desc, addr: u32) -> u32
     addr / desc.cache_line * desc.cache_line
 }
 
-/// The lines of an access of so many bytes: one, or two, the lower first. It asks for at least one byte, and that none lies past
-/// the address 2^32 - 1.
+/// The lines of an access of so many bytes: one, or two, the lower first. It asks for at least one byte, and that none
+/// lies past the address 2^32 - 1.
 pub fn lines_of(desc: &Desc, addr: u32, bytes: u32) -> ArrayVec<u32, 2>
     requires some { 0 < bytes }
     requires within { addr + bytes ≤ 2 ^ 32 }

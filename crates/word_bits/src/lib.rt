@@ -1,5 +1,5 @@
-//! Single bits of a word of 64 or 128, for sets that are kept as bits: a bit is set, cleared or asked for, and the next one
-//! that is set is found.
+//! Single bits of a word of 64 or 128, for sets that are kept as bits: a bit is set, cleared or asked for, and the next
+//! one that is set is found.
 //!
 //! What the next one is stands in `specs/Bits.antt`.
 #![tactic(auto)]

@@ -1,5 +1,5 @@
--- Image files, as words of four bytes, the lowest byte first. Fields stand where docs/formats.md has them, "Fields"; what isn't looked at
--- has 0xee in each byte.
+-- Image files, as words of four bytes, the lowest byte first. Fields stand where docs/formats.md has them, "Fields";
+-- what isn't looked at has 0xee in each byte.
 use Rattle.std.proofs.Common.{List, [], ◌∷◌}
 use Rattle.std.specs.Prelude.{ℕ, ◌+◌, ◌*◌, ◌^◌, flat_map}
 use Rattle.rv_types.specs.Word.{to_le}
@@ -8,8 +8,8 @@ use Rattle.rv_types.specs.Word.{to_le}
 abbrev pub bytes_of : List ℕ → List ℕ
 bytes_of words = flat_map (to_le 4) words
 
--- the words of the header: magic; class, data encoding and version 1; an executable file, 2, for RISC-V, 243; the entry; the place of the
--- program headers; flags; the size of one of them; their number
+-- the words of the header: magic; class, data encoding and version 1; an executable file, 2, for RISC-V, 243; the
+-- entry; the place of the program headers; flags; the size of one of them; their number
 abbrev pub header_with : ℕ → ℕ → ℕ → ℕ → ℕ → List ℕ
 header_with entry place flags size count =
     0x464c457f ∷ 0xee010101 ∷ 0xeeeeeeee ∷ 0xeeeeeeee ∷ 0x00f30002 ∷ 0xeeeeeeee ∷ entry ∷ place ∷ 0xeeeeeeee ∷ flags

@@ -1,5 +1,5 @@
--- Draws, programs and files of generated images (docs/formats.md, "Generated images"). The numbers were computed by a few lines of Python
--- from that page.
+-- Draws, programs and files of generated images (docs/formats.md, "Generated images"). The numbers were computed by a
+-- few lines of Python from that page.
 use Rattle.std.proofs.Common.{◌≡◌, List, [], ◌∷◌, ◌++◌, refl}
 use Rattle.std.specs.Prelude.{ℕ, ◌-◌, ◌^◌, map, take, drop, length}
 use Rattle.rv_decode.specs.Forms.{word_of}
@@ -18,8 +18,8 @@ states = refl
 draws : map drawn (1103527590 ∷ 377401575 ∷ 662824084 ∷ 65535 ∷ 65536 ∷ 2147483647 ∷ []) ≡ 16838 ∷ 5758 ∷ 10113 ∷ 0 ∷ 1 ∷ 32767 ∷ []
 draws = refl
 
--- The file of seed 6 and eight blocks, which have all six forms. The headers come first: magic, class, data encoding and versions; type and
--- machine; the entry; the place, the size and the number of the program headers.
+-- The file of seed 6 and eight blocks, which have all six forms. The headers come first: magic, class, data encoding
+-- and versions; type and machine; the entry; the place, the size and the number of the program headers.
 each_form : generated_image 6 8 ≡ bytes_of (
     0x464c457f ∷ 0x00010101 ∷ 0x00000000 ∷ 0x00000000 ∷ 0x00f30002 ∷ 0x00000001 ∷ 0x00010000 ∷ 0x00000034 ∷
     0x00000000 ∷ 0x00000000 ∷ 0x00200034 ∷ 0x00000001 ∷ 0x00000000 ∷ 0x00000001 ∷ 0x00000054 ∷ 0x00010000 ∷

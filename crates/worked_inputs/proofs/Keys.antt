@@ -1,5 +1,5 @@
--- The keys of a description, one by one: the least and the most of each, shapes, and what stands for one that is left out
--- (docs/formats.md, "Keys" and "Keys that may be left out").
+-- The keys of a description, one by one: the least and the most of each, shapes, and what stands for one that is left
+-- out (docs/formats.md, "Keys" and "Keys that may be left out").
 use Rattle.std.proofs.Common.{◌≡◌, List, [], ◌∷◌, Option, Some, None, refl}
 use Rattle.std.specs.Prelude.{Bool, true, ℕ, ℤ, pos, negsuc, zero, suc, ◌++◌, ◌+◌, ◌==◌, ◌&&◌, codes}
 use Rattle.std.specs.Fmt.{digits, signed_decimal}

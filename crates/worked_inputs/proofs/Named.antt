@@ -1,5 +1,5 @@
--- What is told of a description's version, of its names, and of keys that aren't there or are of another kind (docs/formats.md, "Faults of
--- descriptions"). Each document is the example but for what a line says.
+-- What is told of a description's version, of its names, and of keys that aren't there or are of another kind
+-- (docs/formats.md, "Faults of descriptions"). Each document is the example but for what a line says.
 use Rattle.std.proofs.Common.{◌≡◌, List, [], ◌∷◌, refl}
 use Rattle.std.specs.Prelude.{Bool, true, false, ℕ, negsuc, ◌++◌, replicate, codes}
 use Rattle.std.specs.Fmt.{digits}

@@ -1,5 +1,5 @@
--- Of several faults of a description the first is told (docs/formats.md, "Faults of descriptions"), and what is asked of several numbers
--- together. Each document is the example but for what a line says.
+-- Of several faults of a description the first is told (docs/formats.md, "Faults of descriptions"), and what is asked
+-- of several numbers together. Each document is the example but for what a line says.
 use Rattle.std.proofs.Common.{◌≡◌, List, [], ◌∷◌, refl}
 use Rattle.std.specs.Prelude.{Bool, true, ℕ, negsuc, ◌&&◌}
 use Rattle.std.specs.Fmt.{digits}
@@ -108,7 +108,8 @@ value_before_value : all (
 unfolding document_fault end_fault key_fault keys_fault latency_fault registers_fault second_fault sections_fault top_fault digits ones
 value_before_value = refl
 
--- the latency of a hit and of a miss; where RAM begins, and its size; whether any address may be accessed, and the miss registers
+-- the latency of a hit and of a miss; where RAM begins, and its size; whether any address may be accessed, and the miss
+-- registers
 abbrev latencies : ℕ → ℕ → Members → Members
 latencies hit miss document = at "cache" "hit_latency" hit (at "cache" "miss_latency" miss document)
 
@@ -122,7 +123,8 @@ registers misaligned mshrs document = at "ram" "misaligned" misaligned (at "cach
 abbrev second : ℕ → ℕ → Members
 second sets latency = latencies 4 9 (at "cache" "second_sets" sets (at "cache" "second_latency" latency example_2))
 
--- a miss takes longer than a hit, RAM ends at or below 2 ^ 32, two lines want two registers, and the second level comes between
+-- a miss takes longer than a hit, RAM ends at or below 2 ^ 32, two lines want two registers, and the second level comes
+-- between
 several_numbers : all (
     tells (latencies 8 8 example_1) "K6 cache.miss_latency" ∷
     tells (latencies 8 2 example_2) "K6 cache.miss_latency" ∷

@@ -1,5 +1,5 @@
--- What a loaded image is: where fetch begins, the bytes of memory, and the words that may be fetched (docs/formats.md, "Placing" and
--- "Code"). Each file has a memory of 32 bytes from 0x1000 on.
+-- What a loaded image is: where fetch begins, the bytes of memory, and the words that may be fetched (docs/formats.md,
+-- "Placing" and "Code"). Each file has a memory of 32 bytes from 0x1000 on.
 use Rattle.std.proofs.Common.{◌≡◌, List, [], ◌∷◌, ◌++◌, Option, Some, None, Ok, Err, refl}
 use Rattle.std.specs.Prelude.{Bool, true, false, ℕ, map, replicate, Result}
 use Rattle.rv_types.specs.Memory.{zeros}
@@ -45,8 +45,8 @@ entry_of_one : entry_in (image one) ≡ 0x1006
 unfolding image_of header_fault half word has_magic segment_at ram_fault ram_after code_of zeros
 entry_of_one = refl
 
--- Where two segments take an address the later one's byte stands, also one of the zero bytes behind its bytes of the file. A program
--- header of another type, and a segment without memory, place nothing.
+-- Where two segments take an address the later one's byte stands, also one of the zero bytes behind its bytes of the
+-- file. A program header of another type, and a segment without memory, place nothing.
 abbrev two : List ℕ
 two = header 4 ++ load 180 0x1000 12 16 ++ part 2 180 0x1000 12 12 5 ++ load 0xffffffff 0x1001 0 0 ++ part 1 188 0x1006 3 5 4 ++ three_words
 
@@ -76,7 +76,8 @@ code_of_two : code_in (0x1000 ∷ 0x1004 ∷ 0x1008 ∷ 0x100c ∷ []) (image tw
 unfolding image_of header_fault half word has_magic segment_at ram_fault ram_after code_of zeros
 code_of_two = refl
 
--- a segment that begins between two words has its first one at the next; a word of which each half lies in a segment of its own is none
+-- a segment that begins between two words has its first one at the next; a word of which each half lies in a segment of
+-- its own is none
 abbrev halves : List ℕ
 halves = header 2 ++ load 116 0x1002 4 8 ++ load 120 0x1006 8 8 ++ three_words
 

@@ -1,5 +1,5 @@
--- What is told of a text before its keys are looked at: whether it is one, a TOML document, and of which version (docs/formats.md, "Faults
--- of descriptions").
+-- What is told of a text before its keys are looked at: whether it is one, a TOML document, and of which version
+-- (docs/formats.md, "Faults of descriptions").
 use Rattle.std.proofs.Common.{◌≡◌, List, [], ◌∷◌, refl}
 use Rattle.std.specs.Prelude.{Bool, true, ℕ, ◌++◌, codes}
 use Rattle.std.specs.Fmt.{digits}

@@ -192,7 +192,8 @@ faulting_store_hides : any_store_hidden Spectre (done_at 2 0x00532223 0 (Some st
 unfolding decode
 faulting_store_hides = refl
 
--- a store (sw x5,4(x2)) that hasn't issued has no address and covers nothing, not even the bytes from 0 on: a load gets memory's
+-- a store (sw x5,4(x2)) that hasn't issued has no address and covers nothing, not even the bytes from 0 on: a load gets
+-- memory's
 waiting_store_covers_nothing : covers 0 (waiting 0 0x00512223) ≡ false
 unfolding decode
 waiting_store_covers_nothing = refl

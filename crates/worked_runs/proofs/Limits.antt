@@ -1,5 +1,5 @@
--- Each size at its most: what the largest description has room for, and what it hasn't (docs/formats.md, "Keys" and "Keys that may be left
--- out"; docs/machine.md).
+-- Each size at its most: what the largest description has room for, and what it hasn't (docs/formats.md, "Keys" and
+-- "Keys that may be left out"; docs/machine.md).
 use Rattle.std.proofs.Common.{◌≡◌, ℕ, zero, suc, List, [], ◌∷◌, Option, Some, None, refl, inr, lit<, lit≤}
 use Rattle.std.specs.Prelude.{Bool, true, false, ◌+◌, ◌*◌, length, map, replicate, slice_index_or}
 use Rattle.std.specs.List.{fold}

@@ -44,7 +44,8 @@ passed_before_known_code = 0x00012283 ∷ 0x02000433 ∷ 0x025282b3 ∷ 0x025072
 abbrev cleared_without_data_code : List ℕ
 cleared_without_data_code = 0x022142b3 ∷ 0x00512023 ∷ 0x00812303 ∷ 0x00012383 ∷ 0x05d00893 ∷ 0x00000073 ∷ []
 
--- addi x8,x0,2; mul x5,x0,x0; add x5,x5,x2; sw x2,0(x5); lw x6,0(x2); addi x8,x8,-1; bne x8,x0,-20; addi x17,x0,93; ecall
+-- addi x8,x0,2; mul x5,x0,x0; add x5,x5,x2; sw x2,0(x5); lw x6,0(x2); addi x8,x8,-1; bne x8,x0,-20; addi x17,x0,93;
+-- ecall
 abbrev waits_the_second_time_code : List ℕ
 waits_the_second_time_code = 0x00200413 ∷ 0x020002b3 ∷ 0x002282b3 ∷ 0x0022a023 ∷ 0x00012303 ∷ 0xfff40413 ∷ 0xfe0416e3 ∷ 0x05d00893 ∷ 0x00000073 ∷ []
 
@@ -73,8 +74,8 @@ wrong_pass_loads : reg (at with_bits (code_of late_address) 0x10000 (memory 0 0)
 unfolding decode cycle retire rename fetch count_leading_zeros memory code_of
 wrong_pass_loads = refl
 
--- The store's address comes from a multiplication, and the load goes before. The store is cleared in cycle 8: the load has
--- passed it wrongly, and is fetched anew with all behind it.
+-- The store's address comes from a multiplication, and the load goes before. The store is cleared in cycle 8: the load
+-- has passed it wrongly, and is fetched anew with all behind it.
 wrong_pass_rows : List Row
 wrong_pass_rows =
     row 1 (Fet 0x00010000 ∷ Fet 0x00010004 ∷ []) ∷
@@ -145,8 +146,8 @@ tainted_address_not_cleared : trace with_bits (code_of tainted_address_not_clear
 unfolding decode cycle retire rename fetch count_leading_zeros row quiet memory code_of tainted_address_not_cleared_rows
 tainted_address_not_cleared = refl
 
--- Under the spectre model a load isn't visible before each older store is cleared: what has its base from it waits for the store's
--- address, which comes from a division.
+-- Under the spectre model a load isn't visible before each older store is cleared: what has its base from it waits for
+-- the store's address, which comes from a division.
 clearing_hides_rows : List Row
 clearing_hides_rows =
     row 1 (Fet 0x00010000 ∷ Fet 0x00010004 ∷ []) ∷
@@ -168,8 +169,8 @@ clearing_hides : trace with_bits (code_of clearing_hides_code) 0x10000 (memory 0
 unfolding decode cycle retire rename fetch count_leading_zeros row quiet memory code_of clearing_hides_rows
 clearing_hides = refl
 
--- One store is cleared a cycle, and under the futuristic model one that is done isn't safe before: the last load waits for the
--- second store.
+-- One store is cleared a cycle, and under the futuristic model one that is done isn't safe before: the last load waits
+-- for the second store.
 clearing_hides_futuristic_rows : List Row
 clearing_hides_futuristic_rows =
     row 1 (Fet 0x00010000 ∷ Fet 0x00010004 ∷ []) ∷
@@ -199,8 +200,8 @@ clearing_hides_futuristic : trace futuristic_2 (code_of clearing_hides_futuristi
 unfolding decode cycle retire rename fetch count_leading_zeros row quiet memory code_of clearing_hides_futuristic_rows
 clearing_hides_futuristic = refl
 
--- A load that issues in the cycle in which the store's address becomes known (15) hasn't passed it: nothing is violated as the
--- store is cleared.
+-- A load that issues in the cycle in which the store's address becomes known (15) hasn't passed it: nothing is violated
+-- as the store is cleared.
 passed_before_known_rows : List Row
 passed_before_known_rows =
     row 1 (Fet 0x00010000 ∷ Fet 0x00010004 ∷ []) ∷

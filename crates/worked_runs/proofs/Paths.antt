@@ -1,5 +1,5 @@
--- What the theorem on two runs asks for: which loads of a run count (docs/theorems.md, "Noninterference"), and by when the next
--- instruction retires (docs/theorems.md, "Progress").
+-- What the theorem on two runs asks for: which loads of a run count (docs/theorems.md, "Noninterference"), and by when
+-- the next instruction retires (docs/theorems.md, "Progress").
 use Rattle.std.proofs.Common.{◌≡◌, ℕ, List, [], ◌∷◌, ◌++◌, refl}
 use Rattle.std.specs.Prelude.{replicate}
 use Rattle.rv_types.specs.Decode.{decode}

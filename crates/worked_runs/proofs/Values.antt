@@ -1,6 +1,6 @@
--- What single operations, loads, divisions and calls come to, a line each. The values are those of the RISC-V manual (volume I, chapters
--- "RV32I Base Integer Instruction Set" and "M Standard Extension"), times and calls those of docs/machine.md and
--- docs/instruction-set.md, each worked out by hand.
+-- What single operations, loads, divisions and calls come to, a line each. The values are those of the RISC-V manual
+-- (volume I, chapters "RV32I Base Integer Instruction Set" and "M Standard Extension"), times and calls those of
+-- docs/machine.md and docs/instruction-set.md, each worked out by hand.
 use Rattle.std.proofs.Common.{◌≡◌, ℕ, List, [], ◌∷◌, refl}
 use Rattle.std.specs.Prelude.{Bool, true, false, not, ◌==◌, replicate, slice_set, map}
 use Rattle.std.specs.List.{list_all}
@@ -77,8 +77,8 @@ products : all (
     []) ≡ true
 products = refl
 
--- quotients are rounded towards zero, and a remainder has the dividend's sign; by 0 the quotient is all ones and the remainder the
--- dividend; -2 ^ 31 by -1 gives -2 ^ 31 and 0
+-- quotients are rounded towards zero, and a remainder has the dividend's sign; by 0 the quotient is all ones and the
+-- remainder the dividend; -2 ^ 31 by -1 gives -2 ^ 31 and 0
 divisions : all (
     gives Div 0xfffffff9 2 0xfffffffd ∷
     gives Div 7 0xfffffffe 0xfffffffd ∷

@@ -124,8 +124,9 @@ history_after_violation : trace with_history (code_of history_after_violation_co
 unfolding decode cycle retire rename fetch count_leading_zeros row quiet memory code_of history_after_violation_rows
 history_after_violation = refl
 
--- One byte is enough, though not the load's first, and a load that issues with the store's address part (7) has passed it. The load is
--- fetched anew, not what stands between it and the store; the divider is free again; and another load still passes (11).
+-- One byte is enough, though not the load's first, and a load that issues with the store's address part (7) has passed
+-- it. The load is fetched anew, not what stands between it and the store; the divider is free again; and another load
+-- still passes (11).
 violated_by_one_byte_rows : List Row
 violated_by_one_byte_rows =
     row 1 (Fet 0x00010000 ∷ Fet 0x00010004 ∷ []) ∷

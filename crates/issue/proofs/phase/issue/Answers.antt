@@ -1,5 +1,5 @@
--- Where no station is able the phase leaves all as it is; else what is decided is what the definition decides, and what is written comes
--- to what it leaves.
+-- Where no station is able the phase leaves all as it is; else what is decided is what the definition decides, and what
+-- is written comes to what it leaves.
 use Rattle.std.proofs.Common.{◌+◌, ap, ap₂, sym, ◌∙◌, arith}
 use Rattle.unit_ports.specs.Ports.{Ports}
 use Rattle.core_parts.specs.Held.{Sizes}
