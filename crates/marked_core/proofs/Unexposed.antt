@@ -82,11 +82,11 @@ none_shown (e ∷ window) [] h = refl
 none_shown (e ∷ window) (mark ∷ marks) h =
     ap (λ b. if b then Some (shown_by e) else resolved_shown window marks) h.0 ∙ none_shown window marks h.1
 
--- none is in flight
+-- with no entry in flight nothing resolved shows
 pub none_in_flight : (marks : List EntryMarks) → resolved_shown [] marks ≡ None
 none_in_flight marks = none_shown [] marks (no_entry marks)
 
--- nothing is told to show
+-- where the phase tells that nothing showed, it answers nothing
 pub none_told : (told : Option Shown) (none : Bool) → is_some told ≡ not none → none ≡ true → told ≡ None
 none_told None none q h = refl
 none_told (Some s) none q h = absurd (cc)
