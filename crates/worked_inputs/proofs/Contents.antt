@@ -1,6 +1,6 @@
 -- Which number of a description is which key's, and what stands for keys that are left out (docs/formats.md, "Machine
 -- descriptions").
-use Rattle.std.proofs.Common.{◌≡◌, List, [], ◌∷◌, Ok, refl, inl, inr, lit<, lit≤}
+use Rattle.std.proofs.Common.{◌≡◌, [], ◌∷◌, Ok, refl, inr, lit<, lit≤}
 use Rattle.std.specs.Prelude.{ℕ}
 use lib.Count.{ones}
 use Rattle.toml.specs.Data.{Members, no_members}

@@ -1,6 +1,6 @@
 -- Documents of descriptions, key by key, and what is told of them. Names stand as docs/formats.md has them, "Machine
 -- descriptions".
-use Rattle.std.proofs.Common.{List, [], ◌∷◌, Option, Some, None, Ok, Err}
+use Rattle.std.proofs.Common.{List, [], ◌∷◌, Option, Some, Ok, Err}
 use Rattle.std.specs.Prelude.{Bool, ℕ, pos, if◌then◌else◌, Result, codes}
 use Rattle.std.specs.Ordering.{nat_cmp, match_ordering}
 use Rattle.std.specs.Cmp.Lexicographic.{slice_cmp}

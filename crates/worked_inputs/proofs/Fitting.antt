@@ -1,7 +1,6 @@
 -- Which numbers a description may have at a key (`Fits` of machine_desc, by `MayBe`): from the least to the most of the
 -- version, and of the key's shape (docs/formats.md, "Keys" and "Keys that may be left out").
-use Rattle.std.proofs.Common.{◌≡◌, ℕ, zero, suc, ◌*◌, ◌^◌, refl, inl, inr, lit≤, arith}
-use Rattle.std.specs.Int.{IsPowerOfTwo}
+use Rattle.std.proofs.Common.{◌≡◌, ℕ, zero, suc, ◌^◌, refl, inl, inr, lit≤, arith}
 use Rattle.machine_desc.specs.declared.keys.Key.TheVariants.{CoreRob, CacheSecondLatency, PredictorCounters, PredictorDepend, RamSize}
 use Rattle.machine_desc.specs.Power.{IsZeroOrPower}
 use Rattle.machine_desc.specs.Ranges.{MayBe}

@@ -1,7 +1,7 @@
 -- Draws, programs and files of generated images (docs/formats.md, "Generated images"). The numbers were computed by a
 -- few lines of Python from that page.
-use Rattle.std.proofs.Common.{◌≡◌, List, [], ◌∷◌, ◌++◌, refl}
-use Rattle.std.specs.Prelude.{ℕ, ◌-◌, ◌^◌, map, take, drop, length}
+use Rattle.std.proofs.Common.{◌≡◌, List, [], ◌∷◌, refl}
+use Rattle.std.specs.Prelude.{ℕ, map, take, drop, length}
 use Rattle.rv_decode.specs.Forms.{word_of}
 use Rattle.gen_image.specs.Generated.{seeded, next, drawn, ending, generated_image}
 use Rattle.worked_inputs.proofs.Files.{bytes_of}

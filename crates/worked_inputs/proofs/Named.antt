@@ -1,7 +1,7 @@
 -- What is told of a description's version, of its names, and of keys that aren't there or are of another kind
 -- (docs/formats.md, "Faults of descriptions"). Each document is the example but for what a line says.
 use Rattle.std.proofs.Common.{◌≡◌, List, [], ◌∷◌, refl}
-use Rattle.std.specs.Prelude.{Bool, true, false, ℕ, negsuc, ◌++◌, replicate, codes}
+use Rattle.std.specs.Prelude.{true, false, ℕ, negsuc, ◌++◌, replicate, codes}
 use Rattle.std.specs.Fmt.{digits}
 use Rattle.std.specs.Str.{bytes_eq}
 use lib.Count.{ones}

@@ -1,11 +1,11 @@
 -- Of several faults of a description the first is told (docs/formats.md, "Faults of descriptions"), and what is asked
 -- of several numbers together. Each document is the example but for what a line says.
-use Rattle.std.proofs.Common.{◌≡◌, List, [], ◌∷◌, refl}
-use Rattle.std.specs.Prelude.{Bool, true, ℕ, negsuc, ◌&&◌}
+use Rattle.std.proofs.Common.{◌≡◌, [], ◌∷◌, refl}
+use Rattle.std.specs.Prelude.{true, ℕ, negsuc}
 use Rattle.std.specs.Fmt.{digits}
 use lib.Count.{ones}
 use Prim.Native.String.{String}
-use Rattle.toml.specs.Data.{Data, integer, Members}
+use Rattle.toml.specs.Data.{integer, Members}
 use Rattle.machine_desc.specs.Description.{document_fault, end_fault, key_fault, keys_fault, latency_fault, registers_fault, second_fault, sections_fault, top_fault}
 use Rattle.worked_inputs.proofs.Tables.{all}
 use Rattle.worked_inputs.proofs.Documents.{number, text, with_top, with_key, without_top, without_key, example_1, example_2, tells, accepts}

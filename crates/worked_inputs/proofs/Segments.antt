@@ -1,7 +1,7 @@
 -- What a loaded image is: where fetch begins, the bytes of memory, and the words that may be fetched (docs/formats.md,
 -- "Placing" and "Code"). Each file has a memory of 32 bytes from 0x1000 on.
 use Rattle.std.proofs.Common.{◌≡◌, List, [], ◌∷◌, ◌++◌, Option, Some, None, Ok, Err, refl}
-use Rattle.std.specs.Prelude.{Bool, true, false, ℕ, map, replicate, Result}
+use Rattle.std.specs.Prelude.{false, ℕ, map, replicate, Result}
 use Rattle.rv_types.specs.Memory.{zeros}
 use Rattle.elf_loader.specs.declared.faults.ElfFault.{ElfFault}
 use Rattle.elf_loader.specs.Fields.{half, word, has_magic}

@@ -1,7 +1,7 @@
 -- Each size at its most: what the largest description has room for, and what it hasn't (docs/formats.md, "Keys" and
 -- "Keys that may be left out"; docs/machine.md).
-use Rattle.std.proofs.Common.{◌≡◌, ℕ, zero, suc, List, [], ◌∷◌, Option, Some, None, refl, inr, lit<, lit≤}
-use Rattle.std.specs.Prelude.{Bool, true, false, ◌+◌, ◌*◌, length, map, replicate, slice_index_or}
+use Rattle.std.proofs.Common.{◌≡◌, ℕ, List, [], ◌∷◌, Some, None, refl, inr, lit<, lit≤}
+use Rattle.std.specs.Prelude.{Bool, true, false, ◌*◌, length, map, replicate, slice_index_or}
 use Rattle.std.specs.List.{fold}
 use Rattle.rv_types.specs.Decode.{decode}
 use Rattle.rv_types.specs.Kind.{kind_of}
@@ -11,11 +11,10 @@ use Rattle.machine_desc.specs.declared.Defence.TheVariants.{Stt}
 use Rattle.machine_desc.specs.Ranges.{bound}
 use Rattle.window_model.specs.declared.Entry.{Entry}
 use Rattle.window_model.specs.declared.Item.{Item}
-use Rattle.window_model.specs.declared.Mark.{Mark}
 use Rattle.window_model.specs.declared.Progress.{Progress}
 use Rattle.window_model.specs.declared.Progress.TheVariants.{Waiting, Done}
 use Rattle.window_model.specs.Around.{around}
-use Rattle.window_model.specs.Access.{Access, Looks, Waits, Faults, Forwards, access}
+use Rattle.window_model.specs.Access.{Access, Looks, access}
 use Rattle.window_model.specs.Dependence.{bit_index}
 use Rattle.window_model.specs.Fetch.{fetch}
 use Rattle.window_model.specs.Fill.{with_line}
@@ -24,7 +23,7 @@ use Rattle.window_model.specs.Issue.{ports, AluPort}
 use Rattle.window_model.specs.Rename.{fits}
 use Rattle.window_model.specs.Resolve.{index}
 use Rattle.window_model.specs.SecondLevel.{second_set_of, second_with_line}
-use Rattle.window_model.specs.State.{Machine, Miss, opening, set_of}
+use Rattle.window_model.specs.State.{Machine, opening, set_of}
 use Rattle.window_model.proofs.Worked.{memory}
 
 -- each number the most that version 2 knows, but for RAM's

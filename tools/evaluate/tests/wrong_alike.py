@@ -46,8 +46,6 @@ PROVED = [
     ("under `spectre` a store that no load passed hides nothing", (SETTLED, UNKNOWN),
      (SETTLED.replace("self.cleared", "self.cleared or not getattr(self, 'passed', False)"),
       "            store.passed = getattr(store, 'passed', False) or store.address_due is None\n" + UNKNOWN), "noninterference"),
-    ("EBREAK traps as an illegal instruction", '"ebreak": 3', '"ebreak": 2', "committed_state"),
-    ("a JAL to a misaligned address traps as an illegal instruction", '"jal": 0', '"jal": 2', "committed_state"),
     ("behind the last address nothing follows", "pc, behind = item.pc, item.pc + 4 & WORD", "pc, behind = item.pc, item.pc + 4",
      "committed_state"),
 ]

@@ -206,4 +206,7 @@ WRONG = [
      "        if True:\n            events += self.issue()",
      ["straight_line", "end_in_the_last_cycle"]),
     ("x2 starts at the end of memory", " - 16 & WORD", " & WORD", ["no_prefetch_behind_memory", "no_prefetch_of_address_0"]),
+    ("EBREAK traps as an illegal instruction", '"ebreak": 3', '"ebreak": 2', ["ebreak"]),
+    ("a JAL to a misaligned address traps as an illegal instruction", '"jal": 0', '"jal": 2', ["misaligned_jal"]),
+    ("an illegal instruction traps as one outside code", '"illegal": 2', '"illegal": 1', ["illegal_word"]),
 ]
