@@ -170,7 +170,7 @@ class Telling(Replay):
     def ready(self):
         """The entries that haven't issued and wait for no writer: loads, and what flows from loads."""
         found = []
-        for item in self.pipeline.waiting:
+        for item in self.pipeline.waiting.values():
             if not item.awaits and (item.youngest_root is not None or item.kind == LOAD):
                 found.append(item)
         return found
@@ -206,7 +206,7 @@ class Telling(Replay):
 
     def hold_back(self):
         """Counts what would show the bytes, and waits for results that are held back, and for nothing else."""
-        for item in self.pipeline.waiting:
+        for item in self.pipeline.waiting.values():
             if item.kind in SHOWS and self.is_held_back(item) and not self.is_kept(item):
                 what = self.would_show(item, [self.valued.prospect(source) for source in self.valued.values[item.serial].sources])
                 if what is not None:

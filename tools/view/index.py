@@ -19,10 +19,10 @@ from .trace import Trace, lines_of_file, open_trace
 
 EVERY = 4000
 # which values a state has: another number where they change, so that an index of before isn't used
-FORM = 2
+FORM = 3
 HEAD = "head.json"
 CLASSES = {
-    "collections": {"deque", "Counter", "OrderedDict"}, "view.pipeline": {"Pipeline", "Item", "Wait"},
+    "collections": {"Counter", "OrderedDict"}, "view.pipeline": {"Pipeline", "Item", "Wait"},
     "view.memory_side": {"Cache", "Divider", "Miss"}, "view.instruction": {"Instruction"}, "view.description": {"Description"},
     "view.reasons": {"Reasons"}, "view.front_end": {"FrontEnd", "Stall"}, "view.checks": {"Checks"}, "view.slots": {"Slots", "Late"},
     "view.replay": {"Replay"}}
