@@ -21,7 +21,8 @@ class Stall:
 class FrontEnd:
     """Looks at each renaming before it is applied, and at the queue behind the two phases; `tell` gets what no rule explains.
 
-    `rename` and `fetch` count the cycles in which they stopped short, by reason; `stalls` are those of rename by their cycles.
+    `rename` and `fetch` count the cycles in which they stopped short, by reason; `stalls` are those of rename by their cycles; they may be
+    none.
     """
 
     def __init__(self, pipeline, tell):
@@ -99,6 +100,8 @@ class FrontEnd:
         return reason
 
     def keep_stall(self, reason, pc):
+        if self.stalls is None:
+            return
         last, cycle = self.stalls[-1] if self.stalls else None, self.pipeline.cycle
         if last is not None and last.last == cycle - 1 and last.reason == reason and last.pc == pc:
             last.last = cycle

@@ -89,7 +89,8 @@ def write(replay, image, description, name, told):
 def state_of(replay, image):
     """The state of a run: what only grows is left behind."""
     pipeline = replay.pipeline
-    pipeline.fills, pipeline.prefetches, replay.front.stalls = [], [], []
+    pipeline.fills, replay.front.stalls = [], []
+    pipeline.filled = pipeline.dropped = pipeline.prefetched = pipeline.from_second = 0
     replay.reasons.unexplained, replay.slots.lost, replay.slots.retired, replay.slots.cycles = [], {}, {}, 0
     for counted in (replay.reasons.idle, replay.front.rename, replay.front.fetch):
         counted.clear()

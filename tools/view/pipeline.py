@@ -125,7 +125,9 @@ class Pipeline:
     alone; `open_stores` the stores that aren't Done, and `shadows` the
     entries that keep younger ones from being visible: what stands behind the first of them isn't. `outcomes` are the branches and JALRs
     that are Done and not resolved, `clearable` the stores of known address that aren't cleared. `dues` are the lines that are to come, by
-    their cycles. In the cycles that are looked at `counts` is set, and what is counted of cycles is counted.
+    their cycles. In the cycles that are looked at `counts` is set, and what is counted of cycles is counted: `filled` are the lines that
+    came, `dropped` those that went for them, `prefetched` and `from_second` the lines that are prefetched and those of them from the second
+    level. `fills` has the lines that came by their cycles; it may be none.
     """
 
     def __init__(self, image, description):
@@ -145,7 +147,8 @@ class Pipeline:
         self.second = Cache(description.line, description.second_sets, description.second_ways)
         self.divider, self.misses = Divider(), {}
         self.learnt, self.charged, self.counts = {}, 0, True
-        self.fills, self.prefetches, self.last_squash = [], [], None
+        self.filled = self.dropped = self.prefetched = self.from_second = 0
+        self.fills, self.last_squash = [], None
 
     @property
     def point(self):
@@ -170,7 +173,12 @@ class Pipeline:
 
     def fill(self, line):
         miss = self.misses.pop(line, None)
-        self.fills.append((self.cycle, line, self.cache.fill(line)))
+        dropped = self.cache.fill(line)
+        if self.counts:
+            self.filled += 1
+            self.dropped += dropped is not None
+        if self.fills is not None:
+            self.fills.append((self.cycle, line))
         if miss and miss.from_memory:
             self.second.fill(line)
 
@@ -362,7 +370,9 @@ class Pipeline:
         if step[-1][0] == PREFETCH:
             _, line, answer = step[-1]
             self.take(line, answer)
-            self.prefetches.append((self.cycle, line, answer))
+            if self.counts:
+                self.prefetched += 1
+                self.from_second += answer == "2"
 
     def look(self, line, answer):
         """When a line is there that was found so."""
@@ -402,11 +412,12 @@ class Pipeline:
         """The writers of its sources, the roots of these, and how many aren't Done."""
         writers = self.writers
         item.sources = sources = tuple([writers[register] for register in item.registers])
+        item.roots = NO_ROOTS[len(sources)]
         if sources and (sources[0] is not None or sources[-1] is not None):
+            item.roots = tuple([None if writer is None else writer.root for writer in sources])
             for writer in sources:
-                add_source(item, writer)
-        else:
-            item.roots = NO_ROOTS[len(sources)]
+                if writer is not None:
+                    add_source(item, writer)
         item.root = item if item.kind == LOAD else item.youngest_root
         if not item.awaits and item.kind not in AT_ONCE:
             item.ready = self.cycle + 1
@@ -449,13 +460,9 @@ class Pipeline:
 
 
 def add_source(item, writer):
-    """A source of an entry, by its writer, or none."""
-    if writer is None:
-        item.roots += (None,)
-        return
+    """A source of an entry, by its writer."""
     root = writer.root
     item.producers += (writer.number,)
-    item.roots += (root,)
     if root is not None and (item.youngest_root is None or root.serial > item.youngest_root.serial):
         item.youngest_root = root
     if writer.done is None:

@@ -21,6 +21,8 @@ cdef class Replay:
     cdef public bint asked, quiet, skips
     @cython.locals(pipeline=Pipeline, counted=cython.bint, told=cython.longlong, before=cython.longlong)
     cpdef step(self, Row row)
+    @cython.locals(item=Item, flight=list, number=cython.Py_ssize_t)
+    cpdef list gone(self)
     cpdef bint nothing_due(self, long long cycle) except? -1
     cpdef repeat(self, long long cycle)
     @cython.locals(pipeline=Pipeline, cycle=cython.longlong, squashed=cython.bint, violated=Item, fetched=list, words=list)

@@ -18,7 +18,8 @@ class Replay:
 
     Another tool may give a pipeline that keeps more of the run. What is counted of cycles is counted of those of the span, from the first
     to the last; `occupancy` is kept where it is asked for. Where it isn't `asked` for reasons, events move the pipeline, and nothing is
-    explained, checked or counted.
+    explained, checked or counted. What would grow with the run, the stalls of rename and the lines that come, isn't kept where `only_counts`
+    says so.
     """
 
     def __init__(self, trace, image, description, pipeline=None, span=(1, None), asked=True):
@@ -43,10 +44,7 @@ class Replay:
                 break
             self.step(row)
             ends = row.ends
-            while flight and (flight[0].retired is not None or flight[0].squashed is not None):
-                item = flight.pop(0)
-                item.forget()
-                yield item
+            yield from self.gone()
         self.end(self.trace.end)
         for item in flight:
             if item.open is not None:
@@ -55,18 +53,28 @@ class Replay:
 
     def end(self, end):
         """What the last line says: the counts, and that the oldest entry traps."""
+        if self.occupancy is not None:
+            self.occupancy.sum_up()
         if self.asked:
             self.checks.end(end, self.retired)
         if end and end.how.startswith("trap") and self.pipeline.window:
             self.pipeline.window[0].trapped = self.pipeline.cycle
 
     def gone(self):
-        """Lets go of the instructions that have retired or were squashed, as all before them, and gives them."""
-        flight = self.pipeline.flight
-        while flight and flight[0].gone is not None:
-            item = flight.pop(0)
+        """Lets go of the instructions that have retired or were squashed, as all before them, and answers them."""
+        flight, number = self.pipeline.flight, 0
+        for item in flight:
+            if item.retired is None and item.squashed is None:
+                break
             item.forget()
-            yield item
+            number += 1
+        gone = flight[:number]
+        del flight[:number]
+        return gone
+
+    def only_counts(self):
+        """From now on nothing is kept that grows with the run."""
+        self.front.stalls = self.pipeline.fills = None
 
     def step(self, row):
         """One cycle."""
