@@ -26,7 +26,7 @@ class Checks:
         """An entry is Done in the cycle that its issue told, unless it was squashed; oldest first."""
         due = self.due.pop(self.pipeline.cycle, [])
         if items != due:
-            due = sorted((item for item in due if item.squashed is None), key=BY_AGE)
+            due = sorted([item for item in due if item.squashed is None], key=BY_AGE)
         if items != due:
             self.tell(f"entries {[item.serial for item in items]} are done, {[item.serial for item in due]} are due")
 

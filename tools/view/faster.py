@@ -11,8 +11,8 @@ import sys
 # from so many bytes of traces on it is worth while: PyPy is slower at first
 LARGE, LARGE_PACKED = 20_000_000, 4_000_000
 DECIDED = "VIEW_PYTHON"
-# where PyPy lets new objects begin: as much as it takes by itself, some hundred MB, is slower and is no small memory
-NURSERY = {"PYPY_GC_NURSERY": "4M"}
+# where PyPy lets new objects begin: with less it is slower, and as much as it takes by itself, some hundred MB, is no small memory
+NURSERY = {"PYPY_GC_NURSERY": "24M"}
 
 TOOLS = os.path.dirname(os.path.dirname(os.path.realpath(__file__)))
 # the modules that are compiled, by package; each has its types beside it

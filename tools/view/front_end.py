@@ -1,6 +1,4 @@
 """Why rename or fetch stops short of the width (docs/machine.md, "Rename" and "Fetch")."""
-from collections import Counter
-
 from .instruction import AT_ONCE, CALL, LOAD, STOP, STORE
 
 REORDER_BUFFER, CALL_IN_FLIGHT, LOADS, STORES, CALL_ALONE, STATIONS = (
@@ -29,12 +27,12 @@ class FrontEnd:
         self.pipeline, self.tell, description = pipeline, tell, pipeline.description
         self.width, self.rob, self.stations = description.fetch_width, description.rob, description.stations
         self.loads, self.stores, self.room = description.loads, description.stores, description.queue
-        self.rename, self.fetch, self.stalls = Counter(), Counter(), []
+        self.rename, self.fetch, self.stalls = {}, {}, []
         self.fetching, self.last_rename, self.last_fetch = True, None, None
 
     def count(self, counter, reason):
         if self.pipeline.counts:
-            counter[reason] += 1
+            counter[reason] = counter.get(reason, 0) + 1
 
     def repeat(self, cycle):
         """A cycle in which nothing happens, as in the one before: both stop short as they did."""

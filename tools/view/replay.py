@@ -225,8 +225,9 @@ class Replay:
         items = [self.pipeline.entry(step[0]) for step in steps]
         if self.asked:
             self.check_issue(steps, items)
-        for item, step in zip(items, steps):
-            self.pipeline.issue(item, step)
+        for place in range(len(steps)):
+            item = items[place]
+            self.pipeline.issue(item, steps[place])
             if self.asked:
                 self.checks.issued(item)
                 if item.waits or item.kind == DIVISION:
@@ -237,14 +238,16 @@ class Replay:
     def check_issue(self, steps, items):
         """Whether what issues may, before any of it does."""
         told = {}
-        for item, step in zip(items, steps):
-            told[item.serial] = (*told.get(item.serial, ()), step[0][0])
+        for place in range(len(steps)):
+            item, name = items[place], steps[place][0][0]
+            told[item.serial] = told[item.serial] + (name,) if item.serial in told else (name,)
             if item.open is not None:
                 self.reasons.rouse(item)
         self.reasons.issue(told)
         if len(steps) > 1:
             self.checks.order(steps)
-        for item, step in zip(items, steps):
+        for place in range(len(steps)):
+            item, step = items[place], steps[place]
             name = step[0][0]
             if EVENT_OF.get(item.kind, "alu") != name:
                 self.checks.unit(item, name)

@@ -122,8 +122,8 @@ def per_thousand(number, retired):
 
 def executed(counts, unit):
     """How many issued so, and how many of them didn't retire."""
-    wrong = counts.wrong[unit]
-    return f"{counts.units[unit]}" + (f", not retired {wrong}" if wrong else "")
+    wrong = counts.wrong.get(unit, 0)
+    return f"{counts.units.get(unit, 0)}" + (f", not retired {wrong}" if wrong else "")
 
 
 def idle_lines(by_place, cycles):
@@ -160,7 +160,7 @@ def occupancy_lines(occupancy):
 def stall_lines(front):
     total = sum(number for reason, number in front.rename.items() if reason != QUEUE_EMPTY)
     yield f"\nrename stopped short of the width, with items in the queue, in {total} cycles"
-    yield from (f"{number:8}  {reason}" for reason, number in front.rename.most_common() if reason != QUEUE_EMPTY)
+    yield from (f"{number:8}  {reason}" for reason, number in Counter(front.rename).most_common() if reason != QUEUE_EMPTY)
 
 
 def cost_lines(idle, disassembler, most):
