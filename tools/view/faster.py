@@ -60,6 +60,12 @@ def is_large(name):
         return False
 
 
+def advise(words, screen=sys.stderr):
+    """Says on a terminal what makes long traces faster, where a word names one."""
+    if screen.isatty() and DECIDED not in os.environ and not from_index(words) and any(map(is_large, words)):
+        print('view: a long trace; `tools/compile` makes this some times as fast (docs/view.md, "Long traces")', file=screen)
+
+
 def by_pypy(script, words):
     """Goes on as PyPy where a word names a long trace; returns where nothing is gained."""
     pypy = shutil.which("pypy3")
