@@ -174,11 +174,11 @@ def traces(case, texts):
 
 def transmitters(telling, texts):
     """What was held on the differing bytes, and what showed them."""
-    yield from limited(row("held", f"{texts.place(pc)}: its {what}, {plural(len(held.items), 'time')}, "
+    yield from limited(row("held", f"{texts.place(pc)}: its {what}, {plural(held.times, 'time')}, "
                                    f"{plural(held.cycles, 'cycle')}, {afterwards(held)}")
                        for (pc, what), held in telling.held.items())
     if not telling.held:
-        yield row("held", "nothing on an operand made of the bytes that differ" + wrong_loads(telling.wrong_loads))
+        yield row("held", "nothing on an operand made of the bytes that differ" + wrong_loads(telling))
     yield from limited(row("shown", f"{texts.place(pc)}: its {what}, {plural(shown.times, 'time')}, first in cycle {shown.cycle}")
                        for (pc, what), shown in telling.shown.items())
 
@@ -194,17 +194,15 @@ def one_run(asked, texts):
 
 def afterwards(held):
     """What became of the entries that were held."""
-    items = held.items.values()
-    dropped = sum(item.squashed is not None for item in items)
-    retired = sum(item.retired is not None for item in items)
-    counts = [(dropped, "dropped"), (retired, "let go on"), (len(items) - dropped - retired, "in flight at the end")]
+    in_flight = held.times - held.dropped - held.retired
+    counts = [(held.dropped, "dropped"), (held.retired, "let go on"), (in_flight, "in flight at the end")]
     told = [(number, text) for number, text in counts if number]
     return "then " + (told[0][1] if len(told) == 1 else ", ".join(f"{number} {text}" for number, text in told))
 
 
-def wrong_loads(loads):
+def wrong_loads(telling):
     """How far wrong paths came, where nothing was held."""
-    if not loads:
+    times = sum(telling.wrong_loads.values())
+    if not times:
         return "; no wrong path loaded them"
-    done = sum(item.done is not None for item in loads)
-    return f"; wrong paths loaded them {plural(len(loads), 'time')}, and the value came {plural(done, 'time')} before all was dropped"
+    return f"; wrong paths loaded them {plural(times, 'time')}, and the value came {plural(telling.wrong_values, 'time')} before all was dropped"

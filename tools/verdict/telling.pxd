@@ -11,8 +11,11 @@ cdef class Telling(Replay):
     cdef public Valued valued
     cdef public Reasons rules
     cdef public bint thorough, was_empty
-    cdef public dict held, shown
-    cdef public list loads, held_now
+    cdef public dict held, shown, holding
+    cdef public object wrong_loads
+    cdef public long long wrong_values
+    cdef public set loads
+    cdef public list held_now
     cpdef step(self, Row row)
     @cython.locals(value=Value, source=Retired, place=cython.Py_ssize_t)
     cpdef bint hidden(self, Item item) except? -1

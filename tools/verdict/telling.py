@@ -7,7 +7,7 @@ address goes to the cache whether the store covers it or not, or waits as long a
 isn't cleared (docs/machine.md). An equal pair of traces is telling where something was held on an operand made of the differing bytes,
 or a load of these bytes was, and by taint alone; else it is vacuous. Under the defence `hold` the same is asked of what waits for nothing
 but results of loads that are held back."""
-from collections import namedtuple
+from collections import Counter, namedtuple
 
 from view.description import HOLD
 from view.instruction import BRANCH, CALL, DIVISION, JALR, LOAD, STORE
@@ -29,14 +29,11 @@ def arguments(number):
 
 
 class Held:
-    """An instruction that was held by taint on the differing bytes: which entries, and for how many cycles in all."""
+    """An instruction that was held by taint on the differing bytes: how many entries, for how many cycles in all, and how many of these
+    entries were dropped and how many retired."""
 
     def __init__(self):
-        self.items, self.cycles = {}, 0
-
-    def add(self, item):
-        self.cycles += 1
-        self.items[item.serial] = item
+        self.times = self.cycles = self.dropped = self.retired = 0
 
 
 class Shown(namedtuple("Shown", "times cycle")):
@@ -46,7 +43,9 @@ class Shown(namedtuple("Shown", "times cycle")):
 
 
 class Telling(Replay):
-    """`held` and `shown`, by an instruction's address and what of it shows; `loads` are the loads of differing bytes. Values are compared with
+    """`held` and `shown`, by an instruction's address and what of it shows; `wrong_loads` are the loads of differing bytes on wrong paths, by
+    their addresses, and `wrong_values` how many of their values came. `holding` are the entries in flight that were held, by their serials,
+    each with what it is counted in, and `loads` the serials of the loads of these bytes in flight. Values are compared with
     what the trace tells in any case; only where it is `thorough` also all that tools/view checks of a trace, and the reason of each wait. `rules`
     are the rules of docs/machine.md by which a load waits for stores."""
 
@@ -54,18 +53,19 @@ class Telling(Replay):
         self.valued = Valued(image, description, differing)
         super().__init__(trace, image, description, self.valued, asked=thorough)
         self.rules, self.thorough = Reasons(self.pipeline), thorough
-        self.held, self.shown, self.loads = {}, {}, []
-        self.held_now, self.was_empty, self.skips = [], False, False
-        for _ in self.items():
-            pass
+        self.held, self.shown, self.wrong_loads, self.wrong_values = {}, {}, Counter(), 0
+        self.holding, self.loads, self.held_now, self.was_empty, self.skips = {}, set(), [], False, False
+        self.only_counts()
+        for item in self.items():
+            self.went(item)
 
     def step(self, row):
         """One cycle. Behind a cycle without events another one changes nothing, and holds what that one held (docs/machine.md, "Cycles in
         which nothing happens")."""
         if self.was_empty and not row.events and not row.ends and not self.thorough:
             self.pipeline.cycle = row.cycle
-            for held, item in self.held_now:
-                held.add(item)
+            for held in self.held_now:
+                held.cycles += 1
             return
         self.held_now = []
         Replay.step(self, row)
@@ -73,10 +73,16 @@ class Telling(Replay):
             self.pipeline.awake.clear()
         self.was_empty = not row.events
 
-    @property
-    def wrong_loads(self):
-        """The loads of differing bytes on wrong paths."""
-        return [item for item in self.loads if item.squashed is not None]
+    def went(self, item):
+        """Counts what became of an entry that was held, or loaded the differing bytes."""
+        for held in self.holding.pop(item.serial, ()):
+            held.dropped += item.squashed is not None
+            held.retired += item.retired is not None
+        if item.serial in self.loads:
+            self.loads.remove(item.serial)
+            if item.squashed is not None:
+                self.wrong_loads[item.pc] += 1
+                self.wrong_values += item.done is not None
 
     def marked(self, item):
         """For each source, whether its value comes from the differing bytes."""
@@ -170,7 +176,7 @@ class Telling(Replay):
     def ready(self):
         """The entries that haven't issued and wait for no writer: loads, and what flows from loads."""
         found = []
-        for item in self.pipeline.waiting:
+        for item in self.pipeline.waiting.values():
             if not item.awaits and (item.youngest_root is not None or item.kind == LOAD):
                 found.append(item)
         return found
@@ -206,7 +212,7 @@ class Telling(Replay):
 
     def hold_back(self):
         """Counts what would show the bytes, and waits for results that are held back, and for nothing else."""
-        for item in self.pipeline.waiting:
+        for item in self.pipeline.waiting.values():
             if item.kind in SHOWS and self.is_held_back(item) and not self.is_kept(item):
                 what = self.would_show(item, [self.valued.prospect(source) for source in self.valued.values[item.serial].sources])
                 if what is not None:
@@ -242,7 +248,7 @@ class Telling(Replay):
         """A load that issues: what it shows, what it loads, and which stores it goes to the cache for, covered or not."""
         self.shows(item, self.marked(item)[0])
         if self.valued.loads_marked(item):
-            self.loads.append(item)
+            self.loads.add(item.serial)
         for store in self.valued.stores_in_flight if accesses else ():
             if store.serial < item.serial and self.hidden_source(store, 0):
                 self.holds(store, BEFORE_A_LOAD)
@@ -250,9 +256,15 @@ class Telling(Replay):
     # ---- Counting
 
     def holds(self, item, what):
-        held = self.held.setdefault((item.pc, what), Held())
-        held.add(item)
-        self.held_now.append((held, item))
+        held = self.held.get((item.pc, what))
+        if held is None:
+            held = self.held[item.pc, what] = Held()
+        counted = self.holding.setdefault(item.serial, [])
+        if held not in counted:
+            counted.append(held)
+            held.times += 1
+        held.cycles += 1
+        self.held_now.append(held)
 
     def shows(self, item, marked, what=None):
         if marked:

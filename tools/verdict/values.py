@@ -59,8 +59,8 @@ class Value(Retired):
 
 
 def text(events):
-    """Events, by their words."""
-    return " ".join(":".join(words) for words in events)
+    """What events tell behind their serials: how long a division takes, or a line and how it is found, or a letter alone."""
+    return " ".join(f"{words[0]:08x}:{words[1]}" if len(words) == 2 else "".join(map(str, words)) for words in events)
 
 
 class Valued(Pipeline):
@@ -176,7 +176,7 @@ class Valued(Pipeline):
         """What the events of its issue tell behind the serial: how a load finds a line is for others to say."""
         value = self.values[item.serial]
         if item.code.kind == DIVISION:
-            return [[str(division_time(value.operation.name, value.sources[0].result or 0))]]
+            return [[division_time(value.operation.name, value.sources[0].result or 0)]]
         if item.code.kind != LOAD:
             return [[]]
         if self.located(item).fault is not None:
@@ -184,7 +184,7 @@ class Valued(Pipeline):
         if step[0][-1] == "f":
             return [["f"]]
         found = [words[-1] for words in step if words[0] != PREFETCH] + [""]
-        return [[f"{line:08x}", how] for line, how in zip(self.lines_of(value), found)]
+        return [[line, how] for line, how in zip(self.lines_of(value), found)]
 
     # ---- What is asked of addresses
 

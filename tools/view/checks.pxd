@@ -8,6 +8,10 @@ cdef class Checks:
     cdef public object tell
     cdef public dict due
     cpdef fill(self, list lines)
+    @cython.locals(item=Item)
+    cpdef complete(self, list items)
+    @cython.locals(last=cython.longlong, place=cython.longlong, step=list)
+    cpdef order(self, list steps)
     cpdef resolve(self, Item item, list names_told)
     cpdef retired(self, Item item)
     cpdef issued(self, Item item)

@@ -1,6 +1,7 @@
 """Whether what happens is what the machine's rules ask for: when lines come, when results are there, what loads find."""
 from .instruction import BRANCH, CALL, LOAD, STORE
 from .pipeline import ADDRESS_PART, BY_AGE, DATA_PART, PREFETCH, lines_of
+from .rows import text_of
 
 # the event of an entry's issue by its kind, where it isn't `alu`
 EVENT_OF = {"load": "ld", "store": "agu", "multiplication": "mul", "division": "div"}
@@ -25,7 +26,7 @@ class Checks:
         """An entry is Done in the cycle that its issue told, unless it was squashed; oldest first."""
         due = self.due.pop(self.pipeline.cycle, [])
         if items != due:
-            due = sorted((item for item in due if item.squashed is None), key=BY_AGE)
+            due = sorted([item for item in due if item.squashed is None], key=BY_AGE)
         if items != due:
             self.tell(f"entries {[item.serial for item in items]} are done, {[item.serial for item in due]} are due")
 
@@ -53,9 +54,9 @@ class Checks:
             right = ", ".join(f"load {load.serial}" for load in likely if load is not None) or "none"
             self.tell(f"store {store.serial} is cleared and {told} violated, where {right} may be")
         if violated is not None and self.pipeline.description.depend:
-            right = ["dp", str(self.pipeline.bit_of(violated)), "1"]
+            right = ["dp", self.pipeline.bit_of(violated), 1]
             if events[2] != right:
-                self.tell(f"load {violated.serial} is violated with {':'.join(events[2])}, where {':'.join(right)} is right")
+                self.tell(f"load {violated.serial} is violated with {text_of(events[2])}, where {text_of(right)} is right")
 
     @staticmethod
     def passed(load, store):
@@ -83,12 +84,13 @@ class Checks:
 
     def order(self, steps):
         """Entries issue oldest first, the address part of a store before its data part."""
-        if len(steps) < 2:
-            return
-        places = [2 * int(step[0][1]) + (step[0][0] == DATA_PART) for step in steps]
-        if places != sorted(places):
-            told = " ".join(":".join(words) for step in steps for words in step)
-            self.tell(f"the events of Issue don't go from the oldest entry on: {told}")
+        last = -1
+        for step in steps:
+            place = 2 * step[0][1] + (step[0][0] == DATA_PART)
+            if place < last:
+                self.tell(f"the events of Issue don't go from the oldest entry on: {' '.join(map(text, steps))}")
+                return
+            last = place
 
     def access(self, item, step):
         """What a load finds: each of its lines is in the cache, on its way, or neither, and then a register is free.
@@ -107,8 +109,7 @@ class Checks:
         cycle, needed = item.lacking
         taken = [line for line, answer in lines if answer in TAKES]
         if answer != "f" and cycle == pipeline.cycle - 1 and len(taken) < needed:
-            told = " ".join(":".join(words) for words in step)
-            self.tell(f"load {item.serial}: `{told}`, but in the cycle before it waited for " + register_names(needed))
+            self.tell(f"load {item.serial}: `{text(step)}`, but in the cycle before it waited for " + register_names(needed))
         for line, answer in lines:
             found = self.found(line)
             if found != answer:
@@ -141,9 +142,9 @@ class Checks:
             line = lines_of(step)[-1][0] + description.line
             found, left = self.found(line), description.mshrs - len(pipeline.misses) - len(taken)
             if line < description.base + description.size and found in TAKES and left > 0:
-                expected = [[PREFETCH, f"{line:08x}", found]]
+                expected = [[PREFETCH, line, found]]
         if told != expected:
-            texts = [" ".join(":".join(words) for words in events) or "nothing" for events in (told, expected)]
+            texts = [text(events) or "nothing" for events in (told, expected)]
             self.tell(f"load {item.serial} prefetches {texts[0]}, where {texts[1]} is right")
 
     def older_stores(self, item):
@@ -163,6 +164,10 @@ class Checks:
     def squash(self, told, dropped):
         if told != dropped:
             self.tell(f"{told} entries and items are said to be dropped, {dropped} are")
+
+
+def text(events):
+    return " ".join(map(text_of, events))
 
 
 def register_names(number):

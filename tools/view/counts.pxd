@@ -5,7 +5,8 @@ from view.pipeline cimport Item, Wait
 
 cdef class Counts:
     cdef public long long fetched, renamed, squashed, retired, output, two_lines, cleared
-    cdef public object units, wrong, resolved, mispredicted, stores, held, held_cycles, held_dropped, passed, violated, waited
+    cdef public dict units, wrong
+    cdef public object resolved, mispredicted, stores, held, held_cycles, held_dropped, passed, violated, waited
     @cython.locals(retired=cython.bint)
     cpdef add(self, Item item)
     cpdef add_resolved(self, Item item)

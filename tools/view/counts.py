@@ -17,7 +17,7 @@ class Counts:
 
     def __init__(self):
         self.fetched = self.renamed = self.squashed = self.retired = 0
-        self.units, self.wrong = Counter(), Counter()
+        self.units, self.wrong = {}, {}
         self.resolved, self.mispredicted = Counter(), Counter()
         self.stores, self.output, self.two_lines = Counter(), 0, 0
         self.held, self.held_cycles, self.held_dropped = Counter(), Counter(), Counter()
@@ -70,7 +70,7 @@ class Counts:
     @property
     def misses(self):
         """The loads that found a line neither in the first level nor on its way."""
-        return self.units["miss"] + self.units["second"]
+        return self.units.get("miss", 0) + self.units.get("second", 0)
 
     def add_held(self, item):
         """The cycles in which only the defence kept it from issuing, from being resolved or from being cleared."""

@@ -77,7 +77,7 @@ class Panel:
         self.subtitle += f", all in <{self.only}>" if self.only else ""
         self.subtitle += f", the first {MOST_ROWS} instructions; the next is fetched in cycle {more.fetched}" if more is not None else ""
         self.last = min(last, pipeline.cycle)
-        self.fills = [(cycle, line) for cycle, line, _ in pipeline.fills if first <= cycle <= self.last]
+        self.fills = [(cycle, line) for cycle, line in pipeline.fills if first <= cycle <= self.last]
         self.labels = [self.label(item) for item in self.items]
         widest = max([len(label) for label in self.labels] + [len(self.title), 20])
         self.label_width = widest * CHARACTER + SERIAL + 2 * MARGIN

@@ -11,8 +11,8 @@ import sys
 # from so many bytes of traces on it is worth while: PyPy is slower at first
 LARGE, LARGE_PACKED = 20_000_000, 4_000_000
 DECIDED = "VIEW_PYTHON"
-# where PyPy lets new objects begin: as much as it takes by itself, some hundred MB, is slower and is no small memory
-NURSERY = {"PYPY_GC_NURSERY": "4M"}
+# where PyPy lets new objects begin: with less it is slower, and as much as it takes by itself, some hundred MB, is no small memory
+NURSERY = {"PYPY_GC_NURSERY": "24M"}
 
 TOOLS = os.path.dirname(os.path.dirname(os.path.realpath(__file__)))
 # the modules that are compiled, by package; each has its types beside it
@@ -58,6 +58,12 @@ def is_large(name):
         return os.path.isfile(name) and os.path.getsize(name) > (LARGE_PACKED if name.endswith(".gz") else LARGE)
     except OSError:
         return False
+
+
+def advise(words, screen=sys.stderr):
+    """Says on a terminal what makes long traces faster, where a word names one."""
+    if screen.isatty() and DECIDED not in os.environ and not from_index(words) and any(map(is_large, words)):
+        print('view: a long trace; `tools/compile` makes this some times as fast (docs/view.md, "Long traces")', file=screen)
 
 
 def by_pypy(script, words):

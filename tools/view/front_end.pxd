@@ -10,11 +10,12 @@ cdef class Stall:
 
 cdef class FrontEnd:
     cdef public Pipeline pipeline
-    cdef public object tell, rename, fetch, last_rename, last_fetch
+    cdef public object tell, last_rename, last_fetch
+    cdef public dict rename, fetch
     cdef public long long width, rob, stations, loads, stores, room
     cdef public list stalls
     cdef public bint fetching
-    cpdef count(self, counter, reason)
+    cpdef count(self, dict counter, reason)
     @cython.locals(stall=Stall)
     cpdef repeat(self, long long cycle)
     @cython.locals(pipeline=Pipeline, kind=str, first=Item)

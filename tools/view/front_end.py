@@ -1,6 +1,4 @@
 """Why rename or fetch stops short of the width (docs/machine.md, "Rename" and "Fetch")."""
-from collections import Counter
-
 from .instruction import AT_ONCE, CALL, LOAD, STOP, STORE
 
 REORDER_BUFFER, CALL_IN_FLIGHT, LOADS, STORES, CALL_ALONE, STATIONS = (
@@ -21,19 +19,20 @@ class Stall:
 class FrontEnd:
     """Looks at each renaming before it is applied, and at the queue behind the two phases; `tell` gets what no rule explains.
 
-    `rename` and `fetch` count the cycles in which they stopped short, by reason; `stalls` are those of rename by their cycles.
+    `rename` and `fetch` count the cycles in which they stopped short, by reason; `stalls` are those of rename by their cycles; they may be
+    none.
     """
 
     def __init__(self, pipeline, tell):
         self.pipeline, self.tell, description = pipeline, tell, pipeline.description
         self.width, self.rob, self.stations = description.fetch_width, description.rob, description.stations
         self.loads, self.stores, self.room = description.loads, description.stores, description.queue
-        self.rename, self.fetch, self.stalls = Counter(), Counter(), []
+        self.rename, self.fetch, self.stalls = {}, {}, []
         self.fetching, self.last_rename, self.last_fetch = True, None, None
 
     def count(self, counter, reason):
         if self.pipeline.counts:
-            counter[reason] += 1
+            counter[reason] = counter.get(reason, 0) + 1
 
     def repeat(self, cycle):
         """A cycle in which nothing happens, as in the one before: both stop short as they did."""
@@ -99,6 +98,8 @@ class FrontEnd:
         return reason
 
     def keep_stall(self, reason, pc):
+        if self.stalls is None:
+            return
         last, cycle = self.stalls[-1] if self.stalls else None, self.pipeline.cycle
         if last is not None and last.last == cycle - 1 and last.reason == reason and last.pc == pc:
             last.last = cycle

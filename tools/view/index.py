@@ -19,10 +19,10 @@ from .trace import Trace, lines_of_file, open_trace
 
 EVERY = 4000
 # which values a state has: another number where they change, so that an index of before isn't used
-FORM = 2
+FORM = 3
 HEAD = "head.json"
 CLASSES = {
-    "collections": {"deque", "Counter", "OrderedDict"}, "view.pipeline": {"Pipeline", "Item", "Wait"},
+    "collections": {"Counter", "OrderedDict"}, "view.pipeline": {"Pipeline", "Item", "Wait"},
     "view.memory_side": {"Cache", "Divider", "Miss"}, "view.instruction": {"Instruction"}, "view.description": {"Description"},
     "view.reasons": {"Reasons"}, "view.front_end": {"FrontEnd", "Stall"}, "view.checks": {"Checks"}, "view.slots": {"Slots", "Late"},
     "view.replay": {"Replay"}}
@@ -89,7 +89,8 @@ def write(replay, image, description, name, told):
 def state_of(replay, image):
     """The state of a run: what only grows is left behind."""
     pipeline = replay.pipeline
-    pipeline.fills, pipeline.prefetches, replay.front.stalls = [], [], []
+    pipeline.fills, replay.front.stalls = [], []
+    pipeline.filled = pipeline.dropped = pipeline.prefetched = pipeline.from_second = 0
     replay.reasons.unexplained, replay.slots.lost, replay.slots.retired, replay.slots.cycles = [], {}, {}, 0
     for counted in (replay.reasons.idle, replay.front.rename, replay.front.fetch):
         counted.clear()

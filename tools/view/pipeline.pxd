@@ -31,18 +31,21 @@ cpdef enter(list entries, Item item)
 
 
 cdef class Pipeline:
-    cdef public object image, description, last_squash, queue, window, flight
+    cdef public object image, description
+    cdef public Item last_squash
+    cdef public long long filled, dropped, prefetched, from_second
     cdef public long long cycle, version, depend, hit_latency, mul_latency, count, loads, stores, charged
     cdef public bint futuristic, spectre, counts
-    cdef public dict serials, dues, misses, learnt, codes
-    cdef public list waiting, awake, open_stores, shadows, controls, outcomes, clearable, writers, fills, prefetches
+    cdef public dict serials, dues, misses, learnt, codes, waiting
+    cdef public list queue, window, flight, awake, open_stores, shadows, controls, outcomes, clearable, writers, fills
     cdef public Cache cache, second
     cdef public Divider divider
     @cython.locals(first=Item)
     cpdef bint is_hidden(self, Item root) except? -1
+    @cython.locals(item=Item)
     cpdef Item entry(self, list words)
     @cython.locals(miss=Miss)
-    cpdef fill(self, long long line)
+    cpdef fill(self, line)
     @cython.locals(consumer=Item)
     cpdef complete(self, Item item)
     cpdef bint faults(self, Item item) except? -1

@@ -3,13 +3,13 @@
 This module does what the events say; whether they are what the machine's rules ask for is the matter of `reasons` and
 `checks`. The words are those of docs/machine.md.
 """
-from collections import deque
 from operator import attrgetter
 
 from . import Fault
 from .description import FUTURISTIC, SPECTRE
 from .instruction import AT_ONCE, CALL, CONTROLS, LOAD, STORE
 from .memory_side import Cache, Divider, Miss
+from .rows import text_of
 
 NEVER = 1 << 62
 BY_AGE = attrgetter("serial")
@@ -121,11 +121,13 @@ class Pipeline:
     """The machine's state, as far as a trace tells it. `misses` are the miss registers that are taken, by their lines, and `learnt` the
     bits of dependence that are set, each with the cycle in which it was.
 
-    `waiting` are the entries that haven't issued, by age, and `awake` those of them that don't wait for a writer alone; `open_stores` the
-    stores that aren't Done, and `shadows` the
+    `waiting` are the entries that haven't issued, by their serials and so by age, and `awake` those of them that don't wait for a writer
+    alone; `open_stores` the stores that aren't Done, and `shadows` the
     entries that keep younger ones from being visible: what stands behind the first of them isn't. `outcomes` are the branches and JALRs
     that are Done and not resolved, `clearable` the stores of known address that aren't cleared. `dues` are the lines that are to come, by
-    their cycles. In the cycles that are looked at `counts` is set, and what is counted of cycles is counted.
+    their cycles. In the cycles that are looked at `counts` is set, and what is counted of cycles is counted: `filled` are the lines that
+    came, `dropped` those that went for them, `prefetched` and `from_second` the lines that are prefetched and those of them from the second
+    level. `fills` has the lines that came by their cycles; it may be none.
     """
 
     def __init__(self, image, description):
@@ -135,8 +137,8 @@ class Pipeline:
         self.hit_latency, self.mul_latency = description.hit_latency, description.mul_latency
         self.cycle = self.count = 0
         self.codes = {}
-        self.queue, self.window, self.flight, self.serials = deque(), deque(), deque(), {}
-        self.waiting, self.awake, self.open_stores, self.shadows = [], [], [], []
+        self.queue, self.window, self.flight, self.serials = [], [], [], {}
+        self.waiting, self.awake, self.open_stores, self.shadows = {}, [], [], []
         self.controls, self.outcomes, self.clearable = [], [], []
         self.dues = {}
         self.writers = [None] * 32
@@ -145,7 +147,8 @@ class Pipeline:
         self.second = Cache(description.line, description.second_sets, description.second_ways)
         self.divider, self.misses = Divider(), {}
         self.learnt, self.charged, self.counts = {}, 0, True
-        self.fills, self.prefetches, self.last_squash = [], [], None
+        self.filled = self.dropped = self.prefetched = self.from_second = 0
+        self.fills, self.last_squash = [], None
 
     @property
     def point(self):
@@ -161,16 +164,21 @@ class Pipeline:
 
     def entry(self, words):
         """The entry in flight of an event's serial."""
-        try:
-            return self.serials[int(words[1])]
-        except (KeyError, ValueError):
-            raise Fault(f"cycle {self.cycle}: `{':'.join(words)}` is of no entry in flight") from None
+        item = self.serials.get(words[1])
+        if item is None:
+            raise Fault(f"cycle {self.cycle}: `{text_of(words)}` is of no entry in flight")
+        return item
 
     # ---- Fill and Complete
 
     def fill(self, line):
         miss = self.misses.pop(line, None)
-        self.fills.append((self.cycle, line, self.cache.fill(line)))
+        dropped = self.cache.fill(line)
+        if self.counts:
+            self.filled += 1
+            self.dropped += dropped is not None
+        if self.fills is not None:
+            self.fills.append((self.cycle, line))
         if miss and miss.from_memory:
             self.second.fill(line)
 
@@ -257,8 +265,9 @@ class Pipeline:
             if gone.open is not None:
                 gone.wake(self.cycle)
             if gone.serial is not None:
+                self.waiting.pop(gone.serial, None)
                 self.leave(gone)
-        for entries in (self.waiting, self.awake, self.open_stores, self.shadows, self.controls, self.outcomes, self.clearable):
+        for entries in (self.awake, self.open_stores, self.shadows, self.controls, self.outcomes, self.clearable):
             while entries and entries[-1].serial >= serial:
                 entries.pop()
         self.divider.drop_from(serial)
@@ -289,7 +298,7 @@ class Pipeline:
     def retire(self, item):
         if not self.window or self.window[0] is not item:
             raise Fault(f"cycle {self.cycle}: ret:{item.serial} is not of the oldest entry")
-        self.window.popleft()
+        self.window.pop(0)
         item.retired = self.cycle
         self.leave(item)
         if item.kind == STORE:
@@ -312,18 +321,18 @@ class Pipeline:
         """The entry begins to execute; `due` is when it will be done. A step is its events: one, but of a load one for each line, and
         that of what is prefetched behind them."""
         words = step[0]
-        if item.issued is not None or item not in self.waiting or words[0] in item.parts:
-            raise Fault(f"cycle {self.cycle}: `{':'.join(words)}` is of an entry that doesn't wait")
+        if item.serial not in self.waiting or words[0] in item.parts:
+            raise Fault(f"cycle {self.cycle}: `{text_of(words)}` is of an entry that doesn't wait")
         if words[0] in PARTS:
             self.issue_parts(item, words[0])
             return
-        self.waiting.remove(item)
+        del self.waiting[item.serial]
         item.issued, item.unit = self.cycle, words[0]
         if words[0] == "ld":
             item.passed = bool(self.open_stores) and self.passes_a_store(item)
             self.access(item, step)
         elif words[0] == "div":
-            item.due = self.cycle + int(words[-1])
+            item.due = self.cycle + words[-1]
             self.divider.take(item, item.due)
         else:
             item.due = self.cycle + (self.mul_latency if words[0] == "mul" else 1)
@@ -338,7 +347,7 @@ class Pipeline:
         if self.depend and name == ADDRESS_PART and item.kind == STORE and item.cleared is None:
             enter(self.clearable, item)
         if len(item.parts) == len(PARTS):
-            self.waiting.remove(item)
+            del self.waiting[item.serial]
             item.issued, item.unit, item.due = self.cycle, ADDRESS_PART, self.cycle + 1
 
     @staticmethod
@@ -359,9 +368,11 @@ class Pipeline:
         item.due = max(dues)
         item.unit = LOAD_UNITS[step[dues.index(item.due)][-1]]
         if step[-1][0] == PREFETCH:
-            line, answer = int(step[-1][1], 16), step[-1][2]
+            _, line, answer = step[-1]
             self.take(line, answer)
-            self.prefetches.append((self.cycle, line, answer))
+            if self.counts:
+                self.prefetched += 1
+                self.from_second += answer == "2"
 
     def look(self, line, answer):
         """When a line is there that was found so."""
@@ -387,7 +398,7 @@ class Pipeline:
         """The front of the queue goes behind the youngest entry."""
         if not self.queue or self.queue[0].pc != pc:
             raise Fault(f"cycle {self.cycle}: ren:{serial}:{pc:08x} is not of the front of the queue")
-        item = self.queue.popleft()
+        item = self.queue.pop(0)
         item.serial, item.renamed = serial, self.cycle
         self.find_sources(item)
         self.window.append(item)
@@ -401,11 +412,12 @@ class Pipeline:
         """The writers of its sources, the roots of these, and how many aren't Done."""
         writers = self.writers
         item.sources = sources = tuple([writers[register] for register in item.registers])
+        item.roots = NO_ROOTS[len(sources)]
         if sources and (sources[0] is not None or sources[-1] is not None):
+            item.roots = tuple([None if writer is None else writer.root for writer in sources])
             for writer in sources:
-                add_source(item, writer)
-        else:
-            item.roots = NO_ROOTS[len(sources)]
+                if writer is not None:
+                    add_source(item, writer)
         item.root = item if item.kind == LOAD else item.youngest_root
         if not item.awaits and item.kind not in AT_ONCE:
             item.ready = self.cycle + 1
@@ -420,7 +432,7 @@ class Pipeline:
         elif kind in CONTROLS:
             self.controls.append(item)
         if kind not in AT_ONCE:
-            self.waiting.append(item)
+            self.waiting[item.serial] = item
             self.awake.append(item)
         if self.hides(item):
             self.shadows.append(item)
@@ -448,13 +460,9 @@ class Pipeline:
 
 
 def add_source(item, writer):
-    """A source of an entry, by its writer, or none."""
-    if writer is None:
-        item.roots += (None,)
-        return
+    """A source of an entry, by its writer."""
     root = writer.root
     item.producers += (writer.number,)
-    item.roots += (root,)
     if root is not None and (item.youngest_root is None or root.serial > item.youngest_root.serial):
         item.youngest_root = root
     if writer.done is None:
@@ -465,7 +473,7 @@ def add_source(item, writer):
 
 def lines_of(step):
     """The lines of a load, each with the letter of what it found; none where it faults or is forwarded."""
-    return tuple((int(words[2], 16), words[3]) for words in step if len(words) == 4)
+    return tuple([(words[2], words[3]) for words in step if len(words) == 4])
 
 
 def is_wide(word):

@@ -23,7 +23,7 @@ cdef class Reasons:
     cpdef issue(self, dict issued)
     @cython.locals(cause=Item)
     cpdef renamed(self, Item item)
-    cpdef rouse(self, Item item, long long cycle)
+    cpdef rouse(self, Item item)
     @cython.locals(cause=Item)
     cpdef bint issue_whole(self, Item item, bint goes, long long cycle) except? -1
     cpdef bint is_held_back(self, Item writer) except? -1

@@ -108,8 +108,6 @@ class Reasons:
         """Each entry that may issue does, oldest first, as long as its port is left. `issued` has the names of the events of each
         serial."""
         pipeline, cycle = self.pipeline, self.pipeline.cycle
-        for serial in issued:
-            self.rouse(pipeline.serials.get(serial), cycle)
         if not pipeline.awake:
             return
         self.issued = issued
@@ -138,11 +136,10 @@ class Reasons:
         item.sleep()
         self.pipeline.awake.pop()
 
-    def rouse(self, item, cycle):
+    def rouse(self, item):
         """An entry issues that was known to wait: it is looked at as any other."""
-        if item is not None and item.open is not None:
-            item.wake(cycle)
-            enter(self.pipeline.awake, item)
+        item.wake(self.pipeline.cycle)
+        enter(self.pipeline.awake, item)
 
     def issue_whole(self, item, goes, cycle):
         """What issues in one piece. Answers whether it has to be looked at in the next cycle too."""

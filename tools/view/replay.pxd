@@ -19,8 +19,10 @@ cdef class Replay:
     cdef public tuple span
     cdef public long long retired, width
     cdef public bint asked, quiet, skips
-    @cython.locals(pipeline=Pipeline, phases=tuple, counted=cython.bint, told=cython.longlong)
+    @cython.locals(pipeline=Pipeline, counted=cython.bint, told=cython.longlong, before=cython.longlong)
     cpdef step(self, Row row)
+    @cython.locals(item=Item, flight=list, number=cython.Py_ssize_t)
+    cpdef list gone(self)
     cpdef bint nothing_due(self, long long cycle) except? -1
     cpdef repeat(self, long long cycle)
     @cython.locals(pipeline=Pipeline, cycle=cython.longlong, squashed=cython.bint, violated=Item, fetched=list, words=list)
@@ -38,10 +40,10 @@ cdef class Replay:
     cpdef retire(self, list events, bint ends)
     @cython.locals(item=Item)
     cpdef after_retire(self, list retired, bint ends)
-    @cython.locals(steps=list, step=list, item=Item)
+    @cython.locals(steps=list, items=list, item=Item, place=cython.Py_ssize_t)
     cpdef issue(self, list events)
-    @cython.locals(told=dict, step=list, words=list, item=Item, name=str)
-    cpdef check_issue(self, list steps)
+    @cython.locals(told=dict, step=list, item=Item, name=str, place=cython.Py_ssize_t)
+    cpdef check_issue(self, list steps, list items)
     cpdef close(self)
     @cython.locals(words=list, steps=list, last=list)
     cpdef list steps(self, list events)

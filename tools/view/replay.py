@@ -5,7 +5,7 @@ from .front_end import FrontEnd
 from .instruction import CALL, DIVISION, STORE
 from .pipeline import PREFETCH, Pipeline
 from .reasons import Reasons
-from .rows import CLEAR, COMPLETE, FETCH, FILL, ISSUE, RENAME, RESOLVE, RETIRE
+from .rows import CLEAR, COMPLETE, FETCH, FILL, ISSUE, RENAME, RESOLVE, RETIRE, text_of
 from .slots import Slots
 
 LOAD_EVENTS = ("ld", PREFETCH)
@@ -18,7 +18,8 @@ class Replay:
 
     Another tool may give a pipeline that keeps more of the run. What is counted of cycles is counted of those of the span, from the first
     to the last; `occupancy` is kept where it is asked for. Where it isn't `asked` for reasons, events move the pipeline, and nothing is
-    explained, checked or counted.
+    explained, checked or counted. What would grow with the run, the stalls of rename and the lines that come, isn't kept where `only_counts`
+    says so.
     """
 
     def __init__(self, trace, image, description, pipeline=None, span=(1, None), asked=True):
@@ -43,10 +44,7 @@ class Replay:
                 break
             self.step(row)
             ends = row.ends
-            while flight and (flight[0].retired is not None or flight[0].squashed is not None):
-                item = flight.popleft()
-                item.forget()
-                yield item
+            yield from self.gone()
         self.end(self.trace.end)
         for item in flight:
             if item.open is not None:
@@ -55,18 +53,28 @@ class Replay:
 
     def end(self, end):
         """What the last line says: the counts, and that the oldest entry traps."""
+        if self.occupancy is not None:
+            self.occupancy.sum_up()
         if self.asked:
             self.checks.end(end, self.retired)
         if end and end.how.startswith("trap") and self.pipeline.window:
             self.pipeline.window[0].trapped = self.pipeline.cycle
 
     def gone(self):
-        """Lets go of the instructions that have retired or were squashed, as all before them, and gives them."""
-        flight = self.pipeline.flight
-        while flight and flight[0].gone is not None:
-            item = flight.popleft()
+        """Lets go of the instructions that have retired or were squashed, as all before them, and answers them."""
+        flight, number = self.pipeline.flight, 0
+        for item in flight:
+            if item.retired is None and item.squashed is None:
+                break
             item.forget()
-            yield item
+            number += 1
+        gone = flight[:number]
+        del flight[:number]
+        return gone
+
+    def only_counts(self):
+        """From now on nothing is kept that grows with the run."""
+        self.front.stalls = self.pipeline.fills = None
 
     def step(self, row):
         """One cycle."""
@@ -76,15 +84,15 @@ class Replay:
         if self.quiet and not row.events and not row.ends and counted == pipeline.counts and self.nothing_due(row.cycle):
             self.repeat(row.cycle)
             return
-        phases = row.phases()
+        before = self.retired
         try:
-            self.take(row, phases)
+            self.take(row, row.phases())
         except ValueError:
             raise Fault(f"cycle {row.cycle}: a number is none in `{' '.join(row.events)}`") from None
         except (LookupError, AttributeError, TypeError, OverflowError):
             raise Fault(f"cycle {row.cycle}: `{' '.join(row.events)}` can't follow; is it the trace of this image and description?") from None
         if self.occupancy is not None and pipeline.counts:
-            self.occupancy.add(pipeline, [words[0] for words in phases[RETIRE]].count("ret"))
+            self.occupancy.add(pipeline, self.retired - before)
         self.quiet = self.skips and not row.events and told == len(self.reasons.unexplained) + len(self.reasons.presumed)
 
     def nothing_due(self, cycle):
@@ -106,7 +114,7 @@ class Replay:
         """The seven phases, and Clear behind Resolve. After an end in Retire no later phase acts."""
         pipeline, cycle = self.pipeline, row.cycle
         if phases[FILL] or cycle in pipeline.dues:
-            self.fill([int(words[1], 16) for words in phases[FILL]])
+            self.fill([words[1] for words in phases[FILL]])
         if phases[COMPLETE] or cycle in self.checks.due:
             self.complete([pipeline.entry(words) for words in phases[COMPLETE]])
         squashed = self.resolve(phases[RESOLVE])
@@ -115,7 +123,7 @@ class Replay:
         if not row.ends:
             self.issue(phases[ISSUE])
             self.rename(phases[RENAME])
-            fetched = [pipeline.fetch(int(words[1], 16)) for words in phases[FETCH]]
+            fetched = [pipeline.fetch(words[1]) for words in phases[FETCH]]
             if self.asked:
                 self.after_fetch(fetched, squashed, violated)
 
@@ -144,7 +152,7 @@ class Replay:
         if not events and not self.pipeline.outcomes:
             return False
         if events and events[0][0] != "res":
-            raise Fault(f"cycle {self.pipeline.cycle}: `{':'.join(events[0])}` doesn't follow a res")
+            raise Fault(f"cycle {self.pipeline.cycle}: `{text_of(events[0])}` doesn't follow a res")
         resolved = self.pipeline.entry(events[0]) if events else None
         squashes = bool(events) and events[-1][0] == "sq"
         if self.asked:
@@ -155,7 +163,7 @@ class Replay:
             self.checks.resolve(resolved, [words[0] for words in events])
         self.pipeline.resolve(resolved, events[0][2])
         if squashes:
-            self.squash(resolved, int(events[-1][1]), self.pipeline.squash(resolved))
+            self.squash(resolved, events[-1][1], self.pipeline.squash(resolved))
         return squashes
 
     def squash(self, item, told, dropped):
@@ -169,7 +177,7 @@ class Replay:
         if not events and not self.pipeline.clearable:
             return None
         if events and events[0][0] != "clr":
-            raise Fault(f"cycle {self.pipeline.cycle}: `{':'.join(events[0])}` doesn't follow a clr")
+            raise Fault(f"cycle {self.pipeline.cycle}: `{text_of(events[0])}` doesn't follow a clr")
         store = self.pipeline.entry(events[0]) if events else None
         if self.asked:
             self.reasons.clear(None if store is None else store.serial)
@@ -180,28 +188,27 @@ class Replay:
         violated = self.pipeline.entry(events[1]) if [words[0] for words in events[1:]] == ["vio", "dp", "sq"] else None
         self.pipeline.clear(store)
         if violated is not None:
-            self.squash(violated, int(events[-1][1]), self.pipeline.violate(violated))
+            self.squash(violated, events[-1][1], self.pipeline.violate(violated))
         return violated
 
     def retire(self, events, ends):
         retired, item = [], None
         if self.asked:
-            self.reasons.retire([int(words[1]) for words in events if words[0] == "ret"], ends)
+            self.reasons.retire([words[1] for words in events if words[0] == "ret"], ends)
         for words in events:
             name = words[0]
             if name == "ret":
                 item = self.pipeline.entry(words)
                 retired.append(item)
                 self.pipeline.retire(item)
-            elif not retired or item.serial != int(words[1]):
-                raise Fault(f"cycle {self.pipeline.cycle}: `{':'.join(words)}` doesn't follow its ret")
+            elif not retired or item.serial != words[1]:
+                raise Fault(f"cycle {self.pipeline.cycle}: `{text_of(words)}` doesn't follow its ret")
             elif name == "st":
-                line = int(words[2], 16)
                 if self.asked:
-                    self.checks.write(item, line, words[3])
-                self.pipeline.write(item, line, words[3])
+                    self.checks.write(item, words[2], words[3])
+                self.pipeline.write(item, words[2], words[3])
             else:
-                item.output = int(words[2])
+                item.output = words[2]
         self.retired += len(retired)
         if self.asked:
             self.after_retire(retired, ends)
@@ -215,11 +222,12 @@ class Replay:
 
     def issue(self, events):
         steps = self.steps(events) if events else []
+        items = [self.pipeline.entry(step[0]) for step in steps]
         if self.asked:
-            self.check_issue(steps)
-        for step in steps:
-            item = self.pipeline.entry(step[0])
-            self.pipeline.issue(item, step)
+            self.check_issue(steps, items)
+        for place in range(len(steps)):
+            item = items[place]
+            self.pipeline.issue(item, steps[place])
             if self.asked:
                 self.checks.issued(item)
                 if item.waits or item.kind == DIVISION:
@@ -227,16 +235,19 @@ class Replay:
         if self.asked:
             self.close()
 
-    def check_issue(self, steps):
+    def check_issue(self, steps, items):
         """Whether what issues may, before any of it does."""
         told = {}
-        for step in steps:
-            words = step[0]
-            told.setdefault(int(words[1]), []).append(words[0])
+        for place in range(len(steps)):
+            item, name = items[place], steps[place][0][0]
+            told[item.serial] = told[item.serial] + (name,) if item.serial in told else (name,)
+            if item.open is not None:
+                self.reasons.rouse(item)
         self.reasons.issue(told)
         if len(steps) > 1:
             self.checks.order(steps)
-        for item, step in [(self.pipeline.entry(step[0]), step) for step in steps]:
+        for place in range(len(steps)):
+            item, step = items[place], steps[place]
             name = step[0][0]
             if EVENT_OF.get(item.kind, "alu") != name:
                 self.checks.unit(item, name)
@@ -261,7 +272,7 @@ class Replay:
             if words[0] == PREFETCH and last[0] == "ld" or words[0] == "ld" and last[:2] == words[:2]:
                 steps[-1].append(words)
             elif words[0] == PREFETCH:
-                raise Fault(f"cycle {self.pipeline.cycle}: `{':'.join(words)}` doesn't follow a load")
+                raise Fault(f"cycle {self.pipeline.cycle}: `{text_of(words)}` doesn't follow a load")
             else:
                 steps.append([words])
         return steps
@@ -269,10 +280,9 @@ class Replay:
     def rename(self, events):
         roomy = not self.asked or bool(events) and len(events) <= self.width and self.front.has_room()
         for words in events:
-            serial = int(words[1])
             if self.asked and (not roomy or self.front.call_is_next()):
-                self.front.before_rename(serial)
-            item = self.pipeline.rename(serial, int(words[2], 16))
+                self.front.before_rename(words[1])
+            item = self.pipeline.rename(words[1], words[2])
             if self.asked:
                 self.slots.rename(item)
                 if item.awaits:

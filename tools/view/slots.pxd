@@ -46,5 +46,6 @@ cpdef dict times_held(Item item)
 cdef class Occupancy:
     cdef public list sums, most, retired
     cdef public long long cycles
-    @cython.locals(sums=list, most=list, numbers=tuple, place=cython.Py_ssize_t)
+    cdef public dict seen
+    @cython.locals(numbers=tuple, seen=dict)
     cpdef add(self, Pipeline pipeline, long long retired)

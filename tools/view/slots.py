@@ -7,11 +7,13 @@ Done by then. No more cycles are told so than the defence took. So is what a hel
 """
 from .instruction import AT_ONCE, CALL, CONTROLS, DIVISION, LOAD, MULTIPLICATION, STORE
 from .reasons import (
-    ADDRESS_PORT, DATA_PORT, DIVIDER, HELD, HELD_BACK, MISS_REGISTER, ONE_A_CYCLE, ONE_CLEARED, PORT, STORE_TAINT, TAINT, TAINTED_CLEARING,
+    ADDRESS_PORT, DATA_PORT, DIVIDER, HELD_BACK, MISS_REGISTER, ONE_A_CYCLE, ONE_CLEARED, PORT, STORE_TAINT, TAINT, TAINTED_CLEARING,
     TAINTED_OUTCOME, TWO_REGISTERS)
 
 BASE, FRONT_END, MISPREDICTION, VIOLATION, ROOM, SYSTEM_CALL, END, UNEXPLAINED = (
     "base", "front end", "misprediction", "load that passed a store wrongly", "room", "system call", "end of the run", "unexplained")
+# why an item comes no earlier, where nothing else is known
+NOT_LATE = FRONT_END, None
 SIMPLE, MULTIPLIER, DIVIDER_BUSY, STORES, PORTS, REGISTERS, CLEARING = (
     "simple operation", "multiplier", "divider", "store executes", "ports", "miss registers", "clearing")
 HIT, FORWARDED, SECOND_LEVEL, MEMORY, JOINED, FAULTING = (
@@ -46,7 +48,7 @@ class Slots:
     def __init__(self, pipeline):
         self.pipeline, self.width = pipeline, pipeline.description.retire_width
         self.lost, self.retired, self.cycles = {}, {}, 0
-        self.fill, self.head, self.left, self.behind, self.until, self.divider = (FRONT_END, None), None, 0, None, 0, 0
+        self.fill, self.head, self.left, self.behind, self.until, self.divider = NOT_LATE, None, 0, None, 0, 0
 
     def count(self, reason, pc, slots):
         self.lost[reason, pc] = self.lost.get((reason, pc), 0) + slots
@@ -72,7 +74,7 @@ class Slots:
         self.until = self.pipeline.cycle + left // self.width
 
     def rename(self, item):
-        item.fill, self.fill = self.fill, (FRONT_END, None)
+        item.fill, self.fill = self.fill, NOT_LATE
 
     def stall(self, reason, pc):
         """Rename stopped short of this item."""
@@ -207,17 +209,25 @@ class Occupancy:
     """How many entries stand in each place when a cycle is over, and how many retire in it: sums, greatest numbers, and cycles."""
 
     PLACES = ("reorder buffer", "stations", "loads", "stores", "queue", "miss registers")
+    MOST_SEEN = 10000
 
     def __init__(self, width):
         self.sums, self.most, self.cycles, self.retired = [0] * len(self.PLACES), [0] * len(self.PLACES), 0, [0] * (width + 1)
+        # cycles by what stood there, which aren't in the sums so far
+        self.seen = {}
 
     def add(self, pipeline, retired):
         self.cycles += 1
         self.retired[min(retired, len(self.retired) - 1)] += 1
         numbers = (len(pipeline.window), len(pipeline.waiting), pipeline.loads, pipeline.stores, len(pipeline.queue), len(pipeline.misses))
-        sums, most = self.sums, self.most
-        for place in range(len(numbers)):
-            number = numbers[place]
-            sums[place] += number
-            if number > most[place]:
-                most[place] = number
+        seen = self.seen
+        seen[numbers] = seen.get(numbers, 0) + 1
+        if len(seen) > self.MOST_SEEN:
+            self.sum_up()
+
+    def sum_up(self):
+        """What was seen goes into the sums."""
+        for numbers, cycles in self.seen.items():
+            self.sums = [total + cycles * number for total, number in zip(self.sums, numbers)]
+            self.most = list(map(max, self.most, numbers))
+        self.seen.clear()

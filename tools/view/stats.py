@@ -22,6 +22,7 @@ class Run:
         self.name, self.replay, self.disassembler, self.function = name, replay, disassembler, function
         self.image, self.span = disassembler.image, span
         replay.span, replay.occupancy = span, Occupancy(replay.pipeline.description.retire_width)
+        replay.only_counts()
         self.places = Places() if by_place else None
         whole = span == (1, None) and function is None
         self.counts = count(replay.items(span[1]), None if whole else self.holds, self.places)
@@ -105,12 +106,10 @@ def rows_of(run):
 
 def memory_rows(run, pipeline, description):
     """What is told of lines and of loads that pass stores."""
-    counts, (first, last) = run.counts, run.span
-    fills = [drop for cycle, _, drop in pipeline.fills if first <= cycle and (last is None or cycle <= last)]
-    yield "lines filled", f"{len(fills)}, dropped for them {sum(drop is not None for drop in fills)}"
+    counts = run.counts
+    yield "lines filled", f"{pipeline.filled}, dropped for them {pipeline.dropped}"
     if description.prefetch:
-        answers = [answer for cycle, _, answer in pipeline.prefetches if first <= cycle and (last is None or cycle <= last)]
-        yield "lines prefetched", f"{len(answers)}, from the second level {answers.count('2')}"
+        yield "lines prefetched", f"{pipeline.prefetched}, from the second level {pipeline.from_second}"
     if description.depend:
         yield "stores cleared", counts.cleared
         yield "loads that passed stores", f"{sum(counts.passed.values())}, violated {sum(counts.violated.values())}"
@@ -123,8 +122,8 @@ def per_thousand(number, retired):
 
 def executed(counts, unit):
     """How many issued so, and how many of them didn't retire."""
-    wrong = counts.wrong[unit]
-    return f"{counts.units[unit]}" + (f", not retired {wrong}" if wrong else "")
+    wrong = counts.wrong.get(unit, 0)
+    return f"{counts.units.get(unit, 0)}" + (f", not retired {wrong}" if wrong else "")
 
 
 def idle_lines(by_place, cycles):
@@ -161,7 +160,7 @@ def occupancy_lines(occupancy):
 def stall_lines(front):
     total = sum(number for reason, number in front.rename.items() if reason != QUEUE_EMPTY)
     yield f"\nrename stopped short of the width, with items in the queue, in {total} cycles"
-    yield from (f"{number:8}  {reason}" for reason, number in front.rename.most_common() if reason != QUEUE_EMPTY)
+    yield from (f"{number:8}  {reason}" for reason, number in Counter(front.rename).most_common() if reason != QUEUE_EMPTY)
 
 
 def cost_lines(idle, disassembler, most):

@@ -57,5 +57,5 @@ def sums(replay, waits, held, disassembler):
     yield from ("  " + text for text in unexplained)
 
 
-def listed(title, counter):
-    return f"{title}: " + (", ".join(f"{reason} {number}" for reason, number in counter.most_common()) or "none")
+def listed(title, counts):
+    return f"{title}: " + (", ".join(f"{reason} {number}" for reason, number in Counter(counts).most_common()) or "none")

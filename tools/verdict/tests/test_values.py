@@ -31,7 +31,7 @@ def issue(pipeline, item):
     pipeline.cycle += 1
     name = {LOAD: "ld", STORE: "agu"}.get(item.code.kind, "alu")
     lines = pipeline.lines_of(pipeline.located(item)) if name == "ld" else []
-    pipeline.issue(item, [[name, str(item.serial), f"{line:08x}", "h"] for line in lines] or [[name, str(item.serial)]])
+    pipeline.issue(item, [[name, item.serial, line, "h"] for line in lines] or [[name, item.serial]])
 
 
 def retire(pipeline, items):

@@ -1,4 +1,5 @@
 """What makes long traces fast changes no answer: cycles in which nothing happens are passed over, and PyPy does the work."""
+import io
 import os
 import random
 import shutil
@@ -91,3 +92,19 @@ class ByPyPy(unittest.TestCase):
                 os.environ[faster.DECIDED] = sys.executable
                 faster.by_pypy(VIEW, ["stats", small])
                 went.assert_called_once()
+
+    def test_what_is_advised(self):
+        """On a terminal, where a trace is long and nothing is decided yet."""
+        small = support.file_of("small.trace", b"1\n")
+        screen = io.StringIO()
+        with mock.patch.dict(os.environ), mock.patch.object(screen, "isatty", lambda: True):
+            os.environ.pop(faster.DECIDED, None)
+            faster.advise(["stats", small], screen)
+            self.assertEqual(screen.getvalue(), "")
+            with mock.patch.object(faster, "LARGE", 1):
+                faster.advise(["stats", small], screen)
+                self.assertIn("`tools/compile`", screen.getvalue())
+                screen.truncate(0)
+                os.environ[faster.DECIDED] = sys.executable
+                faster.advise(["stats", small], screen)
+                self.assertNotIn("compile", screen.getvalue())
