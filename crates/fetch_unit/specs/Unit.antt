@@ -39,19 +39,19 @@ predicting t p x = record x { counters = t.counters; targets = t.targets; mark =
 abbrev pub next_fetch : FetchUnit → Option ℕ
 next_fetch f = if nat_lt (length f.queue) f.room then f.fetch_pc else None
 
--- a description asks for a history of these sizes, and for as many targets
+-- a description asks for a history of these sizes and for as many targets
 pub record Predicts (t : Tables) (p : Past) (d : Desc) : Type 0 where
   pub counters : p.counters ≡ d.predictor_counters
   pub directions : p.directions ≡ d.predictor_history
   pub returns : p.returns ≡ d.predictor_returns
   pub targets : length t.targets ≡ d.predictor_btb
 
--- and for a fetch unit of these sizes
+-- a description asks for a fetch unit and a history of these sizes and for as many targets
 pub record HasSizes (f : FetchUnit) (t : Tables) (p : Past) (d : Desc) : Type 0 where
   pub width : f.width ≡ d.core_fetch_width
   pub room : f.room ≡ d.core_queue
   pub predicts : Predicts t p d
 
--- so it is in the machine of each description that asks for parts of these sizes
+-- what holds in the machine of each description that asks for parts of these sizes
 abbrev pub InEach : FetchUnit → Tables → Past → (Desc → Type 0) → Type 0
 InEach f t p So = (d : Desc) → HasSizes f t p d → So d

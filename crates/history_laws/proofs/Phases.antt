@@ -43,7 +43,7 @@ pub record Left (d : Desc) (gone : List Entry) (ways : List Bool) (x : Machine) 
   pub leads : Leads d no_mark (gone ++ x.window) x.queue ways x.mark
   pub fresh : Each Fresh x.window
 
--- so they do by the first of these
+-- what is left leads to the present mark by the first of these directions
 pub record LeftBy (d : Desc) (gone : List Entry) (ways : List Bool) (x : Machine) : Type 0 where
   pub first : List Bool
   pub others : List Bool

@@ -32,7 +32,7 @@ Goes i way = GoesBy i.kind i way
 abbrev pub has_squashed : Entry → Bool
 has_squashed e = e.resolved && squashes e
 
--- then it counts with its true direction, else with the predicted one
+-- an entry whose resolution squashed counts with its true direction, any other with the predicted one
 abbrev pub direction : Entry → Bool → Bool
 direction e predicted = if has_squashed e then value_of e.outcome == 1 else predicted
 
@@ -48,7 +48,7 @@ LeadsOver d from [] [] to = to ≡ from
 LeadsOver d from (i ∷ q) (way ∷ ways) to = (i.mark ≡ from) × Goes i way × LeadsOver d (after_item d i way) q ways to
 LeadsOver d from _ _ to = ⊥
 
--- and so do entries, with items behind them
+-- entries with these predicted directions, and items behind them, lead from one mark to another
 abbrev pub Leads : Desc → Mark → List Entry → List Item → List Bool → Mark → Type 0
 Leads d from [] q ways to = LeadsOver d from q ways to
 Leads d from (e ∷ es) q (way ∷ ways) to = (e.item.mark ≡ from) × Goes e.item way × Leads d (after_item d e.item (direction e way)) es q ways to
@@ -79,14 +79,14 @@ before_fetch d x =
 abbrev pub guesses : Desc → List ℕ → List Item → List Bool
 guesses d counters items = map (λ i. guess i.kind d counters i.mark i.pc) items
 
--- after a cycle, with all that has retired: the directions of as many as are left as its last phase begins, and then those that are
--- predicted of the items that it fetches
+-- the directions of what is left after a cycle, with all that has retired: of as many as are left as its last phase begins, and then
+-- those that are predicted of the items that it fetches
 abbrev pub predicted_on : Desc → Code → List Entry → Machine → List Bool → List Bool
 predicted_on d code gone x ways =
     let y = before_fetch d x in
     take (length (gone ++ y.window) + length y.queue) ways ++ guesses d y.counters (drop (length y.queue) (cycle d code x).machine.queue)
 
--- after k cycles
+-- the directions that were predicted of what is left after k cycles
 abbrev pub predicted_in : Desc → Code → ℕ → List Entry → Machine → List Bool → List Bool
 predicted_in d code zero gone x ways = ways
 predicted_in d code (suc k) gone x ways =

@@ -32,6 +32,6 @@ with_direction p way = record p { mark = record (p.mark) { history = (2 * p.mark
 abbrev pub with_address : Past → ℕ → Past
 with_address p a = record p { mark = with_stack (take p.returns (a ∷ stack p.mark)) p.mark }
 
--- so it is in the machine of each description that asks for as many counters, directions and addresses
+-- what holds in the machine of each description that asks for as many counters, directions and addresses
 abbrev pub InEach : Past → (Desc → Type 0) → Type 0
 InEach p So = (d : Desc) → p.counters ≡ d.predictor_counters → p.directions ≡ d.predictor_history → p.returns ≡ d.predictor_returns → So d

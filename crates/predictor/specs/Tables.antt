@@ -38,6 +38,6 @@ target_at t pc = target_if pc (slice_index_or t.targets (target_place t pc) None
 abbrev pub counter_after : Tables → ℕ → Bool → ℕ
 counter_after t place way = moved way (slice_index t.counters place)
 
--- so it is in the machine of each description that asks for as many counters and targets
+-- what holds in the machine of each description that asks for as many counters and targets
 abbrev pub InEach : Tables → (Desc → Type 0) → Type 0
 InEach t So = (d : Desc) → length t.counters ≡ d.predictor_counters → length t.targets ≡ d.predictor_btb → So d

@@ -74,11 +74,11 @@ is_inside h v i w s p = subst (λ (v : Described). i < length v.machine.window) 
 abbrev pub Taught : Held → (Desc → Type 0) → Type 0
 Taught h So = learnt.InEach h.tables So
 
--- and for a history of these
+-- what holds in each machine that asks for a history of these sizes
 abbrev pub Remembered : Held → (Desc → Type 0) → Type 0
 Remembered h So = histories.InEach h.past So
 
--- the description asks for them
+-- what holds in each such machine holds in that of the description
 taught_here : (h : Held) (So : Desc → Type 0) → Whole h → Taught h So → So h.desc
 taught_here h So w each = each h.desc w.sized.counters w.sized.targets
 
