@@ -78,7 +78,8 @@ impl Fetch {
             → with_unit self.new predictor.now history.new x
             ≡ (fetches d (word_at code.now) self.old predictor.now history.old x).machine) }
         ensures row { InEach self.old predictor.now history.old (λ d. (x : Machine)
-            → row.new ≡ with_events row.old (fetches d (word_at code.now) self.old predictor.now history.old x).events) }
+            → row.new ≡ with_events row.old
+            (fetches d (word_at code.now) self.old predictor.now history.old x).events) }
         ensures sizes { self.new ≡ record self.old { queue = self.new.queue; fetch_pc = self.new.fetch_pc } }
         ensures history_sizes { history.new ≡ record history.old { mark = history.new.mark } }
         ensures few { IsLonger most_fetched row.old row.new }

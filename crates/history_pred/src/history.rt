@@ -140,7 +140,9 @@ impl History {
     // A jump that links pushes the address behind it, and a return pops.
     fn jump(&mut self, pc: u32, instr: &Instr)
         ensures sizes { self.new ≡ record self.old { mark = self.new.mark } }
-        ensures machine { InEach self.old (λ d. self.new ≡ record self.old { mark = jumped d pc instr.now self.old.mark }) }
+        ensures machine { InEach self.old (λ d. self.new ≡ record self.old {
+          mark = jumped d pc instr.now self.old.mark;
+        }) }
     {
         if links(instr) {
             self.push(pc.wrapping_add(4));
