@@ -1,5 +1,6 @@
 -- What comes of a branch or JALR that is resolved (docs/machine.md, "Resolve").
 use Rattle.std.specs.Prelude.{List, if◌then◌else◌}
+use Rattle.machine_desc.specs.declared.Desc.{Desc}
 use Rattle.predictor.specs.Tables.{Tables}
 use Rattle.window_model.specs.declared.Entry.{Entry}
 use Rattle.window_model.specs.declared.Event.{Event}
@@ -9,15 +10,15 @@ use Rattle.branch_resolve.specs.declared.effect.Resolution.{Resolution}
 use Rattle.branch_resolve.specs.declared.effect.Resolution.TheVariants.{Right, Wrong, Fault}
 
 -- the predictor after it has learnt from the entry
-abbrev pub taught : Tables → Entry → Tables
-taught p e = record p {
-  counters = (learn p.desc e p.counters p.targets).counters;
-  targets = (learn p.desc e p.counters p.targets).targets;
+abbrev pub taught : Desc → Tables → Entry → Tables
+taught d p e = record {
+  counters = (learn d e p.counters p.targets).counters;
+  targets = (learn d e p.counters p.targets).targets;
 }
 
--- the events of what the predictor learns of an entry
-abbrev pub told : Tables → Entry → List Event
-told p e = (learn p.desc e p.counters p.targets).events
+-- the events of that
+abbrev pub told : Desc → Tables → Entry → List Event
+told d p e = (learn d e p.counters p.targets).events
 
 -- the entry will trap, or its next address is the one that was predicted, or it isn't
 abbrev pub resolution_of : Entry → Resolution

@@ -1,7 +1,8 @@
 //! What comes of an entry that is resolved.
-ghost use Rattle.std.specs.Prelude.{◌≡◌, if◌then◌else◌};
+ghost use Rattle.std.specs.Prelude.{◌≡◌, if◌then◌else◌, length};
 ghost use Rattle.window_model.specs.declared.Way.TheVariants as way;
 ghost use Rattle.window_model.specs.Row.{HasRoom, IsLonger, with_events};
+ghost use Rattle.predictor.specs.Tables.{InEach};
 ghost use Rattle.branch_resolve.specs.Effect.{taught, told, resolution_of};
 
 use history_pred::History;
@@ -22,7 +23,7 @@ pub enum Resolution {
 
 /// Resolves a branch or JALR: the predictor learns how it went, and the row tells it. A branch moves its counter, also where
 /// it faults: the one that its own history gives it, whatever the present one is. A JALR stores its target, but not where it
-/// faults.
+/// faults. The history has as many counters as the predictor.
 pub fn resolve(
     entry: &Entry,
     history: &History,
@@ -30,9 +31,9 @@ pub fn resolve(
     row: &mut Row,
 ) -> Resolution
     requires room { HasRoom 2 row.old }
-    requires one_description { predictor.old.desc ≡ history.now.desc }
-    ensures learnt { predictor.new ≡ taught predictor.old entry.now }
-    ensures row { row.new ≡ with_events row.old (told predictor.old entry.now) }
+    requires same_counters { history.now.counters ≡ length predictor.old.counters }
+    ensures learnt { InEach predictor.old (λ d. predictor.new ≡ taught d predictor.old entry.now) }
+    ensures row { InEach predictor.old (λ d. row.new ≡ with_events row.old (told d predictor.old entry.now)) }
     ensures few { IsLonger 2 row.old row.new }
     ensures resolution { result ≡ resolution_of entry.now }
 {
@@ -43,9 +44,9 @@ pub fn resolve(
 // What the predictor learns from the entry, and the events of that.
 fn teach(entry: &Entry, history: &History, predictor: &mut Predictor, row: &mut Row)
     requires room { HasRoom 2 row.old }
-    requires one_description { predictor.old.desc ≡ history.now.desc }
-    ensures learnt { predictor.new ≡ taught predictor.old entry.now }
-    ensures row { row.new ≡ with_events row.old (told predictor.old entry.now) }
+    requires same_counters { history.now.counters ≡ length predictor.old.counters }
+    ensures learnt { InEach predictor.old (λ d. predictor.new ≡ taught d predictor.old entry.now) }
+    ensures row { InEach predictor.old (λ d. row.new ≡ with_events row.old (told d predictor.old entry.now)) }
     ensures few { IsLonger 2 row.old row.new }
 {
     if entry.item.kind == Kind::Branch {

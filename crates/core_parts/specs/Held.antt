@@ -97,7 +97,7 @@ in_flight h = record {
   point = h.point;
 }
 
--- how large each part is, and for which description it was made
+-- how large each part is, and for which description both levels of the cache were made
 pub record Sizes : Type 0 where
   pub entries : ℕ
   pub sources : ℕ
@@ -108,10 +108,12 @@ pub record Sizes : Type 0 where
   pub registers : ℕ
   pub tags : Desc
   pub second : Desc
-  pub tables : Desc
-  pub past : Desc
+  pub counters : ℕ
+  pub directions : ℕ
+  pub returns : ℕ
   pub bits : ℕ
-  pub fetch_unit : Desc
+  pub width : ℕ
+  pub items : ℕ
   pub alus : ℕ
   pub model : SttModel
 
@@ -126,10 +128,12 @@ sizes h = record {
   registers = h.mshrs.room;
   tags = h.tags.desc;
   second = h.second.desc;
-  tables = h.tables.desc;
-  past = h.past.desc;
+  counters = h.past.counters;
+  directions = h.past.directions;
+  returns = h.past.returns;
   bits = length h.dependence;
-  fetch_unit = h.fetch_unit.desc;
+  width = h.fetch_unit.width;
+  items = h.fetch_unit.room;
   alus = h.ports.alus;
   model = h.point.model;
 }
@@ -146,10 +150,12 @@ sizes_for d = record {
   registers = d.cache_mshrs;
   tags = d;
   second = d;
-  tables = d;
-  past = d;
+  counters = d.predictor_counters;
+  directions = d.predictor_history;
+  returns = d.predictor_returns;
   bits = d.predictor_depend;
-  fetch_unit = d;
+  width = d.core_fetch_width;
+  items = d.core_queue;
   alus = d.units_alus;
   model = d.stt_model;
 }

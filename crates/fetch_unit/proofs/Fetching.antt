@@ -12,8 +12,9 @@ use Rattle.window_model.specs.Row.{Row}
 use Rattle.window_model.specs.Fetch.{fetch, fetch_up_to, fetch_from, fetch_one, guess, item_at}
 use Rattle.window_model.specs.History.{mark_after}
 use Rattle.predictor.specs.Tables.{Tables}
+use Rattle.history_pred.specs.Past as histories
 use Rattle.history_pred.specs.Past.{Past}
-use Rattle.fetch_unit.specs.Unit.{FetchUnit, with_unit, fetches, next_fetch, predicting}
+use Rattle.fetch_unit.specs.Unit.{FetchUnit, InEach, Predicts, with_unit, fetches, next_fetch, predicting}
 
 -- the events so far, before those of what follows
 abbrev pub behind : List Event → After → After
@@ -23,19 +24,31 @@ behind es a = record { machine = a.machine; events = es ++ a.events }
 abbrev pub with_item : FetchUnit → Item → FetchUnit
 with_item f item = record f { queue = f.queue ++ item ∷ []; fetch_pc = item.predicted }
 
--- at most n items more make the whole phase
+-- at most n items more make the whole phase, and sizes stay
 pub record FetchesOn (code : Code) (t : Tables) (first : FetchUnit) (past : Past) (row : Row) (n : ℕ) (f : FetchUnit) (p : Past) (now : Row) : Type 0 where
-  pub whole : (x : Machine) → behind now.events (fetch_up_to first.desc code n (with_unit f t p x)) ≡ behind row.events (fetches code first t past x)
-  pub desc : f.desc ≡ first.desc
-  pub past_desc : p.desc ≡ past.desc
+  pub whole : InEach first t past (λ d. (x : Machine) → behind now.events (fetch_up_to d code n (with_unit f t p x)) ≡ behind row.events (fetches d code first t past x))
+  pub width : f.width ≡ first.width
+  pub room : f.room ≡ first.room
+  pub counters : p.counters ≡ past.counters
+  pub directions : p.directions ≡ past.directions
+  pub returns : p.returns ≡ past.returns
   pub cycle : now.cycle ≡ row.cycle
-  pub few : length now.events + n ≤ length row.events + first.desc.core_fetch_width
+  pub few : length now.events + n ≤ length row.events + first.width
 
-pub fetches_start : (code : Code) (t : Tables) (f : FetchUnit) (p : Past) (row : Row) → FetchesOn code t f p row (f.desc.core_fetch_width - 0) f p row
+pub fetches_start : (code : Code) (t : Tables) (f : FetchUnit) (p : Past) (row : Row) → FetchesOn code t f p row (f.width - 0) f p row
 unfolding fetch
 fetches_start code t f p row =
-    let e : f.desc.core_fetch_width - 0 ≡ f.desc.core_fetch_width = omega arith in
-    record { whole = λ x. ap (λ n. behind row.events (fetch_up_to f.desc code n (with_unit f t p x))) e; desc = refl; past_desc = refl; cycle = refl; few = omega arith }
+    let e : f.width - 0 ≡ f.width = omega arith in
+    record {
+      whole = λ d s x. ap (λ n. behind row.events (fetch_up_to d code n (with_unit f t p x))) (e ∙ s.width);
+      width = refl;
+      room = refl;
+      counters = refl;
+      directions = refl;
+      returns = refl;
+      cycle = refl;
+      few = omega arith;
+    }
 
 -- ---- one item that is fetched
 
@@ -56,37 +69,48 @@ one_behind d code n x pc es r p =
     ap (λ es. record { machine = a.machine; events = es }) (append_assoc es (event.Fet pc ∷ []) a.events) ∙ sym (ap (behind es) (one_more d code n x pc r p))
 
 -- history and stack after an item that goes this way
-abbrev pub followed : Past → Item → Bool → Past
-followed p item way = record p { mark = mark_after item.kind p.desc item.pc item.instr way p.mark }
+abbrev pub followed : Desc → Past → Item → Bool → Past
+followed d p item way = record p { mark = mark_after item.kind d item.pc item.instr way p.mark }
+
+-- the history has the sizes that it had at first
+still : (code : Code) (t : Tables) (first : FetchUnit) (past : Past) (row : Row) (n : ℕ) (f : FetchUnit) (p : Past) (now : Row) (d : Desc) → FetchesOn code t first past row n f p now → Predicts t past d → Predicts t p d
+still code t first past row n f p now d o s = record {
+  counters = o.counters ∙ s.counters;
+  directions = o.directions ∙ s.directions;
+  returns = o.returns ∙ s.returns;
+  targets = s.targets;
+}
 
 pub fetches_more : (code : Code) (t : Tables) (first : FetchUnit) (past : Past) (row : Row) (i : ℕ) (f : FetchUnit) (p : Past) (now : Row) (pc : ℕ) (item : Item) (way : Bool) (f2 : FetchUnit) (p2 : Past) (now2 : Row) →
-    FetchesOn code t first past row (first.desc.core_fetch_width - i) f p now → i < first.desc.core_fetch_width → next_fetch f ≡ Some pc → past.desc ≡ first.desc →
-    ((x : Machine) → item ≡ item_at p.desc code (predicting t p x) pc) → way ≡ guess item.kind p.desc t.counters p.mark pc →
-    f2 ≡ with_item f item → p2 ≡ followed p item way → now2 ≡ record now { events = now.events ++ event.Fet pc ∷ [] } →
-    FetchesOn code t first past row (first.desc.core_fetch_width - (i + 1)) f2 p2 now2
-fetches_more code t first past row i f p now pc item way f2 p2 now2 s lt q same h guessed e follows r =
-    let d = first.desc in
-    let k = d.core_fetch_width - (i + 1) in
-    let n : d.core_fetch_width - i ≡ suc k = omega (arith, lt) in
-    let a = by_room (nat_lt (length f.queue) f.desc.core_queue) f.fetch_pc pc q in
-    let room : nat_lt (length f.queue) d.core_queue ≡ true = ap (λ (d : Desc). nat_lt (length f.queue) d.core_queue) (sym s.desc) ∙ a.0 in
+    FetchesOn code t first past row (first.width - i) f p now → i < first.width → next_fetch f ≡ Some pc →
+    ((d : Desc) → Predicts t p d → (x : Machine) → item ≡ item_at d code (predicting t p x) pc) → ((d : Desc) → Predicts t p d → way ≡ guess item.kind d t.counters p.mark pc) →
+    f2 ≡ with_item f item → histories.InEach p (λ d. p2 ≡ followed d p item way) → p2 ≡ record p { mark = p2.mark } → now2 ≡ record now { events = now.events ++ event.Fet pc ∷ [] } →
+    FetchesOn code t first past row (first.width - (i + 1)) f2 p2 now2
+fetches_more code t first past row i f p now pc item way f2 p2 now2 o lt q comes guessed e follows same r =
+    let k = first.width - (i + 1) in
+    let n : first.width - i ≡ suc k = omega (arith, lt) in
+    let a = by_room (nat_lt (length f.queue) f.room) f.fetch_pc pc q in
     let es : now2.events ≡ now.events ++ event.Fet pc ∷ [] = ap (λ (r : Row). r.events) r in
-    let one : p.desc ≡ d = s.past_desc ∙ same in
-    let after : Item → Desc → Past = λ i d. record p { mark = mark_after i.kind d i.pc i.instr (guess i.kind d t.counters p.mark pc) p.mark } in
     record {
-      whole = λ x.
+      whole = λ d s x.
           let y = with_unit f t p x in
-          let own : item ≡ item_at d code y pc = h x ∙ ap (λ (d : Desc). item_at d code y pc) one in
-          let gone : p2 ≡ after (item_at d code y pc) d = follows ∙ ap (followed p item) guessed ∙ ap₂ after own one in
+          let here = still code t first past row (first.width - i) f p now d o s.predicts in
+          let room : nat_lt (length f.queue) d.core_queue ≡ true = ap (nat_lt (length f.queue)) (sym s.room ∙ sym o.room) ∙ a.0 in
+          let after : Item → Past = λ i. record p { mark = mark_after i.kind d i.pc i.instr (guess i.kind d t.counters p.mark pc) p.mark } in
+          let own : item ≡ item_at d code y pc = comes d here x in
+          let gone : p2 ≡ after (item_at d code y pc) = follows d here.counters here.directions here.returns ∙ ap (followed d p item) (guessed d here) ∙ ap after own in
           ap (λ es. behind es (fetch_up_to d code k (with_unit f2 t p2 x))) es
           ∙ ap₂ (λ f p. behind (now.events ++ event.Fet pc ∷ []) (fetch_up_to d code k (with_unit f t p x))) (e ∙ ap (with_item f) own) gone
           ∙ one_behind d code k y pc now.events room a.1
           ∙ ap (λ n. behind now.events (fetch_up_to d code n y)) (sym n)
-          ∙ s.whole x;
-      desc = ap (λ (f : FetchUnit). f.desc) e ∙ s.desc;
-      past_desc = ap (λ (p : Past). p.desc) follows ∙ s.past_desc;
-      cycle = ap (λ (r : Row). r.cycle) r ∙ s.cycle;
-      few = (let l = ap length es in let l2 = length-append now.events (event.Fet pc ∷ []) in omega (arith, l, l2, s.few, n));
+          ∙ o.whole d s x;
+      width = ap (λ (f : FetchUnit). f.width) e ∙ o.width;
+      room = ap (λ (f : FetchUnit). f.room) e ∙ o.room;
+      counters = ap (λ (p : Past). p.counters) same ∙ o.counters;
+      directions = ap (λ (p : Past). p.directions) same ∙ o.directions;
+      returns = ap (λ (p : Past). p.returns) same ∙ o.returns;
+      cycle = ap (λ (r : Row). r.cycle) r ∙ o.cycle;
+      few = (let l = ap length es in let l2 = length-append now.events (event.Fet pc ∷ []) in omega (arith, l, l2, o.few, n));
     }
 
 -- ---- when no item more comes
@@ -100,28 +124,28 @@ no_more d code (suc n) x (Some pc) false p r h =
     ap (λ o. fetch_from d code o x (fetch_up_to d code n)) p
     ∙ ap (λ b. if b then then_does (fetch_one d (item_at d code x pc) x) (fetch_up_to d code n) else nothing x) r
 
--- nothing is left to fetch
+-- nothing is left to fetch, and sizes are as they were
 pub record Over (code : Code) (t : Tables) (first : FetchUnit) (past : Past) (begun : Row) (f : FetchUnit) (p : Past) (now : Row) : Type 0 where
-  pub machine : (x : Machine) → with_unit f t p x ≡ (fetches code first t past x).machine
-  pub row : (x : Machine) → now ≡ record begun { events = begun.events ++ (fetches code first t past x).events }
-  pub desc : f.desc ≡ first.desc
-  pub past_desc : p.desc ≡ past.desc
-  pub few : length now.events ≤ length begun.events + first.desc.core_fetch_width
+  pub machine : InEach first t past (λ d. (x : Machine) → with_unit f t p x ≡ (fetches d code first t past x).machine)
+  pub row : InEach first t past (λ d. (x : Machine) → now ≡ record begun { events = begun.events ++ (fetches d code first t past x).events })
+  pub sizes : f ≡ record first { queue = f.queue; fetch_pc = f.fetch_pc }
+  pub history_sizes : p ≡ record past { mark = p.mark }
+  pub few : length now.events ≤ length begun.events + first.width
 
 over : (code : Code) (t : Tables) (first : FetchUnit) (past : Past) (row : Row) (n : ℕ) (f : FetchUnit) (p : Past) (now : Row) →
-    ((x : Machine) → fetch_up_to first.desc code n (with_unit f t p x) ≡ nothing (with_unit f t p x)) → FetchesOn code t first past row n f p now → Over code t first past row f p now
-over code t first past row n f p now h s =
-    let both : (x : Machine) → record { machine = with_unit f t p x; events = now.events } ≡ behind row.events (fetches code first t past x) =
-    λ x. ap (λ es. record { machine = with_unit f t p x; events = es }) (sym (append-nil now.events)) ∙ sym (ap (behind now.events) (h x)) ∙ s.whole x in
+    InEach first t past (λ d. (x : Machine) → fetch_up_to d code n (with_unit f t p x) ≡ nothing (with_unit f t p x)) → FetchesOn code t first past row n f p now → Over code t first past row f p now
+over code t first past row n f p now h o =
+    let both : InEach first t past (λ d. (x : Machine) → record { machine = with_unit f t p x; events = now.events } ≡ behind row.events (fetches d code first t past x)) =
+    λ d s x. ap (λ es. record { machine = with_unit f t p x; events = es }) (sym (append-nil now.events)) ∙ sym (ap (behind now.events) (h d s x)) ∙ o.whole d s x in
     record {
-      machine = λ x. ap (λ (a : After). a.machine) (both x);
-      row = λ x. ap (λ c. record { cycle = c; events = now.events }) s.cycle ∙ ap (λ (a : After). record { cycle = row.cycle; events = a.events }) (both x);
-      desc = s.desc;
-      past_desc = s.past_desc;
-      few = omega (arith, s.few);
+      machine = λ d s x. ap (λ (a : After). a.machine) (both d s x);
+      row = λ d s x. ap (λ c. record { cycle = c; events = now.events }) o.cycle ∙ ap (λ (a : After). record { cycle = row.cycle; events = a.events }) (both d s x);
+      sizes = ap₂ (λ w r. record f { width = w; room = r }) o.width o.room;
+      history_sizes = ap (λ n. record p { counters = n }) o.counters ∙ ap₂ (λ m k. record p { counters = past.counters; directions = m; returns = k }) o.directions o.returns;
+      few = omega (arith, o.few);
     }
 
 pub over_early : (code : Code) (t : Tables) (first : FetchUnit) (past : Past) (row : Row) (n : ℕ) (f : FetchUnit) (p : Past) (now : Row) → FetchesOn code t first past row n f p now → next_fetch f ≡ None → Over code t first past row f p now
-over_early code t first past row n f p now s q =
-    let room = ap (λ (d : Desc). nat_lt (length f.queue) d.core_queue) (sym s.desc) in
-    over code t first past row n f p now (λ x. no_more first.desc code n (with_unit f t p x) f.fetch_pc (nat_lt (length f.queue) f.desc.core_queue) refl room q) s
+over_early code t first past row n f p now o q =
+    over code t first past row n f p now
+    (λ d s x. no_more d code n (with_unit f t p x) f.fetch_pc (nat_lt (length f.queue) f.room) refl (ap (nat_lt (length f.queue)) (sym s.room ∙ sym o.room)) q) o

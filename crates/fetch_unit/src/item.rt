@@ -1,8 +1,9 @@
 //! The item of an address, and where fetching goes on after it (`docs/machine.md`, "Entries", "Fetch").
-ghost use Rattle.std.specs.Prelude.{◌≡◌, None, slice_index_or};
-ghost use Rattle.fetch_unit.specs.Unit.{predicting};
+ghost use Rattle.std.specs.Prelude.{◌≡◌, None, length, slice_index_or};
+ghost use Rattle.fetch_unit.specs.Unit.{Predicts, predicting};
 ghost use Rattle.elf_loader.specs.Code.{word_at};
 ghost use Rattle.predictor.specs.Tables.{target_place};
+ghost use Rattle.machine_desc.specs.declared.Desc.{Desc};
 ghost use Rattle.window_model.specs.State.{Machine};
 ghost use Rattle.window_model.specs.Fetch.{guess, item_at, predicted, stored_target, target_of, unless_returns};
 ghost use Rattle.window_model.specs.History.{returns_to};
@@ -47,8 +48,9 @@ fn jump_target(predictor: &Predictor, history: &History, pc: u32, instr: &Instr)
 
 // The direction that is predicted: taken only of a branch.
 fn guess(predictor: &Predictor, history: &History, pc: u32, kind: Kind) -> bool
-    requires one_description { predictor.now.desc ≡ history.now.desc }
-    ensures { result ≡ guess kind history.now.desc predictor.now.counters history.now.mark pc }
+    requires same_counters { history.now.counters ≡ length predictor.now.counters }
+    ensures { (d : Desc) → history.now.counters ≡ d.predictor_counters
+        → result ≡ guess kind d predictor.now.counters history.now.mark pc }
 {
     match kind {
         Kind::Branch => predictor.direction(history.index(history.mark(), pc)),
@@ -65,7 +67,8 @@ fn predicted(
     instr: &Instr,
     kind: Kind,
 ) -> Option<u32>
-    ensures { result ≡ predicted kind predictor.now.desc predictor.now.targets history.now.mark taken pc instr.now }
+    ensures { (d : Desc) → length predictor.now.targets ≡ d.predictor_btb
+        → result ≡ predicted kind d predictor.now.targets history.now.mark taken pc instr.now }
 {
     match kind {
         Kind::Stop(_) => None,
@@ -92,11 +95,11 @@ pub(crate) struct Fetched {
 /// The item of an address, with the direction by which it is predicted. Outside code it is a stop.
 #[tactic(auto, using(crate::proofs::Items::item_there, crate::proofs::Items::nothing_there))]
 pub(crate) fn fetched_at(predictor: &Predictor, history: &History, code: &Code, pc: u32) -> Fetched
-    requires one_description { predictor.now.desc ≡ history.now.desc }
-    ensures item { (x : Machine) → result.item ≡ item_at history.now.desc (word_at code.now)
-        (predicting predictor.now history.now x) pc }
-    ensures taken { result.taken
-        ≡ guess result.item.kind history.now.desc predictor.now.counters history.now.mark pc }
+    requires same_counters { history.now.counters ≡ length predictor.now.counters }
+    ensures item { (d : Desc) → Predicts predictor.now history.now d → (x : Machine)
+        → result.item ≡ item_at d (word_at code.now) (predicting predictor.now history.now x) pc }
+    ensures taken { (d : Desc) → Predicts predictor.now history.now d
+        → result.taken ≡ guess result.item.kind d predictor.now.counters history.now.mark pc }
 {
     let Some(instr) = code.instr(pc) else {
         return Fetched {

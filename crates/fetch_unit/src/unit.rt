@@ -3,7 +3,7 @@ ghost use Rattle.std.specs.Prelude.{◌≡◌, ◌<◌, ◌++◌, ◌∷◌, [],
 ghost use Rattle.elf_loader.specs.Code.{word_at};
 ghost use Rattle.window_model.specs.Row.{HasRoom, IsLonger, most_fetched, with_events};
 ghost use Rattle.window_model.specs.State.{Machine};
-ghost use Rattle.fetch_unit.specs.Unit.{with_unit, fetches, next_fetch};
+ghost use Rattle.fetch_unit.specs.Unit.{with_unit, fetches, next_fetch, InEach};
 
 use crate::item::fetched_at;
 use circular_buffer::HeapCircularBuffer;
@@ -16,45 +16,55 @@ use std::alloc::Global;
 use std::marker::Model;
 use window_model::{Event, Item, Row};
 
-/// The fetch unit, seen as the description that it is made for, the queue of items, oldest first, and the fetch pc: where
-/// fetching goes on, None where it doesn't.
+/// The fetch unit, seen as how many items are fetched a cycle at most, how many the queue holds, the queue of items, oldest first,
+/// and the fetch pc: where fetching goes on, None where it doesn't.
 #[derive(Drop)]
 pub struct Fetch {
-    desc: Desc,
+    width: u32,
     queue: HeapCircularBuffer<Item>,
     fetch_pc: Option<u32>,
 }
 
 impl Model for Fetch {
-    ghost use Rattle.std.specs.Prelude.{◌≡◌, ◌≤◌, length};
+    ghost use Rattle.std.specs.Prelude.{◌<◌, ◌≤◌, ◌^◌};
     ghost use Rattle.fetch_unit.specs.Unit.{FetchUnit, unit_code};
 
     ghost Value = { FetchUnit };
 
     ghost coded = { unit_code };
 
-    ghost view = { λ f. record { desc = f.desc; queue = f.queue.items; fetch_pc = f.fetch_pc } };
+    ghost view = { λ f. record {
+      width = f.width;
+      room = f.queue.capacity;
+      queue = f.queue.items;
+      fetch_pc = f.fetch_pc;
+    } };
 
-    ghost invariant = { λ f. (f.queue.capacity ≡ f.desc.core_queue) × (length f.queue.items ≤ f.desc.core_queue) };
+    ghost invariant = { λ f. (f.width ≤ 4) × (f.queue.capacity < 2 ^ 32) };
 }
 
 impl Fetch {
-    /// A fetch unit of this description that begins at the entry, with an empty queue. It takes all memory that the queue
-    /// takes; the one error is want of it.
+    /// A fetch unit of the description's width and queue that begins at the entry, with an empty queue. It takes all memory that the
+    /// queue takes; the one error is want of it.
     pub fn new(alloc: Global, desc: &Desc, entry: u32) -> Result<Fetch, NoMemory>
-        ensures { IfOk result (λ f. f ≡ record { desc = desc.now; queue = []; fetch_pc = Some entry }) }
+        ensures { IfOk result (λ f. f ≡ record {
+          width = desc.now.core_fetch_width;
+          room = desc.now.core_queue;
+          queue = [];
+          fetch_pc = Some entry;
+        }) }
     {
         let queue = HeapCircularBuffer::with_capacity(alloc, desc.core_queue as usize)?;
         Ok(Fetch {
-            desc: *desc,
+            width: desc.core_fetch_width,
             queue,
             fetch_pc: Some(entry),
         })
     }
 
-    /// Phase Fetch: up to the description's width of fetching, items come into the queue, each with its event. What it
-    /// leaves is what the definition leaves of every machine with this queue, this fetch pc, this predictor, and this history and
-    /// stack.
+    /// Phase Fetch: up to the width of fetching, items come into the queue, each with its event. What it leaves is what the
+    /// definition leaves, under a description of these sizes, of every machine with this queue, this fetch pc, this predictor, and
+    /// this history and stack. The history has as many counters as the predictor.
     pub fn fetch(
         &mut self,
         code: &Code,
@@ -63,17 +73,18 @@ impl Fetch {
         row: &mut Row,
     )
         requires room { HasRoom most_fetched row.old }
-        requires one_description { predictor.now.desc ≡ self.old.desc }
-        requires of_history { history.old.desc ≡ self.old.desc }
-        ensures machine { (x : Machine) → with_unit self.new predictor.now history.new x
-            ≡ (fetches (word_at code.now) self.old predictor.now history.old x).machine }
-        ensures row { (x : Machine) → row.new
-            ≡ with_events row.old (fetches (word_at code.now) self.old predictor.now history.old x).events }
-        ensures desc { self.new.desc ≡ self.old.desc }
-        ensures history_desc { history.new.desc ≡ history.old.desc }
+        requires same_counters { history.old.counters ≡ length predictor.now.counters }
+        ensures machine { InEach self.old predictor.now history.old (λ d. (x : Machine)
+            → with_unit self.new predictor.now history.new x
+            ≡ (fetches d (word_at code.now) self.old predictor.now history.old x).machine) }
+        ensures row { InEach self.old predictor.now history.old (λ d. (x : Machine)
+            → row.new ≡ with_events row.old
+            (fetches d (word_at code.now) self.old predictor.now history.old x).events) }
+        ensures sizes { self.new ≡ record self.old { queue = self.new.queue; fetch_pc = self.new.fetch_pc } }
+        ensures history_sizes { history.new ≡ record history.old { mark = history.new.mark } }
         ensures few { IsLonger most_fetched row.old row.new }
     {
-        for _ in 0..self.desc.core_fetch_width {
+        for _ in 0..self.width {
             let Some(pc) = self.next() else {
                 return;
             };
@@ -88,7 +99,7 @@ impl Fetch {
     fn next(&self) -> Option<u32>
         ensures { result ≡ next_fetch self.now }
     {
-        if self.queue.len() < self.desc.core_queue as usize {
+        if self.queue.len() < self.queue.capacity() {
             self.fetch_pc
         } else {
             None
@@ -97,7 +108,7 @@ impl Fetch {
 
     // The item comes into the queue, which has room, and fetching goes on at its predicted next address.
     fn add(&mut self, item: &Item)
-        requires room { length self.old.queue < self.old.desc.core_queue }
+        requires room { length self.old.queue < self.old.room }
         ensures { self.new
             ≡ record self.old { queue = self.old.queue ++ item.now ∷ []; fetch_pc = item.now.predicted } }
     {

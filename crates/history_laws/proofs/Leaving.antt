@@ -1,5 +1,5 @@
 -- Retire takes as many entries off the front of the window as the count of the retired grows, and leaves the queue and the mark.
-use Rattle.std.proofs.Common.{◌≡◌, ℕ, suc, ◌+◌, ◌-◌, List, ◌∷◌, ◌++◌, drop, take, refl, ap, sym, ◌∙◌, subst, append_assoc, arith}
+use Rattle.std.proofs.Common.{◌≡◌, ℕ, suc, ◌+◌, ◌-◌, Bool, List, ◌∷◌, ◌++◌, drop, take, refl, ap, sym, ◌∙◌, subst, append_assoc, arith}
 use Rattle.std.specs.List.{AllByRecursion as Each}
 use Rattle.std.proofs.lemmas.List.{take-append-drop}
 use Rattle.machine_desc.specs.declared.Desc.{Desc}
@@ -48,9 +48,10 @@ retire_lets d =
     retire_by d (λ n stored x r. LetsSome x r.machine) (λ n stored x s. none x) (λ n stored x e rest u q l t w more. head_lets d x e rest q _ more)
     (λ n stored x e rest cause u q l t. record { number = 0; lets = record { count = omega arith; window = refl; queue = refl; mark = refl } })
 
--- what is left leads to the present mark after Retire, whose entries go over from the window to those that are gone
-pub left_retire : (d : Desc) (gone : List Entry) (x : Machine) → Left d gone x → Left d (gone ++ take ((retire d x).machine.retired - x.retired) x.window) (retire d x).machine
-left_retire d gone x h =
+-- what leaves stands in front of what stays
+pub left_retire : (d : Desc) (gone : List Entry) (ways : List Bool) (x : Machine) → Left d gone ways x →
+    Left d (gone ++ take ((retire d x).machine.retired - x.retired) x.window) ways (retire d x).machine
+left_retire d gone ways x h =
     let s = retire_lets d x in
     let y = (retire d x).machine in
     let n : y.retired - x.retired ≡ s.number = (let c = s.lets.count in omega (arith, c)) in
@@ -61,8 +62,8 @@ left_retire d gone x h =
     ∙ ap (λ w. gone ++ w) (take-append-drop s.number x.window) in
     record {
       leads =
-          subst (λ w. Leads d no_mark w y.queue y.mark) (sym whole)
-          (subst (λ q. Leads d no_mark (gone ++ x.window) q y.mark) (sym s.lets.queue) (subst (λ m. Leads d no_mark (gone ++ x.window) x.queue m) (sym s.lets.mark) h.leads));
+          subst (λ w. Leads d no_mark w y.queue ways y.mark) (sym whole)
+          (subst (λ q. Leads d no_mark (gone ++ x.window) q ways y.mark) (sym s.lets.queue) (subst (λ m. Leads d no_mark (gone ++ x.window) x.queue ways m) (sym s.lets.mark) h.leads));
       fresh =
           subst (Each Fresh) (sym s.lets.window)
           (each_right Fresh (take s.number x.window) (drop s.number x.window) (subst (Each Fresh) (sym (take-append-drop s.number x.window)) h.fresh));

@@ -1,5 +1,6 @@
--- What is left leads to the present mark: every phase but Retire keeps this.
-use Rattle.std.proofs.Common.{◌≡◌, ℕ, ◌+◌, Bool, true, false, ◌&&◌, List, [], ◌∷◌, ◌++◌, Some, refl, sym, subst, append_assoc}
+-- Each phase but Retire keeps that what is left leads to the present mark.
+use Rattle.std.proofs.Common.{◌≡◌, ℕ, ◌+◌, Bool, true, false, ◌&&◌, List, [], ◌∷◌, ◌++◌, Some, refl, ap, sym, ◌∙◌, subst, append_assoc}
+use Rattle.std.proofs.lemmas.List.{append-nil, map-append}
 use Rattle.std.specs.Prelude.{if◌then◌else◌, map, reverse, nat_lt, length, ◌==◌}
 use Rattle.std.specs.List.{AllByRecursion as Each, AllZip}
 use Rattle.rv_types.specs.Memory.{Code}
@@ -27,8 +28,8 @@ use Rattle.window_model.proofs.Lists.{each_push, each_join, each_left, each_righ
 use Rattle.window_model.proofs.Placing.{Taken, resolve_keep, taught}
 use Rattle.window_model.proofs.Resolving.{resolved_one}
 use Rattle.window_model.proofs.Walks.{rename_keep, fetch_keep}
-use Rattle.history_laws.specs.Left.{CountsBy, GuessedBy, Leads, after_item, has_squashed}
-use Rattle.history_laws.proofs.Leading.{GoesOn, goes_same, fresh_goes, leads_push, leads_rename, leads_behind, leads_cut, leads_stop}
+use Rattle.history_laws.specs.Left.{GoesBy, Leads, after_item, guesses}
+use Rattle.history_laws.proofs.Leading.{GoesOn, LeadsBy, goes_same, fresh_goes, leads_push, leads_rename, leads_behind, leads_cut, leads_stop}
 
 -- ---- what every phase keeps
 
@@ -37,22 +38,32 @@ pub record Fresh (e : Entry) : Type 0 where
   pub waits : is_waiting e.state ≡ true → e.resolved ≡ false
   pub store : is_store e.item.kind ≡ true → e.resolved ≡ false
 
--- what is kept in every state: what has retired, what is in flight and what is fetched lead from no mark to the present one
-pub record Left (d : Desc) (gone : List Entry) (x : Machine) : Type 0 where
-  pub leads : Leads d no_mark (gone ++ x.window) x.queue x.mark
+-- what has retired, what is in flight and what is fetched lead from no mark to the present one, by these directions
+pub record Left (d : Desc) (gone : List Entry) (ways : List Bool) (x : Machine) : Type 0 where
+  pub leads : Leads d no_mark (gone ++ x.window) x.queue ways x.mark
   pub fresh : Each Fresh x.window
 
--- ---- Complete keeps what is left
+-- what is left leads to the present mark by the first of these directions
+pub record LeftBy (d : Desc) (gone : List Entry) (ways : List Bool) (x : Machine) : Type 0 where
+  pub first : List Bool
+  pub others : List Bool
+  pub whole : ways ≡ first ++ others
+  pub left : Left d gone first x
 
-done_counts : (e : Entry) (b way : Bool) → CountsBy b e way → CountsBy b (record e { state = Done }) way
-done_counts e true way h = h
-done_counts e false way h = h
+pub by_all : (d : Desc) (gone : List Entry) (ways : List Bool) (x : Machine) → Left d gone ways x → LeftBy d gone ways x
+by_all d gone ways x h = record { first = ways; others = []; whole = sym (append-nil ways); left = h }
+
+pub left_then : (d : Desc) (gone gone2 : List Entry) (ways : List Bool) (x y : Machine) → LeftBy d gone ways x → ((ways : List Bool) → Left d gone ways x → LeftBy d gone2 ways y) → LeftBy d gone2 ways y
+left_then d gone gone2 ways x y h more =
+    let m = more h.first h.left in record { first = m.first; others = m.others ++ h.others; whole = h.whole ∙ ap (λ ways. ways ++ h.others) m.whole ∙ append_assoc m.first m.others h.others; left = m.left }
+
+-- ---- Complete
 
 completed_goes : (cycle : ℕ) (e : Entry) → GoesOn e (completed cycle e)
 completed_goes cycle e = by_due (completes cycle e)
   where
     by_due : (b : Bool) → GoesOn e (if b then record e { state = Done } else e)
-    by_due true = record { item = refl; counts = done_counts e (has_squashed e) }
+    by_due true = record { item = refl; counts = λ way. refl }
     by_due false = goes_same e
 
 completed_fresh : (cycle : ℕ) (e : Entry) → Fresh e → Fresh (completed cycle e)
@@ -68,17 +79,17 @@ all_completed cycle (e ∷ w) f =
     let rest = all_completed cycle w f.1 in
     ((completed_goes cycle e, rest.0), (completed_fresh cycle e f.0, rest.1))
 
-module _ (d : Desc) (gone : List Entry) where
-  pub left_fill : (x : Machine) → Left d gone x → Left d gone (fill d x).machine
+module _ (d : Desc) (gone : List Entry) (ways : List Bool) where
+  pub left_fill : (x : Machine) → Left d gone ways x → Left d gone ways (fill d x).machine
   left_fill x h = record { leads = h.leads; fresh = h.fresh }
 
-  pub left_begin : (x : Machine) → Left d gone x → Left d gone (record x { cycle = x.cycle + 1 })
+  pub left_begin : (x : Machine) → Left d gone ways x → Left d gone ways (record x { cycle = x.cycle + 1 })
   left_begin x h = record { leads = h.leads; fresh = h.fresh }
 
-  pub left_complete : (x : Machine) → Left d gone x → Left d gone (complete x).machine
+  pub left_complete : (x : Machine) → Left d gone ways x → Left d gone ways (complete x).machine
   left_complete x h =
       let all = all_completed x.cycle x.window h.fresh in
-      record { leads = leads_behind d no_mark x.mark gone x.window (map (completed x.cycle) x.window) x.queue all.0 h.leads; fresh = all.1 }
+      record { leads = leads_behind d no_mark x.mark gone x.window (map (completed x.cycle) x.window) x.queue ways all.0 h.leads; fresh = all.1 }
 
 -- ---- Resolve keeps what is left
 
@@ -94,21 +105,21 @@ resolved_fresh : (e : Entry) → is_control e.item.kind ≡ true → is_waiting 
 resolved_fresh e c w = record { waits = λ h. absurd (cc); store = λ s. absurd (control_stores e.item.kind c s) }
 
 -- an entry that squashed counts with its true direction
-squashed_counts : (e : Entry) (b : Bool) → b ≡ true → CountsBy (true && b) (resolved_one e) (value_of e.outcome == 1)
-squashed_counts e true q = refl
-squashed_counts e false q = absurd (cc)
+squashed_counts : (e : Entry) (b : Bool) → b ≡ true → (way : Bool) → (if true && b then value_of e.outcome == 1 else way) ≡ (value_of e.outcome == 1)
+squashed_counts e true q way = refl
+squashed_counts e false q way = absurd (cc)
 
--- an entry that did not squash counts with its guess as before
-kept_counts : (e : Entry) (r s : Bool) → r ≡ false → s ≡ false → (way : Bool) → CountsBy (r && s) e way → CountsBy (true && s) (resolved_one e) way
-kept_counts e false false q t way h = h
-kept_counts e true s q t way h = absurd (cc)
-kept_counts e false true q t way h = absurd (cc)
+-- one that did not, with its predicted one as before
+kept_counts : (r s true_way way : Bool) → r ≡ false → s ≡ false → (if true && s then true_way else way) ≡ (if r && s then true_way else way)
+kept_counts false false true_way way q t = refl
+kept_counts true s true_way way q t = absurd (cc)
+kept_counts false true true_way way q t = absurd (cc)
 
-module _ (d : Desc) (gone : List Entry) (x : Machine) (p : Place) (t : Taken d x p) (h : Left d gone x) where
-  here : Leads d no_mark ((gone ++ reverse p.before) ++ p.entry ∷ p.younger) x.queue x.mark
+module _ (d : Desc) (gone : List Entry) (ways : List Bool) (x : Machine) (p : Place) (t : Taken d x p) (h : Left d gone ways x) where
+  here : Leads d no_mark ((gone ++ reverse p.before) ++ p.entry ∷ p.younger) x.queue ways x.mark
   here =
-      subst (λ w. Leads d no_mark w x.queue x.mark) (sym (append_assoc gone (reverse p.before) (p.entry ∷ p.younger)))
-      (subst (λ w. Leads d no_mark (gone ++ w) x.queue x.mark) t.window h.leads)
+      subst (λ w. Leads d no_mark w x.queue ways x.mark) (sym (append_assoc gone (reverse p.before) (p.entry ∷ p.younger)))
+      (subst (λ w. Leads d no_mark (gone ++ w) x.queue ways x.mark) t.window h.leads)
 
   all : Each Fresh (reverse p.before ++ p.entry ∷ p.younger)
   all = subst (Each Fresh) t.window h.fresh
@@ -121,43 +132,45 @@ module _ (d : Desc) (gone : List Entry) (x : Machine) (p : Place) (t : Taken d x
       let behind = each_right Fresh (reverse p.before) _ all in
       each_join Fresh (reverse p.before) _ (each_left Fresh (reverse p.before) _ all) (one, f behind.1)
 
-  squashed : squashes p.entry ≡ true → Left d gone (squash d p (taught d p x)).machine
-  squashed q = record {
-    leads =
-        subst (λ w. Leads d no_mark w [] (after_item d p.entry.item (value_of p.entry.outcome == 1))) (append_assoc gone (reverse p.before) (resolved_one p.entry ∷ []))
-        (leads_cut d no_mark x.mark (gone ++ reverse p.before) p.younger p.entry (resolved_one p.entry) x.queue (value_of p.entry.outcome == 1) refl (squashed_counts p.entry (squashes p.entry) q) here);
-    fresh = fresh_to [] (λ k. tt);
-  }
+  squashed : squashes p.entry ≡ true → LeftBy d gone ways (squash d p (taught d p x)).machine
+  squashed q =
+      let true_way = value_of p.entry.outcome == 1 in
+      let cut = leads_cut d no_mark x.mark (gone ++ reverse p.before) p.younger p.entry (resolved_one p.entry) x.queue ways true_way refl (squashed_counts p.entry (squashes p.entry) q) here in
+      record {
+        first = cut.first;
+        others = cut.others;
+        whole = cut.whole;
+        left = record {
+          leads = subst (λ w. Leads d no_mark w [] cut.first (after_item d p.entry.item true_way)) (append_assoc gone (reverse p.before) (resolved_one p.entry ∷ [])) cut.leads;
+          fresh = fresh_to [] (λ k. tt);
+        };
+      }
 
-  kept : squashes p.entry ≡ false → Left d gone (keep p (taught d p x)).machine
+  kept : squashes p.entry ≡ false → Left d gone ways (keep p (taught d p x)).machine
   kept q = record {
     leads =
-        subst (λ w. Leads d no_mark w x.queue x.mark) (append_assoc gone (reverse p.before) (resolved_one p.entry ∷ p.younger))
-        (leads_behind d no_mark x.mark (gone ++ reverse p.before) (p.entry ∷ p.younger) (resolved_one p.entry ∷ p.younger) x.queue
-        (record { item = refl; counts = kept_counts p.entry p.entry.resolved (squashes p.entry) t.parts.fresh q }, zip_same p.younger) here);
+        subst (λ w. Leads d no_mark w x.queue ways x.mark) (append_assoc gone (reverse p.before) (resolved_one p.entry ∷ p.younger))
+        (leads_behind d no_mark x.mark (gone ++ reverse p.before) (p.entry ∷ p.younger) (resolved_one p.entry ∷ p.younger) x.queue ways
+        (record { item = refl; counts = λ way. kept_counts p.entry.resolved (squashes p.entry) (value_of p.entry.outcome == 1) way t.parts.fresh q }, zip_same p.younger) here);
     fresh = fresh_to p.younger (λ k. k);
   }
 
-pub left_resolve : (d : Desc) (gone : List Entry) (x : Machine) → Left d gone x → Left d gone (resolve d x).machine
-left_resolve d gone = resolve_keep d (Left d gone) (λ x p t q h. squashed d gone x p t h q) (λ x p t q h. kept d gone x p t h q)
+pub left_resolve : (d : Desc) (gone : List Entry) (ways : List Bool) (x : Machine) → LeftBy d gone ways x → LeftBy d gone ways (resolve d x).machine
+left_resolve d gone ways =
+    resolve_keep d (LeftBy d gone ways) (λ x p t q h. left_then d gone gone ways x (squash d p (taught d p x)).machine h (λ ways l. squashed d gone ways x p t l q))
+    (λ x p t q h. let y = (keep p (taught d p x)).machine in left_then d gone gone ways x y h (λ ways l. by_all d gone ways y (kept d gone ways x p t l q)))
 
 -- ---- Clear keeps what is left
 
--- a store counts as it did once it is cleared
-cleared_counts : (e : Entry) (b way : Bool) → CountsBy b e way → CountsBy b (cleared_one e) way
-cleared_counts e true way h = h
-cleared_counts e false way h = h
-
-module _ (d : Desc) (gone : List Entry) (x : Machine) (p : Place) (t : Cleared d x p) (h : Left d gone x) where
+module _ (d : Desc) (gone : List Entry) (ways : List Bool) (x : Machine) (p : Place) (t : Cleared d x p) (h : Left d gone ways x) where
   abbrev front : List Entry
   front = gone ++ reverse p.before
 
-  marked : Leads d no_mark (front ++ cleared_one p.entry ∷ p.younger) x.queue x.mark
+  marked : Leads d no_mark (front ++ cleared_one p.entry ∷ p.younger) x.queue ways x.mark
   marked =
-      leads_behind d no_mark x.mark front (p.entry ∷ p.younger) (cleared_one p.entry ∷ p.younger) x.queue
-      (record { item = refl; counts = cleared_counts p.entry (has_squashed p.entry) }, zip_same p.younger)
-      (subst (λ w. Leads d no_mark w x.queue x.mark) (sym (append_assoc gone (reverse p.before) (p.entry ∷ p.younger)))
-      (subst (λ w. Leads d no_mark (gone ++ w) x.queue x.mark) t.window h.leads))
+      leads_behind d no_mark x.mark front (p.entry ∷ p.younger) (cleared_one p.entry ∷ p.younger) x.queue ways (record { item = refl; counts = λ way. refl }, zip_same p.younger)
+      (subst (λ w. Leads d no_mark w x.queue ways x.mark) (sym (append_assoc gone (reverse p.before) (p.entry ∷ p.younger)))
+      (subst (λ w. Leads d no_mark (gone ++ w) x.queue ways x.mark) t.window h.leads))
 
   fresh_here : (zs : List Entry) → (Each Fresh p.younger → Each Fresh zs) → Each Fresh (reverse p.before ++ cleared_one p.entry ∷ zs)
   fresh_here zs f =
@@ -165,27 +178,36 @@ module _ (d : Desc) (gone : List Entry) (x : Machine) (p : Place) (t : Cleared d
       let behind = each_right Fresh (reverse p.before) _ all in
       each_join Fresh (reverse p.before) _ (each_left Fresh (reverse p.before) _ all) (record { waits = behind.0.waits; store = behind.0.store }, f behind.1)
 
-  cleared : Left d gone (clears p x).machine
+  cleared : Left d gone ways (clears p x).machine
   cleared = record {
-    leads = subst (λ w. Leads d no_mark w x.queue x.mark) (append_assoc gone (reverse p.before) (cleared_one p.entry ∷ p.younger)) marked;
+    leads = subst (λ w. Leads d no_mark w x.queue ways x.mark) (append_assoc gone (reverse p.before) (cleared_one p.entry ∷ p.younger)) marked;
     fresh = fresh_here p.younger (λ k. k);
   }
 
   -- what is left in front of the violated load leads to the load's mark
-  stopped : (q : Place) → Violated p q → Leads d no_mark (front ++ cleared_one p.entry ∷ reverse q.before) [] q.entry.item.mark
+  stopped : (q : Place) → Violated p q → LeadsBy d no_mark (front ++ cleared_one p.entry ∷ reverse q.before) ways q.entry.item.mark
   stopped q u =
-      leads_stop d no_mark x.mark (front ++ cleared_one p.entry ∷ reverse q.before) q.younger q.entry x.queue
-      (subst (λ w. Leads d no_mark w x.queue x.mark) (sym (append_assoc front (cleared_one p.entry ∷ reverse q.before) (q.entry ∷ q.younger)))
-      (subst (λ w. Leads d no_mark (front ++ cleared_one p.entry ∷ w) x.queue x.mark) u.younger marked))
+      leads_stop d no_mark x.mark (front ++ cleared_one p.entry ∷ reverse q.before) q.younger q.entry x.queue ways
+      (subst (λ w. Leads d no_mark w x.queue ways x.mark) (sym (append_assoc front (cleared_one p.entry ∷ reverse q.before) (q.entry ∷ q.younger)))
+      (subst (λ w. Leads d no_mark (front ++ cleared_one p.entry ∷ w) x.queue ways x.mark) u.younger marked))
 
-  violated : (q : Place) → Violated p q → Left d gone (violates d p q x).machine
-  violated q u = record {
-    leads = subst (λ w. Leads d no_mark w [] q.entry.item.mark) (append_assoc gone (reverse p.before) (cleared_one p.entry ∷ reverse q.before)) (stopped q u);
-    fresh = fresh_here (reverse q.before) (λ k. each_left Fresh (reverse q.before) _ (subst (Each Fresh) u.younger k));
-  }
+  violated : (q : Place) → Violated p q → LeftBy d gone ways (violates d p q x).machine
+  violated q u =
+      let stop = stopped q u in
+      record {
+        first = stop.first;
+        others = stop.others;
+        whole = stop.whole;
+        left = record {
+          leads = subst (λ w. Leads d no_mark w [] stop.first q.entry.item.mark) (append_assoc gone (reverse p.before) (cleared_one p.entry ∷ reverse q.before)) stop.leads;
+          fresh = fresh_here (reverse q.before) (λ k. each_left Fresh (reverse q.before) _ (subst (Each Fresh) u.younger k));
+        };
+      }
 
-pub left_clear : (d : Desc) (gone : List Entry) (x : Machine) → Left d gone x → Left d gone (clear d x).machine
-left_clear d gone = clear_keep d (Left d gone) (λ x p t h. cleared d gone x p t h) (λ x p q t u h. violated d gone x p t h q u)
+pub left_clear : (d : Desc) (gone : List Entry) (ways : List Bool) (x : Machine) → LeftBy d gone ways x → LeftBy d gone ways (clear d x).machine
+left_clear d gone ways =
+    clear_keep d (LeftBy d gone ways) (λ x p t h. let y = (clears p x).machine in left_then d gone gone ways x y h (λ ways l. by_all d gone ways y (cleared d gone ways x p t l)))
+    (λ x p q t u h. left_then d gone gone ways x (violates d p q x).machine h (λ ways l. violated d gone ways x p t l q u))
 
 -- ---- Issue keeps what is left
 
@@ -216,40 +238,64 @@ all_issue d now b (e ∷ w) f =
     let rest = all_issue d now (e ∷ b) w f.1 in
     ((one.on, rest.0), (one.fresh, rest.1))
 
-pub left_issue : (d : Desc) (gone : List Entry) (x : Machine) → Left d gone x → Left d gone (issue d x).machine
-left_issue d gone x h =
+pub left_issue : (d : Desc) (gone : List Entry) (ways : List Bool) (x : Machine) → Left d gone ways x → Left d gone ways (issue d x).machine
+left_issue d gone ways x h =
     let all = all_issue d (around x) [] x.window h.fresh in
     let w = map (λ (t : Begun). t.entry) (each_from (issue_entry d (around x)) [] x.window) in
-    let leads = leads_behind d no_mark x.mark gone x.window w x.queue all.0 h.leads in
-    by_after_load d x (λ y. (v : Divider) → Left d gone (record y { window = w; divider = v })) (λ c s m v. record { leads = leads; fresh = all.1 }) (first (may_at d (around x) LoadPort) x.window) _
+    let leads = leads_behind d no_mark x.mark gone x.window w x.queue ways all.0 h.leads in
+    by_after_load d x (λ y. (v : Divider) → Left d gone ways (record y { window = w; divider = v })) (λ c s m v. record { leads = leads; fresh = all.1 }) (first (may_at d (around x) LoadPort) x.window) _
 
 -- ---- Rename and Fetch keep what is left
 
-pub left_rename : (d : Desc) (gone : List Entry) (x : Machine) → Left d gone x → Left d gone (rename d x).machine
-left_rename d gone = rename_keep d (Left d gone) one
+pub left_rename : (d : Desc) (gone : List Entry) (ways : List Bool) (x : Machine) → Left d gone ways x → Left d gone ways (rename d x).machine
+left_rename d gone ways = rename_keep d (Left d gone ways) one
   where
-    one : (x : Machine) (i : Item) (rest : List Item) → x.queue ≡ i ∷ rest → fits d x.window i ≡ true → Left d gone x → Left d gone (rename_one d i rest x).machine
+    one : (x : Machine) (i : Item) (rest : List Item) → x.queue ≡ i ∷ rest → fits d x.window i ≡ true → Left d gone ways x → Left d gone ways (rename_one d i rest x).machine
     one x i rest q f h = record {
       leads =
-          subst (λ w. Leads d no_mark w rest x.mark) (append_assoc gone x.window (renamed d x.next_serial i ∷ []))
-          (leads_rename d no_mark x.mark (gone ++ x.window) i rest x.next_serial (subst (λ q. Leads d no_mark (gone ++ x.window) q x.mark) q h.leads));
+          subst (λ w. Leads d no_mark w rest ways x.mark) (append_assoc gone x.window (renamed d x.next_serial i ∷ []))
+          (leads_rename d no_mark x.mark (gone ++ x.window) i rest ways x.next_serial (subst (λ q. Leads d no_mark (gone ++ x.window) q ways x.mark) q h.leads));
       fresh = each_push Fresh x.window (renamed d x.next_serial i) h.fresh (record { waits = λ w. refl; store = λ s. refl });
     }
 
--- an item is predicted by its guess
-guesses : (k : Kind) (d : Desc) (t : _) (i : Item) (way : Bool) → i.predicted ≡ predicted k d t i.mark way i.pc i.instr → GuessedBy k i way
-guesses Branch d t i way h = by_way way h
+-- fetching goes on where an item is predicted to lead
+goes : (k : Kind) (d : Desc) (t : _) (i : Item) (way : Bool) → i.predicted ≡ predicted k d t i.mark way i.pc i.instr → GoesBy k i way
+goes Branch d t i way h = by_way way h
   where
-    by_way : (way : Bool) → i.predicted ≡ predicted Branch d t i.mark way i.pc i.instr → GuessedBy Branch i way
+    by_way : (way : Bool) → i.predicted ≡ predicted Branch d t i.mark way i.pc i.instr → GoesBy Branch i way
     by_way true h = h
     by_way false h = h
-guesses _ d t i way h = tt
+goes _ d t i way h = tt
 
-pub left_fetch : (d : Desc) (code : Code) (gone : List Entry) (x : Machine) → Left d gone x → Left d gone (fetch d code x).machine
-left_fetch d code gone = fetch_keep d (Left d gone) code one
+-- items have been fetched since, and lead on by what the counters predict of them
+pub record Fetches (d : Desc) (gone : List Entry) (ways : List Bool) (x y : Machine) : Type 0 where
+  pub items : List Item
+  pub queue : y.queue ≡ x.queue ++ items
+  pub counters : y.counters ≡ x.counters
+  pub left : Left d gone (ways ++ guesses d x.counters items) y
+
+pub fetches : (d : Desc) (code : Code) (gone : List Entry) (ways : List Bool) (x : Machine) → Left d gone ways x → Fetches d gone ways x (fetch d code x).machine
+fetches d code gone ways x h =
+    fetch_keep d (Fetches d gone ways x) code one x
+    (record { items = []; queue = sym (append-nil x.queue); counters = refl; left = subst (λ ways. Left d gone ways x) (sym (append-nil ways)) h })
   where
-    one : (x : Machine) (pc : ℕ) → x.fetch_pc ≡ Some pc → nat_lt (length x.queue) d.core_queue ≡ true → Left d gone x → Left d gone (fetch_one d (item_at d code x pc) x).machine
-    one x pc q r h =
-        let i = item_at d code x pc in
-        let way = guess (kind_at (code pc)) d x.counters x.mark pc in
-        record { leads = leads_push d no_mark x.mark (gone ++ x.window) x.queue i way h.leads refl (guesses (kind_at (code pc)) d x.targets i way refl); fresh = h.fresh }
+    one : (y : Machine) (pc : ℕ) → y.fetch_pc ≡ Some pc → nat_lt (length y.queue) d.core_queue ≡ true → Fetches d gone ways x y → Fetches d gone ways x (fetch_one d (item_at d code y pc) y).machine
+    one y pc q r f =
+        let i = item_at d code y pc in
+        let way = guess (kind_at (code pc)) d y.counters y.mark pc in
+        let by_x : ways ++ guesses d x.counters (f.items ++ i ∷ []) ≡ (ways ++ guesses d x.counters f.items) ++ way ∷ [] =
+        ap (λ all. ways ++ all) (map-append (λ (i : Item). guess i.kind d x.counters i.mark i.pc) f.items (i ∷ []))
+        ∙ ap (λ counters. ways ++ (guesses d x.counters f.items ++ guess (kind_at (code pc)) d counters y.mark pc ∷ [])) (sym f.counters)
+        ∙ sym (append_assoc ways (guesses d x.counters f.items) (way ∷ [])) in
+        let next = fetch_one d i y in
+        record {
+          items = f.items ++ i ∷ [];
+          queue = ap (λ q. q ++ i ∷ []) f.queue ∙ append_assoc x.queue f.items (i ∷ []);
+          counters = f.counters;
+          left = record {
+            leads =
+                subst (λ ways. Leads d no_mark (gone ++ y.window) (y.queue ++ i ∷ []) ways next.machine.mark) (sym by_x)
+                (leads_push d no_mark y.mark (gone ++ y.window) y.queue (ways ++ guesses d x.counters f.items) i way f.left.leads refl (goes (kind_at (code pc)) d y.targets i way refl));
+            fresh = f.left.fresh;
+          };
+        }

@@ -1,5 +1,5 @@
 -- What history and return stack have of all that was fetched (docs/theorems.md, "History and return stack").
-use Rattle.std.specs.Prelude.{◌≡◌, ℕ, zero, suc, ◌-◌, Bool, true, false, ◌&&◌, ◌==◌, List, [], ◌∷◌, ◌++◌, take, Some, if◌then◌else◌}
+use Rattle.std.specs.Prelude.{◌≡◌, ℕ, zero, suc, ◌+◌, ◌-◌, Bool, ◌&&◌, ◌==◌, List, [], ◌∷◌, ◌++◌, length, map, take, drop, Some, if◌then◌else◌}
 use Rattle.rv_types.specs.Word.{word_add}
 use Rattle.rv_types.specs.Memory.{Code, Ram}
 use Rattle.rv_types.specs.declared.Kind.{Kind}
@@ -10,7 +10,9 @@ use Rattle.window_model.specs.declared.Item.{Item}
 use Rattle.window_model.specs.declared.Mark.{Mark}
 use Rattle.window_model.specs.Order.{value_of}
 use Rattle.window_model.specs.History.{mark_after, no_mark}
-use Rattle.window_model.specs.Fetch.{target_of}
+use Rattle.window_model.specs.Fetch.{guess, target_of}
+use Rattle.window_model.specs.Issue.{issue}
+use Rattle.window_model.specs.Rename.{rename}
 use Rattle.window_model.specs.Resolve.{squashes}
 use Rattle.window_model.specs.Retire.{retire, unless_ended}
 use Rattle.window_model.specs.Cycle.{at, before_retire, begins_cycle, cycle}
@@ -18,25 +20,21 @@ use Rattle.window_model.specs.State.{Machine, opening}
 
 -- ---- with which direction a branch counts
 
--- a branch was predicted to go this way: fetching went on there
-abbrev pub GuessedBy : Kind → Item → Bool → Type 0
-GuessedBy Branch i way = i.predicted ≡ Some (if way then target_of i.pc i.instr else word_add i.pc 4)
-GuessedBy _ i way = Unit {0}
+-- a branch that is predicted to go this way: fetching went on there
+abbrev pub GoesBy : Kind → Item → Bool → Type 0
+GoesBy Branch i way = i.predicted ≡ Some (if way then target_of i.pc i.instr else word_add i.pc 4)
+GoesBy _ i way = Unit {0}
 
-abbrev pub IsGuess : Item → Bool → Type 0
-IsGuess i way = GuessedBy i.kind i way
+abbrev pub Goes : Item → Bool → Type 0
+Goes i way = GoesBy i.kind i way
 
 -- the resolution of an entry squashed
 abbrev pub has_squashed : Entry → Bool
 has_squashed e = e.resolved && squashes e
 
--- an entry counts with its true direction if its resolution squashed, else with the predicted one
-abbrev pub CountsBy : Bool → Entry → Bool → Type 0
-CountsBy true e way = way ≡ (value_of e.outcome == 1)
-CountsBy false e way = IsGuess e.item way
-
-abbrev pub Counts : Entry → Bool → Type 0
-Counts e way = CountsBy (has_squashed e) e way
+-- an entry whose resolution squashed counts with its true direction, any other with the predicted one
+abbrev pub direction : Entry → Bool → Bool
+direction e predicted = if has_squashed e then value_of e.outcome == 1 else predicted
 
 -- ---- over what history and stack go on
 
@@ -44,15 +42,17 @@ Counts e way = CountsBy (has_squashed e) e way
 abbrev pub after_item : Desc → Item → Bool → Mark
 after_item d i way = mark_after i.kind d i.pc i.instr way i.mark
 
--- items lead from one mark to another: each has the mark to which those before it lead
-abbrev pub LeadsOver : Desc → Mark → List Item → Mark → Type 0
-LeadsOver d from [] to = to ≡ from
-LeadsOver d from (i ∷ q) to = (i.mark ≡ from) × ((way : Bool) × IsGuess i way × LeadsOver d (after_item d i way) q to)
+-- items with these predicted directions lead from one mark to another: each has the mark to which those before it lead
+abbrev pub LeadsOver : Desc → Mark → List Item → List Bool → Mark → Type 0
+LeadsOver d from [] [] to = to ≡ from
+LeadsOver d from (i ∷ q) (way ∷ ways) to = (i.mark ≡ from) × Goes i way × LeadsOver d (after_item d i way) q ways to
+LeadsOver d from _ _ to = ⊥
 
--- entries lead from one mark to another, with items behind them: each has the mark to which those before it lead
-abbrev pub Leads : Desc → Mark → List Entry → List Item → Mark → Type 0
-Leads d from [] q to = LeadsOver d from q to
-Leads d from (e ∷ es) q to = (e.item.mark ≡ from) × ((way : Bool) × Counts e way × Leads d (after_item d e.item way) es q to)
+-- entries with these predicted directions, and items behind them, lead from one mark to another
+abbrev pub Leads : Desc → Mark → List Entry → List Item → List Bool → Mark → Type 0
+Leads d from [] q ways to = LeadsOver d from q ways to
+Leads d from (e ∷ es) q (way ∷ ways) to = (e.item.mark ≡ from) × Goes e.item way × Leads d (after_item d e.item (direction e way)) es q ways to
+Leads d from (e ∷ es) q [] to = ⊥
 
 -- ---- what is left of all that was fetched
 
@@ -67,7 +67,34 @@ abbrev pub retired_in : Desc → Code → ℕ → Machine → List Entry
 retired_in d code zero x = []
 retired_in d code (suc k) x = unless_ended x.end [] (retiring d x ++ retired_in d code k (cycle d code x).machine)
 
--- in every state of a run what has retired, what is in flight and what is fetched lead from no mark to the present one
+-- ---- what was predicted of it
+
+-- the machine as the last phase of a cycle begins; where the run ends in the cycle, as it ends
+abbrev pub before_fetch : Desc → Machine → Machine
+before_fetch d x =
+    let y = (retire d (before_retire d (begins_cycle x)).machine).machine in
+    unless_ended y.end y (rename d (issue d y).machine).machine
+
+-- the directions that the counters predict of items
+abbrev pub guesses : Desc → List ℕ → List Item → List Bool
+guesses d counters items = map (λ i. guess i.kind d counters i.mark i.pc) items
+
+-- the directions of what is left after a cycle, with all that has retired: of as many as are left as its last phase begins, and then
+-- those that are predicted of the items that it fetches
+abbrev pub predicted_on : Desc → Code → List Entry → Machine → List Bool → List Bool
+predicted_on d code gone x ways =
+    let y = before_fetch d x in
+    take (length (gone ++ y.window) + length y.queue) ways ++ guesses d y.counters (drop (length y.queue) (cycle d code x).machine.queue)
+
+-- the directions that were predicted of what is left after k cycles
+abbrev pub predicted_in : Desc → Code → ℕ → List Entry → Machine → List Bool → List Bool
+predicted_in d code zero gone x ways = ways
+predicted_in d code (suc k) gone x ways =
+    unless_ended x.end ways (predicted_in d code k (gone ++ retiring d x) (cycle d code x).machine (predicted_on d code (gone ++ retiring d x) x ways))
+
+-- in every state of a run what has retired, what is in flight and what is fetched lead from no mark to the present one, by what was
+-- predicted of each as it was fetched
 abbrev pub FollowWhatIsLeft : Type 0
 FollowWhatIsLeft = (d : Desc) (code : Code) (entry : ℕ) (ram : Ram) (k : ℕ) →
-    let x = at d code entry ram k in Leads d no_mark (retired_in d code k (opening d entry ram) ++ x.window) x.queue x.mark
+    let first = opening d entry ram in
+    let x = at d code entry ram k in Leads d no_mark (retired_in d code k first ++ x.window) x.queue (predicted_in d code k [] first []) x.mark

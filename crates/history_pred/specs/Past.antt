@@ -1,16 +1,37 @@
--- What is remembered of the past: history and stack (docs/machine.md, "History and return stack").
-use Rattle.std.specs.Prelude.{refl}
-use Rattle.std.specs.Coded.{Coded, code_by, coded×}
-use Rattle.machine_desc.specs.contracts.Desc as desc
+-- What is remembered of the past: history and stack, and how much each keeps (docs/machine.md, "History and return stack").
+use Rattle.std.specs.Prelude.{◌≡◌, ℕ, ◌+◌, ◌*◌, ◌/◌, ◌%◌, ◌^◌, Bool, ◌∷◌, take, bit_xor, refl}
+use Rattle.std.specs.Coded.{Coded, code_by, coded×, coded_ℕ}
+use Rattle.rv_types.specs.Value.{one_if}
 use Rattle.machine_desc.specs.declared.Desc.{Desc}
 use Rattle.window_model.specs.contracts.Mark as mark
 use Rattle.window_model.specs.declared.Mark.{Mark}
+use Rattle.window_model.specs.History.{stack, with_stack}
 
--- in a machine of this description, the present history and stack
+-- how many counters branches have, how many directions and addresses are kept, and the present history and stack
 pub record Past : Type 0 where
-  pub desc : Desc
+  pub counters : ℕ
+  pub directions : ℕ
+  pub returns : ℕ
   pub mark : Mark
 
--- history and stack are stored as the description and the mark
+-- they are stored as the four
 abbrev pub past_code : Coded Past
-past_code = code_by (Desc × Mark) (coded× desc.the_row.coded mark.the_row.coded) (λ p. (p.desc, p.mark)) (λ p. record { desc = p.0; mark = p.1 }) (λ _. refl)
+past_code =
+    code_by (ℕ × (ℕ × (ℕ × Mark))) (coded× coded_ℕ (coded× coded_ℕ (coded× coded_ℕ mark.the_row.coded))) (λ p. (p.counters, (p.directions, (p.returns, p.mark))))
+    (λ p. record { counters = p.0; directions = p.1.0; returns = p.1.1.0; mark = p.1.1.1 }) (λ _. refl)
+
+-- where the counter of a branch stands that comes with a mark
+abbrev pub counter_place : Past → Mark → ℕ → ℕ
+counter_place p m pc = bit_xor (pc / 4) m.history % p.counters
+
+-- a direction enters the history as its lowest digit, and the oldest leaves it
+abbrev pub with_direction : Past → Bool → Past
+with_direction p way = record p { mark = record (p.mark) { history = (2 * p.mark.history + one_if way) % 2 ^ p.directions } }
+
+-- an address is pushed; where there are then more than are kept, the oldest goes
+abbrev pub with_address : Past → ℕ → Past
+with_address p a = record p { mark = with_stack (take p.returns (a ∷ stack p.mark)) p.mark }
+
+-- what holds in the machine of each description that asks for as many counters, directions and addresses
+abbrev pub InEach : Past → (Desc → Type 0) → Type 0
+InEach p So = (d : Desc) → p.counters ≡ d.predictor_counters → p.directions ≡ d.predictor_history → p.returns ≡ d.predictor_returns → So d

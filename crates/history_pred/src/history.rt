@@ -3,6 +3,7 @@ ghost use Rattle.std.specs.Prelude.{◌≡◌, ◌<◌, ◌≤◌, ◌+◌, ◌*
 ghost use Rattle.rv_types.specs.Value.{one_if};
 ghost use Rattle.window_model.specs.History.{counter_index, jumped, mark_after, no_mark};
 ghost use Rattle.window_model.specs.History.{popped, pushed, returns_to, shifted, stack, youngest};
+ghost use Rattle.history_pred.specs.Past.{InEach, counter_place, with_address, with_direction};
 
 use crate::jump::{links, returns};
 use crate::stack::{popped, pushed, youngest};
@@ -11,57 +12,76 @@ use rv_types::{Instr, Kind};
 use std::marker::Model;
 use window_model::{Item, Mark};
 
-/// Global history and return stack, seen as the description that they are made for, and a mark: what they are as the next item
-/// comes to be fetched.
+/// Global history and return stack, seen as how many counters branches have, how many directions and addresses are kept, and a
+/// mark: what they are as the next item comes to be fetched.
 #[derive(Drop)]
 pub struct History {
-    desc: Desc,
+    counters: u32,
+    directions: u32,
+    returns: u32,
     mark: Mark,
 }
 
 impl Model for History {
+    ghost use Rattle.std.specs.Prelude.{◌<◌, ◌≤◌};
     ghost use Rattle.history_pred.specs.Past.{Past, past_code};
 
     ghost Value = { Past };
 
     ghost coded = { past_code };
 
-    ghost view = { λ h. record { desc = h.desc; mark = h.mark } };
+    ghost view = { λ h. record {
+      counters = h.counters;
+      directions = h.directions;
+      returns = h.returns;
+      mark = h.mark;
+    } };
+
+    ghost invariant = { λ h. (0 < h.counters) × (h.directions ≤ 12) × (h.returns ≤ 16) };
 }
 
 impl History {
-    /// No branch yet, and an empty stack.
+    /// No branch yet, and an empty stack, for as many counters, directions and addresses as the description says.
+    #[tactic(auto, using(crate::proofs::Bounds::few_directions, crate::proofs::Bounds::few_returns))]
     pub fn new(desc: &Desc) -> History
-        ensures { result ≡ record { desc = desc.now; mark = no_mark } }
+        ensures { result ≡ record {
+          counters = desc.now.predictor_counters;
+          directions = desc.now.predictor_history;
+          returns = desc.now.predictor_returns;
+          mark = no_mark;
+        } }
     {
         History {
-            desc: *desc,
+            counters: desc.predictor_counters,
+            directions: desc.predictor_history,
+            returns: desc.predictor_returns,
             mark: Mark::default(),
         }
     }
 
     /// Where the counter of a branch stands that comes with this mark: its word's number, with the history over it.
     pub fn index(&self, mark: &Mark, pc: u32) -> u32
-        ensures place { result ≡ counter_index self.now.desc mark.now pc }
-        ensures inside { result < self.now.desc.predictor_counters }
+        ensures place { result ≡ counter_place self.now mark.now pc }
+        ensures inside { result < self.now.counters }
+        ensures machine { InEach self.now (λ d. result ≡ counter_index d mark.now pc) }
     {
-        (pc / 4 ^ mark.history) % self.desc.predictor_counters
+        (pc / 4 ^ mark.history) % self.counters
     }
 
     /// A branch goes this way: its direction enters the history, and the oldest leaves it.
-    #[tactic(auto, using(crate::proofs::Bounds::few_directions))]
     pub fn shift(&mut self, taken: bool)
-        ensures { self.new ≡ record self.old { mark = shifted self.old.desc taken self.old.mark } }
+        ensures direction { self.new ≡ with_direction self.old taken }
+        ensures machine { InEach self.old (λ d. self.new ≡ record self.old { mark = shifted d taken self.old.mark }) }
     {
-        self.mark.history = shifted(self.mark.history, self.desc.predictor_history, taken);
+        self.mark.history = shifted(self.mark.history, self.directions, taken);
     }
 
-    /// Pushes the address to which a call returns. Where the stack then has more than the description says, the oldest goes.
-    #[tactic(auto, using(crate::proofs::Bounds::few_returns))]
+    /// Pushes the address to which a call returns. Where the stack then has more than are kept, the oldest goes.
     pub fn push(&mut self, addr: u32)
-        ensures { self.new ≡ record self.old { mark = pushed self.old.desc addr self.old.mark } }
+        ensures address { self.new ≡ with_address self.old addr }
+        ensures machine { InEach self.old (λ d. self.new ≡ record self.old { mark = pushed d addr self.old.mark }) }
     {
-        self.mark = pushed(&self.mark, addr, self.desc.predictor_returns);
+        self.mark = pushed(&self.mark, addr, self.returns);
     }
 
     /// Takes the youngest address off the stack and answers it. None exactly where the stack is empty.
@@ -104,9 +124,10 @@ impl History {
     /// return pops.
     #[inline(always)]
     pub fn follow(&mut self, item: &Item, taken: bool)
-        ensures { self.new ≡ record self.old {
-          mark = mark_after item.now.kind self.old.desc item.now.pc item.now.instr taken self.old.mark;
-        } }
+        ensures sizes { self.new ≡ record self.old { mark = self.new.mark } }
+        ensures machine { InEach self.old (λ d. self.new ≡ record self.old {
+          mark = mark_after item.now.kind d item.now.pc item.now.instr taken self.old.mark;
+        }) }
     {
         match item.kind {
             Kind::Branch => self.shift(taken),
@@ -118,7 +139,10 @@ impl History {
 
     // A jump that links pushes the address behind it, and a return pops.
     fn jump(&mut self, pc: u32, instr: &Instr)
-        ensures { self.new ≡ record self.old { mark = jumped self.old.desc pc instr.now self.old.mark } }
+        ensures sizes { self.new ≡ record self.old { mark = self.new.mark } }
+        ensures machine { InEach self.old (λ d. self.new ≡ record self.old {
+          mark = jumped d pc instr.now self.old.mark;
+        }) }
     {
         if links(instr) {
             self.push(pc.wrapping_add(4));

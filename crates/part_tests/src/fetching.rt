@@ -1,5 +1,5 @@
 //! A short program whose branch, jumps and end are fetched in turn (`fetch_unit`; `docs/machine.md`, "Fetch").
-ghost use Rattle.std.specs.Prelude.{◌≡◌, IfOk};
+ghost use Rattle.std.specs.Prelude.{◌≡◌, length, IfOk};
 
 use crate::descriptions::{largest, small};
 use byte_ram::Ram;
@@ -53,10 +53,8 @@ fn assert_fetches(
     history: &mut History,
     events: &[Event],
 )
-    requires one_description { predictor.now.desc ≡ fetch.old.desc }
-    requires of_history { history.old.desc ≡ fetch.old.desc }
-    ensures desc { fetch.new.desc ≡ fetch.old.desc }
-    ensures history_desc { history.new.desc ≡ fetch.old.desc }
+    requires same_counters { history.old.counters ≡ length predictor.now.counters }
+    ensures counters { history.new.counters ≡ history.old.counters }
 {
     let mut row = empty_row();
     fetch.fetch(code, predictor, history, &mut row);
@@ -65,8 +63,8 @@ fn assert_fetches(
 
 // A predictor that has learnt that the branch was taken, and that the JALR went to this address.
 fn taught(alloc: Global, desc: &Desc, history: &History, target: u32) -> Result<Predictor, Fail>
-    requires { history.now.desc ≡ desc.now }
-    ensures { IfOk result (λ p. p.desc ≡ desc.now) }
+    requires { history.now.counters ≡ desc.now.predictor_counters }
+    ensures { IfOk result (λ p. length p.counters ≡ desc.now.predictor_counters) }
 {
     let mut predictor = Predictor::new(alloc, desc)?;
     let _ = predictor.learn_branch(history.index(history.mark(), BRANCH), true);
@@ -121,8 +119,10 @@ fn fetching_goes_on_at_what_was_learnt(rt: HostRuntime) -> Result<(), Fail> {
     };
     let mut fetch = Fetch::new(alloc, &desc, BRANCH)?;
     assert!(rt; fetch.redirect(Some(RETURN)) == 0);
-    let mut history = History::new(&desc);
-    let predictor = taught(alloc, &desc, &history, BRANCH)?;
+    // Predictor and history are of another description than the fetch unit: the two have as many counters.
+    let other = largest(alloc)?;
+    let mut history = History::new(&other);
+    let predictor = taught(alloc, &other, &history, BRANCH)?;
     let first = [Event::Fet(RETURN), Event::Fet(BRANCH)];
     assert_fetches(&rt, &code, &mut fetch, &predictor, &mut history, &first);
     let stop = [Event::Fet(STOP)];

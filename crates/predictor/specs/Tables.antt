@@ -1,27 +1,25 @@
 -- What the predictor holds, what it predicts, and what it learns (docs/machine.md, "State", "Resolve", "Fetch").
-use Rattle.std.specs.Prelude.{ℕ, Bool, ◌==◌, nat_le, if◌then◌else◌, List, slice_index, slice_index_or, Option, Some, None, refl}
+use Rattle.std.specs.Prelude.{◌≡◌, ℕ, Bool, ◌==◌, nat_le, if◌then◌else◌, List, length, slice_index, slice_index_or, Option, Some, None, refl}
 use Rattle.std.specs.Coded.{Coded, code_by, coded×, coded_ℕ, coded_list, coded_option}
-use Rattle.machine_desc.specs.contracts.Desc as desc
 use Rattle.machine_desc.specs.declared.Desc.{Desc}
 use Rattle.window_model.specs.contracts.Target as target
 use Rattle.window_model.specs.declared.Target.{Target}
 use Rattle.window_model.specs.Resolve.{index, moved}
 
--- in a machine of this description, the counters of branches and the targets of JALRs
+-- the counters of branches and the targets of JALRs, as many as there are
 pub record Tables : Type 0 where
-  pub desc : Desc
   pub counters : List ℕ
   pub targets : List (Option Target)
 
--- the tables are stored as the description, the counters and the targets
+-- they are stored as the two
 abbrev pub tables_code : Coded Tables
 tables_code =
-    code_by (Desc × (List ℕ × List (Option Target))) (coded× desc.the_row.coded (coded× (coded_list coded_ℕ) (coded_list (coded_option target.the_row.coded))))
-    (λ t. (t.desc, (t.counters, t.targets))) (λ p. record { desc = p.0; counters = p.1.0; targets = p.1.1 }) (λ _. refl)
+    code_by (List ℕ × List (Option Target)) (coded× (coded_list coded_ℕ) (coded_list (coded_option target.the_row.coded))) (λ t. (t.counters, t.targets))
+    (λ p. record { counters = p.0; targets = p.1 }) (λ _. refl)
 
 -- the place of a JALR's target
 abbrev pub target_place : Tables → ℕ → ℕ
-target_place t pc = index pc t.desc.predictor_btb
+target_place t pc = index pc (length t.targets)
 
 -- a branch is predicted to be taken where its counter, at this place, is 2 or 3
 abbrev pub is_taken : Tables → ℕ → Bool
@@ -39,3 +37,7 @@ target_at t pc = target_if pc (slice_index_or t.targets (target_place t pc) None
 -- the counter at this place, after its branch went this way
 abbrev pub counter_after : Tables → ℕ → Bool → ℕ
 counter_after t place way = moved way (slice_index t.counters place)
+
+-- what holds in the machine of each description that asks for as many counters and targets
+abbrev pub InEach : Tables → (Desc → Type 0) → Type 0
+InEach t So = (d : Desc) → length t.counters ≡ d.predictor_counters → length t.targets ≡ d.predictor_btb → So d

@@ -1,5 +1,5 @@
 //! The counters and the targets.
-ghost use Rattle.std.specs.Prelude.{◌≡◌, ◌<◌, replicate, slice_set, IfOk, None, Some};
+ghost use Rattle.std.specs.Prelude.{◌≡◌, ◌<◌, length, replicate, slice_set, IfOk, None, Some};
 ghost use Rattle.window_model.specs.Resolve.{index, moved};
 ghost use Rattle.window_model.specs.declared.Event.TheVariants as event;
 ghost use Rattle.predictor.specs.Tables.{target_place, is_taken, target_if, target_at, counter_after};
@@ -19,51 +19,44 @@ const TAKEN_FROM: u8 = 2;
 /// The most that a counter comes to.
 const COUNTER_MAX: u8 = 3;
 
-/// The predictor of branches and JALRs, seen as the description that it is made for, the counters and the targets.
+/// The predictor of branches and JALRs, seen as the counters and the targets.
 #[derive(Drop)]
 pub struct Predictor {
-    desc: Desc,
     counters: Vec<u8>,
     targets: Vec<Option<Target>>,
 }
 
 impl Model for Predictor {
-    ghost use Rattle.std.specs.Prelude.{◌≡◌, vec_len};
+    ghost use Rattle.std.specs.Prelude.{◌<◌, ◌^◌, vec_len};
     ghost use Rattle.predictor.specs.Tables.{Tables, tables_code};
 
     ghost Value = { Tables };
 
     ghost coded = { tables_code };
 
-    ghost view = { λ p. record { desc = p.desc; counters = p.counters.items; targets = p.targets.items } };
+    ghost view = { λ p. record { counters = p.counters.items; targets = p.targets.items } };
 
-    ghost invariant = { λ p. (vec_len p.counters ≡ p.desc.predictor_counters)
-        × (vec_len p.targets ≡ p.desc.predictor_btb) };
+    ghost invariant = { λ p. (0 < vec_len p.targets) × (vec_len p.targets < 2 ^ 32) };
 }
 
 impl Predictor {
-    /// A predictor of this description that has learnt nothing: every counter is 1, and there is no target. It takes all
-    /// memory that the predictor takes; the one error is want of it.
+    /// A predictor with as many counters and targets as the description says that has learnt nothing: every counter is 1, and there
+    /// is no target. It takes all memory that the predictor takes; the one error is want of it.
     pub fn new(alloc: Global, desc: &Desc) -> Result<Predictor, NoMemory>
         ensures { IfOk result (λ p. p ≡ record {
-          desc = desc.now;
           counters = replicate desc.now.predictor_counters 1;
           targets = replicate desc.now.predictor_btb None;
         }) }
     {
         let counters = vec![in alloc; COUNTER_START; desc.predictor_counters as usize]?;
         let targets = vec![in alloc; None; desc.predictor_btb as usize]?;
-        Ok(Predictor {
-            desc: *desc,
-            counters,
-            targets,
-        })
+        Ok(Predictor { counters, targets })
     }
 
     /// Whether a branch whose counter stands at this place is predicted to be taken: exactly where the counter is 2 or 3. The
     /// branch's address and its history say which place that is.
     pub fn direction(&self, place: u32) -> bool
-        requires { place < self.now.desc.predictor_counters }
+        requires { place < length self.now.counters }
         ensures { result ≡ is_taken self.now place }
     {
         self.counters[place as usize] >= TAKEN_FROM
@@ -74,13 +67,13 @@ impl Predictor {
     pub fn target(&self, pc: u32) -> Option<u32>
         ensures { result ≡ target_at self.now pc }
     {
-        target_for(self.targets[index(pc, self.desc.predictor_btb)], pc)
+        target_for(self.targets[index(pc, self.targets.len() as u32)], pc)
     }
 
     /// Learns how the branch went whose counter stands at this place: the counter goes one up where it was taken, to at most 3,
     /// else one down, to at least 0. No other counter changes, and no target. Answers the event that tells the counter's value.
     pub fn learn_branch(&mut self, place: u32, taken: bool) -> Event
-        requires { place < self.old.desc.predictor_counters }
+        requires { place < length self.old.counters }
         ensures moved { self.new ≡ record self.old {
           counters = slice_set self.old.counters place (counter_after self.old place taken);
         } }
@@ -100,7 +93,7 @@ impl Predictor {
         } }
         ensures event { result ≡ event.Bt (target_place self.old pc) target }
     {
-        let place = index(pc, self.desc.predictor_btb);
+        let place = index(pc, self.targets.len() as u32);
         self.targets[place] = Some(Target { pc, target });
         Event::Bt(place as u32, target)
     }

@@ -26,7 +26,9 @@ use Rattle.machine_facts.proofs.SizedPhases.{learns_in}
 use Rattle.machine_facts.proofs.SizedWindow.{thinner}
 use Rattle.rob_ring.specs.Issued.{as_resolved}
 use Rattle.rob_ring.specs.Ring.{Ring}
+use Rattle.predictor.specs.Tables as learnt
 use Rattle.predictor.specs.Tables.{Tables}
+use Rattle.history_pred.specs.Past as histories
 use Rattle.history_pred.specs.Past.{Past}
 use Rattle.visibility.specs.Point.{HasAdvanced, NotPast}
 use Rattle.branch_resolve.specs.Effect.{resolution_of, taught, told}
@@ -68,9 +70,20 @@ none_row v row h = ap (λ es. record row { events = es }) (sym (append-nil row.e
 pub is_inside : (h : Held) (v : Described) (i : ℕ) → Whole h → described h ≡ v → Some i ≡ resolving v.desc v.machine.window → i < length h.rob.entries
 is_inside h v i w s p = subst (λ (v : Described). i < length v.machine.window) (sym s) (inside v.desc v.machine.window i (picked v.desc v.machine.window i p))
 
--- the predictor and the history are of one description
-pub one_description : (h : Held) → Whole h → h.tables.desc ≡ h.past.desc
-one_description h w = ap (λ (s : Sizes). s.tables) w.made ∙ sym (ap (λ (s : Sizes). s.past) w.made)
+-- what holds in each machine that asks for a predictor of these sizes
+abbrev pub Taught : Held → (Desc → Type 0) → Type 0
+Taught h So = learnt.InEach h.tables So
+
+-- what holds in each machine that asks for a history of these sizes
+abbrev pub Remembered : Held → (Desc → Type 0) → Type 0
+Remembered h So = histories.InEach h.past So
+
+-- what holds in each such machine holds in that of the description
+taught_here : (h : Held) (So : Desc → Type 0) → Whole h → Taught h So → So h.desc
+taught_here h So w each = each h.desc w.sized.counters w.sized.targets
+
+remembered_here : (h : Held) (So : Desc → Type 0) → Whole h → Remembered h So → So h.desc
+remembered_here h So w each = each h.desc (ap (λ (s : Sizes). s.counters) w.made) (ap (λ (s : Sizes). s.directions) w.made) (ap (λ (s : Sizes). s.returns) w.made)
 
 -- ---- the sizes of the machine stay
 
@@ -117,18 +130,18 @@ takes : (d : Desc) (w : List Entry) (i : ℕ) (e : Entry) (k : Taken d w i e) �
 takes d w i e k = resolve_parts d k.before e (found (may_resolve d) [] w (record { before = k.before; entry = e; younger = k.younger }) k.is).has
 
 module _ (h : Held) (v : Described) (i : ℕ) (e : Entry) (rob : Ring) (tables : Tables) (w : Whole h) (s : described h ≡ v) (p : Some i ≡ resolving v.desc v.machine.window) (here : slice_get h.rob.entries i ≡ Some e)
-    (marks : rob ≡ record (h.rob) { entries = slice_set h.rob.entries i (as_resolved e) }) (teaches : tables ≡ taught h.tables e) where
+    (marks : rob ≡ record (h.rob) { entries = slice_set h.rob.entries i (as_resolved e) }) (teaches : Taught h (λ d. tables ≡ taught d h.tables e)) where
   there : slice_get v.machine.window i ≡ Some e
   there = subst (λ (v : Described). slice_get v.machine.window i ≡ Some e) s here
 
   may : MayResolve h.desc (taken h.desc h.rob.entries i e (subst (λ (v : Described). Some i ≡ resolving v.desc v.machine.window) (sym s) p) here).before e
   may = takes h.desc h.rob.entries i e (taken h.desc h.rob.entries i e (subst (λ (v : Described). Some i ≡ resolving v.desc v.machine.window) (sym s) p) here)
 
-  are : record h { rob = rob; tables = tables } ≡ record h { rob = record (h.rob) { entries = slice_set h.rob.entries i (as_resolved e) }; tables = taught h.tables e }
-  are = ap₂ (λ (r : Ring) (t : Tables). record h { rob = r; tables = t }) marks teaches
+  are : record h { rob = rob; tables = tables } ≡ record h { rob = record (h.rob) { entries = slice_set h.rob.entries i (as_resolved e) }; tables = taught h.desc h.tables e }
+  are = ap₂ (λ (r : Ring) (t : Tables). record h { rob = r; tables = t }) marks (taught_here h (λ d. tables ≡ taught d h.tables e) w teaches)
 
-  machine_is : machine_of (record h { rob = record (h.rob) { entries = slice_set h.rob.entries i (as_resolved e) }; tables = taught h.tables e }) ≡ marked h.desc i e (machine_of h)
-  machine_is = ap (λ (s : Sizes). marked s.tables i e (machine_of h)) w.made
+  machine_is : machine_of (record h { rob = record (h.rob) { entries = slice_set h.rob.entries i (as_resolved e) }; tables = taught h.desc h.tables e }) ≡ marked h.desc i e (machine_of h)
+  machine_is = refl
 
   pub marked_whole : Whole (record h { rob = rob; tables = tables })
   marked_whole = subst Whole (sym are) (record {
@@ -154,14 +167,17 @@ module _ (h : Held) (v : Described) (i : ℕ) (e : Entry) (rob : Ring) (tables :
   pub still_inside : i < length rob.entries
   still_inside = slice_get_within rob.entries i _ marked_here
 
-  -- history and stack behind the resolved entry are those behind it as it was
-  pub behind : (then : Entry) (past : Past) → slice_get rob.entries i ≡ Some then → past ≡ record (h.past) { mark = true_mark h.past.desc then } → past ≡ record (h.past) { mark = true_mark h.past.desc e }
-  behind then past at m = m ∙ ap (λ (e : Entry). record (h.past) { mark = true_mark h.past.desc e }) (some_of then (as_resolved e) (sym at ∙ marked_here))
+  -- what is behind it is behind the entry as it was
+  pub behind : (then : Entry) (past : Past) → slice_get rob.entries i ≡ Some then → Remembered h (λ d. past ≡ record (h.past) { mark = true_mark d then }) → past ≡ record (h.past) { mark = true_mark h.desc e }
+  behind then past at m =
+      remembered_here h (λ d. past ≡ record (h.past) { mark = true_mark d then }) w m
+      ∙ ap (λ (e : Entry). record (h.past) { mark = true_mark h.desc e }) (some_of then (as_resolved e) (sym at ∙ marked_here))
 
-  told_is : told h.tables e ≡ (learn v.desc e v.machine.counters v.machine.targets).events
-  told_is =
-      ap (λ (s : Sizes). (learn s.tables e h.tables.counters h.tables.targets).events) w.made
-      ∙ ap (λ (v : Described). (learn v.desc e v.machine.counters v.machine.targets).events) s
+  told_is : told h.desc h.tables e ≡ (learn v.desc e v.machine.counters v.machine.targets).events
+  told_is = ap (λ (v : Described). (learn v.desc e v.machine.counters v.machine.targets).events) s
+
+  row_is : (old new : Row) → Taught h (λ d. new ≡ record old { events = old.events ++ told d h.tables e }) → new ≡ record old { events = old.events ++ told h.desc h.tables e }
+  row_is old new = taught_here h (λ d. new ≡ record old { events = old.events ++ told d h.tables e }) w
 
   -- ---- the entry was rightly predicted
 
@@ -169,23 +185,20 @@ module _ (h : Held) (v : Described) (i : ℕ) (e : Entry) (rob : Ring) (tables :
     pub right_shown : described (record h { rob = rob; tables = tables }) ≡ record v { machine = (resolve v.desc v.machine).machine }
     right_shown = marked_shown ∙ ap (λ (a : After). record v { machine = a.machine }) (sym (right_is v.desc v.machine i e p there right))
 
-    pub right_row : (old new : Row) → new ≡ record old { events = old.events ++ told h.tables e } → new ≡ record old { events = old.events ++ (resolve v.desc v.machine).events }
-    right_row old new t = t ∙ ap (λ es. record old { events = old.events ++ es }) (told_is ∙ sym (ap (λ (a : After). a.events) (right_is v.desc v.machine i e p there right)))
+    pub right_row : (old new : Row) → Taught h (λ d. new ≡ record old { events = old.events ++ told d h.tables e }) → new ≡ record old { events = old.events ++ (resolve v.desc v.machine).events }
+    right_row old new t = row_is old new t ∙ ap (λ es. record old { events = old.events ++ es }) (told_is ∙ sym (ap (λ (a : After). a.events) (right_is v.desc v.machine i e p there right)))
 
   -- ---- the entry was not rightly predicted
 
-  module _ (past : Past) (remembers : past ≡ record (h.past) { mark = true_mark h.past.desc e }) where
-    of_desc : h.past.desc ≡ h.desc
-    of_desc = ap (λ (s : Sizes). s.past) w.made
-
+  module _ (past : Past) (remembers : past ≡ record (h.past) { mark = true_mark h.desc e }) where
     mark_is : past.mark ≡ true_mark h.desc e
-    mark_is = ap (λ (p : Past). p.mark) remembers ∙ ap (λ d. true_mark d e) of_desc
+    mark_is = ap (λ (p : Past). p.mark) remembers
 
     pub recalled_whole : Whole (record h { rob = rob; tables = tables; past = past })
     recalled_whole = record {
       sized = sized_recalled h.desc (machine_of (record h { rob = rob; tables = tables })) past.mark marked_whole.sized;
       stands = marked_whole.stands;
-      made = ap (λ (p : Past). sizes (record h { rob = rob; tables = tables; past = record past { desc = p.desc } })) remembers ∙ marked_whole.made;
+      made = ap (λ (p : Past). sizes (record h { rob = rob; tables = tables; past = p })) remembers ∙ marked_whole.made;
     }
 
     recalled_shown : described (record h { rob = rob; tables = tables; past = past }) ≡ record v { machine = recalled v.desc i e v.machine }
@@ -213,14 +226,14 @@ module _ (h : Held) (v : Described) (i : ℕ) (e : Entry) (rob : Ring) (tables :
           ∙ ap (λ next. record v { machine = cut_from (e.serial + 1) next (recalled v.desc i e v.machine) }) n
           ∙ ap (λ (a : After). record v { machine = a.machine }) (sym all)
 
-      pub wrong_row : (old then new : Row) (n : ℕ) → then ≡ record old { events = old.events ++ told h.tables e } →
+      pub wrong_row : (old then new : Row) (n : ℕ) → Taught h (λ d. then ≡ record old { events = old.events ++ told d h.tables e }) →
           n ≡ (let d = described (record h { rob = rob; tables = tables; past = past }) in count_from (e.serial + 1) d.machine) →
           new ≡ record then { events = then.events ++ event.Sq n ∷ [] } → new ≡ record old { events = old.events ++ (resolve v.desc v.machine).events }
       wrong_row old then new n t d r =
           r
           ∙ ap (λ n. record then { events = then.events ++ event.Sq n ∷ [] }) (d ∙ ap (λ (d : Described). count_from (e.serial + 1) d.machine) recalled_shown)
-          ∙ ap (λ (r : Row). record r { events = r.events ++ event.Sq (count_from (e.serial + 1) (recalled v.desc i e v.machine)) ∷ [] }) t
-          ∙ ap (λ es. record old { events = es }) (append_assoc old.events (told h.tables e) (event.Sq (count_from (e.serial + 1) (recalled v.desc i e v.machine)) ∷ []))
+          ∙ ap (λ (r : Row). record r { events = r.events ++ event.Sq (count_from (e.serial + 1) (recalled v.desc i e v.machine)) ∷ [] }) (row_is old then t)
+          ∙ ap (λ es. record old { events = es }) (append_assoc old.events (told h.desc h.tables e) (event.Sq (count_from (e.serial + 1) (recalled v.desc i e v.machine)) ∷ []))
           ∙ ap (λ es. record old { events = old.events ++ (es ++ event.Sq (count_from (e.serial + 1) (recalled v.desc i e v.machine)) ∷ []) }) told_is
           ∙ ap (λ (a : After). record old { events = old.events ++ a.events }) (sym all)
 

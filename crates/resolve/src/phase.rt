@@ -5,6 +5,7 @@ ghost use Rattle.visibility.specs.Point.{HasAdvanced};
 ghost use Rattle.window_model.specs.Resolve.{resolve, true_mark};
 ghost use Rattle.window_model.specs.Row.{HasRoom, IsLonger, most_resolved, with_events};
 ghost use Rattle.resolve.specs.Taken.{resolving, true_next};
+ghost use Rattle.history_pred.specs.Past.{InEach};
 
 use branch_resolve::{Resolution, pick};
 use core_parts::Parts;
@@ -52,7 +53,7 @@ fn resolve_at<R: RenameTaint>(position: u32, parts: &mut Parts<R>, row: &mut Row
 // History and stack become those behind an entry: its mark, followed by the true direction of a branch, or by a jump's own push or
 // pop.
 fn go_back_behind(entry: &Entry, history: &mut History)
-    ensures { history.new ≡ record history.old { mark = true_mark history.old.desc entry.now } }
+    ensures { InEach history.old (λ d. history.new ≡ record history.old { mark = true_mark d entry.now }) }
 {
     history.restore(&entry.item.mark);
     history.follow(&entry.item, entry.value() == 1);
