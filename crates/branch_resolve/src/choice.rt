@@ -8,11 +8,11 @@ use rob_ring::{RobRing, Sources, sources_at};
 use visibility::VisPoint;
 use window_model::Entry;
 
-/// The position of the oldest entry that may be resolved, counted from the oldest in the window. None exactly where there
-/// is no such entry. What is kept of each entry's sources stands at the entry's position.
+/// The position of the oldest entry that may be resolved, counted from the oldest in the window. None exactly where
+/// there is no such entry. What is kept of each entry's sources stands at the entry's position.
 ///
-/// The reorder buffer knows its branches and JALRs that aren't resolved, among the entries that aren't settled, so only those
-/// are looked at.
+/// The reorder buffer knows its branches and JALRs that aren't resolved, among the entries that aren't settled, so only
+/// those are looked at.
 pub fn pick(rob: &RobRing, point: &VisPoint, sources: &HeapCircularBuffer<Sources>) -> Option<u32>
     requires each_has_sources { length sources.now.items ≡ length rob.now.entries }
     ensures { result ≡ pick_from point.now.serial 0 rob.now.entries (each_roots sources.now.items) }

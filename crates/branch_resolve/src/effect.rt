@@ -21,9 +21,9 @@ pub enum Resolution {
     Fault,
 }
 
-/// Resolves a branch or JALR: the predictor learns how it went, and the row tells it. A branch moves its counter, also where
-/// it faults: the one that its own history gives it, whatever the present one is. A JALR stores its target, but not where it
-/// faults. The history has as many counters as the predictor.
+/// Resolves a branch or JALR: the predictor learns how it went, and the row tells it. A branch moves its counter, also
+/// where it faults: the one that its own history gives it, whatever the present one is. A JALR stores its target, but
+/// not where it faults. The history has as many counters as the predictor.
 pub fn resolve(
     entry: &Entry,
     history: &History,

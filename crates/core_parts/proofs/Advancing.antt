@@ -1,5 +1,5 @@
--- A visibility point that has moved over a window goes on to say which entries are visible, as entries go on that pass exactly where
--- they did.
+-- A visibility point that has moved over a window goes on to say which entries are visible, as entries go on that pass
+-- exactly where they did.
 use Rattle.std.proofs.Common.{◌≡◌, ℕ, ◌+◌, ◌<◌, ◌≤◌, true, ◌&&◌, List, [], ◌∷◌, refl, ap, ap₂, sym, ◌∙◌, subst, arith}
 use Rattle.std.proofs.lemmas.Bool.Decides.{nat_tests}
 use Rattle.std.proofs.lemmas.List.Elements.{All-nil, All-cons, All-head, All-tail}

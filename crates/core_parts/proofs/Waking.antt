@@ -177,7 +177,8 @@ released_from p p2 i es k a b =
     ∙ sym (filter-append (newly p p2) (take i es) (drop i es))
     ∙ ap (filter (newly p p2)) (halves i es))
 
--- the stations that know of each value given from a position on are those that the definition of the point's move leaves
+-- the stations that know of each value given from a position on are those that the definition of the point's move
+-- leaves
 pub woken_as : (p p2 i : ℕ) (es : List Entry) (s : Stations) → p ≤ p2 → Visible p (take i es) → Hidden p (drop i es) →
     woken_from i p2 es s ≡ record s { held = struck_by_move (at_point p) (at_point p2) es s.held }
 woken_as p p2 i es s k a b = ap (λ serials. record s { held = struck_each serials s.held }) (released_from p p2 i es k a b)

@@ -1,5 +1,5 @@
--- What the parts of a core hold, of which machine they are, and what holds of them in every state (docs/machine.md, "State",
--- docs/architecture.md, "How they stand for it").
+-- What the parts of a core hold, of which machine they are, and what holds of them in every state (docs/machine.md,
+-- "State", docs/architecture.md, "How they stand for it").
 use Rattle.std.specs.Prelude.{◌≡◌, ℕ, Bool, List, length, Option}
 use Rattle.circular_buffer.specs.Buffer.{Buffer}
 use Rattle.rv_types.specs.Memory.{Ram}

@@ -23,8 +23,8 @@ use Rattle.parts_stand.specs.Telling.{own_of, source_by}
 abbrev pub NamesWriters : List Write → List Entry → Type 0
 NamesWriters writes window = (r : ℕ) → source_of writes r ≡ source_by (writer (reverse window) r)
 
--- the table has for each register the youngest root of its value for an entry behind the window; for one without maybe a root that has
--- retired
+-- the table has for each register the youngest root of its value for an entry behind the window; for one without maybe
+-- a root that has retired
 abbrev pub NamesRoots : ℕ → List Write → List Entry → Type 0
 NamesRoots next writes window = (r : ℕ) → unretired (oldest_of next window) (root_of writes r) ≡ youngest_root (reverse window) r
 
@@ -38,8 +38,8 @@ address_roots before (e ∷ es) =
 abbrev pub HasAddressRoots : ℕ → List Store → List Entry → Type 0
 HasAddressRoots next stores window = map (λ s. unretired (oldest_of next window) s.root) stores ≡ address_roots [] window
 
--- the stations hold the entries that wait, what they want in this version of the machine, and what their sources await where results
--- are held back so
+-- the stations hold the entries that wait, what they want in this version of the machine, and what their sources await
+-- where results are held back so
 abbrev pub HoldsWaiting : ℕ → Hold → Stations → List Entry → Type 0
 HoldsWaiting version hold s window = map waiter_in s.held ≡ waiters_from version hold [] window
 

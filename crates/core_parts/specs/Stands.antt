@@ -1,5 +1,5 @@
--- What is in flight, in all parts that hold something of it, and when the parts stand for the window (docs/architecture.md, "How they
--- stand for it").
+-- What is in flight, in all parts that hold something of it, and when the parts stand for the window
+-- (docs/architecture.md, "How they stand for it").
 use Rattle.std.specs.Prelude.{◌≡◌, ℕ, Bool, true, List}
 use Rattle.window_model.specs.declared.Entry.{Entry}
 use Rattle.rob_ring.specs.Beside.{each_roots, each_writers}

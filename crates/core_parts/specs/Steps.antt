@@ -1,5 +1,5 @@
--- What becomes of the parts in each step of a cycle, and that they go on to stand for the window (docs/architecture.md, "How they
--- stand for it").
+-- What becomes of the parts in each step of a cycle, and that they go on to stand for the window (docs/architecture.md,
+-- "How they stand for it").
 use Rattle.std.specs.Prelude.{◌≡◌, ℕ, ◌+◌, ◌<◌, nat_lt, true, false, List, [], ◌∷◌, ◌++◌, length, map, reverse, take, drop, slice_get, slice_set, Option, Some, None}
 use Rattle.std.specs.List.{filter}
 use Rattle.std.specs.Option.{option_to_list}
@@ -55,8 +55,8 @@ with_entry place s awaits e p = record p {
   queues = queued e.item.kind e.serial (base_root s.roots) p.queues;
 }
 
--- an entry as it is renamed: it has the next serial, isn't resolved, it and no part of it has issued, and a store that loads may pass
--- isn't cleared
+-- an entry as it is renamed: it has the next serial, isn't resolved, it and no part of it has issued, and a store that
+-- loads may pass isn't cleared
 pub record Fresh (p : InFlight) (e : Entry) : Type 0 where
   pub serial : e.serial ≡ p.next
   pub unresolved : e.resolved ≡ false
@@ -71,8 +71,8 @@ RenamesIn = (p : InFlight) (e : Entry) (s : Sources) (awaits : List (Option ℕ)
 
 -- ---- the entry at a position goes on
 
--- the entry at a position issues, or a part of it: its station is freed or waits for what is left, and a store's parts that have issued
--- are noted, with the width of its access; so is what a load reads, where loads may pass stores
+-- the entry at a position issues, or a part of it: its station is freed or waits for what is left, and a store's parts
+-- that have issued are noted, with the width of its access; so is what a load reads, where loads may pass stores
 abbrev pub with_issued : ℕ → Width → Entry → InFlight → InFlight
 with_issued i w e p = record p {
   window = slice_set p.window i e;

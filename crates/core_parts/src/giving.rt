@@ -17,7 +17,8 @@ use stations::Stations;
 use visibility::VisPoint;
 use window_model::Entry;
 
-/// Whether an entry gives its value to those that read it: it is Done, and under `hold` no load behind the visibility point.
+/// Whether an entry gives its value to those that read it: it is Done, and under `hold` no load behind the visibility
+/// point.
 pub fn gives(entry: &Entry, defence: Defence, point: &VisPoint) -> bool
     ensures { result ≡ gives_at (record { holds = holds defence; point = point.now.serial }) entry.now }
 {
@@ -27,8 +28,8 @@ pub fn gives(entry: &Entry, defence: Defence, point: &VisPoint) -> bool
     defence == Defence::Stt || !entry.is_load() || point.visible(entry.serial)
 }
 
-/// The visibility point moves over the window, and the stations are told which loads give their values from then on, where results
-/// of loads are held back: those that are Done, and that the point has passed.
+/// The visibility point moves over the window, and the stations are told which loads give their values from then on,
+/// where results of loads are held back: those that are Done, and that the point has passed.
 pub fn advance_and_wake(point: &mut VisPoint, rob: &RobRing, stations: &mut Stations)
     requires rise { Rise rob.now.entries }
     requires few { All (λ e. e.serial < 2 ^ 64 - 1) rob.now.entries }
@@ -45,8 +46,8 @@ pub fn advance_and_wake(point: &mut VisPoint, rob: &RobRing, stations: &mut Stat
     wake_given(rob, point, from, stations);
 }
 
-// The position of the oldest entry that isn't visible, as many as there are where each is. The reorder buffer finds it by its serial,
-// so no walk over the entries is needed.
+// The position of the oldest entry that isn't visible, as many as there are where each is. The reorder buffer finds it
+// by its serial, so no walk over the entries is needed.
 fn first_hidden(rob: &RobRing, point: &VisPoint) -> u32
     requires rise { Rise rob.now.entries }
     requires few { All (λ e. e.serial < 2 ^ 64 - 1) rob.now.entries }

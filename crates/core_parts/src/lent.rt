@@ -30,8 +30,9 @@ impl<R: RenameTaint> Parts<R> {
         &self.table
     }
 
-    /// The stations: they hold the entries that wait and what these want and await, as far as results are held back by the
-    /// visibility point; and they tell which are ready, and of a store which part is, where the point has moved over the window.
+    /// The stations: they hold the entries that wait and what these want and await, as far as results are held back by
+    /// the visibility point; and they tell which are ready, and of a store which part is, where the point has moved
+    /// over the window.
     pub fn stations(&self) -> &Stations
         ensures waiting { HoldsWaiting self.now.desc.version (hold_of self.now.desc self.now.point) result.now
             self.now.machine.window }
@@ -43,8 +44,8 @@ impl<R: RenameTaint> Parts<R> {
         &self.stations
     }
 
-    /// The queues: they hold the window's loads and stores by age, the stores with the youngest roots of their addresses; and what
-    /// loads have read and which stores are cleared, where loads may pass stores.
+    /// The queues: they hold the window's loads and stores by age, the stores with the youngest roots of their
+    /// addresses; and what loads have read and which stores are cleared, where loads may pass stores.
     pub fn lsq(&self) -> &Lsq
         ensures queues { StandFor result.now self.now.machine.window }
         ensures tracks { passing self.now.desc ≡ true → Tracks result.now self.now.machine.window }

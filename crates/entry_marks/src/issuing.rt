@@ -1,5 +1,5 @@
-//! Issue moves marks: each entry that has issued in the cycle gets the marks of its operands, and a store's data part those of what it
-//! stores.
+//! Issue moves marks: each entry that has issued in the cycle gets the marks of its operands, and a store's data part
+//! those of what it stores.
 ghost use Rattle.std.specs.Prelude.{◌≡◌, ◌<◌, List, [], Some, length, slice_get, slice_set};
 ghost use Rattle.window_model.specs.Order.{before_at};
 ghost use Rattle.window_model.specs.declared.Entry.{Entry};
@@ -15,8 +15,8 @@ use crate::walk::Walk;
 use circular_buffer::HeapCircularBuffer;
 use rob_ring::{RobRing, Sources};
 
-/// Gives each entry the marks with which Issue leaves it in this cycle; memory's first byte has the address `base`. They come from the
-/// marks that older entries had before, so it goes from the youngest entry on.
+/// Gives each entry the marks with which Issue leaves it in this cycle; memory's first byte has the address `base`.
+/// They come from the marks that older entries had before, so it goes from the youngest entry on.
 pub fn mark_issued(
     rob: &RobRing,
     sources: &HeapCircularBuffer<Sources>,

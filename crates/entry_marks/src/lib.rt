@@ -1,9 +1,9 @@
-//! Marks of entries, as code computes them beside the parts of a core (`docs/theorems.md`, "Secrets that are loaded"): those that
-//! entries get as they issue and leave in registers and memory as they retire, those that are left behind a squash and that come with
-//! Rename, and what shows of them.
+//! Marks of entries, as code computes them beside the parts of a core (`docs/theorems.md`, "Secrets that are loaded"):
+//! those that entries get as they issue and leave in registers and memory as they retire, those that are left behind a
+//! squash and that come with Rename, and what shows of them.
 //!
-//! The rules stand in `secret_marks`, and each function here answers what its definition there says. `marked_core` walks them beside
-//! a core.
+//! The rules stand in `secret_marks`, and each function here answers what its definition there says. `marked_core`
+//! walks them beside a core.
 #![tactic(auto)]
 
 mod beside;

@@ -1,4 +1,5 @@
-//! Retire moves marks: each entry that leaves hands those of its value to its register, and a store those of what it stores to memory.
+//! Retire moves marks: each entry that leaves hands those of its value to its register, and a store those of what it
+//! stores to memory.
 ghost use Rattle.std.specs.Prelude.{◌≡◌, ◌+◌, ◌-◌, ◌<◌, ◌≤◌, List, drop, length, slice_set};
 ghost use Rattle.std.specs.Option.{option_map};
 ghost use Rattle.circular_buffer.specs.Buffer.{buffer};
@@ -46,8 +47,8 @@ fn copy_of(entry: &Entry, marks: &EntryMarks) -> LeavingEntry
     }
 }
 
-/// Moves the marks of the copied entries that have retired, the `count` oldest, to registers and memory, oldest first; memory's first
-/// byte has the address `base`. It asks that the bytes of each store among them have their marks there.
+/// Moves the marks of the copied entries that have retired, the `count` oldest, to registers and memory, oldest first;
+/// memory's first byte has the address `base`. It asks that the bytes of each store among them have their marks there.
 pub fn leave(marks: &mut Marks, leaving: &Leaving, base: u32, count: u32)
     requires copied { count ≤ length leaving.now.entries.items }
     requires inside { InsideEach base (length marks.old.bytes.items) count leaving.now.entries.items }

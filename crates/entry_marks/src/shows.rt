@@ -1,4 +1,5 @@
-//! What shows of a marked value as a branch or JALR is resolved, and as a call retires (`docs/theorems.md`, "Secrets that are loaded").
+//! What shows of a marked value as a branch or JALR is resolved, and as a call retires (`docs/theorems.md`, "Secrets
+//! that are loaded").
 ghost use Rattle.std.specs.Prelude.{◌≡◌, ◌<◌, ◌&&◌, length, get_or};
 ghost use Rattle.window_model.specs.State.{Machine};
 ghost use Rattle.secret_marks.specs.Marks.{Marks};
@@ -54,8 +55,8 @@ fn is_marked(marks: &[WordMarks; REGISTERS], r: u32) -> bool
     any_byte(marks[r as usize])
 }
 
-/// Whether a call that retires shows, by the registers and their marks: its number, the value of an exit, or stream, address or
-/// length of a write is marked.
+/// Whether a call that retires shows, by the registers and their marks: its number, the value of an exit, or stream,
+/// address or length of a write is marked.
 pub fn call_shows(regs: &[u32; REGISTERS], marks: &[WordMarks; REGISTERS]) -> bool
     ensures { (x : Machine) (m : Marks)
         → result ≡ call_shows (record x { regs = regs.now }) (record m { regs = marks.now }) }

@@ -17,7 +17,7 @@ pub record FetchUnit : Type 0 where
   pub queue : List Item
   pub fetch_pc : Option ℕ
 
--- it is stored as the four
+-- the fetch unit is stored as its width, its room, the queue and the address where fetching goes on
 abbrev pub unit_code : Coded FetchUnit
 unit_code =
     code_by (ℕ × (ℕ × (List Item × Option ℕ))) (coded× coded_ℕ (coded× coded_ℕ (coded× (coded_list item.the_row.coded) (coded_option coded_ℕ))))

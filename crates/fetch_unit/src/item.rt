@@ -34,8 +34,8 @@ fn stored_target(predictor: &Predictor, pc: u32) -> u32
     predictor.target(pc).unwrap_or(pc.wrapping_add(4))
 }
 
-// Where a JALR is predicted to go: a return to the youngest address on the stack, if there is one. Any other to the target stored
-// for it, else to the address behind.
+// Where a JALR is predicted to go: a return to the youngest address on the stack, if there is one. Any other to the
+// target stored for it, else to the address behind.
 fn jump_target(predictor: &Predictor, history: &History, pc: u32, instr: &Instr) -> u32
     ensures { result ≡ unless_returns (returns_to instr.now history.now.mark)
         (stored_target pc (slice_index_or predictor.now.targets (target_place predictor.now pc) None)) }

@@ -16,8 +16,8 @@ use std::alloc::Global;
 use std::marker::Model;
 use window_model::{Event, Item, Row};
 
-/// The fetch unit, seen as how many items are fetched a cycle at most, how many the queue holds, the queue of items, oldest first,
-/// and the fetch pc: where fetching goes on, None where it doesn't.
+/// The fetch unit, seen as how many items are fetched a cycle at most, how many the queue holds, the queue of items,
+/// oldest first, and the fetch pc: where fetching goes on, None where it doesn't.
 #[derive(Drop)]
 pub struct Fetch {
     width: u32,
@@ -44,8 +44,8 @@ impl Model for Fetch {
 }
 
 impl Fetch {
-    /// A fetch unit of the description's width and queue that begins at the entry, with an empty queue. It takes all memory that the
-    /// queue takes; the one error is want of it.
+    /// A fetch unit of the description's width and queue that begins at the entry, with an empty queue. It takes all
+    /// memory that the queue takes; the one error is want of it.
     pub fn new(alloc: Global, desc: &Desc, entry: u32) -> Result<Fetch, NoMemory>
         ensures { IfOk result (λ f. f ≡ record {
           width = desc.now.core_fetch_width;
@@ -62,9 +62,9 @@ impl Fetch {
         })
     }
 
-    /// Phase Fetch: up to the width of fetching, items come into the queue, each with its event. What it leaves is what the
-    /// definition leaves, under a description of these sizes, of every machine with this queue, this fetch pc, this predictor, and
-    /// this history and stack. The history has as many counters as the predictor.
+    /// Phase Fetch: up to the width of fetching, items come into the queue, each with its event. What it leaves is what
+    /// the definition leaves, under a description of these sizes, of every machine with this queue, this fetch pc, this
+    /// predictor, and this history and stack. The history has as many counters as the predictor.
     pub fn fetch(
         &mut self,
         code: &Code,
@@ -130,7 +130,8 @@ impl Fetch {
         self.oldest().copied()
     }
 
-    /// Takes the oldest item out of the queue and answers it. None exactly where the queue is empty; nothing changes then.
+    /// Takes the oldest item out of the queue and answers it. None exactly where the queue is empty; nothing changes
+    /// then.
     pub fn take(&mut self) -> Option<Item>
         ensures item { result ≡ slice_get self.old.queue 0 }
         ensures left { self.new ≡ record self.old { queue = drop 1 self.old.queue } }

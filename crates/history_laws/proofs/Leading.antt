@@ -93,7 +93,8 @@ leads_stop d from to [] ys e q (b ∷ ways) h = record { first = []; others = b 
 leads_stop d from to (f ∷ front) ys e q [] h = absurd h
 leads_stop d from to (f ∷ front) ys e q (b ∷ ways) h = one_more d from e.item.mark f front b ways h.0 h.1 (leads_stop d (after_item d f.item (direction f b)) to front ys e q ways h.2)
 
--- all behind an entry go, which then counts with this direction, whatever was predicted
+-- where the entries behind one go, what is left leads to the mark behind it; the entry then counts with this direction,
+-- whatever was predicted
 pub leads_cut : (d : Desc) (from to : Mark) (front ys : List Entry) (e e2 : Entry) (q : List Item) (ways : List Bool) (way : Bool) → e2.item ≡ e.item → ((b : Bool) → direction e2 b ≡ way) →
     Leads d from (front ++ e ∷ ys) q ways to → LeadsBy d from (front ++ e2 ∷ []) ways (after_item d e2.item way)
 leads_cut d from to [] ys e e2 q [] way i c h = absurd h

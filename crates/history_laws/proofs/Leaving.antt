@@ -1,4 +1,5 @@
--- Retire takes as many entries off the front of the window as the count of the retired grows, and leaves the queue and the mark.
+-- Retire takes as many entries off the front of the window as the count of the retired grows, and leaves the queue and
+-- the mark.
 use Rattle.std.proofs.Common.{◌≡◌, ℕ, suc, ◌+◌, ◌-◌, Bool, List, ◌∷◌, ◌++◌, drop, take, refl, ap, sym, ◌∙◌, subst, append_assoc, arith}
 use Rattle.std.specs.List.{AllByRecursion as Each}
 use Rattle.std.proofs.lemmas.List.{take-append-drop}

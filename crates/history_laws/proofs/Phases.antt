@@ -1,4 +1,4 @@
--- Each phase but Retire keeps that what is left leads to the present mark.
+-- Every phase but Retire keeps that what is left leads to the present mark.
 use Rattle.std.proofs.Common.{◌≡◌, ℕ, ◌+◌, Bool, true, false, ◌&&◌, List, [], ◌∷◌, ◌++◌, Some, refl, ap, sym, ◌∙◌, subst, append_assoc}
 use Rattle.std.proofs.lemmas.List.{append-nil, map-append}
 use Rattle.std.specs.Prelude.{if◌then◌else◌, map, reverse, nat_lt, length, ◌==◌}

@@ -36,7 +36,8 @@ drop_first (x ∷ a) b = drop_first a b
 
 -- ---- a cycle
 
--- with the fetched items, what is left leads on by the directions of as many as were left before, and by those predicted of the others
+-- with the fetched items, what is left leads on by the directions of as many as were left before, and by those
+-- predicted of the others
 module _ (d : Desc) (gone : List Entry) (ways : List Bool) (y z : Machine) (h : LeftBy d gone ways y) (f : (first : List Bool) → Left d gone first y → Fetches d gone first y z) where
   fetched : Fetches d gone h.first y z
   fetched = f h.first h.left

@@ -79,8 +79,8 @@ before_fetch d x =
 abbrev pub guesses : Desc → List ℕ → List Item → List Bool
 guesses d counters items = map (λ i. guess i.kind d counters i.mark i.pc) items
 
--- the directions of what is left after a cycle, with all that has retired: of as many as are left as its last phase begins, and then
--- those that are predicted of the items that it fetches
+-- the directions of what is left after a cycle, with all that has retired: of as many as are left as its last phase
+-- begins, and then those that are predicted of the items that it fetches
 abbrev pub predicted_on : Desc → Code → List Entry → Machine → List Bool → List Bool
 predicted_on d code gone x ways =
     let y = before_fetch d x in
@@ -92,8 +92,8 @@ predicted_in d code zero gone x ways = ways
 predicted_in d code (suc k) gone x ways =
     unless_ended x.end ways (predicted_in d code k (gone ++ retiring d x) (cycle d code x).machine (predicted_on d code (gone ++ retiring d x) x ways))
 
--- in every state of a run what has retired, what is in flight and what is fetched lead from no mark to the present one, by what was
--- predicted of each as it was fetched
+-- in every state of a run what has retired, what is in flight and what is fetched lead from no mark to the present one,
+-- by what was predicted of each as it was fetched
 abbrev pub FollowWhatIsLeft : Type 0
 FollowWhatIsLeft = (d : Desc) (code : Code) (entry : ℕ) (ram : Ram) (k : ℕ) →
     let first = opening d entry ram in

@@ -5,9 +5,10 @@
 
 ghost use Rattle.history_laws.specs.Left.{FollowWhatIsLeft};
 
-/// In every state of a run history and stack are those of fetching only what is left: the instructions that have retired, those in
-/// flight, and the fetched items, in this order, each branch whose resolution squashed with its true direction, and every other
-/// with the one that was predicted as it was fetched. So what was dropped has left nothing in them.
+/// In every state of a run history and stack are those of fetching only what is left: the instructions that have
+/// retired, those in flight, and the fetched items, in this order, each branch whose resolution squashed with its true
+/// direction, and every other with the one that was predicted as it was fetched. So what was dropped has left nothing
+/// in them.
 pub fn history_follows_what_is_left()
     ensures left { FollowWhatIsLeft }
 {}

@@ -1,4 +1,5 @@
--- What is remembered of the past: history and stack, and how much each keeps (docs/machine.md, "History and return stack").
+-- What is remembered of the past: history and stack, and how much each keeps (docs/machine.md, "History and return
+-- stack").
 use Rattle.std.specs.Prelude.{◌≡◌, ℕ, ◌+◌, ◌*◌, ◌/◌, ◌%◌, ◌^◌, Bool, ◌∷◌, take, bit_xor, refl}
 use Rattle.std.specs.Coded.{Coded, code_by, coded×, coded_ℕ}
 use Rattle.rv_types.specs.Value.{one_if}
@@ -14,7 +15,7 @@ pub record Past : Type 0 where
   pub returns : ℕ
   pub mark : Mark
 
--- they are stored as the four
+-- history and stack are stored as the three sizes and the mark
 abbrev pub past_code : Coded Past
 past_code =
     code_by (ℕ × (ℕ × (ℕ × Mark))) (coded× coded_ℕ (coded× coded_ℕ (coded× coded_ℕ mark.the_row.coded))) (λ p. (p.counters, (p.directions, (p.returns, p.mark))))

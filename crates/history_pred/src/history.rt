@@ -12,8 +12,8 @@ use rv_types::{Instr, Kind};
 use std::marker::Model;
 use window_model::{Item, Mark};
 
-/// Global history and return stack, seen as how many counters branches have, how many directions and addresses are kept, and a
-/// mark: what they are as the next item comes to be fetched.
+/// Global history and return stack, seen as how many counters branches have, how many directions and addresses are
+/// kept, and a mark: what they are as the next item comes to be fetched.
 #[derive(Drop)]
 pub struct History {
     counters: u32,
@@ -120,8 +120,8 @@ impl History {
         }
     }
 
-    /// History and stack go on over an item: a branch, which goes this way, enters the history; a jump that links pushes, and a
-    /// return pops.
+    /// History and stack go on over an item: a branch, which goes this way, enters the history; a jump that links
+    /// pushes, and a return pops.
     #[inline(always)]
     pub fn follow(&mut self, item: &Item, taken: bool)
         ensures sizes { self.new ≡ record self.old { mark = self.new.mark } }

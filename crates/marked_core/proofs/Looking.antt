@@ -23,8 +23,8 @@ running_at end (Some k) b t e q = absurd (cc)
 pub ended_at : (end told : Option End) (b : Bool) → told ≡ end → b ≡ is_some told → b ≡ true → is_some end ≡ true
 ended_at end told b t e q = ap is_some (sym t) ∙ sym e ∙ q
 
--- the run stands after i of n cycles from a machine with marks, in which nothing has shown: the other cycles show and leave
--- what all n do
+-- the run stands after i of n cycles from a machine with marks, in which nothing has shown: the other cycles show and
+-- leave what all n do
 pub record Looks (d : Desc) (code : Code) (n i : ℕ) (x : Machine) (m : Marks) (y : Machine) (k : Marks) : Type 0 where
   pub shown : first_shown d code (n - i) y k ≡ first_shown d code n x m
   pub last : after_cycles d code (n - i) y ≡ after_cycles d code n x

@@ -11,8 +11,8 @@ use Rattle.secret_marks.specs.Marks.{is_at}
 use Rattle.secret_marks.specs.Shown.{resolved_shown}
 use Rattle.entry_marks.specs.declared.marks.Marks.{Marks}
 
--- marks are in step with the parts: every entry in flight has its marks, and there is room for those of as many as may be in
--- flight
+-- marks are in step with the parts: every entry in flight has its marks, and there is room for those of as many as may
+-- be in flight
 pub record InStep (s : Described) (m : Marks) : Type 0 where
   pub entries : length m.window.items ≡ length s.machine.window
   pub room : m.window.capacity ≡ s.desc.core_rob
@@ -29,8 +29,8 @@ NotYet cycle e = (is_at cycle e.issued ≡ false) × (is_at (cycle + 1) e.data_d
 abbrev pub AsNoted : Bool → List Entry → List EntryMarks → Type 0
 AsNoted unexposed window marks = unexposed ≡ true → resolved_shown window marks ≡ None
 
--- between two cycles there holds of the parts what holds of any core's; each entry and each byte of memory has its mark, what has
--- issued did so by this cycle, and nothing resolved is marked where that is noted
+-- between two cycles there holds of the parts what holds of any core's; each entry and each byte of memory has its
+-- mark, what has issued did so by this cycle, and nothing resolved is marked where that is noted
 pub record Between (s : Described) (m : Marks) (unexposed : Bool) : Type 0 where
   pub kept : Kept (word_at s.code) s
   pub step : InStep s m

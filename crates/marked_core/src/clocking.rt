@@ -27,8 +27,8 @@ fn or_else(first: Option<Shown>, second: Option<Shown>) -> Option<Shown>
     }
 }
 
-/// One cycle, as that of any core; how the marks move in it, and what shows in it first. Before it and after it `unexposed` notes
-/// whether nothing resolved is marked.
+/// One cycle, as that of any core; how the marks move in it, and what shows in it first. Before it and after it
+/// `unexposed` notes whether nothing resolved is marked.
 pub(crate) fn clock<R: RenameTaint>(
     parts: &mut Parts<R>,
     marks: &mut Marks,

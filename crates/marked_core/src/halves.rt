@@ -27,7 +27,8 @@ use rename_taint::RenameTaint;
 use secret_marks::Shown;
 use window_model::Row;
 
-/// The phases before Retire, as those of any core, and what shows in them. `unexposed` notes that nothing resolved is marked.
+/// The phases before Retire, as those of any core, and what shows in them. `unexposed` notes that nothing resolved is
+/// marked.
 pub(crate) fn before_retire<R: RenameTaint>(
     parts: &mut Parts<R>,
     marks: &mut Marks,

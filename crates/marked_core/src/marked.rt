@@ -22,8 +22,9 @@ use std::alloc::Global;
 use std::marker::Model;
 use window_model::Row;
 
-/// The written machine by its parts, with marks of what may depend on a secret beside it: seen as the description, the words that it
-/// may fetch, the machine (`docs/machine.md`, "State") and the marks (`docs/theorems.md`, "Secrets that are loaded").
+/// The written machine by its parts, with marks of what may depend on a secret beside it: seen as the description, the
+/// words that it may fetch, the machine (`docs/machine.md`, "State") and the marks (`docs/theorems.md`, "Secrets that
+/// are loaded").
 #[derive(Drop)]
 pub struct MarkedCore<R: RenameTaint> {
     parts: Box<Parts<R>>,
@@ -52,8 +53,8 @@ impl<R: RenameTaint> Model for MarkedCore<R> {
 }
 
 impl<R: RenameTaint + Drop> MarkedCore<R> {
-    /// The core before its first cycle, with the image in a memory of the description's base and size, of whose bytes those of the
-    /// ranges are secret. It takes all the memory that a run takes; the one error is want of it.
+    /// The core before its first cycle, with the image in a memory of the description's base and size, of whose bytes
+    /// those of the ranges are secret. It takes all the memory that a run takes; the one error is want of it.
     pub fn new(
         alloc: Global,
         desc: &Desc,
@@ -84,8 +85,9 @@ impl<R: RenameTaint + Drop> MarkedCore<R> {
 }
 
 impl<R: RenameTaint> MarkedCore<R> {
-    /// One cycle. Row and piece are cleared first; then the row has the cycle's number and its events, and the piece the bytes that
-    /// it put out, as of any core (`Clocked`). The answer is what shows first in this cycle, None where nothing does.
+    /// One cycle. Row and piece are cleared first; then the row has the cycle's number and its events, and the piece
+    /// the bytes that it put out, as of any core (`Clocked`). The answer is what shows first in this cycle, None where
+    /// nothing does.
     pub fn cycle(&mut self, row: &mut Row, piece: &mut Piece) -> Option<Shown>
         requires running { self.old.machine.end ≡ None }
         requires few { self.old.machine.cycle < 2 ^ 32 - 1 }

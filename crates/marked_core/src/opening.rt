@@ -43,8 +43,8 @@ fn secret_bytes(
     Ok(bytes)
 }
 
-/// The marks beside this memory, and an empty reorder buffer of the description's size, as a run begins. The one error is want of
-/// memory.
+/// The marks beside this memory, and an empty reorder buffer of the description's size, as a run begins. The one error
+/// is want of memory.
 pub(crate) fn opening_marks(
     alloc: Global,
     desc: &Desc,

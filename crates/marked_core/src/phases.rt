@@ -1,5 +1,5 @@
-//! The phases that move marks, or in which something marked shows: each is that of its crate over the parts, with what becomes of the
-//! marks beside them (`docs/theorems.md`, "Secrets that are loaded").
+//! The phases that move marks, or in which something marked shows: each is that of its crate over the parts, with what
+//! becomes of the marks beside them (`docs/theorems.md`, "Secrets that are loaded").
 ghost use Rattle.std.specs.Prelude.{◌≡◌, ◌<◌, ◌≤◌, ◌+◌, ◌^◌, [], None, length};
 ghost use Rattle.std.specs.List.{AllByRecursion as Each};
 ghost use Rattle.machine_facts.specs.Sized.{Sized};
@@ -54,8 +54,9 @@ fn base<R: RenameTaint>(parts: &Parts<R>) -> u32
     parts.ram.base()
 }
 
-/// Phase Resolve. Marks are left of the entries that are left. What shows is the oldest branch or JALR that is then resolved with a
-/// marked outcome. Where `unexposed` notes that none was so before, and the phase has no event, none is.
+/// Phase Resolve. Marks are left of the entries that are left. What shows is the oldest branch or JALR that is then
+/// resolved with a marked outcome. Where `unexposed` notes that none was so before, and the phase has no event, none
+/// is.
 pub(crate) fn resolve_marked<R: RenameTaint>(
     parts: &mut Parts<R>,
     marks: &mut Marks,
@@ -98,8 +99,8 @@ pub(crate) fn clear_marked<R: RenameTaint>(parts: &mut Parts<R>, marks: &mut Mar
     cut(&mut marks.window, left);
 }
 
-/// Phase Retire. The entries that retire leave their marks in registers and memory. What shows is the call at the head, if it shows:
-/// it is looked at before the phase, whether it retires then or not.
+/// Phase Retire. The entries that retire leave their marks in registers and memory. What shows is the call at the head,
+/// if it shows: it is looked at before the phase, whether it retires then or not.
 pub(crate) fn retire_marked<R: RenameTaint>(
     parts: &mut Parts<R>,
     marks: &mut Marks,
@@ -142,9 +143,9 @@ fn mark<R: RenameTaint>(parts: &Parts<R>, marks: &mut Marks)
     mark_issued(&parts.rob, &parts.sources, marks, base(parts), parts.cycle);
 }
 
-/// Phase Issue, in a cycle in which nothing has issued yet. What issues gets the marks of its operands: where the phase has no event
-/// nothing issues, and no mark moves. What shows is the oldest operand that tells an address or the time of a division and is marked, as
-/// the phase finds it.
+/// Phase Issue, in a cycle in which nothing has issued yet. What issues gets the marks of its operands: where the phase
+/// has no event nothing issues, and no mark moves. What shows is the oldest operand that tells an address or the time
+/// of a division and is marked, as the phase finds it.
 pub(crate) fn issue_marked<R: RenameTaint>(
     parts: &mut Parts<R>,
     marks: &mut Marks,

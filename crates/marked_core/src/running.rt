@@ -10,8 +10,9 @@ use rv_types::Piece;
 use secret_marks::FirstShown;
 use window_model::Row;
 
-/// Runs the core for at most so many cycles, until something shows. The answer is what shows first, and the number of the cycle in
-/// which it does; None where nothing shows until the run ends or the cycles are over. Row and piece are those of the last cycle.
+/// Runs the core for at most so many cycles, until something shows. The answer is what shows first, and the number of
+/// the cycle in which it does; None where nothing shows until the run ends or the cycles are over. Row and piece are
+/// those of the last cycle.
 pub fn first_shown<R: RenameTaint>(
     core: &mut MarkedCore<R>,
     row: &mut Row,

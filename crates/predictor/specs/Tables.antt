@@ -11,7 +11,7 @@ pub record Tables : Type 0 where
   pub counters : List ℕ
   pub targets : List (Option Target)
 
--- they are stored as the two
+-- the tables are stored as the counters and the targets
 abbrev pub tables_code : Coded Tables
 tables_code =
     code_by (List ℕ × List (Option Target)) (coded× (coded_list coded_ℕ) (coded_list (coded_option target.the_row.coded))) (λ t. (t.counters, t.targets))

@@ -40,8 +40,8 @@ impl Model for Predictor {
 }
 
 impl Predictor {
-    /// A predictor with as many counters and targets as the description says that has learnt nothing: every counter is 1, and there
-    /// is no target. It takes all memory that the predictor takes; the one error is want of it.
+    /// A predictor with as many counters and targets as the description says that has learnt nothing: every counter is
+    /// 1, and there is no target. It takes all memory that the predictor takes; the one error is want of it.
     pub fn new(alloc: Global, desc: &Desc) -> Result<Predictor, NoMemory>
         ensures { IfOk result (λ p. p ≡ record {
           counters = replicate desc.now.predictor_counters 1;
@@ -53,8 +53,8 @@ impl Predictor {
         Ok(Predictor { counters, targets })
     }
 
-    /// Whether a branch whose counter stands at this place is predicted to be taken: exactly where the counter is 2 or 3. The
-    /// branch's address and its history say which place that is.
+    /// Whether a branch whose counter stands at this place is predicted to be taken: exactly where the counter is 2 or
+    /// 3. The branch's address and its history say which place that is.
     pub fn direction(&self, place: u32) -> bool
         requires { place < length self.now.counters }
         ensures { result ≡ is_taken self.now place }
@@ -70,8 +70,9 @@ impl Predictor {
         target_for(self.targets[index(pc, self.targets.len() as u32)], pc)
     }
 
-    /// Learns how the branch went whose counter stands at this place: the counter goes one up where it was taken, to at most 3,
-    /// else one down, to at least 0. No other counter changes, and no target. Answers the event that tells the counter's value.
+    /// Learns how the branch went whose counter stands at this place: the counter goes one up where it was taken, to at
+    /// most 3, else one down, to at least 0. No other counter changes, and no target. Answers the event that tells the
+    /// counter's value.
     pub fn learn_branch(&mut self, place: u32, taken: bool) -> Event
         requires { place < length self.old.counters }
         ensures moved { self.new ≡ record self.old {

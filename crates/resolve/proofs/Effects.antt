@@ -56,8 +56,8 @@ by_place d x o p b h q =
 abbrev pub marked : Desc → ℕ → Entry → Machine → Machine
 marked d i e x = record x { window = slice_set x.window i (as_resolved e); counters = (learn d e x.counters x.targets).counters; targets = (learn d e x.counters x.targets).targets }
 
--- the machine once the entry at position i is resolved and has taught the predictor, with history and stack as they are behind
--- it
+-- the machine once the entry at position i is resolved and has taught the predictor, with history and stack as they are
+-- behind it
 abbrev pub recalled : Desc → ℕ → Entry → Machine → Machine
 recalled d i e x = record (marked d i e x) { mark = true_mark d e }
 

@@ -13,10 +13,10 @@ use history_pred::History;
 use rename_taint::RenameTaint;
 use window_model::{Entry, Event, Row};
 
-/// Phase Resolve, once the visibility point has moved over the window: the oldest branch or JALR that may be resolved is marked
-/// as resolved and teaches the predictor, with its events in the row. Where it was wrongly predicted or faults, all younger
-/// entries and all fetched items are dropped, and fetching goes on at its next address, or nowhere after a fault, with history and
-/// stack as they are behind it.
+/// Phase Resolve, once the visibility point has moved over the window: the oldest branch or JALR that may be resolved
+/// is marked as resolved and teaches the predictor, with its events in the row. Where it was wrongly predicted or
+/// faults, all younger entries and all fetched items are dropped, and fetching goes on at its next address, or nowhere
+/// after a fault, with history and stack as they are behind it.
 pub fn resolve<R: RenameTaint>(parts: &mut Parts<R>, row: &mut Row)
     requires advanced { HasAdvanced parts.old.point parts.old.machine.window }
     requires room { HasRoom most_resolved row.old }
@@ -50,8 +50,8 @@ fn resolve_at<R: RenameTaint>(position: u32, parts: &mut Parts<R>, row: &mut Row
     row.push(Event::Sq(dropped));
 }
 
-// History and stack become those behind an entry: its mark, followed by the true direction of a branch, or by a jump's own push or
-// pop.
+// History and stack become those behind an entry: its mark, followed by the true direction of a branch, or by a jump's
+// own push or pop.
 fn go_back_behind(entry: &Entry, history: &mut History)
     ensures { InEach history.old (λ d. history.new ≡ record history.old { mark = true_mark d entry.now }) }
 {

@@ -1,4 +1,5 @@
--- What is looked at, when it stands for a machine, and an entry in its place (docs/architecture.md, "How they stand for it").
+-- What is looked at, when it stands for a machine, and an entry in its place (docs/architecture.md, "How they stand for
+-- it").
 use Rattle.std.specs.Prelude.{◌≡◌, ℕ, true, List, length, slice_get, Some}
 use Rattle.std.specs.List.{AllByRecursion as Each}
 use Rattle.machine_facts.specs.Sized.{HasParts, Together}
@@ -34,7 +35,8 @@ marks_in s = with_window s.walk (each_marks s)
 abbrev pub parts_of : ℕ → List Write → Seen → Parts
 parts_of next writes s = record { version = s.desc.now.version; hold = hold_of s.desc.now s.point.now; next = next; window = window_of s; roots = each_roots s.walk.sources.now.items; writes = writes; held = s.stations.now.held }
 
--- the parts stand for the window, the point has just moved, each entry has its marks, and of a store that waits a part hasn't issued
+-- the parts stand for the window, the point has just moved, each entry has its marks, and of a store that waits a part
+-- hasn't issued
 pub record Stands (s : Seen) : Type 0 where
   pub next : ℕ
   pub writes : List Write

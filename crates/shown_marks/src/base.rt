@@ -1,5 +1,5 @@
-//! Whether the first operand of an entry tells an address or the time of a division (`docs/theorems.md`, "Secrets that are loaded"),
-//! and whether it is marked.
+//! Whether the first operand of an entry tells an address or the time of a division (`docs/theorems.md`, "Secrets that
+//! are loaded"), and whether it is marked.
 use crate::seen::{Place, Seen};
 use entry_marks::any_byte;
 use rob_ring::sources_at;
@@ -23,7 +23,8 @@ impl<'a> Seen<'a> {
         sources_at(self.walk.sources, place.position).roots
     }
 
-    // Whether a store's address part may issue: it hasn't issued, and its source is there; in version 1 both sources are.
+    // Whether a store's address part may issue: it hasn't issued, and its source is there; in version 1 both sources
+    // are.
     fn address_may(&self, place: &Place) -> bool
         requires turn { HasTurn self.now place.now }
         requires store { is_store place.now.entry.now.item.kind ≡ true }

@@ -17,8 +17,8 @@ fn is_call(kind: Kind) -> bool
     matches!(kind, Kind::Call)
 }
 
-/// The oldest entry, if it is a call that shows, as [`call_shows`] says. None where there is no entry, where the oldest is no call, and
-/// where it is one that doesn't show.
+/// The oldest entry, if it is a call that shows, as [`call_shows`] says. None where there is no entry, where the oldest
+/// is no call, and where it is one that doesn't show.
 pub fn head_shown<R: RenameTaint>(parts: &Parts<R>, marks: &Marks) -> Option<Shown>
     ensures { result ≡ head_shown parts.now.machine.window parts.now.machine (marks_of marks.now) }
 {

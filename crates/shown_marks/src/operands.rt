@@ -59,8 +59,8 @@ impl<'a> Seen<'a> {
     }
 }
 
-/// The oldest entry whose first operand tells, now or soon, an address or the time of a division, and is marked: on the state that
-/// Issue finds, once the visibility point has moved over the window. None where no entry has one.
+/// The oldest entry whose first operand tells, now or soon, an address or the time of a division, and is marked: on the
+/// state that Issue finds, once the visibility point has moved over the window. None where no entry has one.
 pub fn operands_shown<R: RenameTaint>(parts: &Parts<R>, marks: &Marks) -> Option<Shown>
     requires advanced { HasAdvanced parts.now.point parts.now.machine.window }
     requires step { length marks.now.window.items ≡ length parts.now.machine.window }

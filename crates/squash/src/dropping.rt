@@ -12,9 +12,9 @@ use rob_ring::RobRing;
 use stations::Stations;
 use unit_ports::Ports;
 
-/// Drops the entries from the serial `first` on: the reorder buffer, the stations and the queues of loads and stores let go
-/// of them, each register has the writer and the root that it had before them, and the divider is free again where one of
-/// them was the last to use it. The answer is how many entries there were of them.
+/// Drops the entries from the serial `first` on: the reorder buffer, the stations and the queues of loads and stores
+/// let go of them, each register has the writer and the root that it had before them, and the divider is free again
+/// where one of them was the last to use it. The answer is how many entries there were of them.
 pub fn squash_after<R: RenameTaint>(
     first: u64,
     rob: &mut RobRing,

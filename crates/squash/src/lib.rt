@@ -1,8 +1,9 @@
 //! A squash: what is dropped of the parts of a core.
 //!
 //! Where a branch or JALR was wrongly predicted or has a fault, all that is younger is dropped (`docs/machine.md`,
-//! "Resolve"), and where a load passed a store wrongly, the load and all that is younger ("Clear"). Serials rise with age, so
-//! these are the entries from one serial on, and each part takes them out by that. Misses go on: no part here knows of them.
+//! "Resolve"), and where a load passed a store wrongly, the load and all that is younger ("Clear"). Serials rise with
+//! age, so these are the entries from one serial on, and each part takes them out by that. Misses go on: no part here
+//! knows of them.
 //! `specs/Laws.antt` says that this is what the machine drops.
 #![tactic(auto)]
 

@@ -3,7 +3,8 @@ use Rattle.entry_marks.specs.Walk.{marks_of, marks_with}
 use Rattle.entry_marks.proofs.YoungestFirst.{left_from}
 use Rattle.entry_marks.proofs.issuing.mark_issued.Given as goal
 
--- the entries from the loop's position on have the marks with which Issue leaves them, the older ones those that they had
+-- the entries from the loop's position on have the marks with which Issue leaves them, the older ones those that they
+-- had
 abbrev pub invariant-loop-i : goal.invariant-loop-i
 invariant-loop-i l = record {
   marks : marks_of l.marks
