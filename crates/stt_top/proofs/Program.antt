@@ -28,6 +28,12 @@ wants_memory f ws files out note note' refused.Memory r status h q s t = (
   t,
 )
 
+-- equal words end in one way, with one status
+pub same_end : (words words' : List (List ℕ)) (old new : World) (note note' : Told) (status status' : ℕ) → words ≡ words' → status ≡ status'
+    → EndsWith words old new note note' status → EndsWith words' old new note note' status'
+same_end words words' old new note note' status status' w s e =
+    subst (λ x. EndsWith words' old new note note' x) s (subst (λ x. EndsWith x old new note note' status) w e)
+
 -- what a status says follows from how the program ends
 pub statuses_of : (words : List (List ℕ)) (old new : World) (note note' : Told) (status : ℕ) → EndsWith words old new note note' status → Statuses words old new status
 statuses_of words old new note note' status e = statuses_at words old new e.0 status e.2 e.1

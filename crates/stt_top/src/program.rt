@@ -1,5 +1,5 @@
 //! The program, over its words as they were read.
-ghost use Rattle.std.specs.Prelude.{IfOk, IfErr, map, string_bytes, ◌×◌};
+ghost use Rattle.std.specs.Prelude.{IfOk, IfErr, map, string_bytes};
 ghost use Rattle.std.specs.Process.{exit_status};
 ghost use Rattle.tool_io.specs.Outside.{SameContents};
 ghost use Rattle.run_inputs.specs.Note.{Tells};

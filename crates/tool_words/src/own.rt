@@ -1,7 +1,6 @@
 //! The words after the program's name: as the host hands them over, and lent.
-ghost use Rattle.std.specs.Prelude.{◌≡◌, ◌≢◌, ◌×◌, IfOk, IfErr, Ok, Err, map, string_bytes, []};
-ghost use Rattle.std_io.specs.IoError.{error_kind};
-ghost use Rattle.std_io.specs.declared.io.kind.ErrorKind.TheVariants.{OutOfMemory};
+ghost use Rattle.std.specs.Prelude.{◌≡◌, ◌≢◌, IfOk, IfErr, Ok, Err, map, string_bytes, []};
+ghost use Rattle.std.specs.IoError.{error_kind};
 
 use crate::Refused;
 use std::alloc::Global;
@@ -11,8 +10,8 @@ use std::{env, io};
 
 // Why words can't be read: one that isn't UTF-8 is a wrong word.
 fn refused_by(error: &io::Error) -> Refused
-    ensures wanting { error_kind error.now ≡ OutOfMemory → result ≡ Refused.Memory }
-    ensures wrong { error_kind error.now ≢ OutOfMemory → result ≡ Refused.Words }
+    ensures wanting { error_kind error.now ≡ ErrorKind.OutOfMemory → result ≡ Refused.Memory }
+    ensures wrong { error_kind error.now ≢ ErrorKind.OutOfMemory → result ≡ Refused.Words }
 {
     match error.kind() {
         ErrorKind::OutOfMemory => Refused::Memory,

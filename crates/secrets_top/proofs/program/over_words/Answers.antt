@@ -1,0 +1,17 @@
+-- The words are lent, or there was no memory to lend them.
+use Rattle.std.proofs.Common.{map, string_bytes, ap, ◌∙◌, refl}
+use Rattle.run_inputs.specs.Told.{world}
+use Rattle.secrets_top.proofs.Program.{same_end, wants_memory}
+use Rattle.secrets_top.proofs.program.over_words.Goals as goal
+
+pub returns-in-Ok-clause-ends : goal.returns-in-Ok-clause-ends
+returns-in-Ok-clause-ends g c =
+    let old = world (g.F.Files.shelf c.args.files.now) (g.O.Sink.told c.args.out.now) in
+    let new = world (g.F.Files.shelf c.secrets_top.new.files) (g.O.Sink.told c.secrets_top.new.out) in
+    same_end (map (λ w. w.now) c.as_slice.result.now) (map string_bytes c.args.words.now) old new (g.N.Sink.told c.args.note.now) (g.N.Sink.told c.secrets_top.new.note)
+    c.secrets_top.result c.secrets_top.result (ap (map (λ w. w.now)) c.as_slice.ensures.value ∙ c.in-Ok.ensures.lent) refl c.secrets_top.ensures.ends
+
+pub returns-in-Err-clause-ends : goal.returns-in-Err-clause-ends
+returns-in-Err-clause-ends g c =
+    wants_memory string_bytes c.args.words.now (g.F.Files.shelf c.args.files.now) (g.O.Sink.told c.args.out.now) (g.N.Sink.told c.args.note.now) (g.N.Sink.told c.refuse.new.note)
+    c.in-Err.refused c.from.result c.refuse.result c.in-Err.ensures.wanting c.from.ensures c.refuse.ensures.status c.refuse.ensures.line
