@@ -23,7 +23,8 @@ def numbers(run, most):
         "instructions": {"fetched": counts.fetched, "renamed": counts.renamed, "squashed": counts.squashed, "retired": counts.retired},
         "resolved": {name: {"resolved": counts.resolved[kind], "mispredicted": counts.mispredicted[kind]}
                      for name, kind in (("branches", BRANCH), ("JALRs", JALR), ("returns", RETURN))},
-        "issued": {name: {"issued": counts.units.get(unit, 0), "not_retired": counts.wrong.get(unit, 0)} for unit, name in LOAD_KINDS + OTHER_UNITS},
+        "issued": {name: {"issued": counts.units.get(unit, 0), "not_retired": counts.wrong.get(unit, 0)}
+                   for unit, name in LOAD_KINDS + OTHER_UNITS},
         "per_thousand_retired": {"mispredicted": share(counts.mispredictions, counts.retired),
                                  "loads_that_miss": share(counts.misses, counts.retired)},
         "defence": {"name": replay.reasons.holds, "instructions": sum(counts.held.values()), "cycles": sum(counts.held_cycles.values())},

@@ -5,7 +5,7 @@ FILL, COMPLETE, RESOLVE, CLEAR, RETIRE, ISSUE, RENAME, FETCH = range(8)
 
 # the bases of an event's numbers: a serial or a count, an address or a line; one that is kept as its text
 COUNT, PLACE, TEXT = 10, 16, 0
-# the phase of each event, how many words its text has (the name, and what stands behind colons), and the bases of the first two behind the name
+# the phase of each event, how many words its text has: the name, and what stands behind colons; and the bases of the first two of these
 EVENTS = {
     "fill": (FILL, 2, PLACE, TEXT), "done": (COMPLETE, 2, COUNT, TEXT),
     "res": (RESOLVE, 3, COUNT, TEXT), "bp": (RESOLVE, 3, COUNT, TEXT), "bt": (RESOLVE, 3, COUNT, TEXT), "sq": (RESOLVE, 2, COUNT, TEXT),
@@ -63,5 +63,5 @@ class Row:
 def text_of(words):
     """The text of an event."""
     _, _, first, second, _ = SHAPES[words[0]]
-    bases = first, second, TEXT
-    return ":".join([words[0], *(f"{word:08x}" if base == PLACE and word not in WITHOUT_LINE else str(word) for word, base in zip(words[1:], bases))])
+    bases = TEXT, first, second, TEXT
+    return ":".join([f"{word:08x}" if base == PLACE and word not in WITHOUT_LINE else str(word) for word, base in zip(words, bases)])
