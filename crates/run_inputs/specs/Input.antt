@@ -1,5 +1,5 @@
--- What the program reads, and why it may be refused (docs/theorems.md, "What is read"): a description, if one is named, and
--- then images in their order, each read and loaded before the next is read.
+-- What the program reads, and why it may be refused (docs/theorems.md, "What is read"): a description, if one is named,
+-- and then images in their order, each read and loaded before the next is read.
 use Rattle.std.specs.Prelude.{◌≡◌, ◌⊎◌, ℕ, ◌==◌, IsUtf8, Bool, false, List, [], ◌∷◌, take, slice_get, Option, Some, None, Result, Ok, Err, MatchResult}
 use Rattle.elf_loader.specs.Faults.{header_fault}
 use Rattle.elf_loader.specs.Image.{ImageText, image_of}

@@ -19,7 +19,8 @@ pub struct Described {
     pub image: Image,
 }
 
-/// Reads a description and then the one image of a run under it. Nothing of the image is read where the description is refused.
+/// Reads a description and then the one image of a run under it. Nothing of the image is read where the description is
+/// refused.
 pub fn read_described<F: Files>(
     alloc: Global,
     description: &str,

@@ -1,8 +1,8 @@
-//! What a run is made of: a machine description and an image in its memory, read from the files that it names, with a refusal of each
-//! that isn't accepted, and the line that tells it.
+//! What a run is made of: a machine description and an image in its memory, read from the files that it names, with a
+//! refusal of each that isn't accepted, and the line that tells it.
 //!
-//! What is read of which files, and why it is refused, stands in `specs/Input.antt`, the statuses of refusals in `Refused.antt`, their
-//! lines in `Note.antt`; in plain words in `docs/formats.md`, "Statuses" and "Notes".
+//! What is read of which files, and why it is refused, stands in `specs/Input.antt`, the statuses of refusals in
+//! `Refused.antt`, their lines in `Note.antt`; in plain words in `docs/formats.md`, "Statuses" and "Notes".
 #![tactic(auto)]
 
 mod described;

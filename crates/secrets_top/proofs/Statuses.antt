@@ -1,5 +1,5 @@
--- What each status says follows from how the program ends: by classes of ends. What is told is written whole or in part, the words want
--- nothing, memory was wanting, the description or the image is refused, or a range is.
+-- What each status says follows from how the program ends: by classes of ends. What is told is written whole or in
+-- part, the words want nothing, memory was wanting, the description or the image is refused, or a range is.
 use Rattle.std.proofs.Common.{◌≡◌, ◌⊎◌, ℕ, zero, suc, List, [], ◌∷◌, Option, Some, None, Result, Ok, Err, refl, sym, ap, ap₂, ◌∙◌, subst, inl, inr, arith}
 use Rattle.rv_types.specs.declared.End.{End}
 use Rattle.elf_loader.specs.Image.{ImageText}

@@ -16,12 +16,13 @@ use Rattle.run_inputs.specs.Told.{World}
 use Rattle.secrets_top.specs.Top.{Wants, Accepted}
 use Rattle.secrets_top.specs.Verdict.{hidden_text, shown_line, first_of_run}
 
--- every memory that differs from the image's in the secret bytes alone gives the trace of the image, of at most n cycles
+-- every memory that differs from the image's in the secret bytes alone gives the trace of the image, of at most n
+-- cycles
 abbrev pub OneTrace : Desc → ImageText → List SecretRange → ℕ → Type 0
 OneTrace d image secret n = (m : Ram) → AgreeBut (secret_in secret) image.ram m → trace d image.code image.entry m n ≡ trace d image.code image.entry image.ram n
 
--- with status 0 or 3 what is written is that nothing shows, and the last line of the image's trace, which every secret gives; with
--- status 0 of any greater number of cycles, too
+-- with status 0 or 3 what is written is that nothing shows, and the last line of the image's trace, which every secret
+-- gives; with status 0 of any greater number of cycles, too
 pub record Hides (d : Desc) (image : ImageText) (secret : List SecretRange) (n : ℕ) (status : ℕ) (out out' : Told) : Type 0 where
   pub text : Wrote (hidden_text (ending_of (trace_of d image n))) out out'
   pub one_trace : OneTrace d image secret n

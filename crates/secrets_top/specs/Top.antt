@@ -51,15 +51,16 @@ verdict_on {wanted} a = verdict_in wanted a.inputs.desc a.inputs.image
 abbrev pub RefusedInputs : WantedText → Shelf → Shelf → Refusal → Type 0
 RefusedInputs wanted old new refusal = Refuses (Some wanted.description) (from_file wanted.image ∷ []) old new refusal
 
--- how a run is told: with its whole text, with a part of it where the sink failed, or with nothing where memory was wanting
+-- how a run is told: with its whole text, with a part of it where the sink failed, or with nothing where memory was
+-- wanting
 abbrev pub Performs : Verdict → Told → Told → Result Verdict Unjudged → Type 0
 Performs verdict out out' (Ok told) = Wrote (verdict_text verdict) out out' × (told ≡ verdict)
 Performs verdict out out' (Err (Refused Write)) = WrotePart (verdict_text verdict) out out'
 Performs verdict out out' (Err (Refused Memory)) = out' ≡ out
 Performs verdict out out' (Err cause) = ⊥
 
--- how the program ends: what is told is written whole, or in part where the sink failed; or the words want nothing, there are some and
--- there was no memory, what is read or a range of it is refused, and nothing is written
+-- how the program ends: what is told is written whole, or in part where the sink failed; or the words want nothing,
+-- there are some and there was no memory, what is read or a range of it is refused, and nothing is written
 abbrev pub Ends : List (List ℕ) → World → World → Result Verdict Unjudged → Type 0
 Ends words old new (Ok told) = Wants words (λ wanted. (a : Accepted wanted old.files new.files) × Wrote (verdict_text (verdict_on a)) old.out new.out × (told ≡ verdict_on a))
 Ends words old new (Err (Range faulty)) =
@@ -81,12 +82,12 @@ IsTold status = (status ≡ 0) ⊎ (status ≡ 1) ⊎ (status ≡ 3)
 
 -- what each status says, and when it comes
 pub record Statuses (words : List (List ℕ)) (old new : World) (status : ℕ) : Type 0 where
-  -- 0, 1 and 3: the whole text is written, with the status of what it tells: nothing shows and the run ended, something shows, or
-  -- nothing does within the budget
+  -- 0, 1 and 3: the whole text is written, with the status of what it tells: nothing shows and the run ended, something
+  -- shows, or nothing does within the budget
   pub told : IsTold status → Wants words (λ wanted. (a : Accepted wanted old.files new.files) × Wrote (verdict_text (verdict_on a)) old.out new.out
       × (status ≡ verdict_status (verdict_on a)))
-  -- 2 only where the words want nothing, or a range isn't within the image's memory or touches its code; and there always, but for
-  -- a failed read and want of memory
+  -- 2 only where the words want nothing, or a range isn't within the image's memory or touches its code; and there
+  -- always, but for a failed read and want of memory
   pub two : status ≡ 2 → (wanted_of words ≡ None)
       ⊎ Wants words (λ wanted. (inputs : Inputs wanted old.files new.files) × (faulty : FaultyRange) × (fault_in wanted inputs.image ≡ Some faulty))
   pub no_wish : wanted_of words ≡ None → (status ≡ 2) ⊎ (status ≡ 8)
@@ -100,14 +101,14 @@ pub record Statuses (words : List (List ℕ)) (old new : World) (status : ℕ) :
       ⊎ ((text : List ℕ) × (fault : DescFault) × MayHold old.files wanted.description description_max text × (description_of text ≡ Err fault)))
   pub faulty_description : (wanted : WantedText) (text : List ℕ) → wanted_of words ≡ Some wanted → old.files.content wanted.description ≡ Some text
       → IsFaultyDescription text → (status ≡ 4) ⊎ ((status ≡ 6) ⊎ (status ≡ 8))
-  -- 5 only where the image is too long or at fault and the description isn't, and there always, but for a failed read and want of
-  -- memory
+  -- 5 only where the image is too long or at fault and the description isn't, and there always, but for a failed read
+  -- and want of memory
   pub five : status ≡ 5 → Wants words (λ wanted. (desc : Option Desc) × HasDesc old.files (Some wanted.description) desc
       × MayBeFaulty old.files desc (from_file wanted.image))
   pub faulty_image : (wanted : WantedText) (desc : Option Desc) (file : List ℕ) → wanted_of words ≡ Some wanted → TellsDesc old.files (Some wanted.description) desc
       → old.files.content wanted.image ≡ Some file → IsFaultyImage (from_file wanted.image) file desc → (status ≡ 5) ⊎ ((status ≡ 6) ⊎ (status ≡ 8))
-  -- 6 only where the count of the description's name rose, or that of the image's after the description was read and had no fault;
-  -- any other status leaves all counts of the files
+  -- 6 only where the count of the description's name rose, or that of the image's after the description was read and
+  -- had no fault; any other status leaves all counts of the files
   pub six : status ≡ 6 → Wants words (λ wanted. NameFailed wanted.description old.files new.files
       ⊎ ((desc : Option Desc) × HasDesc old.files (Some wanted.description) desc × NameFailed wanted.image old.files new.files))
   pub not_six : status ≢ 6 → SameCounts old.files new.files
@@ -116,8 +117,8 @@ pub record Statuses (words : List (List ℕ)) (old new : World) (status : ℕ) :
   pub not_seven : status ≢ 7 → new.out.faults ≡ old.out.faults
   -- any status but 0, 1, 3 and 7 writes nothing
   pub nothing : ¬ IsTold status → status ≢ 7 → new.out ≡ old.out
-  -- where the words, the description, the image and the ranges have no fault and no count rose, the whole text is written with its
-  -- status, or memory was wanting and nothing is
+  -- where the words, the description, the image and the ranges have no fault and no count rose, the whole text is
+  -- written with its status, or memory was wanting and nothing is
   pub complete : (wanted : WantedText) (d : Desc) (image : ImageText) → wanted_of words ≡ Some wanted
       → TellsDesc old.files (Some wanted.description) (Some d) → TellsImage old.files (Some d) (from_file wanted.image) image → fault_in wanted image ≡ None
       → ¬ Rose (old.files.faults wanted.description) (new.files.faults wanted.description) → ¬ Rose (old.files.faults wanted.image) (new.files.faults wanted.image)

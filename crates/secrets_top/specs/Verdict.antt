@@ -41,8 +41,8 @@ verdict_of d image secret n = verdict_from d image.code n (opening d image.entry
 
 -- ---- The text of a verdict
 
--- the word of what shows of an instruction of this kind: where it accesses memory, how long it divides, what it is called for, or
--- where a branch or JALR goes
+-- the word of what shows of an instruction of this kind: where it accesses memory, how long it divides, what it is
+-- called for, or where a branch or JALR goes
 abbrev pub what_shows : Kind → List ℕ
 what_shows Load = codes "access"
 what_shows Store = codes "access"

@@ -1,5 +1,5 @@
-//! A run with marks beside it, and what is told of it. All memory is taken before the first cycle, and nothing is written before the
-//! last.
+//! A run with marks beside it, and what is told of it. All memory is taken before the first cycle, and nothing is
+//! written before the last.
 ghost use Rattle.std.specs.Prelude.{◌≡◌, ◌<◌, ◌+◌, ◌^◌, IfOk};
 ghost use Rattle.elf_loader.specs.Code.{word_at};
 ghost use Rattle.pair_run.specs.Running.{ending_at};
@@ -59,8 +59,8 @@ fn judge(
     Ok(watch(&mut core, cycles))
 }
 
-/// Tells what a run shows. Errors: `Memory`, before anything is written; `Write`, only where the sink's count of faults rose, with a
-/// part of the text written.
+/// Tells what a run shows. Errors: `Memory`, before anything is written; `Write`, only where the sink's count of faults
+/// rose, with a part of the text written.
 pub fn perform<O: Sink>(
     alloc: Global,
     read: Described,

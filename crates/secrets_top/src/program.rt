@@ -34,8 +34,9 @@ fn over_words<F: Files, O: Sink, N: Sink>(
     }
 }
 
-/// Does all that the program does, by its words after its name as they were read or the reason why they weren't. Where they
-/// were it is `secrets_top` over them, and else they are refused for that reason, with its status and its line on the note.
+/// Does all that the program does, by its words after its name as they were read or the reason why they weren't. Where
+/// they were it is `secrets_top` over them, and else they are refused for that reason, with its status and its line on
+/// the note.
 pub fn secrets_program<F: Files, O: Sink, N: Sink>(
     alloc: Global,
     words: Result<Vec<String>, Refused>,

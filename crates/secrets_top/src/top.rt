@@ -34,13 +34,13 @@ fn answer<F: Files, O: Sink>(
     perform(alloc, read, wanted.secret.as_slice(), wanted.cycles, out)
 }
 
-/// Does all that the program does, and answers its status. `words` are those after the program's name. What is told of the run is
-/// written to `out`, one put a line; a refusal writes its line to `note`, whose failure changes no status.
+/// Does all that the program does, and answers its status. `words` are those after the program's name. What is told of
+/// the run is written to `out`, one put a line; a refusal writes its line to `note`, whose failure changes no status.
 ///
-/// Statuses: 0 nothing of the secret shows, and the run ended; 1 something shows; 3 nothing shows within the budget, in which the run
-/// didn't end; 2 the words are no wish, or a range isn't within memory or touches code; 4 the description, 5 the image is too long or at
-/// fault; 6 a file couldn't be read; 7 the output couldn't be written whole; 8 there was no memory, which comes only before the first
-/// byte of output, and never where there are no words.
+/// Statuses: 0 nothing of the secret shows, and the run ended; 1 something shows; 3 nothing shows within the budget, in
+/// which the run didn't end; 2 the words are no wish, or a range isn't within memory or touches code; 4 the
+/// description, 5 the image is too long or at fault; 6 a file couldn't be read; 7 the output couldn't be written whole;
+/// 8 there was no memory, which comes only before the first byte of output, and never where there are no words.
 pub fn secrets_top<F: Files, O: Sink, N: Sink>(
     alloc: Global,
     words: &[&str],

@@ -1,4 +1,5 @@
-//! What is told of a run: nothing of a secret shows, or what shows first (`docs/formats.md`, "The program stt_secrets").
+//! What is told of a run: nothing of a secret shows, or what shows first (`docs/formats.md`, "The program
+//! stt_secrets").
 //!
 //! A put has one line, and nothing here takes memory.
 ghost use Rattle.std.specs.Prelude.{◌≡◌};
@@ -19,7 +20,8 @@ pub enum Verdict {
     Shown(FirstShown),
 }
 
-// The word of what shows of an instruction of this kind. Of a kind that isn't named nothing shows but where a branch or JALR goes.
+// The word of what shows of an instruction of this kind. Of a kind that isn't named nothing shows but where a branch or
+// JALR goes.
 fn what_shows(kind: Kind) -> &'static [u8]
     ensures { result.now ≡ what_shows kind }
 {
@@ -55,8 +57,8 @@ fn write_hidden<S: Sink>(ending: &Ending, out: &mut S) -> Result<(), Failed>
     write_end(ending, out)
 }
 
-/// Writes what is told of a run, one put a line. Error: `Failed`, only where the sink's count of faults rose; then a prefix of the
-/// text was appended, maybe none of it.
+/// Writes what is told of a run, one put a line. Error: `Failed`, only where the sink's count of faults rose; then a
+/// prefix of the text was appended, maybe none of it.
 pub fn write_verdict<S: Sink>(verdict: &Verdict, out: &mut S) -> Result<(), Failed>
     ensures { Writes (verdict_text verdict.now) (S.told out.old) (S.told out.new) result }
 {

@@ -1,4 +1,5 @@
-//! The program that judges by one run whether a secret shows: for every value of the secret bytes, or where first it does.
+//! The program that judges by one run whether a secret shows: for every value of the secret bytes, or where first it
+//! does.
 //!
 //! `main` hands its words, the host's files and the standard streams to `secrets_program`, which does all the rest.
 #![tactic(auto)]

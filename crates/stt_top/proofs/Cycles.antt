@@ -18,7 +18,8 @@ use Rattle.stt_top.specs.Clocking.{CameTo}
 
 -- ---- Any text of a run
 
--- i of the n cycles from x are done and led to y, and the lines of a text of the n cycles are written up to those of the cycles left
+-- i of the n cycles from x are done and led to y, and the lines of a text of the n cycles are written up to those of
+-- the cycles left
 pub record LinesLeft (text : ℕ → Machine → List ℕ) (d : Desc) (code : Code) (n i : ℕ) (x y : Machine) (old new : Told) : Type 0 where
   pub left : Left d code n i x y
   pub lines : WroteUpTo (text n x) (text (n - i) y) old new

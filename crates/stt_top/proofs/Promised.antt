@@ -69,8 +69,8 @@ hides d image n out out' al w = record {
   agreeing = λ protected m agree. subst (λ t. Wrote (text.trace_text t) out out') (sym (same_trace d image.code image.entry image.ram m n protected al agree)) w;
 }
 
--- a file's image and any other with its entry and code, whose memories agree on what the path loads, have one trace where the model
--- protects
+-- a file's image and any other with its entry and code, whose memories agree on what the path loads, have one trace
+-- where the model protects
 pub traces_agree : TracesAgree
 traces_agree d file one two n protected f e c agree =
     let first : trace_of d two n ≡ trace d one.code one.entry two.ram n = ap (λ (x : ℕ). trace d two.code x two.ram n) e ∙ ap (λ (x : Code). trace d x one.entry two.ram n) c in

@@ -1,5 +1,5 @@
--- What each status says follows from how the program ends: by classes of ends. A text is written whole or in part, the words
--- are no command, memory was wanting, or the description or an image is refused.
+-- What each status says follows from how the program ends: by classes of ends. A text is written whole or in part, the
+-- words are no command, memory was wanting, or the description or an image is refused.
 use Rattle.std.proofs.Common.{◌≡◌, ◌⊎◌, ℕ, List, [], Option, Some, None, Result, Ok, Err, refl, sym, ap, ◌∙◌, subst, inl, inr, arith}
 use Rattle.elf_loader.specs.Image.{ImageText}
 use Rattle.elf_loader.specs.declared.faults.ElfFault.{ElfFault}

@@ -29,8 +29,8 @@ use Rattle.run_inputs.specs.Told.{World}
 abbrev pub retired_run : Desc → ImageText → ℕ → Run
 retired_run d image n = run_of image (trace_of d image n).retired
 
--- what is written is the report of that run: its registers, memory and output, and how the machine ended. An exit is that
--- run's own, and a trap is that of its next step
+-- what is written is the report of that run: its registers, memory and output, and how the machine ended. An exit is
+-- that run's own, and a trap is that of its next step
 pub record Commits (d : Desc) (image : ImageText) (n : ℕ) (out out' : Told) : Type 0 where
   pub report : Wrote (report_text image.ram (record (retired_run d image n) { ended = (trace_of d image n).end }) (Some (trace_of d image n).cycles)) out out'
   pub all : (retired_run d image n).steps ≡ (trace_of d image n).retired
@@ -43,8 +43,8 @@ pub record Commits (d : Desc) (image : ImageText) (n : ℕ) (out out' : Told) : 
 abbrev pub state_at : Desc → ImageText → ℕ → Machine
 state_at d image k = at d image.code image.entry image.ram k
 
--- within every `bound d` cycles one more instruction retires, or the run ends; so of n cycles, a budget of m times that, m retire,
--- or the run ends before
+-- within every `bound d` cycles one more instruction retires, or the run ends; so of n cycles, a budget of m times
+-- that, m retire, or the run ends before
 pub record MovesOn (d : Desc) (image : ImageText) (n : ℕ) : Type 0 where
   pub one : (k : ℕ) → (state_at d image (k + bound d)).end ≡ None → (state_at d image k).retired < (state_at d image (k + bound d)).retired
   pub many : (m : ℕ) → n ≡ m * bound d → (trace_of d image n).end ≡ None → m ≤ (trace_of d image n).retired
@@ -55,8 +55,8 @@ pub record MovesOn (d : Desc) (image : ImageText) (n : ℕ) : Type 0 where
 abbrev pub with_memory : ImageText → Ram → ImageText
 with_memory image m = record image { ram = m }
 
--- where the model protects, what is written is the trace of the machine on every memory that agrees with the image's on each byte
--- that the path loads, in as many steps as the machine retires and the window may hold besides
+-- where the model protects, what is written is the trace of the machine on every memory that agrees with the image's on
+-- each byte that the path loads, in as many steps as the machine retires and the window may hold besides
 pub record Hides (d : Desc) (image : ImageText) (n : ℕ) (out out' : Told) : Type 0 where
   pub agreeing : protects d.stt_model ≡ true → (m : Ram) → Agree image.ram m (reads_of_trace d image.code image.entry image.ram n) → Wrote (trace.trace_text (trace_of d (with_memory image m) n)) out out'
 
@@ -64,13 +64,14 @@ pub record Hides (d : Desc) (image : ImageText) (n : ℕ) (out out' : Told) : Ty
 abbrev pub IsImageOf : Desc → List ℕ → ImageText → Type 0
 IsImageOf d file image = image_of file d.ram_base d.ram_size (d.ram_misaligned == 1) ≡ Ok image
 
--- a file's image and any other with its entry and code, whose memories so agree, have one trace, where the model protects
+-- a file's image and any other with its entry and code, whose memories so agree, have one trace, where the model
+-- protects
 abbrev pub TracesAgree : Type 0
 TracesAgree = (d : Desc) (file : List ℕ) (one two : ImageText) (n : ℕ) → protects d.stt_model ≡ true → IsImageOf d file one → two.entry ≡ one.entry
     → two.code ≡ one.code → Agree one.ram two.ram (reads_of_trace d one.code one.entry one.ram n) → trace.trace_text (trace_of d two n) ≡ trace.trace_text (trace_of d one n)
 
--- what is written is the answer on the runs of two images; and with the premise true it is that they are the same, where the model
--- protects
+-- what is written is the answer on the runs of two images; and with the premise true it is that they are the same,
+-- where the model protects
 pub record Compares (d : Desc) (one two : ImageText) (n : ℕ) (out out' : Told) : Type 0 where
   pub answer : PairAnswer
   pub answers : Answers d one two n answer

@@ -48,6 +48,7 @@ abbrev pub Tells : List ℕ → Option End → Told → Told → Result Ended Fa
 Tells text end old new result =
     MatchResult result (λ ended. Wrote text old new × (ended ≡ ended_of end)) (λ _. WrotePart text old new)
 
--- the report of a run of the instruction set, which counts no cycles, is written, whole and with how the run ended, or in part
+-- the report of a run of the instruction set, which counts no cycles, is written, whole and with how the run ended, or
+-- in part
 abbrev pub TellsRun : Ram → Run → Told → Told → Result Ended Failed → Type 0
 TellsRun before run old new result = Tells (report_text before run None) run.ended old new result

@@ -63,8 +63,8 @@ pub record Done (command : CommandText) (old new : World) : Type 0 where
 abbrev pub Asks : List (List ℕ) → (CommandText → Type 0) → Type 0
 Asks words P = (command : CommandText) × (command_of words ≡ Some command) × P command
 
--- how the program ends: a command's text is written whole, or in part where the sink failed; or the words are no command,
--- there are some and there was no memory, or what the command reads is refused, and nothing is written
+-- how the program ends: a command's text is written whole, or in part where the sink failed; or the words are no
+-- command, there are some and there was no memory, or what the command reads is refused, and nothing is written
 abbrev pub Ends : List (List ℕ) → World → World → Result Ended Refusal → Type 0
 Ends words old new (Ok ended) = Asks words (λ command. (done : Done command old new) × Wrote done.work.text old.out new.out × (ended ≡ done.work.ended))
 Ends words old new (Err Write) = Asks words (λ command. (done : Done command old new) × WrotePart done.work.text old.out new.out)
@@ -96,8 +96,8 @@ IsRun status = (status ≡ 0) ⊎ (status ≡ 1) ⊎ (status ≡ 3)
 
 -- what each status says, and when it comes
 pub record Statuses (words : List (List ℕ)) (old new : World) (status : ℕ) : Type 0 where
-  -- 0, 1 and 3: the command's whole text is written, with the status of what it comes to: the run ended by an exit, by a
-  -- trap, or not within its budget; for pair 0 where the runs are the same and 1 where they aren't
+  -- 0, 1 and 3: the command's whole text is written, with the status of what it comes to: the run ended by an exit, by
+  -- a trap, or not within its budget; for pair 0 where the runs are the same and 1 where they aren't
   pub ran : IsRun status → Asks words (λ command. (done : Done command old new) × Wrote done.work.text old.out new.out × (status ≡ status_of (Ok done.work.ended)))
   -- 2 exactly where the words are no command, but for want of memory, which is never told of no words
   pub two : status ≡ 2 → command_of words ≡ None
@@ -109,14 +109,14 @@ pub record Statuses (words : List (List ℕ)) (old new : World) (status : ℕ) :
       ⊎ ((text : List ℕ) × (fault : DescFault) × MayHold old.files name description_max text × (description_of text ≡ Err fault))))
   pub faulty_description : (command : CommandText) (name text : List ℕ) → command_of words ≡ Some command → description_name command ≡ Some name
       → old.files.content name ≡ Some text → IsFaultyDescription text → (status ≡ 4) ⊎ ((status ≡ 6) ⊎ (status ≡ 8))
-  -- 5 only where an image is too long or at fault and nothing before it is, and always where one is, but for a failed read
-  -- and want of memory
+  -- 5 only where an image is too long or at fault and nothing before it is, and always where one is, but for a failed
+  -- read and want of memory
   pub five : status ≡ 5 → Asks words (λ command. (which : Which) × ImageRefusedAt command old.files (place_of which) (MayBeFaulty old.files))
   pub faulty_image : (command : CommandText) (desc : Option Desc) (place : ℕ) (from : ImageFrom) (file : List ℕ) → command_of words ≡ Some command
       → TellsDesc old.files (description_name command) desc → IsAt command place from → TellsBytes old.files from file → IsFaultyImage from file desc
       → (status ≡ 5) ⊎ ((status ≡ 6) ⊎ (status ≡ 8))
-  -- 6 only where the count of the description's name rose, or that of an image's file after all before it was read and had
-  -- no fault; any other status leaves all counts of the files
+  -- 6 only where the count of the description's name rose, or that of an image's file after all before it was read and
+  -- had no fault; any other status leaves all counts of the files
   pub six : status ≡ 6 → Asks words (λ command. ((name : List ℕ) × (description_name command ≡ Some name) × NameFailed name old.files new.files)
       ⊎ ((which : Which) × ImageRefusedAt command old.files (place_of which) (λ desc from. FailsToRead old.files new.files from)))
   pub not_six : status ≢ 6 → SameCounts old.files new.files

@@ -24,8 +24,8 @@ use Rattle.stt_top.specs.Running.{opening_of}
 
 -- ---- What a command asks for
 
--- a command with what it reads: the instruction set's run of an image as a report, the machine's as a report or as a trace,
--- or the machine's runs of two images, compared; and the most steps or cycles of each run
+-- a command with what it reads: the instruction set's run of an image as a report, the machine's as a report or as a
+-- trace, or the machine's runs of two images, compared; and the most steps or cycles of each run
 pub data TaskText : Type 0 where
   isa_task : ImageText → ℕ → TaskText
   report_task : Desc → ImageText → ℕ → TaskText
@@ -85,8 +85,8 @@ trace_work d image n = record { text = trace.trace_text (trace_of d image n); en
 abbrev pub pair_work : PairAnswer → Work
 pair_work answer = record { text = comparison answer; ended = compared_of answer.first }
 
--- what a task comes to. It is a relation, since no definition computes whether two images have one code; but a task comes to
--- one work at most (`OneWork`)
+-- what a task comes to. It is a relation, since no definition computes whether two images have one code; but a task
+-- comes to one work at most (`OneWork`)
 abbrev pub ComesTo : TaskText → Work → Type 0
 ComesTo (isa_task image steps) work = work ≡ isa_work image steps
 ComesTo (report_task d image cycles) work = work ≡ run_work d image cycles
@@ -96,7 +96,8 @@ ComesTo (pair_task d one two cycles) work = (answer : PairAnswer) × Answers d o
 abbrev pub OneWork : Type 0
 OneWork = (task : TaskText) (a b : Work) → ComesTo task a → ComesTo task b → a ≡ b
 
--- how a task ends: with its whole text, with a part of it where the sink failed, or with nothing where memory was wanting
+-- how a task ends: with its whole text, with a part of it where the sink failed, or with nothing where memory was
+-- wanting
 abbrev pub Performs : TaskText → Told → Told → Result Ended Refusal → Type 0
 Performs task out out' (Ok ended) = (work : Work) × ComesTo task work × Wrote work.text out out' × (ended ≡ work.ended)
 Performs task out out' (Err Write) = (work : Work) × ComesTo task work × WrotePart work.text out out'

@@ -77,8 +77,8 @@ pub fn trace<C: Clocked, S: Sink>(core: &mut C, cycles: u32, out: &mut S) -> Res
     }
 }
 
-/// Runs a core for at most so many cycles and writes the report, one put a line; `before` is memory as it was when the run
-/// began. Error: `Failed`, only where the sink's count of faults rose; then a part of the report was written.
+/// Runs a core for at most so many cycles and writes the report, one put a line; `before` is memory as it was when the
+/// run began. Error: `Failed`, only where the sink's count of faults rose; then a part of the report was written.
 pub fn report<C: Clocked, S: Sink>(
     core: &mut C,
     before: &Ram,

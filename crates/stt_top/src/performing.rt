@@ -76,8 +76,8 @@ fn pair<O: Sink>(
     Ok(compared_of(answer.first))
 }
 
-/// Does what a task asks for. Errors: `Memory`, before anything is written; `Write`, only where the sink's count of faults
-/// rose, with a part of the text written.
+/// Does what a task asks for. Errors: `Memory`, before anything is written; `Write`, only where the sink's count of
+/// faults rose, with a part of the text written.
 pub fn perform<O: Sink>(alloc: Global, task: Task, out: &mut O) -> Result<Ended, Refusal>
     requires { InMemory (task_text task) }
     ensures { Performs (task_text task) (O.told out.old) (O.told out.new) result }

@@ -42,7 +42,8 @@ pub enum Task {
     },
 }
 
-// What `pair` asks for: reads a description and then two images under it, the second one only where the first has no fault.
+// What `pair` asks for: reads a description and then two images under it, the second one only where the first has no
+// fault.
 fn read_pair<F: Files>(
     alloc: Global,
     description: &str,
@@ -87,8 +88,8 @@ fn read_isa<F: Files>(
     Ok(Task::Isa { image, steps })
 }
 
-/// Reads all that a command needs: its description, if one is named, and then its images in their order. Nothing is read
-/// behind what is refused.
+/// Reads all that a command needs: its description, if one is named, and then its images in their order. Nothing is
+/// read behind what is refused.
 pub fn read_task<F: Files>(
     alloc: Global,
     command: Command<'_>,

@@ -32,13 +32,13 @@ fn answer<F: Files, O: Sink>(
     perform(alloc, task, out)
 }
 
-/// Does all that the program does, and answers its status. `words` are those after the program's name. What is asked for is
-/// written to `out`, one put a line; a refusal writes its line to `note`, whose failure changes no status.
+/// Does all that the program does, and answers its status. `words` are those after the program's name. What is asked
+/// for is written to `out`, one put a line; a refusal writes its line to `note`, whose failure changes no status.
 ///
-/// Statuses: 0 the run ended by an exit, 1 by a trap, 3 not within its budget; for two images 0 their runs are the same, 1
-/// they aren't; 2 the words are no command; 4 the description, 5 an image is too long or at fault; 6 a file couldn't be
-/// read; 7 the output couldn't be written whole; 8 there was no memory, which comes only before the first byte of output, and
-/// never where there are no words.
+/// Statuses: 0 the run ended by an exit, 1 by a trap, 3 not within its budget; for two images 0 their runs are the
+/// same, 1 they aren't; 2 the words are no command; 4 the description, 5 an image is too long or at fault; 6 a file
+/// couldn't be read; 7 the output couldn't be written whole; 8 there was no memory, which comes only before the first
+/// byte of output, and never where there are no words.
 pub fn stt_top<F: Files, O: Sink, N: Sink>(
     alloc: Global,
     words: &[&str],
@@ -67,9 +67,9 @@ pub fn one_work()
     ensures { OneWork }
 {}
 
-/// A file's image and any other with its entry and code have one trace under a description whose model protects, where their memories
-/// agree on each byte that the path loads in as many steps as the machine retires and the window may hold besides
-/// (`docs/theorems.md`, "Noninterference").
+/// A file's image and any other with its entry and code have one trace under a description whose model protects, where
+/// their memories agree on each byte that the path loads in as many steps as the machine retires and the window may
+/// hold besides (`docs/theorems.md`, "Noninterference").
 pub fn traces_agree()
     ensures { TracesAgree }
 {}

@@ -66,7 +66,8 @@ tool_app =
     with_subcommand (with_subcommand (with_subcommand (with_subcommand (with_subcommand bare_app isa_shape) (cycles_shape (codes "run"))) (cycles_shape (codes "trace"))) bench_shape)
     pair_shape
 
--- a parser that was made, where there was memory for it: what clap's definition takes by it, and that its commands share no argument
+-- a parser that was made, where there was memory for it: what clap's definition takes by it, and that its commands
+-- share no argument
 abbrev pub IsParser : App → Result Parser AllocError → Type 0
 IsParser app made = IfOk made (λ parser. (app_of parser ≡ app) × ((out-Command parser).has_globals ≡ false))
 
@@ -74,8 +75,8 @@ IsParser app made = IfOk made (λ parser. (app_of parser ≡ app) × ((out-Comma
 abbrev pub IsCommand : Shape → Result Parser AllocError → Type 0
 IsCommand shape made = IfOk made (λ parser. (shape_of parser ≡ shape) × ((out-Command parser).has_globals ≡ false))
 
--- what was found in words by a parser of this command, if it is a simple one: they have no fault and these matches; or they were
--- refused, as no words of this command only where they have a fault
+-- what was found in words by a parser of this command, if it is a simple one: they have no fault and these matches; or
+-- they were refused, as no words of this command only where they have a fault
 abbrev pub FindsBy : App → List Text → Result ArgMatches Refused → Type 0
 FindsBy app ws result =
     is_simple_and_free app ≡ true → MatchResult result (λ m. (fault_of app ws ≡ []) × HasMatchesOf app ws m) (λ refused. refused ≡ Words → fault_of app ws ≢ [])
@@ -90,8 +91,8 @@ rows_in ws = subcommand_of tool_app ws
 
 -- a command with its values, as contracts see it: for isa the image's name, the number of steps, and the description's
 -- name, if one is given; for run and trace the description's name, the image's, and the number of cycles; for bench the
--- description's name, the seed, the number of blocks, and that of cycles; for pair the description's name, those of the two
--- images, and the number of cycles
+-- description's name, the seed, the number of blocks, and that of cycles; for pair the description's name, those of the
+-- two images, and the number of cycles
 pub data CommandText : Type 0 where
   isa_text : Text → ℕ → Option Text → CommandText
   run_text : Text → Text → ℕ → CommandText

@@ -118,8 +118,8 @@ pub fn with_arg<'a>(
     parser?.arg(arg)
 }
 
-// A parser with one more command. What isn't used is let go whole: behind a `?` each of its fields would be let go by itself,
-// which takes the proof three times as long.
+// A parser with one more command. What isn't used is let go whole: behind a `?` each of its fields would be let go by
+// itself, which takes the proof three times as long.
 fn with_command<'a>(
     parser: Result<Parser<'a>, AllocError>,
     command: Result<Parser<'a>, AllocError>,
@@ -205,8 +205,8 @@ fn tool_parser<'a>(alloc: Global) -> Result<Parser<'a>, AllocError>
     with_command(parser, pair_parser(alloc))
 }
 
-/// What clap finds in the words by a parser of a simple command, where there was memory to make it. Errors: `Words`, only where clap
-/// finds a fault in the words; `Memory`.
+/// What clap finds in the words by a parser of a simple command, where there was memory to make it. Errors: `Words`,
+/// only where clap finds a fault in the words; `Memory`.
 pub fn find_by<'a>(
     parser: Result<Parser<'a>, AllocError>,
     words: &'a [&'a str],
@@ -388,8 +388,8 @@ fn command_in<'a>(matches: &ArgMatches<'a>) -> Option<Command<'a>>
     }
 }
 
-/// The command of the words after the program's name. Errors: `Words`, only where they are no command; `Memory`, never where
-/// there are no words, since that is found before memory is taken.
+/// The command of the words after the program's name. Errors: `Words`, only where they are no command; `Memory`, never
+/// where there are no words, since that is found before memory is taken.
 pub fn read_words<'a>(alloc: Global, words: &'a [&'a str]) -> Result<Command<'a>, Refused>
     ensures ok { IfOk result (λ c. command_of (map (λ w. w.now) words.now) ≡ Some (command_text c)) }
     ensures refused { IfErr result (λ e. e ≡ Refused.Words → command_of (map (λ w. w.now) words.now) ≡ None) }

@@ -19,7 +19,7 @@ fn refused_by(error: &io::Error) -> Refused
     }
 }
 
-// All words behind the first, which is the program's name.
+// The words behind the first, which is the program's name.
 fn behind_name(rt: &(impl Env + AllocGlobal), alloc: Global) -> io::Result<Vec<String>> {
     let mut words = Vec::new(alloc);
     for word in env::args(rt)?.skip(1) {
@@ -36,7 +36,7 @@ pub fn own_words(rt: &(impl Env + AllocGlobal), alloc: Global) -> Result<Vec<Str
     }
 }
 
-/// These words, lent. Error: `Memory`, where there are some.
+/// Lends each of these words, in their order. Error: `Memory`, only where there are some.
 pub fn lend_words<'a>(alloc: Global, words: &'a [String]) -> Result<Vec<&'a str>, Refused>
     ensures lent { IfOk result (λ lent. map (λ w. w.now) lent.items ≡ map string_bytes words.now) }
     ensures wanting { IfErr result (λ e. (e ≡ Refused.Memory) × (words.now ≢ [])) }
