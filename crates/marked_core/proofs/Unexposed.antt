@@ -1,5 +1,5 @@
 -- Where nothing resolved is marked as Resolve leaves it, nothing resolved is at the end of the cycle.
-use Rattle.std.proofs.Common.{◌≡◌, ℕ, zero, suc, ◌+◌, ◌-◌, Bool, true, false, not, ◌&&◌, ◌||◌, List, [], ◌∷◌, ◌++◌, length, map, take, replicate, Option, Some, None, refl, ap, ap₂, sym, ◌∙◌, subst, arith, length-append}
+use Rattle.std.proofs.Common.{◌≡◌, ℕ, zero, suc, ◌-◌, Bool, true, false, not, ◌&&◌, ◌||◌, List, [], ◌∷◌, ◌++◌, length, map, take, replicate, Option, Some, None, refl, ap, sym, ◌∙◌, subst, arith, length-append}
 use Rattle.std.specs.Prelude.{if◌then◌else◌, reverse, is_some}
 use Rattle.std.specs.List.{AllByRecursion as Each}
 use Rattle.rv_types.specs.Memory.{Code}
@@ -26,7 +26,6 @@ use Rattle.window_model.specs.State.{After, Machine, nothing, then_does}
 use Rattle.window_model.proofs.Clearing.{clear_keep}
 use Rattle.window_model.proofs.Issuing.{Begins, Comes, Remains, begin_comes, by_issue, gone_parts}
 use Rattle.window_model.proofs.Quiet.{at_retire, cycle_is}
-use Rattle.window_model.proofs.Resolving.{MayResolve}
 use Rattle.window_model.proofs.Walks.{fetch_keep, rename_keep}
 use Rattle.machine_facts.specs.Timely.{PartsDue}
 use Rattle.committed_state.specs.Computed.{Bank}
@@ -38,14 +37,14 @@ use Rattle.secret_marks.specs.declared.EntryMarks.{EntryMarks}
 use Rattle.secret_marks.specs.declared.Shown.{Shown}
 use Rattle.secret_marks.specs.declared.WordMarks.{WordMarks}
 use Rattle.secret_marks.specs.Words.{any_byte, either}
-use Rattle.secret_marks.specs.Marks.{Marks, cut, goes_mark, is_at, issued_from, issued_marks, leaves_as, left, new_entry, value_marks}
+use Rattle.secret_marks.specs.Marks.{Marks, goes_mark, is_at, issued_from, issued_marks, leaves_as, left, new_entry, value_marks}
 use Rattle.secret_marks.specs.Shown.{resolved_shown, shown_by}
 use Rattle.secret_marks.specs.Shows.{outcome_marked}
 use Rattle.secret_marks.specs.Watch.{Watched, then_watches, watch_cycle, watch_fetch, watch_issue, watch_retire}
 use Rattle.entry_marks.proofs.Copies.{none_leaves}
 use Rattle.entry_marks.proofs.Fitting.{retire_went}
 use Rattle.marked_core.specs.InStep.{IssuedBy, NotYet}
-use Rattle.marked_core.specs.Watched.{from_issue, shown_to_clear, to_clear, to_resolve}
+use Rattle.marked_core.specs.Watched.{shown_to_clear, to_clear, to_resolve}
 use Rattle.marked_core.proofs.Stamps.{found_by_issue, found_not_yet}
 use Rattle.marked_core.proofs.Watching.{halves}
 
