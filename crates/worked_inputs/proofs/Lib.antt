@@ -1,0 +1,13 @@
+pub mod Tables
+pub mod Written
+pub mod Documents
+pub mod Keys
+pub mod Named
+pub mod Ordered
+pub mod Contents
+pub mod Fitting
+pub mod Texts
+pub mod Files
+pub mod Images
+pub mod Segments
+pub mod Generated
