@@ -56,7 +56,7 @@ each_key_is_read : document_contents every_key ≡ Ok distinct_contents
 unfolding document_fault end_fault key_fault keys_fault latency_fault registers_fault second_fault sections_fault top_fault ones
 each_key_is_read = refl
 
--- these numbers as a description
+-- a description with the numbers of every_key
 abbrev distinct : Desc
 distinct = record {
   version = 2;

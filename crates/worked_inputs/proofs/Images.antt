@@ -118,7 +118,7 @@ sizes_of_segments : all (
 unfolding image_of header_fault half word has_magic segment_at ram_fault ram_after code_of zeros digits
 sizes_of_segments = refl
 
--- its bytes end within the file, if it has any; sums don't wrap
+-- a segment's bytes end within the file, if it has any; sums don't wrap
 ends_of_segments : all (
     loads (with 14 84) ∷
     tells (with 14 85) "E13 0" ∷

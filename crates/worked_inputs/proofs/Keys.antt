@@ -27,22 +27,22 @@ line_of (Some fault) = description_fault fault
 abbrev fault_at : ℕ → Key → Members → List ℕ
 fault_at version key document = line_of (key_fault version document key)
 
--- the number is accepted, as it is
+-- a number is accepted, as it is
 abbrev takes : ℕ → Key → String → String → ℕ → Bool
 takes version key section name n =
     let document = only section name (pos n) in
     is_text (fault_at version key document) "" && number_of_key version document key == n
 
--- it is refused with this number of a fault, the key's name, and the rest of the line
+-- a number is refused with this number of a fault, the key's name, and the rest of the line
 abbrev refuses : String → List ℕ → ℕ → Key → String → String → ℤ → Bool
 refuses fault rest version key section name z =
     bytes_eq (fault_at version key (only section name z)) (codes fault ++ codes " " ++ codes section ++ codes "." ++ codes name ++ rest)
 
--- outside the range
+-- a number is refused as outside the range
 abbrev is_outside : ℕ → Key → String → String → ℤ → Bool
 is_outside version key section name z = refuses "K5" (codes " " ++ signed_decimal z) version key section name z
 
--- the number before
+-- the whole number before one
 abbrev before : ℕ → ℤ
 before zero = negsuc 0
 before (suc n) = pos n
@@ -86,7 +86,7 @@ ranges_of_version_1 : all (
 unfolding key_fault digits ones
 ranges_of_version_1 = refl
 
--- the same keys in version 2: five go further
+-- the keys that have to be there, in version 2, where five go further
 ranges_of_version_2 : all (
     spans 2 CoreFetchWidth "core" "fetch_width" 1 4 ∷
     spans 2 CoreRetireWidth "core" "retire_width" 1 4 ∷

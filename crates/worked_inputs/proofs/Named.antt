@@ -168,7 +168,7 @@ keys_that_have_to_be_there : all (
 unfolding document_fault end_fault key_fault keys_fault latency_fault registers_fault second_fault sections_fault top_fault digits ones
 keys_that_have_to_be_there = refl
 
--- so does each table; its first key is told
+-- each table has to be there: the first key of one that isn't is told
 tables_that_have_to_be_there : all (
     tells (without_top "core" example_1) "K3 core.fetch_width" ∷
     tells (without_top "units" example_1) "K3 units.alus" ∷
