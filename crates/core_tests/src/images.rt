@@ -1,6 +1,4 @@
 //! Images: an ELF header, a program header for the code and one for another part, and their words.
-ghost use Rattle.std.specs.Prelude.{◌≤◌};
-
 use byte_ram::Ram;
 use elf_loader::{Image, load, segments};
 use std::alloc::Global;
@@ -50,11 +48,9 @@ fn add_header(file: &mut Vec<u8>, entry: u32) -> Result<(), Fail> {
     )
 }
 
-// How many bytes words have; there are at most 1,000.
-fn size_of(words: &[u32]) -> u32
-    ensures { result ≤ 4000 }
-{
-    4 * words.len().min(1000) as u32
+// How many bytes words have; there are few.
+fn size_of(words: &[u32]) -> u32 {
+    u32::try_from(words.len()).unwrap_or(0).saturating_mul(4)
 }
 
 // The file of this code and this other part.
@@ -70,7 +66,7 @@ fn file_of(alloc: Global, entry: u32, code: &[u32], other: Part<'_>) -> Result<V
         &mut file,
         &[
             1,
-            START + size,
+            START.saturating_add(size),
             from,
             from,
             other_size,

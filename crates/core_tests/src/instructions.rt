@@ -1,5 +1,6 @@
 //! Every instruction once at least, traps, system calls and whole runs. The words are what an assembler makes of the
 //! lines beside them, and the values are those of the manual's formulas.
+use crate::asserting::assert_same;
 use crate::images::{CODE as BASE, Part, SIZE, image_of, program_image};
 use isa_step::{Isa, Stepped};
 use rv_types::{Cause, End, Piece, Width};
@@ -234,7 +235,7 @@ fn instructions_are_the_manuals(rt: HostRuntime) -> Result<(), Fail> {
     for (word, a, b, x7, data, next) in &ROWS {
         let mut isa = before(rt.alloc(), *word, &[(5, *a), (6, *b), (7, OLD)])?;
         let wanted = (Stepped::Next, 0, *x7, Ok(*data), *next);
-        assert_eq!(rt; after(&mut isa), wanted, "{word:#x} {a:#x} {b:#x}");
+        assert_same(&rt, &(word, a, b, after(&mut isa)), &(word, a, b, wanted));
     }
     Ok(())
 }
@@ -276,7 +277,7 @@ fn traps_change_nothing(rt: HostRuntime) -> Result<(), Fail> {
     for (word, x5, cause) in &rows {
         let mut isa = before(rt.alloc(), *word, &[(5, *x5)])?;
         let found = trapped(rt.alloc(), &mut isa)?;
-        assert_eq!(rt; found, Some(*cause), "{word:#x} {x5:#x}");
+        assert_same(&rt, &(word, x5, found), &(word, x5, Some(*cause)));
     }
     Ok(())
 }
@@ -292,7 +293,7 @@ fn nothing_is_fetched_outside_code(rt: HostRuntime) -> Result<(), Fail> {
     for entry in [BASE + 4, BASE + 2, 0] {
         let mut isa = Isa::new(image_of(rt.alloc(), entry, &[0x0000_0013], none)?);
         let found = trapped(rt.alloc(), &mut isa)?;
-        assert_eq!(rt; found, Some(Cause::outside_code()), "{entry:#x}");
+        assert_same(&rt, &(entry, found), &(entry, Some(Cause::outside_code())));
     }
     Ok(())
 }
@@ -346,8 +347,16 @@ fn calls_answer(rt: HostRuntime) -> Result<(), Fail> {
     for (a7, a0, a1, a2, stepped, answer, count) in &CALLS {
         let mut out = Piece::new();
         let found = called(rt.alloc(), *a7, *a0, *a1, *a2, &mut out)?;
-        assert_eq!(rt; found, (*stepped, *answer, NEXT), "{a7} {a0} {a1:#x} {a2}");
-        assert_eq!(rt; out.as_slice().len(), *count, "{a7} {a0} {a1:#x} {a2}");
+        assert_same(
+            &rt,
+            &(a7, a0, a1, a2, found),
+            &(a7, a0, a1, a2, (*stepped, *answer, NEXT)),
+        );
+        assert_same(
+            &rt,
+            &(a7, a0, a1, a2, out.as_slice().len()),
+            &(a7, a0, a1, a2, *count),
+        );
     }
     Ok(())
 }
@@ -356,7 +365,7 @@ fn calls_answer(rt: HostRuntime) -> Result<(), Fail> {
 fn a_call_puts_out_what_memory_has(rt: HostRuntime) -> Result<(), Fail> {
     let mut out = Piece::new();
     let _ = called(rt.alloc(), 64, 1, DATA, 4, &mut out)?;
-    assert_eq!(rt; out.as_slice(), [0x01, 0xff, 0x80, 0x7f].as_slice());
+    assert_same(&rt, &out.as_slice(), &[0x01, 0xff, 0x80, 0x7f].as_slice());
     Ok(())
 }
 
@@ -427,17 +436,21 @@ const OVERWRITES: [u32; 4] = [0x0000_0297, 0x0002_a423, 0x05d0_0893, 0x0000_0073
 #[test]
 fn a_run_goes_on_and_exits(rt: HostRuntime) -> Result<(), Fail> {
     let mut isa = program_of(rt.alloc(), &DIVISIONS)?;
-    assert_eq!(rt; ran(&mut isa, 8), (8, None, BASE + 32));
-    assert_eq!(rt; ran(&mut isa, 5), (1, Some(End::Exit(0)), BASE + 36));
-    assert_eq!(rt; isa.regs().as_slice(), DIVIDED.as_slice());
+    assert_same(&rt, &ran(&mut isa, 8), &(8, None, BASE + 32));
+    assert_same(&rt, &ran(&mut isa, 5), &(1, Some(End::Exit(0)), BASE + 36));
+    assert_same(&rt, &isa.regs().as_slice(), &DIVIDED.as_slice());
     Ok(())
 }
 
 #[test]
 fn a_word_of_code_is_overwritten_in_memory(rt: HostRuntime) -> Result<(), Fail> {
     let mut isa = program_of(rt.alloc(), &OVERWRITES)?;
-    assert_eq!(rt; ran(&mut isa, 100), (4, Some(End::Exit(0)), BASE + 16));
-    assert_eq!(rt; isa.ram().get(BASE + 8, Width::W), Ok(0));
+    assert_same(
+        &rt,
+        &ran(&mut isa, 100),
+        &(4, Some(End::Exit(0)), BASE + 16),
+    );
+    assert_same(&rt, &isa.ram().get(BASE + 8, Width::W), &Ok(0));
     Ok(())
 }
 
@@ -445,6 +458,6 @@ fn a_word_of_code_is_overwritten_in_memory(rt: HostRuntime) -> Result<(), Fail> 
 fn a_trap_ends_a_run(rt: HostRuntime) -> Result<(), Fail> {
     let mut isa = program_of(rt.alloc(), &[0x0070_0293, 0x0010_0073])?;
     let trap = Some(End::Trap(Cause::breakpoint(), NEXT));
-    assert_eq!(rt; ran(&mut isa, 5), (1, trap, NEXT));
+    assert_same(&rt, &ran(&mut isa, 5), &(1, trap, NEXT));
     Ok(())
 }

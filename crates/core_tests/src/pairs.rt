@@ -1,4 +1,5 @@
 //! Two images side by side: a bounds check that is passed over by prediction, with two secrets behind it.
+use crate::asserting::assert_same;
 use crate::cycles::with_model;
 use crate::images::program_image;
 use elf_loader::Image;
@@ -50,7 +51,7 @@ fn bounds_check_with_two_secrets(rt: HostRuntime) -> Result<(), Fail> {
             retired,
             cycles,
         };
-        assert_eq!(rt; answer(alloc, &desc, one, two)?, Some(wanted));
+        assert_same(&rt, &answer(alloc, &desc, one, two)?, &Some(wanted));
     }
     Ok(())
 }

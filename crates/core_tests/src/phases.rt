@@ -3,6 +3,7 @@ ghost use Rattle.std.specs.Prelude.{◌≡◌, true};
 ghost use Rattle.std.specs.List.{AllByRecursion as Each};
 ghost use Rattle.machine_facts.specs.Timely.{WaitsOrDone};
 
+use crate::asserting::assert_same;
 use crate::cycles::with_model;
 use crate::flights::{COMPLETING, Flight, ISSUING, Phase, RESOLVING};
 use crate::images::code_image;
@@ -102,7 +103,7 @@ pub fn perform<R: RenameTaint>(
 // How far the entries in flight are, and their values.
 fn assert_left<R: RenameTaint>(rt: &impl Abort, parts: &Parts<R>, left: &[(Progress, u32)]) {
     let rob = parts.rob();
-    assert_eq!(rt; rob.len() as usize, left.len());
+    assert_same(rt, &(rob.len() as usize), &left.len());
     for (i, wanted) in left.iter().enumerate() {
         if i >= rob.len() as usize {
             return;
@@ -112,7 +113,7 @@ fn assert_left<R: RenameTaint>(rt: &impl Abort, parts: &Parts<R>, left: &[(Progr
             Some(outcome) => outcome.value,
             None => 0,
         };
-        assert_eq!(rt; (entry.state, value), *wanted);
+        assert_same(rt, &(entry.state, value), wanted);
     }
 }
 
@@ -127,10 +128,10 @@ fn goes_as_worked<R: RenameTaint + Drop>(
     let mut row = empty_row();
     perform(rt, 1, Phase::Fetch, &mut parts, &mut row);
     perform(rt, 1, Phase::Rename, &mut parts, &mut row);
-    assert_eq!(rt; parts.rob().len(), 4);
+    assert_same(rt, &parts.rob().len(), &4);
     for (cycle, phase, events) in flight.phases {
         perform(rt, *cycle, *phase, &mut parts, &mut row);
-        assert_eq!(rt; row.events(), *events, "{phase:?} in {cycle}");
+        assert_same(rt, &(phase, cycle, row.events()), &(phase, cycle, *events));
     }
     assert_left(rt, &parts, flight.left);
     Ok(())
@@ -147,7 +148,7 @@ fn nothing_else_goes<R: RenameTaint + Drop>(
     let mut row = empty_row();
     perform(rt, 1, Phase::Fetch, &mut parts, &mut row);
     let fetched = [Event::Fet(0x0001_0000), Event::Fet(0x0001_0004)];
-    assert_eq!(rt; row.events(), fetched.as_slice());
+    assert_same(rt, &row.events(), &fetched.as_slice());
     for phase in [
         Phase::Fill,
         Phase::Complete,
@@ -156,10 +157,10 @@ fn nothing_else_goes<R: RenameTaint + Drop>(
         Phase::Issue,
     ] {
         perform(rt, 1, phase, &mut parts, &mut row);
-        assert_eq!(rt; row.events().len(), 0);
+        assert_same(rt, &row.events().len(), &0);
     }
     assert!(rt; parts.point().visible(0));
-    assert_eq!(rt; (parts.rob().len(), parts.stations().len()), (0, 0));
+    assert_same(rt, &(parts.rob().len(), parts.stations().len()), &(0, 0));
     Ok(())
 }
 

@@ -1,5 +1,6 @@
 //! Rename where there is little room, where a call comes in, and where loads pass stores; the expected values follow from
 //! `docs/machine.md`, "Rename", "Writers and roots" and "Clear".
+use crate::asserting::assert_same;
 use crate::flights::Phase;
 use crate::phases::{parts_of, perform};
 use crate::settings::PASSING;
@@ -36,7 +37,7 @@ fn come_in<R: RenameTaint + Drop>(
     let mut row = empty_row();
     perform(rt, 1, Phase::Fetch, &mut parts, &mut row);
     perform(rt, 1, Phase::Rename, &mut parts, &mut row);
-    assert_eq!(rt; row.events(), events);
+    assert_same(rt, &row.events(), &events);
     Ok(parts)
 }
 
@@ -52,11 +53,15 @@ fn three_come_in<R: RenameTaint + Drop>(rt: &impl Abort, alloc: Global) -> Resul
     let parts: Parts<R> = come_in(rt, alloc, &desc, &WORDS, &events)?;
     let table = parts.table();
     let lsq = parts.lsq();
-    assert_eq!(rt; (parts.rob().len(), parts.stations().len()), (3, 3));
-    assert_eq!(rt; (lsq.has_load_room(), lsq.has_store_room()), (false, false));
-    assert_eq!(rt; table.source(Reg { number: 5 }), Source::Entry(0));
-    assert_eq!(rt; table.source(Reg { number: 7 }), Source::Entry(1));
-    assert_eq!(rt; table.root(Reg { number: 7 }), Some(0));
+    assert_same(rt, &(parts.rob().len(), parts.stations().len()), &(3, 3));
+    assert_same(
+        rt,
+        &(lsq.has_load_room(), lsq.has_store_room()),
+        &(false, false),
+    );
+    assert_same(rt, &table.source(Reg { number: 5 }), &Source::Entry(0));
+    assert_same(rt, &table.source(Reg { number: 7 }), &Source::Entry(1));
+    assert_same(rt, &table.root(Reg { number: 7 }), &Some(0));
     Ok(())
 }
 
@@ -87,6 +92,10 @@ fn a_store_that_loads_may_pass_comes_in_uncleared(rt: HostRuntime) -> Result<(),
     if rob.len() != 2 {
         panic!(rt; "both come in");
     }
-    assert_eq!(rt; (rob.lend(0).cleared, rob.lend(1).cleared), (false, true));
+    assert_same(
+        &rt,
+        &(rob.lend(0).cleared, rob.lend(1).cleared),
+        &(false, true),
+    );
     Ok(())
 }

@@ -1,4 +1,5 @@
 //! Descriptions that are accepted, and what stands in each place.
+use crate::asserting::assert_same;
 use crate::reading::{Told, tells};
 use machine_desc::{Defence, Desc, EXAMPLE, SttModel, bound, read_desc};
 use std::alloc::Global;
@@ -182,9 +183,13 @@ fn read(alloc: Global, top: &str, rest: &str) -> Result<Desc, Fail> {
 fn each_number_stands_in_its_place(rt: HostRuntime) -> Result<(), Fail> {
     for (top, rest, wanted, others_wanted, settings) in &READ {
         let desc = read(rt.alloc(), top, rest)?;
-        assert_eq!(rt; numbers(&desc), *wanted);
-        assert_eq!(rt; others(&desc), *others_wanted);
-        assert_eq!(rt; (desc.version, desc.stt_model, desc.stt_defence), *settings);
+        assert_same(&rt, &numbers(&desc), wanted);
+        assert_same(&rt, &others(&desc), others_wanted);
+        assert_same(
+            &rt,
+            &(desc.version, desc.stt_model, desc.stt_defence),
+            settings,
+        );
     }
     Ok(())
 }
@@ -192,8 +197,8 @@ fn each_number_stands_in_its_place(rt: HostRuntime) -> Result<(), Fail> {
 #[test]
 fn cycles_until_one_more_retires(rt: HostRuntime) -> Result<(), Fail> {
     let alloc = rt.alloc();
-    assert_eq!(rt; bound(&read(alloc, "", EXAMPLE)?), 121);
-    assert_eq!(rt; bound(&read(alloc, "version = 2\n", LARGE)?), 507);
+    assert_same(&rt, &bound(&read(alloc, "", EXAMPLE)?), &121);
+    assert_same(&rt, &bound(&read(alloc, "version = 2\n", LARGE)?), &507);
     Ok(())
 }
 
@@ -216,6 +221,10 @@ static TEXTS: [(&[u8], Told); 6] = [
 #[test]
 fn whole_texts(rt: HostRuntime) {
     for &(bytes, told) in &TEXTS {
-        assert_eq!(rt; (bytes, tells(rt.alloc(), bytes, told)), (bytes, true));
+        assert_same(
+            &rt,
+            &(bytes, tells(rt.alloc(), bytes, told)),
+            &(bytes, true),
+        );
     }
 }

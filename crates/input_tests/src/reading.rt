@@ -1,4 +1,5 @@
 //! What is told of the example with some of its lines changed.
+use crate::asserting::assert_same;
 use machine_desc::{Desc, DescFault, EXAMPLE, read_desc};
 use std::alloc::Global;
 use std::process::Abort;
@@ -76,7 +77,7 @@ pub fn expect(rt: &impl Abort, alloc: Global, row: Row) -> Result<(), Fail> {
     let (top, first, second, wanted) = row;
     let text = text(alloc, top, first, second)?;
     let so = tells(alloc, text.as_bytes(), wanted);
-    assert_eq!(rt; (top, first, second, so), (top, first, second, true));
+    assert_same(rt, &(top, first, second, so), &(top, first, second, true));
     Ok(())
 }
 

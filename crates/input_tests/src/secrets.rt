@@ -1,4 +1,5 @@
 //! Words of `stt_secrets` that ask for a run, and words that ask for nothing.
+use crate::asserting::assert_same;
 use secret_marks::SecretRange;
 use secret_words::read_wanted;
 use std::alloc::Global;
@@ -233,6 +234,10 @@ fn are(alloc: Global, words: &[&str], ranges: &[(u32, u32)]) -> bool {
 #[test]
 fn reads_the_ranges(rt: HostRuntime) {
     for &(words, ranges) in &ROWS {
-        assert_eq!(rt; (words, are(rt.alloc(), words, ranges)), (words, true));
+        assert_same(
+            &rt,
+            &(words, are(rt.alloc(), words, ranges)),
+            &(words, true),
+        );
     }
 }

@@ -1,4 +1,5 @@
 //! Words that are a command, and words that are none.
+use crate::asserting::assert_same;
 use Wanted::{Bench, Isa, Pair, Refused, Run, Trace};
 use std::alloc::Global;
 use tool_words::{Command, read_words};
@@ -232,6 +233,10 @@ fn are(alloc: Global, words: &[&str], wanted: Wanted) -> bool {
 #[test]
 fn reads_the_words(rt: HostRuntime) {
     for &(words, wanted) in &ROWS {
-        assert_eq!(rt; (words, are(rt.alloc(), words, wanted)), (words, true));
+        assert_same(
+            &rt,
+            &(words, are(rt.alloc(), words, wanted)),
+            &(words, true),
+        );
     }
 }

@@ -1,4 +1,5 @@
 //! One instruction of each form, and one call of each answer; the values are those of the manual's formulas.
+use crate::asserting::assert_same;
 use byte_ram::Ram;
 use rv_effect::{Effect, call, effect};
 use rv_types::{Instr, Op, Piece, Reg, Width};
@@ -194,7 +195,11 @@ fn effects_are_the_manuals(rt: HostRuntime) {
             stored,
             misaligned,
         };
-        assert_eq!(rt; (instr, effect(PC, &instr, first, second)), (instr, wanted));
+        assert_same(
+            &rt,
+            &(instr, effect(PC, &instr, first, second)),
+            &(instr, wanted),
+        );
     }
 }
 
@@ -226,10 +231,10 @@ fn called(ram: &Ram, [a7, a0, a1, a2]: [u32; 4]) -> (Option<u32>, u32, u32, usiz
 #[test]
 fn calls_answer(rt: HostRuntime) -> Result<(), Fail> {
     let mut ram = Ram::new(rt.alloc(), BASE, SIZE, false)?;
-    assert_eq!(rt; ram.put(BASE, Width::W, 0x7f80_ff01), Ok(()));
+    assert_same(&rt, &ram.put(BASE, Width::W, 0x7f80_ff01), &Ok(()));
     for &(a7, a0, a1, a2, ended, answer, count) in &CALLS {
         let got = called(&ram, [a7, a0, a1, a2]);
-        assert_eq!(rt; (a7, a0, got), (a7, a0, (ended, NEXT, answer, count)));
+        assert_same(&rt, &(a7, a0, got), &(a7, a0, (ended, NEXT, answer, count)));
     }
     Ok(())
 }

@@ -1,5 +1,6 @@
 //! Images as a linker writes them, each fault once, segments that overlap; the smallest and the largest generated image.
 //! The file of the first program and the faults of its changed forms are those of `docs/formats.md`, "Images".
+use crate::asserting::assert_same;
 use byte_ram::Ram;
 use elf_loader::{ElfFault, Image, load, segments};
 use gen_image::generate;
@@ -145,7 +146,7 @@ fn refuses_by_the_first_fault(rt: HostRuntime) -> Result<(), Fail> {
     for &(size, at, new, wanted) in &FAULTS {
         let file = changed(alloc, size, at, new)?;
         let fault = fault_of(alloc, file.as_slice());
-        assert_eq!(rt; (size, at, new, fault), (size, at, new, wanted));
+        assert_same(&rt, &(size, at, new, fault), &(size, at, new, wanted));
     }
     Ok(())
 }
@@ -181,10 +182,10 @@ fn expect(
     words: &[Word],
 ) -> Result<(), Fail> {
     let image = loaded(alloc, file)?;
-    assert_eq!(rt; image.entry, BASE);
-    assert_eq!(rt; image.ram.bytes().get(..bytes.len()), Some(bytes));
+    assert_same(rt, &image.entry, &BASE);
+    assert_same(rt, &image.ram.bytes().get(..bytes.len()), &Some(bytes));
     for &(pc, wanted) in words {
-        assert_eq!(rt; (pc, image.code.word(pc)), (pc, wanted));
+        assert_same(rt, &(pc, image.code.word(pc)), &(pc, wanted));
     }
     Ok(())
 }
@@ -208,10 +209,10 @@ fn images_of_files(rt: HostRuntime) -> Result<(), Fail> {
 #[test]
 fn segments_of_a_file(rt: HostRuntime) -> Result<(), Fail> {
     let file = segments(&FIRST)?;
-    assert_eq!(rt; (file.entry(), file.count()), (BASE, 1));
+    assert_same(&rt, &(file.entry(), file.count()), &(BASE, 1));
     let part = file.at(0).ok_or("no segment")?;
-    assert_eq!(rt; (part.vaddr, part.memsz, part.flags), (BASE, 8, 5));
-    assert_eq!(rt; Some(part.bytes), FIRST.get(84..));
+    assert_same(&rt, &(part.vaddr, part.memsz, part.flags), &(BASE, 8, 5));
+    assert_same(&rt, &Some(part.bytes), &FIRST.get(84..));
     assert!(rt; file.at(1).is_none());
     Ok(())
 }
@@ -233,14 +234,14 @@ const ONE_BLOCK: [u32; 9] = [
 fn generated_images(rt: HostRuntime) -> Result<(), Fail> {
     let alloc = rt.alloc();
     let smallest = generate(alloc, 1, 1)?;
-    assert_eq!(rt; smallest.len(), 120);
+    assert_same(&rt, &smallest.len(), &120);
     let image = loaded(alloc, smallest.as_slice())?;
     let mut pc = image.entry;
     for &word in &ONE_BLOCK {
-        assert_eq!(rt; (pc, image.code.word(pc)), (pc, Some(word)));
+        assert_same(&rt, &(pc, image.code.word(pc)), &(pc, Some(word)));
         pc = pc.wrapping_add(4);
     }
     let largest = generate(alloc, 7, 4096)?;
-    assert_eq!(rt; largest.len(), 84 + 4 * (2 * 4096 + 7));
+    assert_same(&rt, &largest.len(), &(84 + 4 * (2 * 4096 + 7)));
     Ok(())
 }

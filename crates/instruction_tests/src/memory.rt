@@ -1,4 +1,5 @@
 //! Reads and writes in all widths, at both ends of memory and past them.
+use crate::asserting::assert_same;
 use byte_ram::Ram;
 use rv_types::Width;
 use std::alloc::Global;
@@ -66,7 +67,7 @@ fn after(
     let mut ram = Ram::new(alloc, BASE, SIZE, misaligned)?;
     for &(addr, width, put, wanted) in accesses {
         let got = answer(&mut ram, addr, width, put);
-        assert_eq!(rt; (addr, width, got), (addr, width, wanted));
+        assert_same(rt, &(addr, width, got), &(addr, width, wanted));
     }
     Ok(ram)
 }
@@ -75,12 +76,13 @@ fn after(
 fn reads_what_was_written(rt: HostRuntime) -> Result<(), Fail> {
     let alloc = rt.alloc();
     let ram = after(&rt, alloc, false, &ALIGNED)?;
-    assert_eq!(rt;
-        (ram.byte(BASE + 3), ram.byte(BASE + SIZE)),
-        (Some(0xfe), None)
+    assert_same(
+        &rt,
+        &(ram.byte(BASE + 3), ram.byte(BASE + SIZE)),
+        &(Some(0xfe), None),
     );
     let copy = ram.copy(alloc)?;
-    assert_eq!(rt; copy.bytes(), ram.bytes());
+    assert_same(&rt, &copy.bytes(), &ram.bytes());
     after(&rt, alloc, true, &ANY)?;
     Ok(())
 }

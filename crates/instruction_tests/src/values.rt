@@ -1,4 +1,5 @@
 //! Worked values, at the corners of each operation.
+use crate::asserting::assert_same;
 use rv_alu::{div_time, extend, taken, value};
 use rv_types::Op;
 
@@ -113,27 +114,27 @@ const LOADS: [(Op, u32, u32); 7] = [
 #[test]
 fn values_are_the_manuals(rt: HostRuntime) {
     for &(op, a, b, wanted) in &VALUES {
-        assert_eq!(rt; (op, a, b, value(op, a, b)), (op, a, b, wanted));
+        assert_same(&rt, &(op, a, b, value(op, a, b)), &(op, a, b, wanted));
     }
 }
 
 #[test]
 fn branches_are_the_manuals(rt: HostRuntime) {
     for &(op, a, b, wanted) in &BRANCHES {
-        assert_eq!(rt; (op, a, b, taken(op, a, b)), (op, a, b, wanted));
+        assert_same(&rt, &(op, a, b, taken(op, a, b)), &(op, a, b, wanted));
     }
 }
 
 #[test]
 fn divisions_take_a_cycle_a_digit(rt: HostRuntime) {
     for &(op, a, wanted) in &TIMES {
-        assert_eq!(rt; (op, a, div_time(op, a)), (op, a, wanted));
+        assert_same(&rt, &(op, a, div_time(op, a)), &(op, a, wanted));
     }
 }
 
 #[test]
 fn loads_extend_their_bytes(rt: HostRuntime) {
     for (op, bytes, wanted) in LOADS {
-        assert_eq!(rt; (op, bytes, extend(op, bytes)), (op, bytes, wanted));
+        assert_same(&rt, &(op, bytes, extend(op, bytes)), &(op, bytes, wanted));
     }
 }

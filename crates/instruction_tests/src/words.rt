@@ -1,4 +1,5 @@
 //! Words and their instructions, as an assembler of the RISC-V instruction set gives them.
+use crate::asserting::assert_same;
 use Form::{
     Auipc, Branch, Ebreak, Ecall, Fence, Illegal, Immediate, Jal, Jalr, Load, Lui, Registers, Store,
 };
@@ -185,7 +186,7 @@ fn instr_of(form: Form) -> Instr {
 fn word_and_instruction_are_each_others(rt: HostRuntime) {
     for &(word, form) in &WORDS {
         let instr = instr_of(form);
-        assert_eq!(rt; (decode(word), encode(&instr)), (instr, Some(word)));
+        assert_same(&rt, &(decode(word), encode(&instr)), &(instr, Some(word)));
     }
 }
 
@@ -193,7 +194,7 @@ fn word_and_instruction_are_each_others(rt: HostRuntime) {
 fn illegal_words(rt: HostRuntime) {
     for &word in &ILLEGAL {
         let instr = Instr::Illegal(word);
-        assert_eq!(rt; (decode(word), encode(&instr)), (instr, Some(word)));
+        assert_same(&rt, &(decode(word), encode(&instr)), &(instr, Some(word)));
     }
 }
 
@@ -201,6 +202,6 @@ fn illegal_words(rt: HostRuntime) {
 fn instructions_without_a_word(rt: HostRuntime) {
     for &form in &WITHOUT_WORD {
         let instr = instr_of(form);
-        assert_eq!(rt; (instr, encode(&instr)), (instr, None));
+        assert_same(&rt, &(instr, encode(&instr)), &(instr, None));
     }
 }

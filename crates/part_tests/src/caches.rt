@@ -1,4 +1,5 @@
 //! Both levels of the cache, step by step (`cache_tags`, `second_level`).
+use crate::asserting::assert_same;
 use crate::descriptions::{largest, small};
 use cache_tags::Tags;
 use machine_desc::{EXAMPLE, read_desc};
@@ -55,7 +56,7 @@ fn the_line_used_longest_ago_goes(rt: HostRuntime) -> Result<(), Fail> {
             tags.holds(C),
             tags.holds(OTHER),
         ];
-        assert!(rt; answered && held == there, "{there:?}");
+        assert_same(&rt, &(answered, held), &(true, there));
     }
     Ok(())
 }
@@ -75,7 +76,7 @@ fn the_second_level_drops_alike(rt: HostRuntime) -> Result<(), Fail> {
         second.fill(line);
         let answered = second.look(looked) == answer;
         let held = [second.holds(0), second.holds(16), second.holds(32)];
-        assert!(rt; answered && held == there, "{there:?}");
+        assert_same(&rt, &(answered, held), &(true, there));
     }
     Ok(())
 }
@@ -105,7 +106,7 @@ fn the_largest_levels_keep_eight_lines_of_a_set(rt: HostRuntime) -> Result<(), F
             tags.holds(turn * 0x4000 + 0x3fc0),
             second.holds(turn * 0x10000 + 0xffc0),
         ];
-        assert!(rt; held == [turn > 0; 2], "{turn}");
+        assert_same(&rt, &(turn, held), &(turn, [turn > 0; 2]));
     }
     Ok(())
 }

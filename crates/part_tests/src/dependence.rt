@@ -1,6 +1,7 @@
 //! Bits of dependence, sixteen and 1,024 (`dep_pred`; `docs/machine.md`, "Clear").
 ghost use Rattle.std.specs.Prelude.{◌<◌, length};
 
+use crate::asserting::assert_same;
 use crate::descriptions::{largest, small};
 use dep_pred::DepPred;
 use machine_desc::{EXAMPLE, read_desc};
@@ -27,13 +28,13 @@ fn a_bit_is_set_for_good(rt: HostRuntime) -> Result<(), Fail> {
     let desc = small(alloc)?;
     assert!(rt; desc.predictor_depend == 16);
     let mut bits = DepPred::new(alloc, &desc)?;
-    assert!(rt; waiting(&bits) == [false; 3]);
-    assert!(rt; bits.learn(LOAD) == Event::Dp(3, 1));
-    assert!(rt; waiting(&bits) == [true, true, false]);
-    assert!(rt; bits.learn(SAME_BIT) == Event::Dp(3, 1));
-    assert!(rt; waiting(&bits) == [true, true, false]);
-    assert!(rt; bits.learn(OTHER) == Event::Dp(4, 1));
-    assert!(rt; waiting(&bits) == [true; 3]);
+    assert_same(&rt, &waiting(&bits), &[false; 3]);
+    assert_same(&rt, &bits.learn(LOAD), &Event::Dp(3, 1));
+    assert_same(&rt, &waiting(&bits), &[true, true, false]);
+    assert_same(&rt, &bits.learn(SAME_BIT), &Event::Dp(3, 1));
+    assert_same(&rt, &waiting(&bits), &[true, true, false]);
+    assert_same(&rt, &bits.learn(OTHER), &Event::Dp(4, 1));
+    assert_same(&rt, &waiting(&bits), &[true; 3]);
     Ok(())
 }
 
@@ -44,6 +45,6 @@ fn there_may_be_none_and_1024(rt: HostRuntime) -> Result<(), Fail> {
     let desc = largest(alloc)?;
     assert!(rt; desc.predictor_depend == 1024);
     let mut bits = DepPred::new(alloc, &desc)?;
-    assert!(rt; bits.learn(0x10ffc) == Event::Dp(1023, 1));
+    assert_same(&rt, &bits.learn(0x10ffc), &Event::Dp(1023, 1));
     Ok(())
 }

@@ -1,6 +1,7 @@
 //! A short program whose branch, jumps and end are fetched in turn (`fetch_unit`; `docs/machine.md`, "Fetch").
 ghost use Rattle.std.specs.Prelude.{◌≡◌, length, IfOk};
 
+use crate::asserting::assert_same;
 use crate::descriptions::{largest, small};
 use byte_ram::Ram;
 use elf_loader::{Code, load, segments};
@@ -58,7 +59,7 @@ fn assert_fetches(
 {
     let mut row = empty_row();
     fetch.fetch(code, predictor, history, &mut row);
-    assert!(rt; row.events() == events);
+    assert_same(rt, &row.events(), &events);
 }
 
 // A predictor that has learnt that the branch was taken, and that the JALR went to this address.
@@ -105,7 +106,7 @@ fn fetching_goes_on_at_the_predicted_next(rt: HostRuntime) -> Result<(), Fail> {
     ];
     for item in items {
         let oldest = told(fetch.front()) == item && told(fetch.oldest().copied()) == item;
-        assert!(rt; oldest && told(fetch.take()) == item, "{item:?}");
+        assert_same(&rt, &(oldest, told(fetch.take())), &(true, item));
     }
     Ok(())
 }
@@ -118,7 +119,7 @@ fn fetching_goes_on_at_what_was_learnt(rt: HostRuntime) -> Result<(), Fail> {
         panic!(rt; "no code");
     };
     let mut fetch = Fetch::new(alloc, &desc, BRANCH)?;
-    assert!(rt; fetch.redirect(Some(RETURN)) == 0);
+    assert_same(&rt, &fetch.redirect(Some(RETURN)), &0);
     // Predictor and history are of another description than the fetch unit: the two have as many counters.
     let other = largest(alloc)?;
     let mut history = History::new(&other);
@@ -149,6 +150,6 @@ fn the_largest_queue_has_32_items(rt: HostRuntime) -> Result<(), Fail> {
         let events: &[Event] = if cycle < 8 { &twice } else { &[] };
         assert_fetches(&rt, &code, &mut fetch, &predictor, &mut history, events);
     }
-    assert!(rt; fetch.redirect(None) == 32);
+    assert_same(&rt, &fetch.redirect(None), &32);
     Ok(())
 }

@@ -1,4 +1,5 @@
 //! The gate over a window in which serial 0 alone is visible (`transmit_gate`; `docs/machine.md`, "Issue").
+use crate::asserting::assert_same;
 use crate::descriptions::small;
 use rv_types::Kind;
 use std::test::Fail;
@@ -20,10 +21,8 @@ fn loads_and_divisions_wait_for_their_roots(rt: HostRuntime) -> Result<(), Fail>
         (Kind::Mul, [Some(7), Some(7)], true),
     ];
     for (kind, roots, want) in rows {
-        assert!(rt;
-            may_transmit(kind, roots, &point) == want,
-            "{kind:?} {roots:?}"
-        );
+        let may = may_transmit(kind, roots, &point);
+        assert_same(&rt, &(kind, roots, may), &(kind, roots, want));
     }
     Ok(())
 }

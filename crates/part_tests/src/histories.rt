@@ -1,5 +1,6 @@
 //! History and return stack, step by step, with three directions and two addresses, and with twelve and sixteen
 //! (`history_pred`).
+use crate::asserting::assert_same;
 use crate::descriptions::{largest, small};
 use history_pred::History;
 use rv_types::{Instr, Kind, Reg};
@@ -40,14 +41,14 @@ fn the_history_keeps_three_directions(rt: HostRuntime) -> Result<(), Fail> {
     ];
     for (taken, want) in rows {
         history.shift(taken);
-        assert!(rt; history.mark().history == want, "{want}");
+        assert_same(&rt, &history.mark().history, &want);
     }
     // The word's number is 0x4001, and the counters are sixteen.
     let places = [
         history.index(history.mark(), 0x10004),
         history.index(&Mark::default(), 0x10004),
     ];
-    assert!(rt; places == [7, 1]);
+    assert_same(&rt, &places, &[7, 1]);
     Ok(())
 }
 
@@ -59,11 +60,11 @@ fn the_stack_drops_its_oldest(rt: HostRuntime) -> Result<(), Fail> {
     let before = *history.mark();
     history.push(0x300);
     for want in [Some(0x300), Some(0x200), None] {
-        assert!(rt; history.pop() == want);
+        assert_same(&rt, &history.pop(), &want);
     }
     history.restore(&before);
     for want in [Some(0x200), Some(0x100), None] {
-        assert!(rt; history.pop() == want);
+        assert_same(&rt, &history.pop(), &want);
     }
     Ok(())
 }
@@ -89,7 +90,7 @@ fn items_are_followed(rt: HostRuntime) -> Result<(), Fail> {
         ];
         let mark = history.mark();
         let as_many = mark.depth == depth && mark.history == directions;
-        assert!(rt; as_many && told == [want, None], "{instr:?}");
+        assert_same(&rt, &(&instr, as_many, told), &(&instr, true, [want, None]));
     }
     Ok(())
 }
@@ -101,9 +102,9 @@ fn the_largest_keeps_twelve_directions_and_sixteen_addresses(rt: HostRuntime) ->
         history.shift(true);
         history.push(addr);
     }
-    assert!(rt; history.mark().history == 0xfff);
+    assert_same(&rt, &history.mark().history, &0xfff);
     for addr in 0..16 {
-        assert!(rt; history.pop() == Some(16 - addr));
+        assert_same(&rt, &history.pop(), &Some(16 - addr));
     }
     assert!(rt; history.pop().is_none());
     Ok(())

@@ -1,4 +1,5 @@
 //! Registers that are taken, asked for and freed (`mshr_file`; `docs/machine.md`, "Fill" and "Loads").
+use crate::asserting::assert_same;
 use crate::descriptions::{largest, small};
 use mshr_file::Mshrs;
 use std::test::Fail;
@@ -30,7 +31,7 @@ fn two_lines_arrive_in_the_order_of_taking(rt: HostRuntime) -> Result<(), Fail> 
     for (cycle, want, dues) in rows {
         let found = mshrs.due(cycle) == want;
         let told = [mshrs.find(65568), mshrs.find(65536), mshrs.find(65552)];
-        assert!(rt; found && told == dues, "{dues:?}");
+        assert_same(&rt, &(found, told), &(true, dues));
     }
     assert!(rt; mshrs.len() == 0 && mshrs.misses().is_empty());
     Ok(())
@@ -45,7 +46,7 @@ fn eight_lines_may_be_under_way(rt: HostRuntime) -> Result<(), Fail> {
     }
     assert!(rt; mshrs.full() && mshrs.len() == 8);
     for line in 0..8 {
-        assert!(rt; mshrs.due(9) == Some((line, true)));
+        assert_same(&rt, &mshrs.due(9), &Some((line, true)));
     }
     Ok(())
 }

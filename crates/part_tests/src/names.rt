@@ -1,6 +1,7 @@
 //! Both tables of names over the same calls (`rename_taint`; `docs/machine.md`, "Writers and roots").
 ghost use Rattle.std.specs.Prelude.{◌≡◌};
 
+use crate::asserting::assert_same;
 use crate::descriptions::{largest, small};
 use machine_desc::Desc;
 use rename_taint::{ByScan, ByTable, RenameTaint, Source, root_written, roots_of};
@@ -84,7 +85,7 @@ fn both_tables_answer_alike(rt: HostRuntime) -> Result<(), Fail> {
             answers::<ByScan>(alloc, &desc)?,
             answers::<ByTable>(alloc, &desc)?,
         ];
-        assert!(rt; told == [expected; 2]);
+        assert_same(&rt, &told, &[expected; 2]);
     }
     Ok(())
 }
@@ -100,7 +101,11 @@ fn a_load_is_its_own_root(rt: HostRuntime) -> Result<(), Fail> {
         (Kind::Jalr, [Some(7), None], Some(7)),
     ];
     for (kind, roots, want) in rows {
-        assert!(rt; root_written(kind, 9, roots) == want, "{kind:?}");
+        assert_same(
+            &rt,
+            &(kind, roots, root_written(kind, 9, roots)),
+            &(kind, roots, want),
+        );
     }
     Ok(())
 }

@@ -2,6 +2,7 @@
 //! visible").
 ghost use Rattle.std.specs.Prelude.{◌≡◌};
 
+use crate::asserting::assert_same;
 use crate::descriptions::{small, under};
 use crate::entries::{Word, entry_of, with_outcome};
 use machine_desc::Desc;
@@ -109,7 +110,7 @@ fn the_point_stands_at_what_keeps_younger_ones_hidden(rt: HostRuntime) -> Result
             seen(alloc, &spectre, older, load)?,
             seen(alloc, &futuristic, older, load)?,
         ];
-        assert!(rt; told == [by_branches, by_safety], "{settled} {by_safety:?}");
+        assert_same(&rt, &(settled, told), &(settled, [by_branches, by_safety]));
     }
     Ok(())
 }
@@ -119,7 +120,7 @@ fn before_anything_serial_0_alone_is_visible(rt: HostRuntime) -> Result<(), Fail
     let point = VisPoint::new(&small(rt.alloc())?);
     assert!(rt; point.visible(0) && !point.visible(1) && point.hidden_from() == 1);
     for (root, tainted) in [(None, false), (Some(0), false), (Some(1), true)] {
-        assert!(rt; point.tainted(root) == tainted, "{root:?}");
+        assert_same(&rt, &(root, point.tainted(root)), &(root, tainted));
     }
     Ok(())
 }

@@ -1,5 +1,6 @@
 //! Ports of two cycles, and a divider that is used, freed and used again (`unit_ports`; `docs/machine.md`, "Issue" and
 //! "Resolve").
+use crate::asserting::assert_same;
 use crate::descriptions::{largest, small};
 use rv_types::Kind;
 use std::test::Fail;
@@ -27,12 +28,12 @@ fn two_units_and_one_of_each_other_port(rt: HostRuntime) -> Result<(), Fail> {
         ports.begin(cycle);
         for (kind, granted) in rows {
             let told = [ports.has(kind), ports.grant(kind)];
-            assert!(rt; told == [granted; 2], "{kind:?} in cycle {cycle}");
+            assert_same(&rt, &(cycle, kind, told), &(cycle, kind, [granted; 2]));
         }
         // The port of a store's data part is another one than that of its address part.
         for granted in [true, false] {
             let told = [ports.has_data(), ports.grant_data()];
-            assert!(rt; told == [granted; 2], "data in cycle {cycle}");
+            assert_same(&rt, &(cycle, told), &(cycle, [granted; 2]));
         }
     }
     Ok(())
@@ -42,7 +43,7 @@ fn two_units_and_one_of_each_other_port(rt: HostRuntime) -> Result<(), Fail> {
 fn a_stores_data_part_may_go_first(rt: HostRuntime) -> Result<(), Fail> {
     let mut ports = Ports::new(&small(rt.alloc())?);
     let told = [ports.grant_data(), ports.grant(Kind::Store)];
-    assert!(rt; told == [true; 2]);
+    assert_same(&rt, &told, &[true; 2]);
     Ok(())
 }
 
@@ -50,7 +51,7 @@ fn a_stores_data_part_may_go_first(rt: HostRuntime) -> Result<(), Fail> {
 fn four_units_are_the_most(rt: HostRuntime) -> Result<(), Fail> {
     let mut ports = Ports::new(&largest(rt.alloc())?);
     for granted in [true, true, true, true, false] {
-        assert!(rt; ports.grant(Kind::Alu) == granted);
+        assert_same(&rt, &ports.grant(Kind::Alu), &granted);
     }
     Ok(())
 }
@@ -87,7 +88,11 @@ fn the_divider_is_used_and_freed(rt: HostRuntime) -> Result<(), Fail> {
     for (step, free, free_from, user) in rows {
         go(&mut ports, step);
         let told = ports.divider() == Divider { free_from, user };
-        assert!(rt; told && ports.free_div() == free, "{free_from} {free}");
+        assert_same(
+            &rt,
+            &(free_from, told, ports.free_div()),
+            &(free_from, true, free),
+        );
     }
     Ok(())
 }

@@ -1,4 +1,5 @@
 //! Counters and targets, step by step (`predictor`).
+use crate::asserting::assert_same;
 use crate::descriptions::{largest, small};
 use predictor::Predictor;
 use std::test::Fail;
@@ -28,7 +29,11 @@ fn a_counter_moves_between_0_and_3(rt: HostRuntime) -> Result<(), Fail> {
         let event = predictor.learn_branch(BRANCH, taken);
         let learnt = event == Event::Bp(BRANCH, counter);
         let told = [predictor.direction(BRANCH), predictor.direction(0)];
-        assert!(rt; learnt && told == [predicted, false], "{counter}");
+        assert_same(
+            &rt,
+            &(counter, learnt, told),
+            &(counter, true, [predicted, false]),
+        );
     }
     Ok(())
 }
@@ -51,7 +56,7 @@ fn a_target_is_for_its_own_address(rt: HostRuntime) -> Result<(), Fail> {
     for (pc, target, want) in rows {
         let learnt = predictor.learn_target(pc, target) == Event::Bt(3, target);
         let told = [predictor.target(JUMP), predictor.target(SAME_PLACE)];
-        assert!(rt; learnt && told == want, "{pc}");
+        assert_same(&rt, &(pc, learnt, told), &(pc, true, want));
     }
     Ok(())
 }
@@ -66,6 +71,6 @@ fn the_largest_has_4096_counters_and_256_targets(rt: HostRuntime) -> Result<(), 
         predictor.learn_branch(4095, true),
         predictor.learn_target(0x103fc, 16),
     ];
-    assert!(rt; events == [Event::Bp(4095, 2), Event::Bt(255, 16)]);
+    assert_same(&rt, &events, &[Event::Bp(4095, 2), Event::Bt(255, 16)]);
     Ok(())
 }

@@ -1,4 +1,5 @@
 //! Queues that are filled, asked and emptied (`lsq`; `docs/machine.md`, "Loads", "Rename", "Issue" and "Clear").
+use crate::asserting::assert_same;
 use crate::descriptions::{largest, small};
 use byte_ram::Ram;
 use lsq::{Access, Lsq, Merged, Pending, Span, StoreInfo};
@@ -120,12 +121,12 @@ fn a_load_finds_the_youngest_bytes_before_it(rt: HostRuntime) -> Result<(), Fail
     ];
     for (serial, addr, width, want) in rows {
         let told = found(&lsq, serial, &ram, addr, width);
-        assert!(rt; told == want, "{serial} at {addr}");
+        assert_same(&rt, &(serial, addr, told), &(serial, addr, want));
     }
     lsq.cut(8);
     lsq.pop(3);
     let left = found(&lsq, 20, &ram, BASE, Width::H);
-    assert!(rt; left == merged(0xcd11, false, Some(2)));
+    assert_same(&rt, &left, &merged(0xcd11, false, Some(2)));
     Ok(())
 }
 
@@ -162,7 +163,7 @@ fn a_load_waits_for_parts_of_older_stores(rt: HostRuntime) -> Result<(), Fail> {
     ];
     for (serial, addr, width, fault, want) in rows {
         let told = lsq.pending(serial, addr, width, fault);
-        assert!(rt; told == want, "{serial} at {addr}");
+        assert_same(&rt, &(serial, addr, told), &(serial, addr, want));
     }
     // Up to the second store each has both its parts.
     assert!(rt; lsq.all_older_known(5) && !lsq.all_older_known(6));
@@ -239,12 +240,12 @@ fn who_retires_leaves_its_queue(rt: HostRuntime) -> Result<(), Fail> {
     ];
     for (serial, left) in rows {
         lsq.pop(serial);
-        assert!(rt; serials(&lsq) == left, "after {serial}");
+        assert_same(&rt, &(serial, serials(&lsq)), &(serial, left));
     }
     // Serials that fall: who is older than the first may be there.
     assert!(rt; add_store(&mut lsq, 4, None));
     lsq.pop(4);
-    assert!(rt; serials(&lsq) == [Some(5), Some(12), None, None]);
+    assert_same(&rt, &serials(&lsq), &[Some(5), Some(12), None, None]);
     Ok(())
 }
 
@@ -301,7 +302,7 @@ fn the_oldest_load_that_passed_wrongly_is_violated(rt: HostRuntime) -> Result<()
     // one that writes elsewhere, one of unknown address, and one that isn't there.
     let rows = [(5, Some(9)), (3, None), (12, None), (8, None)];
     for (serial, violated) in rows {
-        assert!(rt; lsq.clear(serial) == violated, "{serial}");
+        assert_same(&rt, &(serial, lsq.clear(serial)), &(serial, violated));
     }
     let stores = [
         info(3, None, true, true),
@@ -311,15 +312,15 @@ fn the_oldest_load_that_passed_wrongly_is_violated(rt: HostRuntime) -> Result<()
         None,
     ];
     for (place, info) in (0..5).zip(stores) {
-        assert!(rt; lsq.store_at(place) == info, "{place}");
+        assert_same(&rt, &(place, lsq.store_at(place)), &(place, info));
     }
     assert!(rt; lsq.clear(4).is_none());
     // Of two loads that passed it wrongly the oldest is violated, also where it issued last; a load that hasn't issued isn't.
     lsq.cut(7);
     assert!(rt; add_load(&mut lsq, 10) && add_load(&mut lsq, 11));
     issue(&mut lsq, 11, &access(BASE + 2, Width::H, None, 3));
-    assert!(rt; lsq.clear(5) == Some(11));
+    assert_same(&rt, &lsq.clear(5), &Some(11));
     issue(&mut lsq, 10, &access(BASE + 3, Width::B, None, 7));
-    assert!(rt; lsq.clear(5) == Some(10));
+    assert_same(&rt, &lsq.clear(5), &Some(10));
     Ok(())
 }

@@ -2,6 +2,7 @@
 //! `docs/machine.md`, "Resolve").
 ghost use Rattle.std.specs.Prelude.{◌≡◌, length, IfOk};
 
+use crate::asserting::assert_same;
 use crate::descriptions::small;
 use crate::entries::{Word, entry_of, with_outcome};
 use branch_resolve::{Resolution, pick, resolve};
@@ -80,7 +81,7 @@ fn the_oldest_without_a_tainted_operand_is_picked(rt: HostRuntime) -> Result<(),
         ((done(3, Word::Sum), none), (also_resolved, none), None),
     ];
     for (older, younger, want) in rows {
-        assert!(rt; picked(alloc, &desc, older, younger)? == want, "{want:?}");
+        assert_same(&rt, &picked(alloc, &desc, older, younger)?, &want);
     }
     Ok(())
 }
@@ -144,15 +145,16 @@ fn what_is_resolved_teaches_and_tells(rt: HostRuntime) -> Result<(), Fail> {
         let mut predictor = Predictor::new(alloc, &desc)?;
         let mut row = empty_row();
         let resolved = resolve(&entry, &History::new(&desc), &mut predictor, &mut row);
-        assert!(rt; resolved == resolution, "{next}");
+        assert_same(&rt, &(next, resolved), &(next, resolution));
         let events = [event_at(&row, 0), event_at(&row, 1), event_at(&row, 2)];
-        assert!(rt;
-            events == [Some(Event::Res(3, way)), taught, None],
-            "{next}"
+        assert_same(
+            &rt,
+            &(next, events),
+            &(next, [Some(Event::Res(3, way)), taught, None]),
         );
         let learnt = taught == Some(Event::Bt(1, next));
         let target = if learnt { Some(next) } else { None };
-        assert!(rt; predictor.target(0x10004) == target, "{next}");
+        assert_same(&rt, &(next, predictor.target(0x10004)), &(next, target));
     }
     Ok(())
 }

@@ -3,6 +3,7 @@
 ghost use Rattle.std.specs.Prelude.{◌≡◌};
 ghost use Rattle.window_model.specs.Serials.{Rise};
 
+use crate::asserting::assert_same;
 use crate::descriptions::{largest, small};
 use crate::entries::{Word, entry, entry_of, with_outcome};
 use rob_ring::{Issued, RobRing};
@@ -86,8 +87,8 @@ fn four(alloc: Global, branch: Entry) -> Result<RobRing, Fail> {
 fn a_ring_tells_what_its_entries_are(rt: HostRuntime) -> Result<(), Fail> {
     let branch = entry_of(4, Word::Branch, Progress::Waiting);
     let mut ring = four(rt.alloc(), branch)?;
-    assert!(rt; ends(&ring) == (4, [Some(3), Some(8)]));
-    assert!(rt; next(&ring, 0) == [Some(0), Some(1), Some(0)]);
+    assert_same(&rt, &ends(&ring), &(4, [Some(3), Some(8)]));
+    assert_same(&rt, &next(&ring, 0), &[Some(0), Some(1), Some(0)]);
     let fault = Some(Cause::load_outside());
     let faulty = with_outcome(entry_of(7, Word::Load, Progress::Done), 5, 4, fault);
     // Steps, how many entries there are then, the serials of the oldest and the youngest, and who is told first.
@@ -142,8 +143,7 @@ fn a_ring_tells_what_its_entries_are(rt: HostRuntime) -> Result<(), Fail> {
     ];
     for (step, len, serials, told) in rows {
         go(&rt, &mut ring, step);
-        assert!(rt; ends(&ring) == (len, serials), "{len} {serials:?}");
-        assert!(rt; next(&ring, 0) == told, "{len} {told:?}");
+        assert_same(&rt, &(ends(&ring), next(&ring, 0)), &((len, serials), told));
     }
     Ok(())
 }
@@ -167,7 +167,11 @@ fn an_entry_begins_in_its_place(rt: HostRuntime) -> Result<(), Fail> {
         data_due: None,
     };
     ring.issue(1, &issued);
-    assert!(rt; [ring.head(), youngest(&ring)] == [Some(entry(3)), Some(begun)]);
+    assert_same(
+        &rt,
+        &[ring.head(), youngest(&ring)],
+        &[Some(entry(3)), Some(begun)],
+    );
     Ok(())
 }
 
@@ -188,11 +192,11 @@ fn serials_have_positions(rt: HostRuntime) -> Result<(), Fail> {
     let mut ring = RobRing::new(alloc, &small(alloc)?)?;
     ring.push(entry(3));
     ring.push(entry(7));
-    assert!(rt; ring.at(1) == entry(7));
+    assert_same(&rt, &ring.at(1), &entry(7));
     let rows = [(3, 0, Some(0)), (4, 1, None), (7, 1, Some(1)), (8, 2, None)];
     for (serial, position, place) in rows {
         let told = (ring.position_of(serial), found(&ring, serial));
-        assert!(rt; told == (position, place), "at {serial}");
+        assert_same(&rt, &(serial, told), &(serial, (position, place)));
     }
     Ok(())
 }
@@ -241,20 +245,22 @@ fn full(rt: &impl Abort, alloc: Global) -> Result<RobRing, Fail> {
 #[test]
 fn the_largest_ring_has_192_entries(rt: HostRuntime) -> Result<(), Fail> {
     let mut ring = full(&rt, rt.alloc())?;
-    assert!(rt; ends(&ring) == (192, [Some(0), Some(191)]));
+    assert_same(&rt, &ends(&ring), &(192, [Some(0), Some(191)]));
     // The position from which on it is asked, and who executes from there on.
     let rows = [(0, Some(0)), (1, Some(70)), (71, Some(140)), (141, None)];
     for (from, busy) in rows {
-        assert!(rt;
-            next(&ring, from) == [busy, Some(191), Some(191)],
-            "from {from}"
+        assert_same(
+            &rt,
+            &(from, next(&ring, from)),
+            &(from, [busy, Some(191), Some(191)]),
         );
     }
     go(&rt, &mut ring, Step::Pop);
     for (from, busy) in [(0, Some(69)), (70, Some(139)), (140, None)] {
-        assert!(rt;
-            next(&ring, from) == [busy, Some(190), Some(190)],
-            "from {from}"
+        assert_same(
+            &rt,
+            &(from, next(&ring, from)),
+            &(from, [busy, Some(190), Some(190)]),
         );
     }
     Ok(())

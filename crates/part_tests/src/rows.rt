@@ -1,12 +1,13 @@
 //! One row, begun twice (`window_model`).
+use crate::asserting::assert_same;
 use std::process::Abort;
 use std::test::Fail;
 use window_model::{Event, Row, empty_row};
 
 // The row has this number and these events.
 fn assert_row(rt: &impl Abort, row: &Row, cycle: u32, events: &[Event]) {
-    assert_eq!(rt; row.cycle(), cycle);
-    assert_eq!(rt; row.events(), events);
+    assert_same(rt, &row.cycle(), &cycle);
+    assert_same(rt, &row.events(), &events);
 }
 
 #[test]

@@ -1,4 +1,5 @@
 //! A squash behind a wrongly predicted branch, over both tables of names (`squash`; `docs/machine.md`, "Resolve").
+use crate::asserting::assert_same;
 use crate::descriptions::small;
 use crate::entries::entry;
 use lsq::Lsq;
@@ -54,8 +55,8 @@ fn squash_keeps_the_load<R: RenameTaint + Drop>(
         &mut lsq,
         &mut ports,
     );
-    assert!(rt; (dropped, rob.len(), stations.len()) == (2, 1, 0));
-    assert!(rt; rename.source(register) == Source::Entry(3));
+    assert_same(rt, &(dropped, rob.len(), stations.len()), &(2, 1, 0));
+    assert_same(rt, &rename.source(register), &Source::Entry(3));
     assert!(rt; !lsq.has_load_room() && lsq.store_at(0).is_none() && ports.free_div());
     Ok(())
 }

@@ -1,5 +1,6 @@
 //! Entries that come, are woken and go: what they await follows from who writes their sources (`stations`; `docs/machine.md`,
 //! "Entries" and "Issue").
+use crate::asserting::assert_same;
 use crate::descriptions::{largest, small};
 use machine_desc::Desc;
 use stations::{Part, Stations, Wants};
@@ -55,8 +56,11 @@ fn who_is_woken_awaits_the_others_yet(rt: HostRuntime) -> Result<(), Fail> {
             stations.wake(done[1]);
             let any = first[3] || second[3];
             let both = [told(&stations, 0), told(&stations, 1)];
-            assert!(rt; both == [first, second], "{done:?}");
-            assert!(rt; stations.any_able() == any, "{done:?}");
+            assert_same(
+                &rt,
+                &(done, both, stations.any_able()),
+                &(done, [first, second], any),
+            );
         }
     }
     Ok(())
@@ -79,10 +83,8 @@ fn a_part_that_is_left_needs_its_own_source(rt: HostRuntime) -> Result<(), Fail>
         assert!(rt; stations.len() == 2);
         stations.leave(0, wants);
         stations.wake(done);
-        assert!(rt;
-            stations.any_able() == able && told(&stations, 0)[3] == able,
-            "{wants:?} {done}"
-        );
+        let both = [stations.any_able(), told(&stations, 0)[3]];
+        assert_same(&rt, &(wants, done, both), &(wants, done, [able; 2]));
     }
     Ok(())
 }
@@ -97,7 +99,7 @@ fn an_entry_stays_in_its_place(rt: HostRuntime) -> Result<(), Fail> {
         let place = stations.place(1);
         stations.remove(0);
         assert!(rt; stations.len() == 1 && stations.free() == room - 1);
-        assert!(rt; (stations.place(0), stations.serial(0)) == (place, 71));
+        assert_same(&rt, &(stations.place(0), stations.serial(0)), &(place, 71));
         stations.drop_from(71);
         assert!(rt; stations.len() == 0 && stations.free() == room);
     }

@@ -1,4 +1,5 @@
 //! Runs of generated images: one worked out, one that doesn't fit, and one beside the instruction set's.
+use crate::asserting::assert_same;
 use crate::cases::{CASE, Case, goes};
 use crate::running::{Left, NOTHING, Reads, run};
 use gen_image::generate;
@@ -64,13 +65,13 @@ fn the_largest_image_as_the_instruction_set_runs_it(rt: HostRuntime) -> Result<(
     let alloc = rt.alloc();
     let one = left_by(alloc, LARGEST, b"")?;
     let other = left_by(alloc, LARGEST, b"")?;
-    assert_eq!(rt; one.out.as_slice(), other.out.as_slice());
+    assert_same(&rt, &one.out.as_slice(), &other.out.as_slice());
     let report = std::str::from_utf8(one.out.as_slice()).unwrap_or("");
     let (state, retired) = split(report).unwrap_or(("no report", ""));
     let image = generate(alloc, 7, 4096)?;
     let steps = ["isa", "p.elf", "--steps", retired, "--desc", "d.toml"];
     let isa = left_by(alloc, &steps, image.as_slice())?;
     assert!(rt; isa.out.as_slice().starts_with(state.as_bytes()));
-    assert_eq!(rt; (isa.status, one.status), (0, 0));
+    assert_same(&rt, &(isa.status, one.status), &(0, 0));
     Ok(())
 }

@@ -1,4 +1,5 @@
 //! A case: a run of the program, and how it ends.
+use crate::asserting::assert_same;
 use crate::images::{FETCHED, file_of};
 use crate::running::{Failures, Left, NOTHING, Reads, run};
 use crate::texts::{Change, changed};
@@ -62,9 +63,9 @@ pub fn left_by(
 
 /// The program ended with this status, and wrote this and this note.
 pub fn expect(rt: &impl Abort, left: &Left, status: u8, out: &[u8], note: &str) {
-    assert_eq!(rt; left.note.as_slice(), note.as_bytes());
-    assert_eq!(rt; left.out.as_slice(), out);
-    assert_eq!(rt; left.status, status);
+    assert_same(rt, &left.note.as_slice(), &note.as_bytes());
+    assert_same(rt, &left.out.as_slice(), &out);
+    assert_same(rt, &left.status, &status);
 }
 
 /// The run of a case ends as it says.

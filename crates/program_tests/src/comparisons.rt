@@ -1,4 +1,5 @@
 //! The three lines of each answer of two runs, and a put that fails at each of them.
+use crate::asserting::assert_same;
 use crate::running::sink_of;
 use pair_run::{Differ, PairAnswer, write_comparison};
 use std::test::Fail;
@@ -67,8 +68,8 @@ const ROWS: [(PairAnswer, u64, Result<(), Failed>, &str); 7] = [
 fn comparisons(rt: HostRuntime) -> Result<(), Fail> {
     for (told, put, wanted, text) in &ROWS {
         let mut out = sink_of(rt.alloc(), *put, 2)?;
-        assert_eq!(rt; write_comparison(told, &mut out), *wanted);
-        assert_eq!(rt; out.as_slice(), text.as_bytes());
+        assert_same(&rt, &write_comparison(told, &mut out), wanted);
+        assert_same(&rt, &out.as_slice(), &text.as_bytes());
     }
     Ok(())
 }

@@ -1,5 +1,6 @@
 //! Runs under descriptions of many kinds, with the traces that an independent model wrote (`tools/evaluate/runs/README.md`, which
 //! has these and more by the same names). `tools/evaluate/write --tests` makes a table of all.
+use crate::asserting::assert_same;
 use crate::cases::expect;
 use crate::running::{NOTHING, Reads, run};
 use crate::{lines, predicted};
@@ -28,7 +29,11 @@ fn all_go(rt: &impl Abort, alloc: Global, runs: &[Run]) -> Result<(), Fail> {
             description: wanted.description.as_bytes(),
         };
         let left = run(alloc, &words, reads, NOTHING)?;
-        assert_eq!(rt; left.status, wanted.status, "{}", wanted.name);
+        assert_same(
+            rt,
+            &(wanted.name, left.status),
+            &(wanted.name, wanted.status),
+        );
         expect(rt, &left, wanted.status, wanted.trace.as_bytes(), "");
     }
     Ok(())

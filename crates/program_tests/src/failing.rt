@@ -1,5 +1,6 @@
 //! Reads and puts that fail, each in turn: of the smallest program, of output written on the instruction set, of dependent
 //! loads traced, of forwarding run, and of a run compared with itself.
+use crate::asserting::assert_same;
 use crate::cases::{CASE, Case, TRACE, expect, left_by};
 use crate::running::{Failures, NOTHING};
 use std::alloc::Global;
@@ -36,7 +37,7 @@ fn reads_fail(rt: &impl Abort, alloc: Global, case: &Case<'_>, notes: &[&str]) -
         read = read.saturating_add(1);
     }
     let last = left_by(rt, alloc, case, Failures { read, ..NOTHING })?;
-    assert_eq!(rt; last.status, 0);
+    assert_same(rt, &last.status, &0);
     Ok(())
 }
 
@@ -66,7 +67,7 @@ fn put_fails(
 // The put of each line fails in turn. There is no put after the last line.
 fn puts_fail(rt: &impl Abort, alloc: Global, case: &Case<'_>) -> Result<(), Fail> {
     let whole = left_by(rt, alloc, case, NOTHING)?;
-    assert_eq!(rt; whole.status, 0);
+    assert_same(rt, &whole.status, &0);
     let out = whole.out.as_slice();
     let mut before = 0usize;
     let mut put = 1u64;
@@ -75,9 +76,9 @@ fn puts_fail(rt: &impl Abort, alloc: Global, case: &Case<'_>) -> Result<(), Fail
         before = before.saturating_add(line.len()).saturating_add(1);
         put = put.saturating_add(1);
     }
-    assert_eq!(rt; before, out.len());
+    assert_same(rt, &before, &out.len());
     let last = left_by(rt, alloc, case, Failures { put, ..NOTHING })?;
-    assert_eq!(rt; last.status, 0);
+    assert_same(rt, &last.status, &0);
     Ok(())
 }
 

@@ -1,5 +1,6 @@
 //! Hostile images and descriptions: each fault with its note, under each command that reads them, and files at their limits
 //! and one byte over.
+use crate::asserting::assert_same;
 use crate::cases::expect;
 use crate::images::exit_file;
 use crate::running::{Left, NOTHING, Reads, run};
@@ -73,8 +74,8 @@ fn refuse_description(rt: &impl Abort, alloc: Global, text: &[u8], note: &str) -
 // These words end as the exit of two instructions does.
 fn exits(rt: &impl Abort, alloc: Global, words: &[&str], reads: Reads<'_>) -> Result<(), Fail> {
     let left = run(alloc, words, reads, NOTHING)?;
-    assert_eq!(rt; left.note.as_slice(), b"".as_slice());
-    assert_eq!(rt; left.status, 0);
+    assert_same(rt, &left.note.as_slice(), &b"".as_slice());
+    assert_same(rt, &left.status, &0);
     Ok(())
 }
 
@@ -237,8 +238,8 @@ fn left_by_length(alloc: Global, length: usize) -> Result<Left, Fail> {
 #[test]
 fn an_image_at_its_limit(rt: HostRuntime) -> Result<(), Fail> {
     let left = left_by_length(rt.alloc(), IMAGE_BYTES)?;
-    assert_eq!(rt; left.note.as_slice(), b"".as_slice());
-    assert_eq!(rt; left.status, 0);
+    assert_same(&rt, &left.note.as_slice(), &b"".as_slice());
+    assert_same(&rt, &left.status, &0);
     Ok(())
 }
 

@@ -1,4 +1,5 @@
 //! Runs of two images, compared (`docs/formats.md`, "The comparison"), and two images of which either is refused.
+use crate::asserting::assert_same;
 use crate::cases::{CASE, Case, expect, goes, left_by};
 use crate::hostile::{IMAGE_BYTES, as_long_as};
 use crate::images::exit_file;
@@ -130,7 +131,7 @@ fn ends_compared(rt: HostRuntime) -> Result<(), Fail> {
     let left = left_by(&rt, rt.alloc(), &VALUES, NOTHING)?;
     let begin = b"premise no\nunequal end\nretired 3 ";
     assert!(rt; left.out.as_slice().starts_with(begin));
-    assert_eq!(rt; left.status, 1);
+    assert_same(&rt, &left.status, &1);
     Ok(())
 }
 

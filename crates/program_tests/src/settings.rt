@@ -1,4 +1,5 @@
 //! Runs in version 2 with bits of dependence, under the model `off`, and under the defence `hold` (`docs/machine.md`, "Worked traces").
+use crate::asserting::assert_same;
 use crate::cases::{CASE, Case, TRACE, Traced, all_traced, goes, left_by};
 use crate::running::{Left, NOTHING};
 use crate::texts::Change;
@@ -98,7 +99,7 @@ fn hides<'a>(
 ) -> Result<bool, Fail> {
     let one = bypassed(rt, alloc, changes, b"\0\0\0\0\0\0\0\0\x11")?;
     let two = bypassed(rt, alloc, changes, b"\0\0\0\0\0\0\0\0\x22")?;
-    assert_eq!(rt; (one.status, two.status), (0, 0));
+    assert_same(rt, &(one.status, two.status), &(0, 0));
     assert!(rt; one.out.as_slice().ends_with(end));
     Ok(one.out.as_slice() == two.out.as_slice())
 }

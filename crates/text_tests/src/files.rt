@@ -1,4 +1,5 @@
 //! The files in memory, with a read that fails, and those that never fail.
+use crate::asserting::assert_same;
 use std::alloc::Global;
 use std::test::Fail;
 use tool_io::{Content, Files, Got, MemFile, MemFiles, NeverFails, ReadFail};
@@ -49,17 +50,19 @@ fn files_in_memory(rt: HostRuntime) -> Result<(), Fail> {
     let mut files = MemFiles::new(alloc, two_files(alloc)?, fails)?;
     for &(name, max, wanted) in &READS {
         let answer = files.read(alloc, name, max);
-        assert_eq!(rt;
-            (name, max, text_of(&answer)),
-            (name, max, wanted.as_bytes())
+        assert_same(
+            &rt,
+            &(name, max, text_of(&answer)),
+            &(name, max, wanted.as_bytes()),
         );
     }
     let mut never = NeverFails::new(two_files(alloc)?);
     for &(name, max, wanted) in &NEVER {
         let answer = never.read(alloc, name, max);
-        assert_eq!(rt;
-            (name, max, text_of(&answer)),
-            (name, max, wanted.as_bytes())
+        assert_same(
+            &rt,
+            &(name, max, text_of(&answer)),
+            &(name, max, wanted.as_bytes()),
         );
     }
     Ok(())

@@ -1,4 +1,5 @@
 //! The files of a host: of this one, and of one whose files give few bytes at a time, or fail in mid-stream.
+use crate::asserting::assert_same;
 use std::alloc::{Allocator, Global};
 use std::fs::{Metadata, OpenFile, OpenOptions};
 use std::io::{ErrorKind, Read, Seek, SeekFrom, Write};
@@ -156,7 +157,11 @@ fn files_of_few_bytes_at_a_time(rt: HostRuntime) {
             file: Source { left, step, good },
         };
         let answer = read(&host, rt.alloc(), "name", max);
-        assert_eq!(rt; (left, step, good, answer), (left, step, good, wanted));
+        assert_same(
+            &rt,
+            &(left, step, good, answer),
+            &(left, step, good, wanted),
+        );
     }
 }
 
@@ -171,6 +176,6 @@ const DEVICES: [(&str, Result<Option<usize>, ReadFail>); 3] = [
 fn files_of_this_host(rt: HostRuntime) {
     for &(name, wanted) in &DEVICES {
         let answer = read(&rt, rt.alloc(), name, 5000);
-        assert_eq!(rt; (name, answer), (name, wanted));
+        assert_same(&rt, &(name, answer), &(name, wanted));
     }
 }

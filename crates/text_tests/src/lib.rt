@@ -5,6 +5,8 @@
 #![tactic(auto)]
 
 #[cfg(test)]
+mod asserting;
+#[cfg(test)]
 mod files;
 #[cfg(test)]
 mod hosts;

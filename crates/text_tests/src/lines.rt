@@ -1,4 +1,5 @@
 //! The last line in each of its forms, and the numbers of a line and of a draft.
+use crate::asserting::assert_same;
 use crate::sinks::sink_of;
 use line_text::{Draft, Line, write_end};
 use rv_types::{Cause, End, Ending};
@@ -41,8 +42,8 @@ fn last_lines(rt: HostRuntime) -> Result<(), Fail> {
             cycles,
         };
         let mut out = sink_of(alloc, 100, 0)?;
-        assert_eq!(rt; write_end(&ending, &mut out), Ok(()));
-        assert_eq!(rt; out.as_slice(), wanted.as_bytes());
+        assert_same(&rt, &write_end(&ending, &mut out), &Ok(()));
+        assert_same(&rt, &out.as_slice(), &wanted.as_bytes());
     }
     Ok(())
 }
@@ -75,7 +76,7 @@ fn numbers_of_a_line(rt: HostRuntime) {
     for &(number, wanted) in &DECIMALS {
         line.clear();
         line.add_decimal(number);
-        assert_eq!(rt; line.as_slice(), wanted.as_bytes());
+        assert_same(&rt, &line.as_slice(), &wanted.as_bytes());
     }
     line.clear();
     line.add(b"mem ");
@@ -84,7 +85,7 @@ fn numbers_of_a_line(rt: HostRuntime) {
     line.add_hex_bytes(&[0x76, 0x54, 0x32, 0x10]);
     line.add_decimal_word(u32::MAX);
     let wanted = "mem fedcba980f765432104294967295";
-    assert_eq!(rt; line.as_slice(), wanted.as_bytes());
+    assert_same(&rt, &line.as_slice(), &wanted.as_bytes());
 }
 
 #[test]
@@ -93,7 +94,15 @@ fn a_text_from_a_place_on(rt: HostRuntime) {
     let name = draft.put(0, *b"7 ren:");
     let serial = draft.put_decimal(name, 98_765_432_109);
     let pc = draft.put_hex8(serial, 0x0001_fff0);
-    assert_eq!(rt; draft.before(pc), b"7 ren:987654321090001fff0".as_slice());
+    assert_same(
+        &rt,
+        &draft.before(pc),
+        &b"7 ren:987654321090001fff0".as_slice(),
+    );
     let count = draft.put_decimal_word(serial, 40_123);
-    assert_eq!(rt; draft.before(count), b"7 ren:9876543210940123".as_slice());
+    assert_same(
+        &rt,
+        &draft.before(count),
+        &b"7 ren:9876543210940123".as_slice(),
+    );
 }

@@ -1,4 +1,5 @@
 //! A worked report, with a put that fails, and pieces of output.
+use crate::asserting::assert_same;
 use crate::sinks::sink_of;
 use byte_ram::Ram;
 use report_text::{write_piece, write_report};
@@ -115,8 +116,8 @@ fn a_report_and_puts_that_fail(rt: HostRuntime) -> Result<(), Fail> {
     for &(put, wanted, sent) in &PUTS {
         let mut out = sink_of(alloc, 1000, put)?;
         let answer = write(&rt, alloc, &mut out)?;
-        assert_eq!(rt; (put, answer), (put, wanted));
-        assert_eq!(rt; Some(out.as_slice()), REPORT.as_bytes().get(..sent));
+        assert_same(&rt, &(put, answer), &(put, wanted));
+        assert_same(&rt, &Some(out.as_slice()), &REPORT.as_bytes().get(..sent));
     }
     Ok(())
 }
@@ -133,12 +134,12 @@ fn pieces_of_output(rt: HostRuntime) -> Result<(), Fail> {
         let mut piece = Piece::new();
         piece.extend(bytes);
         let mut out = sink_of(alloc, 3000, 0)?;
-        assert_eq!(rt; write_piece(&piece, &mut out), Ok(()));
-        assert_eq!(rt; out.as_slice(), wanted.as_bytes());
+        assert_same(&rt, &write_piece(&piece, &mut out), &Ok(()));
+        assert_same(&rt, &out.as_slice(), &wanted.as_bytes());
     }
     let mut longest = Piece::new();
     longest.extend(&[0; 1024]);
-    assert_eq!(rt; write_piece(&longest, &mut out), Ok(()));
-    assert_eq!(rt; out.as_slice().len(), 4 + 2048 + 1);
+    assert_same(&rt, &write_piece(&longest, &mut out), &Ok(()));
+    assert_same(&rt, &out.as_slice().len(), &(4 + 2048 + 1));
     Ok(())
 }

@@ -1,5 +1,6 @@
 //! The sink in memory with a put that fails; and pieces that are put into a stream that takes few bytes at a time, takes
 //! nothing, or fails in mid-stream.
+use crate::asserting::assert_same;
 use std::alloc::Global;
 use std::io;
 use std::io::{ErrorKind, Write};
@@ -25,11 +26,11 @@ const PIECES: [(&[u8], Result<(), Failed>); 4] = [
 fn sink_in_memory(rt: HostRuntime) -> Result<(), Fail> {
     let mut sink = sink_of(rt.alloc(), 7, 2)?;
     for &(piece, wanted) in &PIECES {
-        assert_eq!(rt; (piece, sink.put(piece)), (piece, wanted));
+        assert_same(&rt, &(piece, sink.put(piece)), &(piece, wanted));
     }
-    assert_eq!(rt; sink.as_slice(), b"abcdfgh".as_slice());
+    assert_same(&rt, &sink.as_slice(), &b"abcdfgh".as_slice());
     let mut never = NeverFails::new(Vec::new(rt.alloc()));
-    assert_eq!(rt; never.put(b"abc"), Ok(()));
+    assert_same(&rt, &never.put(b"abc"), &Ok(()));
     Ok(())
 }
 
@@ -110,8 +111,8 @@ fn sink_over_a_stream(rt: HostRuntime) -> Result<(), Fail> {
     for &(piece, step, good, after, wanted, sent) in &PUTS {
         let mut bytes = Vec::new(rt.alloc());
         let answer = put(&mut bytes, piece.as_bytes(), step, good, after);
-        assert_eq!(rt; (step, good, answer), (step, good, wanted));
-        assert_eq!(rt; bytes.as_slice(), sent.as_bytes());
+        assert_same(&rt, &(step, good, answer), &(step, good, wanted));
+        assert_same(&rt, &bytes.as_slice(), &sent.as_bytes());
     }
     Ok(())
 }

@@ -1,4 +1,5 @@
 //! Each event once, the longest line, and a put that fails.
+use crate::asserting::assert_same;
 use crate::sinks::sink_of;
 use line_text::Draft;
 use std::test::Fail;
@@ -61,8 +62,8 @@ fn events(rt: HostRuntime) -> Result<(), Fail> {
     let alloc = rt.alloc();
     for &(event, wanted) in &EVENTS {
         let mut out = sink_of(alloc, 100, 0)?;
-        assert_eq!(rt; write(7, event, &mut out), Ok(()));
-        assert_eq!(rt; out.as_slice(), wanted.as_bytes());
+        assert_same(&rt, &write(7, event, &mut out), &Ok(()));
+        assert_same(&rt, &out.as_slice(), &wanted.as_bytes());
     }
     Ok(())
 }
@@ -70,8 +71,8 @@ fn events(rt: HostRuntime) -> Result<(), Fail> {
 #[test]
 fn a_put_that_fails(rt: HostRuntime) -> Result<(), Fail> {
     let mut out = sink_of(rt.alloc(), 100, 1)?;
-    assert_eq!(rt; write(26, Event::Ret(5), &mut out), Err(Failed));
-    assert_eq!(rt; out.as_slice(), b"26".as_slice());
+    assert_same(&rt, &write(26, Event::Ret(5), &mut out), &Err(Failed));
+    assert_same(&rt, &out.as_slice(), &b"26".as_slice());
     Ok(())
 }
 
@@ -88,11 +89,11 @@ fn the_longest_line(rt: HostRuntime) -> Result<(), Fail> {
     }
     let mut draft = Draft::new();
     let mut out = sink_of(rt.alloc(), 10000, 0)?;
-    assert_eq!(rt; write_row_with(&row, &mut draft, &mut out), Ok(()));
+    assert_same(&rt, &write_row_with(&row, &mut draft, &mut out), &Ok(()));
     row.begin(8);
-    assert_eq!(rt; write_row_with(&row, &mut draft, &mut out), Ok(()));
+    assert_same(&rt, &write_row_with(&row, &mut draft, &mut out), &Ok(()));
     let text = out.as_slice();
-    assert_eq!(rt; text.len(), 10 + 256 * 37 + 1 + 2);
+    assert_same(&rt, &text.len(), &(10 + 256 * 37 + 1 + 2));
     let end = b" call:18446744073709551615:4294967295\n8\n".as_slice();
     assert!(rt; text.starts_with(b"4294967295 call:") && text.ends_with(end));
     Ok(())
