@@ -1,5 +1,6 @@
-//! Programs of four words in flight at once, and what each phase makes of them, worked out by `docs/machine.md`, "A cycle": under the
-//! example description with four words fetched a cycle. Those of Issue are of version 1; of version 2 `stores.rt` has stores, and `lines.rt` lines. Lines are those of x2, which is 0x1fff0, and before it.
+//! Programs of four words in flight at once, and what each phase makes of them, worked out by `docs/machine.md`, "A
+//! cycle": under the example description with four words fetched a cycle. Those of Issue are of version 1; of version 2
+//! `stores.rt` has stores, and `lines.rt` lines. Lines are those of x2, which is 0x1fff0, and before it.
 use machine_desc::SttModel;
 use window_model::{Event, Look, Progress, Way};
 
@@ -96,8 +97,8 @@ const JUMPS: [u32; 4] = [0x0000_0297, 0x00c2_8067, 0x13, 0x13];
 // div x9,x2,x2; beq x9,x0,.+8; lw x6,0(x2); beq x6,x0,.+8
 const TAINTED_BRANCH: [u32; 4] = [0x0221_44b3, 0x0004_8463, 0x0001_2303, 0x0003_0463];
 
-/// Resolve: a right prediction drops nothing; a wrong one drops what is younger and not yet renamed, and fetching goes on at the
-/// next address; a branch on a tainted value waits.
+/// Resolve: a right prediction drops nothing; a wrong one drops what is younger and not yet renamed, and fetching goes
+/// on at the next address; a branch on a tainted value waits.
 pub const RESOLVING: [Flight; 4] = [
     Flight {
         model: SttModel::Spectre,

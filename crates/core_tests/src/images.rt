@@ -37,8 +37,8 @@ fn add_words(file: &mut Vec<u8>, words: &[u32]) -> Result<(), Fail> {
     Ok(())
 }
 
-// Appends the file's header. Type 2, machine 243; version 1, entry, program headers at 52, no section headers, no flags;
-// a header of 52 bytes, two program headers of 32 bytes, no section headers.
+// Appends the file's header. Type 2, machine 243; version 1, entry, program headers at 52, no section headers, no
+// flags; a header of 52 bytes, two program headers of 32 bytes, no section headers.
 fn add_header(file: &mut Vec<u8>, entry: u32) -> Result<(), Fail> {
     file.extend_from_slice(&[0x7f, b'E', b'L', b'F', 1, 1, 1, 0])?;
     add_words(file, &[0, 0])?;

@@ -1,5 +1,6 @@
-//! Loads and stores over two lines, the second level of the cache and the prefetched line, worked out by `docs/machine.md`, "Loads":
-//! in version 2 with four words fetched a cycle, under the descriptions that stand here. Only the phases that are named go.
+//! Loads and stores over two lines, the second level of the cache and the prefetched line, worked out by
+//! `docs/machine.md`, "Loads": in version 2 with four words fetched a cycle, under the descriptions that stand here.
+//! Only the phases that are named go.
 use crate::flights::{Flight, LINE, LINE_BEFORE, Phase, SECOND_BEFORE};
 use machine_desc::SttModel;
 use window_model::{Event, Look, Progress};
@@ -75,7 +76,8 @@ pub const OVER_TWO_LINES: [Flight; 4] = [
             (Progress::Busy(15), 0),
         ],
     },
-    // one register is too few for two lines that miss; a load is due at the later of its lines, also where that is the lower
+    // one register is too few for two lines that miss; a load is due at the later of its lines, also where that is the
+    // lower
     Flight {
         model: SttModel::Spectre,
         words: &REGISTER_LACKS,

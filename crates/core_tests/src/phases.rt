@@ -1,4 +1,5 @@
-//! The phases one by one over words in flight (`flights.rt`, `stores.rt`, `lines.rt`, `settings.rt`), over both tables of names.
+//! The phases one by one over words in flight (`flights.rt`, `stores.rt`, `lines.rt`, `settings.rt`), over both tables
+//! of names.
 ghost use Rattle.std.specs.Prelude.{◌≡◌, true};
 ghost use Rattle.std.specs.List.{AllByRecursion as Each};
 ghost use Rattle.machine_facts.specs.Timely.{WaitsOrDone};

@@ -1,4 +1,5 @@
-//! Rename where there is little room, where a call comes in, and where loads pass stores; the expected values follow from
+//! Rename where there is little room, where a call comes in, and where loads pass stores; the expected values follow
+//! from
 //! `docs/machine.md`, "Rename", "Writers and roots" and "Clear".
 use crate::asserting::assert_same;
 use crate::flights::Phase;
@@ -41,8 +42,8 @@ fn come_in<R: RenameTaint + Drop>(
     Ok(parts)
 }
 
-// What the parts tell of the first three: the subtraction awaits the load, and the store both. What they read flows from the load,
-// which is the one root. The call waits for all three to retire.
+// What the parts tell of the first three: the subtraction awaits the load, and the store both. What they read flows
+// from the load, which is the one root. The call waits for all three to retire.
 fn three_come_in<R: RenameTaint + Drop>(rt: &impl Abort, alloc: Global) -> Result<(), Fail> {
     let desc = narrow(&read_desc(alloc, EXAMPLE.as_bytes())?);
     let events = [

@@ -1,6 +1,6 @@
-//! Loads that pass stores, results that are held back, and a machine that protects nothing, worked out by `docs/machine.md`, "Clear",
-//! "Issue" and "Safe and visible": in version 2 with four words fetched a cycle, under the descriptions that stand here. Only the
-//! phases that are named go.
+//! Loads that pass stores, results that are held back, and a machine that protects nothing, worked out by
+//! `docs/machine.md`, "Clear", "Issue" and "Safe and visible": in version 2 with four words fetched a cycle, under the
+//! descriptions that stand here. Only the phases that are named go.
 use crate::flights::{Flight, LINE, LINE_BEFORE, Phase};
 use machine_desc::SttModel;
 use window_model::{Event, Look, Progress, Way};
@@ -41,8 +41,8 @@ const OLDEST: [u32; 4] = [0x0001_2303, 0x0013_0393, 0x13, 0x13];
 // div x9,x2,x2; beq x9,x0,.+8; lw x6,0(x2); beq x6,x0,.+8
 const TAINTED_BRANCH: [u32; 4] = [0x0221_44b3, 0x0004_8463, 0x0001_2303, 0x0003_0463];
 
-/// Clear: the oldest store of known address is cleared, one a cycle; the load that passed it and shares a byte with it goes with all
-/// that is younger, and its bit is set.
+/// Clear: the oldest store of known address is cleared, one a cycle; the load that passed it and shares a byte with it
+/// goes with all that is younger, and its bit is set.
 pub const CLEARING: [Flight; 5] = [
     Flight {
         model: SttModel::Spectre,

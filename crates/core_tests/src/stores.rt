@@ -1,5 +1,5 @@
-//! Stores of version 2 in flight, which issue in two parts, and loads behind them, worked out by `docs/machine.md`, "Issue" and
-//! "Loads": under the example description in version 2 with four words fetched a cycle.
+//! Stores of version 2 in flight, which issue in two parts, and loads behind them, worked out by `docs/machine.md`,
+//! "Issue" and "Loads": under the example description in version 2 with four words fetched a cycle.
 use crate::flights::{Flight, LINE, LINE_BEFORE, Phase};
 use machine_desc::SttModel;
 use window_model::{Event, Look, Progress};

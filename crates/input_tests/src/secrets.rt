@@ -5,7 +5,8 @@ use secret_words::read_wanted;
 use std::alloc::Global;
 use tool_words::Refused;
 
-// The words, and the ranges that they give, each by its address and its number of bytes. With no range they are refused.
+// The words, and the ranges that they give, each by its address and its number of bytes. With no range they are
+// refused.
 static ROWS: [(&[&str], &[(u32, u32)]); 26] = [
     (
         &["d.toml", "p.elf", "--secret", "0x1f000:64", "--cycles", "9"],

@@ -1,5 +1,5 @@
-//! Images as a linker writes them, each fault once, segments that overlap; the smallest and the largest generated image.
-//! The file of the first program and the faults of its changed forms are those of `docs/formats.md`, "Images".
+//! Images as a linker writes them, each fault once, segments that overlap; the smallest and the largest generated
+//! image. The file of the first program and the faults of its changed forms are those of `docs/formats.md`, "Images".
 use crate::asserting::assert_same;
 use byte_ram::Ram;
 use elf_loader::{ElfFault, Image, load, segments};
@@ -127,7 +127,8 @@ fn fault_of(alloc: Global, file: &[u8]) -> Option<ElfFault> {
     }
 }
 
-// The first bytes of the first program's file, as many as are asked for, with other bytes written over them from a place on.
+// The first bytes of the first program's file, as many as are asked for, with other bytes written over them from a
+// place on.
 fn changed(alloc: Global, size: usize, at: usize, new: &[u8]) -> Result<Vec<u8>, Fail> {
     let mut file = Vec::new(alloc);
     for (i, byte) in FIRST.iter().enumerate() {

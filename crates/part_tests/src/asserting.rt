@@ -1,4 +1,5 @@
-//! What is found beside what is wanted, compared in one place: an assertion's proof is dear where it stands, and a call of this one isn't.
+//! What is found beside what is wanted, compared in one place: an assertion's proof is dear where it stands, and a call
+//! of this one isn't.
 use std::fmt::Debug;
 use std::process::Abort;
 

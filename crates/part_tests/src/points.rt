@@ -1,5 +1,5 @@
-//! The point over a branch or a store and a load behind it, under each model (`visibility`; `docs/machine.md`, "Safe and
-//! visible").
+//! The point over a branch or a store and a load behind it, under each model (`visibility`; `docs/machine.md`, "Safe
+//! and visible").
 ghost use Rattle.std.specs.Prelude.{◌≡◌};
 
 use crate::asserting::assert_same;
@@ -50,7 +50,8 @@ fn the_point_stands_at_what_keeps_younger_ones_hidden(rt: HostRuntime) -> Result
     let fault = Some(Cause::load_outside());
     let (waiting, done) = (Progress::Waiting, Progress::Done);
     let (branch, store) = (Word::Branch, Word::Store);
-    // The older one, whether it is resolved or cleared, and the load; what is visible under spectre, and under futuristic.
+    // The older one, whether it is resolved or cleared, and the load; what is visible under spectre, and under
+    // futuristic.
     let rows = [
         (
             branch,

@@ -1,5 +1,5 @@
-//! A ring that is filled, changed and emptied again, and the positions of serials with gaps (`rob_ring`; `docs/machine.md`,
-//! "Entries" and "Safe and visible").
+//! A ring that is filled, changed and emptied again, and the positions of serials with gaps (`rob_ring`;
+//! `docs/machine.md`, "Entries" and "Safe and visible").
 ghost use Rattle.std.specs.Prelude.{◌≡◌};
 ghost use Rattle.window_model.specs.Serials.{Rise};
 

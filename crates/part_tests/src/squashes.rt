@@ -25,7 +25,8 @@ fn fill_queues(lsq: &mut Lsq) {
     }
 }
 
-// The loads stay, of which the one with serial 3 writes a register. A division into the same register, which awaits it, and a store go.
+// The loads stay, of which the one with serial 3 writes a register. A division into the same register, which awaits it,
+// and a store go.
 #[tactic(auto, using(window_model::proofs::Serials::rise_push))]
 fn squash_keeps_the_load<R: RenameTaint + Drop>(
     rt: &impl Abort,

@@ -1,5 +1,5 @@
-//! Entries that come, are woken and go: what they await follows from who writes their sources (`stations`; `docs/machine.md`,
-//! "Entries" and "Issue").
+//! Entries that come, are woken and go: what they await follows from who writes their sources (`stations`;
+//! `docs/machine.md`, "Entries" and "Issue").
 use crate::asserting::assert_same;
 use crate::descriptions::{largest, small};
 use machine_desc::Desc;
@@ -7,7 +7,8 @@ use stations::{Part, Stations, Wants};
 use std::alloc::Global;
 use std::test::Fail;
 
-// Of the entry at a position, whether it is ready, its first part, its second part, and whether it may issue or a part of it.
+// Of the entry at a position, whether it is ready, its first part, its second part, and whether it may issue or a part
+// of it.
 fn told(stations: &Stations, i: u32) -> [bool; 4] {
     if i >= stations.len() {
         return [false; 4];

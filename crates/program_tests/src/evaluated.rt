@@ -1,5 +1,6 @@
-//! Runs under descriptions of many kinds, with the traces that an independent model wrote (`tools/evaluate/runs/README.md`, which
-//! has these and more by the same names). `tools/evaluate/write --tests` makes a table of all.
+//! Runs under descriptions of many kinds, with the traces that an independent model wrote
+//! (`tools/evaluate/runs/README.md`, which has these and more by the same names). `tools/evaluate/write --tests` makes
+//! a table of all.
 use crate::asserting::assert_same;
 use crate::cases::expect;
 use crate::running::{NOTHING, Reads, run};

@@ -1,5 +1,5 @@
-//! Reads and puts that fail, each in turn: of the smallest program, of output written on the instruction set, of dependent
-//! loads traced, of forwarding run, and of a run compared with itself.
+//! Reads and puts that fail, each in turn: of the smallest program, of output written on the instruction set, of
+//! dependent loads traced, of forwarding run, and of a run compared with itself.
 use crate::asserting::assert_same;
 use crate::cases::{CASE, Case, TRACE, expect, left_by};
 use crate::running::{Failures, NOTHING};
@@ -41,8 +41,8 @@ fn reads_fail(rt: &impl Abort, alloc: Global, case: &Case<'_>, notes: &[&str]) -
     Ok(())
 }
 
-// A put of a line fails, with 0, 1 and all but one of its bytes gone out: what was written is what the lines before have, so many
-// bytes, and those of the line.
+// A put of a line fails, with 0, 1 and all but one of its bytes gone out: what was written is what the lines before
+// have, so many bytes, and those of the line.
 fn put_fails(
     rt: &impl Abort,
     alloc: Global,

@@ -1,5 +1,5 @@
-//! Hostile images and descriptions: each fault with its note, under each command that reads them, and files at their limits
-//! and one byte over.
+//! Hostile images and descriptions: each fault with its note, under each command that reads them, and files at their
+//! limits and one byte over.
 use crate::asserting::assert_same;
 use crate::cases::expect;
 use crate::images::exit_file;
@@ -24,7 +24,8 @@ const COMMANDS: [&[&str]; 4] = [
     &["pair", "d.toml", "p.elf", "p.elf", "--cycles", "5"],
 ];
 
-/// Each command that reads d.toml. The image of the first four isn't there: the description is refused before it is read.
+/// Each command that reads d.toml. The image of the first four isn't there: the description is refused before it is
+/// read.
 const DESCRIBED: [&[&str]; 5] = [
     &["isa", "r.elf", "--steps", "5", "--desc", "d.toml"],
     &["run", "d.toml", "r.elf", "--cycles", "5"],

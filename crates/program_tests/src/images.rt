@@ -21,15 +21,16 @@ fn add_words(image: &mut Vec<u8>, words: &[u32]) -> Result<(), AllocError> {
     Ok(())
 }
 
-// Appends the file's header, with so many program headers. Type 2, machine 243; version 1, entry, program headers at 52, no section
-// headers, no flags; a header of 52 bytes, program headers of 32 bytes, no section headers.
+// Appends the file's header, with so many program headers. Type 2, machine 243; version 1, entry, program headers at
+// 52, no section headers, no flags; a header of 52 bytes, program headers of 32 bytes, no section headers.
 fn add_header(image: &mut Vec<u8>, parts: u32) -> Result<(), AllocError> {
     image.extend_from_slice(&[0x7f, b'E', b'L', b'F', 1, 1, 1, 0])?;
     add_words(image, &[0, 0, 0x00f3_0002, 1, CODE, 52, 0, 0])?;
     add_words(image, &[52 + (32 << 16), parts, 0])
 }
 
-/// The file of this code, whose part has these flags, and of these bytes of data, 16 bytes below the end of memory, if there are any.
+/// The file of this code, whose part has these flags, and of these bytes of data, 16 bytes below the end of memory, if
+/// there are any.
 pub fn file_of(
     alloc: Global,
     code: &[u32],

@@ -1,5 +1,5 @@
-//! Each command that makes a core, under the largest sizes that there may be, with accesses at any address: a core, a pair of them, and
-//! a core with marks beside it. What is wanted is what the model of `tools/evaluate` writes.
+//! Each command that makes a core, under the largest sizes that there may be, with accesses at any address: a core, a
+//! pair of them, and a core with marks beside it. What is wanted is what the model of `tools/evaluate` writes.
 use crate::cases::expect;
 use crate::images::{FETCHED, file_of};
 use crate::running::{NOTHING, Reads, judge, run};

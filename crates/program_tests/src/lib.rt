@@ -1,7 +1,8 @@
-//! Tests of the whole program, from words and files to its texts: worked runs and refusals over files and sinks in memory, each status,
-//! each note, and reads and puts that fail.
+//! Tests of the whole program, from words and files to its texts: worked runs and refusals over files and sinks in
+//! memory, each status, each note, and reads and puts that fail.
 //!
-//! A case (`cases.rt`) is a run and how it ends, and a test a table of them, so that one function alone calls `stt_top`, and one `secrets_top`.
+//! A case (`cases.rt`) is a run and how it ends, and a test a table of them, so that one function alone calls
+//! `stt_top`, and one `secrets_top`.
 #![tactic(auto)]
 
 #[cfg(test)]

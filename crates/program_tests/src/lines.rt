@@ -1,5 +1,5 @@
-//! Runs with stores and loads over two lines, a second level of the cache and the prefetch, with the traces that an independent model wrote
-//! (`tools/evaluate/runs/README.md`, which has these and more by the same names).
+//! Runs with stores and loads over two lines, a second level of the cache and the prefetch, with the traces that an
+//! independent model wrote (`tools/evaluate/runs/README.md`, which has these and more by the same names).
 use crate::evaluated::Run;
 
 /// The runs.

@@ -124,8 +124,8 @@ fn secrets_leave_no_mark(rt: HostRuntime) -> Result<(), Fail> {
     Ok(())
 }
 
-// Programs that read a secret: what is changed in the description, the code, the data with the secrets 0x11 and 0x22, the status, and
-// the trace of the first.
+// Programs that read a secret: what is changed in the description, the code, the data with the secrets 0x11 and 0x22,
+// the status, and the trace of the first.
 const READING: [(&[Change<'static>], &[u32], &[&[u8]; 2], u8, &str); 4] = [
     (
         &[],

@@ -21,7 +21,8 @@ const PAIR: &[&str] = &["pair", "d.toml", "p.elf", "q.elf", "--cycles", "100"];
 
 const VERSION_2: Change<'static> = ("[core]", "version = 2\n[core]");
 
-// A bounds check: what is changed in the description, the bound and the secret of both images, the status and what is written.
+// A bounds check: what is changed in the description, the bound and the secret of both images, the status and what is
+// written.
 const BOUNDED: [(&[Change<'static>], &[u8], &[u8], u8, &str); 4] = [
     // past the bound the secret is loaded on a wrong path alone
     (

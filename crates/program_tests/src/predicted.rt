@@ -1,5 +1,6 @@
-//! Runs with the return stack, without it, with global history, and with these and every other setting at once, with the traces that
-//! independent models wrote (`tools/evaluate/runs/README.md`, which has these and more by the same names).
+//! Runs with the return stack, without it, with global history, and with these and every other setting at once, with
+//! the traces that independent models wrote (`tools/evaluate/runs/README.md`, which has these and more by the same
+//! names).
 use crate::evaluated::Run;
 
 /// The runs.

@@ -1,7 +1,7 @@
 //! Runs of which is told whether a secret shows (`docs/formats.md`, "The program stt_secrets").
 //!
-//! The runs are of the bounds check, whose secret byte is at 0001fff8. In which cycle it shows is what `runs_are_judged` of `secret_marks`
-//! evaluates, and how long the run is what `pair` tells of it (`pairs.rt`).
+//! The runs are of the bounds check, whose secret byte is at 0001fff8. In which cycle it shows is what
+//! `runs_are_judged` of `secret_marks` evaluates, and how long the run is what `pair` tells of it (`pairs.rt`).
 use crate::cases::expect;
 use crate::images::{FETCHED, file_of};
 use crate::running::{Failures, NOTHING, Reads, judge};

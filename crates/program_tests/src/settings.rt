@@ -1,4 +1,5 @@
-//! Runs in version 2 with bits of dependence, under the model `off`, and under the defence `hold` (`docs/machine.md`, "Worked traces").
+//! Runs in version 2 with bits of dependence, under the model `off`, and under the defence `hold` (`docs/machine.md`,
+//! "Worked traces").
 use crate::asserting::assert_same;
 use crate::cases::{CASE, Case, TRACE, Traced, all_traced, goes, left_by};
 use crate::running::{Left, NOTHING};
@@ -18,8 +19,8 @@ const LATE_ADDRESS: [u32; 6] = [
     0x0000_0073,
 ];
 
-// A store whose address a division makes late leads a pointer elsewhere; a load passes it, finds the old pointer, and through it the
-// secret, which makes an address.
+// A store whose address a division makes late leads a pointer elsewhere; a load passes it, finds the old pointer, and
+// through it the secret, which makes an address.
 const STORE_BYPASS: [u32; 11] = [
     0x0010_0413,
     0x0281_42b3,
@@ -73,7 +74,8 @@ fn loads_that_pass_stores(rt: HostRuntime) -> Result<(), Fail> {
     goes(&rt, rt.alloc(), &PASSED)
 }
 
-// The trace of the store bypass with this data, whose last byte is the secret, under the description with these changes.
+// The trace of the store bypass with this data, whose last byte is the secret, under the description with these
+// changes.
 fn bypassed<'a>(
     rt: &impl Abort,
     alloc: Global,

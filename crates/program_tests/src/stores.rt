@@ -1,4 +1,5 @@
-//! Stores that issue in two parts, in version 2 of the machine, and a large machine of that version. The traces are those of the runs of
+//! Stores that issue in two parts, in version 2 of the machine, and a large machine of that version. The traces are
+//! those of the runs of
 //! `tools/evaluate/runs`, which has where they come from.
 use crate::cases::{Traced, all_traced, expect};
 use crate::images::{FETCHED, file_of};

@@ -99,8 +99,8 @@ fn write(rt: &impl Abort, alloc: Global, out: &mut MemSink) -> Result<Result<(),
     Ok(write_report(&REGISTERS, 0x0001_0020, &before, &after, &ENDING, out))
 }
 
-// The put that fails after two bytes, or 0, the answer, and how many bytes of the report are there: of the first and the
-// second register, the pc, the row of memory, the last line, and of the whole.
+// The put that fails after two bytes, or 0, the answer, and how many bytes of the report are there: of the first and
+// the second register, the pc, the row of memory, the last line, and of the whole.
 const PUTS: [(u64, Result<(), Failed>, usize); 6] = [
     (1, Err(Failed), 2),
     (2, Err(Failed), 14),

@@ -1,5 +1,5 @@
-//! The sink in memory with a put that fails; and pieces that are put into a stream that takes few bytes at a time, takes
-//! nothing, or fails in mid-stream.
+//! The sink in memory with a put that fails; and pieces that are put into a stream that takes few bytes at a time,
+//! takes nothing, or fails in mid-stream.
 use crate::asserting::assert_same;
 use std::alloc::Global;
 use std::io;
