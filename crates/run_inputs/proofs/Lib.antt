@@ -2,4 +2,3 @@ pub mod Exits
 pub mod Images
 pub mod InTurn
 pub mod Told
-pub mod Refused
