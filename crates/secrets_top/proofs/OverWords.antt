@@ -1,5 +1,5 @@
 -- How the program ends over its words as they were read.
-use Rattle.std.proofs.Common.{◌≡◌, ◌≢◌, ℕ, List, [], ◌∷◌, map, Err, refl, sym, subst}
+use Rattle.std.proofs.Common.{◌≡◌, ◌≢◌, ℕ, List, [], ◌∷◌, map, Result, Ok, Err, IfOk, refl, sym, subst}
 use Rattle.tool_io.specs.Outside.{Shelf, Told}
 use Rattle.tool_words.specs.declared.Refused.{Refused}
 use Rattle.tool_words.specs.declared.Refused.TheVariants as refused
@@ -41,3 +41,7 @@ statuses_of words old new note note' status e = statuses_at words old new e.0 st
 
 pub promises_of : (words : List (List ℕ)) (old new : World) (note note' : Told) (status : ℕ) → EndsWith words old new note note' status → Promises words old new status
 promises_of words old new note note' status e = promises_at words old new e.0 status e.2 e.1
+
+-- what holds of the words holds where they were read
+pub at_ok : {W E : Type 0} (r : Result W E) (w : W) (P : W → Type 0) → r ≡ Ok w → P w → IfOk r P
+at_ok r w P e p = subst (λ x. IfOk x P) (sym e) p
