@@ -2,4 +2,4 @@ pub mod Outcomes
 pub mod Promised
 pub mod Statuses
 pub mod Touching
-pub mod Program
+pub mod OverWords

@@ -5,4 +5,4 @@ pub mod Tasks
 pub mod Outcomes
 pub mod Statuses
 pub mod Promised
-pub mod Program
+pub mod OverWords

@@ -1,6 +1,6 @@
 -- What the program does: the words, what the files and the sink tell before and after, and the status
 -- (docs/theorems.md, "The program").
-use Rattle.std.specs.Prelude.{◌≡◌, ◌≢◌, ◌≤◌, ◌<◌, ◌⊎◌, ℕ, List, [], ◌∷◌, length, slice_get, Option, Some, None, Result, Ok, Err, MatchResult}
+use Rattle.std.specs.Prelude.{◌≡◌, ◌≢◌, ◌⊎◌, ℕ, List, [], ◌∷◌, slice_get, Option, Some, None, Result, Ok, Err, MatchResult}
 use Rattle.elf_loader.specs.Image.{ImageText}
 use Rattle.machine_desc.specs.Description.{description_of}
 use Rattle.machine_desc.specs.declared.Desc.{Desc}

@@ -1,7 +1,7 @@
 -- The words are lent, or there was no memory to lend them.
 use Rattle.std.proofs.Common.{map, string_bytes, ap, ◌∙◌, refl}
 use Rattle.run_inputs.specs.Told.{world}
-use Rattle.secrets_top.proofs.Program.{same_end, wants_memory}
+use Rattle.secrets_top.proofs.OverWords.{same_end, wants_memory}
 use Rattle.secrets_top.proofs.program.over_words.Goals as goal
 
 pub returns-in-Ok-clause-ends : goal.returns-in-Ok-clause-ends
