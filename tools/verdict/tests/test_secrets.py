@@ -313,10 +313,10 @@ class Program(unittest.TestCase):
                            support.example("large_passing.toml"))
             found = re.findall(r"(?m)^\| `(\w+)` \| build \| secret, 1 byte \| \*\*(\w+)\*\*, ", told.stdout)
             self.assertEqual(sorted(found), sorted((name, names[what]) for name, what in listed))
-            self.assertEqual(len(found), 9)
+            self.assertEqual(len(found), 8)
             drawn = command("draw", f"{folder}/table", "--draws", "5").stdout.splitlines()
             self.assertEqual([line for line in drawn if not line.endswith("unequal: what shows may be conservative")], [])
-            self.assertEqual(len(drawn), 9)
+            self.assertEqual(len(drawn), 8)
 
     @material.needs_program
     def test_two_images(self):
