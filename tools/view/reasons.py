@@ -29,7 +29,6 @@ DEFENCE = frozenset((*HELD, HELD_BACK))
 # what each part of a store waits for: its operand, and its port
 PART_REASONS = dict(zip(PARTS, ((BASE, ADDRESS_PORT), (DATA, DATA_PORT))))
 PORT_OF = {LOAD: "load", STORE: "store", MULTIPLICATION: "multiplier", DIVISION: "divider"}
-ARITHMETIC_PORT = "arithmetic"
 
 
 class Reasons:
@@ -45,7 +44,7 @@ class Reasons:
         self.futuristic, self.results_held = self.description.model == FUTURISTIC, self.description.defence == HOLD
         self.version, self.width = self.description.version, self.description.retire_width
         self.mshrs, self.misaligned, self.port_of = self.description.mshrs, self.description.misaligned, PORT_OF
-        self.free_ports = {**dict.fromkeys((*PORT_OF.values(), *PARTS), 1), ARITHMETIC_PORT: self.description.alus}
+        self.free_ports = {**dict.fromkeys((*PORT_OF.values(), *PARTS), 1), "arithmetic": self.description.alus}
 
     @property
     def holds(self):
@@ -214,7 +213,7 @@ class Reasons:
 
     def keep(self, item, goes, reason, cause):
         """Takes the port of an entry that is tried, and keeps the reason of one that waits."""
-        port = self.port_of.get(item.kind, ARITHMETIC_PORT)
+        port = self.port_of.get(item.kind, "arithmetic")
         if reason is None or reason == MISS_REGISTER or reason == TWO_REGISTERS:
             self.ports[port] -= 1
         if goes and reason is not None:
@@ -233,7 +232,7 @@ class Reasons:
         if held is not None:
             return HELD_BACK, held
         if kind != LOAD and kind != DIVISION:
-            return (None, None) if self.ports[self.port_of.get(kind, ARITHMETIC_PORT)] else (PORT, None)
+            return (None, None) if self.ports[self.port_of.get(kind, "arithmetic")] else (PORT, None)
         root = item.youngest_root
         if root is not None and self.pipeline.is_hidden(root):
             return TAINT, root
@@ -243,7 +242,7 @@ class Reasons:
                 return reason, store
         if kind == DIVISION and self.pipeline.cycle < self.pipeline.divider.free_from:
             return DIVIDER, self.pipeline.divider.user
-        if not self.ports[self.port_of.get(kind, ARITHMETIC_PORT)]:
+        if not self.ports[self.port_of.get(kind, "arithmetic")]:
             return PORT, None
         return self.tried(item, goes) if kind == LOAD else (None, None)
 
