@@ -284,7 +284,7 @@ class Pipeline:
             gone.squashed = self.cycle
             if gone.open is not None:
                 gone.wake(self.cycle)
-            if gone.serial != UNNAMED:
+            if gone.renamed is not None:
                 self.waiting.pop(gone.serial, None)
                 self.leave(gone)
         for entries in (self.awake, self.open_stores, self.shadows, self.controls, self.outcomes, self.clearable):
