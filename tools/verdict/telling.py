@@ -62,7 +62,7 @@ class Telling(Replay):
     def step(self, row):
         """One cycle. Behind a cycle without events another one changes nothing, and holds what that one held (docs/machine.md, "Cycles in
         which nothing happens")."""
-        if self.was_empty and not row.events and not row.ends and not self.thorough:
+        if self.was_empty and row.empty and not row.ends and not self.thorough:
             self.pipeline.cycle = row.cycle
             for held in self.held_now:
                 held.cycles += 1
@@ -71,7 +71,7 @@ class Telling(Replay):
         Replay.step(self, row)
         if not self.thorough:
             self.pipeline.awake.clear()
-        self.was_empty = not row.events
+        self.was_empty = row.empty
 
     def went(self, item):
         """Counts what became of an entry that was held, or loaded the differing bytes."""
@@ -86,13 +86,13 @@ class Telling(Replay):
 
     def marked(self, item):
         """For each source, whether its value comes from the differing bytes."""
-        return self.valued.values[item.serial].marked
+        return item.value.marked
 
     def hidden(self, item):
         """Whether a source is made of the differing bytes, and tainted."""
         if item.youngest_root is None or not self.pipeline.is_hidden(item.youngest_root):
             return False
-        value = self.valued.values[item.serial]
+        value = item.value
         for place in range(len(value.sources)):
             source = value.sources[place]
             if source.mark and self.pipeline.is_hidden(item.roots[place]):
@@ -102,7 +102,7 @@ class Telling(Replay):
     def hidden_source(self, item, place):
         if not self.pipeline.is_hidden(item.roots[place]):
             return False
-        value = self.valued.values[item.serial]
+        value = item.value
         source = value.sources[place]
         return source.mark
 
@@ -118,7 +118,7 @@ class Telling(Replay):
         hidden = [] if self.nothing_is_hidden else [item for item in self.pipeline.controls if self.hidden(item)]
         for words in events[:1]:
             item = self.pipeline.entry(words)
-            self.shows(item, self.valued.values[item.serial].is_marked)
+            self.shows(item, item.value.is_marked)
         squashed = Replay.resolve(self, events)
         for item in hidden:
             if item.done is not None and item.resolved is None and item.squashed is None:
@@ -154,7 +154,7 @@ class Telling(Replay):
             if item.kind == LOAD:
                 self.load(item, bool(lines_of(step)))
             elif item.kind == DIVISION:
-                self.shows(item, self.valued.values[item.serial].is_marked)
+                self.shows(item, item.value.is_marked)
         Replay.issue(self, events)
         if before is not None:
             self.after_issue(before)
@@ -214,7 +214,7 @@ class Telling(Replay):
         """Counts what would show the bytes, and waits for results that are held back, and for nothing else."""
         for item in self.pipeline.waiting.values():
             if item.kind in SHOWS and self.is_held_back(item) and not self.is_kept(item):
-                what = self.would_show(item, [self.valued.prospect(source) for source in self.valued.values[item.serial].sources])
+                what = self.would_show(item, [self.valued.prospect(source) for source in item.value.sources])
                 if what is not None:
                     self.holds(item, what)
 

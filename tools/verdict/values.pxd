@@ -16,8 +16,8 @@ cdef class Value(Retired):
 cdef class Valued(Pipeline):
     cdef public object memory
     cdef public list registers, marked_registers, kept, to_write, stores_in_flight
-    cdef public dict marked_bytes, values, operations
-    @cython.locals(item=Item, writer=Item, sources=list, values=dict, place=cython.Py_ssize_t, written=tuple)
+    cdef public dict marked_bytes, operations
+    @cython.locals(item=Item, writer=Item, sources=list, place=cython.Py_ssize_t, written=tuple)
     cpdef Item rename(self, serial, long long pc)
     @cython.locals(value=Value, base=Retired)
     cpdef Value located(self, Item item)
@@ -26,6 +26,8 @@ cdef class Valued(Pipeline):
     cpdef compare(self, Item item, list step)
     @cython.locals(source=Retired)
     cpdef execute(self, Value value)
+    cpdef shares(self, Item load, Item store)
+    cpdef bint may_take_two(self, Item load) except? -1
     cpdef bint faults(self, Item item) except? -1
     @cython.locals(value=Value)
     cpdef resolve(self, Item item, outcome)

@@ -64,7 +64,7 @@ def text(events):
 
 
 class Valued(Pipeline):
-    """A pipeline whose entries have values, by serial. `marks` are the addresses of the bytes that are followed; they move with what is
+    """A pipeline whose entries have values, each its own. `marks` are the addresses of the bytes that are followed; they move with what is
     computed from them, through registers and memory. What is merely chosen by them, as by a branch, isn't marked. `registers`, `memory`
     and their marks are the retired ones, `kept` the registers' values with theirs. A compiled class calls its base's methods by their name."""
 
@@ -74,7 +74,7 @@ class Valued(Pipeline):
         self.registers[2] = image.base + len(image.memory) - 16 & WORD
         self.marked_bytes, self.marked_registers = dict.fromkeys(marks, True), [False] * 32
         self.kept = [Retired(value, False) for value in self.registers]
-        self.values, self.operations, self.to_write = {}, {}, []
+        self.operations, self.to_write = {}, []
         self.stores_in_flight = []
 
     # ---- Rename
@@ -84,18 +84,18 @@ class Valued(Pipeline):
         operation = self.operations.get(pc)
         if operation is None:
             operation = self.operations[pc] = decode(self.image.words.get(pc))
-        sources, values, written = [], self.values, item.sources
+        sources, written = [], item.sources
         for place in range(len(written)):
             writer = written[place]
-            sources.append(self.kept[item.registers[place]] if writer is None else values[writer.serial])
-        values[serial] = Value(operation, pc, sources)
+            sources.append(self.kept[item.registers[place]] if writer is None else writer.value)
+        item.value = Value(operation, pc, sources)
         if item.kind == STORE:
             self.stores_in_flight.append(item)
         return item
 
     def located(self, item):
         """The value of a load or store, with its address as soon as its base is known."""
-        value = self.values[item.serial]
+        value = item.value
         base = value.sources[0]
         if value.address is None and base.result is not None:
             value.address = base.result + value.operation.imm & WORD
@@ -106,7 +106,7 @@ class Valued(Pipeline):
     # ---- Issue executes
 
     def issue(self, item, step):
-        value, kind = self.values[item.serial], item.kind
+        value, kind = item.value, item.kind
         if kind == LOAD or kind == DIVISION or len(step) > 1 or len(step[0]) > 2:
             self.compare(item, step)
         if kind == LOAD:
@@ -156,7 +156,7 @@ class Valued(Pipeline):
         found, first, behind = [], addresses.start, addresses.stop
         for store in reversed(self.stores_in_flight):
             if store.serial < load.serial and store.parts.get(ADDRESS_PART, self.cycle) < self.cycle:
-                value = self.values[store.serial]
+                value = store.value
                 if value.bytes and value.bytes.start < behind and first < value.bytes.stop:
                     found.append(value)
         return found
@@ -167,14 +167,14 @@ class Valued(Pipeline):
 
     def would_load_marked(self, load, base):
         """Whether a load would load a marked byte, were this its base."""
-        value = self.values[load.serial]
+        value = load.value
         address = value.effect(base).address
         inside = self.memory.fault(LOAD, address, value.size) is None
         return inside and self.found(load, range(address, address + value.size))[1]
 
     def told_by_issue(self, item, step):
         """What the events of its issue tell behind the serial: how a load finds a line is for others to say."""
-        value = self.values[item.serial]
+        value = item.value
         if item.code.kind == DIVISION:
             return [[division_time(value.operation.name, value.sources[0].result or 0)]]
         if item.code.kind != LOAD:
@@ -202,11 +202,11 @@ class Valued(Pipeline):
     def may_take_two(self, load):
         """Whether both of its lines lack in the cache and aren't on their way."""
         lines = self.lines_of(self.located(load))
-        return len(lines) == 2 and not any(self.cache.has(line) or line in self.misses for line in lines)
+        return len(lines) == 2 and not any([self.cache.has(line) or line in self.misses for line in lines])
 
     def faults(self, item):
         """A store that faults isn't safe, which the trace alone doesn't tell."""
-        return Pipeline.faults(self, item) or item.kind == STORE and self.values[item.serial].fault is not None
+        return Pipeline.faults(self, item) or item.kind == STORE and item.value.fault is not None
 
     def prospect(self, value):
         """What a value that isn't there yet will be, and its mark, where no load has to be waited for; else none."""
@@ -220,7 +220,7 @@ class Valued(Pipeline):
     # ---- Resolve and Retire
 
     def resolve(self, item, outcome):
-        value = self.values[item.serial]
+        value = item.value
         computed = "J" if item.kind == JALR else "T" if value.taken else "N"
         if computed != outcome:
             self.differs(item, f"is resolved as {outcome}", computed)
@@ -228,12 +228,12 @@ class Valued(Pipeline):
 
     def leave(self, item):
         Pipeline.leave(self, item)
-        del self.values[item.serial]
+        item.value = None
         if item.kind == STORE:
             self.stores_in_flight.remove(item)
 
     def retire(self, item):
-        value = self.values[item.serial]
+        value = item.value
         Pipeline.retire(self, item)
         if item.destination:
             self.keep(item.destination, value.result or 0, value.mark)
@@ -246,6 +246,8 @@ class Valued(Pipeline):
             source = value.sources[1]
             self.memory.put(value.address, stored_bytes(value.stored, value.size))
             self.mark_bytes(value.bytes, source.mark)
+        # younger values name this one: without its own sources the values of a long run aren't kept
+        value.sources = []
 
     def keep(self, register, result, mark):
         """A register is written: its retired value, and whether that comes from a marked byte."""

@@ -14,7 +14,7 @@ class Checks:
 
     def __init__(self, pipeline, tell):
         self.pipeline, self.tell = pipeline, tell
-        self.due = {}
+        self.due, self.event_of = {}, EVENT_OF
 
     def fill(self, lines):
         """A line comes in the cycle that its miss was told, and only then."""
@@ -102,8 +102,9 @@ class Checks:
         if answer == "x" and item.sharers:
             self.tell(f"load {item.serial} faults, but waited for a store's data, and a load that faults has no bytes")
         if answer == "f":
-            hidden = next((store for store in self.older_stores(item) if pipeline.is_hidden(store.roots[0])), None)
-            if hidden or not any(self.older_stores(item)):
+            stores = self.older_stores(item)
+            hidden = self.first_hidden(stores)
+            if hidden or not stores:
                 self.tell(f"load {item.serial} is forwarded, but " + (f"store {hidden.serial} has a tainted address" if hidden
                                                                         else "no older store is in flight"))
         cycle, needed = item.lacking
@@ -119,6 +120,13 @@ class Checks:
         self.lines(item, lines)
         self.prefetch(item, step, taken)
 
+    def first_hidden(self, stores):
+        """The first of these stores whose address is tainted, or none."""
+        for store in stores:
+            if self.pipeline.is_hidden(store.roots[0]):
+                return store
+        return None
+
     def found(self, line):
         """How a load finds a line."""
         if self.pipeline.cache.has(line):
@@ -128,16 +136,18 @@ class Checks:
     def lines(self, item, lines):
         """An access has one line; where it may have any address it may have two, the lower first."""
         size = self.pipeline.description.line
-        behind = [line for line, _ in lines[1:]] == [line + size for line, _ in lines[:-1]]
-        if len(lines) > 1 + self.pipeline.description.misaligned or not behind or any(line % size for line, _ in lines):
-            self.tell(f"{item.code.kind} {item.serial} accesses the lines {names(line for line, _ in lines)}")
+        right = len(lines) <= 1 + self.pipeline.description.misaligned
+        for place in range(len(lines)):
+            line = lines[place][0]
+            right = right and line % size == 0 and (place == 0 or line == lines[place - 1][0] + size)
+        if not right:
+            self.tell(f"{item.code.kind} {item.serial} accesses the lines {names([line for line, _ in lines])}")
 
     def prefetch(self, item, step, taken):
         """The line behind a load's is prefetched where the load takes a register, the line begins in memory, it is neither in the cache
         nor on its way, and a register is left."""
         pipeline, description = self.pipeline, self.pipeline.description
-        told = [words for words in step if words[0] == PREFETCH]
-        expected = []
+        told, expected = step[-1:] if step[-1][0] == PREFETCH else [], []
         if description.prefetch and taken:
             line = lines_of(step)[-1][0] + description.line
             found, left = self.found(line), description.mshrs - len(pipeline.misses) - len(taken)
@@ -148,7 +158,7 @@ class Checks:
             self.tell(f"load {item.serial} prefetches {texts[0]}, where {texts[1]} is right")
 
     def older_stores(self, item):
-        return [store for store in self.pipeline.window if store.code.kind == STORE and store.serial < item.serial]
+        return [store for store in self.pipeline.window if store.kind == STORE and store.serial < item.serial]
 
     def write(self, item, line, answer):
         """A store's line is in the cache or not."""
@@ -157,7 +167,7 @@ class Checks:
 
     def unit(self, item, name):
         """The event of an entry's issue is that of its kind. The data part of a store has one in version 2 alone."""
-        right = EVENT_OF.get(item.kind, "alu")
+        right = self.event_of.get(item.kind, "alu")
         if name != right and (name, item.code.kind, self.pipeline.description.version) != (DATA_PART, STORE, 2):
             self.tell(f"entry {item.serial}: `{name}` for a {item.code.kind}")
 

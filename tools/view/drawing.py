@@ -113,7 +113,7 @@ class Panel:
         for row, (item, label) in enumerate(zip(self.items, self.labels)):
             struck, y = ' class="struck"' if item.squashed is not None else "", self.y(row) + 11
             lines.append(f'<g class="label" data-row="{row}">' if self.named_rows else "")
-            if item.serial is not None:
+            if item.serial >= 0:
                 lines.append(f'<text class="serial" x="{MARGIN + SERIAL - 6}" y="{y}">{item.serial}</text>')
             lines.append(f'<text{struck} x="{MARGIN + SERIAL}" y="{y}">{escape(label)}</text>' + "</g>" * self.named_rows)
         lines.append(f'<text class="faint" x="{MARGIN}" y="{self.y(len(self.items)) + 14}">lines that come to the cache</text>')
@@ -165,7 +165,7 @@ class Panel:
 
     def row_named(self, row, item):
         """The beginning of a row that a page finds: by its place, its address, its serial, and the cycles in which it is there."""
-        serial = "" if item.serial is None else item.serial
+        serial = "" if item.serial < 0 else item.serial
         return (f'<g data-row="{row}" data-n="{escape(self.disassembler.image.symbol(item.pc))}" data-a="{item.pc:08x}" data-s="{serial}" '
                 f'data-from="{item.fetched}" data-to="{self.last if item.gone is None else item.gone}">')
 

@@ -19,7 +19,7 @@ from .trace import Trace, lines_of_file, open_trace
 
 EVERY = 4000
 # which values a state has: another number where they change, so that an index of before isn't used
-FORM = 3
+FORM = 4
 HEAD = "head.json"
 CLASSES = {
     "collections": {"Counter", "OrderedDict"}, "view.pipeline": {"Pipeline", "Item", "Wait"},

@@ -8,7 +8,7 @@ from typing import NamedTuple
 
 ARITHMETIC, MULTIPLICATION, DIVISION = "arithmetic", "multiplication", "division"
 LOAD, STORE, BRANCH, JALR, JAL, CALL, STOP = "load", "store", "branch", "jalr", "jal", "call", "stop"
-CONTROLS, AT_ONCE = (BRANCH, JALR), (CALL, STOP)
+CONTROLS, AT_ONCE = frozenset((BRANCH, JALR)), frozenset((CALL, STOP))
 LINK = 1
 
 

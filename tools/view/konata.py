@@ -68,7 +68,7 @@ class Log:
     def add(self, item, behind, disassembler):
         """All lines of one instruction; one that is still in flight ends in the cycle `behind` the last."""
         number = self.numbers[item.number] = len(self.numbers)
-        self.put(item.fetched, "I", number, item.number if item.serial is None else item.serial, 0)
+        self.put(item.fetched, "I", number, item.number if item.serial < 0 else item.serial, 0)
         self.put(item.fetched, "L", number, 0, disassembler.place(item.pc))
         self.put(item.fetched, "L", number, 1, tip(item, disassembler).replace("\n", "\\n"))
         for first, end, name in stages(item, behind):

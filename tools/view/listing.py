@@ -21,7 +21,7 @@ def lines_of(replay, disassembler, first, last, function=None):
 
 def line_of(item, disassembler):
     times = "".join(f"{shown(getattr(item, name)):>9}" for name in TIMES)
-    return f"{shown(item.serial):>8}{times}  " + "; ".join([disassembler.place(item.pc), *notes(item)])
+    return f"{item.serial if item.serial >= 0 else '-':>8}{times}  " + "; ".join([disassembler.place(item.pc), *notes(item)])
 
 
 def shown(number):
@@ -57,10 +57,10 @@ def notes(item):
 def tip(item, disassembler):
     """The same as a text of a few lines, for a picture."""
     times = [f"{name} {getattr(item, name)}" for name in TIMES if getattr(item, name) is not None]
-    serial = "" if item.serial is None else f"{item.serial} "
+    serial = "" if item.serial < 0 else f"{item.serial} "
     waits = [f"{cycles(wait)} waits: {wait.reason}{of(wait)}" for wait in item.waits]
     return "\n".join([serial + disassembler.place(item.pc), ", ".join(times), *notes(item), *waits])
 
 
 def of(wait):
-    return "" if wait.serial is None else f" of {wait.serial}"
+    return "" if wait.serial < 0 else f" of {wait.serial}"

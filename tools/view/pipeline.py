@@ -12,25 +12,28 @@ from .memory_side import Cache, Divider, Miss
 from .rows import text_of
 
 NEVER = 1 << 62
+# the serial of an item that isn't renamed
+UNNAMED = -1
 BY_AGE = attrgetter("serial")
 PREFETCH = "pf"
 # the parts of a store, by the names of their events
 PARTS = ADDRESS_PART, DATA_PART = "agu", "std"
-SHADOWING = (*CONTROLS, *AT_ONCE, LOAD, STORE)
+SHADOWING = CONTROLS | AT_ONCE | {LOAD, STORE}
 NO_ROOTS = (), (None,), (None, None)
 NO_PARTS, NEVER_LACKING = {}, (None, 0)
 
 
 class Wait:
-    """Cycles in a row in which an instruction waited for one reason: that, and the entry or line it waited for. `last` is NEVER as long as
-    it lasts until a writer is Done: its end is set then."""
+    """Cycles in a row in which an instruction waited for one reason: that, and serial and address of the entry that it waited for, UNNAMED
+    where it is none. `last` is NEVER as long as it lasts until a writer is Done: its end is set then."""
 
     __slots__ = ("first", "last", "reason", "serial", "pc")
 
     def __init__(self, cycle, reason, cause):
         self.first = self.last = cycle
-        self.reason = reason
-        self.serial, self.pc = (cause.serial, cause.pc) if cause is not None else (None, None)
+        self.reason, self.serial, self.pc = reason, UNNAMED, 0
+        if cause is not None:
+            self.serial, self.pc = cause.serial, cause.pc
 
 
 class Item:
@@ -46,23 +49,28 @@ class Item:
     `lacking` is the last cycle in which it surely lacked miss registers, and how many of its lines then needed one; `passed` says
     whether an older store's address wasn't known as it issued, and `violated` whether it is dropped for that. `cleared` is when a store
     is cleared, where loads pass stores. `fill` is why it was renamed no earlier, `late` what the defence took of its time, and `since`
-    what had been charged to the defence when it was first held (`slots`).
+    what had been charged to the defence when it was first held (`slots`). `told` are the names of the events by which it issues in this
+    cycle, and `value` is what another tool keeps of it (`verdict.values`). `serial` is UNNAMED until it is renamed.
     """
 
     __slots__ = ("number", "pc", "code", "kind", "serial", "fetched", "renamed", "ready", "issued", "unit", "due", "done", "resolved", "outcome",
                  "mispredicted", "retired", "squashed", "trapped", "lines", "written", "output", "sources", "awaits", "consumers", "roots",
                  "root", "youngest_root", "waits", "producers", "parts", "sharers", "lacking", "cleared", "passed", "violated", "open",
-                 "fill", "late", "since", "registers", "destination")
+                 "fill", "late", "since", "registers", "destination", "told", "value")
 
-    def __init__(self, number, pc, code, cycle):
-        self.number, self.pc, self.code, self.fetched = number, pc, code, cycle
-        self.kind, self.registers, self.destination = code
-        self.serial = self.renamed = self.ready = self.issued = self.unit = self.due = self.done = self.resolved = self.outcome = None
+    def __init__(self):
+        self.serial = UNNAMED
+        self.renamed = self.ready = self.issued = self.unit = self.due = self.done = self.resolved = self.outcome = None
         self.retired = self.squashed = self.trapped = self.output = self.cleared = None
-        self.root = self.youngest_root = self.open = self.fill = self.late = self.since = None
+        self.root = self.youngest_root = self.open = self.fill = self.late = self.since = self.value = None
         self.mispredicted = self.passed = self.violated = False
         self.lines = self.written = self.sources = self.roots = self.producers = self.sharers = self.consumers = self.waits = ()
-        self.awaits, self.parts, self.lacking = 0, NO_PARTS, NEVER_LACKING
+        self.awaits, self.parts, self.lacking, self.told = 0, NO_PARTS, NEVER_LACKING, ()
+
+    def fetch(self, number, pc, code, cycle):
+        """It is fetched."""
+        self.number, self.pc, self.code, self.fetched = number, pc, code, cycle
+        self.kind, self.registers, self.destination = code
 
     @property
     def gone(self):
@@ -75,7 +83,7 @@ class Item:
             self.waits = [Wait(cycle, reason, cause)]
             return
         last = self.waits[-1]
-        if last.last == cycle - 1 and last.reason == reason and last.serial == (None if cause is None else cause.serial):
+        if last.last == cycle - 1 and last.reason == reason and last.serial == (UNNAMED if cause is None else cause.serial):
             last.last = cycle
         else:
             self.waits.append(Wait(cycle, reason, cause))
@@ -89,7 +97,8 @@ class Item:
         """In this cycle it no longer waits as before; it didn't at all where it has only just been renamed."""
         self.open.last = cycle - 1
         self.open = None
-        if self.waits[-1].last < self.waits[-1].first:
+        last = self.waits[-1]
+        if last.last < last.first:
             self.waits.pop()
 
     def forget(self):
@@ -112,6 +121,17 @@ def enter(entries, item):
             break
         place -= 1
     entries.insert(place, item)
+
+
+def pop_from(entries, serial):
+    """Takes the entries from this serial on out of a list by age, and answers them, the youngest first."""
+    popped = []
+    while entries:
+        last = entries[-1]
+        if last.serial < serial:
+            break
+        popped.append(entries.pop())
+    return popped
 
 
 LOAD_UNITS = {"h": "hit", "m": "miss", "j": "join", "2": "second", "f": "forward", "x": "fault"}
@@ -208,7 +228,8 @@ class Pipeline:
 
     def leave_shadows(self, item):
         """A load or store that is safe hides nothing; under `spectre` a store hides nothing once it is cleared."""
-        if item.kind != STORE and (item.kind != LOAD or not self.futuristic):
+        kind = item.kind
+        if kind != STORE and (kind != LOAD or not self.futuristic):
             return
         if item not in self.shadows or item.kind == STORE and not self.is_cleared(item):
             return
@@ -258,18 +279,16 @@ class Pipeline:
         """Drops the entries from this serial on, and the queue."""
         dropped = list(self.queue)
         self.queue.clear()
-        while self.window and self.window[-1].serial >= serial:
-            dropped.append(self.window.pop())
+        dropped += pop_from(self.window, serial)
         for gone in dropped:
             gone.squashed = self.cycle
             if gone.open is not None:
                 gone.wake(self.cycle)
-            if gone.serial is not None:
+            if gone.renamed is not None:
                 self.waiting.pop(gone.serial, None)
                 self.leave(gone)
         for entries in (self.awake, self.open_stores, self.shadows, self.controls, self.outcomes, self.clearable):
-            while entries and entries[-1].serial >= serial:
-                entries.pop()
+            pop_from(entries, serial)
         self.divider.drop_from(serial)
         self.find_writers({gone.destination for gone in dropped if self.writers[gone.destination] is gone})
         return len(dropped)
@@ -339,7 +358,10 @@ class Pipeline:
 
     def passes_a_store(self, load):
         """Whether the address of an older store isn't known."""
-        return any(store.parts.get(ADDRESS_PART, self.cycle) == self.cycle for store in self.open_stores if store.serial < load.serial)
+        for store in self.open_stores:
+            if store.serial < load.serial and store.parts.get(ADDRESS_PART, self.cycle) == self.cycle:
+                return True
+        return False
 
     def issue_parts(self, item, name):
         """A part of a store issues, in version 1 both with one event. It executes from the later one on."""
@@ -350,8 +372,8 @@ class Pipeline:
             del self.waiting[item.serial]
             item.issued, item.unit, item.due = self.cycle, ADDRESS_PART, self.cycle + 1
 
-    @staticmethod
-    def lacks_address(store):
+    def lacks_address(self, store):
+        """Whether the address of a store isn't known."""
         return ADDRESS_PART not in store.parts
 
     def shares(self, load, store):
@@ -380,7 +402,8 @@ class Pipeline:
             self.cache.touch(line)
             return self.cycle + self.hit_latency
         if answer == "j":
-            return self.misses[line].due if line in self.misses else self.cycle + 1
+            miss = self.misses.get(line)
+            return self.cycle + 1 if miss is None else miss.due
         return self.take(line, answer)
 
     def take(self, line, answer):
@@ -411,13 +434,18 @@ class Pipeline:
     def find_sources(self, item):
         """The writers of its sources, the roots of these, and how many aren't Done."""
         writers = self.writers
-        item.sources = sources = tuple([writers[register] for register in item.registers])
-        item.roots = NO_ROOTS[len(sources)]
-        if sources and (sources[0] is not None or sources[-1] is not None):
-            item.roots = tuple([None if writer is None else writer.root for writer in sources])
-            for writer in sources:
-                if writer is not None:
-                    add_source(item, writer)
+        number = len(item.registers)
+        one = writers[item.registers[0]] if number else None
+        two = writers[item.registers[1]] if number > 1 else None
+        item.sources = () if not number else (one,) if number == 1 else (one, two)
+        item.roots = NO_ROOTS[number]
+        if one is not None or two is not None:
+            root = None if one is None else one.root
+            item.roots = (root,) if number == 1 else (root, None if two is None else two.root)
+        if one is not None:
+            add_source(item, one)
+        if two is not None:
+            add_source(item, two)
         item.root = item if item.kind == LOAD else item.youngest_root
         if not item.awaits and item.kind not in AT_ONCE:
             item.ready = self.cycle + 1
@@ -447,7 +475,8 @@ class Pipeline:
         code = self.codes.get(pc)
         if code is None:
             code = self.codes[pc] = self.image.instruction(pc)
-        item = Item(self.count, pc, code, self.cycle)
+        item = Item()
+        item.fetch(self.count, pc, code, self.cycle)
         self.count += 1
         self.queue.append(item)
         self.flight.append(item)

@@ -6,11 +6,11 @@ from view.pipeline cimport Item, Pipeline
 cdef class Reasons:
     cdef public Pipeline pipeline
     cdef public object description, idle, last_idle
-    cdef public list unexplained
+    cdef public list unexplained, issued
     cdef public set presumed
     cdef public Item head
-    cdef public dict ports, issued, free_ports
-    cdef public bint futuristic, results_held
+    cdef public dict ports, free_ports, port_of
+    cdef public bint futuristic, results_held, misaligned
     cdef public long long version, width, mshrs
     cpdef wait(self, Item item, reason, Item cause)
     @cython.locals(item=Item, root=Item)
@@ -20,7 +20,7 @@ cdef class Reasons:
     @cython.locals(store=Item, root=Item, hidden=cython.bint)
     cpdef clear(self, cleared)
     @cython.locals(pipeline=Pipeline, cycle=cython.longlong, awake=list, item=Item, stays=cython.bint)
-    cpdef issue(self, dict issued)
+    cpdef issue(self, list issued)
     @cython.locals(cause=Item)
     cpdef renamed(self, Item item)
     cpdef rouse(self, Item item)
@@ -33,12 +33,14 @@ cdef class Reasons:
     cpdef bint issue_parts(self, Item item, told) except? -1
     cpdef to_issue_part(self, Item item, str part, Item writer, bint goes)
     cpdef bint may_be_held_back(self, Item writer, bint goes) except? -1
+    @cython.locals(port=str)
     cpdef keep(self, Item item, bint goes, reason, Item cause)
     @cython.locals(kind=str, held=Item, root=Item)
     cpdef tuple to_issue(self, Item item, bint goes)
     @cython.locals(stores=list, store=Item, cause=Item, waits=cython.bint)
     cpdef tuple behind_stores(self, Item load, bint taint=*)
     cpdef shares(self, Item load, Item store)
+    cpdef check_sharers(self, Item load, list stores)
     @cython.locals(stores=list, store=Item, found=list)
     cpdef list older_open_stores(self, Item load)
     @cython.locals(stores=list)

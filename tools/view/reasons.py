@@ -24,7 +24,7 @@ HELD_BACK = "load held back"
 TAINTED_OUTCOME, ONE_A_CYCLE = "taint, to be resolved", "one resolved a cycle"
 TAINTED_CLEARING, ONE_CLEARED = "taint, to be cleared", "one cleared a cycle"
 HELD = (TAINT, STORE_TAINT, TAINTED_OUTCOME, TAINTED_CLEARING)
-DEFENCE = (*HELD, HELD_BACK)
+DEFENCE = frozenset((*HELD, HELD_BACK))
 
 # what each part of a store waits for: its operand, and its port
 PART_REASONS = dict(zip(PARTS, ((BASE, ADDRESS_PORT), (DATA, DATA_PORT))))
@@ -40,11 +40,11 @@ class Reasons:
     def __init__(self, pipeline):
         self.pipeline, self.description = pipeline, pipeline.description
         self.unexplained, self.idle, self.last_idle = [], Counter(), None
-        self.presumed, self.head, self.ports, self.issued = set(), None, {}, {}
+        self.presumed, self.head, self.ports, self.issued = set(), None, {}, []
         self.futuristic, self.results_held = self.description.model == FUTURISTIC, self.description.defence == HOLD
         self.version, self.width = self.description.version, self.description.retire_width
-        self.mshrs = self.description.mshrs
-        self.free_ports = {"load": 1, "store": 1, "multiplier": 1, "divider": 1, "arithmetic": self.description.alus, **dict.fromkeys(PARTS, 1)}
+        self.mshrs, self.misaligned, self.port_of = self.description.mshrs, self.description.misaligned, PORT_OF
+        self.free_ports = {**dict.fromkeys((*PORT_OF.values(), *PARTS), 1), "arithmetic": self.description.alus}
 
     @property
     def holds(self):
@@ -105,8 +105,7 @@ class Reasons:
     # ---- Issue
 
     def issue(self, issued):
-        """Each entry that may issue does, oldest first, as long as its port is left. `issued` has the names of the events of each
-        serial."""
+        """Each entry that may issue does, oldest first, as long as its port is left. `issued` are those that do."""
         pipeline, cycle = self.pipeline, self.pipeline.cycle
         if not pipeline.awake:
             return
@@ -114,13 +113,13 @@ class Reasons:
         self.ports = dict(self.free_ports)
         awake, pipeline.awake = pipeline.awake, []
         for item in awake:
-            told = issued.get(item.serial, ())
             if item.kind == STORE and self.version != 1:
-                stays = self.issue_parts(item, told)
+                stays = self.issue_parts(item, item.told)
             else:
-                stays = self.issue_whole(item, bool(told), cycle)
+                stays = self.issue_whole(item, bool(item.told), cycle)
             if stays:
                 pipeline.awake.append(item)
+        self.issued = []
 
     def renamed(self, item):
         """What waits for writers alone from its first cycle on isn't looked at before one of them is Done."""
@@ -214,8 +213,8 @@ class Reasons:
 
     def keep(self, item, goes, reason, cause):
         """Takes the port of an entry that is tried, and keeps the reason of one that waits."""
-        port = PORT_OF.get(item.kind, "arithmetic")
-        if reason in (None, MISS_REGISTER, TWO_REGISTERS):
+        port = self.port_of.get(item.kind, "arithmetic")
+        if reason is None or reason == MISS_REGISTER or reason == TWO_REGISTERS:
             self.ports[port] -= 1
         if goes and reason is not None:
             self.tell(f"entry {item.serial} issues, but has to wait: {reason}")
@@ -232,8 +231,8 @@ class Reasons:
         held = self.held_back(item) if self.results_held else None
         if held is not None:
             return HELD_BACK, held
-        if kind not in (LOAD, DIVISION):
-            return (None, None) if self.ports[PORT_OF.get(kind, "arithmetic")] else (PORT, None)
+        if kind != LOAD and kind != DIVISION:
+            return (None, None) if self.ports[self.port_of.get(kind, "arithmetic")] else (PORT, None)
         root = item.youngest_root
         if root is not None and self.pipeline.is_hidden(root):
             return TAINT, root
@@ -243,7 +242,7 @@ class Reasons:
                 return reason, store
         if kind == DIVISION and self.pipeline.cycle < self.pipeline.divider.free_from:
             return DIVIDER, self.pipeline.divider.user
-        if not self.ports[PORT_OF.get(kind, "arithmetic")]:
+        if not self.ports[self.port_of.get(kind, "arithmetic")]:
             return PORT, None
         return self.tried(item, goes) if kind == LOAD else (None, None)
 
@@ -306,7 +305,7 @@ class Reasons:
         Without any it needs one, and may need two; with one left a load needs two, and only where accesses may have any address.
         """
         left = self.mshrs - len(self.pipeline.misses)
-        return 1 if left <= 0 else 2 if left == 1 and self.description.misaligned and self.pipeline.may_take_two(load) else 0
+        return 1 if left <= 0 else 2 if left == 1 and self.misaligned and self.pipeline.may_take_two(load) else 0
 
     def may_share(self, load):
         """The older stores without data of which it isn't known whether they cover a byte of the load."""
@@ -317,7 +316,7 @@ class Reasons:
 
     def check_sharers(self, load, stores):
         """A load that waited for data doesn't go before one of the stores has it that can have kept it."""
-        if load.sharers and all(store in stores for store in load.sharers):
+        if load.sharers and all([store in stores for store in load.sharers]):
             self.tell(f"load {load.serial} issues, and no store has got the data that it waited for")
 
     # ---- stores that fault
@@ -421,8 +420,8 @@ def awaited(item):
 
 
 def a_younger_load_goes(load, issued):
-    """Whether the events of Issue, by serials, have one of a load behind this one."""
-    return any(load.serial < serial for serial, told in issued.items() if "ld" in told)
+    """Whether one of the entries that issue is a load behind this one."""
+    return any(load.serial < item.serial for item in issued if "ld" in item.told)
 
 
 def named(serial):

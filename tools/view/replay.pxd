@@ -42,7 +42,7 @@ cdef class Replay:
     cpdef after_retire(self, list retired, bint ends)
     @cython.locals(steps=list, items=list, item=Item, place=cython.Py_ssize_t)
     cpdef issue(self, list events)
-    @cython.locals(told=dict, step=list, item=Item, name=str, place=cython.Py_ssize_t)
+    @cython.locals(step=list, item=Item, name=str, place=cython.Py_ssize_t)
     cpdef check_issue(self, list steps, list items)
     cpdef close(self)
     @cython.locals(words=list, steps=list, last=list)

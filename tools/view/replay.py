@@ -1,6 +1,6 @@
 """A whole trace taken through the pipeline, the reasons and the checks."""
 from . import Fault
-from .checks import EVENT_OF, Checks
+from .checks import Checks
 from .front_end import FrontEnd
 from .instruction import CALL, DIVISION, STORE
 from .pipeline import PREFETCH, Pipeline
@@ -81,7 +81,7 @@ class Replay:
         pipeline, counted = self.pipeline, self.pipeline.counts
         pipeline.cycle, told = row.cycle, len(self.reasons.unexplained) + len(self.reasons.presumed)
         pipeline.counts = self.span[0] <= row.cycle and (self.span[1] is None or row.cycle <= self.span[1])
-        if self.quiet and not row.events and not row.ends and counted == pipeline.counts and self.nothing_due(row.cycle):
+        if self.quiet and row.empty and not row.ends and counted == pipeline.counts and self.nothing_due(row.cycle):
             self.repeat(row.cycle)
             return
         before = self.retired
@@ -93,7 +93,7 @@ class Replay:
             raise Fault(f"cycle {row.cycle}: `{' '.join(row.events)}` can't follow; is it the trace of this image and description?") from None
         if self.occupancy is not None and pipeline.counts:
             self.occupancy.add(pipeline, self.retired - before)
-        self.quiet = self.skips and not row.events and told == len(self.reasons.unexplained) + len(self.reasons.presumed)
+        self.quiet = self.skips and row.empty and told == len(self.reasons.unexplained) + len(self.reasons.presumed)
 
     def nothing_due(self, cycle):
         """No line and no result comes, and the divider isn't free from this cycle on: the phases find what they found in the cycle before
@@ -237,20 +237,18 @@ class Replay:
 
     def check_issue(self, steps, items):
         """Whether what issues may, before any of it does."""
-        told = {}
         for place in range(len(steps)):
             item, name = items[place], steps[place][0][0]
-            told[item.serial] = told[item.serial] + (name,) if item.serial in told else (name,)
+            item.told += (name,)
             if item.open is not None:
                 self.reasons.rouse(item)
-        self.reasons.issue(told)
+        self.reasons.issue(items)
         if len(steps) > 1:
             self.checks.order(steps)
         for place in range(len(steps)):
             item, step = items[place], steps[place]
-            name = step[0][0]
-            if EVENT_OF.get(item.kind, "alu") != name:
-                self.checks.unit(item, name)
+            name, item.told = step[0][0], ()
+            self.checks.unit(item, name)
             if name == "ld":
                 self.checks.access(item, step)
 

@@ -22,26 +22,40 @@ SHAPES = {name: (*shape, FOUND.get(name)) for name, shape in EVENTS.items()}
 NONE = (None, 0, TEXT, TEXT, None)
 
 
+# whether this module is compiled: then lines are read letter by letter, which is some times as fast; else by `split`
+COMPILED = not __file__.endswith(".py")
+# a number of more digits isn't read letter by letter
+MOST_DIGITS = 15
+
+
 def read_row(line, number):
     """The row of a line, which has to be the one of this cycle."""
-    events = line[:-1].split(" ")
-    if events[0] != str(number):
+    head = str(number)
+    if not line.startswith(head) or line[len(head):-1] and line[len(head)] != " ":
         raise Fault(f"line {number} is no line of cycle {number}: `{line.strip()[:60]}`")
-    del events[0]
-    return Row(number, events, False)
+    return Row(number, line, False)
 
 
 class Row:
-    """A cycle: its number, the texts of its events in their order, and whether the run ended in its Retire."""
+    """A cycle: its number, its line, whether that has no event, and whether the run ended in its Retire."""
 
-    __slots__ = ("cycle", "events", "ends")
+    __slots__ = ("cycle", "line", "empty", "ends")
 
-    def __init__(self, cycle, events, ends):
-        self.cycle, self.events, self.ends = cycle, events, ends
+    def __init__(self, cycle, line, ends):
+        self.cycle, self.line, self.empty, self.ends = cycle, line, " " not in line, ends
+
+    @property
+    def events(self):
+        """The texts of its events in their order."""
+        return self.line[:-1].split(" ")[1:]
 
     def phases(self):
         """The events of each phase, as lists of their names, numbers and letters: `["ld", 3, 0x0001fff0, "m"]`. What is dropped behind a
         violation is of Clear."""
+        return COMPILED and scan(self.line) or self.split()
+
+    def split(self):
+        """The events of each phase; what is no event of a trace is refused."""
         phases = [], [], [], [], [], [], [], []
         for text in self.events:
             words = text.split(":")
@@ -58,6 +72,71 @@ class Row:
                 words[2] = int(words[2], second)
             phases[phase].append(words)
         return phases
+
+
+def scan(line):
+    """The events of each phase, read letter by letter; None where one isn't just as a trace has it."""
+    if not line.isascii():
+        return None
+    phases, shapes, letters = ([], [], [], [], [], [], [], []), SHAPES, line.encode()
+    place, last = line.find(" "), len(letters) - 1
+    while 0 <= place < last:
+        behind = end_of_word(letters, place + 1, last)
+        name = line[place + 1:behind]
+        shape = shapes.get(name)
+        if behind == last or shape is None:
+            return None
+        words, phase, length = [name], shape[0], shape[1]
+        place = scan_words(line, letters, behind, last, words, shape)
+        if place < 0 or len(words) != length and not (name == "ld" and len(words) == 3 and words[2] in WITHOUT_LINE):
+            return None
+        if len(words) == length and shape[4] is not None and words[-1] not in shape[4]:
+            return None
+        if phases[CLEAR] and phase == RESOLVE and name == "sq":
+            phase = CLEAR
+        phases[phase].append(words)
+    return phases
+
+
+def scan_words(line, letters, place, last, words, shape):
+    """Reads what stands behind an event's name, from the first colon on; answers the place behind it, or -1 where a number isn't one."""
+    while place < last and letters[place] == ord(":"):
+        begin, number = place + 1, len(words)
+        place = end_of_word(letters, begin, last)
+        base = shape[2] if number == 1 else shape[3] if number == 2 else TEXT
+        # in the place of a line a letter alone is that of an access without one
+        alone = number == 2 and shape[4] is not None and place == begin + 1 and (place == last or letters[place] == ord(" "))
+        if base == 0 or alone:
+            words.append(line[begin:place])
+            continue
+        value = number_of(letters, begin, place, base)
+        if value < 0:
+            return -1
+        words.append(value)
+    return place
+
+
+def end_of_word(letters, place, last):
+    """Where the next blank or colon stands, or the line ends."""
+    while place < last and letters[place] != ord(":") and letters[place] != ord(" "):
+        place += 1
+    return place
+
+
+def number_of(letters, place, behind, base):
+    """The number that stands there; -1 where it has another letter, none or too many."""
+    if place == behind or behind - place > MOST_DIGITS:
+        return -1
+    number = 0
+    while place < behind:
+        digit = letters[place] - ord("0")
+        if digit > 9:
+            digit = digit - 39 if digit > 48 else 16
+        if not 0 <= digit < base:
+            return -1
+        number = number * base + digit
+        place += 1
+    return number
 
 
 def text_of(words):

@@ -33,6 +33,7 @@ cdef class Slots:
     @cython.locals(wait=Wait)
     cpdef reason_of(self, Item head, list retired)
     cpdef charge(self, reason)
+    cpdef executes(self, Item head)
     @cython.locals(late=Late, left=cython.longlong)
     cpdef late(self, Item head)
     @cython.locals(head=Item, cycle=cython.longlong, last=Wait)

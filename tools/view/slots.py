@@ -163,8 +163,8 @@ class Slots:
             self.pipeline.charged += self.left
         return WAIT_REASONS.get(reason, UNEXPLAINED)
 
-    @staticmethod
-    def executes(head):
+    def executes(self, head):
+        """What an entry does that has begun to execute."""
         return LOAD_REASONS.get(head.unit, HIT) if head.kind == LOAD else KIND_REASONS.get(head.kind, SIMPLE)
 
     def late(self, head):

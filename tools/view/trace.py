@@ -4,7 +4,7 @@ import os
 import re
 import sys
 import zlib
-from typing import NamedTuple
+from collections import namedtuple
 
 from . import Fault
 from .rows import read_row
@@ -12,13 +12,10 @@ from .rows import read_row
 END = re.compile(r"end (exit \d+|trap [0-7] [0-9a-f]{8}|budget) retired (\d+) cycles (\d+)")
 
 
-class End(NamedTuple):
+class End(namedtuple("End", "text how retired cycles")):
     """The last line: its text, how the run ended (`exit V`, `trap C P` or `budget`), and the two counts."""
 
-    text: str
-    how: str
-    retired: int
-    cycles: int
+    __slots__ = ()
 
 
 class Trace:

@@ -41,7 +41,7 @@ def held_by(wait):
 def wait_line(item, wait, disassembler):
     """The cycles, the instruction, the reason, and the entry that it waits for."""
     line = f"{cycles(wait):>13}  {item.serial} {disassembler.place(item.pc)}: {wait.reason}"
-    if wait.serial is None:
+    if wait.serial < 0:
         return line
     return f"{line} of {wait.serial} {disassembler.place(wait.pc)}"
 

@@ -73,7 +73,8 @@ class Marks(unittest.TestCase):
         pipeline, items = renamed([lbu(6, 8, 2), jump])
         for item in items:
             issue(pipeline, item)
-        self.assertEqual((pipeline.values[1].is_marked, pipeline.values[1].mark, pipeline.values[1].result), (True, False, CODE + 8))
+        value = pipeline.serials[1].value
+        self.assertEqual((value.is_marked, value.mark, value.result), (True, False, CODE + 8))
 
     def test_dropped(self):
         """What is dropped leaves no trace in registers, memory and marks."""
@@ -81,7 +82,7 @@ class Marks(unittest.TestCase):
         for item in items:
             issue(pipeline, item)
         pipeline.squash(items[0])
-        self.assertEqual(list(pipeline.values), [0])
+        self.assertEqual(list(pipeline.serials), [0])
         retire(pipeline, items[:1])
         self.assertEqual((pipeline.registers[5], pipeline.registers[6]), (2 * DATA & 0xffffffff, 0))
         self.assertEqual((pipeline.memory.get(DATA + 4, 1), any(pipeline.marked_registers)), (b"\0", False))
@@ -108,7 +109,7 @@ class Passing(unittest.TestCase):
             issue(pipeline, items[0])
             for place in (first, 3 - first):
                 issue(pipeline, items[place])
-            value = pipeline.values[2]
+            value = pipeline.serials[2].value
             self.assertEqual((value.result, value.mark), found)
 
 

@@ -113,7 +113,7 @@ def replay(lines, image_file, description_file):
     """A run taken through, and its instructions by their serials."""
     run = Replay(Trace(iter(lines)), Image(image_file), read_description(description_file))
     items = list(run.items())
-    return run, {item.serial: item for item in items if item.serial is not None}, items
+    return run, {item.serial: item for item in items if item.serial >= 0}, items
 
 
 def bounds_check():

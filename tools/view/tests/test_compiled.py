@@ -50,6 +50,15 @@ def compile_command():
     return module
 
 
+def are_compiled():
+    """Whether tools/compile has compiled these sources: then they aren't compiled again."""
+    path = os.path.join(faster.FOLDER, faster.STAMP)
+    if not os.path.isfile(path):
+        return False
+    with open(path, encoding="ascii") as file:
+        return file.read() == faster.stamp()
+
+
 def trace_file(number, lines):
     return support.file_of(f"compiled{number}.trace", "".join(lines).encode())
 
@@ -82,7 +91,10 @@ class Compiled(unittest.TestCase):
     @classmethod
     def setUpClass(cls):
         cls.folder = tempfile.TemporaryDirectory()
-        compile_command().build(cls.folder.name, "-O0")
+        if are_compiled():
+            shutil.copytree(faster.FOLDER, cls.folder.name, dirs_exist_ok=True)
+        else:
+            compile_command().build(cls.folder.name, "-O0")
 
     @classmethod
     def tearDownClass(cls):

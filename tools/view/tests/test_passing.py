@@ -38,7 +38,7 @@ end exit 0 retired 6 cycles 15
 
 
 def waits(item):
-    return [(cycles(wait), wait.reason, wait.serial) for wait in item.waits]
+    return [(cycles(wait), wait.reason, None if wait.serial < 0 else wait.serial) for wait in item.waits]
 
 
 def violated(*changes, model="spectre", depend=16):

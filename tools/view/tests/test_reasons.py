@@ -8,7 +8,7 @@ from view.why import cycles
 
 def waits(item):
     """What an entry waited for: cycles, reason, and the entry waited for."""
-    return [(cycles(wait), wait.reason, wait.serial) for wait in item.waits]
+    return [(cycles(wait), wait.reason, None if wait.serial < 0 else wait.serial) for wait in item.waits]
 
 
 def example(heading, name):

@@ -1,9 +1,11 @@
 """The text of a trace (docs/formats.md, "The trace" and "The last line")."""
 import io
+import random
 import unittest
 
 import support
 from view import Fault
+from view.rows import Row, scan
 from view.trace import Progress, Trace
 
 SHORT = """1 fet:00010000 fet:00010004
@@ -26,6 +28,23 @@ class Rows(unittest.TestCase):
         self.assertEqual([row.cycle for row in rows], [1, 2, 3, 4, 5])
         self.assertEqual(rows[1].events, ["ren:0:00010000", "fet:00010008"])
         self.assertEqual((trace.end.how, trace.end.retired, trace.end.cycles), ("exit 0", 2, 5))
+
+    def test_letter_by_letter(self):
+        """What compiled modules read letter by letter is what `split` finds, or they leave a line that isn't just as written to it."""
+        draw, found = random.Random(7), 0
+        texts = [line for run in ("mixed_1", "mixed_any_address_1", "mixed_memory_1", "half_issued") for line in support.stored(run)[0]]
+        for line in texts:
+            row = Row(1, line, False)
+            if not line.startswith("end "):
+                self.assertEqual(scan(line), row.split())
+            for _ in range(20):
+                place = draw.randrange(len(line))
+                other = line[:place] + draw.choice(" ::fxhm2J09a_+-") + line[place + draw.choice((0, 1, 3)):-1] + "\n"
+                told = scan(other)
+                if told is not None:
+                    found += 1
+                    self.assertEqual(told, Row(1, other, False).split(), other)
+        self.assertGreater(found, 100)
 
     def test_only_a_run_that_ended_ends_in_retire(self):
         for end, ends in (("exit 7", True), ("trap 5 00010004", True), ("budget", False)):
