@@ -111,6 +111,7 @@ joined unit jumps history = record {
   defence_known = refl;
 }
 
+-- where some description asks for each of the three parts, one description asks for all of them
 pub all_asked : (f : FetchUnit) (t : Tables) (p : Past) → IsAsked f.width f.room → tables.IsAsked (length t.counters) (length t.targets)
     → past.IsAsked p.counters p.directions p.returns → AreAsked f t p
 all_asked f t p unit jumps history = record {
@@ -127,6 +128,7 @@ all_asked f t p unit jumps history = record {
   };
 }
 
+-- one description asks for all of them also where the fetch unit is known by its fields
 pub fetch_asked : (inside f : FetchUnit) (t : Tables) (p : Past) → inside ≡ f → IsAsked inside.width inside.room
     → tables.IsAsked (length t.counters) (length t.targets) → past.IsAsked p.counters p.directions p.returns → AreAsked f t p
 fetch_asked inside f t p same unit jumps history =
