@@ -2,7 +2,7 @@
 ghost use Rattle.std.specs.Prelude.{◌≡◌, if◌then◌else◌, length};
 ghost use Rattle.window_model.specs.declared.Way.TheVariants as way;
 ghost use Rattle.window_model.specs.Row.{HasRoom, IsLonger, with_events};
-ghost use Rattle.predictor.specs.Tables.{InEach};
+ghost use Rattle.predictor.specs.Tables.{InEach, IsAsked};
 ghost use Rattle.branch_resolve.specs.Effect.{taught, told, resolution_of};
 
 use history_pred::History;
@@ -23,7 +23,8 @@ pub enum Resolution {
 
 /// Resolves a branch or JALR: the predictor learns how it went, and the row tells it. A branch moves its counter, also
 /// where it faults: the one that its own history gives it, whatever the present one is. A JALR stores its target, but
-/// not where it faults. The history has as many counters as the predictor.
+/// not where it faults. What is learnt and told is what the definition says under each description of the predictor's
+/// sizes, and there is one. The history has as many counters as the predictor.
 pub fn resolve(
     entry: &Entry,
     history: &History,
@@ -32,11 +33,13 @@ pub fn resolve(
 ) -> Resolution
     requires room { HasRoom 2 row.old }
     requires same_counters { history.now.counters ≡ length predictor.old.counters }
+    ensures described { IsAsked (length predictor.old.counters) (length predictor.old.targets) }
     ensures learnt { InEach predictor.old (λ d. predictor.new ≡ taught d predictor.old entry.now) }
     ensures row { InEach predictor.old (λ d. row.new ≡ with_events row.old (told d predictor.old entry.now)) }
     ensures few { IsLonger 2 row.old row.new }
     ensures resolution { result ≡ resolution_of entry.now }
 {
+    predictor.described();
     teach(entry, history, predictor, row);
     resolution_of(entry)
 }

@@ -1,3 +1,4 @@
 pub mod Targets
 pub mod Fetching
 pub mod Items
+pub mod Asked

@@ -52,6 +52,17 @@ pub record HasSizes (f : FetchUnit) (t : Tables) (p : Past) (d : Desc) : Type 0 
   pub room : f.room ≡ d.core_queue
   pub predicts : Predicts t p d
 
--- what holds in the machine of each description that asks for parts of these sizes
+-- there is a description that asks for such a width and such room
+pub record IsAsked (width room : ℕ) : Type 0 where
+  pub desc : Desc
+  pub as_wide : width ≡ desc.core_fetch_width
+  pub as_long : room ≡ desc.core_queue
+
+-- there is a description that asks for parts of these sizes
+pub record AreAsked (f : FetchUnit) (t : Tables) (p : Past) : Type 0 where
+  pub desc : Desc
+  pub sizes : HasSizes f t p desc
+
+-- what holds in the machine of each description that asks for parts of these sizes; there is one (`AreAsked`)
 abbrev pub InEach : FetchUnit → Tables → Past → (Desc → Type 0) → Type 0
 InEach f t p So = (d : Desc) → HasSizes f t p d → So d

@@ -3,7 +3,7 @@ ghost use Rattle.std.specs.Prelude.{◌≡◌, ◌<◌, ◌++◌, ◌∷◌, [],
 ghost use Rattle.elf_loader.specs.Code.{word_at};
 ghost use Rattle.window_model.specs.Row.{HasRoom, IsLonger, most_fetched, with_events};
 ghost use Rattle.window_model.specs.State.{Machine};
-ghost use Rattle.fetch_unit.specs.Unit.{with_unit, fetches, next_fetch, InEach};
+ghost use Rattle.fetch_unit.specs.Unit.{AreAsked, InEach, fetches, next_fetch, with_unit};
 
 use crate::item::fetched_at;
 use circular_buffer::HeapCircularBuffer;
@@ -17,7 +17,8 @@ use std::marker::Model;
 use window_model::{Event, Item, Row};
 
 /// The fetch unit, seen as how many items are fetched a cycle at most, how many the queue holds, the queue of items,
-/// oldest first, and the fetch pc: where fetching goes on, None where it doesn't.
+/// oldest first, and the fetch pc: where fetching goes on, None where it doesn't. Both numbers are what some
+/// description asks for.
 #[derive(Drop)]
 pub struct Fetch {
     width: u32,
@@ -27,7 +28,7 @@ pub struct Fetch {
 
 impl Model for Fetch {
     ghost use Rattle.std.specs.Prelude.{◌<◌, ◌≤◌, ◌^◌};
-    ghost use Rattle.fetch_unit.specs.Unit.{FetchUnit, unit_code};
+    ghost use Rattle.fetch_unit.specs.Unit.{FetchUnit, IsAsked, unit_code};
 
     ghost Value = { FetchUnit };
 
@@ -40,7 +41,7 @@ impl Model for Fetch {
       fetch_pc = f.fetch_pc;
     } };
 
-    ghost invariant = { λ f. (f.width ≤ 4) × (f.queue.capacity < 2 ^ 32) };
+    ghost invariant = { λ f. (f.width ≤ 4) × (f.queue.capacity < 2 ^ 32) × IsAsked f.width f.queue.capacity };
 }
 
 impl Fetch {
@@ -63,8 +64,9 @@ impl Fetch {
     }
 
     /// Phase Fetch: up to the width of fetching, items come into the queue, each with its event. What it leaves is what
-    /// the definition leaves, under a description of these sizes, of every machine with this queue, this fetch pc, this
-    /// predictor, and this history and stack. The history has as many counters as the predictor.
+    /// the definition leaves of every machine with this queue, this fetch pc, this predictor, and this history and
+    /// stack, under each description of these sizes, and there is one. The history has as many counters as the
+    /// predictor.
     pub fn fetch(
         &mut self,
         code: &Code,
@@ -74,6 +76,7 @@ impl Fetch {
     )
         requires room { HasRoom most_fetched row.old }
         requires same_counters { history.old.counters ≡ length predictor.now.counters }
+        ensures described { AreAsked self.old predictor.now history.old }
         ensures machine { InEach self.old predictor.now history.old (λ d. (x : Machine)
             → with_unit self.new predictor.now history.new x
             ≡ (fetches d (word_at code.now) self.old predictor.now history.old x).machine) }
@@ -84,6 +87,8 @@ impl Fetch {
         ensures history_sizes { history.new ≡ record history.old { mark = history.new.mark } }
         ensures few { IsLonger most_fetched row.old row.new }
     {
+        predictor.described();
+        history.described();
         for _ in 0..self.width {
             let Some(pc) = self.next() else {
                 return;

@@ -33,6 +33,14 @@ with_direction p way = record p { mark = record (p.mark) { history = (2 * p.mark
 abbrev pub with_address : Past → ℕ → Past
 with_address p a = record p { mark = with_stack (take p.returns (a ∷ stack p.mark)) p.mark }
 
--- what holds in the machine of each description that asks for as many counters, directions and addresses
+-- there is a description that asks for so many counters, directions and addresses
+pub record IsAsked (counters directions returns : ℕ) : Type 0 where
+  pub desc : Desc
+  pub as_many_counters : counters ≡ desc.predictor_counters
+  pub as_many_directions : directions ≡ desc.predictor_history
+  pub as_many_returns : returns ≡ desc.predictor_returns
+
+-- what holds in the machine of each description that asks for as many counters, directions and addresses; there is one
+-- (`IsAsked`)
 abbrev pub InEach : Past → (Desc → Type 0) → Type 0
 InEach p So = (d : Desc) → p.counters ≡ d.predictor_counters → p.directions ≡ d.predictor_history → p.returns ≡ d.predictor_returns → So d

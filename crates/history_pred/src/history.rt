@@ -3,7 +3,7 @@ ghost use Rattle.std.specs.Prelude.{◌≡◌, ◌<◌, ◌≤◌, ◌+◌, ◌*
 ghost use Rattle.rv_types.specs.Value.{one_if};
 ghost use Rattle.window_model.specs.History.{counter_index, jumped, mark_after, no_mark};
 ghost use Rattle.window_model.specs.History.{popped, pushed, returns_to, shifted, stack, youngest};
-ghost use Rattle.history_pred.specs.Past.{InEach, counter_place, with_address, with_direction};
+ghost use Rattle.history_pred.specs.Past.{InEach, IsAsked, counter_place, with_address, with_direction};
 
 use crate::jump::{links, returns};
 use crate::stack::{popped, pushed, youngest};
@@ -13,7 +13,7 @@ use std::marker::Model;
 use window_model::{Item, Mark};
 
 /// Global history and return stack, seen as how many counters branches have, how many directions and addresses are
-/// kept, and a mark: what they are as the next item comes to be fetched.
+/// kept, and a mark: what they are as the next item comes to be fetched. Each number is what some description asks for.
 #[derive(Drop)]
 pub struct History {
     counters: u32,
@@ -24,7 +24,7 @@ pub struct History {
 
 impl Model for History {
     ghost use Rattle.std.specs.Prelude.{◌<◌, ◌≤◌};
-    ghost use Rattle.history_pred.specs.Past.{Past, past_code};
+    ghost use Rattle.history_pred.specs.Past.{IsAsked, Past, past_code};
 
     ghost Value = { Past };
 
@@ -37,12 +37,12 @@ impl Model for History {
       mark = h.mark;
     } };
 
-    ghost invariant = { λ h. (0 < h.counters) × (h.directions ≤ 12) × (h.returns ≤ 16) };
+    ghost invariant = { λ h. (0 < h.counters) × (h.directions ≤ 12) × (h.returns ≤ 16)
+        × IsAsked h.counters h.directions h.returns };
 }
 
 impl History {
     /// No branch yet, and an empty stack, for as many counters, directions and addresses as the description says.
-    #[tactic(auto, using(crate::proofs::Bounds::few_directions, crate::proofs::Bounds::few_returns))]
     pub fn new(desc: &Desc) -> History
         ensures { result ≡ record {
           counters = desc.now.predictor_counters;
@@ -57,6 +57,14 @@ impl History {
             returns: desc.predictor_returns,
             mark: Mark::default(),
         }
+    }
+
+    /// There is a description that asks for as many counters, directions and addresses. It does nothing.
+    #[inline(always)]
+    pub fn described(&self)
+        ensures { IsAsked self.now.counters self.now.directions self.now.returns }
+    {
+        let _ = &self.counters;
     }
 
     /// Where the counter of a branch stands that comes with this mark: its word's number, with the history over it.
@@ -124,11 +132,13 @@ impl History {
     /// pushes, and a return pops.
     #[inline(always)]
     pub fn follow(&mut self, item: &Item, taken: bool)
+        ensures described { IsAsked self.old.counters self.old.directions self.old.returns }
         ensures sizes { self.new ≡ record self.old { mark = self.new.mark } }
         ensures machine { InEach self.old (λ d. self.new ≡ record self.old {
           mark = mark_after item.now.kind d item.now.pc item.now.instr taken self.old.mark;
         }) }
     {
+        self.described();
         match item.kind {
             Kind::Branch => self.shift(taken),
             Kind::Jal => self.jump(item.pc, &item.instr),

@@ -38,6 +38,12 @@ target_at t pc = target_if pc (slice_index_or t.targets (target_place t pc) None
 abbrev pub counter_after : Tables → ℕ → Bool → ℕ
 counter_after t place way = moved way (slice_index t.counters place)
 
--- what holds in the machine of each description that asks for as many counters and targets
+-- there is a description that asks for so many counters and targets
+pub record IsAsked (counters targets : ℕ) : Type 0 where
+  pub desc : Desc
+  pub as_many_counters : counters ≡ desc.predictor_counters
+  pub as_many_targets : targets ≡ desc.predictor_btb
+
+-- what holds in the machine of each description that asks for as many counters and targets; there is one (`IsAsked`)
 abbrev pub InEach : Tables → (Desc → Type 0) → Type 0
 InEach t So = (d : Desc) → length t.counters ≡ d.predictor_counters → length t.targets ≡ d.predictor_btb → So d

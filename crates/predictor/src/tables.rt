@@ -2,7 +2,7 @@
 ghost use Rattle.std.specs.Prelude.{◌≡◌, ◌<◌, length, replicate, slice_set, IfOk, None, Some};
 ghost use Rattle.window_model.specs.Resolve.{index, moved};
 ghost use Rattle.window_model.specs.declared.Event.TheVariants as event;
-ghost use Rattle.predictor.specs.Tables.{target_place, is_taken, target_if, target_at, counter_after};
+ghost use Rattle.predictor.specs.Tables.{IsAsked, target_place, is_taken, target_if, target_at, counter_after};
 
 use machine_desc::Desc;
 use rv_types::NoMemory;
@@ -19,7 +19,8 @@ const TAKEN_FROM: u8 = 2;
 /// The most that a counter comes to.
 const COUNTER_MAX: u8 = 3;
 
-/// The predictor of branches and JALRs, seen as the counters and the targets.
+/// The predictor of branches and JALRs, seen as the counters and the targets. There are as many as some description
+/// asks for.
 #[derive(Drop)]
 pub struct Predictor {
     counters: Vec<u8>,
@@ -28,7 +29,7 @@ pub struct Predictor {
 
 impl Model for Predictor {
     ghost use Rattle.std.specs.Prelude.{◌<◌, ◌^◌, vec_len};
-    ghost use Rattle.predictor.specs.Tables.{Tables, tables_code};
+    ghost use Rattle.predictor.specs.Tables.{IsAsked, Tables, tables_code};
 
     ghost Value = { Tables };
 
@@ -36,7 +37,8 @@ impl Model for Predictor {
 
     ghost view = { λ p. record { counters = p.counters.items; targets = p.targets.items } };
 
-    ghost invariant = { λ p. (0 < vec_len p.targets) × (vec_len p.targets < 2 ^ 32) };
+    ghost invariant = { λ p. (0 < vec_len p.targets) × (vec_len p.targets < 2 ^ 32)
+        × IsAsked (vec_len p.counters) (vec_len p.targets) };
 }
 
 impl Predictor {
@@ -51,6 +53,14 @@ impl Predictor {
         let counters = vec![in alloc; COUNTER_START; desc.predictor_counters as usize]?;
         let targets = vec![in alloc; None; desc.predictor_btb as usize]?;
         Ok(Predictor { counters, targets })
+    }
+
+    /// There is a description that asks for as many counters and targets. It does nothing.
+    #[inline(always)]
+    pub fn described(&self)
+        ensures { IsAsked (length self.now.counters) (length self.now.targets) }
+    {
+        let _ = &self.targets;
     }
 
     /// Whether a branch whose counter stands at this place is predicted to be taken: exactly where the counter is 2 or

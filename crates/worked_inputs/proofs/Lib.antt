@@ -11,3 +11,4 @@ pub mod Files
 pub mod Images
 pub mod Segments
 pub mod Generated
+pub mod Notes

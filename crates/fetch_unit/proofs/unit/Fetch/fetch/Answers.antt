@@ -1,5 +1,6 @@
 use Rattle.std.proofs.Common.{ap, sym, ◌∙◌, arith}
 use Rattle.fetch_unit.specs.Unit.{FetchUnit}
+use Rattle.fetch_unit.proofs.Asked.{fetch_asked}
 use Rattle.fetch_unit.proofs.Fetching.{fetches_start, fetches_more, over_early}
 use Rattle.fetch_unit.proofs.unit.Fetch.fetch.Goals as goal
 
@@ -25,3 +26,9 @@ returns-in_default-clause-sizes c = (over_early _ _ _ _ _ _ _ _ _ c.loop.invaria
 
 pub returns-in_default-clause-history_sizes : goal.returns-in_default-clause-history_sizes
 returns-in_default-clause-history_sizes c = (over_early _ _ _ _ _ _ _ _ _ c.loop.invariant (sym c.next.ensures ∙ c.in_default.is)).history_sizes
+
+pub returns-in_default-clause-described : goal.returns-in_default-clause-described
+returns-in_default-clause-described c = fetch_asked _ _ _ _ c.self.view_is c.self.invariant.2 c.described.ensures c.described-2.ensures
+
+pub returns-clause-described : goal.returns-clause-described
+returns-clause-described c = fetch_asked _ _ _ _ c.self.view_is c.self.invariant.2 c.described.ensures c.described-2.ensures
