@@ -4,7 +4,8 @@ use Rattle.std.specs.Prelude.{◌&&◌, ◌||◌, ◌==◌, nat_le}
 use Rattle.std.specs.Int.{is_power_of_two}
 use borrow.Author.Tests.{leb-true}
 use Rattle.machine_desc.specs.declared.Desc.{Desc}
-use Rattle.machine_desc.specs.Description.{Contents}
+use Rattle.machine_desc.specs.declared.SttModel.{SttModel}
+use Rattle.machine_desc.specs.declared.Defence.{Defence}
 use Rattle.machine_desc.specs.Version.{most, newest, knows_model, knows_defence, comes_between}
 use Rattle.machine_desc.proofs.Powers.{power_from_test, zero_or_power_from_test}
 
@@ -63,16 +64,23 @@ tests version n =
     (nat_le (n 26) (most 0 1 version)) ∷
     []
 
+-- what a run's description holds: its version, its numbers in the order of their keys, its model and its defence
+pub record Numbers : Type 0 where
+  pub version : ℕ
+  pub numbers : List ℕ
+  pub model : SttModel
+  pub defence : Defence
+
 -- the number of a key, by its place
-abbrev pub number_at : Contents → ℕ → ℕ
+abbrev pub number_at : Numbers → ℕ → ℕ
 number_at c k = get_or c.numbers k 0
 
--- what the keys ask of these contents, and that the version knows the model and the defence
-abbrev pub all_tests : Contents → List Bool
+-- what the keys ask of these numbers, and that the version knows the model and the defence
+abbrev pub all_tests : Numbers → List Bool
 all_tests c = tests c.version (number_at c) ++ knows_model c.version c.model ∷ knows_defence c.version c.defence ∷ []
 
--- the description of these contents
-abbrev pub described : (c : Contents) → IsTrue (all_hold (all_tests c)) → Desc
+-- the description of these numbers
+abbrev pub described : (c : Numbers) → IsTrue (all_hold (all_tests c)) → Desc
 described c h =
     let n : ℕ → ℕ = number_at c in
     let t : (k : ℕ) → IsTrue (get_or (all_tests c) k true) = λ k. holds (all_tests c) k h in

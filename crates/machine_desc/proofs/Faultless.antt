@@ -1,12 +1,12 @@
 -- What a document without fault has.
-use Rattle.std.proofs.Common.{◌≡◌, ◌+◌, ◌*◌, ◌^◌, ℕ, IsTrue, ◌<◌, ◌≤◌, nat_lt, nat_le, Bool, true, false, if◌then◌else◌, List, [], ◌∷◌, map, Option, Some, None, Ok, refl, leb-true, ltb-true}
+use Rattle.std.proofs.Common.{◌≡◌, ◌+◌, ◌*◌, ◌^◌, ℕ, IsTrue, ◌<◌, ◌≤◌, nat_lt, nat_le, Bool, true, false, if◌then◌else◌, List, [], ◌∷◌, map, Option, Some, None, Result, Ok, refl, leb-true, ltb-true}
 use Rattle.std.specs.List.{AllByRecursion as Each}
 use Rattle.toml.specs.Data.{Members}
 use Rattle.machine_desc.specs.declared.keys.Key.{Key}
 use Rattle.machine_desc.specs.declared.keys.Key.TheVariants.{CoreFetchWidth, CoreRetireWidth, CoreRob, CoreStations, CoreLoads, CoreStores, CoreQueue, UnitsAlus, UnitsMulLatency, PredictorCounters, PredictorBtb, CacheSets, CacheWays, CacheLine, CacheHitLatency, CacheMissLatency, CacheMshrs, RamBase, RamSize, SttModel, RamMisaligned, PredictorDepend, PredictorHistory, PredictorReturns, CacheSecondSets, CacheSecondWays, CacheSecondLatency, CachePrefetch, SttDefence}
 use Rattle.machine_desc.specs.declared.fault.DescFault.{DescFault}
 use Rattle.machine_desc.specs.Table.{keys}
-use Rattle.machine_desc.specs.Description.{first, checked, top_fault, sections_fault, key_fault, keys_fault, latency_fault, end_fault, registers_fault, second_fault, document_fault, number}
+use Rattle.machine_desc.specs.Description.{first, checked, top_fault, sections_fault, key_fault, keys_fault, latency_fault, end_fault, registers_fault, second_fault, document_fault, with_number, number}
 use Rattle.machine_desc.specs.Version.{comes_between}
 use Rattle.machine_desc.specs.Clean.{IsClean}
 
@@ -20,23 +20,35 @@ none_from_if : (b : Bool) (e : DescFault) → (if b then None else Some e) ≡ N
 none_from_if true e h = refl
 none_from_if false e h = absurd (cc)
 
-latencies : (v : ℕ) (document : Members) → latency_fault v document ≡ None → number v document CacheHitLatency < number v document CacheMissLatency
+-- a test on two numbers, and one on four, holds of the numbers of their keys where it finds no fault
+two : (test : ℕ → ℕ → Bool) (e : DescFault) (a b : Result ℕ DescFault) (x y : ℕ) → a ≡ Ok x → b ≡ Ok y
+    → with_number a (λ m. with_number b (λ n. if test m n then None else Some e)) ≡ None → test x y ≡ true
+two test e a b x y p q h = none_from_if (test x y) e (rw (p, q) at h)
+
+four : (test : ℕ → ℕ → ℕ → ℕ → Bool) (e : DescFault) (a b c f : Result ℕ DescFault) (x y z w : ℕ) → a ≡ Ok x → b ≡ Ok y → c ≡ Ok z → f ≡ Ok w
+    → with_number a (λ k. with_number b (λ l. with_number c (λ m. with_number f (λ n. if test k l m n then None else Some e)))) ≡ None → test x y z w ≡ true
+four test e a b c f x y z w p q r s h = none_from_if (test x y z w) e (rw (p, q, r, s) at h)
+
+pub latencies : (v : ℕ) (document : Members) (hit miss : ℕ) → latency_fault v document ≡ None → number v document CacheHitLatency ≡ Ok hit
+    → number v document CacheMissLatency ≡ Ok miss → hit < miss
 unfolding latency_fault
-latencies v document h = ltb-true _ _ (none_from_if (nat_lt (number v document CacheHitLatency) (number v document CacheMissLatency)) _ h)
+latencies v document hit miss h p q = ltb-true hit miss (two nat_lt _ _ _ hit miss p q h)
 
-ends : (v : ℕ) (document : Members) → end_fault v document ≡ None → number v document RamBase + number v document RamSize ≤ 2 ^ 32
+pub ends : (v : ℕ) (document : Members) (base size : ℕ) → end_fault v document ≡ None → number v document RamBase ≡ Ok base
+    → number v document RamSize ≡ Ok size → base + size ≤ 2 ^ 32
 unfolding end_fault
-ends v document h = leb-true _ _ (none_from_if (nat_le (number v document RamBase + number v document RamSize) (2 ^ 32)) _ h)
+ends v document base size h p q = leb-true (base + size) (2 ^ 32) (two (λ m n. nat_le (m + n) (2 ^ 32)) _ _ _ base size p q h)
 
-registers : (v : ℕ) (document : Members) → registers_fault v document ≡ None → 2 * number v document RamMisaligned ≤ number v document CacheMshrs
+pub registers : (v : ℕ) (document : Members) (misaligned mshrs : ℕ) → registers_fault v document ≡ None → number v document RamMisaligned ≡ Ok misaligned
+    → number v document CacheMshrs ≡ Ok mshrs → 2 * misaligned ≤ mshrs
 unfolding registers_fault
-registers v document h = leb-true _ _ (none_from_if (nat_le (2 * number v document RamMisaligned) (number v document CacheMshrs)) _ h)
+registers v document misaligned mshrs h p q = leb-true (2 * misaligned) mshrs (two (λ m n. nat_le (2 * m) n) _ _ _ misaligned mshrs p q h)
 
-second : (v : ℕ) (document : Members) → second_fault v document ≡ None
-    → IsTrue (comes_between (number v document CacheSecondSets) (number v document CacheHitLatency) (number v document CacheSecondLatency) (number v document CacheMissLatency))
+pub second : (v : ℕ) (document : Members) (sets hit next miss : ℕ) → second_fault v document ≡ None → number v document CacheSecondSets ≡ Ok sets
+    → number v document CacheHitLatency ≡ Ok hit → number v document CacheSecondLatency ≡ Ok next → number v document CacheMissLatency ≡ Ok miss
+    → IsTrue (comes_between sets hit next miss)
 unfolding second_fault
-second v document h =
-    none_from_if (comes_between (number v document CacheSecondSets) (number v document CacheHitLatency) (number v document CacheSecondLatency) (number v document CacheMissLatency)) _ h
+second v document sets hit next miss h p q r s = four comes_between _ _ _ _ _ sets hit next miss p q r s h
 
 each_key : (v : ℕ) (document : Members) → keys_fault v document ≡ None → Each (λ x. x ≡ None) (map (key_fault v document) keys)
 unfolding keys_fault
@@ -87,13 +99,13 @@ is_clean v document h =
     let steps = each_step v document h in
     record {
       keys = key_clean v document (each_key v document steps.1.1.0);
-      latencies = latencies v document steps.1.1.1.0;
-      ends = ends v document steps.1.1.1.1.0;
-      registers = registers v document steps.1.1.1.1.1.0;
-      second = second v document steps.1.1.1.1.1.1.0;
+      latencies = steps.1.1.1.0;
+      ends = steps.1.1.1.1.0;
+      registers = steps.1.1.1.1.1.0;
+      second = steps.1.1.1.1.1.1.0;
     }
 
-none_from_checked : (x : Option DescFault) → checked x ≡ Ok tt → x ≡ None
+pub none_from_checked : (x : Option DescFault) → checked x ≡ Ok tt → x ≡ None
 none_from_checked None h = refl
 none_from_checked (Some e) h = absurd (cc)
 

@@ -1,6 +1,6 @@
 -- The facts that pin the keys that may be left out: the ends of their ranges, which versions know them, and what they
 -- are then.
-use Rattle.std.proofs.Common.{◌≡◌, ℕ, true, false, List, [], ◌∷◌, map, Option, Some, None, refl}
+use Rattle.std.proofs.Common.{◌≡◌, ℕ, true, false, List, [], ◌∷◌, map, Option, Some, None, Ok, refl}
 use Rattle.std.specs.Prelude.{pos, codes}
 use lib.Count.{ones}
 use Rattle.toml.specs.Data.{no_members, string}
@@ -11,8 +11,8 @@ use Rattle.machine_desc.specs.declared.fault.DescFault.{DescFault}
 use Rattle.machine_desc.specs.declared.fault.DescFault.TheVariants.{Kind, Range, Shape as WrongShape}
 use Rattle.machine_desc.specs.declared.fault.Subject.TheVariants.{Key as OfKey}
 use Rattle.machine_desc.specs.Version.{comes_between}
-use Rattle.machine_desc.specs.Table.{row, optional_numbers, keys, is_known, some_key}
-use Rattle.machine_desc.specs.Description.{value_fault, key_fault, number}
+use Rattle.machine_desc.specs.Table.{values_of, optional_numbers, keys, is_known, some_key}
+use Rattle.machine_desc.specs.Description.{fault_of, setting_in, key_fault, number}
 use Rattle.machine_desc.proofs.Versions.{told}
 
 misaligned : (told 2 RamMisaligned 0 ≡ None) × (told 2 RamMisaligned 1 ≡ None) × (told 2 RamMisaligned 2 ≡ Some (Range RamMisaligned (pos 2)))
@@ -61,7 +61,7 @@ by_table = (refl, refl, refl, refl)
 
 -- the fault of a text as a key's value in a version
 abbrev named : ℕ → Key → List ℕ → Option DescFault
-named version key text = value_fault key (row version key).values (Some (string text))
+named version key text = fault_of (setting_in key (values_of version key) (Some (string text)))
 
 third_model : (named 1 ModelKey (codes "off") ≡ Some (Kind (OfKey ModelKey))) × (named 2 ModelKey (codes "off") ≡ None)
     × (named 1 ModelKey (codes "futuristic") ≡ None) × (named 2 ModelKey (codes "none") ≡ Some (Kind (OfKey ModelKey)))
@@ -75,8 +75,8 @@ second_defence = (refl, refl, refl, refl, refl, refl)
 
 -- ---- left out they have no fault, and in both versions these numbers
 
-left_out : (map (number 1 no_members) optional_numbers ≡ 0 ∷ 0 ∷ 0 ∷ 0 ∷ 0 ∷ 1 ∷ 2 ∷ 0 ∷ [])
-    × (map (number 2 no_members) optional_numbers ≡ 0 ∷ 0 ∷ 0 ∷ 0 ∷ 0 ∷ 1 ∷ 2 ∷ 0 ∷ []) × (key_fault 2 no_members CacheSecondWays ≡ None)
+left_out : (map (number 1 no_members) optional_numbers ≡ map (λ n. Ok n) (0 ∷ 0 ∷ 0 ∷ 0 ∷ 0 ∷ 1 ∷ 2 ∷ 0 ∷ []))
+    × (map (number 2 no_members) optional_numbers ≡ map (λ n. Ok n) (0 ∷ 0 ∷ 0 ∷ 0 ∷ 0 ∷ 1 ∷ 2 ∷ 0 ∷ [])) × (key_fault 2 no_members CacheSecondWays ≡ None)
 unfolding key_fault
 left_out = (refl, refl, refl)
 

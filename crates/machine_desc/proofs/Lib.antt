@@ -5,6 +5,7 @@ pub mod Texts
 pub mod Powers
 pub mod Fitting
 pub mod Passing
+pub mod Settings
 pub mod LeftOut
 pub mod Named
 pub mod EveryDesc

@@ -9,8 +9,10 @@ use Rattle.machine_desc.specs.declared.Defence.{Defence}
 use Rattle.machine_desc.specs.declared.Defence.TheVariants.{Stt, Hold}
 use Rattle.machine_desc.specs.declared.keys.Key.TheVariants.{SttModel as ModelKey, SttDefence as DefenceKey}
 use Rattle.machine_desc.specs.declared.fault.DescFault.{DescFault}
-use Rattle.machine_desc.specs.Version.{knows_off, knows_hold, knows_model, knows_defence}
+use Rattle.machine_desc.specs.Version.{IsKnown, knows_off, knows_hold, knows_model, knows_defence}
+use Rattle.machine_desc.specs.Table.{is_known}
 use Rattle.machine_desc.specs.Description.{model_in, model, defence_in, defence, value_at}
+use Rattle.machine_desc.proofs.Versions.{hold_if_known}
 
 -- the model of a name, whichever names are known
 named : (m : SttModel) (a b c off : Bool) (e : DescFault)
@@ -39,12 +41,11 @@ named_defence Hold true b hold e q v k = absurd (cc)
 named_defence Hold false b true e q v k = k
 named_defence Hold false b false e q v k = absurd (cc)
 
-defence_by : (v : ℕ) (o : Option Data) (t : Defence) → defence_in DefenceKey (knows_hold v) o ≡ Ok t → IsTrue (knows_defence v t)
-defence_by v None Stt q = refl
-defence_by v None Hold q = absurd (cc)
-defence_by v (Some (string text)) t q =
-    named_defence t (bytes_eq text (codes "stt")) (bytes_eq text (codes "hold")) (knows_hold v) _ q v refl
-defence_by v (Some _) t q = absurd (cc)
+defence_by : (v : ℕ) (hold : Bool) (o : Option Data) (t : Defence) → knows_hold v ≡ hold → defence_in DefenceKey hold o ≡ Ok t → IsTrue (knows_defence v t)
+defence_by v hold None Stt k q = refl
+defence_by v hold None Hold k q = absurd (cc)
+defence_by v hold (Some (string text)) t k q = named_defence t (bytes_eq text (codes "stt")) (bytes_eq text (codes "hold")) hold _ q v k
+defence_by v hold (Some _) t k q = absurd (cc)
 
-pub defence_known : (v : ℕ) (document : Members) (t : Defence) → defence v document ≡ Ok t → IsTrue (knows_defence v t)
-defence_known v document t q = defence_by v (value_at document DefenceKey) t q
+pub defence_known : (v : ℕ) → IsKnown v → (document : Members) (t : Defence) → defence v document ≡ Ok t → IsTrue (knows_defence v t)
+defence_known v known document t q = defence_by v (is_known v DefenceKey) (value_at document DefenceKey) t (hold_if_known v known) q

@@ -1,5 +1,5 @@
 -- The contents of a description tell it from any other.
-use Rattle.std.proofs.Common.{◌≡◌, ◌+◌, ◌*◌, ◌%◌, ◌^◌, ◌<◌, ◌≤◌, ℕ, Bool, true, IsTrue, List, ap, slice_index, Result, Ok}
+use Rattle.std.proofs.Common.{◌≡◌, ◌+◌, ◌*◌, ◌%◌, ◌^◌, ◌<◌, ◌≤◌, ℕ, Bool, true, IsTrue, List, ap, get_or, Result, Ok}
 use Rattle.std.specs.Int.{IsPowerOfTwo}
 use Rattle.std.specs.Coded.{le_prop}
 use mathlib.Core.Path.{PathP}
@@ -7,8 +7,12 @@ use mathlib.Core.HLevel.{is_prop→PathP, hedberg}
 use mathlib.Core.Bool.{Bool-discrete}
 use native.Mathlib.Decide.{ℕ_discrete}
 use Rattle.machine_desc.specs.declared.Desc.{Desc}
+use Rattle.machine_desc.specs.declared.SttModel.{SttModel}
+use Rattle.machine_desc.specs.declared.SttModel.TheVariants.{Spectre}
+use Rattle.machine_desc.specs.declared.Defence.{Defence}
+use Rattle.machine_desc.specs.declared.Defence.TheVariants.{Stt}
 use Rattle.machine_desc.specs.declared.fault.DescFault.{DescFault}
-use Rattle.machine_desc.specs.Description.{Contents, contents, description_of, Describes}
+use Rattle.machine_desc.specs.Description.{Setting, OneNumber, OneModel, OneDefence, Contents, contents, description_of, Describes}
 use Rattle.machine_desc.specs.Power.{IsZeroOrPower, power_prop, zero_or_power_prop}
 use Rattle.machine_desc.specs.Version.{most, knows_model, knows_defence, comes_between}
 
@@ -43,38 +47,54 @@ twice p q u v = is_prop→PathP (λ i. 2 * p i ≤ q i) (λ i. le_prop) u v
 tested : {a b : Bool} (p : a ≡ b) (u : IsTrue a) (v : IsTrue b) → PathP (λ i. IsTrue (p i)) u v
 tested p u v = is_prop→PathP (λ i. IsTrue (p i)) (λ i. hedberg Bool-discrete (p i) true) u v
 
+-- what a setting is, where it is of this kind
+abbrev as_number : Setting → ℕ
+as_number (OneNumber n) = n
+as_number _ = 0
+
+abbrev as_model : Setting → SttModel
+as_model (OneModel m) = m
+as_model _ = Spectre
+
+abbrev as_defence : Setting → Defence
+as_defence (OneDefence t) = t
+as_defence _ = Stt
+
+abbrev number_at : Contents → ℕ → ℕ
+number_at c k = as_number (get_or c.settings k (OneNumber 0))
+
 pub same_desc : (d e : Desc) → contents d ≡ contents e → d ≡ e
 same_desc d e h =
     let version : d.version ≡ e.version = ap (λ (c : Contents). c.version) h in
-    let core_fetch_width : d.core_fetch_width ≡ e.core_fetch_width = ap (λ (c : Contents). slice_index c.numbers 0) h in
-    let core_retire_width : d.core_retire_width ≡ e.core_retire_width = ap (λ (c : Contents). slice_index c.numbers 1) h in
-    let core_rob : d.core_rob ≡ e.core_rob = ap (λ (c : Contents). slice_index c.numbers 2) h in
-    let core_stations : d.core_stations ≡ e.core_stations = ap (λ (c : Contents). slice_index c.numbers 3) h in
-    let core_loads : d.core_loads ≡ e.core_loads = ap (λ (c : Contents). slice_index c.numbers 4) h in
-    let core_stores : d.core_stores ≡ e.core_stores = ap (λ (c : Contents). slice_index c.numbers 5) h in
-    let core_queue : d.core_queue ≡ e.core_queue = ap (λ (c : Contents). slice_index c.numbers 6) h in
-    let units_alus : d.units_alus ≡ e.units_alus = ap (λ (c : Contents). slice_index c.numbers 7) h in
-    let units_mul_latency : d.units_mul_latency ≡ e.units_mul_latency = ap (λ (c : Contents). slice_index c.numbers 8) h in
-    let predictor_counters : d.predictor_counters ≡ e.predictor_counters = ap (λ (c : Contents). slice_index c.numbers 9) h in
-    let predictor_btb : d.predictor_btb ≡ e.predictor_btb = ap (λ (c : Contents). slice_index c.numbers 10) h in
-    let cache_sets : d.cache_sets ≡ e.cache_sets = ap (λ (c : Contents). slice_index c.numbers 11) h in
-    let cache_ways : d.cache_ways ≡ e.cache_ways = ap (λ (c : Contents). slice_index c.numbers 12) h in
-    let cache_line : d.cache_line ≡ e.cache_line = ap (λ (c : Contents). slice_index c.numbers 13) h in
-    let cache_hit_latency : d.cache_hit_latency ≡ e.cache_hit_latency = ap (λ (c : Contents). slice_index c.numbers 14) h in
-    let cache_miss_latency : d.cache_miss_latency ≡ e.cache_miss_latency = ap (λ (c : Contents). slice_index c.numbers 15) h in
-    let cache_mshrs : d.cache_mshrs ≡ e.cache_mshrs = ap (λ (c : Contents). slice_index c.numbers 16) h in
-    let ram_base : d.ram_base ≡ e.ram_base = ap (λ (c : Contents). slice_index c.numbers 17) h in
-    let ram_size : d.ram_size ≡ e.ram_size = ap (λ (c : Contents). slice_index c.numbers 18) h in
-    let ram_misaligned : d.ram_misaligned ≡ e.ram_misaligned = ap (λ (c : Contents). slice_index c.numbers 19) h in
-    let predictor_depend : d.predictor_depend ≡ e.predictor_depend = ap (λ (c : Contents). slice_index c.numbers 20) h in
-    let predictor_history : d.predictor_history ≡ e.predictor_history = ap (λ (c : Contents). slice_index c.numbers 21) h in
-    let predictor_returns : d.predictor_returns ≡ e.predictor_returns = ap (λ (c : Contents). slice_index c.numbers 22) h in
-    let cache_second_sets : d.cache_second_sets ≡ e.cache_second_sets = ap (λ (c : Contents). slice_index c.numbers 23) h in
-    let cache_second_ways : d.cache_second_ways ≡ e.cache_second_ways = ap (λ (c : Contents). slice_index c.numbers 24) h in
-    let cache_second_latency : d.cache_second_latency ≡ e.cache_second_latency = ap (λ (c : Contents). slice_index c.numbers 25) h in
-    let cache_prefetch : d.cache_prefetch ≡ e.cache_prefetch = ap (λ (c : Contents). slice_index c.numbers 26) h in
-    let stt_model : d.stt_model ≡ e.stt_model = ap (λ (c : Contents). c.model) h in
-    let stt_defence : d.stt_defence ≡ e.stt_defence = ap (λ (c : Contents). c.defence) h in
+    let core_fetch_width : d.core_fetch_width ≡ e.core_fetch_width = ap (λ (c : Contents). number_at c 0) h in
+    let core_retire_width : d.core_retire_width ≡ e.core_retire_width = ap (λ (c : Contents). number_at c 1) h in
+    let core_rob : d.core_rob ≡ e.core_rob = ap (λ (c : Contents). number_at c 2) h in
+    let core_stations : d.core_stations ≡ e.core_stations = ap (λ (c : Contents). number_at c 3) h in
+    let core_loads : d.core_loads ≡ e.core_loads = ap (λ (c : Contents). number_at c 4) h in
+    let core_stores : d.core_stores ≡ e.core_stores = ap (λ (c : Contents). number_at c 5) h in
+    let core_queue : d.core_queue ≡ e.core_queue = ap (λ (c : Contents). number_at c 6) h in
+    let units_alus : d.units_alus ≡ e.units_alus = ap (λ (c : Contents). number_at c 7) h in
+    let units_mul_latency : d.units_mul_latency ≡ e.units_mul_latency = ap (λ (c : Contents). number_at c 8) h in
+    let predictor_counters : d.predictor_counters ≡ e.predictor_counters = ap (λ (c : Contents). number_at c 9) h in
+    let predictor_btb : d.predictor_btb ≡ e.predictor_btb = ap (λ (c : Contents). number_at c 10) h in
+    let cache_sets : d.cache_sets ≡ e.cache_sets = ap (λ (c : Contents). number_at c 11) h in
+    let cache_ways : d.cache_ways ≡ e.cache_ways = ap (λ (c : Contents). number_at c 12) h in
+    let cache_line : d.cache_line ≡ e.cache_line = ap (λ (c : Contents). number_at c 13) h in
+    let cache_hit_latency : d.cache_hit_latency ≡ e.cache_hit_latency = ap (λ (c : Contents). number_at c 14) h in
+    let cache_miss_latency : d.cache_miss_latency ≡ e.cache_miss_latency = ap (λ (c : Contents). number_at c 15) h in
+    let cache_mshrs : d.cache_mshrs ≡ e.cache_mshrs = ap (λ (c : Contents). number_at c 16) h in
+    let ram_base : d.ram_base ≡ e.ram_base = ap (λ (c : Contents). number_at c 17) h in
+    let ram_size : d.ram_size ≡ e.ram_size = ap (λ (c : Contents). number_at c 18) h in
+    let ram_misaligned : d.ram_misaligned ≡ e.ram_misaligned = ap (λ (c : Contents). number_at c 20) h in
+    let predictor_depend : d.predictor_depend ≡ e.predictor_depend = ap (λ (c : Contents). number_at c 21) h in
+    let predictor_history : d.predictor_history ≡ e.predictor_history = ap (λ (c : Contents). number_at c 22) h in
+    let predictor_returns : d.predictor_returns ≡ e.predictor_returns = ap (λ (c : Contents). number_at c 23) h in
+    let cache_second_sets : d.cache_second_sets ≡ e.cache_second_sets = ap (λ (c : Contents). number_at c 24) h in
+    let cache_second_ways : d.cache_second_ways ≡ e.cache_second_ways = ap (λ (c : Contents). number_at c 25) h in
+    let cache_second_latency : d.cache_second_latency ≡ e.cache_second_latency = ap (λ (c : Contents). number_at c 26) h in
+    let cache_prefetch : d.cache_prefetch ≡ e.cache_prefetch = ap (λ (c : Contents). number_at c 27) h in
+    let stt_model : d.stt_model ≡ e.stt_model = ap (λ (c : Contents). as_model (get_or c.settings 19 (OneModel Spectre))) h in
+    let stt_defence : d.stt_defence ≡ e.stt_defence = ap (λ (c : Contents). as_defence (get_or c.settings 28 (OneDefence Stt))) h in
     λ i. record {
       version = version i;
       core_fetch_width = core_fetch_width i;

@@ -1,5 +1,6 @@
--- A version that is read is known; what holds of a number in every version; and the facts that pin versions and ranges.
-use Rattle.std.proofs.Common.{◌≡◌, ◌≤◌, ℕ, Bool, true, false, if◌then◌else◌, Option, Some, None, Ok, Err, refl, subst, arith, lit≤}
+-- A version that is read is known; what holds of a number in every version; what is known since version 2; and the
+-- facts that pin versions and ranges.
+use Rattle.std.proofs.Common.{◌≡◌, ◌≤◌, ◌⊎◌, inl, inr, ℕ, Bool, true, false, if◌then◌else◌, Option, Some, None, Ok, Err, refl, sym, subst, arith, lit≤}
 use borrow.Author.Tests.{leb-true}
 use Rattle.std.specs.Prelude.{pos, negsuc, nat_le, ◌&&◌, ◌==◌, codes}
 use Rattle.toml.specs.Data.{Data, integer, string, Members, get_member}
@@ -8,9 +9,9 @@ use Rattle.machine_desc.specs.declared.keys.Key.TheVariants.{CoreRob, CoreStatio
 use Rattle.machine_desc.specs.declared.fault.DescFault.{DescFault}
 use Rattle.machine_desc.specs.declared.fault.DescFault.TheVariants.{Kind, Version, Range}
 use Rattle.machine_desc.specs.declared.fault.Subject.TheVariants.{Version as OfVersion}
-use Rattle.machine_desc.specs.Version.{newest, IsKnown, most}
-use Rattle.machine_desc.specs.Table.{row, version_name}
-use Rattle.machine_desc.specs.Description.{version_in, version, value_fault}
+use Rattle.machine_desc.specs.Version.{newest, IsKnown, most, knows_hold}
+use Rattle.machine_desc.specs.Table.{values_of, version_name}
+use Rattle.machine_desc.specs.Description.{version_in, version, fault_of, setting_in}
 
 within : (n v : ℕ) (low high : Bool) (e : DescFault) → nat_le 1 n ≡ low → nat_le n newest ≡ high → (if low && high then Ok n else Err e) ≡ Ok v → IsKnown v
 within n v true true e l h q =
@@ -37,13 +38,27 @@ by_first in_1 in_2 n false wider h = h
 pub most_up_to : (in_1 in_2 version n : ℕ) → in_1 ≤ in_2 → n ≤ most in_1 in_2 version → n ≤ in_2
 most_up_to in_1 in_2 version n wider h = by_first in_1 in_2 n (version == 1) wider h
 
--- the number of version 1 is at most that of any version
-by_first_least : (in_1 in_2 : ℕ) (one : Bool) → in_1 ≤ in_2 → in_1 ≤ (if one then in_1 else in_2)
-by_first_least in_1 in_2 true wider = omega arith
-by_first_least in_1 in_2 false wider = wider
+-- ---- a version knows what is there since version 2 where it isn't the first
 
-pub first_within : (in_1 in_2 version : ℕ) → in_1 ≤ in_2 → in_1 ≤ most in_1 in_2 version
-first_within in_1 in_2 version wider = by_first_least in_1 in_2 (version == 1) wider
+one_or_two : (v : ℕ) → IsKnown v → (v ≡ 1) ⊎ (v ≡ 2)
+one_or_two v k = grind (arith, k.0, k.1)
+
+-- what holds of both versions holds of each that is known
+in_each : (P : ℕ → Type 0) (v : ℕ) → IsKnown v → P 1 → P 2 → P v
+in_each P v k one two = by_version (one_or_two v k)
+  where
+    by_version : (v ≡ 1) ⊎ (v ≡ 2) → P v
+    by_version (inl e) = subst P (sym e) one
+    by_version (inr e) = subst P (sym e) two
+
+pub most_if_known : (least greatest v n : ℕ) → IsKnown v → n ≤ most least greatest v → n ≤ (if nat_le 2 v then greatest else least)
+most_if_known least greatest v n k = in_each (λ x. n ≤ most least greatest x → n ≤ (if nat_le 2 x then greatest else least)) v k (λ h. h) (λ h. h)
+
+pub most_by_version : (least greatest v n : ℕ) → IsKnown v → n ≤ (if nat_le 2 v then greatest else least) → n ≤ most least greatest v
+most_by_version least greatest v n k = in_each (λ x. n ≤ (if nat_le 2 x then greatest else least) → n ≤ most least greatest x) v k (λ h. h) (λ h. h)
+
+pub hold_if_known : (v : ℕ) → IsKnown v → knows_hold v ≡ nat_le 2 v
+hold_if_known v k = in_each (λ x. knows_hold x ≡ nat_le 2 x) v k refl refl
 
 -- ---- versions: without a value it is 1; 1 and 2 are known; no other number is, and nothing else is a version
 
@@ -72,7 +87,7 @@ of_text = refl
 
 -- the fault of a number as a key's value in a version
 abbrev pub told : ℕ → Key → ℕ → Option DescFault
-told version key n = value_fault key (row version key).values (Some (integer (pos n)))
+told version key n = fault_of (setting_in key (values_of version key) (Some (integer (pos n))))
 
 rob : (told 1 CoreRob 64 ≡ None) × (told 1 CoreRob 65 ≡ Some (Range CoreRob (pos 65)))
     × (told 2 CoreRob 192 ≡ None) × (told 2 CoreRob 193 ≡ Some (Range CoreRob (pos 193)))

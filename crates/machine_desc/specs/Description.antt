@@ -11,7 +11,7 @@ use Rattle.machine_desc.specs.declared.Defence.{Defence}
 use Rattle.machine_desc.specs.declared.Defence.TheVariants.{Stt as SttDefence, Hold}
 use Rattle.machine_desc.specs.declared.keys.Section.{Section}
 use Rattle.machine_desc.specs.declared.keys.Key.{Key}
-use Rattle.machine_desc.specs.declared.keys.Key.TheVariants.{CacheHitLatency, CacheMissLatency, CacheMshrs, CacheSecondSets, CacheSecondLatency, RamBase, RamSize, RamMisaligned, SttModel as ModelKey, SttDefence as DefenceKey}
+use Rattle.machine_desc.specs.declared.keys.Key.TheVariants.{CoreFetchWidth, CoreRetireWidth, CoreRob, CoreStations, CoreLoads, CoreStores, CoreQueue, UnitsAlus, UnitsMulLatency, PredictorCounters, PredictorBtb, CacheSets, CacheWays, CacheLine, CacheHitLatency, CacheMissLatency, CacheMshrs, RamBase, RamSize, SttModel as ModelKey, RamMisaligned, PredictorDepend, PredictorHistory, PredictorReturns, CacheSecondSets, CacheSecondWays, CacheSecondLatency, CachePrefetch, SttDefence as DefenceKey}
 use Rattle.machine_desc.specs.declared.keys.Shape.{Shape}
 use Rattle.machine_desc.specs.declared.keys.Shape.TheVariants.{Any, PowerOfTwo, ZeroOrPowerOfTwo, MultipleOf16}
 use Rattle.machine_desc.specs.declared.keys.Values.{Values}
@@ -19,8 +19,8 @@ use Rattle.machine_desc.specs.declared.keys.Values.TheVariants.{Numbers, Optiona
 use Rattle.machine_desc.specs.declared.fault.Subject.TheVariants.{Version as OfVersion, Table as OfTable, Key as OfKey}
 use Rattle.machine_desc.specs.declared.fault.DescFault.{DescFault}
 use Rattle.machine_desc.specs.declared.fault.DescFault.TheVariants.{Syntax, Unknown, Missing, Kind, Version, Range, Shape as WrongShape}
-use Rattle.machine_desc.specs.Version.{newest, knows_off, knows_hold, comes_between}
-use Rattle.machine_desc.specs.Table.{row, section_of, name_of, section_name, version_name, sections, number_keys, keys, some_top, some_key}
+use Rattle.machine_desc.specs.Version.{newest, knows_off, comes_between}
+use Rattle.machine_desc.specs.Table.{values_of, is_known, section_of, name_of, section_name, version_name, sections, keys, some_top, some_key}
 
 -- the first fault of a list of places, if there is one
 abbrev pub first : List (Option DescFault) → Option DescFault
@@ -133,41 +133,51 @@ defence_in key hold None = Ok SttDefence
 defence_in key hold (Some (string text)) = defence_named key hold text
 defence_in key hold (Some other) = Err (Kind (OfKey key))
 
+-- what a key is set to: a number, a model or a defence
+pub data Setting : Type 0 where
+  OneNumber : ℕ → Setting
+  OneModel : SttModel → Setting
+  OneDefence : Defence → Setting
+
+-- a setting that is made of an answer, if it is none of a fault
+abbrev pub set_to : {A : Type 0} → (A → Setting) → Result A DescFault → Result Setting DescFault
+set_to make (Ok x) = Ok (make x)
+set_to make (Err fault) = Err fault
+
+-- what a value sets its key to, by what the key may have
+abbrev pub setting_in : Key → Values → Option Data → Result Setting DescFault
+setting_in key (Numbers least most shape) value = set_to OneNumber (number_in key least most shape value)
+setting_in key (Optional least most shape) value = set_to OneNumber (number_or_least key least most shape value)
+setting_in key (Models off) value = set_to OneModel (model_in key off value)
+setting_in key (Defences hold) value = set_to OneDefence (defence_in key hold value)
+
+-- what a document of a version sets a key to
+abbrev pub setting : ℕ → Members → Key → Result Setting DescFault
+setting version document key = setting_in key (values_of version key) (value_at document key)
+
 -- why an answer is none
-abbrev pub fault_of : {T : Type 0} → Result T DescFault → Option DescFault
+abbrev pub fault_of : {A : Type 0} → Result A DescFault → Option DescFault
 fault_of (Ok _) = None
 fault_of (Err fault) = Some fault
 
--- the fault of a value, by what its key may have
-abbrev pub value_fault : Key → Values → Option Data → Option DescFault
-value_fault key (Numbers least most shape) value = fault_of (number_in key least most shape value)
-value_fault key (Optional least most shape) value = fault_of (number_or_least key least most shape value)
-value_fault key (Models off) value = fault_of (model_in key off value)
-value_fault key (Defences hold) value = fault_of (defence_in key hold value)
-
 -- the fault of a key in a version
 unfoldable pub key_fault : ℕ → Members → Key → Option DescFault
-key_fault version document key = value_fault key (row version key).values (value_at document key)
+key_fault version document key = fault_of (setting version document key)
 
 -- the first fault of the keys' values, in the order of the keys
 unfoldable pub keys_fault : ℕ → Members → Option DescFault
 keys_fault version document = first (map (key_fault version document) keys)
 
--- a number, 0 where there is a fault
-abbrev pub number_or_zero : Result ℕ DescFault → ℕ
-number_or_zero (Ok n) = n
-number_or_zero (Err fault) = 0
+-- the number that a value gives, by what its key may have: one that has names has none
+abbrev pub number_of : Key → Values → Option Data → Result ℕ DescFault
+number_of key (Numbers least most shape) value = number_in key least most shape value
+number_of key (Optional least most shape) value = number_or_least key least most shape value
+number_of key (Models off) value = Err (Kind (OfKey key))
+number_of key (Defences hold) value = Err (Kind (OfKey key))
 
--- the number that a value gives, by what its key may have
-abbrev pub number_of : Key → Values → Option Data → ℕ
-number_of key (Numbers least most shape) value = number_or_zero (number_in key least most shape value)
-number_of key (Optional least most shape) value = number_or_zero (number_or_least key least most shape value)
-number_of key (Models off) value = 0
-number_of key (Defences hold) value = 0
-
--- the number of a key, 0 where it has a fault
-abbrev pub number : ℕ → Members → Key → ℕ
-number version document key = number_of key (row version key).values (value_at document key)
+-- the number of a key
+abbrev pub number : ℕ → Members → Key → Result ℕ DescFault
+number version document key = number_of key (values_of version key) (value_at document key)
 
 -- the model of a document
 abbrev pub model : ℕ → Members → Result SttModel DescFault
@@ -175,28 +185,44 @@ model version document = model_in ModelKey (knows_off version) (value_at documen
 
 -- the defence of a document
 abbrev pub defence : ℕ → Members → Result Defence DescFault
-defence version document = defence_in DefenceKey (knows_hold version) (value_at document DefenceKey)
+defence version document = defence_in DefenceKey (is_known version DefenceKey) (value_at document DefenceKey)
+
+-- ---- the tests on several numbers
+
+-- the fault of a test on a number; a number that isn't there has its own
+abbrev pub with_number : Result ℕ DescFault → (ℕ → Option DescFault) → Option DescFault
+with_number (Ok n) test = test n
+with_number (Err fault) test = Some fault
 
 -- a miss takes longer than a hit
 unfoldable pub latency_fault : ℕ → Members → Option DescFault
 latency_fault v document =
-    if nat_lt (number v document CacheHitLatency) (number v document CacheMissLatency) then None else Some (WrongShape CacheMissLatency)
+    with_number (number v document CacheHitLatency) (λ hit.
+    with_number (number v document CacheMissLatency) (λ miss.
+    if nat_lt hit miss then None else Some (WrongShape CacheMissLatency)))
 
 -- RAM ends at or below 2^32
 unfoldable pub end_fault : ℕ → Members → Option DescFault
 end_fault v document =
-    if nat_le (number v document RamBase + number v document RamSize) (2 ^ 32) then None else Some (WrongShape RamSize)
+    with_number (number v document RamBase) (λ base.
+    with_number (number v document RamSize) (λ size.
+    if nat_le (base + size) (2 ^ 32) then None else Some (WrongShape RamSize)))
 
 -- where an access may lie in two lines there are two miss registers
 unfoldable pub registers_fault : ℕ → Members → Option DescFault
 registers_fault v document =
-    if nat_le (2 * number v document RamMisaligned) (number v document CacheMshrs) then None else Some (WrongShape CacheMshrs)
+    with_number (number v document RamMisaligned) (λ misaligned.
+    with_number (number v document CacheMshrs) (λ mshrs.
+    if nat_le (2 * misaligned) mshrs then None else Some (WrongShape CacheMshrs)))
 
 -- a line of the second level comes between a hit and a miss
 unfoldable pub second_fault : ℕ → Members → Option DescFault
 second_fault v document =
-    if comes_between (number v document CacheSecondSets) (number v document CacheHitLatency) (number v document CacheSecondLatency) (number v document CacheMissLatency)
-    then None else Some (WrongShape CacheSecondLatency)
+    with_number (number v document CacheSecondSets) (λ sets.
+    with_number (number v document CacheHitLatency) (λ hit.
+    with_number (number v document CacheSecondLatency) (λ second.
+    with_number (number v document CacheMissLatency) (λ miss.
+    if comes_between sets hit second miss then None else Some (WrongShape CacheSecondLatency)))))
 
 -- ---- the whole of a document
 
@@ -211,43 +237,72 @@ document_fault version document = first (
     registers_fault version document ∷
     second_fault version document ∷ [])
 
--- what a description holds: its version, its numbers in the order of their keys, its model and its defence
+-- a setting in front of others, if there is no fault of those
+abbrev pub set_before : Setting → Result (List Setting) DescFault → Result (List Setting) DescFault
+set_before setting (Ok more) = Ok (setting ∷ more)
+set_before setting (Err fault) = Err fault
+
+-- all that a list of answers sets, or the first fault among them
+abbrev pub all_set : List (Result Setting DescFault) → Result (List Setting) DescFault
+all_set [] = Ok []
+all_set (Ok setting ∷ more) = set_before setting (all_set more)
+all_set (Err fault ∷ more) = Err fault
+
+-- what a document of a version sets the keys to, in their order
+abbrev pub settings : ℕ → Members → Result (List Setting) DescFault
+settings version document = all_set (map (setting version document) keys)
+
+-- what a description holds: its version, and what each key is set to, in the order of the keys
 pub record Contents : Type 0 where
   pub version : ℕ
-  pub numbers : List ℕ
-  pub model : SttModel
-  pub defence : Defence
+  pub settings : List Setting
 
--- the contents of a description, each number in its key's place
+-- what a key is set to in a description
+abbrev pub setting_of : Desc → Key → Setting
+setting_of d CoreFetchWidth = OneNumber d.core_fetch_width
+setting_of d CoreRetireWidth = OneNumber d.core_retire_width
+setting_of d CoreRob = OneNumber d.core_rob
+setting_of d CoreStations = OneNumber d.core_stations
+setting_of d CoreLoads = OneNumber d.core_loads
+setting_of d CoreStores = OneNumber d.core_stores
+setting_of d CoreQueue = OneNumber d.core_queue
+setting_of d UnitsAlus = OneNumber d.units_alus
+setting_of d UnitsMulLatency = OneNumber d.units_mul_latency
+setting_of d PredictorCounters = OneNumber d.predictor_counters
+setting_of d PredictorBtb = OneNumber d.predictor_btb
+setting_of d CacheSets = OneNumber d.cache_sets
+setting_of d CacheWays = OneNumber d.cache_ways
+setting_of d CacheLine = OneNumber d.cache_line
+setting_of d CacheHitLatency = OneNumber d.cache_hit_latency
+setting_of d CacheMissLatency = OneNumber d.cache_miss_latency
+setting_of d CacheMshrs = OneNumber d.cache_mshrs
+setting_of d RamBase = OneNumber d.ram_base
+setting_of d RamSize = OneNumber d.ram_size
+setting_of d ModelKey = OneModel d.stt_model
+setting_of d RamMisaligned = OneNumber d.ram_misaligned
+setting_of d PredictorDepend = OneNumber d.predictor_depend
+setting_of d PredictorHistory = OneNumber d.predictor_history
+setting_of d PredictorReturns = OneNumber d.predictor_returns
+setting_of d CacheSecondSets = OneNumber d.cache_second_sets
+setting_of d CacheSecondWays = OneNumber d.cache_second_ways
+setting_of d CacheSecondLatency = OneNumber d.cache_second_latency
+setting_of d CachePrefetch = OneNumber d.cache_prefetch
+setting_of d DefenceKey = OneDefence d.stt_defence
+
+-- the contents of a description
 abbrev pub contents : Desc → Contents
-contents d = record {
-  version = d.version;
-  numbers =
-      d.core_fetch_width ∷ d.core_retire_width ∷ d.core_rob ∷ d.core_stations ∷ d.core_loads ∷ d.core_stores ∷ d.core_queue ∷
-      d.units_alus ∷ d.units_mul_latency ∷
-      d.predictor_counters ∷ d.predictor_btb ∷
-      d.cache_sets ∷ d.cache_ways ∷ d.cache_line ∷ d.cache_hit_latency ∷ d.cache_miss_latency ∷ d.cache_mshrs ∷
-      d.ram_base ∷ d.ram_size ∷
-      d.ram_misaligned ∷
-      d.predictor_depend ∷ d.predictor_history ∷ d.predictor_returns ∷
-      d.cache_second_sets ∷ d.cache_second_ways ∷ d.cache_second_latency ∷ d.cache_prefetch ∷ [];
-  model = d.stt_model;
-  defence = d.stt_defence;
-}
+contents d = record { version = d.version; settings = map (setting_of d) keys }
 
 -- the contents, unless there is a fault, of which the first is answered
-abbrev pub contents_or : Option DescFault → ℕ → List ℕ → Result SttModel DescFault → Result Defence DescFault → Result Contents DescFault
-contents_or (Some fault) version numbers model defence = Err fault
-contents_or None version numbers (Err fault) defence = Err fault
-contents_or None version numbers (Ok model) (Err fault) = Err fault
-contents_or None version numbers (Ok model) (Ok defence) =
-    Ok (record { version = version; numbers = numbers; model = model; defence = defence })
+abbrev pub contents_or : Option DescFault → ℕ → Result (List Setting) DescFault → Result Contents DescFault
+contents_or (Some fault) version settings = Err fault
+contents_or None version (Err fault) = Err fault
+contents_or None version (Ok settings) = Ok (record { version = version; settings = settings })
 
 -- the contents of a document by its version, or the first fault
 abbrev pub contents_by : Result ℕ DescFault → Members → Result Contents DescFault
 contents_by (Err fault) document = Err fault
-contents_by (Ok v) document =
-    contents_or (document_fault v document) v (map (number v document) number_keys) (model v document) (defence v document)
+contents_by (Ok v) document = contents_or (document_fault v document) v (settings v document)
 
 -- the contents of a document, or its first fault: the version is looked at before all else
 abbrev pub document_contents : Members → Result Contents DescFault
@@ -262,6 +317,6 @@ text_contents (Some document) = document_contents document
 unfoldable pub description_of : List ℕ → Result Contents DescFault
 description_of bytes = if is_utf8 bytes then text_contents (parse_document bytes) else Err Syntax
 
--- a text describes d: its bytes are those of a description with the contents of d
+-- a text describes d: it has no fault, it is of the version of d, and it sets each key to what d has there
 abbrev pub Describes : List ℕ → Desc → Type 0
 Describes bytes d = description_of bytes ≡ Ok (contents d)

@@ -4,12 +4,12 @@ use Rattle.machine_desc.specs.declared.Desc.{Desc}
 use Rattle.machine_desc.specs.declared.keys.Key.{Key}
 use Rattle.machine_desc.specs.declared.keys.Key.TheVariants.{CoreFetchWidth, CoreRetireWidth, CoreRob, CoreStations, CoreLoads, CoreStores, CoreQueue, UnitsAlus, UnitsMulLatency, PredictorCounters, PredictorBtb, CacheSets, CacheWays, CacheLine, CacheHitLatency, CacheMissLatency, CacheMshrs, RamBase, RamSize, RamMisaligned, PredictorDepend, PredictorHistory, PredictorReturns, CacheSecondSets, CacheSecondWays, CacheSecondLatency, CachePrefetch}
 use Rattle.machine_desc.specs.Version.{IsKnown, knows_model, knows_defence}
-use Rattle.machine_desc.specs.Table.{row}
+use Rattle.machine_desc.specs.Table.{values_of}
 use Rattle.machine_desc.specs.Clean.{Fits}
 
 -- a number is one of those that the table of keys gives its key in a version
 abbrev pub MayBe : ℕ → Key → ℕ → Type 0
-MayBe version key n = Fits (row version key).values n
+MayBe version key n = Fits (values_of version key) n
 
 -- the version is 1 or 2; every number is in the range of its key and of the shape of its key; the version knows the
 -- model and the defence; a miss takes longer than a hit; RAM ends at or below 2^32; an access that may lie in two lines

@@ -1,5 +1,5 @@
 -- The table of the keys (docs/formats.md, "Machine descriptions").
-use Rattle.std.specs.Prelude.{Bool, true, nat_lt, ℕ, List, [], ◌∷◌, ◌++◌, ◌&&◌, ◌||◌, codes}
+use Rattle.std.specs.Prelude.{Bool, true, nat_le, ℕ, if◌then◌else◌, List, [], ◌∷◌, ◌++◌, ◌&&◌, ◌||◌, codes}
 use Rattle.std.specs.List.{list_any}
 use Rattle.std.specs.Str.{bytes_eq}
 use Rattle.machine_desc.specs.declared.keys.Section.{Section}
@@ -12,53 +12,54 @@ use Rattle.machine_desc.specs.declared.keys.Values.{Values}
 use Rattle.machine_desc.specs.declared.keys.Values.TheVariants.{Numbers, Optional, Models, Defences}
 use Rattle.machine_desc.specs.declared.fault.Subject.{Subject}
 use Rattle.machine_desc.specs.declared.fault.Subject.TheVariants.{Version as OfVersion, Table as OfTable, Key as OfKey}
-use Rattle.machine_desc.specs.Version.{most, knows_off, knows_hold}
+use Rattle.machine_desc.specs.Version.{most, knows_off}
 
--- where a key stands, and which values it may have
+-- since which version a key is there, where it stands, and which values it may have
 pub record Row : Type 0 where
+  pub since : ℕ
   pub section : Section
   pub name : List ℕ
   pub values : Values
 
 -- the row of a key whose values are the whole numbers from least to most that have a shape
-abbrev pub whole : Section → List ℕ → ℕ → ℕ → Shape → Row
-whole section name least most shape = record { section = section; name = name; values = Numbers least most shape }
+abbrev pub whole : ℕ → Section → List ℕ → ℕ → ℕ → Shape → Row
+whole since section name least most shape = record { since = since; section = section; name = name; values = Numbers least most shape }
 
 -- a row of a key that may be left out: it then has the least of its numbers
-abbrev pub optional : Section → List ℕ → ℕ → ℕ → Shape → Row
-optional section name least most shape = record { section = section; name = name; values = Optional least most shape }
+abbrev pub optional : ℕ → Section → List ℕ → ℕ → ℕ → Shape → Row
+optional since section name least most shape = record { since = since; section = section; name = name; values = Optional least most shape }
 
--- the rows of a version: table, name, least, most, shape
+-- the rows of a version: since which version the key is there, its table, name, least, most and shape
 abbrev pub row : ℕ → Key → Row
-row v CoreFetchWidth = whole Core (codes "fetch_width") 1 4 Any
-row v CoreRetireWidth = whole Core (codes "retire_width") 1 4 Any
-row v CoreRob = whole Core (codes "rob") 4 (most 64 192 v) Any
-row v CoreStations = whole Core (codes "stations") 2 (most 32 96 v) Any
-row v CoreLoads = whole Core (codes "loads") 1 (most 16 64 v) Any
-row v CoreStores = whole Core (codes "stores") 1 (most 16 48 v) Any
-row v CoreQueue = whole Core (codes "queue") 1 (most 16 32 v) Any
-row v UnitsAlus = whole Units (codes "alus") 1 4 Any
-row v UnitsMulLatency = whole Units (codes "mul_latency") 1 8 Any
-row v PredictorCounters = whole Predictor (codes "counters") 2 4096 PowerOfTwo
-row v PredictorBtb = whole Predictor (codes "btb") 1 256 PowerOfTwo
-row v CacheSets = whole Cache (codes "sets") 1 256 PowerOfTwo
-row v CacheWays = whole Cache (codes "ways") 1 8 Any
-row v CacheLine = whole Cache (codes "line") 4 64 PowerOfTwo
-row v CacheHitLatency = whole Cache (codes "hit_latency") 1 8 Any
-row v CacheMissLatency = whole Cache (codes "miss_latency") 2 200 Any
-row v CacheMshrs = whole Cache (codes "mshrs") 1 8 Any
-row v RamBase = whole Ram (codes "base") 0 4294963200 MultipleOf16
-row v RamSize = whole Ram (codes "size") 4096 16777216 MultipleOf16
-row v SttModel = record { section = Stt; name = codes "model"; values = Models (knows_off v) }
-row v RamMisaligned = optional Ram (codes "misaligned") 0 (most 0 1 v) Any
-row v PredictorDepend = optional Predictor (codes "depend") 0 (most 0 1024 v) ZeroOrPowerOfTwo
-row v PredictorHistory = optional Predictor (codes "history") 0 (most 0 12 v) Any
-row v PredictorReturns = optional Predictor (codes "returns") 0 (most 0 16 v) Any
-row v CacheSecondSets = optional Cache (codes "second_sets") 0 (most 0 1024 v) ZeroOrPowerOfTwo
-row v CacheSecondWays = optional Cache (codes "second_ways") 1 (most 1 8 v) Any
-row v CacheSecondLatency = optional Cache (codes "second_latency") 2 (most 2 100 v) Any
-row v CachePrefetch = optional Cache (codes "prefetch") 0 (most 0 1 v) Any
-row v SttDefence = record { section = Stt; name = codes "defence"; values = Defences (knows_hold v) }
+row v CoreFetchWidth = whole 1 Core (codes "fetch_width") 1 4 Any
+row v CoreRetireWidth = whole 1 Core (codes "retire_width") 1 4 Any
+row v CoreRob = whole 1 Core (codes "rob") 4 (most 64 192 v) Any
+row v CoreStations = whole 1 Core (codes "stations") 2 (most 32 96 v) Any
+row v CoreLoads = whole 1 Core (codes "loads") 1 (most 16 64 v) Any
+row v CoreStores = whole 1 Core (codes "stores") 1 (most 16 48 v) Any
+row v CoreQueue = whole 1 Core (codes "queue") 1 (most 16 32 v) Any
+row v UnitsAlus = whole 1 Units (codes "alus") 1 4 Any
+row v UnitsMulLatency = whole 1 Units (codes "mul_latency") 1 8 Any
+row v PredictorCounters = whole 1 Predictor (codes "counters") 2 4096 PowerOfTwo
+row v PredictorBtb = whole 1 Predictor (codes "btb") 1 256 PowerOfTwo
+row v CacheSets = whole 1 Cache (codes "sets") 1 256 PowerOfTwo
+row v CacheWays = whole 1 Cache (codes "ways") 1 8 Any
+row v CacheLine = whole 1 Cache (codes "line") 4 64 PowerOfTwo
+row v CacheHitLatency = whole 1 Cache (codes "hit_latency") 1 8 Any
+row v CacheMissLatency = whole 1 Cache (codes "miss_latency") 2 200 Any
+row v CacheMshrs = whole 1 Cache (codes "mshrs") 1 8 Any
+row v RamBase = whole 1 Ram (codes "base") 0 4294963200 MultipleOf16
+row v RamSize = whole 1 Ram (codes "size") 4096 16777216 MultipleOf16
+row v SttModel = record { since = 1; section = Stt; name = codes "model"; values = Models (knows_off v) }
+row v RamMisaligned = optional 2 Ram (codes "misaligned") 0 1 Any
+row v PredictorDepend = optional 2 Predictor (codes "depend") 0 1024 ZeroOrPowerOfTwo
+row v PredictorHistory = optional 2 Predictor (codes "history") 0 12 Any
+row v PredictorReturns = optional 2 Predictor (codes "returns") 0 16 Any
+row v CacheSecondSets = optional 2 Cache (codes "second_sets") 0 1024 ZeroOrPowerOfTwo
+row v CacheSecondWays = optional 2 Cache (codes "second_ways") 1 8 Any
+row v CacheSecondLatency = optional 2 Cache (codes "second_latency") 2 100 Any
+row v CachePrefetch = optional 2 Cache (codes "prefetch") 0 1 Any
+row v SttDefence = record { since = 2; section = Stt; name = codes "defence"; values = Defences true }
 
 -- where a key stands, which is the same in every version
 abbrev pub section_of : Key → Section
@@ -84,24 +85,27 @@ optional_numbers =
     PredictorDepend ∷ PredictorHistory ∷ PredictorReturns ∷
     CacheSecondSets ∷ CacheSecondWays ∷ CacheSecondLatency ∷ CachePrefetch ∷ []
 
--- the keys of numbers, in order
-abbrev pub number_keys : List Key
-number_keys = required_numbers ++ optional_numbers
-
 -- the keys of a description, in order
 abbrev pub keys : List Key
 keys = required_numbers ++ SttModel ∷ optional_numbers ++ SttDefence ∷ []
 
--- a key that may be left out has a choice where more than its least is allowed, or a second defence; any other always
--- has one
-abbrev pub has_choice : Values → Bool
-has_choice (Optional least most shape) = nat_lt least most
-has_choice (Defences hold) = hold
-has_choice _ = true
+-- since which version a key is there
+abbrev pub since_of : Key → ℕ
+since_of key = (row 1 key).since
 
--- a version knows the keys that have a choice in it: version 1 knows none that may be left out
+-- a version knows the keys that are there since it, or since an earlier one
 abbrev pub is_known : ℕ → Key → Bool
-is_known version key = has_choice (row version key).values
+is_known version key = nat_le (since_of key) version
+
+-- a key that isn't known has the value alone that it has where it is left out: its least, or the first defence
+abbrev pub where_known : Bool → Values → Values
+where_known known (Optional least most shape) = Optional least (if known then most else least) shape
+where_known known (Defences hold) = Defences (hold && known)
+where_known known values = values
+
+-- the values that a key may have in a version
+abbrev pub values_of : ℕ → Key → Values
+values_of version key = where_known (is_known version key) (row version key).values
 
 -- the tables, in the order of their keys
 abbrev pub sections : List Section

@@ -1,12 +1,11 @@
 //! The table of the keys: where each stands and which values it may have.
 //!
 //! `docs/formats.md`, "Machine descriptions", has the same table with what each key means. A further key is one more
-//! variant, its place in `KEYS`, and an arm of `section`, `name` and `values`. A version in which a key that may be
-//! left out has one value alone doesn't know its name.
+//! variant, its place in `KEYS`, and an arm of `since`, `section`, `name` and `range`.
 ghost use Rattle.std.specs.Prelude.{◌≡◌, ◌≤◌, ◌++◌, length, codes};
-ghost use Rattle.machine_desc.specs.Table.{section_name, row, section_of, name_of, key_text, has_choice, is_known};
+ghost use Rattle.machine_desc.specs.Table.{section_name, row, values_of, where_known, since_of, section_of, name_of, key_text, is_known};
 ghost use Rattle.machine_desc.specs.Table.{some_key, some_section, some_top, stands_at};
-ghost use Rattle.machine_desc.specs.Version.{most, knows_off, knows_hold};
+ghost use Rattle.machine_desc.specs.Version.{most, knows_off};
 
 use crate::Name;
 use std::fmt;
@@ -175,21 +174,20 @@ pub(crate) fn knows_off(version: u32) -> bool
     version != 1
 }
 
-// May the defence `hold` be? In each but the first.
-pub(crate) fn knows_hold(version: u32) -> bool
-    ensures { result ≡ knows_hold version }
-{
-    version != 1
-}
-
-// Is there a choice of values? A key that has to be there always has one.
-fn has_choice(values: Values) -> bool
-    ensures { result ≡ has_choice values }
+// The values of a key: the one alone that it has where it is left out, if the key isn't known.
+fn where_known(known: bool, values: Values) -> Values
+    ensures { result ≡ where_known known values }
 {
     match values {
-        Values::Optional { least, most, .. } => least < most,
-        Values::Defences { hold } => hold,
-        Values::Numbers { .. } | Values::Models { .. } => true,
+        Values::Optional { least, most, shape } => Values::Optional {
+            least,
+            most: if known { most } else { least },
+            shape,
+        },
+        Values::Defences { hold } => Values::Defences {
+            hold: hold && known,
+        },
+        Values::Numbers { .. } | Values::Models { .. } => values,
     }
 }
 
@@ -265,8 +263,8 @@ impl Key {
         }
     }
 
-    /// The values that the key may have in a version.
-    pub(crate) fn values(self, version: u32) -> Values
+    // The values that the key may have in a version that knows it.
+    fn range(self, version: u32) -> Values
         ensures { result ≡ (row version self).values }
     {
         match self {
@@ -292,25 +290,48 @@ impl Key {
             Key::SttModel => Values::Models {
                 off: knows_off(version),
             },
-            Key::RamMisaligned => optional(0, most(0, 1, version), Shape::Any),
-            Key::PredictorDepend => optional(0, most(0, 1024, version), Shape::ZeroOrPowerOfTwo),
-            Key::PredictorHistory => optional(0, most(0, 12, version), Shape::Any),
-            Key::PredictorReturns => optional(0, most(0, 16, version), Shape::Any),
-            Key::CacheSecondSets => optional(0, most(0, 1024, version), Shape::ZeroOrPowerOfTwo),
-            Key::CacheSecondWays => optional(1, most(1, 8, version), Shape::Any),
-            Key::CacheSecondLatency => optional(2, most(2, 100, version), Shape::Any),
-            Key::CachePrefetch => optional(0, most(0, 1, version), Shape::Any),
-            Key::SttDefence => Values::Defences {
-                hold: knows_hold(version),
-            },
+            Key::RamMisaligned => optional(0, 1, Shape::Any),
+            Key::PredictorDepend => optional(0, 1024, Shape::ZeroOrPowerOfTwo),
+            Key::PredictorHistory => optional(0, 12, Shape::Any),
+            Key::PredictorReturns => optional(0, 16, Shape::Any),
+            Key::CacheSecondSets => optional(0, 1024, Shape::ZeroOrPowerOfTwo),
+            Key::CacheSecondWays => optional(1, 8, Shape::Any),
+            Key::CacheSecondLatency => optional(2, 100, Shape::Any),
+            Key::CachePrefetch => optional(0, 1, Shape::Any),
+            Key::SttDefence => Values::Defences { hold: true },
+        }
+    }
+
+    // Since which version the key is there.
+    fn since(self) -> u32
+        ensures { result ≡ since_of self }
+    {
+        match self {
+            Key::RamMisaligned
+            | Key::PredictorDepend
+            | Key::PredictorHistory
+            | Key::PredictorReturns
+            | Key::CacheSecondSets
+            | Key::CacheSecondWays
+            | Key::CacheSecondLatency
+            | Key::CachePrefetch
+            | Key::SttDefence => 2,
+            _ => 1,
         }
     }
 
     // Does this version know the key?
-    fn is_known(self, version: u32) -> bool
+    pub(crate) fn is_known(self, version: u32) -> bool
         ensures { result ≡ is_known version self }
     {
-        has_choice(self.values(version))
+        self.since() <= version
+    }
+
+    /// The values that the key may have in a version.
+    pub(crate) fn values(self, version: u32) -> Values
+        ensures { result ≡ values_of version self }
+    {
+        where_known(self.is_known(version), self.range(version))
     }
 
     // Does the key, if this version knows it, stand in this table under this name?

@@ -4,17 +4,18 @@
 ghost use Rattle.std.specs.Prelude.{◌≡◌, ◌≢◌, IsTrue, IsUtf8, Ok, Err, IfOk, IfErr, MatchResult, Some, None, map};
 ghost use Rattle.toml.specs.View.{table_view, view};
 ghost use Rattle.toml.specs.Data.{get_member};
-ghost use Rattle.machine_desc.specs.Table.{number_keys};
-ghost use Rattle.machine_desc.specs.Clean.{IsClean};
+ghost use Rattle.machine_desc.specs.declared.keys.Key.{Key};
+ghost use Rattle.machine_desc.specs.Table.{values_of};
+ghost use Rattle.machine_desc.specs.Clean.{IsClean, has_numbers};
 ghost use Rattle.machine_desc.specs.Ranges.{MayBe};
-ghost use Rattle.machine_desc.specs.Version.{IsKnown, knows_model, knows_defence, comes_between};
-ghost use Rattle.machine_desc.specs.Description.{checked, first, version, top_fault, name_fault, section_fault, sections_fault, key_fault, keys_fault, number, model, defence, latency_fault, end_fault, registers_fault, second_fault, document_contents, document_fault, Contents, contents, description_of, Describes};
+ghost use Rattle.machine_desc.specs.Version.{IsKnown, comes_between};
+ghost use Rattle.machine_desc.specs.Description.{checked, first, version, top_fault, name_fault, section_fault, sections_fault, key_fault, keys_fault, number, model, defence, latency_fault, end_fault, registers_fault, second_fault, document_contents, document_fault, OneNumber, setting, setting_of, contents, description_of, Describes};
 
 use crate::document::{
     defence_in, member_of, model_in, number_in, number_or_least, unknown_key, unknown_section,
     value_at, version_in,
 };
-use crate::keys::{KEYS, SECTIONS, VERSION_NAME, Values, knows_hold, knows_off};
+use crate::keys::{KEYS, SECTIONS, VERSION_NAME, Values, knows_off};
 use crate::{Defence, Desc, DescFault, Key, Name, Section, SttModel, Subject};
 use std::alloc::Global;
 use toml::Table;
@@ -117,18 +118,15 @@ fn check_keys(version: u32, document: &Table) -> Result<(), DescFault>
     check_each_key(version, document, &KEYS)
 }
 
-// The number of a key, 0 where it has a fault.
-fn number(version: u32, document: &Table, key: Key) -> u32
+// The number of a key.
+fn number(version: u32, document: &Table, key: Key) -> Result<u32, DescFault>
     ensures { result ≡ number version (table_view document.now) key }
 {
+    let value = value_at(document, key);
     match key.values(version) {
-        Values::Numbers { least, most, shape } => {
-            number_in(key, least, most, shape, value_at(document, key)).unwrap_or(0)
-        }
-        Values::Optional { least, most, shape } => {
-            number_or_least(key, least, most, shape, value_at(document, key)).unwrap_or(0)
-        }
-        Values::Models { .. } | Values::Defences { .. } => 0,
+        Values::Numbers { least, most, shape } => number_in(key, least, most, shape, value),
+        Values::Optional { least, most, shape } => number_or_least(key, least, most, shape, value),
+        Values::Models { .. } | Values::Defences { .. } => Err(DescFault::Kind(Subject::Key(key))),
     }
 }
 
@@ -137,9 +135,9 @@ fn number(version: u32, document: &Table, key: Key) -> u32
 fn check_latencies(version: u32, document: &Table) -> Result<(), DescFault>
     ensures { result ≡ checked (latency_fault version (table_view document.now)) }
 {
-    if number(version, document, Key::CacheHitLatency)
-        < number(version, document, Key::CacheMissLatency)
-    {
+    let hit = number(version, document, Key::CacheHitLatency)?;
+    let miss = number(version, document, Key::CacheMissLatency)?;
+    if hit < miss {
         Ok(())
     } else {
         Err(DescFault::Shape(Key::CacheMissLatency))
@@ -151,9 +149,9 @@ fn check_latencies(version: u32, document: &Table) -> Result<(), DescFault>
 fn check_end(version: u32, document: &Table) -> Result<(), DescFault>
     ensures { result ≡ checked (end_fault version (table_view document.now)) }
 {
-    let end = number(version, document, Key::RamBase) as u64
-        + number(version, document, Key::RamSize) as u64;
-    if end <= 1 << 32 {
+    let base = number(version, document, Key::RamBase)?;
+    let size = number(version, document, Key::RamSize)?;
+    if base as u64 + size as u64 <= 1 << 32 {
         Ok(())
     } else {
         Err(DescFault::Shape(Key::RamSize))
@@ -165,8 +163,9 @@ fn check_end(version: u32, document: &Table) -> Result<(), DescFault>
 fn check_registers(version: u32, document: &Table) -> Result<(), DescFault>
     ensures { result ≡ checked (registers_fault version (table_view document.now)) }
 {
-    let lines = 2 * number(version, document, Key::RamMisaligned) as u64;
-    if lines <= number(version, document, Key::CacheMshrs) as u64 {
+    let misaligned = number(version, document, Key::RamMisaligned)?;
+    let mshrs = number(version, document, Key::CacheMshrs)?;
+    if 2 * misaligned as u64 <= mshrs as u64 {
         Ok(())
     } else {
         Err(DescFault::Shape(Key::CacheMshrs))
@@ -185,10 +184,10 @@ fn comes_between(second_sets: u32, hit: u32, second: u32, miss: u32) -> bool
 fn check_second(version: u32, document: &Table) -> Result<(), DescFault>
     ensures { result ≡ checked (second_fault version (table_view document.now)) }
 {
-    let second_sets = number(version, document, Key::CacheSecondSets);
-    let hit = number(version, document, Key::CacheHitLatency);
-    let second = number(version, document, Key::CacheSecondLatency);
-    let miss = number(version, document, Key::CacheMissLatency);
+    let second_sets = number(version, document, Key::CacheSecondSets)?;
+    let hit = number(version, document, Key::CacheHitLatency)?;
+    let second = number(version, document, Key::CacheSecondLatency)?;
+    let miss = number(version, document, Key::CacheMissLatency)?;
     if comes_between(second_sets, hit, second, miss) {
         Ok(())
     } else {
@@ -211,27 +210,27 @@ fn check_document(version: u32, document: &Table) -> Result<(), DescFault>
 }
 
 // The number of a key without fault.
-#[tactic(auto, unfolding(crate::specs::Description::key_fault))]
 fn clean_number(version: u32, document: &Table, key: Key) -> u32
     requires clean { key_fault version (table_view document.now) key ≡ None }
-    ensures number { result ≡ number version (table_view document.now) key }
+    requires whole { IsTrue (has_numbers (values_of version key)) }
+    ensures number { number version (table_view document.now) key ≡ Ok result }
+    ensures set { setting version (table_view document.now) key ≡ Ok (OneNumber result) }
     ensures fits { MayBe version key result }
 {
-    number(version, document, key)
+    match number(version, document, key) {
+        Ok(number) => number,
+        Err(_) => unreachable!(),
+    }
 }
 
 // The description of a document of this version without fault.
 fn desc(version: u32, document: &Table, stt_model: SttModel, stt_defence: Defence) -> Desc
     requires known { IsKnown version }
     requires clean { IsClean version (table_view document.now) }
-    requires model { IsTrue (knows_model version stt_model) }
-    requires defence { IsTrue (knows_defence version stt_defence) }
-    ensures { contents result ≡ record {
-      version = version;
-      numbers = map (number version (table_view document.now)) number_keys;
-      model = stt_model;
-      defence = stt_defence;
-    } }
+    requires model { model version (table_view document.now) ≡ Ok stt_model }
+    requires defence { defence version (table_view document.now) ≡ Ok stt_defence }
+    ensures version { result.version ≡ version }
+    ensures keys { (key : Key) → setting version (table_view document.now) key ≡ Ok (setting_of result key) }
 {
     Desc {
         version,
@@ -280,7 +279,7 @@ fn defence(version: u32, document: &Table) -> Result<Defence, DescFault>
     ensures { result ≡ defence version (table_view document.now) }
 {
     let value = value_at(document, Key::SttDefence);
-    defence_in(Key::SttDefence, knows_hold(version), value)
+    defence_in(Key::SttDefence, Key::SttDefence.is_known(version), value)
 }
 
 // The description of a document, or its first fault.

@@ -135,10 +135,14 @@ module _ (d : Desc) (x : Machine) (h : Timely d x) (p : Place) (t : Cleared d x 
 pub timely_clear : (d : Desc) (x : Machine) → IsDesc d → Timely d x → Timely d (clear d x).machine
 timely_clear d x i = clear_keep d (Timely d) (λ x p t h. timely_clears d x h p t) (λ x p q t u h. timely_violates d x h p t q u) x
 
+-- what holds of each entry, and doesn't ask whether it is cleared, holds of each behind Clear
+pub clear_each : (P : Entry → Type 0) → ((e : Entry) → P e → P (cleared_one e)) → (d : Desc) (x : Machine) → Each P x.window → Each P (clear d x).machine.window
+clear_each P f d =
+    clear_keep d (λ x. Each P x.window) (λ x p t h. each_cleared P d x p t (f p.entry) h p.younger (λ k. k))
+    (λ x p q t u h. each_cleared P d x p t (f p.entry) h (reverse q.before) (each_between P p q u))
+
 pub clear_settles : (d : Desc) (x : Machine) → Each WaitsOrDone x.window → Each WaitsOrDone (clear d x).machine.window
-clear_settles d =
-    clear_keep d (λ x. Each WaitsOrDone x.window) (λ x p t h. each_cleared WaitsOrDone d x p t (λ k. k) h p.younger (λ k. k))
-    (λ x p q t u h. each_cleared WaitsOrDone d x p t (λ k. k) h (reverse q.before) (each_between WaitsOrDone p q u))
+clear_settles = clear_each WaitsOrDone (λ e k. k)
 
 -- ---- marks: at a violation history and stack are those of the load
 

@@ -19,3 +19,5 @@ pub mod TimelyRun
 pub mod Adds
 pub mod Ports
 pub mod FewEvents
+pub mod KnownParts
+pub mod Lookups

@@ -45,7 +45,7 @@ module _ (d : Desc) (now : Around) where
       let rest = requests (map (look_up d now) ls) in
       subst (AllFresh d now low) (sym (append_assoc (request_by (look_up d now l)) rest more)) (line_more low l (rest ++ more) h.0 (lines_more (suc l) end ls more h.1 k))
 
-  line_found : (line : ℕ) → line_at (look_up d now line) ≡ line
+  pub line_found : (line : ℕ) → line_at (look_up d now line) ≡ line
   line_found line = by_line d now line (λ l. line_at l ≡ line) (λ h. refl) (λ m h. refl) (λ h. refl)
 
   -- what is prefetched lies above the load's own lines

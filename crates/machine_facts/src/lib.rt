@@ -15,6 +15,8 @@ ghost use Rattle.machine_facts.specs.Laws.{
   StatesAreTimely,
   StatesKeepShape,
 };
+ghost use Rattle.machine_facts.specs.Known.{IssuedIsKnown};
+ghost use Rattle.machine_facts.specs.InTurn.{AccessesGoInTurn, AccessesLeaveInTurn, OthersStay};
 
 /// Every state of a run has the sizes of its description, also of history and stack, all that is under way in it ends
 /// soon, and serials and the count of the retired are at most four times its cycle. Between two cycles and the next
@@ -30,4 +32,19 @@ pub fn states_keep()
     ensures retire_memory { RetireKeepsShape }
     ensures cycle_memory { CycleKeepsShape }
     ensures memory { StatesKeepShape }
+{}
+
+/// What has issued of a store's address or data is known in every phase that asks for it: in each cycle of a run, as
+/// Resolve, Clear, Retire and Issue begin, its due is at most the cycle.
+pub fn issued_is_known()
+    ensures { IssuedIsKnown }
+{}
+
+/// The order of a load's lines can't be seen: looking a line up isn't changed by what another line's access leaves. So
+/// what a load's lines come to, all looked up at once, is what they come to one after the other, the lower first, each
+/// on what the one before left, and then what is prefetched; and that is what an access leaves.
+pub fn lines_go_in_turn()
+    ensures others { OthersStay }
+    ensures found { AccessesGoInTurn }
+    ensures left { AccessesLeaveInTurn }
 {}

@@ -83,7 +83,8 @@ joined d now line (Some m) = Joins line m.due
 joined d now line None = Takes (request d now line)
 
 -- what a line that is looked up comes to: a hit where the cache has it, else by the miss register that waits for it, if
--- one does
+-- one does. All lines of an access are looked up on the state before it, and in turn they come to the same
+-- (`lines_go_in_turn` of machine_facts)
 abbrev pub look_up : Desc → Around → ℕ → Line
 look_up d now line =
     if has_line d now.cache line then Hits line else joined d now line (find (λ m. m.line == line) now.misses)

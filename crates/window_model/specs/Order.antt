@@ -63,7 +63,8 @@ abbrev pub is_store : Kind → Bool
 is_store Store = true
 is_store _ = false
 
--- a store's address part has issued: it is known in the next cycle, in which nothing asks before
+-- a store's address part has issued: it is known in the next cycle, and no phase asks before (`issued_is_known` of
+-- machine_facts)
 abbrev pub has_address : Entry → Bool
 has_address e = is_some e.addr_due
 

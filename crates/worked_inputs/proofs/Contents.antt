@@ -1,14 +1,14 @@
 -- Which number of a description is which key's, and what stands for keys that are left out (docs/formats.md, "Machine
 -- descriptions").
 use Rattle.std.proofs.Common.{◌≡◌, [], ◌∷◌, Ok, refl, inr, lit<, lit≤}
-use Rattle.std.specs.Prelude.{ℕ}
+use Rattle.std.specs.Prelude.{ℕ, ◌++◌, map}
 use lib.Count.{ones}
 use Rattle.toml.specs.Data.{Members, no_members}
 use Rattle.machine_desc.specs.declared.Desc.{Desc}
 use Rattle.machine_desc.specs.declared.SttModel.TheVariants.{Spectre, Off}
 use Rattle.machine_desc.specs.declared.Defence.TheVariants.{Stt, Hold}
 use Rattle.machine_desc.specs.Description.{document_fault, end_fault, key_fault, keys_fault, latency_fault, registers_fault, second_fault, sections_fault, top_fault}
-use Rattle.machine_desc.specs.Description.{Contents, contents, document_contents}
+use Rattle.machine_desc.specs.Description.{OneNumber, OneModel, OneDefence, Contents, contents, document_contents}
 use Rattle.machine_desc.specs.Example.{example}
 use Rattle.worked_inputs.proofs.Documents.{number, text, with_top, with_key, table_of, example_1, example_2}
 
@@ -16,9 +16,9 @@ use Rattle.worked_inputs.proofs.Documents.{number, text, with_top, with_key, tab
 abbrev example_contents : ℕ → Contents
 example_contents version = record {
   version = version;
-  numbers = 2 ∷ 2 ∷ 16 ∷ 8 ∷ 4 ∷ 4 ∷ 8 ∷ 2 ∷ 3 ∷ 16 ∷ 4 ∷ 2 ∷ 2 ∷ 16 ∷ 2 ∷ 10 ∷ 2 ∷ 65536 ∷ 65536 ∷ 0 ∷ 0 ∷ 0 ∷ 0 ∷ 0 ∷ 1 ∷ 2 ∷ 0 ∷ [];
-  model = Spectre;
-  defence = Stt;
+  settings =
+      map OneNumber (2 ∷ 2 ∷ 16 ∷ 8 ∷ 4 ∷ 4 ∷ 8 ∷ 2 ∷ 3 ∷ 16 ∷ 4 ∷ 2 ∷ 2 ∷ 16 ∷ 2 ∷ 10 ∷ 2 ∷ 65536 ∷ 65536 ∷ []) ++ OneModel Spectre ∷
+      map OneNumber (0 ∷ 0 ∷ 0 ∷ 0 ∷ 0 ∷ 1 ∷ 2 ∷ 0 ∷ []) ++ OneDefence Stt ∷ [];
 }
 
 left_out_in_1 : document_contents example_1 ≡ Ok (example_contents 1)
@@ -47,9 +47,9 @@ every_key =
 abbrev distinct_contents : Contents
 distinct_contents = record {
   version = 2;
-  numbers = 2 ∷ 3 ∷ 100 ∷ 50 ∷ 40 ∷ 30 ∷ 20 ∷ 4 ∷ 5 ∷ 2048 ∷ 64 ∷ 128 ∷ 6 ∷ 16 ∷ 7 ∷ 90 ∷ 8 ∷ 4096 ∷ 8192 ∷ 0 ∷ 256 ∷ 12 ∷ 13 ∷ 512 ∷ 1 ∷ 60 ∷ 1 ∷ [];
-  model = Off;
-  defence = Hold;
+  settings =
+      map OneNumber (2 ∷ 3 ∷ 100 ∷ 50 ∷ 40 ∷ 30 ∷ 20 ∷ 4 ∷ 5 ∷ 2048 ∷ 64 ∷ 128 ∷ 6 ∷ 16 ∷ 7 ∷ 90 ∷ 8 ∷ 4096 ∷ 8192 ∷ []) ++ OneModel Off ∷
+      map OneNumber (0 ∷ 256 ∷ 12 ∷ 13 ∷ 512 ∷ 1 ∷ 60 ∷ 1 ∷ []) ++ OneDefence Hold ∷ [];
 }
 
 each_key_is_read : document_contents every_key ≡ Ok distinct_contents

@@ -1,7 +1,7 @@
 -- The keys of a description, one by one: the least and the most of each, shapes, and what stands for one that is left
 -- out (docs/formats.md, "Keys" and "Keys that may be left out").
-use Rattle.std.proofs.Common.{◌≡◌, List, [], ◌∷◌, Option, Some, None, refl}
-use Rattle.std.specs.Prelude.{Bool, true, ℕ, ℤ, pos, negsuc, zero, suc, ◌++◌, ◌+◌, ◌==◌, ◌&&◌, codes}
+use Rattle.std.proofs.Common.{◌≡◌, List, [], ◌∷◌, Option, Some, None, Result, Ok, Err, refl}
+use Rattle.std.specs.Prelude.{Bool, true, false, ℕ, ℤ, pos, negsuc, zero, suc, ◌++◌, ◌+◌, ◌==◌, ◌&&◌, codes}
 use Rattle.std.specs.Fmt.{digits, signed_decimal}
 use Rattle.std.specs.Str.{bytes_eq}
 use lib.Count.{ones}
@@ -27,11 +27,16 @@ line_of (Some fault) = description_fault fault
 abbrev fault_at : ℕ → Key → Members → List ℕ
 fault_at version key document = line_of (key_fault version document key)
 
+-- an answer is this number
+abbrev is_number : ℕ → Result ℕ DescFault → Bool
+is_number n (Ok m) = m == n
+is_number n (Err fault) = false
+
 -- a number is accepted, as it is
 abbrev takes : ℕ → Key → String → String → ℕ → Bool
 takes version key section name n =
     let document = only section name (pos n) in
-    is_text (fault_at version key document) "" && number_of_key version document key == n
+    is_text (fault_at version key document) "" && is_number n (number_of_key version document key)
 
 -- a number is refused with this number of a fault, the key's name, and the rest of the line
 abbrev refuses : String → List ℕ → ℕ → Key → String → String → ℤ → Bool
@@ -59,7 +64,7 @@ has_no_shape key section name n = refuses "K6" [] 2 key section name (pos n)
 
 -- the number that stands for a key that is left out
 abbrev left_out : ℕ → Key → ℕ → Bool
-left_out version key n = is_text (fault_at version key no_members) "" && number_of_key version no_members key == n
+left_out version key n = is_text (fault_at version key no_members) "" && is_number n (number_of_key version no_members key)
 
 -- the keys that have to be there, in version 1
 ranges_of_version_1 : all (
