@@ -22,7 +22,8 @@ use Rattle.window_model.specs.Fetch.{instr_at, kind_at}
 use Rattle.window_model.specs.Order.{is_load, is_store, sources, operand, base_of, others_of, has_address, has_data}
 use Rattle.window_model.specs.Access.{byte_of}
 use Rattle.window_model.specs.Retire.{width_in}
-use Rattle.window_model.specs.Issue.{address_of, effect_of, first_operand, second_operand, outcome}
+use Rattle.window_model.specs.MayIssue.{address_of, effect_of, first_operand, second_operand}
+use Rattle.window_model.specs.Issue.{outcome}
 use Rattle.window_model.specs.Shape.{SameShape}
 use Rattle.window_model.proofs.Booleans.{both}
 use Rattle.window_model.proofs.Memory.{same_fault}

@@ -20,7 +20,9 @@ use Rattle.window_model.specs.Access.{access_at, load_bytes}
 use Rattle.window_model.specs.Clear.{is_before}
 use Rattle.window_model.specs.Dependence.{passing}
 use Rattle.window_model.specs.Around.{Around, around}
-use Rattle.window_model.specs.Issue.{DivPort, LoadPort, issue, issue_entry, begin_as, begun, divider_after, effect_of, load_as, may_at, may_issue_as, outcome, Begun}
+use Rattle.window_model.specs.MayIssue.{effect_of, may_issue_as}
+use Rattle.window_model.specs.Ports.{DivPort, LoadPort, may_at}
+use Rattle.window_model.specs.Issue.{issue, issue_entry, begin_as, begun, divider_after, load_as, outcome, Begun}
 use Rattle.window_model.specs.Rename.{at_once}
 use Rattle.committed_state.specs.Computed.{Bank, as_known_by, computed, loaded_or, outcome_as}
 use Rattle.window_model.specs.Along.{Along, Behind}

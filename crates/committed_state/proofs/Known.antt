@@ -15,7 +15,7 @@ use Rattle.window_model.specs.declared.Progress.TheVariants.{Waiting, Busy, Done
 use Rattle.window_model.specs.Along.{Along, Behind}
 use Rattle.window_model.specs.Dependence.{passing}
 use Rattle.window_model.specs.Rename.{at_once}
-use Rattle.window_model.specs.Issue.{effect_of}
+use Rattle.window_model.specs.MayIssue.{effect_of}
 use Rattle.window_model.specs.Order.{is_control, writes, writer, is_done, is_store, has_address, has_data}
 use Rattle.window_model.specs.Retire.{hart_of, width_in}
 use Rattle.window_model.proofs.Booleans.{both, or_true}

@@ -16,7 +16,7 @@ use Rattle.window_model.specs.Clear.{is_before, passed, shares}
 use Rattle.window_model.specs.Dependence.{passing, waits_for_stores}
 use Rattle.window_model.specs.Along.{Behind, Fact}
 use Rattle.window_model.specs.Around.{Around}
-use Rattle.window_model.specs.Issue.{address_of, bytes_of, goes_behind, lets, passes_stores, stores_done, stores_let}
+use Rattle.window_model.specs.MayIssue.{address_of, bytes_of, goes_behind, lets, passes_stores, stores_done, stores_let}
 use Rattle.window_model.specs.Order.{fault_of, has_address, has_data, is_done, is_load, is_store}
 use Rattle.window_model.specs.Rename.{at_once}
 use Rattle.window_model.specs.Retire.{addr_of, width_of}

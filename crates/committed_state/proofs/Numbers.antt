@@ -13,7 +13,8 @@ use Rattle.window_model.specs.State.{Machine}
 use Rattle.window_model.specs.Order.{each, first}
 use Rattle.window_model.specs.Fetch.{fetch}
 use Rattle.window_model.specs.Fill.{complete, fill}
-use Rattle.window_model.specs.Issue.{Begun, DivPort, LoadPort, divider_after, issue, issue_entry, may_at}
+use Rattle.window_model.specs.Ports.{DivPort, LoadPort, may_at}
+use Rattle.window_model.specs.Issue.{Begun, divider_after, issue, issue_entry}
 use Rattle.window_model.specs.Cycle.{begins_cycle}
 use Rattle.window_model.specs.Rename.{rename}
 use Rattle.window_model.specs.Resolve.{resolve}

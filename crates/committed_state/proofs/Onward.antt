@@ -14,7 +14,7 @@ use Rattle.window_model.specs.declared.Progress.TheVariants.{Waiting}
 use Rattle.window_model.specs.Order.{writes, writer, from_writer, value_of, is_done, is_load, has_address, has_data, fault_of, sources, base_of, others_of}
 use Rattle.window_model.specs.Access.{byte_of}
 use Rattle.window_model.specs.Clear.{is_before}
-use Rattle.window_model.specs.Issue.{effect_of}
+use Rattle.window_model.specs.MayIssue.{effect_of}
 use Rattle.window_model.specs.Retire.{addr_of, width_in}
 use Rattle.committed_state.specs.Computed.{Bank, ComesTo, as_known, as_known_by, bytes_over, computed, finds, outcome_as}
 use Rattle.committed_state.specs.Consistent.{HasOperands, Stands, executed, goes_through, is_issued, stands_before}

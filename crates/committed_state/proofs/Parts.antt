@@ -14,7 +14,8 @@ use Rattle.window_model.specs.declared.Progress.TheVariants.{Waiting, Busy, Done
 use Rattle.window_model.specs.State.{Machine}
 use Rattle.window_model.specs.Around.{around}
 use Rattle.window_model.specs.Dependence.{passing}
-use Rattle.window_model.specs.Issue.{busy_until_both, effect_of, so_far, with_address, with_data}
+use Rattle.window_model.specs.MayIssue.{effect_of}
+use Rattle.window_model.specs.Issue.{busy_until_both, so_far, with_address, with_data}
 use Rattle.window_model.specs.Order.{base_of, has_address, has_data, is_done, is_load, is_store, others_of, sources}
 use Rattle.window_model.specs.Rename.{at_once}
 use Rattle.window_model.specs.Retire.{hart_of, stored_of}

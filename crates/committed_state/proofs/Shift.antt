@@ -16,7 +16,7 @@ use Rattle.window_model.proofs.Booleans.{both_then}
 use Rattle.window_model.proofs.EntryByEntry.{along_drops}
 use Rattle.window_model.proofs.Memory.{inside}
 use Rattle.window_model.proofs.Registers.{read_same, read_other}
-use Rattle.window_model.specs.Issue.{effect_of}
+use Rattle.window_model.specs.MayIssue.{effect_of}
 use Rattle.window_model.specs.Retire.{width_in}
 use Rattle.committed_state.specs.Computed.{Bank, ComesTo, as_known, as_known_by, bytes_over, computed, finds, known_of}
 use Rattle.committed_state.specs.Consistent.{Stands, executed, goes_through, is_issued, stands_before}

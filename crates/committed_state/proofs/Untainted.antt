@@ -15,7 +15,8 @@ use Rattle.window_model.specs.Around.{Around}
 use Rattle.window_model.specs.Order.{base_of, has_address, has_data, is_done, is_faulty, is_load, is_store, is_waiting, sources}
 use Rattle.window_model.specs.Taint.{passes, safe_as, settled_as, tainted, any_tainted, address_tainted}
 use Rattle.window_model.specs.Fill.{completed, completes, completes_at}
-use Rattle.window_model.specs.Issue.{issue_entry, begun, busy_until_both, effect_of, is_division, with_address, with_data}
+use Rattle.window_model.specs.MayIssue.{effect_of}
+use Rattle.window_model.specs.Issue.{issue_entry, begun, busy_until_both, is_division, with_address, with_data}
 use Rattle.window_model.specs.Rename.{at_once, renamed}
 use Rattle.window_model.specs.Cycle.{cycle}
 use Rattle.window_model.specs.Along.{Along}

@@ -16,7 +16,8 @@ use Rattle.window_model.specs.Order.{has_address, has_data}
 use Rattle.window_model.specs.Retire.{op_of, width_in}
 use Rattle.window_model.specs.Access.{covers, byte_of}
 use Rattle.window_model.specs.Clear.{passed}
-use Rattle.window_model.specs.Issue.{effect_of, outcome, fault_if}
+use Rattle.window_model.specs.MayIssue.{effect_of}
+use Rattle.window_model.specs.Issue.{outcome, fault_if}
 
 -- the registers and memory over which entries compute
 pub record Bank : Type 0 where

@@ -16,7 +16,8 @@ use Rattle.window_model.specs.Around.{Around, around}
 use Rattle.window_model.specs.Fill.{fill, complete, completed, completes}
 use Rattle.window_model.specs.Resolve.{resolve, squash, keep, squashes}
 use Rattle.window_model.specs.Clear.{clear, cleared_one, clears, violates}
-use Rattle.window_model.specs.Issue.{Begun, LoadPort, begun, issue, issue_entry, may_at}
+use Rattle.window_model.specs.Ports.{LoadPort, may_at}
+use Rattle.window_model.specs.Issue.{Begun, begun, issue, issue_entry}
 use Rattle.window_model.specs.Rename.{rename, rename_one, renamed, fits}
 use Rattle.window_model.specs.Fetch.{fetch, fetch_one, guess, item_at, kind_at, predicted}
 use Rattle.window_model.specs.History.{no_mark}

@@ -13,7 +13,8 @@ use Rattle.window_model.specs.declared.Entry.{Entry}
 use Rattle.window_model.specs.declared.Item.{Item}
 use Rattle.window_model.specs.declared.Progress.{Progress}
 use Rattle.window_model.specs.Around.{Around, around}
-use Rattle.window_model.specs.Issue.{Begun, busy_until_both, effect_of, issue, issue_entry, with_address, with_data}
+use Rattle.window_model.specs.MayIssue.{effect_of}
+use Rattle.window_model.specs.Issue.{Begun, busy_until_both, issue, issue_entry, with_address, with_data}
 use Rattle.window_model.specs.Order.{each_from, has_address, has_data, is_done, is_faulty, is_store, is_waiting}
 use Rattle.window_model.specs.State.{Machine}
 use Rattle.window_model.specs.Taint.{passes, safe_as, settled_as}

@@ -10,7 +10,9 @@ use Rattle.machine_desc.specs.declared.Desc.{Desc}
 use Rattle.window_model.specs.declared.Entry.{Entry}
 use Rattle.window_model.specs.Around.{Around}
 use Rattle.window_model.specs.Along.{Fact}
-use Rattle.window_model.specs.Issue.{Port, AddressPort, DataPort, asking, is_granted, is_whole, may_at, may_issue, may_issue_as, part_may, port_of, ports, ready_part, same_port}
+use Rattle.window_model.specs.MayIssue.{may_issue, may_issue_as}
+use Rattle.window_model.specs.Ports.{Port, AddressPort, DataPort, asking, is_granted, may_at, part_may, port_of, ports, same_port}
+use Rattle.window_model.proofs.Together.{address_part, data_part, is_whole, ready_part}
 use Rattle.window_model.proofs.Booleans.{both, neither}
 use Rattle.window_model.specs.Order.{base_of, has_address, has_data, is_store, is_waiting, others_of, sources}
 use Rattle.window_model.specs.Ready.{all_known, ready}
@@ -78,14 +80,14 @@ module _ (d : Desc) (now : Around) (before : List Entry) (e : Entry) where
 
   -- a store whose address part is granted its port has issued no address
   pub fresh_address : is_store e.item.kind ≡ true → is_granted d now AddressPort before e ≡ true → has_address e ≡ false
-  fresh_address s g = lacks (has_address e) (both (not (has_address e)) _ (sym (part_asks AddressPort s) ∙ (both (may_at d now AddressPort before e) _ g).0)).0
+  fresh_address s g = lacks (has_address e) (both (not (has_address e)) _ (sym (address_part d before e) ∙ sym (part_asks AddressPort s) ∙ (both (may_at d now AddressPort before e) _ g).0)).0
     where
       lacks : (b : Bool) → not b ≡ true → b ≡ false
       lacks true h = absurd (cc)
       lacks false h = refl
 
   pub fresh_data : is_store e.item.kind ≡ true → is_granted d now DataPort before e ≡ true → has_data e ≡ false
-  fresh_data s g = lacks (has_data e) (both (not (has_data e)) _ (sym (part_asks DataPort s) ∙ (both (may_at d now DataPort before e) _ g).0)).0
+  fresh_data s g = lacks (has_data e) (both (not (has_data e)) _ (sym (data_part d before e) ∙ sym (part_asks DataPort s) ∙ (both (may_at d now DataPort before e) _ g).0)).0
     where
       lacks : (b : Bool) → not b ≡ true → b ≡ false
       lacks true h = absurd (cc)
@@ -100,16 +102,16 @@ module _ (d : Desc) (now : Around) (before : List Entry) (e : Entry) where
       by_port _ = refl
 
   address_gone : has_address e ≡ true → part_may AddressPort d before e ≡ false
-  address_gone h = ap (λ a. not a && ready_part d (base_of (sources e)) before e) h
+  address_gone h = address_part d before e ∙ ap (λ a. not a && ready_part d (base_of (sources e)) before e) h
 
   data_gone : has_data e ≡ true → part_may DataPort d before e ≡ false
-  data_gone h = ap (λ a. not a && ready_part d (others_of (sources e)) before e) h
+  data_gone h = data_part d before e ∙ ap (λ a. not a && ready_part d (others_of (sources e)) before e) h
 
   address_waits : ready_part d (base_of (sources e)) before e ≡ false → part_may AddressPort d before e ≡ false
-  address_waits h = ap (λ r. not (has_address e) && r) h ∙ and-false (not (has_address e))
+  address_waits h = address_part d before e ∙ ap (λ r. not (has_address e) && r) h ∙ and-false (not (has_address e))
 
   data_waits : ready_part d (others_of (sources e)) before e ≡ false → part_may DataPort d before e ≡ false
-  data_waits h = ap (λ r. not (has_data e) && r) h ∙ and-false (not (has_data e))
+  data_waits h = data_part d before e ∙ ap (λ r. not (has_data e) && r) h ∙ and-false (not (has_data e))
 
   -- ---- who asks for none
 
@@ -184,10 +186,10 @@ second_ready d before e own other = by_version (d.version == 1) refl
 
 -- a part that hasn't issued may where it is ready
 pub part_may_by : (part : Part) (d : Desc) (before : List Entry) (e : Entry) (r : Bool) → has_issued part e ≡ false → ready_part d (own_of part (sources e)) before e ≡ r → part_may (part_port part) d before e ≡ r
-part_may_by part.Base d before e r f h = ap₂ (λ a r. not a && r) f h
-part_may_by part.Other d before e r f h = ap₂ (λ a r. not a && r) f h
+part_may_by part.Base d before e r f h = address_part d before e ∙ ap₂ (λ a r. not a && r) f h
+part_may_by part.Other d before e r f h = data_part d before e ∙ ap₂ (λ a r. not a && r) f h
 
 -- a part of a store that has issued may not issue again
 pub part_gone : (part : Part) (d : Desc) (before : List Entry) (e : Entry) → has_issued part e ≡ true → part_may (part_port part) d before e ≡ false
-part_gone part.Base d before e h = ap (λ a. not a && ready_part d (base_of (sources e)) before e) h
-part_gone part.Other d before e h = ap (λ a. not a && ready_part d (others_of (sources e)) before e) h
+part_gone part.Base d before e h = address_part d before e ∙ ap (λ a. not a && ready_part d (base_of (sources e)) before e) h
+part_gone part.Other d before e h = data_part d before e ∙ ap (λ a. not a && ready_part d (others_of (sources e)) before e) h

@@ -14,7 +14,7 @@ use Rattle.window_model.specs.declared.Entry.{Entry}
 use Rattle.window_model.specs.declared.Progress.{Progress}
 use Rattle.window_model.specs.declared.Progress.TheVariants.{Waiting, Busy, Done}
 use Rattle.window_model.specs.Access.{covers}
-use Rattle.window_model.specs.Issue.{address_of, bytes_of, effect_of, first_operand, goes_behind, lets, passes_stores, second_operand, stores_done, stores_let}
+use Rattle.window_model.specs.MayIssue.{address_of, bytes_of, effect_of, first_operand, goes_behind, lets, passes_stores, second_operand, stores_done, stores_let}
 use Rattle.window_model.specs.Order.{before_at, has_address, has_data, is_done, is_store, is_waiting, sources}
 use Rattle.window_model.specs.Retire.{width_of}
 use Rattle.window_model.specs.Taint.{address_tainted}

@@ -11,7 +11,7 @@ use Rattle.rv_types.specs.Word.{from_le}
 use Rattle.rv_types.specs.declared.Width.{Width}
 use Rattle.window_model.specs.declared.Entry.{Entry}
 use Rattle.window_model.specs.Access.{all_covered, any_store_hidden, load_bytes}
-use Rattle.window_model.specs.Issue.{stores_let}
+use Rattle.window_model.specs.MayIssue.{stores_let}
 use Rattle.window_model.specs.Order.{before_at}
 use Rattle.window_model.specs.Retire.{width_of}
 use Rattle.rob_ring.specs.Ring.{below}

@@ -8,7 +8,9 @@ use Rattle.machine_desc.specs.declared.Desc.{Desc}
 use Rattle.window_model.specs.declared.Entry.{Entry}
 use Rattle.window_model.specs.Around.{Around}
 use Rattle.window_model.specs.Order.{is_load, is_store}
-use Rattle.window_model.specs.Issue.{Port, DivPort, LoadPort, asking, goes_behind, is_division, is_granted, may_issue, part_may, port_of, ports, same_port}
+use Rattle.window_model.specs.MayIssue.{goes_behind, may_issue}
+use Rattle.window_model.specs.Ports.{Port, DivPort, LoadPort, asking, is_granted, part_may, port_of, ports, same_port}
+use Rattle.window_model.specs.Issue.{is_division}
 use Rattle.window_model.proofs.Issuing.{load_behind, may_parts}
 use Rattle.unit_ports.specs.Ports.{port_for}
 use Rattle.issue.proofs.Asking.{granted_may, part_asks}

@@ -11,7 +11,8 @@ use Rattle.window_model.specs.Row.{Row, with_events}
 use Rattle.window_model.specs.State.{Machine}
 use Rattle.window_model.specs.Around.{Around, around}
 use Rattle.window_model.specs.Order.{Place, before_at, each_from, first_from, is_waiting}
-use Rattle.window_model.specs.Issue.{Port, DivPort, LoadPort, issue, issue_entry, may_at, taken_for, waits}
+use Rattle.window_model.specs.Ports.{Port, DivPort, LoadPort, may_at}
+use Rattle.window_model.specs.Issue.{issue, issue_entry, taken_for, waits}
 use Rattle.window_model.proofs.Booleans.{neither}
 use Rattle.machine_facts.specs.Sized.{HasParts, Together}
 use Rattle.stations.specs.Stations.{Station, is_able}

@@ -10,7 +10,8 @@ use Rattle.window_model.specs.State.{Machine}
 use Rattle.window_model.specs.Around.{Around, around}
 use Rattle.window_model.specs.Order.{Place, first}
 use Rattle.window_model.specs.Access.{Access, Line, line_behind, prefetched, request, requests}
-use Rattle.window_model.specs.Issue.{DivPort, LoadPort, access_of, after_load, divider_after, issue, may_at, taken_for}
+use Rattle.window_model.specs.Ports.{DivPort, LoadPort, may_at}
+use Rattle.window_model.specs.Issue.{access_of, after_load, divider_after, issue, taken_for}
 use Rattle.window_model.proofs.Issuing.{by_load, by_prefetched, looked}
 use Rattle.issue.specs.Decisions.{division_of, load_of, turns}
 use Rattle.issue.specs.Shared.{cache_left, divider_left, misses_left, requested, second_left}

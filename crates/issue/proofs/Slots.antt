@@ -13,7 +13,8 @@ use Rattle.window_model.specs.declared.Divider.{Divider}
 use Rattle.window_model.specs.declared.Entry.{Entry}
 use Rattle.window_model.specs.Around.{Around}
 use Rattle.window_model.specs.Order.{Place, before_at, first, first_from}
-use Rattle.window_model.specs.Issue.{Port, DivPort, asking, is_granted, may_at, ports, taken_for}
+use Rattle.window_model.specs.Ports.{Port, DivPort, asking, is_granted, may_at, ports}
+use Rattle.window_model.specs.Issue.{taken_for}
 use Rattle.issue.specs.Shared.{divider_left}
 
 -- the first elements of a list, and the next one behind them

@@ -6,7 +6,8 @@ use Rattle.rv_types.specs.Value.{one_if}
 use Rattle.machine_desc.specs.declared.Desc.{Desc}
 use Rattle.window_model.specs.declared.Entry.{Entry}
 use Rattle.window_model.specs.Around.{Around}
-use Rattle.window_model.specs.Issue.{AddressPort, Begun, DataPort, issue_entry, waits}
+use Rattle.window_model.specs.Ports.{AddressPort, DataPort}
+use Rattle.window_model.specs.Issue.{Begun, issue_entry, waits}
 use Rattle.window_model.specs.Order.{is_store}
 use Rattle.window_model.specs.Row.{Row, with_events}
 use Rattle.rob_ring.specs.Issued.{issued_of}

@@ -11,7 +11,8 @@ use Rattle.machine_desc.specs.declared.Desc.{Desc}
 use Rattle.window_model.specs.declared.Divider.{Divider}
 use Rattle.window_model.specs.declared.Entry.{Entry}
 use Rattle.window_model.specs.Around.{Around}
-use Rattle.window_model.specs.Issue.{Port, AddressPort, AluPort, DataPort, is_granted, may_at, may_issue, may_issue_as}
+use Rattle.window_model.specs.MayIssue.{may_issue, may_issue_as}
+use Rattle.window_model.specs.Ports.{Port, AddressPort, AluPort, DataPort, is_granted, may_at}
 use Rattle.window_model.proofs.Booleans.{both}
 use Rattle.window_model.specs.Order.{before_at, is_store, is_waiting, sources}
 use Rattle.window_model.specs.Ready.{all_known, ready}

@@ -19,10 +19,12 @@ use Rattle.window_model.specs.State.{lines_of}
 use Rattle.window_model.specs.Access.{Line, Looks, Request, look_up, prefetched, source_of}
 use Rattle.window_model.specs.Order.{has_address, has_data, is_load, is_store, is_waiting}
 use Rattle.window_model.specs.Retire.{op_of, width_of}
-use Rattle.window_model.specs.Issue.{AddressPort, Begun, DataPort, access_of, begin_as, begins, data_events, effect_of, if_granted, is_granted, issue_entry, issue_parts, load_as, port_of, waits, with_address, with_data}
+use Rattle.window_model.specs.MayIssue.{effect_of}
+use Rattle.window_model.specs.Ports.{AddressPort, DataPort, is_granted, port_of}
+use Rattle.window_model.specs.Issue.{Begun, access_of, begin_as, begins, if_granted, issue_entry, issue_store, load_as, waits, with_address, with_data}
 use Rattle.window_model.proofs.Booleans.{waiting_done}
 use Rattle.window_model.proofs.Issuing.{OneOrTwo, One, Two, by_load, by_prefetched, lines_are, may_parts}
-use Rattle.window_model.proofs.Together.{granted_together}
+use Rattle.window_model.proofs.Together.{entry_parts, granted_together, issue_parts}
 use Rattle.unit_ports.specs.Ports.{port_for}
 use Rattle.rob_ring.specs.Issued.{issued_of, with_issued}
 use Rattle.queue_laws.specs.Window.{PartsGoOn, TracksOn}
@@ -30,7 +32,7 @@ use Rattle.parts_stand.specs.Steps.{Issues, station_of}
 use Rattle.issue.specs.declared.decide.Put.{Put}
 use Rattle.issue.specs.Ports.{most_events_of}
 use Rattle.issue.specs.Puts.{ArePuts, IsPut, issue_by, issue_in, placed, width_for}
-use Rattle.issue.specs.Turns.{after_by, begin_entry, puts_by, puts_of}
+use Rattle.issue.specs.Turns.{after_by, begin_entry, data_events, puts_by, puts_of}
 use Rattle.issue.proofs.Advanced.{lacks_address, lacks_data, still_undone}
 use Rattle.issue.proofs.Asking.{AsksNone, InStep, fresh_address, fresh_data, granted_may, grants_none}
 use Rattle.issue.proofs.Width.{size_is}
@@ -38,7 +40,7 @@ use Rattle.issue.proofs.Width.{size_is}
 -- ---- what one in one piece comes to, by whether it is granted its port
 
 turn_by : (k : Kind) (b : Bool) (d : Desc) (now : Around) (before : List Entry) (e : Entry) → is_store k ≡ false → is_granted d now (port_for k) before e ≡ b →
-    (if is_store k then issue_parts d now before e else (if is_granted d now (port_of k) before e then begin_as k d now before e else waits e)) ≡ (if b then begin_as k d now before e else waits e)
+    (if is_store k then issue_store d now before e else (if is_granted d now (port_of k) before e then begin_as k d now before e else waits e)) ≡ (if b then begin_as k d now before e else waits e)
 turn_by Store b d now before e s h = absurd (cc)
 turn_by Mul b d now before e s h = ap (λ b. if b then begin_as Mul d now before e else waits e) h
 turn_by Div b d now before e s h = ap (λ b. if b then begin_as Div d now before e else waits e) h
@@ -62,7 +64,8 @@ parts_as a c d now before e =
 pub store_turn : (a c : Bool) (d : Desc) (now : Around) (before : List Entry) (e : Entry) → is_store e.item.kind ≡ true → is_granted d now AddressPort before e ≡ a → is_granted d now DataPort before e ≡ c →
     issue_entry d now before e ≡ parts_as a c d now before e
 store_turn a c d now before e s p q =
-    ap (λ s. if s then issue_parts d now before e else (if is_granted d now (port_of e.item.kind) before e then begin_as e.item.kind d now before e else waits e)) s
+    entry_parts d now before e
+    ∙ ap (λ s. if s then issue_parts d now before e else (if is_granted d now (port_of e.item.kind) before e then begin_as e.item.kind d now before e else waits e)) s
     ∙ ap₂ (λ a c. parts_as a c d now before e) p q
 
 -- an entry that asks for no port waits on

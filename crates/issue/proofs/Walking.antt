@@ -13,7 +13,8 @@ use Rattle.window_model.specs.Access.{Access}
 use Rattle.machine_desc.specs.declared.Desc.{Desc}
 use Rattle.window_model.specs.Around.{Around}
 use Rattle.window_model.specs.Order.{before_at, each}
-use Rattle.window_model.specs.Issue.{Begun, DivPort, LoadPort, access_of, is_granted, issue_entry, may_at, taken_for, waits}
+use Rattle.window_model.specs.Ports.{DivPort, LoadPort, is_granted, may_at}
+use Rattle.window_model.specs.Issue.{Begun, access_of, issue_entry, taken_for, waits}
 use Rattle.window_model.proofs.Before.{before_more, each_push}
 use Rattle.unit_ports.specs.Ports.{Ports}
 use Rattle.unit_ports.specs.Laws.{LeftAfter}

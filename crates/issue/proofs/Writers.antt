@@ -7,7 +7,7 @@ use Rattle.rv_types.specs.declared.Reg.{Reg}
 use Rattle.rv_types.specs.Regs.{two}
 use Rattle.window_model.specs.declared.Entry.{Entry}
 use Rattle.window_model.specs.Order.{from_writer, operand}
-use Rattle.window_model.specs.Issue.{first_operand, second_operand}
+use Rattle.window_model.specs.MayIssue.{first_operand, second_operand}
 use Rattle.parts_stand.specs.Writers.{in_flight, writer_of}
 use Rattle.issue.specs.Operands.{value_by}
 

@@ -7,7 +7,8 @@ use Rattle.window_model.specs.declared.Entry.{Entry}
 use Rattle.window_model.specs.Access.{Access}
 use Rattle.window_model.specs.Around.{Around}
 use Rattle.window_model.specs.Order.{each, first}
-use Rattle.window_model.specs.Issue.{Begun, DivPort, LoadPort, access_of, issue_entry, may_at, taken_for}
+use Rattle.window_model.specs.Ports.{DivPort, LoadPort, may_at}
+use Rattle.window_model.specs.Issue.{Begun, access_of, issue_entry, taken_for}
 use Rattle.issue.specs.declared.decide.Decided.{Decided}
 use Rattle.issue.specs.declared.seen.Seen.{Seen}
 use Rattle.issue.specs.Accesses.{as_access}

@@ -2,7 +2,7 @@
 use Rattle.std.specs.Prelude.{ℕ, List, Option, Some, None}
 use Rattle.rv_types.specs.Isa.{reg}
 use Rattle.window_model.specs.declared.Entry.{Entry}
-use Rattle.window_model.specs.Issue.{first_operand, second_operand}
+use Rattle.window_model.specs.MayIssue.{first_operand, second_operand}
 use Rattle.window_model.specs.Order.{from_writer, sources}
 use Rattle.parts_stand.specs.Writers.{in_flight}
 use Rattle.issue.specs.declared.seen.Place.{Place}

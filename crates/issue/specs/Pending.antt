@@ -1,6 +1,6 @@
 -- What a load waits for in the older stores, and whether it is let go (docs/machine.md, "Issue").
 use Rattle.std.specs.Prelude.{ℕ, Bool, not, ◌&&◌, ◌||◌}
-use Rattle.window_model.specs.Issue.{bytes_of, passes_stores}
+use Rattle.window_model.specs.MayIssue.{bytes_of, passes_stores}
 use Rattle.visibility.specs.Point.{is_hidden}
 use Rattle.lsq.specs.declared.pending.Pending.{Pending}
 use Rattle.lsq.specs.Pending.{awaited}

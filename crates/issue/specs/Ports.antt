@@ -4,7 +4,7 @@ use Rattle.rv_types.specs.declared.Kind.{Kind}
 use Rattle.rv_types.specs.declared.Kind.TheVariants.{Load}
 use Rattle.window_model.specs.declared.Entry.{Entry}
 use Rattle.window_model.specs.Order.{has_address, has_data}
-use Rattle.window_model.specs.Issue.{AddressPort, DataPort, Port, is_granted, may_at}
+use Rattle.window_model.specs.Ports.{AddressPort, DataPort, Port, is_granted, may_at}
 use Rattle.stations.specs.declared.wants.Part.{Part}
 use Rattle.stations.specs.declared.wants.Part.TheVariants as part
 use Rattle.unit_ports.specs.Laws.{LeftAfter}

@@ -56,7 +56,8 @@ impl<'a> Seen<'a> {
     ghost use Rattle.std.specs.Option.{option_map};
     ghost use Rattle.rv_types.specs.declared.Kind.TheVariants as kind;
     ghost use Rattle.rv_effect.specs.Seen.{seen};
-    ghost use Rattle.window_model.specs.Issue.{begin_as, goes_behind, is_division};
+    ghost use Rattle.window_model.specs.MayIssue.{goes_behind};
+    ghost use Rattle.window_model.specs.Issue.{begin_as, is_division};
     ghost use Rattle.window_model.specs.Order.{is_load, is_store};
     ghost use Rattle.window_model.specs.Row.{HasRoom};
     ghost use Rattle.issue.specs.Accesses.{as_access};

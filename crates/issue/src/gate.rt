@@ -9,7 +9,7 @@ use unit_ports::Ports;
 
 impl<'a> Seen<'a> {
     ghost use Rattle.std.specs.Prelude.{◌≡◌, Some, false, slice_get};
-    ghost use Rattle.window_model.specs.Issue.{goes_behind, may_issue};
+    ghost use Rattle.window_model.specs.MayIssue.{goes_behind, may_issue};
     ghost use Rattle.window_model.specs.Order.{is_store};
     ghost use Rattle.rob_ring.specs.Beside.{each_roots, each_writers};
     ghost use Rattle.issue.specs.Ports.{LeftFor, besides, is_served};

@@ -46,7 +46,8 @@ impl<'a> Seen<'a> {
     ghost use Rattle.rv_types.specs.Memory.{load_fault, range};
     ghost use Rattle.rv_effect.specs.Seen.{seen};
     ghost use Rattle.window_model.specs.Access.{due_by, due_of};
-    ghost use Rattle.window_model.specs.Issue.{access_of, begin_as, goes_behind, stores_let};
+    ghost use Rattle.window_model.specs.MayIssue.{goes_behind, stores_let};
+    ghost use Rattle.window_model.specs.Issue.{access_of, begin_as};
     ghost use Rattle.window_model.specs.Retire.{width_of};
     ghost use Rattle.window_model.specs.Row.{HasRoom};
     ghost use Rattle.visibility.specs.Point.{is_hidden};

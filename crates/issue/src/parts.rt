@@ -75,7 +75,8 @@ impl<'a> Seen<'a> {
     ghost use Rattle.rv_types.specs.Value.{one_if};
     ghost use Rattle.rv_effect.specs.Seen.{seen};
     ghost use Rattle.window_model.specs.declared.Event.TheVariants as event;
-    ghost use Rattle.window_model.specs.Issue.{AddressPort, DataPort, data_events, with_address, with_data};
+    ghost use Rattle.window_model.specs.Ports.{AddressPort, DataPort};
+    ghost use Rattle.window_model.specs.Issue.{with_address, with_data};
     ghost use Rattle.window_model.specs.Order.{is_store};
     ghost use Rattle.window_model.specs.Row.{HasRoom, with_events};
     ghost use Rattle.rob_ring.specs.Issued.{issued_of, with_issued};
@@ -84,7 +85,7 @@ impl<'a> Seen<'a> {
     ghost use Rattle.issue.specs.Decisions.{HadTurn, most_begun};
     ghost use Rattle.issue.specs.Ports.{LeftFor, events_left, granted_at, left_in_all, may_here, part_port};
     ghost use Rattle.issue.specs.State.{HasTurn, around_of};
-    ghost use Rattle.issue.specs.Turns.{Goes, parts_by};
+    ghost use Rattle.issue.specs.Turns.{Goes, data_events, parts_by};
 
     // Whether a part of the store may issue: it hasn't issued, and its source is there; in version 1 both sources are,
     // since the store has its turn.

@@ -19,7 +19,8 @@ use Rattle.window_model.specs.Fill.{is_due, completed, completes, completes_at}
 use Rattle.window_model.specs.Around.{Around}
 use Rattle.window_model.specs.Access.{Access, Faults, Forwards, Looks, Waits, Request, due_by, due_of, latency_of, look_up, misses_after, prefetched, register, request, requests}
 use Rattle.window_model.specs.SecondLevel.{second_has}
-use Rattle.window_model.specs.Issue.{Begun, issue_entry, begin_as, busy_until_both, effect_of, load_as, with_address, access_of, time_of, divider_after}
+use Rattle.window_model.specs.MayIssue.{effect_of}
+use Rattle.window_model.specs.Issue.{Begun, issue_entry, begin_as, busy_until_both, load_as, with_address, access_of, time_of, divider_after}
 use Rattle.window_model.specs.Rename.{renamed, at_once}
 use Rattle.window_model.proofs.Lists.{each_then, each_map, each_join, each_filter, OfSome, find_each}
 use Rattle.window_model.proofs.Issuing.{Comes, Remains, Begins, by_issue, begin_comes, begin_goes, gone_parts, OneOrTwo, One, Two, by_line, by_load, lines_are, looked}

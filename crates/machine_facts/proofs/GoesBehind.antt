@@ -10,7 +10,7 @@ use Rattle.window_model.specs.declared.Progress.TheVariants.{Waiting, Busy, Done
 use Rattle.window_model.specs.Access.{covers}
 use Rattle.window_model.specs.Around.{Around}
 use Rattle.window_model.specs.Dependence.{passing, waits_for_stores}
-use Rattle.window_model.specs.Issue.{bytes_of, goes_behind, lets, passes_stores, stores_done, stores_let}
+use Rattle.window_model.specs.MayIssue.{bytes_of, goes_behind, lets, passes_stores, stores_done, stores_let}
 use Rattle.window_model.specs.Order.{has_address, has_data, is_done, is_store, is_waiting}
 use Rattle.window_model.specs.Taint.{address_tainted}
 use Rattle.machine_facts.specs.Sized.{HasParts, Together}

@@ -20,7 +20,8 @@ use Rattle.window_model.specs.Order.{Place, each_from, first}
 use Rattle.window_model.specs.Fill.{complete, completed}
 use Rattle.window_model.specs.Resolve.{resolve}
 use Rattle.window_model.specs.Retire.{retire}
-use Rattle.window_model.specs.Issue.{Begun, LoadPort, issue, issue_entry, may_at}
+use Rattle.window_model.specs.Ports.{LoadPort, may_at}
+use Rattle.window_model.specs.Issue.{Begun, issue, issue_entry}
 use Rattle.window_model.specs.Rename.{rename, renamed}
 use Rattle.window_model.specs.Fetch.{fetch, item_at}
 use Rattle.window_model.specs.History.{jumped, links, mark_after, popped, pushed, returns, shifted, stack}

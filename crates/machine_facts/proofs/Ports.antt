@@ -1,5 +1,5 @@
 -- No port is granted more often than it is there, so Issue has few events.
-use Rattle.std.proofs.Common.{◌≡◌, ℕ, ◌+◌, ◌-◌, ◌*◌, ◌≤◌, ◌<◌, Bool, true, false, ◌&&◌, cond, List, [], ◌∷◌, length, refl, arith, length-append}
+use Rattle.std.proofs.Common.{◌≡◌, ℕ, ◌+◌, ◌-◌, ◌*◌, ◌≤◌, ◌<◌, Bool, true, false, ◌&&◌, cond, List, [], ◌∷◌, length, refl, sym, subst, arith, length-append}
 use Rattle.std.proofs.lemmas.List.{length-map}
 use Rattle.std.specs.Prelude.{if◌then◌else◌, nat_lt, ◌==◌, map}
 use Rattle.std.specs.List.{flat_map}
@@ -15,7 +15,10 @@ use Rattle.window_model.specs.declared.Event.TheVariants as event
 use Rattle.window_model.specs.State.{Machine, lines_of}
 use Rattle.window_model.specs.Order.{first, each_from, is_store}
 use Rattle.window_model.specs.Around.{Around, around}
-use Rattle.window_model.specs.Issue.{Begun, Port, AluPort, MulPort, DivPort, AddressPort, DataPort, LoadPort, port_of, ports, asking, is_granted, may_at, issue, issue_entry, issue_parts, issue_whole, effect_of, if_granted, data_events, with_address, with_data, begin_as, load_as, access_of, waits}
+use Rattle.window_model.specs.MayIssue.{effect_of}
+use Rattle.window_model.specs.Ports.{Port, AluPort, MulPort, DivPort, AddressPort, DataPort, LoadPort, port_of, ports, asking, is_granted, may_at}
+use Rattle.window_model.specs.Issue.{Begun, issue, issue_entry, issue_whole, if_granted, with_address, with_data, begin_as, load_as, access_of, waits}
+use Rattle.window_model.proofs.Together.{data_events, entry_parts, issue_parts}
 use Rattle.window_model.specs.Access.{Request, line_at, look_at, look_events, look_up, prefetched, source_of}
 use Rattle.window_model.proofs.Issuing.{by_after_load, by_load, by_prefetched, looked}
 use Rattle.window_model.proofs.Telling.{lines_few}
@@ -115,7 +118,7 @@ parts_few d now b e =
     omega (arith, p, q, l)
 
 entry_few : (d : Desc) (now : Around) (b : List Entry) (e : Entry) → length (issue_entry d now b e).events ≤ somewhere d now b e
-entry_few d now b e = by_kind (is_store e.item.kind)
+entry_few d now b e = subst (λ (t : Begun). length t.events ≤ somewhere d now b e) (sym (entry_parts d now b e)) (by_kind (is_store e.item.kind))
   where
     by_kind : (s : Bool) → length (if s then issue_parts d now b e else issue_whole d now b e).events ≤ somewhere d now b e
     by_kind true = parts_few d now b e

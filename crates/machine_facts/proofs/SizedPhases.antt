@@ -24,7 +24,8 @@ use Rattle.window_model.specs.Fill.{fill, complete, completed, completes, comple
 use Rattle.window_model.specs.Resolve.{resolve, Learnt, learn, learn_as, squash, keep}
 use Rattle.window_model.specs.Around.{Around, around}
 use Rattle.window_model.specs.Access.{Request, cache_after, line_at, misses_after, prefetched, register, requests, second_after}
-use Rattle.window_model.specs.Issue.{Begun, LoadPort, issue, issue_entry, access_of, after_load, may_at}
+use Rattle.window_model.specs.Ports.{LoadPort, may_at}
+use Rattle.window_model.specs.Issue.{Begun, issue, issue_entry, access_of, after_load}
 use Rattle.window_model.specs.Rename.{rename, rename_one, renamed, fits, at_once}
 use Rattle.window_model.specs.Fetch.{fetch, fetch_one, item_at, instr_at, kind_at}
 use Rattle.window_model.proofs.Booleans.{below}

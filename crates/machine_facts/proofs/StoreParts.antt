@@ -12,7 +12,8 @@ use Rattle.window_model.specs.declared.Progress.{Progress}
 use Rattle.window_model.specs.Around.{Around}
 use Rattle.window_model.specs.Order.{is_waiting, is_store, has_address, has_data}
 use Rattle.window_model.specs.Retire.{width_of}
-use Rattle.window_model.specs.Issue.{issue_entry, effect_of, busy_until_both, so_far, with_address, with_data}
+use Rattle.window_model.specs.MayIssue.{effect_of}
+use Rattle.window_model.specs.Issue.{issue_entry, busy_until_both, so_far, with_address, with_data}
 use Rattle.window_model.proofs.Booleans.{both}
 use Rattle.window_model.proofs.Issuing.{by_issue, begin_goes, gone_parts}
 use Rattle.machine_facts.specs.Sized.{HasKind, FitsMemory, FaultIs, HasOutcome, HasParts}

@@ -17,7 +17,8 @@ use Rattle.window_model.specs.Fill.{fill, complete, completed, is_due}
 use Rattle.window_model.specs.Resolve.{resolve, squash, keep, is_from, next_of}
 use Rattle.window_model.specs.Retire.{retire, head_leaves, trap_of}
 use Rattle.window_model.specs.Around.{around}
-use Rattle.window_model.specs.Issue.{DivPort, LoadPort, issue, after_load, may_at}
+use Rattle.window_model.specs.Ports.{DivPort, LoadPort, may_at}
+use Rattle.window_model.specs.Issue.{issue, after_load}
 use Rattle.window_model.specs.Rename.{rename, rename_one, renamed, fits, is_stop}
 use Rattle.window_model.specs.Fetch.{fetch, fetch_one, guess, item_at, instr_at, kind_at}
 use Rattle.window_model.proofs.Lists.{each_join, each_left, each_right, each_push}

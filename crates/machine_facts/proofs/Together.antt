@@ -8,9 +8,11 @@ use Rattle.window_model.specs.declared.Event.TheVariants as event
 use Rattle.window_model.specs.declared.Item.{Item}
 use Rattle.window_model.specs.Around.{Around}
 use Rattle.window_model.specs.Order.{is_store, has_address, has_data}
-use Rattle.window_model.specs.Issue.{Begun, AddressPort, DataPort, effect_of, if_granted, is_granted, issue_entry, issue_parts, issue_whole, waits, with_address, with_data}
+use Rattle.window_model.specs.MayIssue.{effect_of}
+use Rattle.window_model.specs.Ports.{AddressPort, DataPort, is_granted}
+use Rattle.window_model.specs.Issue.{Begun, if_granted, issue_entry, issue_whole, waits, with_address, with_data}
 use Rattle.window_model.proofs.Issuing.{issue_goes}
-use Rattle.window_model.proofs.Together.{granted_together}
+use Rattle.window_model.proofs.Together.{entry_parts, granted_together, issue_parts}
 use Rattle.machine_facts.specs.Sized.{Together}
 
 -- ---- what issues of a store: both parts, or nothing
@@ -49,7 +51,7 @@ Paired b = has_address b.entry ≡ has_data b.entry
 
 -- in version 1 the parts of an entry still go together after Issue
 pub together_issued : (d : Desc) (now : Around) (before : List Entry) (e : Entry) → Together d e → Together d (issue_entry d now before e).entry
-together_issued d now before e h one s = by_store (is_store e.item.kind) store
+together_issued d now before e h one s = subst Paired (sym (entry_parts d now before e)) (by_store (is_store e.item.kind) store)
   where
     store : is_store e.item.kind ≡ true
     store = sym (ap (λ (i : Item). is_store i.kind) (issue_goes d now before e).item) ∙ s

@@ -10,7 +10,7 @@ use Rattle.window_model.specs.State.{Machine}
 use Rattle.window_model.specs.Order.{is_load, is_store}
 use Rattle.window_model.specs.Retire.{hart_of}
 use Rattle.window_model.specs.Taint.{visible}
-use Rattle.window_model.specs.Issue.{effect_of}
+use Rattle.window_model.specs.MayIssue.{effect_of}
 use Rattle.window_model.specs.Shape.{SameShape}
 use Rattle.window_model.proofs.Booleans.{or_true}
 use Rattle.committed_state.specs.Computed.{Bank, ComesTo, as_known, computed}

@@ -16,7 +16,10 @@ use Rattle.window_model.specs.declared.Divider.{Divider}
 use Rattle.window_model.specs.Order.{Place, each, each_from, first, is_load, is_store}
 use Rattle.window_model.specs.Around.{Around, around}
 use Rattle.window_model.specs.Access.{Access, Faults, Forwards, Looks, Waits, Line, Hits, Joins, Takes, cache_after, due_of, latency_of, latest, look_events, misses_after, second_after}
-use Rattle.window_model.specs.Issue.{Port, AddressPort, DataPort, DivPort, LoadPort, issue, issue_entry, issue_parts, issue_whole, begin_as, Begun, waits, with_address, with_data, if_granted, data_events, load_as, access_of, value_loaded, effect_of, is_granted, may_at, may_issue_as, port_of, is_division, after_load, divider_after}
+use Rattle.window_model.specs.MayIssue.{effect_of, may_issue_as}
+use Rattle.window_model.specs.Ports.{Port, AddressPort, DataPort, DivPort, LoadPort, is_granted, may_at, port_of}
+use Rattle.window_model.specs.Issue.{issue, issue_entry, issue_whole, begin_as, Begun, waits, with_address, with_data, if_granted, load_as, access_of, value_loaded, is_division, after_load, divider_after}
+use Rattle.window_model.proofs.Together.{data_events, entry_parts, issue_parts}
 use Rattle.window_model.specs.Along.{Along}
 use Rattle.window_model.specs.Shape.{SameShape}
 use Rattle.window_model.specs.Retire.{hart_of}
@@ -139,8 +142,10 @@ module _ (cycle : ℕ) (d : Desc) (code : Code) (x x2 : Machine) (r : Alike x x2
 
   entry_alike : (b b2 : List Entry) (e e2 : Entry) → SameOutcomes d.stt_model b b2 → without_outcome e ≡ without_outcome e2 → IsItem code e.item → begun_without (issue_entry d now b e) ≡ begun_without (issue_entry d now2 b2 e2)
   entry_alike b b2 e e2 s h item =
-      by_parts (is_store e.item.kind) (is_store e2.item.kind) (issue_parts d now b e) (issue_parts d now2 b2 e2) (issue_whole d now b e) (issue_whole d now2 b2 e2)
-      (ap is_store (same_kind e e2 h)) (parts_alike b b2 e e2 s h) (λ n. whole_alike b b2 e e2 n s h item)
+      ap begun_without (entry_parts d now b e)
+      ∙ by_parts (is_store e.item.kind) (is_store e2.item.kind) (issue_parts d now b e) (issue_parts d now2 b2 e2) (issue_whole d now b e) (issue_whole d now2 b2 e2)
+          (ap is_store (same_kind e e2 h)) (parts_alike b b2 e e2 s h) (λ n. whole_alike b b2 e e2 n s h item)
+      ∙ sym (ap begun_without (entry_parts d now2 b2 e2))
 
   each_alike : (es es2 b b2 : List Entry) → map without_outcome es ≡ map without_outcome es2 → SameOutcomes d.stt_model (reverse_aux es b) (reverse_aux es2 b2) → Along (Stands d code (bank_in (hart_of x)) cycle) b es →
       map begun_without (each_from (issue_entry d now) b es) ≡ map begun_without (each_from (issue_entry d now2) b2 es2)

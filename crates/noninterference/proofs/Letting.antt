@@ -8,7 +8,7 @@ use Rattle.machine_desc.specs.declared.SttModel.{SttModel}
 use Rattle.window_model.specs.declared.Entry.{Entry}
 use Rattle.window_model.specs.declared.Outcome.{Outcome}
 use Rattle.window_model.specs.Access.{covers, reaches}
-use Rattle.window_model.specs.Issue.{lets, stores_let}
+use Rattle.window_model.specs.MayIssue.{lets, stores_let}
 use Rattle.window_model.specs.Order.{fault_of, has_address, has_data, is_store}
 use Rattle.window_model.specs.Retire.{addr_of, width_of}
 use Rattle.window_model.specs.Taint.{address_tainted}

@@ -11,7 +11,9 @@ use Rattle.machine_desc.specs.declared.Desc.{Desc}
 use Rattle.window_model.specs.declared.Entry.{Entry}
 use Rattle.window_model.specs.State.{Machine}
 use Rattle.window_model.specs.Around.{Around, around, is_free}
-use Rattle.window_model.specs.Issue.{Port, AddressPort, DataPort, address_of, asking, bytes_of, goes_behind, is_granted, is_whole, may_at, may_issue, may_issue_as, part_may, passes_stores, port_of, ports, ready_part, same_port, stores_done, stores_let}
+use Rattle.window_model.specs.MayIssue.{address_of, bytes_of, goes_behind, may_issue, may_issue_as, passes_stores, stores_done, stores_let}
+use Rattle.window_model.specs.Ports.{Port, AddressPort, DataPort, asking, is_granted, may_at, part_may, port_of, ports, same_port}
+use Rattle.window_model.proofs.Together.{address_part, data_part, is_whole, ready_part}
 use Rattle.window_model.specs.Order.{base_of, has_address, has_data, is_store, is_waiting, others_of, sources}
 use Rattle.window_model.specs.Dependence.{passing, waits_for_stores}
 use Rattle.window_model.specs.Ready.{all_known, ready}
@@ -99,8 +101,8 @@ module _ (d : Desc) (x x2 : Machine) (r : Alike x x2) (place : SameShape x.ram x
         ap (λ z. if d.version == 1 then z else all_known d b own) together ∙ ap (λ z. if d.version == 1 then ready d b2 e2 && is_whole e2 else z) part
 
     part_alike : (port : Port) → part_may port d b e ≡ part_may port d b2 e2
-    part_alike AddressPort = ap₂ (λ a k. not a && k) (ap has_address h) (ready_alike _ _ (ap base_of (same_sources e e2 h)))
-    part_alike DataPort = ap₂ (λ a k. not a && k) (ap has_data h) (ready_alike _ _ (ap others_of (same_sources e e2 h)))
+    part_alike AddressPort = address_part d b e ∙ ap₂ (λ a k. not a && k) (ap has_address h) (ready_alike _ _ (ap base_of (same_sources e e2 h))) ∙ sym (address_part d b2 e2)
+    part_alike DataPort = data_part d b e ∙ ap₂ (λ a k. not a && k) (ap has_data h) (ready_alike _ _ (ap others_of (same_sources e e2 h))) ∙ sym (data_part d b2 e2)
     part_alike _ = refl
 
     -- two runs see alike whether an entry may issue at a port

@@ -11,7 +11,7 @@ use Rattle.window_model.specs.declared.Entry.{Entry}
 use Rattle.window_model.specs.Order.{writes, base_of, is_load, is_store, is_done, value_of, operand, from_writer}
 use Rattle.window_model.specs.Ready.{all_known, gives, holds, is_known}
 use Rattle.window_model.specs.Taint.{visible, tainted, any_tainted, address_tainted}
-use Rattle.window_model.specs.Issue.{stores_done}
+use Rattle.window_model.specs.MayIssue.{stores_done}
 use Rattle.window_model.proofs.Taints.{tainted_cons}
 use Rattle.noninterference.specs.Alike.{without_outcome}
 use Rattle.noninterference.specs.Outcomes.{SameOutcome, SameOutcomes}

@@ -17,7 +17,7 @@ use Rattle.window_model.specs.Retire.{addr_of, width_in}
 use Rattle.window_model.specs.Taint.{visible, any_tainted, address_tainted}
 use Rattle.window_model.specs.Shape.{SameShape}
 use Rattle.window_model.proofs.Memory.{same_fault}
-use Rattle.window_model.specs.Issue.{effect_of}
+use Rattle.window_model.specs.MayIssue.{effect_of}
 use Rattle.committed_state.specs.Computed.{Bank, ComesTo, as_known, as_known_by, bytes_over, computed, known_of, outcome_as}
 use Rattle.committed_state.proofs.Computed.{outcome_same}
 use Rattle.noninterference.specs.Outcomes.{but_value, SameOutcome}

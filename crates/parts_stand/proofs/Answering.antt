@@ -17,7 +17,7 @@ use Rattle.window_model.specs.Around.{Around, is_free}
 use Rattle.window_model.specs.Order.{Place, base_of, before_at, first_from, is_control, is_done, is_load, is_waiting, others_of, sources, writer, writes}
 use Rattle.window_model.specs.Ready.{all_known, gives, holds, is_known}
 use Rattle.window_model.specs.Resolve.{may_resolve}
-use Rattle.window_model.specs.Issue.{goes_behind, may_issue_as}
+use Rattle.window_model.specs.MayIssue.{goes_behind, may_issue_as}
 use Rattle.window_model.specs.Taint.{tainted, any_tainted, address_tainted, visible}
 use Rattle.window_model.proofs.Booleans.{or_false}
 use Rattle.window_model.proofs.Counts.{count, count_is, count_pushed}

@@ -10,7 +10,7 @@ use Rattle.window_model.specs.Around.{Around, is_free}
 use Rattle.window_model.specs.Order.{base_of, before_at, first, is_waiting, others_of, sources, writer}
 use Rattle.window_model.specs.Ready.{all_known, gives, holds, ready}
 use Rattle.window_model.specs.Resolve.{may_resolve}
-use Rattle.window_model.specs.Issue.{goes_behind, may_issue_as}
+use Rattle.window_model.specs.MayIssue.{goes_behind, may_issue_as}
 use Rattle.window_model.specs.Taint.{visible, tainted, any_tainted, address_tainted}
 use Rattle.rob_ring.specs.Ring.{below}
 use Rattle.rename_taint.specs.declared.Source.{Source}

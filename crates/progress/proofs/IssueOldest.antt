@@ -27,7 +27,10 @@ use Rattle.window_model.specs.Fill.{is_due}
 use Rattle.window_model.specs.Around.{Around, around, is_free}
 use Rattle.window_model.specs.Access.{Access, Faults, Forwards, Looks, Waits, Line, access_at, all_covered, any_store_hidden, look_up, misses_after, prefetched, requests, unless_lacking}
 use Rattle.window_model.specs.Retire.{op_of, width_of}
-use Rattle.window_model.specs.Issue.{Begun, AddressPort, DataPort, DivPort, LoadPort, busy_until_both, data_events, if_granted, is_whole, with_address, with_data, issue, issue_entry, begin_as, load_as, access_of, waits, effect_of, value_loaded, time_of, is_granted, may_at, may_issue_as, after_load, divider_after, ports, port_of, same_port}
+use Rattle.window_model.specs.MayIssue.{effect_of, may_issue_as}
+use Rattle.window_model.specs.Ports.{AddressPort, DataPort, DivPort, LoadPort, is_granted, may_at, ports, port_of, same_port}
+use Rattle.window_model.specs.Issue.{Begun, busy_until_both, if_granted, with_address, with_data, issue, issue_entry, begin_as, load_as, access_of, waits, value_loaded, time_of, after_load, divider_after}
+use Rattle.window_model.proofs.Together.{address_part, data_events, data_part, entry_parts, is_whole}
 use Rattle.window_model.proofs.Issuing.{looked, may_own, requests_few}
 use Rattle.window_model.proofs.Booleans.{is_below}
 use Rattle.machine_facts.specs.Sized.{HasParts, Together}
@@ -78,13 +81,13 @@ neither false true p q = absurd (cc)
 address_granted : (d : Desc) (now : Around) (e : Entry) → Together d (made Waiting Store e) → has_address e ≡ false → is_granted d now AddressPort [] (made Waiting Store e) ≡ true
 address_granted d now e t h =
     let a = made Waiting Store e in
-    both_true (both_true (ap not h) (part_ready (d.version == 1) (ready d [] a) (is_whole a) (all_known d [] (base_of (sources a))) (oldest_ready d a)
+    both_true (address_part d [] a ∙ both_true (ap not h) (part_ready (d.version == 1) (ready d [] a) (is_whole a) (all_known d [] (base_of (sources a))) (oldest_ready d a)
     (λ v. neither (has_address e) (has_data e) h (t (eqb-true _ _ v) refl)) (oldest_known d (base_of (sources a))))) refl
 
 data_granted : (d : Desc) (now : Around) (e : Entry) → Together d (made Waiting Store e) → has_data e ≡ false → is_granted d now DataPort [] (made Waiting Store e) ≡ true
 data_granted d now e t h =
     let a = made Waiting Store e in
-    both_true (both_true (ap not h) (part_ready (d.version == 1) (ready d [] a) (is_whole a) (all_known d [] (others_of (sources a))) (oldest_ready d a)
+    both_true (data_part d [] a ∙ both_true (ap not h) (part_ready (d.version == 1) (ready d [] a) (is_whole a) (all_known d [] (others_of (sources a))) (oldest_ready d a)
     (λ v. let q = t (eqb-true _ _ v) refl in neither (has_address e) (has_data e) (q ∙ h) q) (oldest_known d (others_of (sources a))))) refl
 
 -- an oldest load may issue
@@ -285,8 +288,9 @@ store_nearer d x e es p t s =
     let y = (issue d x2).machine in
     let ha = else_has (has_address e) (is_granted d now AddressPort [] a) (address_granted d now e t) in
     let hc = else_has (has_data e) (is_granted d now DataPort [] a) (data_granted d now e t) in
-    parts_soon (is_granted d now AddressPort [] a) (is_granted d now DataPort [] a) d now (effect_of x.regs [] a) a y.cycle y.divider.free_from y.misses ha hc
-    (λ g h. not_both (has_address e) (has_data e) (p refl) (ha g) (hc h)) s.parts.0 (issue_adds d x2).cycle
+    subst (λ (b : Begun). needs b.entry d y.cycle y.misses y.divider.free_from < 2) (sym (entry_parts d now [] a))
+    (parts_soon (is_granted d now AddressPort [] a) (is_granted d now DataPort [] a) d now (effect_of x.regs [] a) a y.cycle y.divider.free_from y.misses ha hc
+    (λ g h. not_both (has_address e) (has_data e) (p refl) (ha g) (hc h)) s.parts.0 (issue_adds d x2).cycle)
 
 -- the oldest entry stays busy where it is
 busy_stays : (d : Desc) (now : Around) (e : Entry) (due : ℕ) → e.state ≡ Busy due → HasParts e → (issue_entry d now [] e).entry.state ≡ Busy due

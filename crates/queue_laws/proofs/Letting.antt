@@ -8,7 +8,7 @@ use Rattle.window_model.specs.declared.Entry.{Entry}
 use Rattle.window_model.specs.Order.{has_address, has_data, is_store}
 use Rattle.window_model.specs.Taint.{address_tainted}
 use Rattle.window_model.specs.Access.{covers}
-use Rattle.window_model.specs.Issue.{lets, stores_let}
+use Rattle.window_model.specs.MayIssue.{lets, stores_let}
 use Rattle.lsq.specs.declared.store.Span.{Span}
 use Rattle.lsq.specs.declared.store.Store.{Store}
 use Rattle.lsq.specs.Queues.{is_known, youngest_root}

@@ -10,7 +10,7 @@ use Rattle.window_model.specs.declared.Entry.{Entry}
 use Rattle.window_model.specs.Order.{has_address, has_data, is_store}
 use Rattle.window_model.specs.Taint.{address_tainted}
 use Rattle.window_model.specs.Access.{byte_from, byte_of, covers, reaches}
-use Rattle.window_model.specs.Issue.{stores_let}
+use Rattle.window_model.specs.MayIssue.{stores_let}
 use Rattle.window_model.specs.Retire.{stored_of, width_of}
 use Rattle.window_model.proofs.Booleans.{both}
 use Rattle.lsq.specs.declared.store.Span.{Span}

@@ -10,7 +10,7 @@ use Rattle.window_model.specs.Order.{first, is_load, is_store}
 use Rattle.window_model.specs.Serials.{Rise}
 use Rattle.window_model.specs.Access.{all_covered, any_store_hidden, load_bytes}
 use Rattle.window_model.specs.Clear.{is_violated}
-use Rattle.window_model.specs.Issue.{stores_let}
+use Rattle.window_model.specs.MayIssue.{stores_let}
 use Rattle.lsq.specs.declared.store.Store.{Store}
 use Rattle.lsq.specs.Queues.{Queues, is_known, older, youngest_root}
 use Rattle.lsq.specs.Clearing.{info_of, violated_by}

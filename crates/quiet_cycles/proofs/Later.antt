@@ -19,7 +19,10 @@ use Rattle.window_model.specs.Taint.{any_tainted}
 use Rattle.window_model.specs.Ready.{ready}
 use Rattle.window_model.specs.Retire.{width_of}
 use Rattle.window_model.specs.Access.{Access, Faults, access_at}
-use Rattle.window_model.specs.Issue.{Port, AddressPort, DataPort, port_of, ports, part_may, same_port, asking, is_granted, may_at, may_issue_as, data_events, if_granted, with_address, with_data, issue_entry, issue_parts, issue_whole, begin_as, load_as, access_of, effect_of, value_loaded, waits}
+use Rattle.window_model.specs.MayIssue.{may_issue_as, effect_of}
+use Rattle.window_model.specs.Ports.{Port, AddressPort, DataPort, port_of, ports, part_may, same_port, asking, is_granted, may_at}
+use Rattle.window_model.specs.Issue.{Begun, if_granted, with_address, with_data, issue_entry, issue_whole, begin_as, load_as, access_of, value_loaded, waits}
+use Rattle.window_model.proofs.Together.{data_events, entry_parts, issue_parts}
 use Rattle.quiet_cycles.specs.Still.{NotDueBefore, at_cycle}
 use Rattle.quiet_cycles.proofs.Waiting.{NoneBegins}
 
@@ -97,7 +100,10 @@ module _ (d : Desc) (x : Machine) (c : ℕ) where
         ∙ sym (parts_have now (effect_of x.regs before e) (is_granted d now AddressPort before e) (is_granted d now DataPort before e) e)
 
     entry_as_before : (before : List Entry) (e : Entry) → (issue_entry d later before e).events ≡ (issue_entry d now before e).events
-    entry_as_before before e = by_kind (is_store e.item.kind)
+    entry_as_before before e =
+        ap (λ (t : Begun). t.events) (entry_parts d later before e)
+        ∙ by_kind (is_store e.item.kind)
+        ∙ sym (ap (λ (t : Begun). t.events) (entry_parts d now before e))
       where
         whole : (issue_whole d later before e).events ≡ (issue_whole d now before e).events
         whole =

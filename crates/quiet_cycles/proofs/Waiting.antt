@@ -1,6 +1,6 @@
 -- Issue where nothing happens in it: no entry begins, and the load that is tried, if there is one, finds no miss
 -- register.
-use Rattle.std.proofs.Common.{◌≡◌, ℕ, ◌+◌, Bool, true, false, List, [], ◌∷◌, ◌++◌, Option, Some, None, refl, ap, ◌∙◌, subst, arith, eqb-true}
+use Rattle.std.proofs.Common.{◌≡◌, ℕ, ◌+◌, Bool, true, false, List, [], ◌∷◌, ◌++◌, Option, Some, None, refl, ap, sym, ◌∙◌, subst, arith, eqb-true}
 use Rattle.std.specs.Prelude.{if◌then◌else◌, nat_lt, ◌==◌, map}
 use Rattle.std.specs.Cmp.Derive.{both_true}
 use Rattle.std.specs.List.{flat_map}
@@ -17,9 +17,11 @@ use Rattle.window_model.specs.State.{Machine, After, lines_of, nothing}
 use Rattle.window_model.specs.Around.{Around, around}
 use Rattle.window_model.specs.Order.{Place, each_from, first, first_from, is_store}
 use Rattle.window_model.specs.Access.{Access, Waits, Request, cache_after, look_events, look_up, misses_after, second_after}
-use Rattle.window_model.specs.Issue.{Begun, AddressPort, DataPort, DivPort, LoadPort, port_of, ports, asking, is_granted, may_at, issue, issue_entry, issue_parts, issue_whole, begin_as, if_granted, with_address, with_data, load_as, access_of, effect_of, value_loaded, waits, after_load, divider_after}
+use Rattle.window_model.specs.MayIssue.{effect_of}
+use Rattle.window_model.specs.Ports.{AddressPort, DataPort, DivPort, LoadPort, port_of, ports, asking, is_granted, may_at}
+use Rattle.window_model.specs.Issue.{Begun, issue, issue_entry, issue_store, issue_whole, begin_as, if_granted, with_address, with_data, load_as, access_of, value_loaded, waits, after_load, divider_after}
 use Rattle.window_model.proofs.Issuing.{OneOrTwo, One, Two, asks_division, asks_load, by_load, lines_are}
-use Rattle.window_model.proofs.Together.{granted_together}
+use Rattle.window_model.proofs.Together.{entry_parts, granted_together, issue_parts}
 use Rattle.quiet_cycles.proofs.Nothing.{both_empty}
 
 -- the entry does not begin, nor does a part of it: it has no event in Issue
@@ -86,7 +88,7 @@ module _ (d : Desc) (now : Around) (before : List Entry) (e : Entry) where
       by_version false q n = absurd (cc)
 
   entry_stays : DoesNotBegin d now before e → (issue_entry d now before e).entry ≡ e
-  entry_stays = by_kind (is_store e.item.kind)
+  entry_stays = subst (λ (t : Begun). t.events ≡ [] → t.entry ≡ e) (sym (entry_parts d now before e)) (by_kind (is_store e.item.kind))
     where
       by_kind : (s : Bool) → let r = (if s then issue_parts d now before e else issue_whole d now before e) in r.events ≡ [] → r.entry ≡ e
       by_kind true h =
@@ -109,7 +111,7 @@ begun d now before e k q s m o a h =
     let g : is_granted d now (port_of k) before e ≡ true = both_true m (ap (nat_lt (asking d now (port_of k) before)) o ∙ ap (λ n. nat_lt n 1) a) in
     let own : is_granted d now (port_of e.item.kind) before e ≡ true = ap (λ k. is_granted d now (port_of k) before e) q ∙ g in
     let whole : is_store e.item.kind ≡ false = ap is_store q ∙ s in
-    let piece : (issue_whole d now before e).events ≡ [] = subst (λ b. (if b then issue_parts d now before e else issue_whole d now before e).events ≡ []) whole h in
+    let piece : (issue_whole d now before e).events ≡ [] = subst (λ b. (if b then issue_store d now before e else issue_whole d now before e).events ≡ []) whole h in
     subst (λ k. (begin_as k d now before e).events ≡ []) q (subst (λ b. (if b then begin_as e.item.kind d now before e else waits e).events ≡ []) own piece)
 
 -- an entry that does not ask for a port leaves it

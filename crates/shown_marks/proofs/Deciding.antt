@@ -10,7 +10,7 @@ use Rattle.machine_desc.specs.declared.Desc.{Desc}
 use Rattle.machine_desc.specs.declared.SttModel.{SttModel}
 use Rattle.window_model.specs.declared.Entry.{Entry}
 use Rattle.window_model.specs.Around.{Around}
-use Rattle.window_model.specs.Issue.{AddressPort, part_may}
+use Rattle.window_model.specs.Ports.{AddressPort, part_may}
 use Rattle.window_model.specs.Order.{base_of, has_address, has_data, is_store, is_waiting, sources}
 use Rattle.window_model.specs.Ready.{all_known, ready}
 use Rattle.window_model.specs.Taint.{address_tainted, any_tainted}

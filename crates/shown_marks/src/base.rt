@@ -9,7 +9,7 @@ use transmit_gate::may_transmit;
 
 impl<'a> Seen<'a> {
     ghost use Rattle.std.specs.Prelude.{◌≡◌, Some, slice_get, true};
-    ghost use Rattle.window_model.specs.Issue.{AddressPort, part_may};
+    ghost use Rattle.window_model.specs.Ports.{AddressPort, part_may};
     ghost use Rattle.window_model.specs.Order.{is_store};
     ghost use Rattle.rob_ring.specs.Beside.{each_roots};
     ghost use Rattle.secret_marks.specs.Shows.{decides_as, operand_shows};

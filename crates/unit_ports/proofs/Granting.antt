@@ -8,7 +8,8 @@ use Rattle.rv_types.specs.declared.Kind.TheVariants.{Mul, Div, Load, Store}
 use Rattle.machine_desc.specs.declared.Desc.{Desc}
 use Rattle.window_model.specs.declared.Entry.{Entry}
 use Rattle.window_model.specs.Order.{is_store}
-use Rattle.window_model.specs.Issue.{Port, AluPort, MulPort, DivPort, AddressPort, DataPort, LoadPort, asking, may_at, may_issue, part_may, port_of, ports, same_port}
+use Rattle.window_model.specs.MayIssue.{may_issue}
+use Rattle.window_model.specs.Ports.{Port, AluPort, MulPort, DivPort, AddressPort, DataPort, LoadPort, asking, may_at, part_may, port_of, ports, same_port}
 use Rattle.unit_ports.specs.Ports.{Ports, begun_at, left_at, port_for, taken_at}
 use Rattle.unit_ports.specs.Laws.{OpensWithAll, LeavesAsCounted, StoresAskAtBoth, GrantsAsCounted, if_asked}
 

@@ -5,7 +5,7 @@ use Rattle.machine_desc.specs.declared.Desc.{Desc}
 use Rattle.window_model.specs.declared.Entry.{Entry}
 use Rattle.window_model.specs.Around.{Around}
 use Rattle.window_model.specs.Order.{is_store}
-use Rattle.window_model.specs.Issue.{Port, AddressPort, DataPort, asking, is_granted, may_at, ports}
+use Rattle.window_model.specs.Ports.{Port, AddressPort, DataPort, asking, is_granted, may_at, ports}
 use Rattle.unit_ports.specs.Ports.{Ports, begun_at, left_at, port_for, taken_at}
 
 -- what is left are the ports that none of these entries may issue at

@@ -4,7 +4,7 @@ use Rattle.machine_desc.specs.declared.Desc.{Desc}
 use Rattle.window_model.specs.declared.Divider.{Divider}
 use Rattle.rv_types.specs.declared.Kind.{Kind}
 use Rattle.rv_types.specs.declared.Kind.TheVariants.{Store}
-use Rattle.window_model.specs.Issue.{Port, AluPort, MulPort, DivPort, AddressPort, DataPort, LoadPort, port_of}
+use Rattle.window_model.specs.Ports.{Port, AluPort, MulPort, DivPort, AddressPort, DataPort, LoadPort, port_of}
 
 -- how many arithmetic units there are, the cycle, how many ports of each kind are left in it (a store's address part
 -- and its data part have each their own), and the divider

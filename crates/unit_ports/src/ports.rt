@@ -1,7 +1,7 @@
 //! The ports of a cycle, and the divider.
 ghost use Rattle.std.specs.Prelude.{◌≡◌, ◌-◌, nat_lt, nat_le, Some};
 ghost use Rattle.window_model.specs.Resolve.{freed_from};
-ghost use Rattle.window_model.specs.Issue.{DataPort};
+ghost use Rattle.window_model.specs.Ports.{DataPort};
 ghost use Rattle.unit_ports.specs.Ports.{begun_at, free_divider, left_at, opening, port_for, taken_at};
 
 use machine_desc::Desc;

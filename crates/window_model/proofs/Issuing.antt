@@ -26,7 +26,10 @@ use Rattle.window_model.specs.State.{Machine, line_of, lines_of}
 use Rattle.window_model.specs.Taint.{any_tainted, address_tainted}
 use Rattle.window_model.specs.Ready.{is_known, all_known, ready}
 use Rattle.window_model.specs.Access.{Access, Faults, Forwards, Looks, Waits, Line, Hits, Joins, Takes, Request, access_at, look_up, joined, request, request_by, requests, line_behind, prefetches, prefetched, unless_lacking, all_covered, any_store_hidden}
-use Rattle.window_model.specs.Issue.{Begun, Port, AluPort, AddressPort, DataPort, DivPort, LoadPort, issue_entry, issue_parts, issue_whole, may_issue, may_issue_as, goes_behind, is_whole, ready_part, part_may, begin_as, begun, busy_until_both, if_granted, data_events, with_address, with_data, load_as, access_of, effect_of, waits, is_division, is_granted, may_at, port_of, same_port, after_load}
+use Rattle.window_model.specs.MayIssue.{may_issue, may_issue_as, goes_behind, effect_of}
+use Rattle.window_model.specs.Ports.{Port, AluPort, AddressPort, DataPort, DivPort, LoadPort, part_may, is_granted, may_at, port_of, same_port}
+use Rattle.window_model.specs.Issue.{Begun, issue_entry, issue_whole, begin_as, begun, busy_until_both, if_granted, with_address, with_data, load_as, access_of, waits, is_division, after_load}
+use Rattle.window_model.proofs.Together.{address_part, data_events, data_part, entry_parts, is_whole, issue_parts, ready_part}
 use Rattle.window_model.proofs.Booleans.{both, not_true}
 use Rattle.window_model.proofs.Counts.{Goes, goes_same, goes_then, Evolves}
 
@@ -161,8 +164,8 @@ module _ (d : Desc) (now : Around) (b : List Entry) (e : Entry) (P : Entry → T
   by_store s =
       granted_if (is_granted d now AddressPort b e) (is_granted d now DataPort b e)
       (parts s _ _
-      (λ g. go_of (has_address e) d (base_of (sources e)) b e (known_base d b (sources e)) (may_go (is_store e.item.kind) s _ _ (both (may_at d now AddressPort b e) _ g).0))
-      (λ g. go_of (has_data e) d (others_of (sources e)) b e (known_others d b (sources e)) (may_go (is_store e.item.kind) s _ _ (both (may_at d now DataPort b e) _ g).0)))
+      (λ g. go_of (has_address e) d (base_of (sources e)) b e (known_base d b (sources e)) (sym (address_part d b e) ∙ may_go (is_store e.item.kind) s _ _ (both (may_at d now AddressPort b e) _ g).0))
+      (λ g. go_of (has_data e) d (others_of (sources e)) b e (known_others d b (sources e)) (sym (data_part d b e) ∙ may_go (is_store e.item.kind) s _ _ (both (may_at d now DataPort b e) _ g).0)))
     where
       may_go : (s : Bool) → s ≡ true → (p m : Bool) → (if s then p else m) ≡ true → p ≡ true
       may_go true q p m h = h
@@ -176,7 +179,7 @@ module _ (d : Desc) (now : Around) (b : List Entry) (e : Entry) (P : Entry → T
       by_grant false q = remains
 
   pub by_issue : P (issue_entry d now b e).entry
-  by_issue = by_kind (is_store e.item.kind) refl
+  by_issue = subst (λ (t : Begun). P t.entry) (sym (entry_parts d now b e)) (by_kind (is_store e.item.kind) refl)
     where
       by_kind : (s : Bool) → is_store e.item.kind ≡ s → P (if s then issue_parts d now b e else issue_whole d now b e).entry
       by_kind true q = by_store q

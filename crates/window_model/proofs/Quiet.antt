@@ -12,7 +12,8 @@ use Rattle.window_model.specs.Resolve.{resolve}
 use Rattle.window_model.specs.Clear.{clear}
 use Rattle.window_model.specs.Retire.{hart_of, retire, unless_ended}
 use Rattle.window_model.specs.Around.{around}
-use Rattle.window_model.specs.Issue.{LoadPort, issue, may_at}
+use Rattle.window_model.specs.Ports.{LoadPort, may_at}
+use Rattle.window_model.specs.Issue.{issue}
 use Rattle.window_model.specs.Rename.{rename}
 use Rattle.window_model.specs.Fetch.{fetch}
 use Rattle.window_model.specs.Cycle.{after_retire, before_retire, begins_cycle, cycle}

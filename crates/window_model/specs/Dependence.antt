@@ -21,6 +21,7 @@ waits_for_stores d dependence pc = slice_index_or dependence (bit_index d pc) fa
 abbrev pub bit_set : Desc → ℕ → List Bool → List Bool
 bit_set d pc dependence = slice_set dependence (bit_index d pc) true
 
--- what an item is in the window from its first cycle on: cleared, unless it is a store that loads may pass
+-- what an item is in the window from its first cycle on: cleared, unless it is a store that loads may pass. So without
+-- bits of dependence every entry is cleared all along, and whoever asks `cleared` of a store asks nothing
 abbrev pub starts_cleared : Desc → Kind → Bool
 starts_cleared d k = not (passing d && is_store k)

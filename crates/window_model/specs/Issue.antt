@@ -1,17 +1,17 @@
--- The fifth phase: entries whose operands are there begin to execute (docs/machine.md, "Issue").
-use Rattle.std.specs.Prelude.{ℕ, ◌+◌, Bool, true, false, not, ◌&&◌, ◌||◌, ◌==◌, nat_lt, max, List, [], ◌∷◌, ◌++◌, map, Option, Some, None, if◌then◌else◌}
-use Rattle.std.specs.List.{list_all, list_any, flat_map}
+-- The fifth phase: entries whose operands are there begin to execute (docs/machine.md, "Issue"). Who may issue stands
+-- in
+-- `MayIssue.antt`, who is granted a port in `Ports.antt`; what it comes to stands here.
+use Rattle.std.specs.Prelude.{ℕ, ◌+◌, Bool, true, false, ◌&&◌, ◌==◌, max, List, [], ◌∷◌, ◌++◌, map, Option, Some, None, if◌then◌else◌}
+use Rattle.std.specs.List.{flat_map}
 use Rattle.rv_types.specs.Word.{from_le}
-use Rattle.rv_types.specs.Value.{extend, div_time, one_if}
+use Rattle.rv_types.specs.Value.{extend, div_time}
 use Rattle.rv_types.specs.Causes.{jump_misaligned}
-use Rattle.rv_types.specs.Isa.{Effect, effect}
-use Rattle.rv_types.specs.Memory.{Ram, load_fault, store_fault, range}
-use Rattle.rv_types.specs.Path.{unless_fault}
+use Rattle.rv_types.specs.Isa.{Effect}
+use Rattle.rv_types.specs.Memory.{Ram, store_fault}
 use Rattle.rv_types.specs.declared.Cause.{Cause}
 use Rattle.rv_types.specs.declared.Kind.{Kind}
 use Rattle.rv_types.specs.declared.Kind.TheVariants.{Mul, Div, Load}
 use Rattle.machine_desc.specs.declared.Desc.{Desc}
-use Rattle.machine_desc.specs.declared.SttModel.{SttModel}
 use Rattle.window_model.specs.declared.Entry.{Entry}
 use Rattle.window_model.specs.declared.Event.{Event}
 use Rattle.window_model.specs.declared.Event.TheVariants as event
@@ -19,140 +19,14 @@ use Rattle.window_model.specs.declared.Outcome.{Outcome}
 use Rattle.window_model.specs.declared.Progress.{Progress}
 use Rattle.window_model.specs.declared.Progress.TheVariants.{Busy}
 use Rattle.window_model.specs.State.{Machine, After, Divider}
-use Rattle.window_model.specs.Around.{Around, around, is_free}
-use Rattle.window_model.specs.Order.{Place, first, each, is_waiting, is_done, is_store, has_address, has_data, operand, sources, base_of, others_of}
-use Rattle.window_model.specs.Taint.{any_tainted, address_tainted}
-use Rattle.window_model.specs.Ready.{all_known, ready}
-use Rattle.window_model.specs.Dependence.{passing, waits_for_stores}
+use Rattle.window_model.specs.Around.{Around, around}
+use Rattle.window_model.specs.Order.{Place, first, each, is_store, sources}
+use Rattle.window_model.specs.MayIssue.{effect_of, first_operand}
+use Rattle.window_model.specs.Ports.{AddressPort, DataPort, DivPort, LoadPort, is_granted, may_at, port_of}
 use Rattle.window_model.specs.Retire.{op_of, width_of}
-use Rattle.window_model.specs.Access.{Access, Faults, Forwards, Looks, Waits, access, cache_after, covers, due_by, load_bytes, look_events, misses_after, second_after}
+use Rattle.window_model.specs.Access.{Access, Faults, Forwards, Looks, Waits, access, cache_after, due_by, load_bytes, look_events, misses_after, second_after}
 
--- ---- the operands of an entry
-
--- the value of the first source
-abbrev pub first_operand : List ℕ → List Entry → List ℕ → ℕ
-first_operand regs before [] = 0
-first_operand regs before (r ∷ rs) = operand regs before r
-
--- the value of the second source
-abbrev pub second_operand : List ℕ → List Entry → List ℕ → ℕ
-second_operand regs before [] = 0
-second_operand regs before (r ∷ rs) = first_operand regs before rs
-
--- what the instruction makes of its operands
-abbrev pub effect_of : List ℕ → List Entry → Entry → Effect
-effect_of regs before e =
-    effect e.item.pc e.item.instr (first_operand regs before (sources e)) (second_operand regs before (sources e))
-
--- ---- which entries may issue
-
--- every older store has its address and value
-abbrev pub stores_done : List Entry → Bool
-stores_done before = list_all (λ e. not (is_store e.item.kind) || is_done e.state) before
-
--- the address of a load or store: its base alone decides it
-abbrev pub address_of : List ℕ → List Entry → Entry → ℕ
-address_of regs before e = (effect e.item.pc e.item.instr (first_operand regs before (sources e)) 0).addr
-
--- the bytes of a load, none where it faults
-abbrev pub bytes_of : Around → List Entry → Entry → List ℕ
-bytes_of now before e =
-    let a = address_of now.regs before e in unless_fault (load_fault now.ram a (width_of e)) (range a (width_of e))
-
--- the load passes stores of unknown address
-abbrev pub passes_stores : Desc → Around → Entry → Bool
-passes_stores d now e = passing d && not (waits_for_stores d now.dependence e.item.pc)
-
--- a store lets a younger load of these bytes go: its address is known, or the load passes it; and its data is known, or
--- its address is untainted and it covers none of them
-abbrev pub lets : SttModel → Bool → List ℕ → List Entry → Entry → Bool
-lets model passes bytes before e =
-    (has_address e || passes) && (has_data e || not (address_tainted model before e) && not (list_any (λ a. covers a e) bytes))
-
--- every older store lets a younger load of these bytes go
-abbrev pub stores_let : SttModel → Bool → List ℕ → List Entry → Bool
-stores_let model passes bytes [] = true
-stores_let model passes bytes (e ∷ before) =
-    (not (is_store e.item.kind) || lets model passes bytes before e) && stores_let model passes bytes before
-
--- what a load asks of the older stores: in version 1 that they are Done
-abbrev pub goes_behind : Desc → Around → List Entry → Entry → Bool
-goes_behind d now before e =
-    if d.version == 1 then stores_done before else stores_let d.stt_model (passes_stores d now e) (bytes_of now before e) before
-
--- what loads and divisions ask for besides
-abbrev pub may_issue_as : Kind → Desc → Around → List Entry → Entry → Bool
-may_issue_as Load d now before e = not (address_tainted d.stt_model before e) && goes_behind d now before e
-may_issue_as Div d now before e = not (any_tainted d.stt_model before e) && is_free now
-may_issue_as _ d now before e = true
-
--- an entry in one piece: waiting and ready; a load with an untainted base, and behind stores that let it go; a division
--- with untainted operands, and a divider that is free
-abbrev pub may_issue : Desc → Around → List Entry → Entry → Bool
-may_issue d now before e = is_waiting e.state && ready d before e && may_issue_as e.item.kind d now before e
-
--- ---- the ports of a cycle
-
--- the ports of a cycle
-pub data Port : Type 0 where
-  AluPort : Port
-  MulPort : Port
-  DivPort : Port
-  AddressPort : Port
-  DataPort : Port
-  LoadPort : Port
-
--- the port that a kind asks for in one piece
-abbrev pub port_of : Kind → Port
-port_of Mul = MulPort
-port_of Div = DivPort
-port_of Load = LoadPort
-port_of _ = AluPort
-
--- the two ports are the same
-abbrev pub same_port : Port → Port → Bool
-same_port AluPort AluPort = true
-same_port MulPort MulPort = true
-same_port DivPort DivPort = true
-same_port AddressPort AddressPort = true
-same_port DataPort DataPort = true
-same_port LoadPort LoadPort = true
-same_port _ _ = false
-
--- how many of each port a cycle has
-abbrev pub ports : Desc → Port → ℕ
-ports d AluPort = d.units_alus
-ports d _ = 1
-
--- neither part of a store has issued
-abbrev pub is_whole : Entry → Bool
-is_whole e = not (has_address e || has_data e)
-
--- what a part of a store waits for: its own register; in version 1 both, and it goes with the other part
-abbrev pub ready_part : Desc → List ℕ → List Entry → Entry → Bool
-ready_part d own before e = if d.version == 1 then ready d before e && is_whole e else all_known d before own
-
--- a part of a store may issue at its port: it hasn't issued, and is ready
-abbrev pub part_may : Port → Desc → List Entry → Entry → Bool
-part_may AddressPort d before e = not (has_address e) && ready_part d (base_of (sources e)) before e
-part_may DataPort d before e = not (has_data e) && ready_part d (others_of (sources e)) before e
-part_may _ d before e = false
-
--- the entry, or a part of it, may issue at this port
-abbrev pub may_at : Desc → Around → Port → List Entry → Entry → Bool
-may_at d now port before e =
-    if is_store e.item.kind then part_may port d before e else may_issue d now before e && same_port (port_of e.item.kind) port
-
--- how many of these entries may issue at a port
-abbrev pub asking : Desc → Around → Port → List Entry → ℕ
-asking d now port [] = 0
-asking d now port (e ∷ before) = one_if (may_at d now port before e) + asking d now port before
-
--- the entry may issue at a port, and older ones leave it one
-abbrev pub is_granted : Desc → Around → Port → List Entry → Entry → Bool
-is_granted d now port before e = may_at d now port before e && nat_lt (asking d now port before) (ports d port)
-
--- ---- what an entry then does
+-- ---- what an entry does that is no store
 
 -- the fault of a jump to an address that is no multiple of 4
 abbrev pub fault_if : Bool → Option Cause
@@ -214,12 +88,12 @@ begin_as _ d now before e =
     let f = effect_of now.regs before e in
     begins now e (now.cycle + 1) (outcome f f.value (fault_if f.misaligned)) (event.Alu e.serial ∷ [])
 
--- what is no store issues in one piece: an entry that is granted its port begins, any other waits
+-- what is no store issues at the port of its kind: an entry that is granted it begins, any other waits
 abbrev pub issue_whole : Desc → Around → List Entry → Entry → Begun
 issue_whole d now before e =
     if is_granted d now (port_of e.item.kind) before e then begin_as e.item.kind d now before e else waits e
 
--- ---- a store's two parts
+-- ---- what a store does, in one piece or by parts
 
 -- a store's outcome so far
 abbrev pub so_far : Option Outcome → ℕ → Outcome
@@ -249,25 +123,33 @@ with_data now f e = if_both (record e {
   data_due = Some (now.cycle + 1);
 })
 
--- a part issues where it is granted its port
+-- the entry goes on, with these events, where it is granted what it asks for
 abbrev pub if_granted : Bool → (Entry → Entry) → List Event → Entry → Begun
 if_granted granted part events e = if granted then record { entry = part e; events = events } else waits e
 
--- the data part's event: in version 1 it has none
-abbrev pub data_events : Desc → Entry → List Event
-data_events d e = if d.version == 1 then [] else event.Std e.serial ∷ []
+-- a store of version 1 issues in one piece, with one event, where it is granted both its ports: every store asks for
+-- both, so both are left to it or neither is
+abbrev pub store_in_one : Desc → Around → List Entry → Entry → Begun
+store_in_one d now before e =
+    let f = effect_of now.regs before e in
+    let both = is_granted d now AddressPort before e && is_granted d now DataPort before e in
+    if_granted both (λ e. with_data now f (with_address now f e)) (event.Agu e.serial ∷ []) e
 
--- the parts that are granted their ports issue, the address first
-abbrev pub issue_parts : Desc → Around → List Entry → Entry → Begun
-issue_parts d now before e =
+-- a store of version 2 issues by parts, each with its event: those that are granted their ports, the address first
+abbrev pub store_by_parts : Desc → Around → List Entry → Entry → Begun
+store_by_parts d now before e =
     let f = effect_of now.regs before e in
     let a = if_granted (is_granted d now AddressPort before e) (with_address now f) (event.Agu e.serial ∷ []) e in
-    let b = if_granted (is_granted d now DataPort before e) (with_data now f) (data_events d e) a.entry in
+    let b = if_granted (is_granted d now DataPort before e) (with_data now f) (event.Std e.serial ∷ []) a.entry in
     record { entry = b.entry; events = a.events ++ b.events }
 
--- a store goes by parts, any other entry in one piece
+-- what a store becomes in its version
+abbrev pub issue_store : Desc → Around → List Entry → Entry → Begun
+issue_store d now before e = if d.version == 1 then store_in_one d now before e else store_by_parts d now before e
+
+-- what an entry becomes in Issue, a store or any other
 abbrev pub issue_entry : Desc → Around → List Entry → Entry → Begun
-issue_entry d now before e = if is_store e.item.kind then issue_parts d now before e else issue_whole d now before e
+issue_entry d now before e = if is_store e.item.kind then issue_store d now before e else issue_whole d now before e
 
 -- ---- what all entries that issue share
 

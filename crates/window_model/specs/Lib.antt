@@ -13,6 +13,8 @@ pub mod Retire
 pub mod Around
 pub mod Access
 pub mod Clear
+pub mod MayIssue
+pub mod Ports
 pub mod Issue
 pub mod Rename
 pub mod Fetch

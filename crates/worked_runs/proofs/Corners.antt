@@ -22,7 +22,9 @@ use Rattle.window_model.specs.State.{Machine, opening}
 use Rattle.window_model.specs.Access.{covers, load_bytes, any_store_hidden}
 use Rattle.window_model.specs.Rename.{fits}
 use Rattle.window_model.specs.Around.{Around, around}
-use Rattle.window_model.specs.Issue.{LoadPort, may_issue, issue, is_granted}
+use Rattle.window_model.specs.MayIssue.{may_issue}
+use Rattle.window_model.specs.Ports.{LoadPort, is_granted}
+use Rattle.window_model.specs.Issue.{issue}
 use Rattle.window_model.specs.Resolve.{may_resolve, learn, freed_from}
 use Rattle.window_model.specs.Retire.{retire}
 use Rattle.window_model.specs.Taint.{tainted, safe, visible}

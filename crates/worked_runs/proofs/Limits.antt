@@ -19,7 +19,7 @@ use Rattle.window_model.specs.Dependence.{bit_index}
 use Rattle.window_model.specs.Fetch.{fetch}
 use Rattle.window_model.specs.Fill.{with_line}
 use Rattle.window_model.specs.History.{no_mark, counter_index, shifted, pushed, stack}
-use Rattle.window_model.specs.Issue.{ports, AluPort}
+use Rattle.window_model.specs.Ports.{ports, AluPort}
 use Rattle.window_model.specs.Rename.{fits}
 use Rattle.window_model.specs.Resolve.{index}
 use Rattle.window_model.specs.SecondLevel.{second_set_of, second_with_line}

@@ -1,6 +1,7 @@
 use Rattle.std.proofs.Common.{◌≡◌, ◌∙◌, ◌++◌, length, ap, refl, sym, arith, false, true, append-nil}
 use Rattle.std.specs.Option.{option_map}
-use Rattle.window_model.specs.Issue.{is_granted, issue_entry}
+use Rattle.window_model.specs.Ports.{is_granted}
+use Rattle.window_model.specs.Issue.{issue_entry}
 use Rattle.window_model.specs.Row.{with_events}
 use Rattle.issue.specs.Accesses.{as_access}
 use Rattle.issue.specs.State.{around_of, before_of, here}

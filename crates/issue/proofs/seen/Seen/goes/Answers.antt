@@ -1,7 +1,7 @@
 use Rattle.std.proofs.Common.{◌∙◌, ap, ap₂, sym}
 use Rattle.std.specs.Prelude.{◌==◌}
 use Rattle.rv_types.specs.Memory.{load_fault}
-use Rattle.window_model.specs.Issue.{address_of}
+use Rattle.window_model.specs.MayIssue.{address_of}
 use Rattle.window_model.specs.Retire.{width_of}
 use Rattle.issue.specs.Pending.{lets_by, passes_here}
 use Rattle.issue.specs.State.{before_of}
