@@ -106,7 +106,7 @@ impl<'a> Walk<'a> {
         if !is_at(self.cycle as u64 + 1, entry.data_due) {
             return own;
         }
-        either(own, self.operands(i, entry).second)
+        either(own, self.second_source(i, entry))
     }
 
     /// The marks of the entry at a position, as Issue has left it, beside those that it has.

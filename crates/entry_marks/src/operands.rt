@@ -63,6 +63,28 @@ impl<'a> Walk<'a> {
         }
     }
 
+    /// The marks of the first source of the entry at a position, none where it has no source.
+    pub fn first_source(&self, i: u32, entry: &Entry) -> WordMarks
+        requires stands { Stands self.now }
+        requires at { StandsAt self.now i entry.now }
+        ensures { result ≡ first_marks self.now.regs.now (entries_at self.now i) (marks_at self.now i)
+            (sources entry.now) }
+    {
+        let [first, _] = reads_of(&entry.item.instr);
+        self.source_marks(first, sources_at(self.sources, i).writers[0])
+    }
+
+    /// The marks of the second source of the entry at a position, none where it has none.
+    pub fn second_source(&self, i: u32, entry: &Entry) -> WordMarks
+        requires stands { Stands self.now }
+        requires at { StandsAt self.now i entry.now }
+        ensures { result ≡ second_marks self.now.regs.now (entries_at self.now i) (marks_at self.now i)
+            (sources entry.now) }
+    {
+        let [_, second] = reads_of(&entry.item.instr);
+        self.source_marks(second, sources_at(self.sources, i).writers[1])
+    }
+
     /// The marks of the sources of the entry at a position.
     pub fn operands(&self, i: u32, entry: &Entry) -> Operands
         requires stands { Stands self.now }
