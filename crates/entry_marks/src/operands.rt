@@ -48,6 +48,7 @@ impl<'a> Walk<'a> {
     ghost use Rattle.entry_marks.specs.Walk.{Stands, StandsAt, entries_at, marks_at};
 
     // The marks of a source whose writer has this serial.
+    #[inline(always)]
     fn source_marks(&self, source: Option<Reg>, writer: Option<u64>) -> WordMarks
         requires rise { Rise self.now.rob.now.entries }
         ensures { result ≡ marks_by self.now.regs.now self.now.rob.now.entries self.now.marks.now.items
