@@ -1,10 +1,13 @@
 -- What is copied of the oldest entries, and how their marks move once they have left.
-use Rattle.std.proofs.Common.{◌≡◌, ℕ, zero, suc, ◌+◌, ◌-◌, ◌<◌, List, [], ◌∷◌, ◌++◌, length, drop, Some, slice_get, refl, ap, ap₂, subst, ◌∙◌, ◌⊎◌, inl, inr, arith}
+use Rattle.std.proofs.Common.{◌≡◌, ℕ, zero, suc, ◌+◌, ◌-◌, ◌<◌, ◌≤◌, Bool, true, false, List, [], ◌∷◌, ◌++◌, length, drop, Some, slice_get, refl, ap, ap₂, subst, ◌∙◌, ◌⊎◌, inl, inr, arith}
+use Rattle.std.specs.Prelude.{min, if◌then◌else◌}
+use Rattle.std.proofs.lemmas.List.{length-drop}
 use Rattle.window_model.specs.declared.Entry.{Entry}
+use Rattle.window_model.specs.Order.{is_done}
 use Rattle.secret_marks.specs.declared.EntryMarks.{EntryMarks}
 use Rattle.secret_marks.specs.Marks.{Marks, leaves_as, left}
 use Rattle.entry_marks.specs.declared.oldest.LeavingEntry.{LeavingEntry}
-use Rattle.entry_marks.specs.Oldest.{IsCopied}
+use Rattle.entry_marks.specs.Oldest.{IsCopied, done_heads}
 use Rattle.entry_marks.proofs.Before.{drop_step}
 
 -- ---- copies are added one by one
@@ -35,6 +38,43 @@ module _ (window : List Entry) (marks : List EntryMarks) where
         let its : mark ≡ mark2 = cc in
         subst (λ e. IsCopied e mark2 copy2) entry (subst (λ mark. IsCopied e mark copy2) its (subst (λ copy. IsCopied e mark copy) (h.1) it))
   ]
+
+-- ---- how many of the oldest entries are Done
+
+few_on : (b : Bool) (n m : ℕ) → n ≤ m → (if b then suc n else 0) ≤ suc m
+few_on true n m h = omega (arith, h)
+few_on false n m h = omega arith
+
+-- no more entries are Done than there are
+pub few_done : (window : List Entry) → done_heads window ≤ length window
+few_done [] = omega arith
+few_done (e ∷ window) = few_on (is_done e.state) (done_heads window) (length window) (few_done window)
+
+module _ (window : List Entry) (i : ℕ) where
+  -- the first i entries are Done, and the others are left to count
+  abbrev pub Counted : Type 0
+  Counted = i + done_heads (drop i window) ≡ done_heads window
+
+  module _ (e : Entry) (here : slice_get window i ≡ Some e) where
+    done_on : (b : Bool) → is_done e.state ≡ b → done_heads (drop i window) ≡ (if b then suc (done_heads (drop (i + 1) window)) else 0)
+    done_on b q =
+        ap done_heads (drop_step window i (i + 1) e refl here)
+        ∙ ap (λ b. if b then suc (done_heads (drop (i + 1) window)) else 0) q
+
+    -- an entry that is Done is counted
+    pub one_counted : is_done e.state ≡ true → Counted → (i + 1) + done_heads (drop (i + 1) window) ≡ done_heads window
+    one_counted q was = let on = done_on true q in omega (arith, on, was)
+
+    -- an entry that isn't Done ends the count
+    pub ends_count : is_done e.state ≡ false → Counted → done_heads window ≡ i
+    ends_count q was = let on = done_on false q in omega (arith, on, was)
+
+  -- where the window or the room is over the count is as many as were copied
+  pub all_counted : i ≡ min (length window) 4 → Counted → i ≡ min (done_heads window) 4
+  all_counted end was =
+      let few = few_done (drop i window) in
+      let rest = length-drop i window in
+      omega (arith, end, was, few, rest)
 
 -- ---- entries leave, the oldest first
 

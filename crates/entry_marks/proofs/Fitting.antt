@@ -16,10 +16,14 @@ use Rattle.window_model.specs.Order.{is_done, is_store, fault_of}
 use Rattle.window_model.specs.Retire.{Retired, addr_of, call_leaves, hart_of, head_leaves, head_turn, may_leave, retire, stays, store_waits, then_retires, trap_as, trap_of, turn, turns, unless_ended, width_of}
 use Rattle.secret_marks.specs.declared.EntryMarks.{EntryMarks}
 use Rattle.entry_marks.specs.declared.oldest.LeavingEntry.{LeavingEntry}
-use Rattle.entry_marks.specs.Oldest.{InsideEach, IsCopiedFrom}
+use Rattle.entry_marks.specs.Oldest.{InsideEach, IsCopiedFrom, done_heads}
 use Rattle.entry_marks.proofs.Before.{found_at}
 use Rattle.std.proofs.lemmas.Option.{slice_get_within}
 use Rattle.window_model.proofs.Memory.{inside}
+
+first_of : (a b : Bool) → (a && b) ≡ true → a ≡ true
+first_of true b h = refl
+first_of false b h = absurd (cc)
 
 -- the entry may leave, and ends no run as a trap
 abbrev pub Leaves : Entry → Type 0
@@ -94,6 +98,23 @@ pub retire_went : (d : Desc) (x : Machine) → Went x.window (retire d x).machin
 unfolding retire
 retire_went d x = turns_went d d.core_retire_width false x
 
+-- ---- who retires is Done
+
+all_done : (gone after : List Entry) → Each Leaves gone → length gone ≤ done_heads (gone ++ after)
+all_done [] after h = omega arith
+all_done (e ∷ gone) after h =
+    let more = all_done gone after h.1 in
+    subst (λ b. suc (length gone) ≤ (if b then suc (done_heads (gone ++ after)) else 0)) (sym (first_of (is_done e.state) _ h.0.0)) (omega (arith, more))
+
+-- Retire takes no more entries than are Done from the oldest on
+pub done_taken : (d : Desc) (x : Machine) → length x.window - length (retire d x).machine.window ≤ done_heads x.window
+done_taken d x =
+    let w = retire_went d x in
+    let many = ap (λ es. length es) w.is ∙ length-append w.gone (retire d x).machine.window in
+    let heads = ap done_heads w.is in
+    let done = all_done w.gone (retire d x).machine.window w.leaves in
+    omega (arith, many, heads, done)
+
 -- ---- the stores among the entries that retire
 
 -- memory takes what the entry writes, if it is a Done store without a fault
@@ -109,10 +130,6 @@ get_left : (es more : List Entry) (i : ℕ) (e : Entry) → slice_get es i ≡ S
 get_left [] more i e at = absurd (cc)
 get_left (y ∷ es) more zero e at = at
 get_left (y ∷ es) more (suc i) e at = get_left es more i e at
-
-first_of : (a b : Bool) → (a && b) ≡ true → a ≡ true
-first_of true b h = refl
-first_of false b h = absurd (cc)
 
 -- an access that memory takes lies within it
 fits : (ram : Ram) (a n : ℕ) → store_fault ram a n ≡ None → (a - ram.base) + n ≤ length ram.bytes

@@ -1,3 +1,4 @@
 pub mod Beside
 pub mod Walk
 pub mod Oldest
+pub mod Told

@@ -1,8 +1,9 @@
 -- What is copied of the oldest entries before Retire (docs/theorems.md, "Secrets that are loaded").
-use Rattle.std.specs.Prelude.{◌≡◌, ℕ, ◌+◌, ◌-◌, ◌<◌, ◌≤◌, min, List, length, slice_get, Some}
+use Rattle.std.specs.Prelude.{◌≡◌, ℕ, suc, ◌+◌, ◌-◌, ◌<◌, ◌≤◌, min, List, [], ◌∷◌, length, slice_get, Some, if◌then◌else◌}
 use Rattle.rv_types.specs.Value.{bytes_in}
 use Rattle.rv_types.specs.declared.Kind.TheVariants.{Store}
 use Rattle.window_model.specs.declared.Entry.{Entry}
+use Rattle.window_model.specs.Order.{is_done}
 use Rattle.window_model.specs.Retire.{addr_of, width_of}
 use Rattle.secret_marks.specs.declared.EntryMarks.{EntryMarks}
 use Rattle.entry_marks.specs.declared.oldest.LeavingEntry.{LeavingEntry}
@@ -15,10 +16,15 @@ pub record IsCopied (e : Entry) (mark : EntryMarks) (copy : LeavingEntry) : Type
   pub width : bytes_in copy.width ≡ width_of e
   pub marks : copy.marks ≡ mark
 
--- the copies are those of the at most four oldest entries of a window with these marks
+-- how many of the oldest entries are Done, up to the first that isn't
+abbrev pub done_heads : List Entry → ℕ
+done_heads [] = 0
+done_heads (e ∷ window) = if is_done e.state then suc (done_heads window) else 0
+
+-- the copies are those of the at most four oldest entries of a window with these marks, up to the first that isn't Done
 pub record IsCopiedFrom (window : List Entry) (marks : List EntryMarks) (copies : List LeavingEntry) : Type 0 where
   pub step : length marks ≡ length window
-  pub count : length copies ≡ min (length window) 4
+  pub count : length copies ≡ min (done_heads window) 4
   pub each : (i : ℕ) (e : Entry) (mark : EntryMarks) (copy : LeavingEntry) →
       slice_get window i ≡ Some e → slice_get marks i ≡ Some mark → slice_get copies i ≡ Some copy → IsCopied e mark copy
 

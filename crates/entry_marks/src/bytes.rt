@@ -1,7 +1,8 @@
 //! The marks of the bytes that a load reads: of the youngest older store that covers each, else of memory's.
-ghost use Rattle.std.specs.Prelude.{◌≡◌};
+ghost use Rattle.std.specs.Prelude.{◌≡◌, ◌≤◌, ◌<◌, ◌+◌, ℕ, false};
 ghost use Rattle.window_model.specs.Access.{covers};
 ghost use Rattle.secret_marks.specs.Marks.{is_by};
+ghost use Rattle.secret_marks.specs.Words.{every_byte, lowest_byte};
 
 use crate::walk::Walk;
 use crate::words::{UNMARKED, every_byte, lowest_byte, mark_at};
@@ -23,6 +24,17 @@ fn covers(entry: &Entry, a: u64) -> bool
     }
 }
 
+// Whether an entry is a store that writes some byte of the word at this address.
+fn touches(entry: &Entry, addr: u32) -> bool
+    ensures { result ≡ false → (a : ℕ) → addr ≤ a → a < addr + 4 → covers a entry.now ≡ false }
+{
+    if !entry.is_store() || entry.addr_due.is_none() {
+        return false;
+    }
+    let own = entry.addr() as u64;
+    own < addr as u64 + 4 && (addr as u64) < own + entry.bytes() as u64
+}
+
 // Whether what is known from a cycle on is known by this one.
 fn is_by(cycle: u64, from: Option<u64>) -> bool
     ensures { result ≡ is_by cycle from }
@@ -33,8 +45,30 @@ fn is_by(cycle: u64, from: Option<u64>) -> bool
     }
 }
 
+// The marks of the lower half of a word, extended by its sign.
+fn signed_half(word: WordMarks) -> WordMarks
+    ensures { result ≡ record (every_byte word.byte1) { byte0 = word.byte0 } }
+{
+    WordMarks {
+        byte0: word.byte0,
+        ..every_byte(word.byte1)
+    }
+}
+
+// The marks of the lower half of a word, extended by zeros.
+fn lower_half(word: WordMarks) -> WordMarks
+    ensures { result ≡ record (lowest_byte word.byte0) { byte1 = word.byte1 } }
+{
+    WordMarks {
+        byte0: word.byte0,
+        byte1: word.byte1,
+        ..UNMARKED
+    }
+}
+
 impl<'a> Walk<'a> {
-    ghost use Rattle.std.specs.Prelude.{◌≡◌, ◌≤◌, ◌<◌, ◌-◌, ◌^◌, length, slice_get, slice_index_or, false, Some};
+    ghost use Rattle.std.specs.Prelude.{◌≡◌, ◌≤◌, ◌<◌, ◌+◌, ◌-◌, ℕ, length, slice_get, slice_index_or, false, Some};
+    ghost use Rattle.rv_types.specs.declared.Op.TheVariants.{Lw};
     ghost use Rattle.secret_marks.specs.declared.EntryMarks.{EntryMarks};
     ghost use Rattle.secret_marks.specs.Words.{mark_at};
     ghost use Rattle.secret_marks.specs.Marks.{byte_mark};
@@ -81,6 +115,44 @@ impl<'a> Walk<'a> {
         self.memory_mark(a)
     }
 
+    // The position behind the youngest store before a position that writes some byte of the word at this address, 0
+    // where there is none: an entry at the one reads the bytes of the word as one at the other does.
+    fn behind_store(&self, i: u32, addr: u32) -> u32
+        requires within { i ≤ length self.now.rob.now.entries }
+        requires step { length self.now.marks.now.items ≡ length self.now.rob.now.entries }
+        ensures within { result ≤ i }
+        ensures reads { (a : ℕ) → addr ≤ a → a < addr + 4
+            → byte_mark self.now.cycle self.now.base self.now.bytes.now.items (entries_at self.now result)
+            (marks_at self.now result) a
+            ≡ byte_mark self.now.cycle self.now.base self.now.bytes.now.items (entries_at self.now i)
+            (marks_at self.now i) a }
+    {
+        for k in (0..i).rev() {
+            if touches(self.rob.lend(k), addr) {
+                return k + 1;
+            }
+        }
+        0
+    }
+
+    // The marks of the bytes of the word at this address, as the entry at a position reads them. The window is gone
+    // over once, back to the youngest store that writes some of them.
+    fn word_marks(&self, i: u32, addr: u32) -> WordMarks
+        requires within { i ≤ length self.now.rob.now.entries }
+        requires step { length self.now.marks.now.items ≡ length self.now.rob.now.entries }
+        ensures { result ≡ loaded_marks Lw (byte_mark self.now.cycle self.now.base self.now.bytes.now.items
+            (entries_at self.now i) (marks_at self.now i)) addr }
+    {
+        let a = addr as u64;
+        let behind = self.behind_store(i, addr);
+        WordMarks {
+            byte0: self.byte_mark(behind, a),
+            byte1: self.byte_mark(behind, a + 1),
+            byte2: self.byte_mark(behind, a + 2),
+            byte3: self.byte_mark(behind, a + 3),
+        }
+    }
+
     /// The marks of what the entry at a position loads by this operation from this address.
     pub(crate) fn loaded(&self, i: u32, op: Op, addr: u32) -> WordMarks
         requires within { i ≤ length self.now.rob.now.entries }
@@ -88,26 +160,12 @@ impl<'a> Walk<'a> {
         ensures { result ≡ loaded_marks op (byte_mark self.now.cycle self.now.base self.now.bytes.now.items
             (entries_at self.now i) (marks_at self.now i)) addr }
     {
-        let a = addr as u64;
-        let byte0 = self.byte_mark(i, a);
         match op {
-            Op::Lb => every_byte(byte0),
-            Op::Lbu => lowest_byte(byte0),
-            Op::Lh => WordMarks {
-                byte0,
-                ..every_byte(self.byte_mark(i, a + 1))
-            },
-            Op::Lhu => WordMarks {
-                byte0,
-                byte1: self.byte_mark(i, a + 1),
-                ..UNMARKED
-            },
-            _ => WordMarks {
-                byte0,
-                byte1: self.byte_mark(i, a + 1),
-                byte2: self.byte_mark(i, a + 2),
-                byte3: self.byte_mark(i, a + 3),
-            },
+            Op::Lb => every_byte(self.byte_mark(i, addr as u64)),
+            Op::Lbu => lowest_byte(self.byte_mark(i, addr as u64)),
+            Op::Lh => signed_half(self.word_marks(i, addr)),
+            Op::Lhu => lower_half(self.word_marks(i, addr)),
+            _ => self.word_marks(i, addr),
         }
     }
 }

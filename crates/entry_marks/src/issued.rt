@@ -1,6 +1,7 @@
 //! The marks that an entry gets as it issues, or as a store's data part does.
-ghost use Rattle.std.specs.Prelude.{◌≡◌, ◌+◌, ◌||◌};
+ghost use Rattle.std.specs.Prelude.{◌≡◌};
 ghost use Rattle.secret_marks.specs.Marks.{is_at};
+ghost use Rattle.entry_marks.specs.Told.{has_issued};
 
 use crate::results::result_marks;
 use crate::walk::Walk;
@@ -20,7 +21,7 @@ fn is_at(cycle: u64, at: Option<u64>) -> bool
 
 /// Whether an entry issued in this cycle, or a store's data part did.
 pub(crate) fn has_issued(cycle: u32, entry: &Entry) -> bool
-    ensures { result ≡ (is_at cycle entry.now.issued || is_at (cycle + 1) entry.now.data_due) }
+    ensures { result ≡ has_issued cycle entry.now }
 {
     is_at(cycle as u64, entry.issued) || is_at(cycle as u64 + 1, entry.data_due)
 }
@@ -106,7 +107,7 @@ impl<'a> Walk<'a> {
         if !is_at(self.cycle as u64 + 1, entry.data_due) {
             return own;
         }
-        either(own, self.operands(i, entry).second)
+        either(own, self.second_source(i, entry))
     }
 
     /// The marks of the entry at a position, as Issue has left it, beside those that it has.

@@ -16,6 +16,7 @@ mod operands;
 mod results;
 mod retiring;
 mod shows;
+mod told;
 mod walk;
 mod words;
 

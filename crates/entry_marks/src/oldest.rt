@@ -54,7 +54,7 @@ impl Default for LeavingEntry {
     }
 }
 
-/// The oldest entries, as many as may retire in a cycle.
+/// The oldest entries, as many as may retire in a cycle, up to the first that isn't Done.
 #[derive(Drop)]
 pub struct Leaving {
     /// What is copied of each of the oldest entries, oldest first.

@@ -48,6 +48,7 @@ impl<'a> Walk<'a> {
     ghost use Rattle.entry_marks.specs.Walk.{Stands, StandsAt, entries_at, marks_at};
 
     // The marks of a source whose writer has this serial.
+    #[inline(always)]
     fn source_marks(&self, source: Option<Reg>, writer: Option<u64>) -> WordMarks
         requires rise { Rise self.now.rob.now.entries }
         ensures { result ≡ marks_by self.now.regs.now self.now.rob.now.entries self.now.marks.now.items
@@ -61,6 +62,28 @@ impl<'a> Walk<'a> {
             Some(serial) => marks_in_flight(self.rob, self.marks, serial, retired),
             None => retired,
         }
+    }
+
+    /// The marks of the first source of the entry at a position, none where it has no source.
+    pub fn first_source(&self, i: u32, entry: &Entry) -> WordMarks
+        requires stands { Stands self.now }
+        requires at { StandsAt self.now i entry.now }
+        ensures { result ≡ first_marks self.now.regs.now (entries_at self.now i) (marks_at self.now i)
+            (sources entry.now) }
+    {
+        let [first, _] = reads_of(&entry.item.instr);
+        self.source_marks(first, sources_at(self.sources, i).writers[0])
+    }
+
+    /// The marks of the second source of the entry at a position, none where it has none.
+    pub fn second_source(&self, i: u32, entry: &Entry) -> WordMarks
+        requires stands { Stands self.now }
+        requires at { StandsAt self.now i entry.now }
+        ensures { result ≡ second_marks self.now.regs.now (entries_at self.now i) (marks_at self.now i)
+            (sources entry.now) }
+    {
+        let [_, second] = reads_of(&entry.item.instr);
+        self.source_marks(second, sources_at(self.sources, i).writers[1])
     }
 
     /// The marks of the sources of the entry at a position.

@@ -22,14 +22,19 @@ use rv_types::{Instr, Kind, REGISTERS, writes_of};
 use secret_marks::{EntryMarks, WordMarks};
 use window_model::Entry;
 
-/// Copies what of the oldest entries moves marks, before Retire: of as many as may retire in a cycle.
+/// Copies what of the oldest entries moves marks, before Retire: of as many as may retire in a cycle, up to the first
+/// that isn't Done, since Done entries alone retire.
 pub fn leaving(rob: &RobRing, marks: &HeapCircularBuffer<EntryMarks>) -> Leaving
     requires step { length marks.now.items ≡ length rob.now.entries }
     ensures { IsCopiedFrom rob.now.entries marks.now.items result.entries.items }
 {
     let mut entries = ArrayVec::new();
     for i in 0..rob.len().min(LEAVING_MAX as u32) {
-        entries.push(copy_of(rob.lend(i), marks_at(marks, i)));
+        let entry = rob.lend(i);
+        if !entry.is_done() {
+            return Leaving { entries };
+        }
+        entries.push(copy_of(entry, marks_at(marks, i)));
     }
     Leaving { entries }
 }

@@ -6,3 +6,4 @@ pub mod Looking
 pub mod Secrets
 pub mod Stamps
 pub mod Unexposed
+pub mod Told

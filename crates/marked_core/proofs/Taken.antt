@@ -15,7 +15,7 @@ use Rattle.core_cycle.proofs.Retiring.{each_takes}
 use Rattle.secret_marks.specs.declared.EntryMarks.{EntryMarks}
 use Rattle.entry_marks.specs.declared.oldest.LeavingEntry.{LeavingEntry}
 use Rattle.entry_marks.specs.Oldest.{InsideEach, IsCopiedFrom}
-use Rattle.entry_marks.proofs.Fitting.{retire_went, stores_inside}
+use Rattle.entry_marks.proofs.Fitting.{done_taken, retire_went, stores_inside}
 
 -- Retire takes at most one entry each turn
 turn_by_turn : (d : Desc) (x : Machine) → length x.window ≤ d.core_retire_width + length (retire d x).machine.window
@@ -71,9 +71,10 @@ module _ (s s2 : Described) (e : s2 ≡ record s { machine = (retire s.desc s.ma
     pub enough_copied : n ≤ length copies
     enough_copied =
         let few = few_taken s.desc s.machine in
+        let done = done_taken s.desc s.machine in
         let is = taken_is in
         let count = c.count in
-        omega (arith, few, is, count)
+        omega (arith, few, done, is, count)
 
     pub inside_each : (base bytes : ℕ) → base ≡ s2.machine.ram.base → bytes ≡ length s.machine.ram.bytes → InsideEach base bytes n copies
     inside_each base bytes b m =

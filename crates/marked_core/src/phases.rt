@@ -10,6 +10,7 @@ ghost use Rattle.window_model.specs.Issue.{issue};
 ghost use Rattle.window_model.specs.Rename.{rename};
 ghost use Rattle.window_model.specs.Resolve.{resolve};
 ghost use Rattle.window_model.specs.Retire.{retire};
+ghost use Rattle.window_model.specs.Serials.{Rise};
 ghost use Rattle.window_model.specs.Row.{
   HasRoom,
   IsLonger,
@@ -23,6 +24,7 @@ ghost use Rattle.window_model.specs.Row.{
 };
 ghost use Rattle.secret_marks.specs.Marks.{after_issue_marks, after_retire_marks, cut, extended};
 ghost use Rattle.secret_marks.specs.Shown.{head_shown, operands_shown, resolved_shown};
+ghost use Rattle.entry_marks.specs.Told.{Told};
 ghost use Rattle.entry_marks.specs.Walk.{marks_of};
 ghost use Rattle.marked_core.specs.InStep.{AsNoted, InStep, NotYet};
 
@@ -37,7 +39,7 @@ use resolve::resolve;
 use rv_types::Piece;
 use secret_marks::Shown;
 use shown_marks::{head_shown, operands_shown};
-use window_model::Row;
+use window_model::{Event, Row};
 
 // The number of entries in flight.
 fn entries<R: RenameTaint>(parts: &Parts<R>) -> u32
@@ -134,13 +136,22 @@ pub(crate) fn retire_marked<R: RenameTaint>(
     shown
 }
 
-// The entries that issued in this cycle get the marks of their operands.
-fn mark<R: RenameTaint>(parts: &Parts<R>, marks: &mut Marks)
+// The entries that issued in this cycle, as the phase's events tell, get the marks of their operands.
+fn mark<R: RenameTaint>(parts: &Parts<R>, marks: &mut Marks, events: &[Event])
     requires step { InStep parts.now marks.old }
+    requires told { Rise parts.now.machine.window
+        → Told parts.now.machine.cycle parts.now.machine.window events.now }
     ensures marks { marks_of marks.new ≡ after_issue_marks parts.now.machine (marks_of marks.old) }
     ensures step { InStep parts.now marks.new }
 {
-    mark_issued(&parts.rob, &parts.sources, marks, base(parts), parts.cycle);
+    mark_issued(
+        &parts.rob,
+        &parts.sources,
+        marks,
+        events,
+        base(parts),
+        parts.cycle,
+    );
 }
 
 /// Phase Issue, in a cycle in which nothing has issued yet. What issues gets the marks of its operands: where the phase
@@ -171,7 +182,7 @@ pub(crate) fn issue_marked<R: RenameTaint>(
     if row.events().len() == before {
         return shown;
     }
-    mark(parts, marks);
+    mark(parts, marks, &row.events()[before..]);
     shown
 }
 

@@ -65,6 +65,6 @@ impl<'a> Seen<'a> {
         if !self.decides(place) {
             return false;
         }
-        any_byte(self.walk.operands(place.position, place.entry).first)
+        any_byte(self.walk.first_source(place.position, place.entry))
     }
 }

@@ -12,8 +12,8 @@ returns-then-not-decides c =
     let p = c.args.place.now in
     sym (silent s.desc.now (before_of s p) p.entry.now (marks_in s) (marks_before_of s p) (sym c.decides.ensures ∙ c.if-not-decides.true))
 
-pub operands-requires-clause-stands : goal.operands-requires-clause-stands
-operands-requires-clause-stands c =
+pub first_source-requires-clause-stands : goal.first_source-requires-clause-stands
+first_source-requires-clause-stands c =
     let t = c.requires.turn.stands in
     record { rest = parts_of t.next t.writes c.args.self.now; stand = t.parts; writers = t.writers; step = t.step }
 
@@ -21,6 +21,6 @@ pub returns : goal.returns
 returns c =
     let s = c.args.self.now in
     let p = c.args.place.now in
-    c.any_byte.ensures ∙ ap any_byte c.operands.ensures.first
+    c.any_byte.ensures ∙ ap any_byte c.first_source.ensures
     ∙ base_marked s.walk.regs.now (before_of s p) (marks_before_of s p) (sources p.entry.now)
     ∙ ap (λ b. b && any_marked s.walk.regs.now (before_of s p) (marks_before_of s p) (base_of (sources p.entry.now))) (sym (sym c.decides.ensures ∙ c.if-not-decides.false))
