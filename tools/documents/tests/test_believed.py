@@ -55,6 +55,14 @@ pub fn top(n: u32) -> u32
     n
 }
 """
+LAW = """ghost use Rattle.low.specs.Low.{
+  told,
+};
+
+pub fn law()
+    ensures { (n : ℕ) → told n ≡ n }
+{}
+"""
 
 
 class SmallTree(unittest.TestCase):
@@ -63,8 +71,8 @@ class SmallTree(unittest.TestCase):
         folder = tempfile.TemporaryDirectory()
         self.addCleanup(folder.cleanup)
         self.believed.TOP = folder.name
-        self.believed.FROM = ("crates/high/src/lib.rt",)
-        for path, text in (("low/specs/Low.antt", LOW), ("high/specs/High.antt", HIGH), ("high/src/lib.rt", TOP_CALL)):
+        files = (("low/specs/Low.antt", LOW), ("high/specs/High.antt", HIGH), ("high/src/lib.rt", TOP_CALL), ("law/src/lib.rt", LAW))
+        for path, text in files:
             path = os.path.join(folder.name, "crates", path)
             os.makedirs(os.path.dirname(path), exist_ok=True)
             with open(path, "w", encoding="utf-8") as file:
@@ -72,7 +80,8 @@ class SmallTree(unittest.TestCase):
 
     def rows(self):
         known = self.believed.modules()
-        return list(self.believed.sizes(known, self.believed.reached(known)))
+        found, told = (self.believed.reached(known, [path]) for path in ("crates/high/src/lib.rt", "crates/law/src/lib.rt"))
+        return list(self.believed.sizes(known, found, told))
 
     def test_follows_names_through_files(self):
         self.assertEqual(self.rows(), [("high.specs.High", 1, 3, []), ("low.specs.Low", 3, 11, [])])
@@ -81,6 +90,7 @@ class SmallTree(unittest.TestCase):
         path = os.path.join(self.believed.TOP, "crates/low/specs/Low.antt")
         with open(path, "a", encoding="utf-8") as file:
             file.write("\n-- a spare one\nabbrev pub spare : ℕ → ℕ\nspare n = twice n\n")
+            file.write("\n-- one that a law tells of\nabbrev pub told : ℕ → ℕ\ntold n = n\n")
         self.assertEqual(self.rows()[1], ("low.specs.Low", 3, 11, ["spare"]))
 
     def test_table(self):
