@@ -1,7 +1,7 @@
 //! What comes of an entry that is resolved.
 ghost use Rattle.std.specs.Prelude.{◌≡◌, if◌then◌else◌, length};
 ghost use Rattle.window_model.specs.declared.Way.TheVariants as way;
-ghost use Rattle.window_model.specs.Row.{HasRoom, IsLonger, with_events};
+ghost use Rattle.window_model.specs.inner.Row.{HasRoom, IsLonger, with_events};
 ghost use Rattle.predictor.specs.Tables.{InEach, IsAsked};
 ghost use Rattle.branch_resolve.specs.Effect.{taught, told, resolution_of};
 

@@ -6,7 +6,8 @@ use Rattle.window_model.specs.declared.Entry.{Entry}
 use Rattle.window_model.specs.declared.Event.TheVariants as event
 use Rattle.window_model.specs.Clear.{clear, clears}
 use Rattle.window_model.specs.Dependence.{passing}
-use Rattle.window_model.specs.Row.{Row, with_events}
+use Rattle.window_model.specs.Row.{Row}
+use Rattle.window_model.specs.inner.Row.{with_events}
 use Rattle.window_model.specs.Serials.{Rise, below}
 use Rattle.window_model.specs.State.{After, Machine}
 use Rattle.window_model.proofs.Booleans.{some_of}

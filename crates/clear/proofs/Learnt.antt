@@ -5,7 +5,8 @@ use Rattle.window_model.specs.declared.Entry.{Entry}
 use Rattle.window_model.specs.declared.Event.{Event}
 use Rattle.window_model.specs.declared.Event.TheVariants as event
 use Rattle.window_model.specs.Dependence.{bit_index, bit_set}
-use Rattle.window_model.specs.Row.{Row, with_events}
+use Rattle.window_model.specs.Row.{Row}
+use Rattle.window_model.specs.inner.Row.{with_events}
 use Rattle.history_pred.specs.Past.{Past}
 use Rattle.core_parts.specs.Described.{Described}
 use Rattle.core_parts.specs.Dropped.{count_from, cut_from}

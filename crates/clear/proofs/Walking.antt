@@ -6,7 +6,8 @@ use Rattle.std.specs.Option.{option_map}
 use Rattle.machine_desc.proofs.Versions.{most_up_to}
 use Rattle.window_model.specs.Clear.{clear}
 use Rattle.window_model.specs.Dependence.{passing}
-use Rattle.window_model.specs.Row.{Row, with_events}
+use Rattle.window_model.specs.Row.{Row}
+use Rattle.window_model.specs.inner.Row.{with_events}
 use Rattle.window_model.specs.State.{After}
 use Rattle.std.proofs.lemmas.List.{append-nil}
 use Rattle.lsq.specs.Clearing.{info_of}

@@ -5,7 +5,7 @@ ghost use Rattle.core_parts.specs.Dropped.{StopsBelow};
 ghost use Rattle.visibility.specs.Point.{HasAdvanced};
 ghost use Rattle.window_model.specs.Clear.{clear};
 ghost use Rattle.window_model.specs.Dependence.{passing};
-ghost use Rattle.window_model.specs.Row.{HasRoom, IsLonger, most_cleared, with_events};
+ghost use Rattle.window_model.specs.inner.Row.{HasRoom, IsLonger, most_cleared, with_events};
 ghost use Rattle.clear.specs.Cleared.{anew, anew_events, clearing, most_anew, violated, with_cleared};
 
 use crate::finding::clearable;

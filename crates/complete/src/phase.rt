@@ -4,7 +4,7 @@ ghost use Rattle.std.specs.Option.{option_map};
 ghost use Rattle.window_model.specs.declared.Entry.{Entry};
 ghost use Rattle.window_model.specs.Fill.{complete, completes, completes_at};
 ghost use Rattle.window_model.specs.Order.{is_waiting};
-ghost use Rattle.window_model.specs.Row.{HasRoom, IsLonger, most_done, with_events};
+ghost use Rattle.window_model.specs.inner.Row.{HasRoom, IsLonger, most_done, with_events};
 ghost use Rattle.core_parts.specs.Described.{with_window};
 ghost use Rattle.complete.specs.Completed.{done_at};
 

@@ -2,7 +2,7 @@
 use Rattle.std.proofs.Common.{◌≡◌, ℕ, ◌+◌, ◌<◌, List, [], Option, None, IsSome, refl, ap, ap₂, sym, ◌∙◌, subst}
 use Rattle.std.specs.Prelude.{◌++◌}
 use Rattle.rv_types.specs.Memory.{Code}
-use Rattle.elf_loader.specs.Code.{CodeText, word_at}
+use Rattle.elf_loader.specs.inner.Code.{CodeText, word_at}
 use Rattle.elf_loader.proofs.Images.{code_aligned}
 use Rattle.machine_desc.specs.declared.Desc.{Desc}
 use Rattle.window_model.specs.declared.Event.{Event}

@@ -4,7 +4,8 @@ use Rattle.std.proofs.lemmas.List.{append_assoc}
 use Rattle.window_model.specs.Clear.{clear}
 use Rattle.window_model.specs.Fill.{complete, fill}
 use Rattle.window_model.specs.Resolve.{resolve}
-use Rattle.window_model.specs.Row.{Row, with_events}
+use Rattle.window_model.specs.Row.{Row}
+use Rattle.window_model.specs.inner.Row.{with_events}
 use Rattle.window_model.specs.State.{After}
 use Rattle.core_parts.specs.Described.{Described}
 use Rattle.core_cycle.specs.Phases.{phases_before}

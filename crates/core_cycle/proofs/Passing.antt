@@ -1,7 +1,7 @@
 -- A cycle that is passed over, and from when on the next ones may be.
 use Rattle.std.proofs.Common.{◌≡◌, ℕ, zero, suc, ◌+◌, ◌<◌, List, [], None, ap, ap₂, sym, ◌∙◌, subst, arith}
 use Rattle.rv_types.specs.Memory.{Code}
-use Rattle.elf_loader.specs.Code.{word_at}
+use Rattle.elf_loader.specs.inner.Code.{word_at}
 use Rattle.machine_desc.specs.declared.Desc.{Desc}
 use Rattle.machine_desc.proofs.EveryDesc.{every_desc}
 use Rattle.window_model.specs.State.{Machine}

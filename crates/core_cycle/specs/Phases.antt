@@ -1,5 +1,5 @@
 -- What phases make of the machine that a core holds (docs/machine.md, "A cycle").
-use Rattle.elf_loader.specs.Code.{word_at}
+use Rattle.elf_loader.specs.inner.Code.{word_at}
 use Rattle.window_model.specs.State.{After}
 use Rattle.window_model.specs.Cycle.{after_retire, before_retire}
 use Rattle.core_parts.specs.Described.{Described}

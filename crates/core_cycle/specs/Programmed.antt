@@ -1,7 +1,7 @@
 -- What a core holds: the machine, its description, and what it may fetch.
 use Rattle.std.specs.Prelude.{refl}
 use Rattle.std.specs.Coded.{Coded, code_by, coded×}
-use Rattle.elf_loader.specs.Code.{CodeText}
+use Rattle.elf_loader.specs.inner.Code.{CodeText}
 use Rattle.elf_loader.specs.contracts.fetchable.Code as code
 use Rattle.machine_desc.specs.contracts.Desc as desc
 use Rattle.machine_desc.specs.declared.Desc.{Desc}

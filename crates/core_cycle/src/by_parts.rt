@@ -36,7 +36,7 @@ pub struct Core<R: RenameTaint> {
 impl<R: RenameTaint> Model for Core<R> {
     ghost use Rattle.core_cycle.specs.Programmed.{Programmed, programmed_code};
     ghost use Rattle.core_cycle.specs.Kept.{KeptUntil};
-    ghost use Rattle.elf_loader.specs.Code.{word_at};
+    ghost use Rattle.elf_loader.specs.inner.Code.{word_at};
 
     ghost Value = { Programmed };
 
@@ -127,7 +127,7 @@ impl<R: RenameTaint> Core<R> {
 }
 
 impl<R: RenameTaint> Clocked for Core<R> {
-    ghost use Rattle.elf_loader.specs.Code.{word_at};
+    ghost use Rattle.elf_loader.specs.inner.Code.{word_at};
 
     ghost desc = { λ c. c.desc };
 

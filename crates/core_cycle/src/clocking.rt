@@ -1,7 +1,7 @@
 //! A cycle over the parts: its phases, or none where nothing happens (`docs/machine.md`, "Cycles in which nothing
 //! happens").
 ghost use Rattle.std.specs.Prelude.{◌≡◌, ◌<◌, ◌≤◌, ◌-◌, ◌^◌, length, None};
-ghost use Rattle.elf_loader.specs.Code.{word_at};
+ghost use Rattle.elf_loader.specs.inner.Code.{word_at};
 ghost use Rattle.window_model.specs.Committed.{Commits};
 ghost use Rattle.window_model.specs.Cycle.{Cycled, cycle};
 ghost use Rattle.core_cycle.specs.Kept.{KeptUntil};

@@ -3,7 +3,7 @@ ghost use Rattle.std.specs.Prelude.{◌≡◌, ◌<◌, ◌+◌, ◌^◌};
 ghost use Rattle.std.specs.List.{AllByRecursion as Each};
 ghost use Rattle.machine_facts.specs.Timely.{WaitsOrDone};
 ghost use Rattle.visibility.specs.Point.{HasAdvanced};
-ghost use Rattle.window_model.specs.Row.{HasRoom, IsLonger, most_after_retire, most_before_retire, most_fetched, with_events};
+ghost use Rattle.window_model.specs.inner.Row.{HasRoom, IsLonger, most_after_retire, most_before_retire, most_fetched, with_events};
 ghost use Rattle.core_cycle.specs.Phases.{phases_after, phases_before};
 
 use crate::moves::{advance_after, advance_after_complete};

@@ -3,7 +3,7 @@
 ghost use Rattle.std.specs.Prelude.{◌≡◌, ◌<◌, ◌+◌, ◌-◌, ◌^◌, [], None};
 ghost use Rattle.visibility.specs.Point.{HasAdvanced};
 ghost use Rattle.window_model.specs.Retire.{retire};
-ghost use Rattle.window_model.specs.Row.{HasRoom, IsLonger, most_entries, most_retired, with_events};
+ghost use Rattle.window_model.specs.inner.Row.{HasRoom, IsLonger, most_entries, most_retired, with_events};
 
 use core_parts::Parts;
 use rename_taint::RenameTaint;

@@ -2,7 +2,7 @@
 use Rattle.std.proofs.Common.{◌≡◌, ap, ap₂, sym, ◌∙◌, subst}
 use Rattle.std.specs.Prelude.{◌++◌, length}
 use Rattle.rv_types.specs.Memory.{Code}
-use Rattle.elf_loader.specs.Code.{word_at}
+use Rattle.elf_loader.specs.inner.Code.{word_at}
 use Rattle.machine_desc.proofs.EveryDesc.{every_desc}
 use Rattle.window_model.specs.Fetch.{fetch}
 use Rattle.window_model.specs.Row.{Row}

@@ -4,7 +4,7 @@ use Rattle.std.specs.Coded.{Coded, code_by, coded×, coded_ℕ, coded_bool, code
 use Rattle.rv_types.specs.Memory.{Ram}
 use Rattle.rv_types.specs.contracts.End as end
 use Rattle.rv_types.specs.declared.End.{End}
-use Rattle.elf_loader.specs.Code.{CodeText, word_at}
+use Rattle.elf_loader.specs.inner.Code.{CodeText, word_at}
 use Rattle.elf_loader.specs.contracts.fetchable.Code as code
 use Rattle.machine_desc.specs.contracts.Desc as desc
 use Rattle.machine_desc.specs.contracts.SttModel as model

@@ -4,7 +4,7 @@ use Rattle.std.specs.Prelude.{◌≡◌, ℕ, Bool, List, length, Option}
 use Rattle.circular_buffer.specs.Buffer.{Buffer}
 use Rattle.rv_types.specs.Memory.{Ram}
 use Rattle.rv_types.specs.declared.End.{End}
-use Rattle.elf_loader.specs.Code.{CodeText}
+use Rattle.elf_loader.specs.inner.Code.{CodeText}
 use Rattle.machine_desc.specs.declared.Desc.{Desc}
 use Rattle.machine_desc.specs.declared.SttModel.{SttModel}
 use Rattle.window_model.specs.Dependence.{passing}

@@ -1,6 +1,6 @@
 //! Phase Fetch: the fetch unit's, with the code, the predictor, and history and stack of the parts.
 ghost use Rattle.std.specs.Prelude.{◌≡◌};
-ghost use Rattle.window_model.specs.Row.{HasRoom, IsLonger, most_fetched, with_events};
+ghost use Rattle.window_model.specs.inner.Row.{HasRoom, IsLonger, most_fetched, with_events};
 ghost use Rattle.core_parts.specs.Described.{fetch_of};
 
 use crate::parts::Parts;

@@ -8,7 +8,7 @@ use Rattle.std.proofs.lemmas.List.{map_more, map-append}
 use Rattle.rv_types.specs.Decode.{decode}
 use Rattle.rv_types.specs.declared.Instr.{Instr}
 use Rattle.rv_decode.specs.declared.operations.Decoded.{Decoded}
-use Rattle.elf_loader.specs.Code.{CodeText, word_at, instr_at, shown, AreDecoded}
+use Rattle.elf_loader.specs.inner.Code.{CodeText, word_at, instr_at, shown, AreDecoded}
 
 decoded_at : (words : List (Option ℕ)) (decoded : List (Option Decoded)) (k : ℕ) → AreDecoded words decoded → shown (get_or decoded k None) ≡ option_map decode (get_or words k None)
 decoded_at words decoded k h =

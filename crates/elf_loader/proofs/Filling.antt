@@ -1,7 +1,7 @@
 -- A pass over cells, step by step.
 use Rattle.std.proofs.Common.{◌≡◌, ◌≢◌, ℕ, ◌+◌, ◌<◌, ◌≤◌, Bool, true, false, not, ◌&&◌, cond, List, length, get_or, set, refl, sym, ◌∙◌, ◌⊎◌, inl, inr, arith, length-set, get_or-set_same, get_or-set_other, subst}
 use Rattle.std.proofs.lemmas.Bool.{cases_eq, cases_lt}
-use Rattle.elf_loader.specs.Filling.{Fills}
+use Rattle.elf_loader.specs.inner.Filling.{Fills}
 
 -- a cell that isn't both left and covered keeps its value, and its place
 kept : {X : Type 0} (l c : Bool) (v x : X) → (l ≡ false) ⊎ (c ≡ false) → x ≡ cond (l && c) v x

@@ -9,7 +9,7 @@ use Rattle.rv_types.specs.Word.{from_le}
 use Rattle.elf_loader.specs.declared.faults.ElfFault.{ElfFault}
 use Rattle.elf_loader.specs.Faults.{first_some, header_fault}
 use Rattle.elf_loader.specs.Image.{ImageText, ram_fault, ram_after, image_in, unless, image_of, code_of, has_code, loads_of}
-use Rattle.elf_loader.specs.Code.{CodeText, word_at}
+use Rattle.elf_loader.specs.inner.Code.{CodeText, word_at}
 use Rattle.elf_loader.proofs.Marked.{no_code_outside}
 
 -- a file without fault is its image in this memory

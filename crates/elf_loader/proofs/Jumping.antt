@@ -3,7 +3,7 @@ use Rattle.std.proofs.Common.{◌≡◌, ◌≢◌, ℕ, zero, suc, ◌+◌, ◌
 use Rattle.std.proofs.lemmas.List.{set-get_or, map-set, get_or-map}
 use Rattle.std.proofs.lemmas.Bool.{cases_eq}
 use Rattle.std.proofs.lemmas.Bool.Decides.{nat_tests}
-use Rattle.elf_loader.specs.Jumps.{left_by, HasJumps}
+use Rattle.elf_loader.specs.inner.Jumps.{left_by, HasJumps}
 
 -- a place of a row after one is set
 pub at_set : (js : List ℕ) (p x k : ℕ) → p < length js → ((k ≡ p) × (get_or (set js p x) k 0 ≡ x)) ⊎ ((k ≢ p) × (get_or (set js p x) k 0 ≡ get_or js k 0))

@@ -9,7 +9,7 @@ use Rattle.elf_loader.specs.declared.faults.ElfFault.TheVariants as fault
 use Rattle.elf_loader.specs.Fields.{count_of, program_header, is_load}
 use Rattle.elf_loader.specs.Faults.{fault_if, header_fault, program_header_faults}
 use Rattle.elf_loader.specs.Image.{SegmentText, segment_of, segment_at, loads_of, outside, ram_fault}
-use Rattle.elf_loader.specs.Filling.{Inside}
+use Rattle.elf_loader.specs.inner.Filling.{Inside}
 use Rattle.elf_loader.proofs.Searching.{none_at, none_below, range_step, range_end}
 use Rattle.elf_loader.proofs.Faultless.{failed_test, program_header_good}
 

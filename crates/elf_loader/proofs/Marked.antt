@@ -10,8 +10,8 @@ use Rattle.rv_types.specs.Word.{from_le}
 use Rattle.elf_loader.specs.Fields.{count_of, word}
 use Rattle.elf_loader.specs.Faults.{header_fault}
 use Rattle.elf_loader.specs.Image.{SegmentText, has_code, loads_of, segment_at, ram_fault, code_of}
-use Rattle.elf_loader.specs.Code.{word_at}
-use Rattle.elf_loader.specs.Filling.{Inside, WordsUpTo, PlacesWords}
+use Rattle.elf_loader.specs.inner.Code.{word_at}
+use Rattle.elf_loader.specs.inner.Filling.{Inside, WordsUpTo, PlacesWords}
 use Rattle.elf_loader.proofs.Loads.{loads_from, loads_more, loads_skip, loads_none, loads_all, inside_of}
 
 -- some segment has code at word k of memory

@@ -8,14 +8,15 @@ use Rattle.std.proofs.lemmas.Bool.Decides.{nat_tests}
 use Rattle.std.proofs.lemmas.List.{append-nil, append_assoc, length-append, length-take, length-take-le, length-drop, drop_all, get_or_append_left, get_or-append_right, get_or-take, get_or-drop, take-append-le, drop-append-le, ext_get_or}
 use Rattle.std.proofs.Math.Seq.{drop-append-add}
 use Rattle.std.proofs.lemmas.List.FromFn.{length-map-range_with_len, get_or-map-range_with_len}
-use Rattle.rv_types.specs.Memory.{Ram, zeros, length_zeros, in_ram, bytes_at, with_bytes}
+use Rattle.rv_types.specs.Memory.{Ram, zeros, in_ram, bytes_at, with_bytes}
+use Rattle.rv_types.specs.inner.Memory.{length_zeros}
 use Rattle.rv_types.specs.Word.{from_le}
 use Rattle.elf_loader.specs.declared.faults.ElfFault.TheVariants as fault
 use Rattle.elf_loader.specs.Fields.{count_of}
 use Rattle.elf_loader.specs.Faults.{first_some, fault_if, header_fault}
 use Rattle.elf_loader.specs.Image.{SegmentText, covers, byte_or, byte_after, loads_of, segment_at, outside, ram_fault, ram_after, has_code, code_of}
-use Rattle.elf_loader.specs.Filling.{Inside}
-use Rattle.elf_loader.specs.Spans.{LiesBetween, AllInside, part}
+use Rattle.elf_loader.specs.inner.Filling.{Inside}
+use Rattle.elf_loader.specs.inner.Spans.{LiesBetween, AllInside, part}
 use Rattle.elf_loader.proofs.Loads.{is_segment, bytes_fit}
 use Rattle.elf_loader.proofs.Placed.{last_at, last_more, same_ram, ram_fault_after}
 use Rattle.elf_loader.proofs.Marked.{any_none, no_code_outside}

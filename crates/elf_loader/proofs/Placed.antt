@@ -10,7 +10,7 @@ use Rattle.std.proofs.lemmas.List.FromFn.{length-map-range_with_len, get_or-map-
 use Rattle.std.proofs.lemmas.Grind.{reverse_onto}
 use Rattle.rv_types.specs.Memory.{Ram}
 use Rattle.elf_loader.specs.Image.{SegmentText, covers, byte_in, byte_or, byte_after, loads_of, segment_at, ram_after, ram_fault}
-use Rattle.elf_loader.specs.Filling.{Inside, FillsBytes, PlacesBytes}
+use Rattle.elf_loader.specs.inner.Filling.{Inside, FillsBytes, PlacesBytes}
 use Rattle.elf_loader.proofs.Loads.{loads_from, loads_more, loads_skip, loads_all}
 use Rattle.elf_loader.specs.Fields.{count_of}
 

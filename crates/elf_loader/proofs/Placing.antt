@@ -5,7 +5,7 @@ use Rattle.std.proofs.lemmas.List.{set_split}
 use Rattle.rv_types.specs.Memory.{Ram}
 use Rattle.elf_loader.specs.Fields.{word, is_executable}
 use Rattle.elf_loader.specs.Image.{SegmentText, covers, byte_in, has_code}
-use Rattle.elf_loader.specs.Filling.{Fills, BytesUpTo, WordsUpTo}
+use Rattle.elf_loader.specs.inner.Filling.{Fills, BytesUpTo, WordsUpTo}
 use Rattle.elf_loader.proofs.Filling.{fills_skip, fills_more}
 
 -- a byte written between those before and behind it

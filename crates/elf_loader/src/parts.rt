@@ -50,7 +50,8 @@ impl<'a> Segments<'a> {
     ghost use Rattle.std.specs.Prelude.{◌≡◌, None, option_map};
     ghost use Rattle.elf_loader.specs.Fields.{entry_of, count_of};
     ghost use Rattle.elf_loader.specs.Faults.{header_fault};
-    ghost use Rattle.elf_loader.specs.Image.{segment_text, segment_at};
+    ghost use Rattle.elf_loader.specs.Image.{segment_at};
+    ghost use Rattle.elf_loader.specs.inner.Image.{segment_text};
 
     /// The address where fetch begins.
     pub fn entry(&self) -> u32

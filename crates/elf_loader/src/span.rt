@@ -5,8 +5,8 @@
 //! in a small.
 ghost use Rattle.std.specs.Prelude.{◌≡◌, ◌≤◌, ◌<◌, ◌+◌, ◌-◌, ◌%◌, ◌^◌, length, None, IfSome, IfOk, ℕ};
 ghost use Rattle.elf_loader.specs.Image.{segment_at, ram_fault};
-ghost use Rattle.elf_loader.specs.Filling.{Inside};
-ghost use Rattle.elf_loader.specs.Spans.{InRows, LiesBetween, AllInside, part};
+ghost use Rattle.elf_loader.specs.inner.Filling.{Inside};
+ghost use Rattle.elf_loader.specs.inner.Spans.{InRows, LiesBetween, AllInside, part};
 ghost use Rattle.elf_loader.specs.Faults.{header_fault};
 
 use crate::parts::Segments;

@@ -4,7 +4,7 @@
 //! sets the jumps that it took to where it ended, so later walks are short: n walks and takes over a row of m places
 //! make at most about (n + m) log m jumps in all (path compression).
 ghost use Rattle.std.specs.Prelude.{◌≡◌, ◌<◌, ◌≤◌, ◌+◌, ◌^◌, ℕ, true, false, length, replicate, slice_index, slice_index_or, slice_set, IfOk};
-ghost use Rattle.elf_loader.specs.Jumps.{left_by, HasJumps};
+ghost use Rattle.elf_loader.specs.inner.Jumps.{left_by, HasJumps};
 
 use rv_types::NoMemory;
 use std::alloc::Global;
@@ -21,7 +21,7 @@ impl Model for Unwritten {
 
     ghost Value = { List Bool };
 
-    ghost use Rattle.elf_loader.specs.Jumps.{left_by, HasJumps};
+    ghost use Rattle.elf_loader.specs.inner.Jumps.{left_by, HasJumps};
 
     ghost view = { λ u. left_by u.jumps.items };
 

@@ -1,7 +1,7 @@
 //! The item of an address, and where fetching goes on after it (`docs/machine.md`, "Entries", "Fetch").
 ghost use Rattle.std.specs.Prelude.{◌≡◌, None, length, slice_index_or};
 ghost use Rattle.fetch_unit.specs.Unit.{Predicts, predicting};
-ghost use Rattle.elf_loader.specs.Code.{word_at};
+ghost use Rattle.elf_loader.specs.inner.Code.{word_at};
 ghost use Rattle.predictor.specs.Tables.{target_place};
 ghost use Rattle.machine_desc.specs.declared.Desc.{Desc};
 ghost use Rattle.window_model.specs.State.{Machine};

@@ -1,7 +1,7 @@
 //! The queue and the fetch pc.
 ghost use Rattle.std.specs.Prelude.{◌≡◌, ◌<◌, ◌++◌, ◌∷◌, [], length, drop, slice_get, option_copied, IfOk, Some};
-ghost use Rattle.elf_loader.specs.Code.{word_at};
-ghost use Rattle.window_model.specs.Row.{HasRoom, IsLonger, most_fetched, with_events};
+ghost use Rattle.elf_loader.specs.inner.Code.{word_at};
+ghost use Rattle.window_model.specs.inner.Row.{HasRoom, IsLonger, most_fetched, with_events};
 ghost use Rattle.window_model.specs.State.{Machine};
 ghost use Rattle.fetch_unit.specs.Unit.{AreAsked, InEach, fetches, next_fetch, with_unit};
 

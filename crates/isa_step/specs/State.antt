@@ -1,6 +1,6 @@
 -- The state of the instruction set's machine, beside the words that it may fetch.
 use Rattle.rv_types.specs.Isa.{Hart}
-use Rattle.elf_loader.specs.Code.{CodeText}
+use Rattle.elf_loader.specs.inner.Code.{CodeText}
 
 pub record IsaState : Type 0 where
   pub code : CodeText

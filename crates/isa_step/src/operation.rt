@@ -2,7 +2,7 @@
 ghost use Rattle.std.specs.Prelude.{◌≡◌, []};
 ghost use Rattle.rv_types.specs.Isa.{isa_step, step_of};
 ghost use Rattle.rv_decode.specs.Operations.{instr_of};
-ghost use Rattle.elf_loader.specs.Code.{word_at};
+ghost use Rattle.elf_loader.specs.inner.Code.{word_at};
 ghost use Rattle.isa_step.specs.Outcome.{outcome};
 
 use crate::state::Isa;

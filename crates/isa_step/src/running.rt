@@ -1,7 +1,7 @@
 //! Whole runs of the instruction set.
 ghost use Rattle.std.specs.Prelude.{◌≡◌};
 ghost use Rattle.rv_types.specs.Isa.{isa};
-ghost use Rattle.elf_loader.specs.Code.{word_at};
+ghost use Rattle.elf_loader.specs.inner.Code.{word_at};
 
 use crate::state::Isa;
 use crate::stepped::{Ran, Stepped};

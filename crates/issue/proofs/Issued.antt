@@ -8,7 +8,8 @@ use Rattle.window_model.specs.Around.{Around, around}
 use Rattle.window_model.specs.Issue.{issue, issue_entry}
 use Rattle.window_model.specs.Order.{each}
 use Rattle.window_model.specs.State.{Machine}
-use Rattle.window_model.specs.Row.{Row, most_issued, with_events}
+use Rattle.window_model.specs.Row.{Row}
+use Rattle.window_model.specs.inner.Row.{most_issued, with_events}
 use Rattle.machine_facts.specs.Sized.{Sized}
 use Rattle.machine_facts.specs.Timely.{WaitsOrDone}
 use Rattle.machine_facts.proofs.SizedPhases.{sized_issue}

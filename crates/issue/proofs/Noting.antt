@@ -4,7 +4,8 @@ use Rattle.std.proofs.lemmas.List.{length-append}
 use Rattle.window_model.specs.declared.Entry.{Entry}
 use Rattle.window_model.specs.declared.Event.{Event}
 use Rattle.window_model.specs.Issue.{Begun}
-use Rattle.window_model.specs.Row.{Row, with_events}
+use Rattle.window_model.specs.Row.{Row}
+use Rattle.window_model.specs.inner.Row.{with_events}
 use Rattle.rob_ring.specs.declared.issued.Issued.{Issued}
 use Rattle.unit_ports.specs.Ports.{Ports}
 use Rattle.issue.specs.declared.decide.Put.{Put}

@@ -4,7 +4,8 @@ use Rattle.std.proofs.Common.{◌≡◌, ℕ, ◌+◌, ◌<◌, ◌≤◌, ◌++
 use Rattle.std.specs.List.{flat_map}
 use Rattle.std.specs.Option.{option_map}
 use Rattle.window_model.specs.Issue.{issue_entry}
-use Rattle.window_model.specs.Row.{IsLonger, Row, most_issued, with_events}
+use Rattle.window_model.specs.Row.{Row}
+use Rattle.window_model.specs.inner.Row.{IsLonger, most_issued, with_events}
 use Rattle.unit_ports.specs.Ports.{Ports}
 use Rattle.stations.specs.Stations.{is_able}
 use Rattle.issue.specs.declared.decide.Decided.{Decided}

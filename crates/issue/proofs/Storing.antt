@@ -9,7 +9,8 @@ use Rattle.window_model.specs.Around.{Around}
 use Rattle.window_model.specs.Ports.{AddressPort, DataPort}
 use Rattle.window_model.specs.Issue.{Begun, issue_entry, waits}
 use Rattle.window_model.specs.Order.{is_store}
-use Rattle.window_model.specs.Row.{Row, with_events}
+use Rattle.window_model.specs.Row.{Row}
+use Rattle.window_model.specs.inner.Row.{with_events}
 use Rattle.rob_ring.specs.Issued.{issued_of}
 use Rattle.rob_ring.specs.declared.issued.Issued.{Issued}
 use Rattle.unit_ports.specs.Laws.{LeftAfter, if_asked}

@@ -19,7 +19,8 @@ use Rattle.issue.specs.Ports.{LeftBehind, OnlyPorts, events_left, granted_at, le
 use Rattle.issue.specs.State.{around_of, here, window_of}
 use Rattle.issue.specs.Turns.{divider_by, load_by, puts_of}
 use Rattle.unit_ports.specs.Ports.{Ports}
-use Rattle.window_model.specs.Row.{Row, with_events}
+use Rattle.window_model.specs.Row.{Row}
+use Rattle.window_model.specs.inner.Row.{with_events}
 
 -- what becomes of each entry
 abbrev pub turns : Desc → Around → List Entry → List Begun

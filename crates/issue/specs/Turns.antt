@@ -14,7 +14,8 @@ use Rattle.window_model.specs.Around.{Around}
 use Rattle.window_model.specs.MayIssue.{effect_of}
 use Rattle.window_model.specs.Issue.{Begun, access_of, begin_as, if_granted, load_as, taken_for, value_loaded, with_address, with_data}
 use Rattle.window_model.specs.Retire.{width_of}
-use Rattle.window_model.specs.Row.{Row, with_events}
+use Rattle.window_model.specs.Row.{Row}
+use Rattle.window_model.specs.inner.Row.{with_events}
 use Rattle.rob_ring.specs.Issued.{issued_of}
 use Rattle.rob_ring.specs.declared.issued.Issued.{Issued}
 use Rattle.issue.specs.declared.decide.Put.{Put}

@@ -59,7 +59,7 @@ impl<'a> Seen<'a> {
     ghost use Rattle.window_model.specs.MayIssue.{goes_behind};
     ghost use Rattle.window_model.specs.Issue.{begin_as, is_division};
     ghost use Rattle.window_model.specs.Order.{is_load, is_store};
-    ghost use Rattle.window_model.specs.Row.{HasRoom};
+    ghost use Rattle.window_model.specs.inner.Row.{HasRoom};
     ghost use Rattle.issue.specs.Accesses.{as_access};
     ghost use Rattle.issue.specs.Operands.{first_of};
     ghost use Rattle.issue.specs.Ports.{most_events_of};

@@ -84,7 +84,7 @@ impl<'a> Seen<'a> {
     ghost use Rattle.std.specs.List.{flat_map};
     ghost use Rattle.std.specs.Option.{option_map};
     ghost use Rattle.window_model.specs.Order.{is_store};
-    ghost use Rattle.window_model.specs.Row.{HasRoom, IsLonger, most_issued, with_events};
+    ghost use Rattle.window_model.specs.inner.Row.{HasRoom, IsLonger, most_issued, with_events};
     ghost use Rattle.unit_ports.specs.Laws.{LeftAfter};
     ghost use Rattle.stations.specs.Stations.{is_able};
     ghost use Rattle.issue.specs.Decisions.{DecidesFor, HadTurn, IsNothing, most_begun, turns_of};

@@ -3,7 +3,7 @@
 ghost use Rattle.std.specs.Prelude.{◌≡◌};
 ghost use Rattle.std.specs.Option.{option_map, option_to_list};
 ghost use Rattle.window_model.specs.Access.{look_events};
-ghost use Rattle.window_model.specs.Row.{HasRoom, with_events};
+ghost use Rattle.window_model.specs.inner.Row.{HasRoom, with_events};
 ghost use Rattle.issue.specs.Accesses.{as_lines, as_request};
 
 use crate::access::Access;
@@ -49,7 +49,7 @@ impl<'a> Seen<'a> {
     ghost use Rattle.window_model.specs.MayIssue.{goes_behind, stores_let};
     ghost use Rattle.window_model.specs.Issue.{access_of, begin_as};
     ghost use Rattle.window_model.specs.Retire.{width_of};
-    ghost use Rattle.window_model.specs.Row.{HasRoom};
+    ghost use Rattle.window_model.specs.inner.Row.{HasRoom};
     ghost use Rattle.visibility.specs.Point.{is_hidden};
     ghost use Rattle.issue.specs.Accesses.{as_access, as_line, as_lines};
     ghost use Rattle.issue.specs.State.{HasTurn, around_of, before_of, here};

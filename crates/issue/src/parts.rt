@@ -78,7 +78,7 @@ impl<'a> Seen<'a> {
     ghost use Rattle.window_model.specs.Ports.{AddressPort, DataPort};
     ghost use Rattle.window_model.specs.Issue.{with_address, with_data};
     ghost use Rattle.window_model.specs.Order.{is_store};
-    ghost use Rattle.window_model.specs.Row.{HasRoom, with_events};
+    ghost use Rattle.window_model.specs.inner.Row.{HasRoom, with_events};
     ghost use Rattle.rob_ring.specs.Issued.{issued_of, with_issued};
     ghost use Rattle.unit_ports.specs.Laws.{if_asked};
     ghost use Rattle.unit_ports.specs.Ports.{Ports};

@@ -3,7 +3,7 @@ ghost use Rattle.std.specs.Prelude.{◌≡◌};
 ghost use Rattle.std.specs.List.{AllByRecursion as Each};
 ghost use Rattle.machine_facts.specs.Timely.{WaitsOrDone};
 ghost use Rattle.window_model.specs.Issue.{issue};
-ghost use Rattle.window_model.specs.Row.{HasRoom, IsLonger, most_issued, with_events};
+ghost use Rattle.window_model.specs.inner.Row.{HasRoom, IsLonger, most_issued, with_events};
 ghost use Rattle.visibility.specs.Point.{HasAdvanced};
 
 use crate::decide::Decided;

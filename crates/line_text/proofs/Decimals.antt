@@ -2,7 +2,7 @@
 use Rattle.std.proofs.Common.{◌≡◌, ℕ, ◌/◌, ◌%◌, ◌^◌, ◌<◌, ◌≤◌, List, ◌++◌, ap, sym, ◌∙◌, append_assoc}
 use Rattle.std.specs.Fmt.{decimal}
 use Rattle.itoa.proofs.Decimal as itoa
-use Rattle.line_text.specs.Digits.{decimal2, decimal4}
+use Rattle.line_text.specs.inner.Digits.{decimal2, decimal4}
 
 -- a text in two parts, each behind what stands so far
 in_parts : (s t u d p e : List ℕ) → t ≡ s ++ d → u ≡ t ++ p → e ≡ d ++ p → u ≡ s ++ e

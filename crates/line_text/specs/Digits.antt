@@ -1,5 +1,5 @@
 -- Numbers written in digits, decimal and hexadecimal.
-use Rattle.std.specs.Prelude.{ℕ, ◌+◌, ◌/◌, ◌%◌, ◌^◌, List, [], ◌∷◌, ◌++◌, codes, slice_index}
+use Rattle.std.specs.Prelude.{ℕ, ◌/◌, ◌%◌, ◌^◌, List, [], ◌∷◌, ◌++◌, codes, slice_index}
 
 -- the digit of a number below 16
 abbrev pub hex_digit : ℕ → ℕ
@@ -12,11 +12,3 @@ hex2 b = hex_digit (b / 16) ∷ hex_digit (b % 16) ∷ []
 -- the eight digits of a word: those of its four bytes, the highest first
 abbrev pub hex8 : ℕ → List ℕ
 hex8 w = hex2 (w / 2 ^ 24) ++ hex2 (w / 2 ^ 16 % 2 ^ 8) ++ hex2 (w / 2 ^ 8 % 2 ^ 8) ++ hex2 (w % 2 ^ 8)
-
--- the two decimal digits of a number below 100
-abbrev pub decimal2 : ℕ → List ℕ
-decimal2 n = (48 + n / 10) ∷ (48 + n % 10) ∷ []
-
--- the four decimal digits of a number below 10,000
-abbrev pub decimal4 : ℕ → List ℕ
-decimal4 n = decimal2 (n / 100) ++ decimal2 (n % 100)

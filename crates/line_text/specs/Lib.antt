@@ -1,2 +1,3 @@
 pub mod Digits
 pub mod EndLine
+pub mod inner

@@ -1,6 +1,7 @@
 //! Digits in pairs, from tables.
 ghost use Rattle.std.specs.Prelude.{◌≡◌, ◌<◌};
-ghost use Rattle.line_text.specs.Digits.{hex2, decimal2};
+ghost use Rattle.line_text.specs.Digits.{hex2};
+ghost use Rattle.line_text.specs.inner.Digits.{decimal2};
 
 // The two hexadecimal digits of each byte in turn.
 static HEX_PAIRS: [u8; 512] =

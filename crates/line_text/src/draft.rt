@@ -4,7 +4,8 @@
 //! a value of its own. A length beside the bytes would be read and written in memory with each piece of the text, since
 //! a compiler can't know that no byte is written over it.
 ghost use Rattle.std.specs.Prelude.{◌≡◌, ◌<◌, ◌≤◌, ◌+◌, ◌/◌, ◌%◌, ◌++◌, length, take, decimal};
-ghost use Rattle.line_text.specs.Digits.{hex2, hex8, decimal2, decimal4};
+ghost use Rattle.line_text.specs.Digits.{hex2, hex8};
+ghost use Rattle.line_text.specs.inner.Digits.{decimal2, decimal4};
 
 use crate::digits::{decimal_pair, hex_pair};
 use itoa::Buffer;

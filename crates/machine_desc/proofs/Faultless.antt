@@ -6,7 +6,8 @@ use Rattle.machine_desc.specs.declared.keys.Key.{Key}
 use Rattle.machine_desc.specs.declared.keys.Key.TheVariants.{CoreFetchWidth, CoreRetireWidth, CoreRob, CoreStations, CoreLoads, CoreStores, CoreQueue, UnitsAlus, UnitsMulLatency, PredictorCounters, PredictorBtb, CacheSets, CacheWays, CacheLine, CacheHitLatency, CacheMissLatency, CacheMshrs, RamBase, RamSize, SttModel, RamMisaligned, PredictorDepend, PredictorHistory, PredictorReturns, CacheSecondSets, CacheSecondWays, CacheSecondLatency, CachePrefetch, SttDefence}
 use Rattle.machine_desc.specs.declared.fault.DescFault.{DescFault}
 use Rattle.machine_desc.specs.Table.{keys}
-use Rattle.machine_desc.specs.Description.{first, checked, top_fault, sections_fault, key_fault, keys_fault, latency_fault, end_fault, registers_fault, second_fault, document_fault, with_number, number}
+use Rattle.machine_desc.specs.Description.{first, top_fault, sections_fault, key_fault, keys_fault, latency_fault, end_fault, registers_fault, second_fault, document_fault, with_number, number}
+use Rattle.machine_desc.specs.inner.Description.{checked}
 use Rattle.machine_desc.specs.Version.{comes_between}
 use Rattle.machine_desc.specs.Clean.{IsClean}
 

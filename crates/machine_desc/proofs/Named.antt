@@ -11,7 +11,8 @@ use Rattle.machine_desc.specs.declared.keys.Key.TheVariants.{SttModel as ModelKe
 use Rattle.machine_desc.specs.declared.fault.DescFault.{DescFault}
 use Rattle.machine_desc.specs.Version.{IsKnown, knows_off, knows_hold, knows_model, knows_defence}
 use Rattle.machine_desc.specs.Table.{is_known}
-use Rattle.machine_desc.specs.Description.{model_in, model, defence_in, defence, value_at}
+use Rattle.machine_desc.specs.Description.{model_in, defence_in, value_at}
+use Rattle.machine_desc.specs.inner.Description.{model, defence}
 use Rattle.machine_desc.proofs.Versions.{hold_if_known}
 
 -- the model of a name, whichever names are known

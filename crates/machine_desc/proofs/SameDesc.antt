@@ -13,7 +13,8 @@ use Rattle.machine_desc.specs.declared.Defence.{Defence}
 use Rattle.machine_desc.specs.declared.Defence.TheVariants.{Stt}
 use Rattle.machine_desc.specs.declared.fault.DescFault.{DescFault}
 use Rattle.machine_desc.specs.Description.{Setting, OneNumber, OneModel, OneDefence, Contents, contents, description_of, Describes}
-use Rattle.machine_desc.specs.Power.{IsZeroOrPower, power_prop, zero_or_power_prop}
+use Rattle.machine_desc.specs.Power.{IsZeroOrPower}
+use Rattle.machine_desc.specs.inner.Power.{power_prop, zero_or_power_prop}
 use Rattle.machine_desc.specs.Version.{most, knows_model, knows_defence, comes_between}
 
 -- two proofs of one fact, at two descriptions along a path of the number that it is about

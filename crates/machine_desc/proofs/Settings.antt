@@ -7,7 +7,8 @@ use Rattle.machine_desc.specs.declared.keys.Key.{Key}
 use Rattle.machine_desc.specs.declared.keys.Key.TheVariants.{SttModel as ModelKey, SttDefence as DefenceKey}
 use Rattle.machine_desc.specs.declared.fault.DescFault.{DescFault}
 use Rattle.machine_desc.specs.Table.{keys}
-use Rattle.machine_desc.specs.Description.{Setting, OneModel, OneDefence, set_to, fault_of, key_fault, model, defence, setting, setting_of, set_before, all_set, settings, document_fault, Contents, contents, contents_or, contents_by}
+use Rattle.machine_desc.specs.Description.{Setting, OneModel, OneDefence, set_to, fault_of, key_fault, setting, setting_of, set_before, all_set, settings, document_fault, Contents, contents, contents_or, contents_by}
+use Rattle.machine_desc.specs.inner.Description.{model, defence}
 use Rattle.machine_desc.proofs.Faultless.{is_clean}
 
 one_more : (answer : Result Setting DescFault) (s : Setting) (more : List (Result Setting DescFault)) (ss : List Setting) → answer ≡ Ok s → all_set more ≡ Ok ss

@@ -11,7 +11,8 @@ use Rattle.machine_desc.specs.declared.keys.Key.TheVariants.{CoreFetchWidth, Cor
 use Rattle.machine_desc.specs.declared.fault.DescFault.{DescFault}
 use Rattle.machine_desc.specs.declared.fault.DescFault.TheVariants.{Syntax}
 use Rattle.machine_desc.specs.Table.{values_of}
-use Rattle.machine_desc.specs.Description.{OneModel, OneDefence, set_to, setting, setting_of, settings, document_fault, version, model, defence, Contents, contents, contents_or, contents_by, text_contents, description_of}
+use Rattle.machine_desc.specs.Description.{OneModel, OneDefence, set_to, setting, setting_of, settings, document_fault, version, Contents, contents, contents_or, contents_by, text_contents, description_of}
+use Rattle.machine_desc.specs.inner.Description.{model, defence}
 use Rattle.machine_desc.specs.Version.{IsKnown}
 use Rattle.machine_desc.specs.Clean.{IsClean, has_numbers}
 use Rattle.machine_desc.proofs.Passing.{Found, found}

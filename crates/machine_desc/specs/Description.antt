@@ -19,19 +19,14 @@ use Rattle.machine_desc.specs.declared.keys.Values.TheVariants.{Numbers, Optiona
 use Rattle.machine_desc.specs.declared.fault.Subject.TheVariants.{Version as OfVersion, Table as OfTable, Key as OfKey}
 use Rattle.machine_desc.specs.declared.fault.DescFault.{DescFault}
 use Rattle.machine_desc.specs.declared.fault.DescFault.TheVariants.{Syntax, Unknown, Missing, Kind, Version, Range, Shape as WrongShape}
-use Rattle.machine_desc.specs.Version.{newest, knows_off, comes_between}
-use Rattle.machine_desc.specs.Table.{values_of, is_known, section_of, name_of, section_name, version_name, sections, keys, some_top, some_key}
+use Rattle.machine_desc.specs.Version.{newest, comes_between}
+use Rattle.machine_desc.specs.Table.{values_of, section_of, name_of, section_name, version_name, sections, keys, some_top, some_key}
 
 -- the first fault of a list of places, if there is one
 abbrev pub first : List (Option DescFault) → Option DescFault
 first [] = None
 first (None ∷ more) = first more
 first (Some fault ∷ more) = Some fault
-
--- a test passes where there is no fault
-abbrev pub checked : Option DescFault → Result (Unit {0}) DescFault
-checked None = Ok tt
-checked (Some fault) = Err fault
 
 -- ---- the version of a document
 
@@ -178,14 +173,6 @@ number_of key (Defences hold) value = Err (Kind (OfKey key))
 -- the number of a key
 abbrev pub number : ℕ → Members → Key → Result ℕ DescFault
 number version document key = number_of key (values_of version key) (value_at document key)
-
--- the model of a document
-abbrev pub model : ℕ → Members → Result SttModel DescFault
-model version document = model_in ModelKey (knows_off version) (value_at document ModelKey)
-
--- the defence of a document
-abbrev pub defence : ℕ → Members → Result Defence DescFault
-defence version document = defence_in DefenceKey (is_known version DefenceKey) (value_at document DefenceKey)
 
 -- ---- the tests on several numbers
 

@@ -6,7 +6,8 @@
 
 ghost use Rattle.std.specs.Prelude.{◌≡◌, ◌+◌, ◌*◌, ◌%◌, ◌^◌, ◌<◌, ◌≤◌, IsTrue};
 ghost use Rattle.std.specs.Int.{IsPowerOfTwo};
-ghost use Rattle.machine_desc.specs.Power.{IsZeroOrPower, power_prop, zero_or_power_prop};
+ghost use Rattle.machine_desc.specs.Power.{IsZeroOrPower};
+ghost use Rattle.machine_desc.specs.inner.Power.{power_prop, zero_or_power_prop};
 ghost use Rattle.machine_desc.specs.Version.{most, knows_model, knows_defence, comes_between};
 
 mod document;

@@ -9,7 +9,8 @@ ghost use Rattle.machine_desc.specs.Table.{values_of};
 ghost use Rattle.machine_desc.specs.Clean.{IsClean, has_numbers};
 ghost use Rattle.machine_desc.specs.Ranges.{MayBe};
 ghost use Rattle.machine_desc.specs.Version.{IsKnown, comes_between};
-ghost use Rattle.machine_desc.specs.Description.{checked, first, version, top_fault, name_fault, section_fault, sections_fault, key_fault, keys_fault, number, model, defence, latency_fault, end_fault, registers_fault, second_fault, document_contents, document_fault, OneNumber, setting, setting_of, contents, description_of, Describes};
+ghost use Rattle.machine_desc.specs.Description.{first, version, top_fault, name_fault, section_fault, sections_fault, key_fault, keys_fault, number, latency_fault, end_fault, registers_fault, second_fault, document_contents, document_fault, OneNumber, setting, setting_of, contents, description_of, Describes};
+ghost use Rattle.machine_desc.specs.inner.Description.{checked, model, defence};
 
 use crate::document::{
     defence_in, member_of, model_in, number_in, number_or_least, unknown_key, unknown_section,

@@ -22,7 +22,8 @@ use Rattle.window_model.specs.Order.{each_from}
 use Rattle.window_model.specs.Rename.{rename, renamed}
 use Rattle.window_model.specs.Resolve.{resolve}
 use Rattle.window_model.specs.Retire.{retire, unless_ended}
-use Rattle.window_model.specs.Row.{Row, with_events}
+use Rattle.window_model.specs.Row.{Row}
+use Rattle.window_model.specs.inner.Row.{with_events}
 use Rattle.window_model.specs.State.{After, Machine, nothing, then_does}
 use Rattle.window_model.proofs.Clearing.{clear_keep}
 use Rattle.window_model.proofs.Issuing.{by_issue, gone_parts}

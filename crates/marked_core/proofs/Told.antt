@@ -16,7 +16,8 @@ use Rattle.window_model.specs.Access.{Line, Request, line_at, look_at, look_even
 use Rattle.window_model.specs.Around.{Around, around}
 use Rattle.window_model.specs.Issue.{AddressPort, Begun, DataPort, access_of, begin_as, effect_of, if_granted, is_granted, issue, issue_entry, issue_parts, issue_whole, load_as, port_of, time_of, value_loaded, waits, with_address, with_data}
 use Rattle.window_model.specs.Order.{each_from, is_store}
-use Rattle.window_model.specs.Row.{Row, with_events}
+use Rattle.window_model.specs.Row.{Row}
+use Rattle.window_model.specs.inner.Row.{with_events}
 use Rattle.window_model.specs.Serials.{Rise}
 use Rattle.window_model.specs.State.{Machine, lines_of}
 use Rattle.window_model.proofs.Issuing.{One, OneOrTwo, Two, by_load, issue_goes, lines_are, looked}

@@ -21,7 +21,8 @@ use Rattle.window_model.specs.Order.{Place, each_from, is_done, is_waiting}
 use Rattle.window_model.specs.Rename.{rename, renamed}
 use Rattle.window_model.specs.Resolve.{resolve}
 use Rattle.window_model.specs.Retire.{retire, unless_ended}
-use Rattle.window_model.specs.Row.{Row, with_events}
+use Rattle.window_model.specs.Row.{Row}
+use Rattle.window_model.specs.inner.Row.{with_events}
 use Rattle.window_model.specs.State.{After, Machine, nothing, then_does}
 use Rattle.window_model.proofs.Clearing.{clear_keep}
 use Rattle.window_model.proofs.Issuing.{Begins, Comes, Remains, begin_comes, by_issue, gone_parts}

@@ -1,7 +1,7 @@
 -- When marks stand beside the parts of a core.
 use Rattle.std.specs.Prelude.{◌≡◌, ℕ, ◌+◌, Bool, true, false, List, None, length}
 use Rattle.std.specs.List.{AllByRecursion as Each}
-use Rattle.elf_loader.specs.Code.{word_at}
+use Rattle.elf_loader.specs.inner.Code.{word_at}
 use Rattle.window_model.specs.declared.Entry.{Entry}
 use Rattle.committed_state.specs.Consistent.{IsDueBy}
 use Rattle.core_parts.specs.Described.{Described}

@@ -1,7 +1,7 @@
 -- What a core with marks beside it holds (docs/theorems.md, "Secrets that are loaded").
 use Rattle.std.specs.Prelude.{Bool, List, refl}
 use Rattle.std.specs.Coded.{Coded, code_by, coded×, coded_bool, coded_list}
-use Rattle.elf_loader.specs.Code.{CodeText}
+use Rattle.elf_loader.specs.inner.Code.{CodeText}
 use Rattle.elf_loader.specs.contracts.fetchable.Code as code
 use Rattle.machine_desc.specs.contracts.Desc as desc
 use Rattle.machine_desc.specs.declared.Desc.{Desc}

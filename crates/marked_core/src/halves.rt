@@ -1,7 +1,7 @@
 //! A cycle's phases before Retire, and those after it, with the marks beside them (`docs/machine.md`, "A cycle").
 ghost use Rattle.std.specs.Prelude.{◌≡◌, ◌<◌, ◌+◌, ◌^◌};
 ghost use Rattle.std.specs.List.{AllByRecursion as Each};
-ghost use Rattle.elf_loader.specs.Code.{word_at};
+ghost use Rattle.elf_loader.specs.inner.Code.{word_at};
 ghost use Rattle.machine_facts.specs.Timely.{WaitsOrDone};
 ghost use Rattle.visibility.specs.Point.{HasAdvanced};
 ghost use Rattle.window_model.specs.Row.{

@@ -1,6 +1,6 @@
 //! A run until something shows.
 ghost use Rattle.std.specs.Prelude.{◌≡◌, ◌<◌, ◌+◌, ◌^◌, None};
-ghost use Rattle.elf_loader.specs.Code.{word_at};
+ghost use Rattle.elf_loader.specs.inner.Code.{word_at};
 ghost use Rattle.window_model.specs.Cycle.{after_cycles};
 ghost use Rattle.secret_marks.specs.Shown.{first_shown};
 

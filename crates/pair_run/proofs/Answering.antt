@@ -5,7 +5,7 @@ use Rattle.std.specs.Prelude.{slice_get, IsSome}
 use Rattle.rv_types.specs.Memory.{Code, Agree}
 use Rattle.rv_types.specs.Isa.{start}
 use Rattle.rv_types.specs.Path.{reads}
-use Rattle.elf_loader.specs.Code.{CodeText, word_at}
+use Rattle.elf_loader.specs.inner.Code.{CodeText, word_at}
 use Rattle.elf_loader.specs.Image.{ImageText}
 use Rattle.elf_loader.specs.declared.loading.Image.{Image}
 use Rattle.elf_loader.proofs.Images.{code_aligned}
@@ -22,12 +22,12 @@ use Rattle.noninterference.proofs.Runs.{same_trace}
 use Rattle.run_inputs.specs.Loaded.{loaded}
 use Rattle.pair_run.specs.Starts.{trace_of}
 use Rattle.core_cycle.specs.Programmed.{Programmed}
-use Rattle.pair_run.specs.Images.{CoreStarts, Opened, image_at}
+use Rattle.pair_run.specs.inner.Images.{CoreStarts, Opened, image_at}
 use Rattle.pair_run.specs.Answer.{Answers, Differs, Premise}
 use Rattle.isa_step.specs.State.{IsaState}
-use Rattle.pair_run.specs.Loaded.{StartsAgree}
+use Rattle.pair_run.specs.inner.Loaded.{StartsAgree}
 use Rattle.pair_run.specs.declared.starting.Start.{Start}
-use Rattle.pair_run.specs.Running.{trace_from}
+use Rattle.pair_run.specs.inner.Running.{trace_from}
 use Rattle.pair_run.specs.declared.answer.Differ.{Differ}
 use Rattle.pair_run.specs.declared.answer.Differ.TheVariants.{Same, Cycle, End}
 

@@ -1,12 +1,12 @@
 -- What is made of two images and a description is a pair that begins.
 use Rattle.std.proofs.Common.{◌≡◌, ◌↔◌, Bool, IsTrue, refl, sym, subst}
-use Rattle.elf_loader.specs.Code.{word_at}
+use Rattle.elf_loader.specs.inner.Code.{word_at}
 use Rattle.elf_loader.specs.declared.loading.Image.{Image}
 use Rattle.machine_desc.specs.declared.Desc.{Desc}
 use Rattle.window_model.specs.State.{opening}
 use Rattle.core_cycle.specs.Programmed.{Programmed}
 use Rattle.isa_step.specs.State.{IsaState}
-use Rattle.pair_run.specs.Images.{CoreStarts, Opened, start_of, path_of}
+use Rattle.pair_run.specs.inner.Images.{CoreStarts, Opened, start_of, path_of}
 use Rattle.run_inputs.specs.Loaded.{Fits}
 use Rattle.pair_run.specs.declared.starting.Start.{Start}
 

@@ -2,9 +2,9 @@
 ghost use Rattle.std.specs.Prelude.{◌≡◌, ◌↔◌, ◌-◌, IsTrue, All, length, slice_index};
 ghost use Rattle.rv_types.specs.Memory.{Agree, range};
 ghost use Rattle.rv_types.specs.Path.{reads};
-ghost use Rattle.elf_loader.specs.Code.{word_at};
+ghost use Rattle.elf_loader.specs.inner.Code.{word_at};
 ghost use Rattle.window_model.specs.Path.{path};
-ghost use Rattle.pair_run.specs.Loaded.{StartsAgree, SameByte, ends_path};
+ghost use Rattle.pair_run.specs.inner.Loaded.{StartsAgree, SameByte, ends_path};
 ghost use Rattle.rv_types.specs.Isa.{start};
 
 use crate::starting::Start;

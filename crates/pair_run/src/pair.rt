@@ -2,7 +2,7 @@
 ghost use Rattle.std.specs.Prelude.{◌≡◌, ◌<◌, ◌^◌, ◌+◌, ◌↔◌, length, true, IfOk, IsTrue};
 ghost use Rattle.window_model.specs.Cycle.{after_cycles};
 ghost use Rattle.window_model.specs.Taint.{protects};
-ghost use Rattle.pair_run.specs.Images.{Opened, image_at};
+ghost use Rattle.pair_run.specs.inner.Images.{Opened, image_at};
 ghost use Rattle.run_inputs.specs.Loaded.{loaded};
 ghost use Rattle.pair_run.specs.Answer.{Answers, Premise};
 ghost use Rattle.pair_run.specs.declared.answer.Differ.TheVariants.{Same};
@@ -30,7 +30,7 @@ pub struct Pair<R: RenameTaint + Drop> {
 }
 
 impl<R: RenameTaint + Drop> Model for Pair<R> {
-    ghost use Rattle.pair_run.specs.Images.{Images, images_code, Opened, image_at};
+    ghost use Rattle.pair_run.specs.inner.Images.{Images, images_code, Opened, image_at};
 
     ghost Value = { Images };
 

@@ -1,6 +1,6 @@
 //! Where the two runs of a comparison begin.
 ghost use Rattle.std.specs.Prelude.{◌≡◌, IfOk, length};
-ghost use Rattle.pair_run.specs.Images.{CoreStarts, start_of, path_of};
+ghost use Rattle.pair_run.specs.inner.Images.{CoreStarts, start_of, path_of};
 
 use byte_ram::Ram;
 use core_cycle::Core;

@@ -3,7 +3,7 @@ ghost use Rattle.std.specs.Prelude.{◌≡◌, ◌<◌, ◌+◌, ◌^◌, None, 
 ghost use Rattle.std.specs.Option.{option_map};
 ghost use Rattle.window_model.specs.declared.Item.{Item};
 ghost use Rattle.window_model.specs.Rename.{rename, CallAlone};
-ghost use Rattle.window_model.specs.Row.{HasRoom, IsLonger, most_fetched, with_events};
+ghost use Rattle.window_model.specs.inner.Row.{HasRoom, IsLonger, most_fetched, with_events};
 ghost use Rattle.rename.specs.Fitting.{Counted, fitting, next_item, with_oldest};
 
 use crate::entering::{add_access, add_entry, add_station, add_write, push_within};

@@ -3,7 +3,7 @@
 ghost use Rattle.std.specs.Prelude.{◌≡◌, Some};
 ghost use Rattle.visibility.specs.Point.{HasAdvanced};
 ghost use Rattle.window_model.specs.Resolve.{resolve, true_mark};
-ghost use Rattle.window_model.specs.Row.{HasRoom, IsLonger, most_resolved, with_events};
+ghost use Rattle.window_model.specs.inner.Row.{HasRoom, IsLonger, most_resolved, with_events};
 ghost use Rattle.resolve.specs.Taken.{resolving, true_next};
 ghost use Rattle.history_pred.specs.Past.{InEach};
 

@@ -13,7 +13,8 @@ use Rattle.window_model.specs.declared.Event.{Event}
 use Rattle.window_model.specs.Rename.{is_call, CallAlone, calls}
 use Rattle.window_model.specs.Order.{is_store, is_done}
 use Rattle.window_model.specs.Retire.{Retired, retire, turns, head_leaves, stays, trap_as, addr_of, width_of}
-use Rattle.window_model.specs.Row.{HasRoom, Row, most_retired, row_room, with_events}
+use Rattle.window_model.specs.Row.{Row}
+use Rattle.window_model.specs.inner.Row.{HasRoom, most_retired, row_room, with_events}
 use Rattle.window_model.specs.Shape.{SameShape}
 use Rattle.window_model.specs.State.{Machine, opening}
 use Rattle.window_model.proofs.Booleans.{both}

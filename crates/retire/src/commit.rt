@@ -11,7 +11,7 @@ ghost use Rattle.cache_tags.specs.Sets.{Cache};
 ghost use Rattle.window_model.specs.Order.{value_of};
 ghost use Rattle.window_model.specs.Resolve.{next_of};
 ghost use Rattle.window_model.specs.Retire.{addr_of, lines_in, stored_of, width_of};
-ghost use Rattle.window_model.specs.Row.{HasRoom, with_events};
+ghost use Rattle.window_model.specs.inner.Row.{HasRoom, with_events};
 ghost use Rattle.window_model.specs.Shape.{SameShape};
 ghost use Rattle.retire.specs.Parts.{IsLeft, PrintsHead, TellsHead, head_retires, head_told, line_told, lines_moved, with_touched};
 ghost use Rattle.retire.specs.Turn.{end_of};

@@ -1,7 +1,7 @@
 //! The phase: turn by turn.
 ghost use Rattle.std.specs.Prelude.{◌≡◌, ◌<◌, ◌-◌, ◌++◌, [], length, drop};
 ghost use Rattle.std.specs.List.{AllByRecursion as Each};
-ghost use Rattle.window_model.specs.Row.{HasRoom, IsLonger, most_retired};
+ghost use Rattle.window_model.specs.inner.Row.{HasRoom, IsLonger, most_retired};
 ghost use Rattle.window_model.specs.State.{Machine};
 ghost use Rattle.rename_taint.specs.Writes.{without_retired};
 ghost use Rattle.window_model.specs.Rename.{CallAlone};

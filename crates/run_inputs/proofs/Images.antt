@@ -2,19 +2,20 @@
 use Rattle.std.specs.Prelude.{Result, MatchResult, IfOk}
 use Rattle.std.proofs.Common.{◌≡◌, ℕ, List, [], ◌∷◌, Bool, Some, None, Ok, Err, Option, length, refl, sym, ap, ap₂, subst, ◌∙◌, ◌⊎◌, inl, inr}
 use Rattle.std.proofs.lemmas.List.FromFn.{length-map-range_with_len}
-use Rattle.rv_types.specs.Memory.{Ram, Code, zeros, length_zeros}
+use Rattle.rv_types.specs.Memory.{Ram, Code, zeros}
+use Rattle.rv_types.specs.inner.Memory.{length_zeros}
 use Rattle.elf_loader.specs.Fields.{entry_of}
 use Rattle.elf_loader.specs.Faults.{first_some, header_fault}
 use Rattle.elf_loader.specs.Image.{ImageText, image_of, image_in, unless, ram_fault, ram_after, code_of}
 use Rattle.elf_loader.proofs.Images.{image_without, image_outside}
 use Rattle.elf_loader.specs.declared.faults.ElfFault.{ElfFault}
 use Rattle.elf_loader.specs.declared.loading.Image.{Image}
-use Rattle.elf_loader.specs.Code.{word_at}
+use Rattle.elf_loader.specs.inner.Code.{word_at}
 use Rattle.elf_loader.specs.declared.faults.ElfFault.TheVariants as elf
 use Rattle.run_inputs.specs.Loaded.{loaded}
 use Rattle.run_inputs.specs.declared.refusal.Which.{Which}
 use Rattle.run_inputs.specs.declared.refusal.Refusal.{Refusal}
-use Rattle.run_inputs.specs.Input.{refusal_of, LoadRefused}
+use Rattle.run_inputs.specs.inner.Input.{refusal_of, LoadRefused}
 
 -- memory that is all 0
 abbrev pub empty : ℕ → ℕ → Bool → Ram

@@ -9,7 +9,8 @@ use Rattle.run_inputs.specs.declared.refusal.Which.{Which}
 use Rattle.run_inputs.specs.declared.refusal.Refusal.{Refusal}
 use Rattle.run_inputs.specs.declared.refusal.Refusal.TheVariants.{ReadImage, ImageTooLong, Image, Memory}
 use Rattle.run_inputs.specs.Refused.{place_of}
-use Rattle.run_inputs.specs.Input.{image_max, ImageFrom, from_file, from_seed, HasBytes, HasDesc, IsImage, FailsToRead, HasTooMany, ImageRefused, AreImages, IsRead, Refuses}
+use Rattle.run_inputs.specs.Input.{image_max, ImageFrom, from_file, from_seed, HasBytes, HasDesc, IsImage, FailsToRead, HasTooMany, AreImages, IsRead, Refuses}
+use Rattle.run_inputs.specs.inner.Input.{ImageRefused}
 
 -- ---- What the files tell before and after
 

@@ -1,23 +1,14 @@
 -- What the program reads, and why it may be refused (docs/theorems.md, "What is read"): a description, if one is named,
 -- and then images in their order, each read and loaded before the next is read.
-use Rattle.std.specs.Prelude.{◌≡◌, ◌⊎◌, ℕ, ◌==◌, IsUtf8, Bool, false, List, [], ◌∷◌, take, slice_get, Option, Some, None, Result, Ok, Err, MatchResult}
-use Rattle.elf_loader.specs.Faults.{header_fault}
+use Rattle.std.specs.Prelude.{◌≡◌, ◌⊎◌, ℕ, ◌==◌, IsUtf8, Bool, false, List, [], ◌∷◌, take, slice_get, Option, Some, None, Ok, Err}
 use Rattle.elf_loader.specs.Image.{ImageText, image_of}
 use Rattle.elf_loader.specs.declared.faults.ElfFault.{ElfFault}
-use Rattle.elf_loader.specs.declared.faults.ElfFault.TheVariants as elf
-use Rattle.elf_loader.specs.declared.loading.Image.{Image}
 use Rattle.gen_image.specs.Generated.{generated_image}
 use Rattle.machine_desc.specs.Description.{description_of, Describes}
 use Rattle.machine_desc.specs.declared.Desc.{Desc}
-use Rattle.run_inputs.specs.Loaded.{loaded}
 use Rattle.tool_io.specs.declared.Got.TheVariants.{Bytes, TooLong}
 use Rattle.tool_io.specs.Outside.{Shelf, GetsTold, HasToCopy, SameCounts, NameFailed}
 use Rattle.run_inputs.specs.Refused.{place_of}
-use Rattle.run_inputs.specs.declared.sources.Source.{Source}
-use Rattle.run_inputs.specs.declared.sources.Source.TheVariants.{File, Seed}
-use Rattle.run_inputs.specs.declared.reading.Unread.{Unread}
-use Rattle.run_inputs.specs.declared.reading.Unread.TheVariants.{Failed as ReadFailed, TooLong as TooMany, NoMemory}
-use Rattle.run_inputs.specs.declared.refusal.Which.{Which}
 use Rattle.run_inputs.specs.declared.refusal.Refusal.{Refusal}
 use Rattle.run_inputs.specs.declared.refusal.Refusal.TheVariants.{ReadDescription, DescriptionTooLong, Description, ReadImage, ImageTooLong, Image as NoImage, Memory}
 
@@ -36,24 +27,12 @@ MayHold shelf name max bytes = GetsTold (shelf.content name) max (Bytes bytes)
 abbrev pub MayBeLonger : Shelf → List ℕ → ℕ → Type 0
 MayBeLonger shelf name max = GetsTold (shelf.content name) max TooLong
 
--- why a file of at most so many bytes isn't read; `old` and `new` are what the files tell before and after
-abbrev pub UnreadBy : List ℕ → ℕ → Shelf → Shelf → Unread → Type 0
-UnreadBy name max old new ReadFailed = NameFailed name old new
-UnreadBy name max old new TooMany = MayBeLonger old name max × SameCounts old new
-UnreadBy name max old new NoMemory = HasToCopy (old.content name) max × SameCounts old new
-
 -- ---- The description of a run
 
 -- a run has this description: none, or that which the file named may hold
 abbrev pub HasDesc : Shelf → Option (List ℕ) → Option Desc → Type 0
 HasDesc shelf None desc = desc ≡ None
 HasDesc shelf (Some name) desc = (text : List ℕ) × (d : Desc) × MayHold shelf name description_max text × Describes text d × (desc ≡ Some d)
-
--- why a text is refused as a description: memory may be wanting for what is UTF-8 alone
-abbrev pub TextRefused : List ℕ → Refusal → Type 0
-TextRefused text (Description fault) = description_of text ≡ Err fault
-TextRefused text Memory = IsUtf8 text
-TextRefused text _ = ⊥
 
 -- a description may need memory: to be copied, or to be read
 abbrev pub DescriptionWants : Shelf → List ℕ → Type 0
@@ -74,20 +53,12 @@ abbrev pub NamedRefused : Option (List ℕ) → Shelf → Shelf → Refusal → 
 NamedRefused None old new refusal = ⊥
 NamedRefused (Some name) old new refusal = DescriptionRefused name old new refusal
 
--- the description of a run is read, if it names one, or refused
-abbrev pub ReadsDesc : Option (List ℕ) → Shelf → Shelf → Result (Option Desc) Refusal → Type 0
-ReadsDesc name old new result = MatchResult result (λ desc. HasDesc old name desc × SameCounts old new) (NamedRefused name old new)
-
 -- ---- An image of a run
 
 -- where an image comes from: the file of this name, or a seed and a number of blocks that generate it
 pub data ImageFrom : Type 0 where
   from_file : List ℕ → ImageFrom
   from_seed : ℕ → ℕ → ImageFrom
-
-abbrev pub source_of : Source → ImageFrom
-source_of (File name) = from_file name.now
-source_of (Seed seed blocks) = from_seed seed blocks.count
 
 -- the bytes of an image: such as the file may hold, or those that are generated
 abbrev pub HasBytes : Shelf → ImageFrom → List ℕ → Type 0
@@ -130,49 +101,6 @@ pub record HasFault (shelf : Shelf) (desc : Option Desc) (from : ImageFrom) (fau
   pub file : List ℕ
   pub content : HasBytes shelf from file
   pub refused : image_of file (base_of desc) (size_of desc) (misaligned_of desc) ≡ Err fault
-
--- the refusal of a fault of loading: want of memory is one of its own
-abbrev pub refusal_of : Which → ElfFault → Refusal
-refusal_of which elf.NoMemory = Memory
-refusal_of which fault = NoImage which fault
-
--- why a file is refused as an image: memory may be wanting where its headers have no fault alone
-abbrev pub LoadRefused : Which → List ℕ → ℕ → ℕ → Bool → Refusal → Type 0
-LoadRefused which file base size misaligned (NoImage w fault) = (w ≡ which) × (image_of file base size misaligned ≡ Err fault)
-LoadRefused which file base size misaligned Memory = header_fault file ≡ None
-LoadRefused which file base size misaligned _ = ⊥
-
--- the bytes of an image may need memory: those of a file to be copied, and others to be made
-abbrev pub BytesWant : Shelf → ImageFrom → Type 0
-BytesWant shelf (from_file name) = HasToCopy (shelf.content name) image_max
-BytesWant shelf (from_seed seed blocks) = Unit {0}
-
--- why there are no bytes of an image
-abbrev pub BytesRefused : Which → ImageFrom → Shelf → Shelf → Refusal → Type 0
-BytesRefused which from old new (ReadImage w) = (w ≡ which) × FailsToRead old new from
-BytesRefused which from old new (ImageTooLong w) = (w ≡ which) × HasTooMany old from × SameCounts old new
-BytesRefused which from old new Memory = BytesWant old from × SameCounts old new
-BytesRefused which from old new _ = ⊥
-
--- the bytes of an image are got, or there are none
-abbrev pub ReadsBytes : Which → ImageFrom → Shelf → Shelf → Result (List ℕ) Refusal → Type 0
-ReadsBytes which from old new result =
-    MatchResult result (λ file. HasBytes old from file × SameCounts old new) (BytesRefused which from old new)
-
--- an image may need memory: for its bytes, or to be loaded
-abbrev pub ImageWants : Shelf → ImageFrom → Type 0
-ImageWants shelf from = BytesWant shelf from ⊎ ((file : List ℕ) × HasBytes shelf from file × (header_fault file ≡ None))
-
--- why an image is refused
-abbrev pub ImageRefused : Which → Option Desc → ImageFrom → Shelf → Shelf → Refusal → Type 0
-ImageRefused which desc from old new (NoImage w fault) = (w ≡ which) × HasFault old desc from fault × SameCounts old new
-ImageRefused which desc from old new Memory = ImageWants old from × SameCounts old new
-ImageRefused which desc from old new refusal = BytesRefused which from old new refusal
-
--- an image is read and loaded, or refused
-abbrev pub ReadsImage : Which → Option Desc → ImageFrom → Shelf → Shelf → Result Image Refusal → Type 0
-ReadsImage which desc from old new result =
-    MatchResult result (λ i. IsImage old desc from (loaded i) × SameCounts old new) (ImageRefused which desc from old new)
 
 -- ---- One after the other
 

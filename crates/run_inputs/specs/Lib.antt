@@ -3,3 +3,4 @@ pub mod Refused
 pub mod Input
 pub mod Told
 pub mod Note
+pub mod inner

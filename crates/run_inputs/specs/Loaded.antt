@@ -1,7 +1,7 @@
 -- An image in the memory of a run.
 use Rattle.std.specs.Prelude.{◌≡◌, length}
 use Rattle.rv_types.specs.Memory.{Ram}
-use Rattle.elf_loader.specs.Code.{word_at}
+use Rattle.elf_loader.specs.inner.Code.{word_at}
 use Rattle.elf_loader.specs.Image.{ImageText}
 use Rattle.elf_loader.specs.declared.loading.Image.{Image}
 use Rattle.machine_desc.specs.declared.Desc.{Desc}

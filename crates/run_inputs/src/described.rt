@@ -2,7 +2,8 @@
 ghost use Rattle.std.specs.Prelude.{◌≡◌, ◌∷◌, [], Some, MatchResult, IfOk};
 ghost use Rattle.tool_io.specs.Outside.{SameContents};
 ghost use Rattle.run_inputs.specs.Loaded.{Fits, loaded};
-ghost use Rattle.run_inputs.specs.Input.{source_of, IsRead, Refuses};
+ghost use Rattle.run_inputs.specs.Input.{IsRead, Refuses};
+ghost use Rattle.run_inputs.specs.inner.Input.{source_of};
 
 use crate::description::read_description;
 use crate::refusal::{Refusal, Which};

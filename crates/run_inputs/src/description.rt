@@ -3,7 +3,8 @@ ghost use Rattle.std.specs.Prelude.{◌≡◌, Option, Some, Result, MatchResult
 ghost use Rattle.std.specs.Option.{option_map};
 ghost use Rattle.machine_desc.specs.Description.{Describes};
 ghost use Rattle.tool_io.specs.Outside.{SameContents, SameCounts};
-ghost use Rattle.run_inputs.specs.Input.{TextRefused, HasDesc, DescriptionRefused, ReadsDesc};
+ghost use Rattle.run_inputs.specs.Input.{HasDesc, DescriptionRefused};
+ghost use Rattle.run_inputs.specs.inner.Input.{TextRefused, ReadsDesc};
 
 use crate::reading::{DESCRIPTION_MAX, Unread, read_file};
 use crate::refusal::Refusal;

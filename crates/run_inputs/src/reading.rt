@@ -1,7 +1,8 @@
 //! Reading a file whole, up to a limit.
 ghost use Rattle.std.specs.Prelude.{◌≡◌, MatchResult};
 ghost use Rattle.tool_io.specs.Outside.{SameContents, SameCounts};
-ghost use Rattle.run_inputs.specs.Input.{MayHold, UnreadBy};
+ghost use Rattle.run_inputs.specs.Input.{MayHold};
+ghost use Rattle.run_inputs.specs.inner.Input.{UnreadBy};
 
 use std::alloc::Global;
 use thiserror::Error;

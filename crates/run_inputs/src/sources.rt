@@ -3,7 +3,7 @@ ghost use Rattle.std.specs.Prelude.{◌≡◌, Ok, Result, MatchResult, IfOk, le
 ghost use Rattle.elf_loader.specs.Image.{image_of};
 ghost use Rattle.run_inputs.specs.Loaded.{loaded};
 ghost use Rattle.tool_io.specs.Outside.{SameContents};
-ghost use Rattle.run_inputs.specs.Input.{source_of, ReadsBytes, ReadsImage, LoadRefused, refusal_of};
+ghost use Rattle.run_inputs.specs.inner.Input.{source_of, ReadsBytes, ReadsImage, LoadRefused, refusal_of};
 ghost use Rattle.run_inputs.specs.Input.{base_of, size_of, misaligned_of};
 
 use crate::reading::{IMAGE_MAX, Unread, read_file};

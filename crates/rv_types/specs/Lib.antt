@@ -7,3 +7,4 @@ pub mod Kind
 pub mod Memory
 pub mod Isa
 pub mod Path
+pub mod inner

@@ -6,7 +6,8 @@ use Rattle.clap.specs.declared.parser.matches.ArgMatches.{ArgMatches}
 use Rattle.clap.proofs.OnLiterals.{clap_on_literals}
 use Rattle.tool_words.specs.declared.Refused.{Refused}
 use Rattle.tool_words.specs.declared.Refused.TheVariants.{Words}
-use Rattle.tool_words.specs.Words.{FindsBy, word_of}
+use Rattle.tool_words.specs.Words.{word_of}
+use Rattle.tool_words.specs.inner.Words.{FindsBy}
 use Rattle.tool_words.proofs.Tool.{none_of}
 use Rattle.secret_words.specs.Ranges.{number_of, address_of, bytes_of, range_of, ranges_of}
 use Rattle.secret_words.specs.Words.{secrets_app, faults, rows_in, WantedText, wanted_in, wanted_of}

@@ -5,7 +5,6 @@ use Rattle.clap.specs.Words.{Kinds, fault_of, matches_of, all_of, first_of, Row,
 use Rattle.secret_marks.specs.declared.SecretRange.{SecretRange}
 use Rattle.tool_words.specs.Words.{name_rule, cycles_rule, word_in, if_none}
 use Rattle.secret_words.specs.Ranges.{ranges_of}
-use Rattle.secret_words.specs.declared.Wanted.{Wanted}
 
 -- the argument of ranges: one or several, each behind its own --secret
 abbrev pub secret_rule : Rule
@@ -36,9 +35,6 @@ pub record WantedText : Type 0 where
   pub image : Text
   pub secret : List SecretRange
   pub cycles : ℕ
-
-abbrev pub wanted_text : Wanted → WantedText
-wanted_text w = record { description = w.description.now; image = w.image.now; secret = w.secret.items; cycles = w.cycles }
 
 -- the ranges of all --secret
 abbrev pub ranges_in : List Row → Option (List SecretRange)

@@ -8,7 +8,8 @@
 ghost use Rattle.std.specs.Prelude.{◌≡◌, ◌≢◌, IfOk, IfErr, map, None, Some, [], false};
 ghost use Rattle.clap.specs.Words.{App, rule_of, app_of, rows_of, found_of};
 ghost use Rattle.clap.specs.declared.builder.command.Command.TheViews.{out-Command};
-ghost use Rattle.secret_words.specs.Words.{secret_rule, bare_app, secrets_app, faults, rows_in, wanted_text, ranges_in, wanted_in, wanted_of};
+ghost use Rattle.secret_words.specs.Words.{secret_rule, bare_app, secrets_app, faults, rows_in, ranges_in, wanted_in, wanted_of};
+ghost use Rattle.secret_words.specs.inner.Words.{wanted_text};
 
 mod ranges;
 

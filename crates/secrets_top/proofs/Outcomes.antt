@@ -10,7 +10,8 @@ use Rattle.secrets_top.specs.declared.ranges.FaultyRange.{FaultyRange}
 use Rattle.secrets_top.specs.declared.refusal.Unjudged.{Unjudged}
 use Rattle.secrets_top.specs.declared.refusal.Unjudged.TheVariants.{Range, Refused}
 use Rattle.secrets_top.specs.declared.verdict.Verdict.{Verdict}
-use Rattle.secrets_top.specs.Top.{Inputs, RefusedInputs, Accepted, fault_in, verdict_on, Performs, Ends}
+use Rattle.secrets_top.specs.Top.{Inputs, RefusedInputs, Accepted, fault_in, verdict_on, Ends}
+use Rattle.secrets_top.specs.inner.Top.{Performs}
 
 -- words that want something aren't none
 pub not_empty : (words : List (List ℕ)) (wanted : WantedText) → wanted_of words ≡ Some wanted → words ≡ [] → ⊥

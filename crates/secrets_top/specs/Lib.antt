@@ -3,3 +3,4 @@ pub mod Ranges
 pub mod Refused
 pub mod Top
 pub mod Promises
+pub mod inner

@@ -51,14 +51,6 @@ verdict_on {wanted} a = verdict_in wanted a.inputs.desc a.inputs.image
 abbrev pub RefusedInputs : WantedText → Shelf → Shelf → Refusal → Type 0
 RefusedInputs wanted old new refusal = Refuses (Some wanted.description) (from_file wanted.image ∷ []) old new refusal
 
--- how a run is told: with its whole text, with a part of it where the sink failed, or with nothing where memory was
--- wanting
-abbrev pub Performs : Verdict → Told → Told → Result Verdict Unjudged → Type 0
-Performs verdict out out' (Ok told) = Wrote (verdict_text verdict) out out' × (told ≡ verdict)
-Performs verdict out out' (Err (Refused Write)) = WrotePart (verdict_text verdict) out out'
-Performs verdict out out' (Err (Refused Memory)) = out' ≡ out
-Performs verdict out out' (Err cause) = ⊥
-
 -- how the program ends: what is told is written whole, or in part where the sink failed; or the words want nothing,
 -- there are some and there was no memory, what is read or a range of it is refused, and nothing is written
 abbrev pub Ends : List (List ℕ) → World → World → Result Verdict Unjudged → Type 0

@@ -1,11 +1,11 @@
 //! A run with marks beside it, and what is told of it. All memory is taken before the first cycle, and nothing is
 //! written before the last.
 ghost use Rattle.std.specs.Prelude.{◌≡◌, ◌<◌, ◌+◌, ◌^◌, IfOk};
-ghost use Rattle.elf_loader.specs.Code.{word_at};
+ghost use Rattle.elf_loader.specs.inner.Code.{word_at};
 ghost use Rattle.pair_run.specs.Running.{ending_at};
 ghost use Rattle.run_inputs.specs.Loaded.{Fits, loaded};
 ghost use Rattle.secrets_top.specs.Verdict.{verdict_from, verdict_of};
-ghost use Rattle.secrets_top.specs.Top.{Performs};
+ghost use Rattle.secrets_top.specs.inner.Top.{Performs};
 
 use crate::refusal::Unjudged;
 use crate::verdict::{Verdict, write_verdict};

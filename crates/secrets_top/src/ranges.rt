@@ -1,7 +1,7 @@
 //! Which ranges of secret bytes an image may have: those within its memory that touch no code.
 ghost use Rattle.std.specs.Prelude.{◌≡◌, ◌+◌, ◌≤◌, ◌^◌, None, Some, MatchResult, IsTrue};
 ghost use Rattle.rv_types.specs.Memory.{in_ram};
-ghost use Rattle.elf_loader.specs.Code.{word_at};
+ghost use Rattle.elf_loader.specs.inner.Code.{word_at};
 ghost use Rattle.run_inputs.specs.Loaded.{loaded};
 ghost use Rattle.secrets_top.specs.Ranges.{in_code, touches_code, range_fault, first_faulty};
 

@@ -19,8 +19,10 @@ use Rattle.trace_text.specs.TraceText.{rows_text, trace_text}
 use Rattle.trace_text.proofs.Growing.{trace_parts}
 use Rattle.tool_io.specs.Outside.{Told, Wrote, WrotePart}
 use Rattle.tool_io.proofs.Writing.{part_more, wrote_then, wrote_then_part}
-use Rattle.pair_run.specs.Running.{trace_from, ending_at}
-use Rattle.stt_top.specs.Clocking.{run_from, report_from, CameTo}
+use Rattle.pair_run.specs.Running.{ending_at}
+use Rattle.pair_run.specs.inner.Running.{trace_from}
+use Rattle.stt_top.specs.Clocking.{run_from, report_from}
+use Rattle.stt_top.specs.inner.Clocking.{CameTo}
 use Rattle.stt_top.proofs.Turns.{same_hart}
 
 -- ---- The trace of a run

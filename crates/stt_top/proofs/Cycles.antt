@@ -14,7 +14,7 @@ use Rattle.trace_text.specs.TraceText.{row_text, rows_text}
 use Rattle.trace_text.proofs.Growing.{rows_text_more, rows_text_none}
 use Rattle.tool_io.specs.Outside.{Told, Wrote, WrotePart}
 use Rattle.tool_io.proofs.Writing.{WroteUpTo, up_to_start, up_to_more, up_to_part, up_to_end}
-use Rattle.stt_top.specs.Clocking.{CameTo}
+use Rattle.stt_top.specs.inner.Clocking.{CameTo}
 
 -- ---- Any text of a run
 

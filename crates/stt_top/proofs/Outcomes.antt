@@ -5,8 +5,8 @@ use Rattle.elf_loader.specs.Image.{ImageText}
 use Rattle.machine_desc.specs.declared.Desc.{Desc}
 use Rattle.elf_loader.specs.declared.loading.Image.{Image}
 use Rattle.pair_run.specs.Answer.{Answers}
-use Rattle.pair_run.specs.Images.{Images}
-use Rattle.pair_run.specs.Running.{trace_from}
+use Rattle.pair_run.specs.inner.Images.{Images}
+use Rattle.pair_run.specs.inner.Running.{trace_from}
 use Rattle.run_inputs.specs.Loaded.{loaded}
 use Rattle.pair_run.specs.declared.answer.PairAnswer.{PairAnswer}
 use Rattle.pair_run.specs.Comparison.{comparison}
@@ -21,8 +21,10 @@ use Rattle.run_inputs.specs.Input.{NamedRefused}
 use Rattle.tool_words.proofs.Tool.{no_words_no_command}
 use Rattle.stt_top.specs.Clocking.{report_from}
 use Rattle.stt_top.specs.Outcome.{compared_of}
-use Rattle.stt_top.specs.Running.{Starts, opening_of}
-use Rattle.stt_top.specs.Work.{TaskText, report_task, trace_task, pair_task, Performs, run_work, trace_work, pair_work}
+use Rattle.stt_top.specs.Running.{opening_of}
+use Rattle.stt_top.specs.inner.Running.{Starts}
+use Rattle.stt_top.specs.Work.{TaskText, report_task, trace_task, pair_task, run_work, trace_work, pair_work}
+use Rattle.stt_top.specs.inner.Work.{Performs}
 use Rattle.run_inputs.specs.Told.{world}
 use Rattle.stt_top.specs.Top.{Runs, CommandRefused, description_name, Ends}
 

@@ -14,7 +14,7 @@ use Rattle.report_text.specs.Report.{piece_text, piece_lines, report_text, state
 use Rattle.report_text.proofs.Pieces.{piece_lines_more, piece_lines_none, report_parts}
 use Rattle.tool_io.specs.Outside.{Told, Wrote, WrotePart}
 use Rattle.tool_io.proofs.Writing.{WroteUpTo, up_to_start, up_to_more, up_to_part, up_to_end, part_more, wrote_then, wrote_then_part}
-use Rattle.stt_top.specs.Running.{RanAs}
+use Rattle.stt_top.specs.inner.Running.{RanAs}
 use Rattle.isa_step.proofs.Shape.{run_keeps}
 
 -- a run with so much done that the rest is left, and with the lines of its output written so far

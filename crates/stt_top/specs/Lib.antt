@@ -4,3 +4,4 @@ pub mod Running
 pub mod Work
 pub mod Top
 pub mod Promises
+pub mod inner

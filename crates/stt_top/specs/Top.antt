@@ -1,6 +1,6 @@
 -- What the program does: the words, what the files and the sink tell before and after, and the status
 -- (docs/theorems.md, "The program").
-use Rattle.std.specs.Prelude.{◌≡◌, ◌≢◌, ◌⊎◌, ℕ, List, [], ◌∷◌, slice_get, Option, Some, None, Result, Ok, Err, MatchResult}
+use Rattle.std.specs.Prelude.{◌≡◌, ◌≢◌, ◌⊎◌, ℕ, List, [], ◌∷◌, slice_get, Option, Some, None, Result, Ok, Err}
 use Rattle.elf_loader.specs.Image.{ImageText}
 use Rattle.machine_desc.specs.Description.{description_of}
 use Rattle.machine_desc.specs.declared.Desc.{Desc}
@@ -16,8 +16,7 @@ use Rattle.stt_top.specs.Outcome.{status_of}
 use Rattle.run_inputs.specs.Refused.{place_of}
 use Rattle.run_inputs.specs.Input.{description_max, ImageFrom, from_file, from_seed, MayHold, MayBeLonger, IsRead, RefusedAt, FailsToRead, Refuses}
 use Rattle.run_inputs.specs.Told.{World, IsFaultyDescription, TellsDesc, TellsBytes, IsFaultyImage, TellsImages, MayBeFaulty}
-use Rattle.stt_top.specs.declared.task.Task.{Task}
-use Rattle.stt_top.specs.Work.{TaskText, task_of, task_text, Work, ComesTo}
+use Rattle.stt_top.specs.Work.{TaskText, task_of, Work, ComesTo}
 
 -- ---- Commands and what they read
 
@@ -47,10 +46,6 @@ pub record Runs (command : CommandText) (old new : Shelf) (task : TaskText) : Ty
 -- why a command is refused before anything is written
 abbrev pub CommandRefused : CommandText → Shelf → Shelf → Refusal → Type 0
 CommandRefused command old new refusal = Refuses (description_name command) (sources command) old new refusal
-
--- what a command needs is read, and makes its task, or the command is refused
-abbrev pub ReadsTask : CommandText → Shelf → Shelf → Result Task Refusal → Type 0
-ReadsTask command old new result = MatchResult result (λ task. Runs command old new (task_text task)) (CommandRefused command old new)
 
 -- a command is done: it had this task, and the task comes to this work
 pub record Done (command : CommandText) (old new : World) : Type 0 where

@@ -1,23 +1,16 @@
 -- What the commands ask for, and what that comes to: a text, and how it ends.
-use Rattle.std.specs.Prelude.{◌≡◌, ℕ, List, [], ◌∷◌, Option, Some, None, Result, Ok, Err}
+use Rattle.std.specs.Prelude.{◌≡◌, ℕ, List, [], ◌∷◌, Option, Some, None}
 use Rattle.rv_types.specs.Isa.{Run, isa, start}
 use Rattle.elf_loader.specs.Image.{ImageText}
 use Rattle.machine_desc.specs.declared.Desc.{Desc}
 use Rattle.pair_run.specs.Answer.{Answers}
-use Rattle.run_inputs.specs.Loaded.{loaded}
 use Rattle.pair_run.specs.Starts.{trace_of}
-use Rattle.run_inputs.specs.Loaded.{Fits}
 use Rattle.pair_run.specs.declared.answer.PairAnswer.{PairAnswer}
 use Rattle.pair_run.specs.Comparison.{comparison}
 use Rattle.report_text.specs.Report.{report_text}
 use Rattle.trace_text.specs.TraceText as trace
-use Rattle.tool_io.specs.Outside.{Told, Wrote, WrotePart}
 use Rattle.tool_words.specs.Words.{CommandText, isa_text, run_text, trace_text, bench_text, pair_text}
 use Rattle.stt_top.specs.declared.outcome.Ended.{Ended}
-use Rattle.run_inputs.specs.declared.refusal.Refusal.{Refusal}
-use Rattle.run_inputs.specs.declared.refusal.Refusal.TheVariants.{Write, Memory}
-use Rattle.stt_top.specs.declared.task.Task.{Task}
-use Rattle.stt_top.specs.declared.task.Task.TheVariants.{Isa, Report, Trace, Pair}
 use Rattle.stt_top.specs.Outcome.{ended_of, compared_of}
 use Rattle.stt_top.specs.Clocking.{run_from, report_from}
 use Rattle.stt_top.specs.Running.{opening_of}
@@ -40,20 +33,6 @@ task_of (trace_text description name cycles) (Some d) (image ∷ []) = Some (tra
 task_of (bench_text description seed blocks cycles) (Some d) (image ∷ []) = Some (report_task d image cycles)
 task_of (pair_text description name name2 cycles) (Some d) (one ∷ two ∷ []) = Some (pair_task d one two cycles)
 task_of command desc images = None
-
--- the task that the code holds
-abbrev pub task_text : Task → TaskText
-task_text (Isa image steps) = isa_task (loaded image) steps
-task_text (Report read cycles) = report_task read.desc (loaded read.image) cycles
-task_text (Trace read cycles) = trace_task read.desc (loaded read.image) cycles
-task_text (Pair d one two cycles) = pair_task d (loaded one) (loaded two) cycles
-
--- the machine's images lie in the memory of its description
-abbrev pub InMemory : TaskText → Type 0
-InMemory (isa_task image steps) = Unit {0}
-InMemory (report_task d image cycles) = Fits d image.ram
-InMemory (trace_task d image cycles) = Fits d image.ram
-InMemory (pair_task d one two cycles) = Fits d one.ram × Fits d two.ram
 
 -- ---- What it comes to
 
@@ -95,11 +74,3 @@ ComesTo (pair_task d one two cycles) work = (answer : PairAnswer) × Answers d o
 
 abbrev pub OneWork : Type 0
 OneWork = (task : TaskText) (a b : Work) → ComesTo task a → ComesTo task b → a ≡ b
-
--- how a task ends: with its whole text, with a part of it where the sink failed, or with nothing where memory was
--- wanting
-abbrev pub Performs : TaskText → Told → Told → Result Ended Refusal → Type 0
-Performs task out out' (Ok ended) = (work : Work) × ComesTo task work × Wrote work.text out out' × (ended ≡ work.ended)
-Performs task out out' (Err Write) = (work : Work) × ComesTo task work × WrotePart work.text out out'
-Performs task out out' (Err Memory) = out' ≡ out
-Performs task out out' (Err refusal) = ⊥

@@ -1,9 +1,9 @@
 //! How cores are made of images.
 ghost use Rattle.std.specs.Prelude.{◌≡◌, IfOk};
-ghost use Rattle.elf_loader.specs.Code.{word_at};
+ghost use Rattle.elf_loader.specs.inner.Code.{word_at};
 ghost use Rattle.run_inputs.specs.Loaded.{Fits};
 ghost use Rattle.run_inputs.specs.Loaded.{loaded};
-ghost use Rattle.stt_top.specs.Running.{Starts};
+ghost use Rattle.stt_top.specs.inner.Running.{Starts};
 
 use elf_loader::Image;
 use machine_desc::Desc;

@@ -2,7 +2,7 @@
 ghost use Rattle.std.specs.Prelude.{◌≡◌, ◌<◌, ◌+◌, ◌^◌, length, Some};
 ghost use Rattle.machine_facts.specs.Sized.{Sized};
 ghost use Rattle.pair_run.specs.Running.{ending_at};
-ghost use Rattle.stt_top.specs.Clocking.{WritesRows, WritesPieces, TellsTrace, TellsReport};
+ghost use Rattle.stt_top.specs.inner.Clocking.{WritesRows, WritesPieces, TellsTrace, TellsReport};
 
 use crate::outcome::{Ended, ended_of};
 use byte_ram::Ram;

@@ -1,7 +1,7 @@
 //! The instruction set's state in which a run begins.
 ghost use Rattle.std.specs.Prelude.{◌≡◌, IfOk};
 ghost use Rattle.run_inputs.specs.Loaded.{loaded};
-ghost use Rattle.stt_top.specs.Running.{Begins};
+ghost use Rattle.stt_top.specs.inner.Running.{Begins};
 
 use byte_ram::Ram;
 use elf_loader::Image;

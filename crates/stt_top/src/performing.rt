@@ -2,7 +2,8 @@
 ghost use Rattle.std.specs.Prelude.{◌≡◌};
 ghost use Rattle.run_inputs.specs.Loaded.{Fits};
 ghost use Rattle.run_inputs.specs.Loaded.{loaded};
-ghost use Rattle.stt_top.specs.Work.{isa_task, report_task, trace_task, pair_task, task_text, InMemory, Performs};
+ghost use Rattle.stt_top.specs.Work.{isa_task, report_task, trace_task, pair_task};
+ghost use Rattle.stt_top.specs.inner.Work.{task_text, InMemory, Performs};
 
 use crate::building::{build, build_pair};
 use crate::loading::Machine;

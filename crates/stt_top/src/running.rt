@@ -1,8 +1,8 @@
 //! A run of the instruction set whose output is written as it comes, and its report.
 ghost use Rattle.std.specs.Prelude.{◌≡◌, length};
 ghost use Rattle.rv_types.specs.Isa.{isa};
-ghost use Rattle.elf_loader.specs.Code.{word_at};
-ghost use Rattle.stt_top.specs.Running.{WritesOutput, TellsRun};
+ghost use Rattle.elf_loader.specs.inner.Code.{word_at};
+ghost use Rattle.stt_top.specs.inner.Running.{WritesOutput, TellsRun};
 
 use crate::loading::Machine;
 use crate::outcome::{Ended, ended_of};

@@ -2,9 +2,10 @@
 ghost use Rattle.std.specs.Prelude.{◌≡◌, Result, IfOk};
 ghost use Rattle.std.specs.Option.{option_map};
 ghost use Rattle.tool_io.specs.Outside.{SameContents};
-ghost use Rattle.tool_words.specs.Words.{command_text, isa_text, pair_text};
-ghost use Rattle.stt_top.specs.Work.{task_text, InMemory};
-ghost use Rattle.stt_top.specs.Top.{ReadsTask};
+ghost use Rattle.tool_words.specs.Words.{isa_text, pair_text};
+ghost use Rattle.tool_words.specs.inner.Words.{command_text};
+ghost use Rattle.stt_top.specs.inner.Work.{task_text, InMemory};
+ghost use Rattle.stt_top.specs.inner.Top.{ReadsTask};
 
 use elf_loader::Image;
 use machine_desc::Desc;

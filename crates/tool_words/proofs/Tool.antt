@@ -12,7 +12,8 @@ use Rattle.clap.proofs.ValueTestLemmas.{accepts-Accepts, Accepts-accepts}
 use Rattle.clap.specs.declared.builder.value_parser.ValueParser.TheVariants as parser
 use Rattle.tool_words.specs.declared.Refused.{Refused}
 use Rattle.tool_words.specs.declared.Refused.TheVariants.{Words}
-use Rattle.tool_words.specs.Words.{FindsBy, isa_text, run_text, trace_text, bench_text, pair_text, tool_app, faults, rows_in, number_between, number_of, word_of, blocks_of, CommandText, command_in, command_of, if_none}
+use Rattle.tool_words.specs.Words.{isa_text, run_text, trace_text, bench_text, pair_text, tool_app, faults, rows_in, number_between, number_of, word_of, blocks_of, CommandText, command_in, command_of, if_none}
+use Rattle.tool_words.specs.inner.Words.{FindsBy}
 
 pub tool_is_free : is_simple_and_free tool_app ≡ true
 tool_is_free = refl

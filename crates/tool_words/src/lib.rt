@@ -7,7 +7,8 @@
 ghost use Rattle.std.specs.Prelude.{◌≡◌, IfOk, map, IfErr, ◌≢◌, None, Some, [], option_map, false};
 ghost use Rattle.clap.specs.Words.{App, Rule, Shape, rule_of, app_of, with_rule, with_subcommand, subcommand_rows_of, rows_of, found_of, first_of};
 ghost use Rattle.clap.specs.declared.builder.command.Command.TheViews.{out-Command};
-ghost use Rattle.tool_words.specs.Words.{name_rule, number_rule, text_rule, run_text, trace_text, cycles_rule, isa_shape, cycles_shape, bench_shape, pair_shape, bare_app, tool_app, IsParser, IsCommand, FindsBy, faults, rows_in, command_text, number_of, number_in, word_of, word_in, blocks_of, blocks_in, isa_in, cycles_in, bench_in, pair_in, command_in, command_of};
+ghost use Rattle.tool_words.specs.Words.{name_rule, number_rule, text_rule, run_text, trace_text, cycles_rule, isa_shape, cycles_shape, bench_shape, pair_shape, bare_app, tool_app, faults, rows_in, number_of, number_in, word_of, word_in, blocks_of, blocks_in, isa_in, cycles_in, bench_in, pair_in, command_in, command_of};
+ghost use Rattle.tool_words.specs.inner.Words.{IsParser, IsCommand, FindsBy, command_text};
 
 mod blocks;
 mod own;

@@ -24,3 +24,4 @@ pub mod Path
 pub mod Along
 pub mod Committed
 pub mod Shape
+pub mod inner

@@ -34,7 +34,7 @@ pub fn empty_row() -> Row
 }
 
 impl Row {
-    ghost use Rattle.window_model.specs.Row.{row_room, with_events};
+    ghost use Rattle.window_model.specs.inner.Row.{row_room, with_events};
 
     /// Starts the row of a cycle: its number, and no event.
     pub fn begin(&mut self, cycle: u32)

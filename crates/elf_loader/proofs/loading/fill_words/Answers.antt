@@ -1,6 +1,6 @@
 use Rattle.std.proofs.Common.{◌≡◌, ◌<◌, ◌-◌, ◌+◌, ◌*◌, ◌/◌, ℕ, List, Some, length, set, ap, sym, ◌∙◌, arith, vec_len}
 use Rattle.elf_loader.specs.Fields.{word}
-use Rattle.elf_loader.specs.Image.{segment_text}
+use Rattle.elf_loader.specs.inner.Image.{segment_text}
 use Rattle.elf_loader.proofs.Placing.{GoesOn, goes_on, words_step}
 use Rattle.elf_loader.proofs.loading.fill_words.Goals as goal
 

@@ -1,6 +1,6 @@
 use Rattle.std.proofs.Common.{◌≡◌, ◌≤◌, ◌<◌, ◌-◌, ◌+◌, ◌/◌, true, false, length, get_or}
-use Rattle.elf_loader.specs.Image.{segment_text}
-use Rattle.elf_loader.specs.Filling.{WordsUpTo}
+use Rattle.elf_loader.specs.inner.Image.{segment_text}
+use Rattle.elf_loader.specs.inner.Filling.{WordsUpTo}
 use Rattle.elf_loader.proofs.loading.fill_words.Given as goal
 
 -- the segment's words are noted up to this place, which is left if there is one

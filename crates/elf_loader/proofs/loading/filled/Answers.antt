@@ -1,7 +1,7 @@
 use Rattle.std.proofs.Common.{◌≡◌, ◌≤◌, ℕ, List, length, ap, ap₂, ◌∙◌, arith}
 use Rattle.rv_types.specs.Memory.{Ram, with_bytes}
 use Rattle.elf_loader.specs.Image.{ram_fault, ram_after, code_of}
-use Rattle.elf_loader.specs.Spans.{part}
+use Rattle.elf_loader.specs.inner.Spans.{part}
 use Rattle.elf_loader.proofs.Placed.{ram_fault_after}
 use Rattle.elf_loader.proofs.PartLoaded.{part_no_fault, length_part, length_loaded, base_loaded, loaded_part, loaded_code, fits}
 use Rattle.elf_loader.proofs.loading.filled.Goals as goal

@@ -2,7 +2,7 @@ use Rattle.std.proofs.Common.{◌≡◌, ◌+◌, ◌-◌, ◌≤◌, ℕ, Bool,
 use Rattle.std.specs.Prelude.{slice_range}
 use Rattle.std.proofs.lemmas.List.{length-take-le, length-drop}
 use Rattle.rv_types.specs.Memory.{Ram, with_bytes}
-use Rattle.elf_loader.specs.Spans.{part}
+use Rattle.elf_loader.specs.inner.Spans.{part}
 use Rattle.elf_loader.proofs.PartLoaded.{room, part_whole}
 use Rattle.elf_loader.proofs.span.part_of.Goals as goal
 

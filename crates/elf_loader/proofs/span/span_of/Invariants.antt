@@ -1,7 +1,7 @@
 -- the segments so far lie in the span
 use Rattle.std.proofs.Common.{ℕ, ◌<◌, ◌+◌, length, IfSome}
 use Rattle.elf_loader.specs.Image.{segment_at}
-use Rattle.elf_loader.specs.Spans.{InRows, LiesBetween}
+use Rattle.elf_loader.specs.inner.Spans.{InRows, LiesBetween}
 use Rattle.elf_loader.proofs.span.span_of.Given as goal
 
 abbrev pub invariant-loop-i : goal.invariant-loop-i

@@ -1,5 +1,5 @@
 use Rattle.std.proofs.Common.{◌≡◌, ◌≤◌, ◌<◌, ◌-◌, ℕ, length, get_or}
-use Rattle.elf_loader.specs.Jumps.{left_by, HasJumps}
+use Rattle.elf_loader.specs.inner.Jumps.{left_by, HasJumps}
 use Rattle.elf_loader.proofs.unwritten.compress.Given as goal
 
 -- the places that are left stay the same, and none of them lies where the walk passed

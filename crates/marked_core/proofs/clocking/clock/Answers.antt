@@ -1,6 +1,6 @@
 use Rattle.std.proofs.Common.{◌≡◌, ◌∙◌, [], None, ap, arith, refl, subst, sym}
 use Rattle.std.specs.List.{AllByRecursion as Each}
-use Rattle.elf_loader.specs.Code.{word_at}
+use Rattle.elf_loader.specs.inner.Code.{word_at}
 use Rattle.machine_facts.proofs.FewEvents.{cycle_number}
 use Rattle.window_model.specs.Cycle.{cycle}
 use Rattle.window_model.specs.State.{Machine}

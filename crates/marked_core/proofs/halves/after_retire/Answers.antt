@@ -1,5 +1,5 @@
 use Rattle.std.proofs.Common.{ap, ◌∙◌, length}
-use Rattle.elf_loader.specs.Code.{word_at}
+use Rattle.elf_loader.specs.inner.Code.{word_at}
 use Rattle.core_cycle.proofs.Cycling.{fetched_advanced, fetched_window}
 use Rattle.core_cycle.proofs.Moving.{described_advanced, rename_silent}
 use Rattle.marked_core.proofs.Steps.{over_phase, over_point}

@@ -1,5 +1,5 @@
 use Rattle.std.proofs.Common.{ap, ap₂, ◌∙◌}
-use Rattle.elf_loader.specs.Code.{word_at}
+use Rattle.elf_loader.specs.inner.Code.{word_at}
 use Rattle.window_model.specs.Cycle.{Cycled, cycle}
 use Rattle.machine_facts.proofs.FewEvents.{cycle_number}
 use Rattle.secret_marks.specs.Shown.{shown_cycle}

@@ -1,6 +1,6 @@
 -- Nothing has shown in the cycles so far.
 use Rattle.std.proofs.Common.{◌≡◌}
-use Rattle.elf_loader.specs.Code.{word_at}
+use Rattle.elf_loader.specs.inner.Code.{word_at}
 use Rattle.marked_core.proofs.Looking.{Looks}
 use Rattle.marked_core.proofs.running.first_shown.Given as goal
 

@@ -3,7 +3,7 @@ use Rattle.std.proofs.Math.Bool.{beq}
 use Rattle.rv_types.specs.Memory.{Ram, Agree}
 use Rattle.rv_types.specs.Isa.{Hart}
 use Rattle.rv_types.specs.Path.{reads}
-use Rattle.elf_loader.specs.Code.{word_at}
+use Rattle.elf_loader.specs.inner.Code.{word_at}
 use Rattle.window_model.specs.Path.{path}
 use Rattle.pair_run.proofs.loaded.agree_for.Goals as goal
 

@@ -1,7 +1,7 @@
 -- The row has an event for each line so far.
 use Rattle.std.proofs.Common.{◌≡◌, take}
 use Rattle.std.specs.Prelude.{map}
-use Rattle.window_model.specs.Row.{with_events}
+use Rattle.window_model.specs.inner.Row.{with_events}
 use Rattle.retire.specs.Parts.{line_told}
 use Rattle.retire.proofs.commit.tell_lines.Given as goal
 

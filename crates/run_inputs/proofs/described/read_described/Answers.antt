@@ -1,7 +1,7 @@
 -- The image is refused behind its description.
 use Rattle.std.proofs.Common.{[], ◌∷◌, Some, refl}
 use Rattle.run_inputs.specs.declared.refusal.Which.TheVariants.{First}
-use Rattle.run_inputs.specs.Input.{source_of}
+use Rattle.run_inputs.specs.inner.Input.{source_of}
 use Rattle.run_inputs.proofs.InTurn.{image_refused}
 use Rattle.run_inputs.proofs.Exits.{at_err}
 use Rattle.run_inputs.proofs.described.read_described.Goals as goal

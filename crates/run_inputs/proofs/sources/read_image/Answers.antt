@@ -1,5 +1,6 @@
 -- An image lies in the memory of its description.
-use Rattle.run_inputs.specs.Input.{LoadRefused, base_of, size_of, misaligned_of}
+use Rattle.run_inputs.specs.Input.{base_of, size_of, misaligned_of}
+use Rattle.run_inputs.specs.inner.Input.{LoadRefused}
 use Rattle.run_inputs.proofs.Images.{loaded_base, loaded_size}
 use Rattle.run_inputs.proofs.sources.read_image.Goals as goal
 

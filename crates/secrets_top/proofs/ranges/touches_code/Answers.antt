@@ -1,6 +1,6 @@
 -- Where a byte of the range isn't code, the range touches code if a byte behind that one does.
 use Rattle.std.proofs.Common.{sym, ◌∙◌}
-use Rattle.elf_loader.specs.Code.{word_at}
+use Rattle.elf_loader.specs.inner.Code.{word_at}
 use Rattle.secrets_top.specs.Ranges.{in_code}
 use Rattle.secrets_top.proofs.Touching.{passed}
 use Rattle.secrets_top.proofs.ranges.touches_code.Goals as goal

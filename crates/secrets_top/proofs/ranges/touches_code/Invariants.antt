@@ -2,7 +2,7 @@
 use Rattle.std.proofs.Common.{◌≡◌, ◌+◌, ◌-◌}
 use Rattle.std.specs.List.{list_any}
 use Rattle.rv_types.specs.Memory.{range}
-use Rattle.elf_loader.specs.Code.{word_at}
+use Rattle.elf_loader.specs.inner.Code.{word_at}
 use Rattle.secrets_top.specs.Ranges.{in_code, touches_code}
 use Rattle.secrets_top.proofs.ranges.touches_code.Given as goal
 

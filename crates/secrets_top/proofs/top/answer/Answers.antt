@@ -4,11 +4,13 @@ use Rattle.run_inputs.specs.Loaded.{loaded}
 use Rattle.run_inputs.specs.Told.{world}
 use Rattle.run_inputs.proofs.Exits.{at_exit}
 use Rattle.secret_marks.specs.declared.SecretRange.{SecretRange}
-use Rattle.secret_words.specs.Words.{WantedText, wanted_text}
+use Rattle.secret_words.specs.Words.{WantedText}
+use Rattle.secret_words.specs.inner.Words.{wanted_text}
 use Rattle.secrets_top.specs.declared.refusal.Unjudged.TheVariants.{Range, Refused}
 use Rattle.secrets_top.specs.Ranges.{first_faulty}
 use Rattle.secrets_top.specs.Verdict.{verdict_of}
-use Rattle.secrets_top.specs.Top.{Inputs, Accepted, Performs, Ends}
+use Rattle.secrets_top.specs.Top.{Inputs, Accepted, Ends}
+use Rattle.secrets_top.specs.inner.Top.{Performs}
 use Rattle.secrets_top.proofs.Outcomes.{inputs_refused, range_refused, told_end}
 use Rattle.secrets_top.proofs.top.answer.Goals as goal
 

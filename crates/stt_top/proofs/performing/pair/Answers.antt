@@ -2,7 +2,8 @@
 use Rattle.run_inputs.proofs.Exits.{at_exit}
 use Rattle.stt_top.proofs.Outcomes.{pair_answers, compared, compared_part}
 use Rattle.run_inputs.specs.Loaded.{loaded}
-use Rattle.stt_top.specs.Work.{pair_task, Performs}
+use Rattle.stt_top.specs.Work.{pair_task}
+use Rattle.stt_top.specs.inner.Work.{Performs}
 use Rattle.stt_top.proofs.performing.pair.Goals as goal
 
 pub returns-in_err-write_comparison : goal.returns-in_err-write_comparison

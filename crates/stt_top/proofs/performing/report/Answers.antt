@@ -1,6 +1,7 @@
 -- What a failing sink has taken is a part of the report of the machine where the image begins.
 use Rattle.run_inputs.specs.Loaded.{loaded}
-use Rattle.stt_top.specs.Work.{report_task, Performs}
+use Rattle.stt_top.specs.Work.{report_task}
+use Rattle.stt_top.specs.inner.Work.{Performs}
 use Rattle.run_inputs.proofs.Exits.{at_exit}
 use Rattle.stt_top.proofs.Outcomes.{report_part}
 use Rattle.stt_top.proofs.performing.report.Goals as goal

@@ -1,6 +1,6 @@
 -- The report is the output of the run, and then its last state.
 use Rattle.std.proofs.Common.{◌∙◌, ap}
-use Rattle.elf_loader.specs.Code.{word_at}
+use Rattle.elf_loader.specs.inner.Code.{word_at}
 use Rattle.stt_top.specs.Outcome.{ended_of}
 use Rattle.stt_top.proofs.Turns.{output_part, report_whole, report_part, same_base, same_size}
 use Rattle.stt_top.proofs.running.report.Goals as goal

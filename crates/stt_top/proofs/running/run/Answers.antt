@@ -3,8 +3,8 @@ use Rattle.std.proofs.Common.{◌∙◌, ◌-◌, ◌+◌, sym, subst, refl, ari
 use Rattle.std.proofs.lemmas.Result.{MatchResult-from_err}
 use Rattle.rv_types.specs.Isa.{isa}
 use Rattle.rv_types.specs.declared.End.TheVariants.{Trap}
-use Rattle.elf_loader.specs.Code.{CodeText, word_at}
-use Rattle.stt_top.specs.Running.{RanAs}
+use Rattle.elf_loader.specs.inner.Code.{CodeText, word_at}
+use Rattle.stt_top.specs.inner.Running.{RanAs}
 use Rattle.stt_top.proofs.Turns.{Turned, at_start, at_next, at_part, at_exit, at_trap, at_end}
 use Rattle.stt_top.proofs.running.run.Goals as goal
 

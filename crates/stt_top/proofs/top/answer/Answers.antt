@@ -1,6 +1,6 @@
 -- How the task ends is how the program does.
-use Rattle.stt_top.specs.Work.{task_text}
-use Rattle.tool_words.specs.Words.{command_text}
+use Rattle.stt_top.specs.inner.Work.{task_text}
+use Rattle.tool_words.specs.inner.Words.{command_text}
 use Rattle.std.proofs.Common.{List, ℕ, map}
 use Rattle.run_inputs.specs.Told.{world}
 use Rattle.run_inputs.proofs.Exits.{at_exit}

@@ -1,5 +1,5 @@
 use Rattle.std.proofs.Common.{rules, sym, subst}
-use Rattle.elf_loader.specs.Code.{word_at}
+use Rattle.elf_loader.specs.inner.Code.{word_at}
 use Rattle.core_parts.specs.Described.{Described, opened}
 use Rattle.core_cycle.specs.Kept.{KeptUntil}
 use Rattle.core_cycle.proofs.by_parts.Core.new.Goals as goal

@@ -1,4 +1,4 @@
-use Rattle.elf_loader.specs.Code.{word_at}
+use Rattle.elf_loader.specs.inner.Code.{word_at}
 use Rattle.core_parts.proofs.Fetched.{fetch_whole, fetch_shown, fetch_row, same_counters}
 use Rattle.core_parts.proofs.parts.Parts.fetch.Goals as goal
 

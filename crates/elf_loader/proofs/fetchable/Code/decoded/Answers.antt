@@ -1,6 +1,6 @@
 use Rattle.std.proofs.Common.{ap, None, ◌-◌, ◌/◌, ◌∙◌, arith}
 use Rattle.std.proofs.lemmas.List.{get_or_read}
-use Rattle.elf_loader.specs.Code.{CodeText, instr_at, shown}
+use Rattle.elf_loader.specs.inner.Code.{CodeText, instr_at, shown}
 use Rattle.elf_loader.proofs.Decoding.{instr_there}
 use Rattle.elf_loader.proofs.fetchable.Code.decoded.Goals as goal
 

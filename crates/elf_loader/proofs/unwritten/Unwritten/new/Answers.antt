@@ -1,5 +1,5 @@
 use Rattle.std.proofs.Common.{ap, ◌∙◌}
-use Rattle.elf_loader.specs.Jumps.{left_by}
+use Rattle.elf_loader.specs.inner.Jumps.{left_by}
 use Rattle.elf_loader.proofs.Jumping.{left_zeros}
 use Rattle.elf_loader.proofs.unwritten.Unwritten.new.Goals as goal
 

@@ -1,5 +1,5 @@
 use Rattle.std.proofs.Common.{◌-◌}
-use Rattle.elf_loader.specs.Code.{word_at}
+use Rattle.elf_loader.specs.inner.Code.{word_at}
 use Rattle.fetch_unit.proofs.Fetching.{FetchesOn}
 use Rattle.fetch_unit.proofs.unit.Fetch.fetch.Given as goal
 

@@ -1,6 +1,6 @@
 use Rattle.std.proofs.Common.{◌∙◌, ◌-◌, ◌+◌, sym, subst}
 use Rattle.rv_types.specs.Isa.{isa}
-use Rattle.elf_loader.specs.Code.{CodeText, word_at}
+use Rattle.elf_loader.specs.inner.Code.{CodeText, word_at}
 use Rattle.isa_step.proofs.Runs.{Rest, at_next}
 use Rattle.isa_step.proofs.state.Isa.run.Goals as goal
 

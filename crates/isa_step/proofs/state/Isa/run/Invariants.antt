@@ -1,6 +1,6 @@
 use Rattle.std.proofs.Common.{◌≡◌, ◌-◌}
 use Rattle.rv_types.specs.Isa.{isa}
-use Rattle.elf_loader.specs.Code.{word_at}
+use Rattle.elf_loader.specs.inner.Code.{word_at}
 use Rattle.isa_step.proofs.Runs.{Rest}
 use Rattle.isa_step.proofs.state.Isa.run.Given as goal
 

@@ -2,7 +2,7 @@ use Rattle.std.proofs.Common.{◌≡◌, ◌∙◌, ◌++◌, length, ap, refl, 
 use Rattle.std.specs.Option.{option_map}
 use Rattle.window_model.specs.Ports.{is_granted}
 use Rattle.window_model.specs.Issue.{issue_entry}
-use Rattle.window_model.specs.Row.{with_events}
+use Rattle.window_model.specs.inner.Row.{with_events}
 use Rattle.issue.specs.Accesses.{as_access}
 use Rattle.issue.specs.State.{around_of, before_of, here}
 use Rattle.issue.specs.Turns.{after_of, divider_by, load_by, puts_by, puts_of}

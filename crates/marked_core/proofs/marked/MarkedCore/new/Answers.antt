@@ -1,5 +1,5 @@
 use Rattle.std.proofs.Common.{true, rules, ap, length, sym, subst, ◌∙◌}
-use Rattle.elf_loader.specs.Code.{word_at}
+use Rattle.elf_loader.specs.inner.Code.{word_at}
 use Rattle.core_parts.specs.Described.{Described, opened}
 use Rattle.core_cycle.specs.Kept.{Kept}
 use Rattle.secret_marks.specs.Marks.{Marks}

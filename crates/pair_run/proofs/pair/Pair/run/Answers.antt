@@ -2,7 +2,7 @@
 use Rattle.std.proofs.Common.{◌≡◌, true, sym, subst}
 use Rattle.window_model.specs.Taint.{protects}
 use Rattle.pair_run.specs.Answer.{Answers}
-use Rattle.pair_run.specs.Images.{Images}
+use Rattle.pair_run.specs.inner.Images.{Images}
 use Rattle.run_inputs.specs.Loaded.{loaded}
 use Rattle.pair_run.proofs.pair.Pair.run.Goals as goal
 

@@ -4,7 +4,7 @@ use Rattle.std.specs.Coded.{Coded, code_by, coded×}
 use Rattle.elf_loader.specs.contracts.loading.Image as image
 use Rattle.machine_desc.specs.contracts.Desc as desc
 use Rattle.rv_types.specs.Isa.{start}
-use Rattle.elf_loader.specs.Code.{CodeText, word_at}
+use Rattle.elf_loader.specs.inner.Code.{CodeText, word_at}
 use Rattle.elf_loader.specs.declared.loading.Image.{Image}
 use Rattle.isa_step.specs.State.{IsaState}
 use Rattle.core_cycle.specs.Programmed.{Programmed}

@@ -2,7 +2,7 @@
 use Rattle.std.specs.Prelude.{◌≡◌, ℕ, ◌+◌, ◌%◌, ◌≤◌, List, IfSome, slice_range}
 use Rattle.rv_types.specs.Memory.{Ram}
 use Rattle.elf_loader.specs.Image.{SegmentText, segment_at}
-use Rattle.elf_loader.specs.Filling.{Inside}
+use Rattle.elf_loader.specs.inner.Filling.{Inside}
 
 -- the part of memory from this place on and before that one
 abbrev pub part : Ram → ℕ → ℕ → Ram

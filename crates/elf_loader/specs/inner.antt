@@ -1,0 +1,6 @@
+-- What only clauses of the code and lemmas cite: no promise of the programs rests on it.
+pub mod Code
+pub mod Filling
+pub mod Image
+pub mod Jumps
+pub mod Spans

@@ -1,0 +1,4 @@
+-- What only clauses of the code and lemmas cite: no promise of the programs rests on it.
+pub mod Images
+pub mod Loaded
+pub mod Running

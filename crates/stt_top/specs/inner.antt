@@ -1,0 +1,5 @@
+-- What only clauses of the code and lemmas cite: no promise of the programs rests on it.
+pub mod Clocking
+pub mod Running
+pub mod Top
+pub mod Work
