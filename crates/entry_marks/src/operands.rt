@@ -87,6 +87,7 @@ impl<'a> Walk<'a> {
     }
 
     /// The marks of the sources of the entry at a position.
+    #[inline(always)]
     pub fn operands(&self, i: u32, entry: &Entry) -> Operands
         requires stands { Stands self.now }
         requires at { StandsAt self.now i entry.now }
