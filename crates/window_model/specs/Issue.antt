@@ -1,6 +1,5 @@
 -- The fifth phase: entries whose operands are there begin to execute (docs/machine.md, "Issue"). Who may issue stands
--- in
--- `MayIssue.antt`, who is granted a port in `Ports.antt`; what it comes to stands here.
+-- in `MayIssue.antt`, who is granted a port in `Ports.antt`; what it comes to stands here.
 use Rattle.std.specs.Prelude.{ℕ, ◌+◌, Bool, true, false, ◌&&◌, ◌==◌, max, List, [], ◌∷◌, ◌++◌, map, Option, Some, None, if◌then◌else◌}
 use Rattle.std.specs.List.{flat_map}
 use Rattle.rv_types.specs.Word.{from_le}

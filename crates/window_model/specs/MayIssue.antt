@@ -77,8 +77,8 @@ may_issue_as Load d now before e = not (address_tainted d.stt_model before e) &&
 may_issue_as Div d now before e = not (any_tainted d.stt_model before e) && is_free now
 may_issue_as _ d now before e = true
 
--- an entry in one piece: waiting and ready; a load with an untainted base, and behind stores that let it go; a division
--- with untainted operands, and a divider that is free
+-- an entry that is no store: waiting and ready; a load with an untainted base, and behind stores that let it go; a
+-- division with untainted operands, and a divider that is free
 abbrev pub may_issue : Desc → Around → List Entry → Entry → Bool
 may_issue d now before e = is_waiting e.state && ready d before e && may_issue_as e.item.kind d now before e
 
