@@ -14,7 +14,9 @@ use Rattle.window_model.specs.declared.Event.{Event}
 use Rattle.window_model.specs.declared.Event.TheVariants as event
 use Rattle.window_model.specs.Access.{Line, Request, line_at, look_at, look_events, look_up, source_of}
 use Rattle.window_model.specs.Around.{Around, around}
-use Rattle.window_model.specs.Issue.{AddressPort, Begun, DataPort, access_of, begin_as, effect_of, if_granted, is_granted, issue, issue_entry, issue_parts, issue_whole, load_as, port_of, time_of, value_loaded, waits, with_address, with_data}
+use Rattle.window_model.specs.MayIssue.{effect_of}
+use Rattle.window_model.specs.Ports.{AddressPort, DataPort, is_granted, port_of}
+use Rattle.window_model.specs.Issue.{Begun, access_of, begin_as, if_granted, issue, issue_entry, issue_whole, load_as, time_of, value_loaded, waits, with_address, with_data}
 use Rattle.window_model.specs.Order.{each_from, is_store}
 use Rattle.window_model.specs.Row.{Row}
 use Rattle.window_model.specs.inner.Row.{with_events}
@@ -22,7 +24,7 @@ use Rattle.window_model.specs.Serials.{Rise}
 use Rattle.window_model.specs.State.{Machine, lines_of}
 use Rattle.window_model.proofs.Issuing.{One, OneOrTwo, Two, by_load, issue_goes, lines_are, looked}
 use Rattle.window_model.proofs.Serials.{rise_head, rise_tail}
-use Rattle.window_model.proofs.Together.{granted_together}
+use Rattle.window_model.proofs.Together.{entry_parts, granted_together, issue_parts}
 use Rattle.machine_facts.proofs.Ports.{issue_adds}
 use Rattle.core_parts.specs.Described.{Described}
 use Rattle.entry_marks.specs.Told.{TellsOf, Told, has_issued, serial_of}
@@ -123,7 +125,7 @@ module _ (d : Desc) (now : Around) (before : List Entry) (e : Entry) (fresh : No
   parts_tell false false v f p = still
 
   entry_tells : Tells (issue_entry d now before e)
-  entry_tells = by_kind (is_store e.item.kind)
+  entry_tells = subst Tells (sym (entry_parts d now before e)) (by_kind (is_store e.item.kind))
     where
       by_kind : (s : Bool) → Tells (if s then issue_parts d now before e else issue_whole d now before e)
       by_kind true = parts_tell (is_granted d now AddressPort before e) (is_granted d now DataPort before e) d.version (effect_of now.regs before e) (λ first. granted_together d now first before e)

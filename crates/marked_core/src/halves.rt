@@ -4,14 +4,7 @@ ghost use Rattle.std.specs.List.{AllByRecursion as Each};
 ghost use Rattle.elf_loader.specs.inner.Code.{word_at};
 ghost use Rattle.machine_facts.specs.Timely.{WaitsOrDone};
 ghost use Rattle.visibility.specs.Point.{HasAdvanced};
-ghost use Rattle.window_model.specs.Row.{
-  HasRoom,
-  IsLonger,
-  most_after_retire,
-  most_before_retire,
-  most_fetched,
-  with_events,
-};
+ghost use Rattle.window_model.specs.inner.Row.{HasRoom, IsLonger, most_after_retire, most_before_retire, most_fetched, with_events};
 ghost use Rattle.core_cycle.specs.Phases.{phases_after, phases_before};
 ghost use Rattle.entry_marks.specs.Walk.{marks_of};
 ghost use Rattle.marked_core.specs.InStep.{AsNoted, InStep, NotYet};

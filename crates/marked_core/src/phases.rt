@@ -11,17 +11,7 @@ ghost use Rattle.window_model.specs.Rename.{rename};
 ghost use Rattle.window_model.specs.Resolve.{resolve};
 ghost use Rattle.window_model.specs.Retire.{retire};
 ghost use Rattle.window_model.specs.Serials.{Rise};
-ghost use Rattle.window_model.specs.Row.{
-  HasRoom,
-  IsLonger,
-  most_cleared,
-  most_entries,
-  most_fetched,
-  most_issued,
-  most_resolved,
-  most_retired,
-  with_events,
-};
+ghost use Rattle.window_model.specs.inner.Row.{HasRoom, IsLonger, most_cleared, most_entries, most_fetched, most_issued, most_resolved, most_retired, with_events};
 ghost use Rattle.secret_marks.specs.Marks.{after_issue_marks, after_retire_marks, cut, extended};
 ghost use Rattle.secret_marks.specs.Shown.{head_shown, operands_shown, resolved_shown};
 ghost use Rattle.entry_marks.specs.Told.{Told};
