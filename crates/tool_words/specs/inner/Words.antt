@@ -10,7 +10,7 @@ use Rattle.tool_words.specs.declared.Command.{Command}
 use Rattle.tool_words.specs.declared.Refused.{Refused}
 use Rattle.tool_words.specs.declared.Refused.TheVariants.{Words}
 use Rattle.tool_words.specs.declared.Command.TheVariants.{Isa, Run, Trace, Bench, Pair}
-use Rattle.tool_words.specs.Words.{CommandText}
+use Rattle.tool_words.specs.Words.{CommandText, isa_text, run_text, trace_text, bench_text, pair_text}
 
 -- a parser that was made, where there was memory for it: what clap's definition takes by it, and that its commands
 -- share no argument
@@ -27,6 +27,7 @@ abbrev pub FindsBy : App → List Text → Result ArgMatches Refused → Type 0
 FindsBy app ws result =
     is_simple_and_free app ≡ true → MatchResult result (λ m. (fault_of app ws ≡ []) × HasMatchesOf app ws m) (λ refused. refused ≡ Words → fault_of app ws ≢ [])
 
+-- a command as its text
 abbrev pub command_text : Command → CommandText
 command_text (Isa image steps description) = isa_text image.now steps (option_map (λ t. t.now) description)
 command_text (Run description image cycles) = run_text description.now image.now cycles
