@@ -16,7 +16,7 @@ use Rattle.run_inputs.specs.declared.reading.Unread.TheVariants.{Failed as ReadF
 use Rattle.run_inputs.specs.declared.refusal.Which.{Which}
 use Rattle.run_inputs.specs.declared.refusal.Refusal.{Refusal}
 use Rattle.run_inputs.specs.declared.refusal.Refusal.TheVariants.{Description, ReadImage, ImageTooLong, Image as NoImage, Memory}
-use Rattle.run_inputs.specs.Input.{image_max, MayBeLonger, HasDesc, NamedRefused, ImageFrom, HasBytes, IsImage, FailsToRead, HasTooMany, HasFault}
+use Rattle.run_inputs.specs.Input.{image_max, MayBeLonger, HasDesc, NamedRefused, ImageFrom, HasBytes, IsImage, FailsToRead, HasTooMany, HasFault, from_file, from_seed}
 
 -- why a file of at most so many bytes isn't read; `old` and `new` are what the files tell before and after
 abbrev pub UnreadBy : List ℕ → ℕ → Shelf → Shelf → Unread → Type 0

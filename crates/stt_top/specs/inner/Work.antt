@@ -8,7 +8,7 @@ use Rattle.run_inputs.specs.declared.refusal.Refusal.{Refusal}
 use Rattle.run_inputs.specs.declared.refusal.Refusal.TheVariants.{Write, Memory}
 use Rattle.stt_top.specs.declared.task.Task.{Task}
 use Rattle.stt_top.specs.declared.task.Task.TheVariants.{Isa, Report, Trace, Pair}
-use Rattle.stt_top.specs.Work.{TaskText, Work, ComesTo}
+use Rattle.stt_top.specs.Work.{TaskText, Work, ComesTo, isa_task, report_task, trace_task, pair_task}
 
 -- the task that the code holds
 abbrev pub task_text : Task → TaskText
