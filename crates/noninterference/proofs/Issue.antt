@@ -144,7 +144,7 @@ module _ (cycle : ℕ) (d : Desc) (code : Code) (x x2 : Machine) (r : Alike x x2
   entry_alike b b2 e e2 s h item =
       ap begun_without (entry_parts d now b e)
       ∙ by_parts (is_store e.item.kind) (is_store e2.item.kind) (issue_parts d now b e) (issue_parts d now2 b2 e2) (issue_whole d now b e) (issue_whole d now2 b2 e2)
-          (ap is_store (same_kind e e2 h)) (parts_alike b b2 e e2 s h) (λ n. whole_alike b b2 e e2 n s h item)
+      (ap is_store (same_kind e e2 h)) (parts_alike b b2 e e2 s h) (λ n. whole_alike b b2 e e2 n s h item)
       ∙ sym (ap begun_without (entry_parts d now2 b2 e2))
 
   each_alike : (es es2 b b2 : List Entry) → map without_outcome es ≡ map without_outcome es2 → SameOutcomes d.stt_model (reverse_aux es b) (reverse_aux es2 b2) → Along (Stands d code (bank_in (hart_of x)) cycle) b es →
