@@ -4,6 +4,7 @@ pub mod Advanced
 pub mod Leaving
 pub mod Moving
 pub mod Retiring
+pub mod Opening
 pub mod Passing
 pub mod Cycling
 pub mod Fronts

@@ -1,7 +1,8 @@
-use Rattle.std.proofs.Common.{true, rules, ap, length, sym, subst, ◌∙◌}
+use Rattle.std.proofs.Common.{true, ap, length, sym, subst, ◌∙◌}
 use Rattle.elf_loader.specs.inner.Code.{word_at}
 use Rattle.core_parts.specs.Described.{Described, opened}
 use Rattle.core_cycle.specs.Kept.{Kept}
+use Rattle.core_cycle.proofs.Opening.{opening_kept}
 use Rattle.secret_marks.specs.Marks.{Marks}
 use Rattle.secret_marks.specs.Ranges.{secret_in}
 use Rattle.marked_core.specs.InStep.{Between}
@@ -12,7 +13,8 @@ use Rattle.marked_core.proofs.marked.MarkedCore.new.Goals as goal
 -- the core that is made has what is to hold between two cycles
 pub invariant_of-result : goal.invariant_of-result
 invariant_of-result g c =
-    let begun : Kept (word_at c.args.image.code) (opened c.args.desc.now c.args.image.code c.args.image.entry c.args.image.ram) = search rules in
+    let begun : Kept (word_at c.args.image.code) (opened c.args.desc.now c.args.image.code c.args.image.entry c.args.image.ram) =
+    opening_kept c.args.desc.now c.args.image.code c.args.image.entry c.args.image.ram in
     let opens : Between (opened c.args.desc.now c.args.image.code c.args.image.entry c.args.image.ram) c.in_ok-marks.marks true =
     record {
       kept = begun;
