@@ -9,7 +9,14 @@ use std::test::Fail;
 
 const ONE_BLOCK: Case<'static> = Case {
     words: &[
-        "bench", "d.toml", "--seed", "1", "--blocks", "1", "--cycles", "1000",
+        "bench",
+        "d.toml",
+        "--seed",
+        "1",
+        "--blocks",
+        "1",
+        "--cycles",
+        "4294967295",
     ],
     out: "\
 x0 00000000\nx1 00000000\nx2 0001fff0\nx3 00000000\nx4 00000000\nx5 00000000\nx6 00000000\nx7 00000000\n\

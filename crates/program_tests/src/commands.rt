@@ -58,7 +58,7 @@ end exit 0 retired 9\n\
 ",
     ),
     (
-        &["isa", "p.elf", "--steps", "100"],
+        &["isa", "p.elf", "--steps", "4294967295"],
         &test_programs::OVERWRITES,
         0,
         "\
@@ -85,7 +85,7 @@ end trap 2 00010000 retired 0\n\
 ",
     ),
     (
-        &["run", "d.toml", "p.elf", "--cycles", "100"],
+        &["run", "d.toml", "p.elf", "--cycles", "4294967295"],
         &test_programs::OVERWRITES,
         0,
         "\

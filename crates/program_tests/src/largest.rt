@@ -1,5 +1,6 @@
-//! Each command that makes a core, under the largest sizes that there may be, with accesses at any address: a core, a
-//! pair of them, and a core with marks beside it. What is wanted is what the model of `tools/evaluate` writes.
+//! Each command that makes a core, under the largest sizes that there may be, with accesses at any address and the
+//! largest budget: a core, a pair of them, and a core with marks beside it. What is wanted is what the model of
+//! `tools/evaluate` writes.
 use crate::cases::expect;
 use crate::images::{FETCHED, file_of};
 use crate::running::{NOTHING, Reads, judge, run};
@@ -11,11 +12,11 @@ const LARGEST: &str =
 // Words, and what is written.
 const ROWS: [(&[&str], &str); 2] = [
     (
-        &["trace", "d.toml", "q.elf", "--cycles", "9"],
+        &["trace", "d.toml", "q.elf", "--cycles", "4294967295"],
         "1 fet:00010000 fet:00010004 fet:00010008\n2 ren:0:00010000\n3 alu:0\n4 done:0 ret:0 ren:1:00010004\n5 ret:1 call:1:0\nend exit 0 retired 2 cycles 5\n",
     ),
     (
-        &["pair", "d.toml", "p.elf", "p.elf", "--cycles", "999"],
+        &["pair", "d.toml", "p.elf", "p.elf", "--cycles", "4294967295"],
         "premise yes\nequal\nretired 5 cycles 216\n",
     ),
 ];
@@ -40,7 +41,7 @@ fn the_largest_cores_are_made(rt: HostRuntime) -> Result<(), Fail> {
         "--secret",
         "0x100fff8:1",
         "--cycles",
-        "999",
+        "4294967295",
     ];
     let left = judge(alloc, &words, reads, NOTHING)?;
     expect(
