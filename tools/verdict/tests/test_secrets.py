@@ -245,8 +245,15 @@ class Table(unittest.TestCase):
         told = command("draw", self.folder, "--draws", "3", "--program", self.stand_in("pairs", PAIRS))
         self.assertEqual((told.returncode, told.stderr), (0, ""))
         off, spectre = told.stdout.splitlines()
-        self.assertRegex(off, r"^bounds_check examples off: exposed; unequal in cycle 15, with the secret [0-9a-f]{2}, value 1 of those tried$")
+        self.assertRegex(off, r"^bounds_check examples off: exposed; unequal in cycle 15, with the secrets [0-9a-f]{2} and [0-9a-f]{2}, pair 1 of those tried$")
         self.assertEqual(spectre, "bounds_check examples spectre: certified; none of 3 values unequal")
+        asked = os.path.join(self.folder, "asked")
+        logged = PAIRS.replace("\n", f'\nod -An -tx1 $3 $4 | md5sum >> {asked}\n', 1)
+        for draws, pairs in [(1, 1), (2, 2), (3, 2), (4, 3)]:
+            command("draw", self.folder, "--draws", str(draws), "--only", " spectre", "--program", self.stand_in("logged", logged))
+            with open(asked, encoding="ascii") as file:
+                self.assertEqual(len(set(file)), pairs, "two values at a time, each once and the image's own to begin with and where one is left")
+            os.remove(asked)
         told = command("draw", self.folder, "--draws", "3", "--program", self.stand_in("pairs", PAIRS.replace("MODEL", "spectre")))
         self.assertEqual(told.returncode, 5)
         self.assertIn("traces that are proved equal aren't", told.stderr)
