@@ -1,6 +1,6 @@
 //! What shows of a marked value as a branch or JALR is resolved, and as a call retires (`docs/theorems.md`, "Secrets
 //! that are loaded").
-ghost use Rattle.std.specs.Prelude.{◌≡◌, ◌<◌, ◌&&◌, length, get_or};
+ghost use Rattle.std.specs.Prelude.{◌≡◌, ◌<◌, ◌&&◌, Some, length, get_or, slice_get};
 ghost use Rattle.window_model.specs.State.{Machine};
 ghost use Rattle.secret_marks.specs.Marks.{Marks};
 ghost use Rattle.secret_marks.specs.Shows.{call_shows, outcome_marked};
@@ -26,11 +26,18 @@ pub fn shown_by(entry: &Entry) -> Shown
     }
 }
 
-// Whether an entry is resolved, and its value, or where it goes, is marked.
-fn is_exposed(entry: &Entry, mark: &EntryMarks) -> bool
-    ensures { result ≡ (entry.now.resolved && outcome_marked mark.now) }
+// Whether the entry at a position is resolved, and its value, or where it goes, is marked. Marks are looked at of a
+// resolved entry alone.
+fn is_exposed(entry: &Entry, marks: &HeapCircularBuffer<EntryMarks>, i: u32) -> bool
+    requires { i < length marks.now.items }
+    ensures { (mark : EntryMarks) → slice_get marks.now.items i ≡ Some mark
+        → result ≡ (entry.now.resolved && outcome_marked mark) }
 {
-    entry.resolved && (mark.goes || any_byte(mark.result))
+    if !entry.resolved {
+        return false;
+    }
+    let mark = marks_at(marks, i);
+    mark.goes || any_byte(mark.result)
 }
 
 /// The oldest branch or JALR that is resolved with a marked outcome.
@@ -40,7 +47,7 @@ pub fn resolved_shown(rob: &RobRing, marks: &HeapCircularBuffer<EntryMarks>) -> 
 {
     for i in 0..rob.len() {
         let entry = rob.lend(i);
-        if is_exposed(entry, marks_at(marks, i)) {
+        if is_exposed(entry, marks, i) {
             return Some(shown_by(entry));
         }
     }

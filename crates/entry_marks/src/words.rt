@@ -40,7 +40,7 @@ pub(crate) fn lowest_byte(mark: bool) -> WordMarks
 pub fn any_byte(w: WordMarks) -> bool
     ensures { result ≡ any_byte w }
 {
-    w.byte0 || w.byte1 || w.byte2 || w.byte3
+    w.byte0 | w.byte1 | w.byte2 | w.byte3
 }
 
 /// The marks of a word of which a byte is marked where it is in either of two.
@@ -48,10 +48,10 @@ pub(crate) fn either(w: WordMarks, u: WordMarks) -> WordMarks
     ensures { result ≡ either w u }
 {
     WordMarks {
-        byte0: w.byte0 || u.byte0,
-        byte1: w.byte1 || u.byte1,
-        byte2: w.byte2 || u.byte2,
-        byte3: w.byte3 || u.byte3,
+        byte0: w.byte0 | u.byte0,
+        byte1: w.byte1 | u.byte1,
+        byte2: w.byte2 | u.byte2,
+        byte3: w.byte3 | u.byte3,
     }
 }
 
@@ -61,9 +61,9 @@ pub(crate) fn upward(w: WordMarks) -> WordMarks
 {
     WordMarks {
         byte0: w.byte0,
-        byte1: w.byte0 || w.byte1,
-        byte2: w.byte0 || w.byte1 || w.byte2,
-        byte3: w.byte0 || w.byte1 || w.byte2 || w.byte3,
+        byte1: w.byte0 | w.byte1,
+        byte2: w.byte0 | w.byte1 | w.byte2,
+        byte3: w.byte0 | w.byte1 | w.byte2 | w.byte3,
     }
 }
 
@@ -72,9 +72,9 @@ pub(crate) fn downward(w: WordMarks) -> WordMarks
     ensures { result ≡ downward w }
 {
     WordMarks {
-        byte0: w.byte3 || w.byte2 || w.byte1 || w.byte0,
-        byte1: w.byte3 || w.byte2 || w.byte1,
-        byte2: w.byte3 || w.byte2,
+        byte0: w.byte3 | w.byte2 | w.byte1 | w.byte0,
+        byte1: w.byte3 | w.byte2 | w.byte1,
+        byte2: w.byte3 | w.byte2,
         byte3: w.byte3,
     }
 }
