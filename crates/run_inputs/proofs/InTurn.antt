@@ -3,13 +3,14 @@ use Rattle.std.proofs.Common.{◌≡◌, ◌≤◌, ℕ, List, [], ◌∷◌, ta
 use Rattle.std.specs.Prelude.{slice_get}
 use Rattle.elf_loader.specs.Image.{ImageText}
 use Rattle.machine_desc.specs.declared.Desc.{Desc}
+use Rattle.tool_io.specs.declared.Got.{Got}
 use Rattle.tool_io.specs.declared.Got.TheVariants.{Bytes, TooLong}
 use Rattle.tool_io.specs.Outside.{Shelf, GetsTold, SameCounts, SameContents, NameFailed, Rose}
 use Rattle.run_inputs.specs.declared.refusal.Which.{Which}
 use Rattle.run_inputs.specs.declared.refusal.Refusal.{Refusal}
 use Rattle.run_inputs.specs.declared.refusal.Refusal.TheVariants.{ReadImage, ImageTooLong, Image, Memory}
 use Rattle.run_inputs.specs.Refused.{place_of}
-use Rattle.run_inputs.specs.Input.{image_max, ImageFrom, from_file, from_seed, HasBytes, HasDesc, IsImage, FailsToRead, HasTooMany, AreImages, IsRead, Refuses}
+use Rattle.run_inputs.specs.Input.{image_max, ImageFrom, from_file, from_seed, MayGive, HasBytes, HasDesc, IsImage, FailsToRead, HasTooMany, AreImages, IsRead, Refuses}
 use Rattle.run_inputs.specs.inner.Input.{ImageRefused}
 
 -- ---- What the files tell before and after
@@ -28,29 +29,33 @@ failed_after name old mid new s f =
       later = λ n. let a : mid.faults n ≡ old.faults n = s n in let b : mid.faults n ≤ new.faults n = f.later n in omega (arith, a, b);
     }
 
--- what the files tell of an image later they told before
-bytes_before : (old mid : Shelf) (from : ImageFrom) (file : List ℕ) → SameContents old mid → HasBytes mid from file → HasBytes old from file
-bytes_before old mid (from_file name) file s h = let P : Option (List ℕ) → Type 0 = λ o. GetsTold o image_max (Bytes file) in subst P (s name) h
+-- what the files may give later they may give before
+may_before : (old mid : Shelf) (name : List ℕ) (max : ℕ) (got : Got) → SameContents old mid → MayGive mid name max got → MayGive old name max got
+may_before old mid name max got s h = let P : Option (List ℕ) → Type 0 = λ o. GetsTold o max got in subst P (s name) h
+
+bytes_before : (old mid : Shelf) (from : ImageFrom) (file : List ℕ) → SameContents old mid → HasBytes (MayGive mid) from file → HasBytes (MayGive old) from file
+bytes_before old mid (from_file name) file s h = may_before old mid name image_max (Bytes file) s h
 bytes_before old mid (from_seed seed blocks) file s h = h
 
-too_many_before : (old mid : Shelf) (from : ImageFrom) → SameContents old mid → HasTooMany mid from → HasTooMany old from
-too_many_before old mid (from_file name) s h = let P : Option (List ℕ) → Type 0 = λ o. GetsTold o image_max TooLong in subst P (s name) h
+too_many_before : (old mid : Shelf) (from : ImageFrom) → SameContents old mid → HasTooMany (MayGive mid) from → HasTooMany (MayGive old) from
+too_many_before old mid (from_file name) s h = may_before old mid name image_max TooLong s h
 too_many_before old mid (from_seed seed blocks) s h = h
 
 fails_before : (old mid new : Shelf) (from : ImageFrom) → SameCounts old mid → FailsToRead mid new from → FailsToRead old new from
 fails_before old mid new (from_file name) s h = failed_after name old mid new s h
 fails_before old mid new (from_seed seed blocks) s h = h
 
-pub image_before : (old mid : Shelf) (desc : Option Desc) (from : ImageFrom) (image : ImageText) → SameContents old mid → IsImage mid desc from image → IsImage old desc from image
+pub image_before : (old mid : Shelf) (desc : Option Desc) (from : ImageFrom) (image : ImageText) → SameContents old mid → IsImage (MayGive mid) desc from image
+    → IsImage (MayGive old) desc from image
 image_before old mid desc from image s i = record { file = i.file; content = bytes_before old mid from i.file s i.content; loads = i.loads }
 
 -- ---- Refusals in their turn
 
 -- what was read before an image: the description, and the images before it
 pub record ReadBefore (old mid : Shelf) (name : Option (List ℕ)) (sources : List ImageFrom) (place : ℕ) (desc : Option Desc) : Type 0 where
-  pub described : HasDesc old name desc
+  pub described : HasDesc (MayGive old) name desc
   pub earlier : List ImageText
-  pub are_images : AreImages old desc (take place sources) earlier
+  pub are_images : AreImages (MayGive old) desc (take place sources) earlier
   pub counts : SameCounts old mid
   pub contents : SameContents old mid
 
@@ -87,13 +92,13 @@ image_refused old mid new name sources which desc from _ r t h = absurd h
 -- ---- What was read before
 
 -- a description was read, and then one image
-pub one_read : (old mid new : Shelf) (name : Option (List ℕ)) (desc : Option Desc) (from : ImageFrom) (image : ImageText) → HasDesc old name desc → SameCounts old mid → SameContents old mid
-    → IsImage mid desc from image → SameCounts mid new → IsRead old new name (from ∷ []) desc (image ∷ [])
+pub one_read : (old mid new : Shelf) (name : Option (List ℕ)) (desc : Option Desc) (from : ImageFrom) (image : ImageText) → HasDesc (MayGive old) name desc → SameCounts old mid
+    → SameContents old mid → IsImage (MayGive mid) desc from image → SameCounts mid new → IsRead old new name (from ∷ []) desc (image ∷ [])
 one_read old mid new name desc from image d s c i t =
     record { described = d; are_images = (image_before old mid desc from image c i, tt); counts = counts_after old mid new s t }
 
 -- a description was read, then one image and then a second
 pub two_read : (old mid new : Shelf) (name : Option (List ℕ)) (desc : Option Desc) (from from2 : ImageFrom) (one two : ImageText) → IsRead old mid name (from ∷ []) desc (one ∷ [])
-    → SameContents old mid → IsImage mid desc from2 two → SameCounts mid new → IsRead old new name (from ∷ from2 ∷ []) desc (one ∷ two ∷ [])
+    → SameContents old mid → IsImage (MayGive mid) desc from2 two → SameCounts mid new → IsRead old new name (from ∷ from2 ∷ []) desc (one ∷ two ∷ [])
 two_read old mid new name desc from from2 one two r c i t =
     record { described = r.described; are_images = (r.are_images.0, (image_before old mid desc from2 two c i, tt)); counts = counts_after old mid new r.counts t }

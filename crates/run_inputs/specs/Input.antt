@@ -6,8 +6,10 @@ use Rattle.elf_loader.specs.declared.faults.ElfFault.{ElfFault}
 use Rattle.gen_image.specs.Generated.{generated_image}
 use Rattle.machine_desc.specs.Description.{description_of, Describes}
 use Rattle.machine_desc.specs.declared.Desc.{Desc}
+use Rattle.machine_desc.specs.declared.fault.DescFault.{DescFault}
+use Rattle.tool_io.specs.declared.Got.{Got}
 use Rattle.tool_io.specs.declared.Got.TheVariants.{Bytes, TooLong}
-use Rattle.tool_io.specs.Outside.{Shelf, GetsTold, HasToCopy, SameCounts, NameFailed}
+use Rattle.tool_io.specs.Outside.{Shelf, IsGotOf, GetsTold, HasToCopy, SameCounts, NameFailed}
 use Rattle.run_inputs.specs.Refused.{place_of}
 use Rattle.run_inputs.specs.declared.refusal.Refusal.{Refusal}
 use Rattle.run_inputs.specs.declared.refusal.Refusal.TheVariants.{ReadDescription, DescriptionTooLong, Description, ReadImage, ImageTooLong, Image as NoImage, Memory}
@@ -19,32 +21,45 @@ description_max = 65536
 abbrev pub image_max : ℕ
 image_max = 33554432
 
--- the file of this name may hold these bytes, at most so many: all that is told of it agrees with them
-abbrev pub MayHold : Shelf → List ℕ → ℕ → List ℕ → Type 0
-MayHold shelf name max bytes = GetsTold (shelf.content name) max (Bytes bytes)
+-- ---- What is known of the files
 
--- there may be more bytes under a name
-abbrev pub MayBeLonger : Shelf → List ℕ → ℕ → Type 0
-MayBeLonger shelf name max = GetsTold (shelf.content name) max TooLong
+-- what is got of the file of a name, of which there are to be at most so many bytes: those, or that there are more
+abbrev pub Known : Type 1
+Known = List ℕ → ℕ → Got → Type 0
+
+-- a shelf may give this: all that it tells of the file agrees with it
+abbrev pub MayGive : Shelf → Known
+MayGive shelf name max got = GetsTold (shelf.content name) max got
+
+-- a shelf gives this: it tells what the file holds
+abbrev pub Gives : Shelf → Known
+Gives shelf name max got = (content : List ℕ) × (shelf.content name ≡ Some content) × IsGotOf content max got
 
 -- ---- The description of a run
 
--- a run has this description: none, or that which the file named may hold
-abbrev pub HasDesc : Shelf → Option (List ℕ) → Option Desc → Type 0
-HasDesc shelf None desc = desc ≡ None
-HasDesc shelf (Some name) desc = (text : List ℕ) × (d : Desc) × MayHold shelf name description_max text × Describes text d × (desc ≡ Some d)
+-- a run has this description: none, or that which the file named holds, by what is known
+abbrev pub HasDesc : Known → Option (List ℕ) → Option Desc → Type 0
+HasDesc known None desc = desc ≡ None
+HasDesc known (Some name) desc = (text : List ℕ) × (d : Desc) × known name description_max (Bytes text) × Describes text d × (desc ≡ Some d)
+
+-- the description of this name has this fault
+abbrev pub HasDescFault : Known → List ℕ → DescFault → Type 0
+HasDescFault known name fault = (text : List ℕ) × known name description_max (Bytes text) × (description_of text ≡ Err fault)
+
+-- a description is too long, or has a fault
+abbrev pub IsFaultyDescription : Known → List ℕ → Type 0
+IsFaultyDescription known name = known name description_max TooLong ⊎ ((fault : DescFault) × HasDescFault known name fault)
 
 -- a description may need memory: to be copied, or to be read
 abbrev pub DescriptionWants : Shelf → List ℕ → Type 0
 DescriptionWants shelf name =
-    HasToCopy (shelf.content name) description_max ⊎ ((text : List ℕ) × MayHold shelf name description_max text × IsUtf8 text)
+    HasToCopy (shelf.content name) description_max ⊎ ((text : List ℕ) × MayGive shelf name description_max (Bytes text) × IsUtf8 text)
 
 -- why a description is refused
 abbrev pub DescriptionRefused : List ℕ → Shelf → Shelf → Refusal → Type 0
 DescriptionRefused name old new ReadDescription = NameFailed name old new
-DescriptionRefused name old new DescriptionTooLong = MayBeLonger old name description_max × SameCounts old new
-DescriptionRefused name old new (Description fault) =
-    (text : List ℕ) × MayHold old name description_max text × (description_of text ≡ Err fault) × SameCounts old new
+DescriptionRefused name old new DescriptionTooLong = MayGive old name description_max TooLong × SameCounts old new
+DescriptionRefused name old new (Description fault) = HasDescFault (MayGive old) name fault × SameCounts old new
 DescriptionRefused name old new Memory = DescriptionWants old name × SameCounts old new
 DescriptionRefused name old new _ = ⊥
 
@@ -60,10 +75,10 @@ pub data ImageFrom : Type 0 where
   from_file : List ℕ → ImageFrom
   from_seed : ℕ → ℕ → ImageFrom
 
--- the bytes of an image: such as the file may hold, or those that are generated
-abbrev pub HasBytes : Shelf → ImageFrom → List ℕ → Type 0
-HasBytes shelf (from_file name) file = MayHold shelf name image_max file
-HasBytes shelf (from_seed seed blocks) file = file ≡ generated_image seed blocks
+-- the bytes of an image: those that the file holds, by what is known, or those that are generated
+abbrev pub HasBytes : Known → ImageFrom → List ℕ → Type 0
+HasBytes known (from_file name) file = known name image_max (Bytes file)
+HasBytes known (from_seed seed blocks) file = file ≡ generated_image seed blocks
 
 -- where the memory of a run begins, and its size: those of its description, or without one 1 MiB from 0x00010000 on
 -- (docs/formats.md, "Words")
@@ -81,9 +96,9 @@ misaligned_of None = false
 misaligned_of (Some d) = d.ram_misaligned == 1
 
 -- the image that is got from a source is this one
-pub record IsImage (shelf : Shelf) (desc : Option Desc) (from : ImageFrom) (image : ImageText) : Type 0 where
+pub record IsImage (known : Known) (desc : Option Desc) (from : ImageFrom) (image : ImageText) : Type 0 where
   pub file : List ℕ
-  pub content : HasBytes shelf from file
+  pub content : HasBytes known from file
   pub loads : image_of file (base_of desc) (size_of desc) (misaligned_of desc) ≡ Ok image
 
 -- the image's file can't be read
@@ -91,38 +106,42 @@ abbrev pub FailsToRead : Shelf → Shelf → ImageFrom → Type 0
 FailsToRead old new (from_file name) = NameFailed name old new
 FailsToRead old new (from_seed seed blocks) = ⊥
 
--- the image's file may have too many bytes
-abbrev pub HasTooMany : Shelf → ImageFrom → Type 0
-HasTooMany shelf (from_file name) = MayBeLonger shelf name image_max
-HasTooMany shelf (from_seed seed blocks) = ⊥
+-- the image's file has too many bytes; a generated image never has
+abbrev pub HasTooMany : Known → ImageFrom → Type 0
+HasTooMany known (from_file name) = known name image_max TooLong
+HasTooMany known (from_seed seed blocks) = ⊥
 
 -- the image's bytes have this fault, in the memory of this description
-pub record HasFault (shelf : Shelf) (desc : Option Desc) (from : ImageFrom) (fault : ElfFault) : Type 0 where
+pub record HasFault (known : Known) (desc : Option Desc) (from : ImageFrom) (fault : ElfFault) : Type 0 where
   pub file : List ℕ
-  pub content : HasBytes shelf from file
+  pub content : HasBytes known from file
   pub refused : image_of file (base_of desc) (size_of desc) (misaligned_of desc) ≡ Err fault
+
+-- an image is too long, or has a fault
+abbrev pub IsFaultyImage : Known → Option Desc → ImageFrom → Type 0
+IsFaultyImage known desc from = HasTooMany known from ⊎ ((fault : ElfFault) × HasFault known desc from fault)
 
 -- ---- One after the other
 
 -- at each of these places there is an image
-abbrev pub AreImages : Shelf → Option Desc → List ImageFrom → List ImageText → Type 0
-AreImages shelf desc [] [] = Unit {0}
-AreImages shelf desc (from ∷ rest) (image ∷ images) = IsImage shelf desc from image × AreImages shelf desc rest images
-AreImages shelf desc [] (image ∷ images) = ⊥
-AreImages shelf desc (from ∷ rest) [] = ⊥
+abbrev pub AreImages : Known → Option Desc → List ImageFrom → List ImageText → Type 0
+AreImages known desc [] [] = Unit {0}
+AreImages known desc (from ∷ rest) (image ∷ images) = IsImage known desc from image × AreImages known desc rest images
+AreImages known desc [] (image ∷ images) = ⊥
+AreImages known desc (from ∷ rest) [] = ⊥
 
 -- a description and images were read, and no count of the files rose
 pub record IsRead (old new : Shelf) (name : Option (List ℕ)) (sources : List ImageFrom) (desc : Option Desc) (images : List ImageText) : Type 0 where
-  pub described : HasDesc old name desc
-  pub are_images : AreImages old desc sources images
+  pub described : HasDesc (MayGive old) name desc
+  pub are_images : AreImages (MayGive old) desc sources images
   pub counts : SameCounts old new
 
 -- the image at a place is refused for this cause; the description and the images before it aren't
 pub record RefusedAt (old : Shelf) (name : Option (List ℕ)) (sources : List ImageFrom) (place : ℕ) (Cause : Option Desc → ImageFrom → Type 0) : Type 0 where
   pub desc : Option Desc
-  pub described : HasDesc old name desc
+  pub described : HasDesc (MayGive old) name desc
   pub earlier : List ImageText
-  pub are_images : AreImages old desc (take place sources) earlier
+  pub are_images : AreImages (MayGive old) desc (take place sources) earlier
   pub from : ImageFrom
   pub there : slice_get sources place ≡ Some from
   pub cause : Cause desc from
@@ -130,7 +149,7 @@ pub record RefusedAt (old : Shelf) (name : Option (List ℕ)) (sources : List Im
 -- why reading is refused: for the description before any image, and for an image before any behind it
 abbrev pub Refuses : Option (List ℕ) → List ImageFrom → Shelf → Shelf → Refusal → Type 0
 Refuses name sources old new (ReadImage which) = RefusedAt old name sources (place_of which) (λ desc from. FailsToRead old new from)
-Refuses name sources old new (ImageTooLong which) = RefusedAt old name sources (place_of which) (λ desc from. HasTooMany old from) × SameCounts old new
-Refuses name sources old new (NoImage which fault) = RefusedAt old name sources (place_of which) (λ desc from. HasFault old desc from fault) × SameCounts old new
+Refuses name sources old new (ImageTooLong which) = RefusedAt old name sources (place_of which) (λ desc from. HasTooMany (MayGive old) from) × SameCounts old new
+Refuses name sources old new (NoImage which fault) = RefusedAt old name sources (place_of which) (λ desc from. HasFault (MayGive old) desc from fault) × SameCounts old new
 Refuses name sources old new Memory = SameCounts old new
 Refuses name sources old new refusal = NamedRefused name old new refusal

@@ -3,7 +3,7 @@ ghost use Rattle.std.specs.Prelude.{◌≡◌, Option, Some, Result, MatchResult
 ghost use Rattle.std.specs.Option.{option_map};
 ghost use Rattle.machine_desc.specs.Description.{Describes};
 ghost use Rattle.tool_io.specs.Outside.{SameContents, SameCounts};
-ghost use Rattle.run_inputs.specs.Input.{HasDesc, DescriptionRefused};
+ghost use Rattle.run_inputs.specs.Input.{MayGive, HasDesc, DescriptionRefused};
 ghost use Rattle.run_inputs.specs.inner.Input.{TextRefused, ReadsDesc};
 
 use crate::reading::{DESCRIPTION_MAX, Unread, read_file};
@@ -26,7 +26,8 @@ fn desc_in(alloc: Global, text: &[u8]) -> Result<Desc, Refusal>
 /// The description of this name.
 pub fn read_description<F: Files>(alloc: Global, name: &str, files: &mut F) -> Result<Desc, Refusal>
     ensures answer { MatchResult result
-        (λ d. HasDesc (F.shelf files.old) (Some name.now) (Some d) × SameCounts (F.shelf files.old) (F.shelf files.new))
+        (λ d. HasDesc (MayGive (F.shelf files.old)) (Some name.now) (Some d)
+        × SameCounts (F.shelf files.old) (F.shelf files.new))
         (λ e. DescriptionRefused name.now (F.shelf files.old) (F.shelf files.new) e) }
     ensures stays { SameContents (F.shelf files.old) (F.shelf files.new) }
 {

@@ -1,7 +1,8 @@
 //! Reading a file whole, up to a limit.
 ghost use Rattle.std.specs.Prelude.{◌≡◌, MatchResult};
+ghost use Rattle.tool_io.specs.declared.Got.TheVariants.{Bytes};
 ghost use Rattle.tool_io.specs.Outside.{SameContents, SameCounts};
-ghost use Rattle.run_inputs.specs.Input.{MayHold};
+ghost use Rattle.run_inputs.specs.Input.{MayGive};
 ghost use Rattle.run_inputs.specs.inner.Input.{UnreadBy};
 
 use std::alloc::Global;
@@ -36,7 +37,8 @@ pub fn read_file<F: Files>(
     files: &mut F,
 ) -> Result<Content, Unread>
     ensures answer { MatchResult result
-        (λ bytes. MayHold (F.shelf files.old) name.now max bytes × SameCounts (F.shelf files.old) (F.shelf files.new))
+        (λ bytes. MayGive (F.shelf files.old) name.now max (Bytes bytes)
+        × SameCounts (F.shelf files.old) (F.shelf files.new))
         (λ e. UnreadBy name.now max (F.shelf files.old) (F.shelf files.new) e) }
     ensures stays { SameContents (F.shelf files.old) (F.shelf files.new) }
 {

@@ -4,7 +4,6 @@ use Rattle.std.proofs.Common.{◌≡◌, ◌⊎◌, ℕ, zero, suc, List, [], �
 use Rattle.rv_types.specs.declared.End.{End}
 use Rattle.elf_loader.specs.Image.{ImageText}
 use Rattle.elf_loader.specs.declared.faults.ElfFault.{ElfFault}
-use Rattle.machine_desc.specs.Description.{description_of}
 use Rattle.machine_desc.specs.declared.Desc.{Desc}
 use Rattle.machine_desc.specs.declared.fault.DescFault.{DescFault}
 use Rattle.tool_io.specs.Outside.{Shelf, Told, Wrote, WrotePart, SameCounts, NameFailed, Rose}
@@ -12,8 +11,8 @@ use Rattle.run_inputs.specs.declared.refusal.Which.{Which}
 use Rattle.run_inputs.specs.declared.refusal.Refusal.{Refusal}
 use Rattle.run_inputs.specs.declared.refusal.Refusal.TheVariants.{Words, ReadDescription, DescriptionTooLong, Description, ReadImage, ImageTooLong, Image, Write, Memory}
 use Rattle.run_inputs.specs.Refused.{place_of}
-use Rattle.run_inputs.specs.Input.{description_max, ImageFrom, from_file, HasDesc, MayHold, MayBeLonger, RefusedAt, FailsToRead, HasTooMany, HasFault}
-use Rattle.run_inputs.specs.Told.{World, IsFaultyDescription, IsFaultyImage, TellsDesc, TellsImage, MayBeFaulty}
+use Rattle.run_inputs.specs.Input.{MayGive, Gives, HasDesc, IsFaultyDescription, ImageFrom, from_file, IsImage, HasTooMany, HasFault, IsFaultyImage, RefusedAt, FailsToRead}
+use Rattle.run_inputs.specs.Told.{World}
 use Rattle.run_inputs.proofs.Told.{told_desc, no_desc, not_longer, not_refused, none_faulty, same_images, no_fault, not_too_many}
 use Rattle.secret_words.specs.Words.{WantedText, wanted_of}
 use Rattle.secrets_top.specs.declared.ranges.FaultyRange.{FaultyRange}
@@ -55,7 +54,7 @@ other_status v n h q = h (subst IsTold q (told_status v))
 
 -- where there is one image, that one is refused
 refused_image : (old : Shelf) (name : Option (List ℕ)) (from : ImageFrom) (place : ℕ) (P : Option Desc → ImageFrom → Type 0) → RefusedAt old name (from ∷ []) place P
-    → (desc : Option Desc) × HasDesc old name desc × P desc from
+    → (desc : Option Desc) × HasDesc (MayGive old) name desc × P desc from
 refused_image old name from zero P r =
     let there : Some from ≡ Some r.from = r.there in
     let same : r.from ≡ from = cc in
@@ -65,19 +64,19 @@ refused_image old name from (suc n) P r = let none : None ≡ Some r.from = r.th
 module _ (words : List (List ℕ)) (old new : World) where
   -- the image that is wanted is refused, for each cause
   unread : (wanted : WantedText) (which : Which) → RefusedInputs wanted old.files new.files (ReadImage which)
-      → (desc : Option Desc) × HasDesc old.files (Some wanted.description) desc × NameFailed wanted.image old.files new.files
+      → (desc : Option Desc) × HasDesc (MayGive old.files) (Some wanted.description) desc × NameFailed wanted.image old.files new.files
   unread wanted which r =
       refused_image old.files (Some wanted.description) (from_file wanted.image) (place_of which) (λ desc from. FailsToRead old.files new.files from) r
 
   too_long : (wanted : WantedText) (which : Which) → RefusedInputs wanted old.files new.files (ImageTooLong which)
-      → (desc : Option Desc) × HasDesc old.files (Some wanted.description) desc × HasTooMany old.files (from_file wanted.image)
+      → (desc : Option Desc) × HasDesc (MayGive old.files) (Some wanted.description) desc × HasTooMany (MayGive old.files) (from_file wanted.image)
   too_long wanted which r =
-      refused_image old.files (Some wanted.description) (from_file wanted.image) (place_of which) (λ desc from. HasTooMany old.files from) r.0
+      refused_image old.files (Some wanted.description) (from_file wanted.image) (place_of which) (λ desc from. HasTooMany (MayGive old.files) from) r.0
 
   at_fault : (wanted : WantedText) (which : Which) (f : ElfFault) → RefusedInputs wanted old.files new.files (Image which f)
-      → (desc : Option Desc) × HasDesc old.files (Some wanted.description) desc × HasFault old.files desc (from_file wanted.image) f
+      → (desc : Option Desc) × HasDesc (MayGive old.files) (Some wanted.description) desc × HasFault (MayGive old.files) desc (from_file wanted.image) f
   at_fault wanted which f r =
-      refused_image old.files (Some wanted.description) (from_file wanted.image) (place_of which) (λ desc from. HasFault old.files desc from f) r.0
+      refused_image old.files (Some wanted.description) (from_file wanted.image) (place_of which) (λ desc from. HasFault (MayGive old.files) desc from f) r.0
 
   -- ---- What comes of each status
 
@@ -95,16 +94,16 @@ module _ (words : List (List ℕ)) (old new : World) where
   two (Err (Refused Words)) e h = inl e.0
   two (Err (Refused _)) e h = absurd (omega arith)
 
-  four : (r : Result Verdict Unjudged) → Ends words old new r → status_of r ≡ 4 → Wants words (λ wanted. MayBeLonger old.files wanted.description description_max
-      ⊎ ((text : List ℕ) × (fault : DescFault) × MayHold old.files wanted.description description_max text × (description_of text ≡ Err fault)))
+  four : (r : Result Verdict Unjudged) → Ends words old new r → status_of r ≡ 4
+      → Wants words (λ wanted. IsFaultyDescription (MayGive old.files) wanted.description)
   four (Ok v) e h = absurd (other_status v 4 (λ k. omega arith) h)
   four (Err (Range f)) e h = absurd (omega arith)
   four (Err (Refused DescriptionTooLong)) e h = let a = e.0 in (a.0, a.1, inl a.2.0)
-  four (Err (Refused (Description f))) e h = let a = e.0 in (a.0, a.1, inr (a.2.0, f, a.2.1, a.2.2))
+  four (Err (Refused (Description f))) e h = let a = e.0 in (a.0, a.1, inr (f, a.2.0))
   four (Err (Refused _)) e h = absurd (omega arith)
 
   five : (r : Result Verdict Unjudged) → Ends words old new r → status_of r ≡ 5
-      → Wants words (λ wanted. (desc : Option Desc) × HasDesc old.files (Some wanted.description) desc × MayBeFaulty old.files desc (from_file wanted.image))
+      → Wants words (λ wanted. (desc : Option Desc) × HasDesc (MayGive old.files) (Some wanted.description) desc × IsFaultyImage (MayGive old.files) desc (from_file wanted.image))
   five (Ok v) e h = absurd (other_status v 5 (λ k. omega arith) h)
   five (Err (Range f)) e h = absurd (omega arith)
   five (Err (Refused (ImageTooLong which))) e h = let a = e.0 in let r = too_long a.0 which a.2 in (a.0, a.1, (r.0, r.1, inl r.2))
@@ -113,7 +112,7 @@ module _ (words : List (List ℕ)) (old new : World) where
 
   six : (r : Result Verdict Unjudged) → Ends words old new r → status_of r ≡ 6
       → Wants words (λ wanted. NameFailed wanted.description old.files new.files
-      ⊎ ((desc : Option Desc) × HasDesc old.files (Some wanted.description) desc × NameFailed wanted.image old.files new.files))
+      ⊎ ((desc : Option Desc) × HasDesc (MayGive old.files) (Some wanted.description) desc × NameFailed wanted.image old.files new.files))
   six (Ok v) e h = absurd (other_status v 6 (λ k. omega arith) h)
   six (Err (Range f)) e h = absurd (omega arith)
   six (Err (Refused ReadDescription)) e h = let a = e.0 in (a.0, a.1, inl a.2)
@@ -135,7 +134,7 @@ module _ (words : List (List ℕ)) (old new : World) where
   not_six (Err (Refused Words)) e h = e.1
   not_six (Err (Refused ReadDescription)) e h = absurd (h refl)
   not_six (Err (Refused DescriptionTooLong)) e h = e.0.2.1
-  not_six (Err (Refused (Description f))) e h = e.0.2.3
+  not_six (Err (Refused (Description f))) e h = e.0.2.1
   not_six (Err (Refused (ReadImage which))) e h = absurd (h refl)
   not_six (Err (Refused (ImageTooLong which))) e h = e.0.2.1
   not_six (Err (Refused (Image which f))) e h = e.0.2.1
@@ -191,28 +190,28 @@ module _ (words : List (List ℕ)) (old new : World) where
     its_refusal : (c : Refusal) → Wants words (λ w. RefusedInputs w old.files new.files c) → RefusedInputs wanted old.files new.files c
     its_refusal c a = of_wish words (λ w. RefusedInputs w old.files new.files c) wanted k a
 
-    not_described : (desc : Option Desc) (text : List ℕ) → old.files.content wanted.description ≡ Some text → HasDesc old.files (Some wanted.description) desc → IsFaultyDescription text → ⊥
-    not_described desc text t h x = no_desc old.files (Some wanted.description) desc wanted.description text refl t h x
+    not_described : (desc : Option Desc) → HasDesc (MayGive old.files) (Some wanted.description) desc → IsFaultyDescription (Gives old.files) wanted.description → ⊥
+    not_described desc h x = no_desc old.files (Some wanted.description) desc wanted.description refl h x
 
-    faulty_description : (r : Result Verdict Unjudged) → Ends words old new r → (text : List ℕ) → old.files.content wanted.description ≡ Some text → IsFaultyDescription text
+    faulty_description : (r : Result Verdict Unjudged) → Ends words old new r → IsFaultyDescription (Gives old.files) wanted.description
         → (status_of r ≡ 4) ⊎ ((status_of r ≡ 6) ⊎ (status_of r ≡ 8))
-    faulty_description (Ok v) e text t x = let i = (whole v e).0.inputs in absurd (not_described (Some i.desc) text t i.read.described x)
-    faulty_description (Err (Range f)) e text t x = let i = (its_fault f e).0 in absurd (not_described (Some i.desc) text t i.read.described x)
-    faulty_description (Err (Refused Words)) e text t x = absurd (clash k e.0)
-    faulty_description (Err (Refused ReadDescription)) e text t x = inr (inl refl)
-    faulty_description (Err (Refused DescriptionTooLong)) e text t x = inl refl
-    faulty_description (Err (Refused (Description f))) e text t x = inl refl
-    faulty_description (Err (Refused (ReadImage which))) e text t x = inr (inl refl)
-    faulty_description (Err (Refused (ImageTooLong which))) e text t x =
-        let r = too_long wanted which (its_refusal (ImageTooLong which) e.0) in absurd (not_described r.0 text t r.1 x)
-    faulty_description (Err (Refused (Image which f))) e text t x =
-        let r = at_fault wanted which f (its_refusal (Image which f) e.0) in absurd (not_described r.0 text t r.1 x)
-    faulty_description (Err (Refused Write)) e text t x = let i = (cut e).0.inputs in absurd (not_described (Some i.desc) text t i.read.described x)
-    faulty_description (Err (Refused Memory)) e text t x = inr (inr refl)
+    faulty_description (Ok v) e x = let i = (whole v e).0.inputs in absurd (not_described (Some i.desc) i.read.described x)
+    faulty_description (Err (Range f)) e x = let i = (its_fault f e).0 in absurd (not_described (Some i.desc) i.read.described x)
+    faulty_description (Err (Refused Words)) e x = absurd (clash k e.0)
+    faulty_description (Err (Refused ReadDescription)) e x = inr (inl refl)
+    faulty_description (Err (Refused DescriptionTooLong)) e x = inl refl
+    faulty_description (Err (Refused (Description f))) e x = inl refl
+    faulty_description (Err (Refused (ReadImage which))) e x = inr (inl refl)
+    faulty_description (Err (Refused (ImageTooLong which))) e x =
+        let r = too_long wanted which (its_refusal (ImageTooLong which) e.0) in absurd (not_described r.0 r.1 x)
+    faulty_description (Err (Refused (Image which f))) e x =
+        let r = at_fault wanted which f (its_refusal (Image which f) e.0) in absurd (not_described r.0 r.1 x)
+    faulty_description (Err (Refused Write)) e x = let i = (cut e).0.inputs in absurd (not_described (Some i.desc) i.read.described x)
+    faulty_description (Err (Refused Memory)) e x = inr (inr refl)
 
     -- what each status says where the files tell the description that is wanted
-    module _ (desc : Option Desc) (described : TellsDesc old.files (Some wanted.description) desc) where
-      same_desc : (desc' : Option Desc) → HasDesc old.files (Some wanted.description) desc' → desc' ≡ desc
+    module _ (desc : Option Desc) (described : HasDesc (Gives old.files) (Some wanted.description) desc) where
+      same_desc : (desc' : Option Desc) → HasDesc (MayGive old.files) (Some wanted.description) desc' → desc' ≡ desc
       same_desc desc' h = told_desc old.files (Some wanted.description) desc desc' described h
 
       described_longer : Wants words (λ w. RefusedInputs w old.files new.files DescriptionTooLong) → ⊥
@@ -221,27 +220,27 @@ module _ (words : List (List ℕ)) (old new : World) where
       described_faulty : (f : DescFault) → Wants words (λ w. RefusedInputs w old.files new.files (Description f)) → ⊥
       described_faulty f a = not_refused old.files new.files (Some wanted.description) desc f described (its_refusal (Description f) a)
 
-      no_image : (i : Inputs wanted old.files new.files) (file : List ℕ) → old.files.content wanted.image ≡ Some file → IsFaultyImage (from_file wanted.image) file desc → ⊥
-      no_image i file t x =
-          none_faulty old.files desc (Some i.desc) (from_file wanted.image ∷ []) (i.image ∷ []) 0 (from_file wanted.image) file
-          (same_desc (Some i.desc) i.read.described) i.read.are_images refl t x
+      no_image : (i : Inputs wanted old.files new.files) → IsFaultyImage (Gives old.files) desc (from_file wanted.image) → ⊥
+      no_image i x =
+          none_faulty old.files desc (Some i.desc) (from_file wanted.image ∷ []) (i.image ∷ []) 0 (from_file wanted.image)
+          (same_desc (Some i.desc) i.read.described) i.read.are_images refl x
 
-      faulty_image : (r : Result Verdict Unjudged) → Ends words old new r → (file : List ℕ) → old.files.content wanted.image ≡ Some file
-          → IsFaultyImage (from_file wanted.image) file desc → (status_of r ≡ 5) ⊎ ((status_of r ≡ 6) ⊎ (status_of r ≡ 8))
-      faulty_image (Ok v) e file t x = absurd (no_image (whole v e).0.inputs file t x)
-      faulty_image (Err (Range f)) e file t x = absurd (no_image (its_fault f e).0 file t x)
-      faulty_image (Err (Refused Words)) e file t x = absurd (clash k e.0)
-      faulty_image (Err (Refused ReadDescription)) e file t x = inr (inl refl)
-      faulty_image (Err (Refused DescriptionTooLong)) e file t x = absurd (described_longer e.0)
-      faulty_image (Err (Refused (Description f))) e file t x = absurd (described_faulty f e.0)
-      faulty_image (Err (Refused (ReadImage which))) e file t x = inr (inl refl)
-      faulty_image (Err (Refused (ImageTooLong which))) e file t x = inl refl
-      faulty_image (Err (Refused (Image which f))) e file t x = inl refl
-      faulty_image (Err (Refused Write)) e file t x = absurd (no_image (cut e).0.inputs file t x)
-      faulty_image (Err (Refused Memory)) e file t x = inr (inr refl)
+      faulty_image : (r : Result Verdict Unjudged) → Ends words old new r → IsFaultyImage (Gives old.files) desc (from_file wanted.image)
+          → (status_of r ≡ 5) ⊎ ((status_of r ≡ 6) ⊎ (status_of r ≡ 8))
+      faulty_image (Ok v) e x = absurd (no_image (whole v e).0.inputs x)
+      faulty_image (Err (Range f)) e x = absurd (no_image (its_fault f e).0 x)
+      faulty_image (Err (Refused Words)) e x = absurd (clash k e.0)
+      faulty_image (Err (Refused ReadDescription)) e x = inr (inl refl)
+      faulty_image (Err (Refused DescriptionTooLong)) e x = absurd (described_longer e.0)
+      faulty_image (Err (Refused (Description f))) e x = absurd (described_faulty f e.0)
+      faulty_image (Err (Refused (ReadImage which))) e x = inr (inl refl)
+      faulty_image (Err (Refused (ImageTooLong which))) e x = inl refl
+      faulty_image (Err (Refused (Image which f))) e x = inl refl
+      faulty_image (Err (Refused Write)) e x = absurd (no_image (cut e).0.inputs x)
+      faulty_image (Err (Refused Memory)) e x = inr (inr refl)
 
       -- what each status says where the files tell the image that is wanted, too
-      module _ (image : ImageText) (there : TellsImage old.files desc (from_file wanted.image) image) where
+      module _ (image : ImageText) (there : IsImage (Gives old.files) desc (from_file wanted.image) image) where
         same_image : (i : Inputs wanted old.files new.files) → i.image ≡ image
         same_image i =
             let same : (i.image ∷ []) ≡ (image ∷ []) =
@@ -310,9 +309,9 @@ statuses words old new r e = record {
   no_words = no_words words old new r e;
   faulty_range = λ wanted desc image faulty k t i x. faulty_range words old new wanted k desc t image i r e faulty x;
   four = four words old new r e;
-  faulty_description = λ wanted text k t x. faulty_description words old new wanted k r e text t x;
+  faulty_description = λ wanted k x. faulty_description words old new wanted k r e x;
   five = five words old new r e;
-  faulty_image = λ wanted desc file k t b x. faulty_image words old new wanted k desc t r e file b x;
+  faulty_image = λ wanted desc k t x. faulty_image words old new wanted k desc t r e x;
   six = six words old new r e;
   not_six = not_six words old new r e;
   seven = seven words old new r e;

@@ -2,12 +2,10 @@
 -- (docs/theorems.md, "The program stt_secrets").
 use Rattle.std.specs.Prelude.{◌≡◌, ◌≢◌, ◌⊎◌, ℕ, List, [], ◌∷◌, Option, Some, None, Result, Ok, Err}
 use Rattle.elf_loader.specs.Image.{ImageText}
-use Rattle.machine_desc.specs.Description.{description_of}
 use Rattle.machine_desc.specs.declared.Desc.{Desc}
-use Rattle.machine_desc.specs.declared.fault.DescFault.{DescFault}
 use Rattle.tool_io.specs.Outside.{Told, Shelf, Wrote, WrotePart, SameCounts, NameFailed, Rose}
-use Rattle.run_inputs.specs.Input.{description_max, from_file, HasDesc, MayHold, MayBeLonger, IsRead, Refuses}
-use Rattle.run_inputs.specs.Told.{World, IsFaultyDescription, TellsDesc, IsFaultyImage, TellsImage, MayBeFaulty}
+use Rattle.run_inputs.specs.Input.{MayGive, Gives, HasDesc, IsFaultyDescription, from_file, IsImage, IsFaultyImage, IsRead, Refuses}
+use Rattle.run_inputs.specs.Told.{World}
 use Rattle.run_inputs.specs.declared.refusal.Refusal.{Refusal}
 use Rattle.run_inputs.specs.declared.refusal.Refusal.TheVariants.{Words, Write, Memory}
 use Rattle.secret_words.specs.Words.{WantedText, wanted_of}
@@ -86,23 +84,22 @@ pub record Statuses (words : List (List ℕ)) (old new : World) (status : ℕ) :
   -- 2 wherever there are no words
   pub no_words : words ≡ [] → status ≡ 2
   pub faulty_range : (wanted : WantedText) (desc : Option Desc) (image : ImageText) (faulty : FaultyRange) → wanted_of words ≡ Some wanted
-      → TellsDesc old.files (Some wanted.description) desc → TellsImage old.files desc (from_file wanted.image) image → fault_in wanted image ≡ Some faulty
+      → HasDesc (Gives old.files) (Some wanted.description) desc → IsImage (Gives old.files) desc (from_file wanted.image) image → fault_in wanted image ≡ Some faulty
       → (status ≡ 2) ⊎ ((status ≡ 6) ⊎ (status ≡ 8))
   -- 4 only where the description is too long or at fault, and there always, but for a failed read and want of memory
-  pub four : status ≡ 4 → Wants words (λ wanted. MayBeLonger old.files wanted.description description_max
-      ⊎ ((text : List ℕ) × (fault : DescFault) × MayHold old.files wanted.description description_max text × (description_of text ≡ Err fault)))
-  pub faulty_description : (wanted : WantedText) (text : List ℕ) → wanted_of words ≡ Some wanted → old.files.content wanted.description ≡ Some text
-      → IsFaultyDescription text → (status ≡ 4) ⊎ ((status ≡ 6) ⊎ (status ≡ 8))
+  pub four : status ≡ 4 → Wants words (λ wanted. IsFaultyDescription (MayGive old.files) wanted.description)
+  pub faulty_description : (wanted : WantedText) → wanted_of words ≡ Some wanted → IsFaultyDescription (Gives old.files) wanted.description
+      → (status ≡ 4) ⊎ ((status ≡ 6) ⊎ (status ≡ 8))
   -- 5 only where the image is too long or at fault and the description isn't, and there always, but for a failed read
   -- and want of memory
-  pub five : status ≡ 5 → Wants words (λ wanted. (desc : Option Desc) × HasDesc old.files (Some wanted.description) desc
-      × MayBeFaulty old.files desc (from_file wanted.image))
-  pub faulty_image : (wanted : WantedText) (desc : Option Desc) (file : List ℕ) → wanted_of words ≡ Some wanted → TellsDesc old.files (Some wanted.description) desc
-      → old.files.content wanted.image ≡ Some file → IsFaultyImage (from_file wanted.image) file desc → (status ≡ 5) ⊎ ((status ≡ 6) ⊎ (status ≡ 8))
+  pub five : status ≡ 5 → Wants words (λ wanted. (desc : Option Desc) × HasDesc (MayGive old.files) (Some wanted.description) desc
+      × IsFaultyImage (MayGive old.files) desc (from_file wanted.image))
+  pub faulty_image : (wanted : WantedText) (desc : Option Desc) → wanted_of words ≡ Some wanted → HasDesc (Gives old.files) (Some wanted.description) desc
+      → IsFaultyImage (Gives old.files) desc (from_file wanted.image) → (status ≡ 5) ⊎ ((status ≡ 6) ⊎ (status ≡ 8))
   -- 6 only where the count of the description's name rose, or that of the image's after the description was read and
   -- had no fault; any other status leaves all counts of the files
   pub six : status ≡ 6 → Wants words (λ wanted. NameFailed wanted.description old.files new.files
-      ⊎ ((desc : Option Desc) × HasDesc old.files (Some wanted.description) desc × NameFailed wanted.image old.files new.files))
+      ⊎ ((desc : Option Desc) × HasDesc (MayGive old.files) (Some wanted.description) desc × NameFailed wanted.image old.files new.files))
   pub not_six : status ≢ 6 → SameCounts old.files new.files
   -- 7 only where the count of the sink rose, with a part of the text written; any other status leaves that count
   pub seven : status ≡ 7 → Wants words (λ wanted. (a : Accepted wanted old.files new.files) × WrotePart (verdict_text (verdict_on a)) old.out new.out)
@@ -112,7 +109,7 @@ pub record Statuses (words : List (List ℕ)) (old new : World) (status : ℕ) :
   -- where the words, the description, the image and the ranges have no fault and no count rose, the whole text is
   -- written with its status, or memory was wanting and nothing is
   pub complete : (wanted : WantedText) (d : Desc) (image : ImageText) → wanted_of words ≡ Some wanted
-      → TellsDesc old.files (Some wanted.description) (Some d) → TellsImage old.files (Some d) (from_file wanted.image) image → fault_in wanted image ≡ None
+      → HasDesc (Gives old.files) (Some wanted.description) (Some d) → IsImage (Gives old.files) (Some d) (from_file wanted.image) image → fault_in wanted image ≡ None
       → ¬ Rose (old.files.faults wanted.description) (new.files.faults wanted.description) → ¬ Rose (old.files.faults wanted.image) (new.files.faults wanted.image)
       → ¬ Rose old.out.faults new.out.faults
       → ((status ≡ 8) × (new.out ≡ old.out))

@@ -3,9 +3,7 @@
 use Rattle.std.proofs.Common.{◌≡◌, ◌⊎◌, ℕ, List, [], Option, Some, None, Result, Ok, Err, refl, sym, ap, ◌∙◌, subst, inl, inr, arith}
 use Rattle.elf_loader.specs.Image.{ImageText}
 use Rattle.elf_loader.specs.declared.faults.ElfFault.{ElfFault}
-use Rattle.machine_desc.specs.Description.{description_of}
 use Rattle.machine_desc.specs.declared.Desc.{Desc}
-use Rattle.machine_desc.specs.declared.fault.DescFault.{DescFault}
 use Rattle.tool_io.specs.Outside.{Shelf, Told, Wrote, WrotePart, SameCounts, NameFailed, Rose}
 use Rattle.tool_words.specs.Words.{CommandText, command_of}
 use Rattle.run_inputs.specs.declared.refusal.Which.{Which}
@@ -15,10 +13,10 @@ use Rattle.run_inputs.specs.declared.refusal.Refusal.{Refusal}
 use Rattle.run_inputs.specs.declared.refusal.Refusal.TheVariants.{Words, ReadDescription, DescriptionTooLong, Description, ReadImage, ImageTooLong, Image, Write, Memory}
 use Rattle.stt_top.specs.Outcome.{status_of}
 use Rattle.run_inputs.specs.Refused.{place_of}
-use Rattle.run_inputs.specs.Input.{description_max, ImageFrom, from_file, from_seed, MayHold, MayBeLonger, DescriptionRefused, NamedRefused, RefusedAt, FailsToRead, HasTooMany, HasFault}
+use Rattle.run_inputs.specs.Input.{MayGive, Gives, ImageFrom, from_file, from_seed, HasDesc, IsFaultyDescription, DescriptionRefused, NamedRefused, HasTooMany, HasFault, IsFaultyImage, AreImages, RefusedAt, FailsToRead}
 use Rattle.stt_top.specs.Work.{TaskText, task_of, Work, ComesTo}
 use Rattle.stt_top.specs.Top.{Asks, Done, CommandRefused, Ends, Statuses, sources, description_name, IsAt, Names, ImageRefusedAt, IsRun}
-use Rattle.run_inputs.specs.Told.{World, IsFaultyDescription, IsFaultyImage, TellsDesc, TellsBytes, TellsImages, MayBeFaulty}
+use Rattle.run_inputs.specs.Told.{World}
 use Rattle.stt_top.proofs.Outcomes.{not_empty}
 use Rattle.run_inputs.proofs.Told.{told_desc, no_desc, not_longer, not_refused, told_at, none_faulty, same_images, no_fault, not_too_many}
 
@@ -82,9 +80,8 @@ module _ (words : List (List ℕ)) (old new : World) where
   two (Err Words) e h = e.0
   two (Err _) e h = absurd (omega arith)
 
-  four : (r : Result Ended Refusal) → Ends words old new r → status_of r ≡ 4 → Asks words (λ command. (name : List ℕ) × (description_name command ≡ Some name)
-      × (MayBeLonger old.files name description_max
-      ⊎ ((text : List ℕ) × (fault : DescFault) × MayHold old.files name description_max text × (description_of text ≡ Err fault))))
+  four : (r : Result Ended Refusal) → Ends words old new r → status_of r ≡ 4
+      → Asks words (λ command. (name : List ℕ) × (description_name command ≡ Some name) × IsFaultyDescription (MayGive old.files) name)
   four (Ok ended) e h = absurd (other_status ended 4 (λ k. omega arith) h)
   four (Err DescriptionTooLong) e h =
       let a = e.0 in
@@ -93,18 +90,20 @@ module _ (words : List (List ℕ)) (old new : World) where
   four (Err (Description f)) e h =
       let a = e.0 in
       let n = named (description_name a.0) old.files new.files (Description f) a.2 in
-      (a.0, a.1, (n.0, n.1, inr (n.2.0, f, n.2.1, n.2.2)))
+      (a.0, a.1, (n.0, n.1, inr (f, n.2.0)))
   four (Err _) e h = absurd (omega arith)
 
   five : (r : Result Ended Refusal) → Ends words old new r → status_of r ≡ 5
-      → Asks words (λ command. (which : Which) × ImageRefusedAt command old.files (place_of which) (MayBeFaulty old.files))
+      → Asks words (λ command. (which : Which) × ImageRefusedAt command old.files (place_of which) (IsFaultyImage (MayGive old.files)))
   five (Ok ended) e h = absurd (other_status ended 5 (λ k. omega arith) h)
   five (Err (ImageTooLong which)) e h =
       let a = e.0 in
-      (a.0, a.1, (which, refused_for old.files (description_name a.0) (sources a.0) (place_of which) (λ desc from. HasTooMany old.files from) (MayBeFaulty old.files) (λ desc from m. inl m) a.2.0))
+      (a.0, a.1, (which, refused_for old.files (description_name a.0) (sources a.0) (place_of which) (λ desc from. HasTooMany (MayGive old.files) from)
+      (IsFaultyImage (MayGive old.files)) (λ desc from m. inl m) a.2.0))
   five (Err (Image which f)) e h =
       let a = e.0 in
-      (a.0, a.1, (which, refused_for old.files (description_name a.0) (sources a.0) (place_of which) (λ desc from. HasFault old.files desc from f) (MayBeFaulty old.files) (λ desc from m. inr (f, m)) a.2.0))
+      (a.0, a.1, (which, refused_for old.files (description_name a.0) (sources a.0) (place_of which) (λ desc from. HasFault (MayGive old.files) desc from f)
+      (IsFaultyImage (MayGive old.files)) (λ desc from m. inr (f, m)) a.2.0))
   five (Err _) e h = absurd (omega arith)
 
   six : (r : Result Ended Refusal) → Ends words old new r → status_of r ≡ 6
@@ -128,7 +127,7 @@ module _ (words : List (List ℕ)) (old new : World) where
   not_six (Err Words) e h = e.1
   not_six (Err ReadDescription) e h = absurd (h refl)
   not_six (Err DescriptionTooLong) e h = (named (description_name e.0.0) old.files new.files DescriptionTooLong e.0.2).2.1
-  not_six (Err (Description f)) e h = (named (description_name e.0.0) old.files new.files (Description f) e.0.2).2.3
+  not_six (Err (Description f)) e h = (named (description_name e.0.0) old.files new.files (Description f) e.0.2).2.1
   not_six (Err (ReadImage which)) e h = absurd (h refl)
   not_six (Err (ImageTooLong which)) e h = e.0.2.1
   not_six (Err (Image which f)) e h = e.0.2.1
@@ -178,53 +177,53 @@ module _ (words : List (List ℕ)) (old new : World) where
     its_refusal : (e : Refusal) → Asks words (λ c. CommandRefused c old.files new.files e) → CommandRefused command old.files new.files e
     its_refusal e a = of_command words (λ c. CommandRefused c old.files new.files e) command k a
 
-    faulty_description : (r : Result Ended Refusal) → Ends words old new r → (name text : List ℕ) → description_name command ≡ Some name
-        → old.files.content name ≡ Some text → IsFaultyDescription text → (status_of r ≡ 4) ⊎ ((status_of r ≡ 6) ⊎ (status_of r ≡ 8))
-    faulty_description (Ok ended) e name text m t x =
+    faulty_description : (r : Result Ended Refusal) → Ends words old new r → (name : List ℕ) → description_name command ≡ Some name
+        → IsFaultyDescription (Gives old.files) name → (status_of r ≡ 4) ⊎ ((status_of r ≡ 6) ⊎ (status_of r ≡ 8))
+    faulty_description (Ok ended) e name m x =
         let d = (whole ended e).0 in
-        absurd (no_desc old.files (description_name command) d.runs.desc name text m t d.runs.read.described x)
-    faulty_description (Err Words) e name text m t x = absurd (clash k e.0)
-    faulty_description (Err ReadDescription) e name text m t x = inr (inl refl)
-    faulty_description (Err DescriptionTooLong) e name text m t x = inl refl
-    faulty_description (Err (Description f)) e name text m t x = inl refl
-    faulty_description (Err (ReadImage which)) e name text m t x = inr (inl refl)
-    faulty_description (Err (ImageTooLong which)) e name text m t x =
+        absurd (no_desc old.files (description_name command) d.runs.desc name m d.runs.read.described x)
+    faulty_description (Err Words) e name m x = absurd (clash k e.0)
+    faulty_description (Err ReadDescription) e name m x = inr (inl refl)
+    faulty_description (Err DescriptionTooLong) e name m x = inl refl
+    faulty_description (Err (Description f)) e name m x = inl refl
+    faulty_description (Err (ReadImage which)) e name m x = inr (inl refl)
+    faulty_description (Err (ImageTooLong which)) e name m x =
         let r = its_refusal (ImageTooLong which) e.0 in
-        absurd (no_desc old.files (description_name command) r.0.desc name text m t r.0.described x)
-    faulty_description (Err (Image which f)) e name text m t x =
+        absurd (no_desc old.files (description_name command) r.0.desc name m r.0.described x)
+    faulty_description (Err (Image which f)) e name m x =
         let r = its_refusal (Image which f) e.0 in
-        absurd (no_desc old.files (description_name command) r.0.desc name text m t r.0.described x)
-    faulty_description (Err Write) e name text m t x =
+        absurd (no_desc old.files (description_name command) r.0.desc name m r.0.described x)
+    faulty_description (Err Write) e name m x =
         let d = (cut e).0 in
-        absurd (no_desc old.files (description_name command) d.runs.desc name text m t d.runs.read.described x)
-    faulty_description (Err Memory) e name text m t x = inr (inr refl)
+        absurd (no_desc old.files (description_name command) d.runs.desc name m d.runs.read.described x)
+    faulty_description (Err Memory) e name m x = inr (inr refl)
 
     -- what an outcome says where the files tell the command's description
-    module _ (desc : Option Desc) (told : TellsDesc old.files (description_name command) desc) where
+    module _ (desc : Option Desc) (told : HasDesc (Gives old.files) (description_name command) desc) where
       -- a command that is done had that description
       done_desc : (d : Done command old new) → d.runs.desc ≡ desc
       done_desc d = told_desc old.files (description_name command) desc d.runs.desc told d.runs.read.described
 
-      done_faulty : (d : Done command old new) (place : ℕ) (from : ImageFrom) (file : List ℕ) → IsAt command place from → TellsBytes old.files from file → IsFaultyImage from file desc → ⊥
-      done_faulty d place from file a t x = none_faulty old.files desc d.runs.desc (sources command) d.runs.images place from file (done_desc d) d.runs.read.are_images a t x
+      done_faulty : (d : Done command old new) (place : ℕ) (from : ImageFrom) → IsAt command place from → IsFaultyImage (Gives old.files) desc from → ⊥
+      done_faulty d place from a x = none_faulty old.files desc d.runs.desc (sources command) d.runs.images place from (done_desc d) d.runs.read.are_images a x
 
-      faulty_image : (r : Result Ended Refusal) → Ends words old new r → (place : ℕ) (from : ImageFrom) (file : List ℕ) → IsAt command place from
-          → TellsBytes old.files from file → IsFaultyImage from file desc → (status_of r ≡ 5) ⊎ ((status_of r ≡ 6) ⊎ (status_of r ≡ 8))
-      faulty_image (Ok ended) e place from file a t x = absurd (done_faulty (whole ended e).0 place from file a t x)
-      faulty_image (Err Words) e place from file a t x = absurd (clash k e.0)
-      faulty_image (Err ReadDescription) e place from file a t x = inr (inl refl)
-      faulty_image (Err DescriptionTooLong) e place from file a t x =
+      faulty_image : (r : Result Ended Refusal) → Ends words old new r → (place : ℕ) (from : ImageFrom) → IsAt command place from
+          → IsFaultyImage (Gives old.files) desc from → (status_of r ≡ 5) ⊎ ((status_of r ≡ 6) ⊎ (status_of r ≡ 8))
+      faulty_image (Ok ended) e place from a x = absurd (done_faulty (whole ended e).0 place from a x)
+      faulty_image (Err Words) e place from a x = absurd (clash k e.0)
+      faulty_image (Err ReadDescription) e place from a x = inr (inl refl)
+      faulty_image (Err DescriptionTooLong) e place from a x =
           absurd (not_longer old.files new.files (description_name command) desc told (its_refusal DescriptionTooLong e.0))
-      faulty_image (Err (Description f)) e place from file a t x =
+      faulty_image (Err (Description f)) e place from a x =
           absurd (not_refused old.files new.files (description_name command) desc f told (its_refusal (Description f) e.0))
-      faulty_image (Err (ReadImage which)) e place from file a t x = inr (inl refl)
-      faulty_image (Err (ImageTooLong which)) e place from file a t x = inl refl
-      faulty_image (Err (Image which f)) e place from file a t x = inl refl
-      faulty_image (Err Write) e place from file a t x = absurd (done_faulty (cut e).0 place from file a t x)
-      faulty_image (Err Memory) e place from file a t x = inr (inr refl)
+      faulty_image (Err (ReadImage which)) e place from a x = inr (inl refl)
+      faulty_image (Err (ImageTooLong which)) e place from a x = inl refl
+      faulty_image (Err (Image which f)) e place from a x = inl refl
+      faulty_image (Err Write) e place from a x = absurd (done_faulty (cut e).0 place from a x)
+      faulty_image (Err Memory) e place from a x = inr (inr refl)
 
       -- what an outcome says where the files tell the command's images too
-      module _ (images : List ImageText) (all : TellsImages old.files desc (sources command) images) where
+      module _ (images : List ImageText) (all : AreImages (Gives old.files) desc (sources command) images) where
         same_task : (d : Done command old new) (task : TaskText) → task_of command desc images ≡ Some task → d.task ≡ task
         same_task d task m =
             let a : d.runs.images ≡ images = same_images old.files desc d.runs.desc (sources command) images d.runs.images (done_desc d) all d.runs.read.are_images in
@@ -233,12 +232,12 @@ module _ (words : List (List ℕ)) (old new : World) where
             let had : task_of command d.runs.desc d.runs.images ≡ Some d.task = d.runs.asks in
             cc
 
-        no_faulty : (which : Which) (f : ElfFault) → ImageRefusedAt command old.files (place_of which) (λ desc from. HasFault old.files desc from f) → ⊥
+        no_faulty : (which : Which) (f : ElfFault) → ImageRefusedAt command old.files (place_of which) (λ desc from. HasFault (MayGive old.files) desc from f) → ⊥
         no_faulty which f r =
             let t = told_at old.files desc (sources command) images (place_of which) r.from all r.there in
             no_fault old.files desc r.desc r.from t.0 f (told_desc old.files (description_name command) desc r.desc told r.described) t.1 r.cause
 
-        none_too_long : (which : Which) → ImageRefusedAt command old.files (place_of which) (λ desc from. HasTooMany old.files from) → ⊥
+        none_too_long : (which : Which) → ImageRefusedAt command old.files (place_of which) (λ desc from. HasTooMany (MayGive old.files) from) → ⊥
         none_too_long which r =
             let t = told_at old.files desc (sources command) images (place_of which) r.from all r.there in
             not_too_many old.files desc r.from t.0 t.1 r.cause
@@ -275,9 +274,9 @@ statuses words old new r e = record {
   no_command = no_command words old new r e;
   no_words = no_words words old new r e;
   four = four words old new r e;
-  faulty_description = λ command name text k m t x. faulty_description words old new command k r e name text m t x;
+  faulty_description = λ command name k m x. faulty_description words old new command k r e name m x;
   five = five words old new r e;
-  faulty_image = λ command desc place from file k t a b x. faulty_image words old new command k desc t r e place from file a b x;
+  faulty_image = λ command desc place from k t a x. faulty_image words old new command k desc t r e place from a x;
   six = six words old new r e;
   not_six = not_six words old new r e;
   seven = seven words old new r e;

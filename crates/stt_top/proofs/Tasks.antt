@@ -9,7 +9,7 @@ use Rattle.pair_run.proofs.Unique.{one_answer}
 use Rattle.progress.specs.Laws.{Allows}
 use Rattle.tool_words.specs.Words.{CommandText, isa_text, run_text, trace_text, bench_text, pair_text}
 use Rattle.window_model.specs.Committed.{Aligned}
-use Rattle.run_inputs.specs.Input.{ImageFrom, AreImages, base_of, size_of, misaligned_of}
+use Rattle.run_inputs.specs.Input.{MayGive, ImageFrom, AreImages, base_of, size_of, misaligned_of}
 use Rattle.stt_top.specs.Top.{sources, Runs}
 use Rattle.stt_top.specs.Work.{TaskText, isa_task, report_task, trace_task, pair_task, task_of, OneWork, pair_work}
 use Rattle.run_inputs.proofs.Images.{image_stays}
@@ -44,7 +44,7 @@ suits (Some d) file image e = record {
   allows = λ any. eqb-true d.ram_misaligned 1 (sym (image_stays file d.ram_base d.ram_size (d.ram_misaligned == 1) image e).misaligned_is ∙ any);
 }
 
-all_suit : (shelf : Shelf) (desc : Option Desc) (sources : List ImageFrom) (images : List ImageText) → AreImages shelf desc sources images → AllSuit desc images
+all_suit : (shelf : Shelf) (desc : Option Desc) (sources : List ImageFrom) (images : List ImageText) → AreImages (MayGive shelf) desc sources images → AllSuit desc images
 all_suit shelf desc [] [] a = tt
 all_suit shelf desc [] (x ∷ xs) a = absurd a
 all_suit shelf desc (from ∷ rest) [] a = absurd a

@@ -2,9 +2,7 @@
 -- (docs/theorems.md, "The program").
 use Rattle.std.specs.Prelude.{◌≡◌, ◌≢◌, ◌⊎◌, ℕ, List, [], ◌∷◌, slice_get, Option, Some, None, Result, Ok, Err}
 use Rattle.elf_loader.specs.Image.{ImageText}
-use Rattle.machine_desc.specs.Description.{description_of}
 use Rattle.machine_desc.specs.declared.Desc.{Desc}
-use Rattle.machine_desc.specs.declared.fault.DescFault.{DescFault}
 use Rattle.run_inputs.specs.Note.{Notes}
 use Rattle.tool_io.specs.Outside.{Shelf, Told, Wrote, WrotePart, SameCounts, NameFailed, Rose}
 use Rattle.tool_words.specs.Words.{CommandText, command_of, isa_text, run_text, trace_text, bench_text, pair_text}
@@ -14,8 +12,8 @@ use Rattle.run_inputs.specs.declared.refusal.Refusal.{Refusal}
 use Rattle.run_inputs.specs.declared.refusal.Refusal.TheVariants.{Words, Write, Memory}
 use Rattle.stt_top.specs.Outcome.{status_of}
 use Rattle.run_inputs.specs.Refused.{place_of}
-use Rattle.run_inputs.specs.Input.{description_max, ImageFrom, from_file, from_seed, MayHold, MayBeLonger, IsRead, RefusedAt, FailsToRead, Refuses}
-use Rattle.run_inputs.specs.Told.{World, IsFaultyDescription, TellsDesc, TellsBytes, IsFaultyImage, TellsImages, MayBeFaulty}
+use Rattle.run_inputs.specs.Input.{MayGive, Gives, ImageFrom, from_file, from_seed, HasDesc, IsFaultyDescription, AreImages, IsFaultyImage, IsRead, RefusedAt, FailsToRead, Refuses}
+use Rattle.run_inputs.specs.Told.{World}
 use Rattle.stt_top.specs.Work.{TaskText, task_of, Work, ComesTo}
 
 -- ---- Commands and what they read
@@ -99,16 +97,14 @@ pub record Statuses (words : List (List ℕ)) (old new : World) (status : ℕ) :
   pub no_command : command_of words ≡ None → (status ≡ 2) ⊎ (status ≡ 8)
   pub no_words : words ≡ [] → status ≡ 2
   -- 4 only where the description is too long or at fault, and there always, but for a failed read and want of memory
-  pub four : status ≡ 4 → Asks words (λ command. (name : List ℕ) × (description_name command ≡ Some name)
-      × (MayBeLonger old.files name description_max
-      ⊎ ((text : List ℕ) × (fault : DescFault) × MayHold old.files name description_max text × (description_of text ≡ Err fault))))
-  pub faulty_description : (command : CommandText) (name text : List ℕ) → command_of words ≡ Some command → description_name command ≡ Some name
-      → old.files.content name ≡ Some text → IsFaultyDescription text → (status ≡ 4) ⊎ ((status ≡ 6) ⊎ (status ≡ 8))
+  pub four : status ≡ 4 → Asks words (λ command. (name : List ℕ) × (description_name command ≡ Some name) × IsFaultyDescription (MayGive old.files) name)
+  pub faulty_description : (command : CommandText) (name : List ℕ) → command_of words ≡ Some command → description_name command ≡ Some name
+      → IsFaultyDescription (Gives old.files) name → (status ≡ 4) ⊎ ((status ≡ 6) ⊎ (status ≡ 8))
   -- 5 only where an image is too long or at fault and nothing before it is, and always where one is, but for a failed
   -- read and want of memory
-  pub five : status ≡ 5 → Asks words (λ command. (which : Which) × ImageRefusedAt command old.files (place_of which) (MayBeFaulty old.files))
-  pub faulty_image : (command : CommandText) (desc : Option Desc) (place : ℕ) (from : ImageFrom) (file : List ℕ) → command_of words ≡ Some command
-      → TellsDesc old.files (description_name command) desc → IsAt command place from → TellsBytes old.files from file → IsFaultyImage from file desc
+  pub five : status ≡ 5 → Asks words (λ command. (which : Which) × ImageRefusedAt command old.files (place_of which) (IsFaultyImage (MayGive old.files)))
+  pub faulty_image : (command : CommandText) (desc : Option Desc) (place : ℕ) (from : ImageFrom) → command_of words ≡ Some command
+      → HasDesc (Gives old.files) (description_name command) desc → IsAt command place from → IsFaultyImage (Gives old.files) desc from
       → (status ≡ 5) ⊎ ((status ≡ 6) ⊎ (status ≡ 8))
   -- 6 only where the count of the description's name rose, or that of an image's file after all before it was read and
   -- had no fault; any other status leaves all counts of the files
@@ -123,7 +119,7 @@ pub record Statuses (words : List (List ℕ)) (old new : World) (status : ℕ) :
   -- where the words, the description and the images have no fault and no count rose, the whole text is written with its
   -- status, or memory was wanting and nothing is
   pub complete : (command : CommandText) (desc : Option Desc) (images : List ImageText) (task : TaskText) → command_of words ≡ Some command
-      → TellsDesc old.files (description_name command) desc → TellsImages old.files desc (sources command) images → task_of command desc images ≡ Some task
+      → HasDesc (Gives old.files) (description_name command) desc → AreImages (Gives old.files) desc (sources command) images → task_of command desc images ≡ Some task
       → ((name : List ℕ) → Names command name → ¬ Rose (old.files.faults name) (new.files.faults name)) → ¬ Rose old.out.faults new.out.faults
       → ((status ≡ 8) × (new.out ≡ old.out))
       ⊎ ((work : Work) × ComesTo task work × (status ≡ status_of (Ok work.ended)) × Wrote work.text old.out new.out)

@@ -8,6 +8,7 @@ use Rattle.elf_loader.specs.declared.loading.Image.{Image}
 use Rattle.machine_desc.specs.Description.{description_of}
 use Rattle.machine_desc.specs.declared.Desc.{Desc}
 use Rattle.run_inputs.specs.Loaded.{loaded}
+use Rattle.tool_io.specs.declared.Got.TheVariants.{TooLong}
 use Rattle.tool_io.specs.Outside.{Shelf, HasToCopy, SameCounts, NameFailed}
 use Rattle.run_inputs.specs.declared.sources.Source.{Source}
 use Rattle.run_inputs.specs.declared.sources.Source.TheVariants.{File, Seed}
@@ -16,12 +17,12 @@ use Rattle.run_inputs.specs.declared.reading.Unread.TheVariants.{Failed as ReadF
 use Rattle.run_inputs.specs.declared.refusal.Which.{Which}
 use Rattle.run_inputs.specs.declared.refusal.Refusal.{Refusal}
 use Rattle.run_inputs.specs.declared.refusal.Refusal.TheVariants.{Description, ReadImage, ImageTooLong, Image as NoImage, Memory}
-use Rattle.run_inputs.specs.Input.{image_max, MayBeLonger, HasDesc, NamedRefused, ImageFrom, HasBytes, IsImage, FailsToRead, HasTooMany, HasFault, from_file, from_seed}
+use Rattle.run_inputs.specs.Input.{image_max, MayGive, HasDesc, NamedRefused, ImageFrom, HasBytes, IsImage, FailsToRead, HasTooMany, HasFault, from_file, from_seed}
 
 -- why a file of at most so many bytes isn't read; `old` and `new` are what the files tell before and after
 abbrev pub UnreadBy : List ℕ → ℕ → Shelf → Shelf → Unread → Type 0
 UnreadBy name max old new ReadFailed = NameFailed name old new
-UnreadBy name max old new TooMany = MayBeLonger old name max × SameCounts old new
+UnreadBy name max old new TooMany = MayGive old name max TooLong × SameCounts old new
 UnreadBy name max old new NoMemory = HasToCopy (old.content name) max × SameCounts old new
 
 -- why a text is refused as a description: memory may be wanting for what is UTF-8 alone
@@ -32,7 +33,7 @@ TextRefused text _ = ⊥
 
 -- the description of a run is read, if it names one, or refused
 abbrev pub ReadsDesc : Option (List ℕ) → Shelf → Shelf → Result (Option Desc) Refusal → Type 0
-ReadsDesc name old new result = MatchResult result (λ desc. HasDesc old name desc × SameCounts old new) (NamedRefused name old new)
+ReadsDesc name old new result = MatchResult result (λ desc. HasDesc (MayGive old) name desc × SameCounts old new) (NamedRefused name old new)
 
 abbrev pub source_of : Source → ImageFrom
 source_of (File name) = from_file name.now
@@ -57,26 +58,26 @@ BytesWant shelf (from_seed seed blocks) = Unit {0}
 -- why there are no bytes of an image
 abbrev pub BytesRefused : Which → ImageFrom → Shelf → Shelf → Refusal → Type 0
 BytesRefused which from old new (ReadImage w) = (w ≡ which) × FailsToRead old new from
-BytesRefused which from old new (ImageTooLong w) = (w ≡ which) × HasTooMany old from × SameCounts old new
+BytesRefused which from old new (ImageTooLong w) = (w ≡ which) × HasTooMany (MayGive old) from × SameCounts old new
 BytesRefused which from old new Memory = BytesWant old from × SameCounts old new
 BytesRefused which from old new _ = ⊥
 
 -- the bytes of an image are got, or there are none
 abbrev pub ReadsBytes : Which → ImageFrom → Shelf → Shelf → Result (List ℕ) Refusal → Type 0
 ReadsBytes which from old new result =
-    MatchResult result (λ file. HasBytes old from file × SameCounts old new) (BytesRefused which from old new)
+    MatchResult result (λ file. HasBytes (MayGive old) from file × SameCounts old new) (BytesRefused which from old new)
 
 -- an image may need memory: for its bytes, or to be loaded
 abbrev pub ImageWants : Shelf → ImageFrom → Type 0
-ImageWants shelf from = BytesWant shelf from ⊎ ((file : List ℕ) × HasBytes shelf from file × (header_fault file ≡ None))
+ImageWants shelf from = BytesWant shelf from ⊎ ((file : List ℕ) × HasBytes (MayGive shelf) from file × (header_fault file ≡ None))
 
 -- why an image is refused
 abbrev pub ImageRefused : Which → Option Desc → ImageFrom → Shelf → Shelf → Refusal → Type 0
-ImageRefused which desc from old new (NoImage w fault) = (w ≡ which) × HasFault old desc from fault × SameCounts old new
+ImageRefused which desc from old new (NoImage w fault) = (w ≡ which) × HasFault (MayGive old) desc from fault × SameCounts old new
 ImageRefused which desc from old new Memory = ImageWants old from × SameCounts old new
 ImageRefused which desc from old new refusal = BytesRefused which from old new refusal
 
 -- an image is read and loaded, or refused
 abbrev pub ReadsImage : Which → Option Desc → ImageFrom → Shelf → Shelf → Result Image Refusal → Type 0
 ReadsImage which desc from old new result =
-    MatchResult result (λ i. IsImage old desc from (loaded i) × SameCounts old new) (ImageRefused which desc from old new)
+    MatchResult result (λ i. IsImage (MayGive old) desc from (loaded i) × SameCounts old new) (ImageRefused which desc from old new)
