@@ -98,12 +98,12 @@ module _ (words : List (List ℕ)) (old new : World) where
   five (Ok ended) e h = absurd (other_status ended 5 (λ k. omega arith) h)
   five (Err (ImageTooLong which)) e h =
       let a = e.0 in
-      (a.0, a.1, (which, refused_for old.files (description_name a.0) (sources a.0) (place_of which) (λ desc from. HasTooMany (MayGive old.files) from)
-      (IsFaultyImage (MayGive old.files)) (λ desc from m. inl m) a.2.0))
+      let wider = refused_for old.files (description_name a.0) (sources a.0) (place_of which) (λ desc from. HasTooMany (MayGive old.files) from) (IsFaultyImage (MayGive old.files)) (λ desc from m. inl m) a.2.0 in
+      (a.0, a.1, (which, wider))
   five (Err (Image which f)) e h =
       let a = e.0 in
-      (a.0, a.1, (which, refused_for old.files (description_name a.0) (sources a.0) (place_of which) (λ desc from. HasFault (MayGive old.files) desc from f)
-      (IsFaultyImage (MayGive old.files)) (λ desc from m. inr (f, m)) a.2.0))
+      let wider = refused_for old.files (description_name a.0) (sources a.0) (place_of which) (λ desc from. HasFault (MayGive old.files) desc from f) (IsFaultyImage (MayGive old.files)) (λ desc from m. inr (f, m)) a.2.0 in
+      (a.0, a.1, (which, wider))
   five (Err _) e h = absurd (omega arith)
 
   six : (r : Result Ended Refusal) → Ends words old new r → status_of r ≡ 6
