@@ -21,7 +21,7 @@ const LINK: u32 = 0x0001_0004;
 
 // An instruction at the base, the values of x5 and x6 before it, and afterwards the value of x7, the word of data, and
 // pc.
-const ROWS: [(u32, u32, u32, u32, u32, u32); 86] = [
+static ROWS: [(u32, u32, u32, u32, u32, u32); 86] = [
     (0x8000_03b7, 0, 0, 0x8000_0000, WORD, NEXT), // lui x7, 0x80000
     (0xffff_f397, 0, 0, 0xf000, WORD, NEXT), // auipc x7, 0xfffff
     (0x1234_5397, 0, 0, 0x1235_5000, WORD, NEXT), // auipc x7, 0x12345
@@ -298,33 +298,26 @@ fn nothing_is_fetched_outside_code(rt: HostRuntime) -> Result<(), Fail> {
     Ok(())
 }
 
-// a7, a0, a1 and a2 of a call, how it goes, its answer in a0, and how many bytes it puts out.
-const CALLS: [(u32, u32, u32, u32, Stepped, u32, usize); 17] = [
-    (64, 1, DATA, 4, Stepped::Next, 4, 4),
-    (64, 2, DATA, 1024, Stepped::Next, 1024, 1024),
-    (64, 1, DATA, 1025, Stepped::Next, 1024, 1024),
-    (64, 1, DATA, 0xffff_ffff, Stepped::Next, 1024, 1024),
-    (64, 1, 0x0001_fc00, 1024, Stepped::Next, 1024, 1024), // up to memory's last byte
-    (64, 1, 0x0001_fc01, 1024, Stepped::Next, 0xffff_fff2, 0),
-    (64, 1, 0x0000_ffff, 1, Stepped::Next, 0xffff_fff2, 0),
-    (64, 1, 0xffff_ffff, 1024, Stepped::Next, 0xffff_fff2, 0),
-    (64, 2, 0, 0, Stepped::Next, 0, 0),
-    (64, 0, DATA, 4, Stepped::Next, 0xffff_fff7, 0),
-    (64, 3, 0, 0, Stepped::Next, 0xffff_fff7, 0),
-    (63, 1, DATA, 4, Stepped::Next, 0xffff_ffda, 0),
-    (0, 1, DATA, 4, Stepped::Next, 0xffff_ffda, 0),
-    (95, 1, DATA, 4, Stepped::Next, 0xffff_ffda, 0),
-    (93, 42, DATA, 4, Stepped::Exit(42), 42, 0),
-    (94, 42, DATA, 4, Stepped::Exit(42), 42, 0),
-    (
-        93,
-        0xffff_ffff,
-        DATA,
-        4,
-        Stepped::Exit(0xffff_ffff),
-        0xffff_ffff,
-        0,
-    ),
+// a7, a0, a1 and a2 of a call, the value that it exits with, if it does, its answer in a0, and how many bytes it puts
+// out.
+static CALLS: [(u32, u32, u32, u32, Option<u32>, u32, usize); 17] = [
+    (64, 1, DATA, 4, None, 4, 4),
+    (64, 2, DATA, 1024, None, 1024, 1024),
+    (64, 1, DATA, 1025, None, 1024, 1024),
+    (64, 1, DATA, 0xffff_ffff, None, 1024, 1024),
+    (64, 1, 0x0001_fc00, 1024, None, 1024, 1024), // up to memory's last byte
+    (64, 1, 0x0001_fc01, 1024, None, 0xffff_fff2, 0),
+    (64, 1, 0x0000_ffff, 1, None, 0xffff_fff2, 0),
+    (64, 1, 0xffff_ffff, 1024, None, 0xffff_fff2, 0),
+    (64, 2, 0, 0, None, 0, 0),
+    (64, 0, DATA, 4, None, 0xffff_fff7, 0),
+    (64, 3, 0, 0, None, 0xffff_fff7, 0),
+    (63, 1, DATA, 4, None, 0xffff_ffda, 0),
+    (0, 1, DATA, 4, None, 0xffff_ffda, 0),
+    (95, 1, DATA, 4, None, 0xffff_ffda, 0),
+    (93, 42, DATA, 4, Some(42), 42, 0),
+    (94, 42, DATA, 4, Some(42), 42, 0),
+    (93, 0xffff_ffff, DATA, 4, Some(0xffff_ffff), 0xffff_ffff, 0),
 ];
 
 // How an ECALL goes with these values of a7, a0, a1 and a2, its answer in a0, and pc.
@@ -344,13 +337,17 @@ fn called(
 
 #[test]
 fn calls_answer(rt: HostRuntime) -> Result<(), Fail> {
-    for (a7, a0, a1, a2, stepped, answer, count) in &CALLS {
+    for (a7, a0, a1, a2, exit, answer, count) in &CALLS {
         let mut out = Piece::new();
         let found = called(rt.alloc(), *a7, *a0, *a1, *a2, &mut out)?;
+        let stepped = match *exit {
+            Some(value) => Stepped::Exit(value),
+            None => Stepped::Next,
+        };
         assert_same(
             &rt,
             &(a7, a0, a1, a2, found),
-            &(a7, a0, a1, a2, (*stepped, *answer, NEXT)),
+            &(a7, a0, a1, a2, (stepped, *answer, NEXT)),
         );
         assert_same(
             &rt,
@@ -395,7 +392,7 @@ const DIVISIONS: [u32; 9] = [
 ];
 
 // The registers behind it.
-const DIVIDED: [u32; 32] = [
+static DIVIDED: [u32; 32] = [
     0,
     0,
     0x0001_fff0,

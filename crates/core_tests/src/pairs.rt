@@ -1,9 +1,10 @@
 //! Two images side by side: a bounds check that is passed over by prediction, with two secrets behind it.
 use crate::asserting::assert_same;
 use crate::cycles::with_model;
+use crate::descriptions::example;
 use crate::images::program_image;
 use elf_loader::Image;
-use machine_desc::{Desc, EXAMPLE, SttModel, read_desc};
+use machine_desc::{Desc, SttModel};
 use pair_run::{Differ, Pair, PairAnswer};
 use rename_taint::ByTable;
 use std::alloc::Global;
@@ -31,7 +32,7 @@ fn answer(alloc: Global, desc: &Desc, one: Image, two: Image) -> Result<Option<P
 #[test]
 fn bounds_check_with_two_secrets(rt: HostRuntime) -> Result<(), Fail> {
     let alloc = rt.alloc();
-    let example = read_desc(alloc, EXAMPLE.as_bytes())?;
+    let example = example(alloc)?;
     // the bounds of both images and the model; whether the path loads nothing that differs; how the runs differ
     let hidden = (true, Differ::Same, 5, 21);
     let cases = [

@@ -6,6 +6,7 @@ ghost use Rattle.machine_facts.specs.Timely.{WaitsOrDone};
 
 use crate::asserting::assert_same;
 use crate::cycles::with_model;
+use crate::descriptions::described;
 use crate::flights::{COMPLETING, Flight, ISSUING, Phase, RESOLVING};
 use crate::images::code_image;
 use crate::lines::{ANY_ADDRESS, NEXT_LINE, OVER_TWO_LINES, PREFETCHING, SECOND_LEVEL, TWO_LEVELS};
@@ -16,7 +17,7 @@ use complete::complete;
 use core_parts::Parts;
 use fill::fill;
 use issue::issue;
-use machine_desc::{Desc, EXAMPLE, SttModel, read_desc};
+use machine_desc::{Desc, EXAMPLE, SttModel};
 use rename::rename;
 use rename_taint::{ByScan, ByTable, RenameTaint};
 use resolve::resolve;
@@ -144,7 +145,7 @@ fn nothing_else_goes<R: RenameTaint + Drop>(
     alloc: Global,
     text: &str,
 ) -> Result<(), Fail> {
-    let desc = read_desc(alloc, text.as_bytes())?;
+    let desc = described(alloc, text)?;
     let mut parts: Parts<R> = parts_of(alloc, &desc, &[0x0002_a023, 0x0003_a303])?;
     let mut row = empty_row();
     perform(rt, 1, Phase::Fetch, &mut parts, &mut row);
@@ -176,7 +177,7 @@ fn nothing_is_in_flight_at_first(rt: HostRuntime) -> Result<(), Fail> {
 
 // They do over both tables, under this description.
 fn go_under(rt: &impl Abort, alloc: Global, text: &str, flights: &[Flight]) -> Result<(), Fail> {
-    let desc = read_desc(alloc, text.as_bytes())?;
+    let desc = described(alloc, text)?;
     for flight in flights {
         goes_as_worked::<ByTable>(rt, alloc, &desc, flight)?;
         goes_as_worked::<ByScan>(rt, alloc, &desc, flight)?;
