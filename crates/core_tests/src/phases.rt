@@ -5,8 +5,7 @@ ghost use Rattle.std.specs.List.{AllByRecursion as Each};
 ghost use Rattle.machine_facts.specs.Timely.{WaitsOrDone};
 
 use crate::asserting::assert_same;
-use crate::cycles::with_model;
-use crate::descriptions::described;
+use crate::descriptions::{WIDE, changed, described, model_of};
 use crate::flights::{COMPLETING, Flight, ISSUING, Phase, RESOLVING};
 use crate::images::code_image;
 use crate::lines::{ANY_ADDRESS, NEXT_LINE, OVER_TWO_LINES, PREFETCHING, SECOND_LEVEL, TWO_LEVELS};
@@ -17,7 +16,7 @@ use complete::complete;
 use core_parts::Parts;
 use fill::fill;
 use issue::issue;
-use machine_desc::{Desc, EXAMPLE, SttModel};
+use machine_desc::{Desc, EXAMPLE};
 use rename::rename;
 use rename_taint::{ByScan, ByTable, RenameTaint};
 use resolve::resolve;
@@ -35,13 +34,6 @@ pub fn parts_of<R: RenameTaint>(
 ) -> Result<Parts<R>, Fail> {
     let image = code_image(alloc, desc.ram_misaligned == 1, words)?;
     Ok(Parts::new(alloc, desc, image.code, image.entry, image.ram)?)
-}
-
-// The description with four words fetched a cycle, under this model.
-fn wide(desc: &Desc, model: SttModel) -> Desc {
-    let mut changed = with_model(desc, model);
-    changed.core_fetch_width = 4;
-    changed
 }
 
 // Whether the entry is no store that executes.
@@ -126,7 +118,7 @@ fn goes_as_worked<R: RenameTaint + Drop>(
     desc: &Desc,
     flight: &Flight,
 ) -> Result<(), Fail> {
-    let mut parts: Parts<R> = parts_of(alloc, &wide(desc, flight.model), flight.words)?;
+    let mut parts: Parts<R> = parts_of(alloc, desc, flight.words)?;
     let mut row = empty_row();
     perform(rt, 1, Phase::Fetch, &mut parts, &mut row);
     perform(rt, 1, Phase::Rename, &mut parts, &mut row);
@@ -175,10 +167,10 @@ fn nothing_is_in_flight_at_first(rt: HostRuntime) -> Result<(), Fail> {
     Ok(())
 }
 
-// They do over both tables, under this description.
+// They do over both tables, under this description with four words fetched a cycle.
 fn go_under(rt: &impl Abort, alloc: Global, text: &str, flights: &[Flight]) -> Result<(), Fail> {
-    let desc = described(alloc, text)?;
     for flight in flights {
+        let desc = changed(rt, alloc, text, &[WIDE, model_of(flight.model)])?;
         goes_as_worked::<ByTable>(rt, alloc, &desc, flight)?;
         goes_as_worked::<ByScan>(rt, alloc, &desc, flight)?;
     }
