@@ -131,6 +131,15 @@ fn goes_as_worked<R: RenameTaint + Drop>(
     Ok(())
 }
 
+// The phases that go over words in flight.
+static OTHERS: [Phase; 5] = [
+    Phase::Fill,
+    Phase::Complete,
+    Phase::Resolve,
+    Phase::Clear,
+    Phase::Issue,
+];
+
 // Two words are fetched, and before they are renamed no phase finds anything.
 fn nothing_else_goes<R: RenameTaint + Drop>(
     rt: &impl Abort,
@@ -143,13 +152,7 @@ fn nothing_else_goes<R: RenameTaint + Drop>(
     perform(rt, 1, Phase::Fetch, &mut parts, &mut row);
     let fetched = [Event::Fet(0x0001_0000), Event::Fet(0x0001_0004)];
     assert_same(rt, &row.events(), &fetched.as_slice());
-    for phase in [
-        Phase::Fill,
-        Phase::Complete,
-        Phase::Resolve,
-        Phase::Clear,
-        Phase::Issue,
-    ] {
+    for &phase in &OTHERS {
         perform(rt, 1, phase, &mut parts, &mut row);
         assert_same(rt, &row.events().len(), &0);
     }
