@@ -50,7 +50,7 @@ fn add_header(file: &mut Vec<u8>, entry: u32) -> Result<(), Fail> {
 
 // How many bytes words have; there are few.
 fn size_of(words: &[u32]) -> u32 {
-    (words.len() as u32).saturating_mul(4)
+    u32::try_from(words.len()).unwrap_or(0).saturating_mul(4)
 }
 
 // The file of this code and this other part.
