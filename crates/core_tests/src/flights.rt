@@ -40,7 +40,7 @@ pub const SECOND_BEFORE: u32 = 0x0001_ffd0;
 const TWO_DUE: [u32; 4] = [0x0220_42b3, 0x0221_0333, 0x0010_0393, 0x0062_8433];
 
 /// Complete: who is due in a cycle becomes Done, oldest first, and who awaits them can issue.
-pub const COMPLETING: [Flight; 2] = [
+pub static COMPLETING: [Flight; 2] = [
     Flight {
         model: SttModel::Spectre,
         words: &TWO_DUE,
@@ -99,7 +99,7 @@ const TAINTED_BRANCH: [u32; 4] = [0x0221_44b3, 0x0004_8463, 0x0001_2303, 0x0003_
 
 /// Resolve: a right prediction drops nothing; a wrong one drops what is younger and not yet renamed, and fetching goes
 /// on at the next address; a branch on a tainted value waits.
-pub const RESOLVING: [Flight; 4] = [
+pub static RESOLVING: [Flight; 4] = [
     Flight {
         model: SttModel::Spectre,
         words: &NOT_TAKEN,
@@ -249,7 +249,7 @@ const DIVISIONS: [u32; 4] = [0x0220_42b3, 0x0221_4333, 0x0221_43b3, 0x0062_8433]
 const TAINTED_ADDRESS: [u32; 4] = [0x0000_2283, 0x0001_2303, 0x0023_03b3, 0xfe03_a403];
 
 /// Issue: who begins, and what a load finds.
-pub const ISSUING: [Flight; 8] = [
+pub static ISSUING: [Flight; 8] = [
     // a sum: each waits for those before it
     Flight {
         model: SttModel::Spectre,

@@ -21,7 +21,7 @@ const LINK: u32 = 0x0001_0004;
 
 // An instruction at the base, the values of x5 and x6 before it, and afterwards the value of x7, the word of data, and
 // pc.
-const ROWS: [(u32, u32, u32, u32, u32, u32); 86] = [
+static ROWS: [(u32, u32, u32, u32, u32, u32); 86] = [
     (0x8000_03b7, 0, 0, 0x8000_0000, WORD, NEXT), // lui x7, 0x80000
     (0xffff_f397, 0, 0, 0xf000, WORD, NEXT), // auipc x7, 0xfffff
     (0x1234_5397, 0, 0, 0x1235_5000, WORD, NEXT), // auipc x7, 0x12345
@@ -226,8 +226,8 @@ fn before(alloc: Global, word: u32, values: &[(u32, u32)]) -> Result<Isa, Fail> 
 // How a step went, the values of x0 and x7, the word of data, and pc.
 fn after(isa: &mut Isa) -> (Stepped, u32, u32, Result<u32, Cause>, u32) {
     let stepped = isa.step(&mut Piece::new());
-    let [x0, _, _, _, _, _, _, x7, ..] = *isa.regs();
-    (stepped, x0, x7, isa.ram().get(DATA, Width::W), isa.pc())
+    let data = isa.ram().get(DATA, Width::W);
+    (stepped, isa.regs()[0], isa.regs()[7], data, isa.pc())
 }
 
 #[test]
@@ -240,8 +240,26 @@ fn instructions_are_the_manuals(rt: HostRuntime) -> Result<(), Fail> {
     Ok(())
 }
 
-// The cause of the trap in the next step; None where it doesn't trap, or where it changes the state or leaves output.
-fn trapped(alloc: Global, isa: &mut Isa) -> Result<Option<Cause>, Fail> {
+// Causes by their numbers (`docs/instruction-set.md`, "Traps").
+const JUMP_MISALIGNED: u8 = 0;
+
+const OUTSIDE_CODE: u8 = 1;
+
+const ILLEGAL: u8 = 2;
+
+const BREAKPOINT: u8 = 3;
+
+const LOAD_MISALIGNED: u8 = 4;
+
+const LOAD_OUTSIDE: u8 = 5;
+
+const STORE_MISALIGNED: u8 = 6;
+
+const STORE_OUTSIDE: u8 = 7;
+
+// The number of the cause of the trap in the next step; None where it doesn't trap, or where it changes the state or
+// leaves output.
+fn trapped(alloc: Global, isa: &mut Isa) -> Result<Option<u8>, Fail> {
     let pc = isa.pc();
     let regs = *isa.regs();
     let ram = isa.ram().copy(alloc)?;
@@ -250,31 +268,33 @@ fn trapped(alloc: Global, isa: &mut Isa) -> Result<Option<Cause>, Fail> {
     let stepped = isa.step(&mut out);
     let same = isa.pc() == pc && *isa.regs() == regs && isa.ram().bytes() == ram.bytes();
     match stepped {
-        Stepped::Trap(cause) if same && out.as_slice().is_empty() => Ok(Some(cause)),
+        Stepped::Trap(cause) if same && out.as_slice().is_empty() => Ok(Some(cause.number)),
         _ => Ok(None),
     }
 }
 
+// An instruction at the base, the value of x5, and the number of the cause.
+static TRAPS: [(u32, u32, u8); 15] = [
+    (0x0020_03ef, 0, JUMP_MISALIGNED), // jal x7, .+2
+    (0x0022_83e7, BASE, JUMP_MISALIGNED), // jalr x7, 2(x5)
+    (0x0062_8163, 0, JUMP_MISALIGNED), // beq x5, x6, .+2
+    (0x0000_0000, 0, ILLEGAL),
+    (0x0000_100f, 0, ILLEGAL), // fence.i
+    (0x0010_0073, 0, BREAKPOINT),
+    (0x0022_a383, BASE, LOAD_MISALIGNED), // lw x7, 2(x5)
+    (0x0010_1383, 0, LOAD_MISALIGNED), // lh x7, 1(x0)
+    (0x0000_2383, 0, LOAD_OUTSIDE), // lw x7, 0(x0)
+    (0x0002_8383, BASE + SIZE, LOAD_OUTSIDE), // lb x7, 0(x5)
+    (0x0062_a123, BASE, STORE_MISALIGNED), // sw x6, 2(x5)
+    (0xfe62_9fa3, 0, STORE_MISALIGNED), // sh x6, -1(x5)
+    (0xfe62_8fa3, BASE, STORE_OUTSIDE), // sb x6, -1(x5)
+    (0x0062_a023, BASE + SIZE, STORE_OUTSIDE), // sw x6, 0(x5)
+    (0x0062_a023, 0, STORE_OUTSIDE),
+];
+
 #[test]
 fn traps_change_nothing(rt: HostRuntime) -> Result<(), Fail> {
-    let rows: [(u32, u32, Cause); 15] = [
-        (0x0020_03ef, 0, Cause::jump_misaligned()), // jal x7, .+2
-        (0x0022_83e7, BASE, Cause::jump_misaligned()), // jalr x7, 2(x5)
-        (0x0062_8163, 0, Cause::jump_misaligned()), // beq x5, x6, .+2
-        (0x0000_0000, 0, Cause::illegal()),
-        (0x0000_100f, 0, Cause::illegal()), // fence.i
-        (0x0010_0073, 0, Cause::breakpoint()),
-        (0x0022_a383, BASE, Cause::load_misaligned()), // lw x7, 2(x5)
-        (0x0010_1383, 0, Cause::load_misaligned()), // lh x7, 1(x0)
-        (0x0000_2383, 0, Cause::load_outside()), // lw x7, 0(x0)
-        (0x0002_8383, BASE + SIZE, Cause::load_outside()), // lb x7, 0(x5)
-        (0x0062_a123, BASE, Cause::store_misaligned()), // sw x6, 2(x5)
-        (0xfe62_9fa3, 0, Cause::store_misaligned()), // sh x6, -1(x5)
-        (0xfe62_8fa3, BASE, Cause::store_outside()), // sb x6, -1(x5)
-        (0x0062_a023, BASE + SIZE, Cause::store_outside()), // sw x6, 0(x5)
-        (0x0062_a023, 0, Cause::store_outside()),
-    ];
-    for (word, x5, cause) in &rows {
+    for (word, x5, cause) in &TRAPS {
         let mut isa = before(rt.alloc(), *word, &[(5, *x5)])?;
         let found = trapped(rt.alloc(), &mut isa)?;
         assert_same(&rt, &(word, x5, found), &(word, x5, Some(*cause)));
@@ -293,38 +313,31 @@ fn nothing_is_fetched_outside_code(rt: HostRuntime) -> Result<(), Fail> {
     for entry in [BASE + 4, BASE + 2, 0] {
         let mut isa = Isa::new(image_of(rt.alloc(), entry, &[0x0000_0013], none)?);
         let found = trapped(rt.alloc(), &mut isa)?;
-        assert_same(&rt, &(entry, found), &(entry, Some(Cause::outside_code())));
+        assert_same(&rt, &(entry, found), &(entry, Some(OUTSIDE_CODE)));
     }
     Ok(())
 }
 
-// a7, a0, a1 and a2 of a call, how it goes, its answer in a0, and how many bytes it puts out.
-const CALLS: [(u32, u32, u32, u32, Stepped, u32, usize); 17] = [
-    (64, 1, DATA, 4, Stepped::Next, 4, 4),
-    (64, 2, DATA, 1024, Stepped::Next, 1024, 1024),
-    (64, 1, DATA, 1025, Stepped::Next, 1024, 1024),
-    (64, 1, DATA, 0xffff_ffff, Stepped::Next, 1024, 1024),
-    (64, 1, 0x0001_fc00, 1024, Stepped::Next, 1024, 1024), // up to memory's last byte
-    (64, 1, 0x0001_fc01, 1024, Stepped::Next, 0xffff_fff2, 0),
-    (64, 1, 0x0000_ffff, 1, Stepped::Next, 0xffff_fff2, 0),
-    (64, 1, 0xffff_ffff, 1024, Stepped::Next, 0xffff_fff2, 0),
-    (64, 2, 0, 0, Stepped::Next, 0, 0),
-    (64, 0, DATA, 4, Stepped::Next, 0xffff_fff7, 0),
-    (64, 3, 0, 0, Stepped::Next, 0xffff_fff7, 0),
-    (63, 1, DATA, 4, Stepped::Next, 0xffff_ffda, 0),
-    (0, 1, DATA, 4, Stepped::Next, 0xffff_ffda, 0),
-    (95, 1, DATA, 4, Stepped::Next, 0xffff_ffda, 0),
-    (93, 42, DATA, 4, Stepped::Exit(42), 42, 0),
-    (94, 42, DATA, 4, Stepped::Exit(42), 42, 0),
-    (
-        93,
-        0xffff_ffff,
-        DATA,
-        4,
-        Stepped::Exit(0xffff_ffff),
-        0xffff_ffff,
-        0,
-    ),
+// a7, a0, a1 and a2 of a call, the value that it exits with, if it does, its answer in a0, and how many bytes it puts
+// out.
+static CALLS: [(u32, u32, u32, u32, Option<u32>, u32, usize); 17] = [
+    (64, 1, DATA, 4, None, 4, 4),
+    (64, 2, DATA, 1024, None, 1024, 1024),
+    (64, 1, DATA, 1025, None, 1024, 1024),
+    (64, 1, DATA, 0xffff_ffff, None, 1024, 1024),
+    (64, 1, 0x0001_fc00, 1024, None, 1024, 1024), // up to memory's last byte
+    (64, 1, 0x0001_fc01, 1024, None, 0xffff_fff2, 0),
+    (64, 1, 0x0000_ffff, 1, None, 0xffff_fff2, 0),
+    (64, 1, 0xffff_ffff, 1024, None, 0xffff_fff2, 0),
+    (64, 2, 0, 0, None, 0, 0),
+    (64, 0, DATA, 4, None, 0xffff_fff7, 0),
+    (64, 3, 0, 0, None, 0xffff_fff7, 0),
+    (63, 1, DATA, 4, None, 0xffff_ffda, 0),
+    (0, 1, DATA, 4, None, 0xffff_ffda, 0),
+    (95, 1, DATA, 4, None, 0xffff_ffda, 0),
+    (93, 42, DATA, 4, Some(42), 42, 0),
+    (94, 42, DATA, 4, Some(42), 42, 0),
+    (93, 0xffff_ffff, DATA, 4, Some(0xffff_ffff), 0xffff_ffff, 0),
 ];
 
 // How an ECALL goes with these values of a7, a0, a1 and a2, its answer in a0, and pc.
@@ -344,13 +357,17 @@ fn called(
 
 #[test]
 fn calls_answer(rt: HostRuntime) -> Result<(), Fail> {
-    for (a7, a0, a1, a2, stepped, answer, count) in &CALLS {
+    for (a7, a0, a1, a2, exit, answer, count) in &CALLS {
         let mut out = Piece::new();
         let found = called(rt.alloc(), *a7, *a0, *a1, *a2, &mut out)?;
+        let stepped = match *exit {
+            Some(value) => Stepped::Exit(value),
+            None => Stepped::Next,
+        };
         assert_same(
             &rt,
             &(a7, a0, a1, a2, found),
-            &(a7, a0, a1, a2, (*stepped, *answer, NEXT)),
+            &(a7, a0, a1, a2, (stepped, *answer, NEXT)),
         );
         assert_same(
             &rt,
@@ -395,7 +412,7 @@ const DIVISIONS: [u32; 9] = [
 ];
 
 // The registers behind it.
-const DIVIDED: [u32; 32] = [
+static DIVIDED: [u32; 32] = [
     0,
     0,
     0x0001_fff0,

@@ -11,6 +11,8 @@ mod counting;
 #[cfg(test)]
 mod cycles;
 #[cfg(test)]
+mod descriptions;
+#[cfg(test)]
 mod flights;
 #[cfg(test)]
 mod images;

@@ -6,15 +6,15 @@ use machine_desc::SttModel;
 use window_model::{Event, Look, Progress};
 
 /// The example description with accesses at any address.
-pub const ANY_ADDRESS: &str =
+pub static ANY_ADDRESS: &str =
     "version = 2\n[core]\nfetch_width = 2\nretire_width = 2\nrob = 16\nstations = 8\nloads = 4\nstores = 4\nqueue = 8\n[units]\nalus = 2\nmul_latency = 3\n[predictor]\ncounters = 16\nbtb = 4\n[cache]\nsets = 2\nways = 2\nline = 16\nhit_latency = 2\nmiss_latency = 10\nmshrs = 2\n[ram]\nbase = 65536\nsize = 65536\nmisaligned = 1\n[stt]\nmodel = \"spectre\"\n";
 
 /// The same with one line in the cache, and two in a second level.
-pub const TWO_LEVELS: &str =
+pub static TWO_LEVELS: &str =
     "version = 2\n[core]\nfetch_width = 2\nretire_width = 2\nrob = 16\nstations = 8\nloads = 4\nstores = 4\nqueue = 8\n[units]\nalus = 2\nmul_latency = 3\n[predictor]\ncounters = 16\nbtb = 4\n[cache]\nsets = 1\nways = 1\nline = 16\nhit_latency = 2\nmiss_latency = 10\nmshrs = 2\nsecond_sets = 1\nsecond_ways = 2\nsecond_latency = 5\n[ram]\nbase = 65536\nsize = 65536\nmisaligned = 1\n[stt]\nmodel = \"spectre\"\n";
 
 /// The example description with four miss registers, and with the next line prefetched.
-pub const NEXT_LINE: &str =
+pub static NEXT_LINE: &str =
     "version = 2\n[core]\nfetch_width = 2\nretire_width = 2\nrob = 16\nstations = 8\nloads = 4\nstores = 4\nqueue = 8\n[units]\nalus = 2\nmul_latency = 3\n[predictor]\ncounters = 16\nbtb = 4\n[cache]\nsets = 2\nways = 2\nline = 16\nhit_latency = 2\nmiss_latency = 10\nmshrs = 4\nprefetch = 1\n[ram]\nbase = 65536\nsize = 65536\n[stt]\nmodel = \"spectre\"\n";
 
 // The lines before SECOND_BEFORE, one by one.
@@ -37,7 +37,7 @@ const STORE_OVER_BOTH: [u32; 4] = [0xfe21_2f23, 0xffe1_2283, 0xffc1_2303, 0x0001
 const PARTLY_COVERED: [u32; 4] = [0x0021_2023, 0xffe1_2283, 0xfff1_1303, 0x0010_0393];
 
 /// An access over two lines.
-pub const OVER_TWO_LINES: [Flight; 4] = [
+pub static OVER_TWO_LINES: [Flight; 4] = [
     // both lines miss, the lower one first; one that is on its way is joined; a load waits where a register lacks
     Flight {
         model: SttModel::Spectre,
@@ -179,7 +179,7 @@ const FOUND_IN_SECOND: [u32; 4] = [0x0001_2283, 0xff01_2303, 0x0001_2383, 0xff01
 const ONE_FROM_EACH: [u32; 4] = [0x0001_2283, 0xfe01_2303, 0xffe1_2383, 0x0001_2403];
 
 /// What the second level has comes after its time.
-pub const SECOND_LEVEL: [Flight; 2] = [
+pub static SECOND_LEVEL: [Flight; 2] = [
     // the cache has lost its line to the next one; the second level has both
     Flight {
         model: SttModel::Spectre,
@@ -249,7 +249,7 @@ const NEXT_IS_THERE: [u32; 4] = [0x0001_2283, 0xff01_2303, 0xfe01_2383, 0xfc01_2
 const NO_REGISTER: [u32; 4] = [0x0001_2283, 0xfd01_2303, 0xfb01_2383, 0xff01_2403];
 
 /// When the line behind is prefetched.
-pub const PREFETCHING: [Flight; 3] = [
+pub static PREFETCHING: [Flight; 3] = [
     // behind a miss; behind no join and no hit, and not where memory ends
     Flight {
         model: SttModel::Spectre,

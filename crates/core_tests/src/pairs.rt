@@ -1,9 +1,9 @@
 //! Two images side by side: a bounds check that is passed over by prediction, with two secrets behind it.
 use crate::asserting::assert_same;
-use crate::cycles::with_model;
+use crate::descriptions::{changed, model_of};
 use crate::images::program_image;
 use elf_loader::Image;
-use machine_desc::{Desc, EXAMPLE, SttModel, read_desc};
+use machine_desc::{Desc, EXAMPLE, SttModel};
 use pair_run::{Differ, Pair, PairAnswer};
 use rename_taint::ByTable;
 use std::alloc::Global;
@@ -31,7 +31,6 @@ fn answer(alloc: Global, desc: &Desc, one: Image, two: Image) -> Result<Option<P
 #[test]
 fn bounds_check_with_two_secrets(rt: HostRuntime) -> Result<(), Fail> {
     let alloc = rt.alloc();
-    let example = read_desc(alloc, EXAMPLE.as_bytes())?;
     // the bounds of both images and the model; whether the path loads nothing that differs; how the runs differ
     let hidden = (true, Differ::Same, 5, 21);
     let cases = [
@@ -42,7 +41,7 @@ fn bounds_check_with_two_secrets(rt: HostRuntime) -> Result<(), Fail> {
         (1, 1, SttModel::Spectre, (false, Differ::Cycle(17), 9, 28)),
     ];
     for (bound, bound2, model, (premise, first, retired, cycles)) in cases {
-        let desc = with_model(&example, model);
+        let desc = changed(&rt, alloc, EXAMPLE, &[model_of(model)])?;
         let one = program_image(alloc, &BOUNDS_CHECK, &[bound, 0, 0x11])?;
         let two = program_image(alloc, &BOUNDS_CHECK, &[bound2, 0, 0x22])?;
         let wanted = PairAnswer {

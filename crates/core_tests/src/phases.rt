@@ -5,7 +5,7 @@ ghost use Rattle.std.specs.List.{AllByRecursion as Each};
 ghost use Rattle.machine_facts.specs.Timely.{WaitsOrDone};
 
 use crate::asserting::assert_same;
-use crate::cycles::with_model;
+use crate::descriptions::{WIDE, changed, described, model_of};
 use crate::flights::{COMPLETING, Flight, ISSUING, Phase, RESOLVING};
 use crate::images::code_image;
 use crate::lines::{ANY_ADDRESS, NEXT_LINE, OVER_TWO_LINES, PREFETCHING, SECOND_LEVEL, TWO_LEVELS};
@@ -16,7 +16,7 @@ use complete::complete;
 use core_parts::Parts;
 use fill::fill;
 use issue::issue;
-use machine_desc::{Desc, EXAMPLE, SttModel, read_desc};
+use machine_desc::{Desc, EXAMPLE};
 use rename::rename;
 use rename_taint::{ByScan, ByTable, RenameTaint};
 use resolve::resolve;
@@ -34,13 +34,6 @@ pub fn parts_of<R: RenameTaint>(
 ) -> Result<Parts<R>, Fail> {
     let image = code_image(alloc, desc.ram_misaligned == 1, words)?;
     Ok(Parts::new(alloc, desc, image.code, image.entry, image.ram)?)
-}
-
-// The description with four words fetched a cycle, under this model.
-fn wide(desc: &Desc, model: SttModel) -> Desc {
-    let mut changed = with_model(desc, model);
-    changed.core_fetch_width = 4;
-    changed
 }
 
 // Whether the entry is no store that executes.
@@ -125,7 +118,7 @@ fn goes_as_worked<R: RenameTaint + Drop>(
     desc: &Desc,
     flight: &Flight,
 ) -> Result<(), Fail> {
-    let mut parts: Parts<R> = parts_of(alloc, &wide(desc, flight.model), flight.words)?;
+    let mut parts: Parts<R> = parts_of(alloc, desc, flight.words)?;
     let mut row = empty_row();
     perform(rt, 1, Phase::Fetch, &mut parts, &mut row);
     perform(rt, 1, Phase::Rename, &mut parts, &mut row);
@@ -138,25 +131,28 @@ fn goes_as_worked<R: RenameTaint + Drop>(
     Ok(())
 }
 
+// The phases that go over words in flight.
+static OTHERS: [Phase; 5] = [
+    Phase::Fill,
+    Phase::Complete,
+    Phase::Resolve,
+    Phase::Clear,
+    Phase::Issue,
+];
+
 // Two words are fetched, and before they are renamed no phase finds anything.
 fn nothing_else_goes<R: RenameTaint + Drop>(
     rt: &impl Abort,
     alloc: Global,
     text: &str,
 ) -> Result<(), Fail> {
-    let desc = read_desc(alloc, text.as_bytes())?;
+    let desc = described(alloc, text)?;
     let mut parts: Parts<R> = parts_of(alloc, &desc, &[0x0002_a023, 0x0003_a303])?;
     let mut row = empty_row();
     perform(rt, 1, Phase::Fetch, &mut parts, &mut row);
     let fetched = [Event::Fet(0x0001_0000), Event::Fet(0x0001_0004)];
     assert_same(rt, &row.events(), &fetched.as_slice());
-    for phase in [
-        Phase::Fill,
-        Phase::Complete,
-        Phase::Resolve,
-        Phase::Clear,
-        Phase::Issue,
-    ] {
+    for &phase in &OTHERS {
         perform(rt, 1, phase, &mut parts, &mut row);
         assert_same(rt, &row.events().len(), &0);
     }
@@ -174,10 +170,10 @@ fn nothing_is_in_flight_at_first(rt: HostRuntime) -> Result<(), Fail> {
     Ok(())
 }
 
-// They do over both tables, under this description.
+// They do over both tables, under this description with four words fetched a cycle.
 fn go_under(rt: &impl Abort, alloc: Global, text: &str, flights: &[Flight]) -> Result<(), Fail> {
-    let desc = read_desc(alloc, text.as_bytes())?;
     for flight in flights {
+        let desc = changed(rt, alloc, text, &[WIDE, model_of(flight.model)])?;
         goes_as_worked::<ByTable>(rt, alloc, &desc, flight)?;
         goes_as_worked::<ByScan>(rt, alloc, &desc, flight)?;
     }

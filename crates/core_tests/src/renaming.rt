@@ -2,11 +2,12 @@
 //! from
 //! `docs/machine.md`, "Rename", "Writers and roots" and "Clear".
 use crate::asserting::assert_same;
+use crate::descriptions::{WIDE, changed, described};
 use crate::flights::Phase;
 use crate::phases::{parts_of, perform};
 use crate::settings::PASSING;
 use core_parts::Parts;
-use machine_desc::{Desc, EXAMPLE, read_desc};
+use machine_desc::{Desc, EXAMPLE};
 use rename_taint::{ByScan, ByTable, RenameTaint, Source};
 use rv_types::Reg;
 use std::alloc::Global;
@@ -18,12 +19,13 @@ use window_model::{Event, empty_row};
 const WORDS: [u32; 4] = [0x0003_2283, 0x4053_03b3, 0x0053_a023, 0x0000_0073];
 
 // The description with four items a cycle, and room for one load and one store.
-fn narrow(desc: &Desc) -> Desc {
-    let mut changed = *desc;
-    changed.core_fetch_width = 4;
-    changed.core_loads = 1;
-    changed.core_stores = 1;
-    changed
+fn narrow(rt: &impl Abort, alloc: Global) -> Result<Desc, Fail> {
+    let changes = [
+        WIDE,
+        ("loads = 4", "loads = 1"),
+        ("stores = 4", "stores = 1"),
+    ];
+    changed(rt, alloc, EXAMPLE, &changes)
 }
 
 // What comes in of these words in the first cycle, with these events.
@@ -45,7 +47,7 @@ fn come_in<R: RenameTaint + Drop>(
 // What the parts tell of the first three: the subtraction awaits the load, and the store both. What they read flows
 // from the load, which is the one root. The call waits for all three to retire.
 fn three_come_in<R: RenameTaint + Drop>(rt: &impl Abort, alloc: Global) -> Result<(), Fail> {
-    let desc = narrow(&read_desc(alloc, EXAMPLE.as_bytes())?);
+    let desc = narrow(rt, alloc)?;
     let events = [
         Event::Ren(0, 0x0001_0000),
         Event::Ren(1, 0x0001_0004),
@@ -74,7 +76,7 @@ fn they_come_in_over_both_tables(rt: HostRuntime) -> Result<(), Fail> {
 
 #[test]
 fn a_call_comes_in_alone(rt: HostRuntime) -> Result<(), Fail> {
-    let desc = narrow(&read_desc(rt.alloc(), EXAMPLE.as_bytes())?);
+    let desc = narrow(&rt, rt.alloc())?;
     // ecall; addi x5,x5,7
     let words = [0x0000_0073, 0x0072_8293];
     let events = [Event::Ren(0, 0x0001_0000)];
@@ -84,7 +86,7 @@ fn a_call_comes_in_alone(rt: HostRuntime) -> Result<(), Fail> {
 
 #[test]
 fn a_store_that_loads_may_pass_comes_in_uncleared(rt: HostRuntime) -> Result<(), Fail> {
-    let desc = read_desc(rt.alloc(), PASSING.as_bytes())?;
+    let desc = described(rt.alloc(), PASSING)?;
     // sw x5,0(x7); lw x5,0(x6)
     let words = [0x0053_a023, 0x0003_2283];
     let events = [Event::Ren(0, 0x0001_0000), Event::Ren(1, 0x0001_0004)];

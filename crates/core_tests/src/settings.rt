@@ -6,15 +6,15 @@ use machine_desc::SttModel;
 use window_model::{Event, Look, Progress, Way};
 
 /// The example description with 16 bits of dependence.
-pub const PASSING: &str =
+pub static PASSING: &str =
     "version = 2\n[core]\nfetch_width = 2\nretire_width = 2\nrob = 16\nstations = 8\nloads = 4\nstores = 4\nqueue = 8\n[units]\nalus = 2\nmul_latency = 3\n[predictor]\ncounters = 16\nbtb = 4\ndepend = 16\n[cache]\nsets = 2\nways = 2\nline = 16\nhit_latency = 2\nmiss_latency = 10\nmshrs = 2\n[ram]\nbase = 65536\nsize = 65536\n[stt]\nmodel = \"spectre\"\n";
 
 /// The example description with the results of loads held back.
-pub const HOLDING: &str =
+pub static HOLDING: &str =
     "version = 2\n[core]\nfetch_width = 2\nretire_width = 2\nrob = 16\nstations = 8\nloads = 4\nstores = 4\nqueue = 8\n[units]\nalus = 2\nmul_latency = 3\n[predictor]\ncounters = 16\nbtb = 4\n[cache]\nsets = 2\nways = 2\nline = 16\nhit_latency = 2\nmiss_latency = 10\nmshrs = 2\n[ram]\nbase = 65536\nsize = 65536\n[stt]\nmodel = \"spectre\"\ndefence = \"hold\"\n";
 
 /// The example description with nothing protected.
-pub const UNPROTECTED: &str =
+pub static UNPROTECTED: &str =
     "version = 2\n[core]\nfetch_width = 2\nretire_width = 2\nrob = 16\nstations = 8\nloads = 4\nstores = 4\nqueue = 8\n[units]\nalus = 2\nmul_latency = 3\n[predictor]\ncounters = 16\nbtb = 4\n[cache]\nsets = 2\nways = 2\nline = 16\nhit_latency = 2\nmiss_latency = 10\nmshrs = 2\n[ram]\nbase = 65536\nsize = 65536\n[stt]\nmodel = \"off\"\n";
 
 // addi x5,x2,0; sw x2,0(x5); lw x6,0(x2); addi x7,x0,1
@@ -43,7 +43,7 @@ const TAINTED_BRANCH: [u32; 4] = [0x0221_44b3, 0x0004_8463, 0x0001_2303, 0x0003_
 
 /// Clear: the oldest store of known address is cleared, one a cycle; the load that passed it and shares a byte with it
 /// goes with all that is younger, and its bit is set.
-pub const CLEARING: [Flight; 5] = [
+pub static CLEARING: [Flight; 5] = [
     Flight {
         model: SttModel::Spectre,
         words: &SHARED,
@@ -197,7 +197,7 @@ pub const CLEARING: [Flight; 5] = [
 ];
 
 /// `hold`: who reads the result of a load waits until the load is visible.
-pub const RESULTS_HELD: [Flight; 2] = [
+pub static RESULTS_HELD: [Flight; 2] = [
     Flight {
         model: SttModel::Spectre,
         words: &BEHIND_A_BRANCH,
@@ -249,7 +249,7 @@ pub const RESULTS_HELD: [Flight; 2] = [
 ];
 
 /// Where nothing is protected a branch on a loaded value is resolved before an older branch is.
-pub const SHOWN: [Flight; 1] = [Flight {
+pub static SHOWN: [Flight; 1] = [Flight {
     model: SttModel::Off,
     words: &TAINTED_BRANCH,
     phases: &[

@@ -49,7 +49,7 @@ const CROWD: [u32; 12] = [
 ];
 
 /// When each part of a store issues, and which loads go then.
-pub const STORES: [Flight; 6] = [
+pub static STORES: [Flight; 6] = [
     // the data comes late: a load that shares no byte with the store goes, one that shares a byte waits for the data
     Flight {
         model: SttModel::Spectre,

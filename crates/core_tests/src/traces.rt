@@ -2,7 +2,7 @@
 use window_model::{Event, Look, Way};
 
 /// The bounds check with the bound 0, under both models.
-pub const BOUNDS_CHECK: [(u32, &[Event]); 16] = [
+pub static BOUNDS_CHECK: [(u32, &[Event]); 16] = [
     (1, &[Event::Fet(0x0001_0000), Event::Fet(0x0001_0004)]),
     (
         2,
@@ -80,7 +80,7 @@ pub const BOUNDS_CHECK: [(u32, &[Event]); 16] = [
 ];
 
 /// Forwarding.
-pub const FORWARDING: [(u32, &[Event]); 13] = [
+pub static FORWARDING: [(u32, &[Event]); 13] = [
     (1, &[Event::Fet(0x0001_0000), Event::Fet(0x0001_0004)]),
     (
         2,
