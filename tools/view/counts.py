@@ -1,7 +1,7 @@
 """What is counted over the fetched instructions of a run."""
 from collections import Counter
 
-from .instruction import BRANCH, JALR, LOAD, STORE
+from .instruction import BRANCH, JALR
 from .reasons import DEFENCE, STORE_ADDRESS
 
 RETURN = "return"
@@ -36,11 +36,11 @@ class Counts:
                 self.wrong[unit] = self.wrong.get(unit, 0) + 1
         if item.resolved is not None:
             self.add_resolved(item)
-        if item.kind == STORE:
+        if item.is_store:
             self.cleared += item.cleared is not None
             if item.written:
                 self.stores[all_hit(item.written)] += 1
-        elif item.kind == LOAD:
+        elif item.is_load:
             self.add_load(item)
         if item.output is not None:
             self.output += item.output
@@ -60,8 +60,10 @@ class Counts:
             self.passed[item.pc] += 1
         if item.violated:
             self.violated[item.pc] += 1
-        if item.waits and STORE_ADDRESS in [wait.reason for wait in item.waits]:
-            self.waited[item.pc] += 1
+        for wait in item.waits:
+            if wait.reason == STORE_ADDRESS:
+                self.waited[item.pc] += 1
+                break
 
     @property
     def mispredictions(self):
