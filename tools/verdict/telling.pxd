@@ -21,7 +21,7 @@ cdef class Telling(Replay):
     cpdef bint hidden(self, Item item) except? -1
     @cython.locals(value=Value)
     cpdef bint hidden_base(self, Item item) except? -1
-    @cython.locals(last=Item)
+    @cython.locals(first=Item, last=Item)
     cpdef bint nothing_is_hidden(self) except? -1
     cpdef bint reaches(self, Item item) except? -1
     @cython.locals(item=Item, found=list)

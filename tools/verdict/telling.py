@@ -11,10 +11,8 @@ from collections import Counter, namedtuple
 
 from view.description import HOLD
 from view.instruction import BRANCH, CALL, DIVISION, JALR, LOAD, STORE
-from view.pipeline import NEVER
 from view.reasons import STORE_TAINT, Reasons
 from view.replay import Replay
-from view.rows import NONE
 
 from .hart import EXITS, WRITE
 from .values import Valued
@@ -103,10 +101,10 @@ class Telling(Replay):
 
     def nothing_is_hidden(self):
         """Whether no byte differs, or everything in flight is visible: then nothing is held by taint, nor held back."""
-        if not self.differs or not self.pipeline.window:
+        if not self.differs or not self.pipeline.window or not self.pipeline.shadows:
             return True
-        last = self.pipeline.window[-1]
-        return self.pipeline.point >= last.serial
+        first, last = self.pipeline.shadows[0], self.pipeline.window[-1]
+        return first.serial >= last.serial
 
     # ---- Phases
 
@@ -154,7 +152,7 @@ class Telling(Replay):
             item = self.pipeline.entry(event)
             value = item.value
             if item.is_load:
-                self.load(item, event.second != NONE)
+                self.load(item, event.second >= 0)
             elif item.kind == DIVISION:
                 self.shows(item, value.is_marked())
         Replay.issue(self, events)
@@ -241,7 +239,7 @@ class Telling(Replay):
         if not item.is_store or self.pipeline.description.version == 1:
             return not item.awaits and self.uses_what_is_held_back(item)
         for at, writer in ((item.address_at, item.one), (item.data_at, item.two)):
-            if at == NEVER:
+            if at < 0:
                 return writer is not None and writer.done is not None and self.rules.is_held_back(writer)
         return False
 

@@ -9,6 +9,7 @@ from view.rows cimport Event
 cdef class Retired:
     cdef public long long result
     cdef public bint mark
+    cpdef set(self, long long result, bint mark)
 
 
 cdef class Value(Retired):
@@ -17,8 +18,13 @@ cdef class Value(Retired):
     cdef public long long pc, address, stored, first, behind
     cdef public object fault
     cdef public bint taken
+    cpdef begin(self, Decoded decoded, long long pc, Retired one, Retired two)
     cpdef bint is_marked(self) except? -1
     cpdef bint covers(self, long long address) except? -1
+
+
+@cython.locals(made=Retired)
+cpdef Retired retired(long long result, bint mark)
 
 
 cpdef long long known(Retired value) except? -2
@@ -30,7 +36,7 @@ cdef class Valued(Pipeline):
     cdef public dict marked_bytes, decoded
     cdef public long long line
     cdef public bint found_mark
-    @cython.locals(item=Item, decoded=Decoded, one=Retired, two=Retired)
+    @cython.locals(item=Item, decoded=Decoded, one=Retired, two=Retired, value=Value)
     cpdef Item rename(self, long long serial, long long pc)
     @cython.locals(value=Value, decoded=Decoded)
     cpdef Value located(self, Item item)

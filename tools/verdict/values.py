@@ -6,14 +6,10 @@ each part of a store with its own. The run checks itself: the lines, faults, tim
 computed have to be those that the trace tells."""
 from view import Fault
 from view.instruction import CALL, DIVISION, JALR, LOAD
-from view.pipeline import ADDRESS_PART, NEVER, PREFETCH, Pipeline
-from view.rows import NONE
+from view.pipeline import PREFETCH, Pipeline
 
 from .hart import JUMP_MISALIGNED, Memory, system_call
 from .operation import WORD, decoded_of, division_time, effect
-
-# what stands for a result and an address that isn't there yet
-NOTHING = -1
 
 
 class Retired:
@@ -21,23 +17,24 @@ class Retired:
 
     __slots__ = ("result", "mark")
 
-    def __init__(self, result, mark):
+    def set(self, result, mark):
         self.result, self.mark = result, mark
 
 
 class Value(Retired):
-    """What an entry computes. `one` and `two` are the values of its operands, None where there are fewer; `result` is its own, NOTHING until
-    it issues, and `mark` whether it comes from a marked byte. `address` is that of a load or store, once its base is known, `fault` is then
+    """What an entry computes. `one` and `two` are the values of its operands, None where there are fewer; `result` is its own, negative until
+    it issues, and `mark` whether it comes from a marked byte. `address` is that of a load or store, negative until its base is known, `fault` is then
     why it would trap, or none, and `first` and `behind` are where the bytes of its access begin and end: there are none where it faults, or
     its base isn't known. `taken` is whether a branch is."""
 
     __slots__ = ("decoded", "pc", "one", "two", "address", "stored", "fault", "taken", "first", "behind")
 
-    def __init__(self, decoded, pc, one, two):
-        self.result, self.mark = NOTHING, False
+    def begin(self, decoded, pc, one, two):
+        """Its entry is renamed."""
+        self.result, self.mark = -1, False
         self.decoded, self.pc, self.one, self.two = decoded, pc, one, two
         self.fault, self.taken = None, False
-        self.address, self.stored, self.first, self.behind = NOTHING, 0, 0, 0
+        self.address, self.stored, self.first, self.behind = -1, 0, 0, 0
 
     @property
     def sources(self):
@@ -57,9 +54,16 @@ class Value(Retired):
         return self.first <= address < self.behind
 
 
+def retired(result, mark):
+    """A retired value of this result and mark."""
+    made = Retired()
+    made.set(result, mark)
+    return made
+
+
 def known(value):
     """The result of an operand's value; 0 where it isn't there, or there is no operand."""
-    return 0 if value is None or value.result == NOTHING else value.result
+    return 0 if value is None or value.result < 0 else value.result
 
 
 def text(events):
@@ -77,7 +81,7 @@ class Valued(Pipeline):
         self.memory, self.registers = Memory(image.base, image.memory, image.misaligned), [0] * 32
         self.registers[2] = image.base + len(image.memory) - 16 & WORD
         self.marked_bytes, self.marked_registers = dict.fromkeys(marks, True), [False] * 32
-        self.kept = [Retired(value, False) for value in self.registers]
+        self.kept = [retired(value, False) for value in self.registers]
         self.decoded, self.to_write, self.stores_in_flight, self.line = {}, [], [], description.line
         # whether a byte that was found last is marked
         self.found_mark = False
@@ -94,7 +98,8 @@ class Valued(Pipeline):
             one = self.kept[item.source_one] if item.one is None else item.one.value
         if item.source_two >= 0:
             two = self.kept[item.source_two] if item.two is None else item.two.value
-        item.value = Value(decoded, pc, one, two)
+        value = item.value = Value()
+        value.begin(decoded, pc, one, two)
         if item.is_store:
             self.stores_in_flight.append(item)
         return item
@@ -102,7 +107,7 @@ class Valued(Pipeline):
     def located(self, item):
         """The value of a load or store, with its address as soon as its base is known."""
         value = item.value
-        if value.address == NOTHING and value.one.result != NOTHING:
+        if value.address < 0 <= value.one.result:
             decoded = value.decoded
             value.address = value.one.result + decoded.imm & 0xffffffff
             value.fault = self.memory.fault(decoded.kind, value.address, decoded.size)
@@ -116,14 +121,14 @@ class Valued(Pipeline):
         value = item.value
         if item.is_load:
             self.load(item, value, event)
-        elif item.kind == DIVISION or event.second != NONE or event.text is not None or event.rest:
+        elif item.kind == DIVISION or event.second >= 0 or event.text is not None or event.rest:
             self.compare(item, event)
         if item.is_store:
             self.located(item)
         elif not item.is_load:
             self.execute(value)
         Pipeline.issue(self, item, event)
-        if item.data_at != NEVER and value.two is not None and value.two.result != NOTHING:
+        if item.data_at >= 0 and value.two is not None and value.two.result >= 0:
             value.stored = value.two.result
 
     def load(self, item, value, event):
@@ -184,7 +189,7 @@ class Valued(Pipeline):
         """The values of the older stores of known address that cover one of these bytes, the youngest first."""
         found = []
         for store in reversed(self.stores_in_flight):
-            if store.serial < load.serial and store.address_at < self.cycle:
+            if store.serial < load.serial and 0 <= store.address_at < self.cycle:
                 value = store.value
                 if value.first < behind and first < value.behind:
                     found.append(value)
@@ -201,7 +206,7 @@ class Valued(Pipeline):
     def would_load_marked(self, load, base):
         """Whether a load would load a marked byte, were this its base."""
         decoded = load.value.decoded
-        address = base + decoded.imm & WORD
+        address = base + decoded.imm & 0xffffffff
         if self.memory.fault(LOAD, address, decoded.size) is not None:
             return False
         self.found(load, address, address + decoded.size)
@@ -226,7 +231,7 @@ class Valued(Pipeline):
     def shares(self, load, store):
         """Whether the two have a byte in common; where one faults it has none. None where the load's address isn't known yet."""
         one, two = self.located(load), self.located(store)
-        return None if one.address == NOTHING else one.first < two.behind and two.first < one.behind
+        return None if one.address < 0 else one.first < two.behind and two.first < one.behind
 
     def lines_of(self, value):
         """The lines of an access, the lower first."""
@@ -246,12 +251,12 @@ class Valued(Pipeline):
 
     def prospect(self, value):
         """What a value that isn't there yet will be, and its mark, where no load has to be waited for; else none."""
-        if value.result != NOTHING:
-            return Retired(value.result, value.mark)
+        if value.result >= 0:
+            return retired(value.result, value.mark)
         sources = [self.prospect(source) for source in value.sources]
         if None in sources or value.decoded.is_load:
             return None
-        return Retired(value.effect([source.result for source in sources]).value, any([source.mark for source in sources]))
+        return retired(value.effect([source.result for source in sources]).value, any([source.mark for source in sources]))
 
     # ---- Resolve and Retire
 
@@ -288,7 +293,7 @@ class Valued(Pipeline):
     def keep(self, register, result, mark):
         """A register is written: its retired value, and whether that comes from a marked byte."""
         self.registers[register], self.marked_registers[register] = result, mark
-        self.kept[register] = Retired(result, mark)
+        self.kept[register] = retired(result, mark)
 
     def mark_bytes(self, addresses, mark):
         """Bytes are written: from now on they are marked, or aren't."""

@@ -1,6 +1,6 @@
 """Whether what happens is what the machine's rules ask for: when lines come, when results are there, what loads find."""
 from .instruction import BRANCH, CALL, STORE
-from .pipeline import BY_AGE, DATA_PART, NEVER, PREFETCH, lines_of
+from .pipeline import BY_AGE, DATA_PART, PREFETCH, lines_of
 from .rows import Event, text_of
 
 # the event of an entry's issue by its kind, where it isn't `alu`
@@ -63,7 +63,7 @@ class Checks:
     def passed(load, store):
         """It is a load without fault that issued before the store's address was known."""
         known = load.is_load and load.issued is not None and load.unit != "fault"
-        return known and store.address_at != NEVER and load.issued <= store.address_at
+        return known and load.issued <= store.address_at
 
     def retired(self, item):
         """A store tells what it finds in the cache, a call how much it puts out."""

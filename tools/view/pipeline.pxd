@@ -7,9 +7,11 @@ from view.rows cimport Event
 cdef class Item
 
 
+@cython.freelist(64)
 cdef class Wait:
     cdef public long long first, last, serial, pc
     cdef public object reason
+    cpdef begin(self, long long cycle, reason, Item cause)
 
 
 cdef class Code:
@@ -20,6 +22,7 @@ cdef class Code:
     cdef public bint is_load, is_store, is_control, at_once
 
 
+@cython.freelist(256)
 cdef class Item:
     cdef public long long number, pc, fetched, awaits, destination, serial, address_at, data_at, from_one, from_two
     cdef public long long lacking_at, lacking, port, source_one, source_two
@@ -30,7 +33,7 @@ cdef class Item:
     cdef public tuple registers, lines
     cdef public Item one, two, root_one, root_two, root, youngest_root
     cdef public Wait open
-    cpdef decode(self, Code code)
+    cpdef fetch(self, long long number, long long pc, long long cycle, Code code)
     @cython.locals(last=Wait, serial=cython.longlong)
     cpdef wait(self, long long cycle, reason, Item cause)
     cpdef sleep(self)

@@ -9,13 +9,13 @@ from . import Fault
 from .description import FUTURISTIC, SPECTRE
 from .instruction import AT_ONCE, CALL, CONTROLS, DIVISION, LOAD, MULTIPLICATION, STORE
 from .memory_side import Cache, Divider, Miss
-from .rows import NONE, text_of
+from .rows import text_of
 
 NEVER = 1 << 62
 # how long the ring of entries is at first, and at most: powers of two
 RING, LONGEST_RING = 1024, 1 << 20
-# the serial of an item that isn't renamed; and what stands for a register where an instruction reads fewer
-UNNAMED = NO_SOURCE = -1
+# the serial of an item that isn't renamed
+UNNAMED = -1
 BY_AGE = attrgetter("serial")
 PREFETCH = "pf"
 # the parts of a store, by the names of their events
@@ -31,9 +31,10 @@ class Wait:
 
     __slots__ = ("first", "last", "reason", "serial", "pc")
 
-    def __init__(self, cycle, reason, cause):
+    def begin(self, cycle, reason, cause):
+        """It begins."""
         self.first = self.last = cycle
-        self.reason, self.serial, self.pc = reason, UNNAMED, 0
+        self.reason, self.serial, self.pc = reason, -1, 0
         if cause is not None:
             self.serial, self.pc = cause.serial, cause.pc
 
@@ -43,7 +44,7 @@ class Item:
 
     `unit` is how it issued: `alu`, `mul`, `div`, `agu`, or a load by its access: `hit`, `miss`, `join`, `second`, `forward`,
     `fault`; where it has two lines, by the one that comes later. `lines` are those of a load and `written` those of a store, each with
-    the letter of how it was found. A store has issued once both of its parts have, in `address_at` and `data_at`: NEVER before that.
+    the letter of how it was found. A store has issued once both of its parts have, in `address_at` and `data_at`, which are negative before that.
     `one` and `two` are the writers of its sources, or None, and `root_one` and `root_two` the youngest loads from which these values flow,
     or None; `youngest_root` is the younger of the two, the last
     of them to become visible, and `root` what flows on from here. `ready` is the first cycle in which
@@ -63,20 +64,19 @@ class Item:
                  "lacking_at", "lacking", "cleared", "passed", "violated", "open", "fill", "late", "since", "registers", "destination",
                  "is_load", "is_store", "is_control", "at_once", "port", "source_one", "source_two", "waiting", "goes", "address_goes", "data_goes", "value")
 
-    def __init__(self, number, pc, cycle):
-        self.number, self.pc, self.fetched, self.serial = number, pc, cycle, UNNAMED
+    def __init__(self):
+        self.serial = -1
         self.renamed = self.ready = self.issued = self.unit = self.due = self.done = self.resolved = self.outcome = None
         self.retired = self.squashed = self.trapped = self.output = self.cleared = None
         self.one = self.two = self.root_one = self.root_two = self.root = self.youngest_root = None
         self.open = self.fill = self.late = self.since = self.value = None
         self.mispredicted = self.passed = self.violated = self.waiting = self.goes = self.address_goes = self.data_goes = False
         self.lines = self.written = self.sharers = self.consumers = self.waits = ()
-        self.awaits, self.address_at, self.data_at, self.from_one, self.from_two = 0, NEVER, NEVER, UNNAMED, UNNAMED
-        self.lacking_at, self.lacking = UNNAMED, 0
+        self.awaits, self.address_at, self.data_at, self.from_one, self.from_two, self.lacking_at, self.lacking = 0, -1, -1, -1, -1, -1, 0
 
-    def decode(self, code):
-        """What its code says."""
-        self.code = code.instruction
+    def fetch(self, number, pc, cycle, code):
+        """It is fetched."""
+        self.number, self.pc, self.fetched, self.code = number, pc, cycle, code.instruction
         self.kind, self.registers, self.destination = code.kind, code.registers, code.destination
         self.is_load, self.is_store, self.is_control, self.at_once = code.is_load, code.is_store, code.is_control, code.at_once
         self.port, self.source_one, self.source_two = code.port, code.source_one, code.source_two
@@ -89,7 +89,7 @@ class Item:
     @property
     def parts(self):
         """The cycles in which the parts of a store issued, by the names of their events."""
-        return {name: cycle for name, cycle in zip(PARTS, (self.address_at, self.data_at)) if cycle != NEVER}
+        return {name: cycle for name, cycle in zip(PARTS, (self.address_at, self.data_at)) if cycle >= 0}
 
     @property
     def sources(self):
@@ -99,18 +99,20 @@ class Item:
     @property
     def producers(self):
         """The numbers of the writers of its sources."""
-        return [number for number in (self.from_one, self.from_two) if number != UNNAMED]
+        return [number for number in (self.from_one, self.from_two) if number >= 0]
 
     def wait(self, cycle, reason, cause):
         """It waits in this cycle too, as before or for another reason."""
-        if not self.waits:
-            self.waits = [Wait(cycle, reason, cause)]
-            return
-        last = self.waits[-1]
-        if last.last == cycle - 1 and last.reason == reason and last.serial == (UNNAMED if cause is None else cause.serial):
+        last, serial = self.waits[-1] if self.waits else None, -1 if cause is None else cause.serial
+        if last is not None and last.last == cycle - 1 and last.reason == reason and last.serial == serial:
             last.last = cycle
+            return
+        last = Wait()
+        last.begin(cycle, reason, cause)
+        if self.waits:
+            self.waits.append(last)
         else:
-            self.waits.append(Wait(cycle, reason, cause))
+            self.waits = [last]
 
     def sleep(self):
         """What it waits for in this cycle keeps it until a writer is Done."""
@@ -132,14 +134,15 @@ class Item:
 
 
 class Code:
-    """What items take over of the instruction at an address: `source_one` and `source_two` are the registers that it reads."""
+    """What items take over of the instruction at an address: `source_one` and `source_two` are the registers that it reads, negative
+    where there are fewer."""
 
     __slots__ = ("source_one", "source_two", "instruction", "kind", "registers", "destination", "is_load", "is_store", "is_control", "at_once", "port")
 
     def __init__(self, instruction):
         self.instruction = instruction
         self.kind, self.registers, self.destination = instruction
-        self.source_one, self.source_two = (*self.registers, NO_SOURCE, NO_SOURCE)[:2]
+        self.source_one, self.source_two = (*self.registers, -1, -1)[:2]
         self.is_load, self.is_store = self.kind == LOAD, self.kind == STORE
         self.is_control, self.at_once = self.kind in CONTROLS, self.kind in AT_ONCE
         self.port = PORTS.get(self.kind, ARITHMETIC_PORTS)
@@ -209,11 +212,6 @@ class Pipeline:
         self.learnt, self.charged, self.counts = {}, 0, True
         self.filled = self.dropped = self.prefetched = self.from_second = 0
         self.fills, self.last_squash = [], None
-
-    @property
-    def point(self):
-        """The serial of the first entry behind which nothing is visible."""
-        return self.shadows[0].serial if self.shadows else NEVER
 
     def is_hidden(self, root):
         """The load isn't visible, and so what flows from it is tainted. One that has retired is."""
@@ -404,7 +402,7 @@ class Pipeline:
         """The entry begins to execute; `due` is when it will be done. Behind the event of a load come those of its other line, and of what is
         prefetched behind it (`rest`)."""
         name = event.name
-        if not item.waiting or item.address_at != NEVER and name == ADDRESS_PART or item.data_at != NEVER and name == DATA_PART:
+        if not item.waiting or item.address_at >= 0 and name == ADDRESS_PART or item.data_at >= 0 and name == DATA_PART:
             raise Fault(f"cycle {self.cycle}: `{text_of(event)}` is of an entry that doesn't wait")
         if name == ADDRESS_PART or name == DATA_PART:
             self.issue_parts(item, name)
@@ -424,7 +422,7 @@ class Pipeline:
     def passes_a_store(self, load):
         """Whether the address of an older store isn't known."""
         for store in self.open_stores:
-            if store.serial < load.serial and store.address_at >= self.cycle:
+            if store.serial < load.serial and (store.address_at < 0 or store.address_at == self.cycle):
                 return True
         return False
 
@@ -436,14 +434,14 @@ class Pipeline:
             item.data_at = self.cycle
         if self.depend and name == ADDRESS_PART and item.is_store and item.cleared is None:
             enter(self.clearable, item)
-        if item.address_at != NEVER and item.data_at != NEVER:
+        if item.address_at >= 0 and item.data_at >= 0:
             item.waiting = False
             self.waiting -= 1
             item.issued, item.unit, item.due = self.cycle, ADDRESS_PART, self.cycle + 1
 
     def lacks_address(self, store):
         """Whether the address of a store isn't known."""
-        return store.address_at == NEVER
+        return store.address_at < 0
 
     def shares(self, load, store):
         """Whether the two have a byte in common, which a trace doesn't tell: None."""
@@ -456,7 +454,7 @@ class Pipeline:
         """What a load found: its unit, its lines, and when its value comes."""
         item.lines = lines_of(event)
         due, found = self.cycle + 1, event.text
-        if event.second != NONE:
+        if event.second >= 0:
             due = self.look(event.second, event.text)
         for other in event.rest:
             if other.name == PREFETCH:
@@ -550,8 +548,8 @@ class Pipeline:
         code = self.codes.get(pc)
         if code is None:
             code = self.codes[pc] = Code(self.image.instruction(pc))
-        item = Item(self.count, pc, self.cycle)
-        item.decode(code)
+        item = Item()
+        item.fetch(self.count, pc, self.cycle, code)
         self.count += 1
         self.queue.append(item)
         self.flight.append(item)
@@ -576,7 +574,7 @@ def add_source(item, writer):
 
 def lines_of(event):
     """The lines of a load, each with the letter of what it found; none where it faults or is forwarded."""
-    if event.text is None or event.second == NONE:
+    if event.text is None or event.second < 0:
         return ()
     lines = ((event.second, event.text),)
     for other in event.rest:

@@ -6,7 +6,7 @@ made from its text, the image and the description alone.
 """
 from .description import FUTURISTIC, HOLD
 from .instruction import CALL, DIVISION, STORE
-from .pipeline import ADDRESS_PART, ARITHMETIC_PORTS, DATA_PART, NEVER, PARTS, PORTS, enter
+from .pipeline import ADDRESS_PART, ARITHMETIC_PORTS, DATA_PART, PARTS, PORTS, enter
 
 # to issue
 OPERAND, TAINT, OLDER_STORE, PORT, MISS_REGISTER, DIVIDER = (
@@ -159,7 +159,7 @@ class Reasons:
         if self.description.defence == HOLD or item.is_load or item.kind == DIVISION:
             yield item.youngest_root
         if item.is_load and self.description.version != 1:
-            yield from [store.root_one for store in self.older_open_stores(item) if store.data_at == NEVER]
+            yield from [store.root_one for store in self.older_open_stores(item) if store.data_at < 0]
 
     def is_held_back(self, writer):
         """Whether this writer is a load whose result isn't used until it is visible."""
@@ -176,16 +176,16 @@ class Reasons:
         """Each part of a store goes as soon as its own source is there and its port is left. Told is what the first of them waits for.
         Answers whether the store has to be looked at in the next cycle too."""
         address = data = None
-        if item.address_at == NEVER:
+        if item.address_at < 0:
             address = self.to_issue_part(item, ADDRESS_PART, item.one, item.address_goes)
-        if item.data_at == NEVER:
+        if item.data_at < 0:
             data = self.to_issue_part(item, DATA_PART, item.two, item.data_goes)
         if address is not None:
             self.wait(item, address, None if address == ADDRESS_PORT else item.one)
         elif data is not None:
             self.wait(item, data, None if data == DATA_PORT else item.two)
-        lacks_address = item.address_at == NEVER and not item.address_goes
-        lacks_data = item.data_at == NEVER and not item.data_goes
+        lacks_address = item.address_at < 0 and not item.address_goes
+        lacks_data = item.data_at < 0 and not item.data_goes
         if not lacks_address and not lacks_data:
             return False
         if lacks_address and address != BASE or lacks_data and data != DATA or (address or data) not in (BASE, DATA):
@@ -264,10 +264,10 @@ class Reasons:
         for store in self.pipeline.open_stores:
             if store.serial >= load.serial:
                 break
-            if self.version == 1 or waits and store.address_at == NEVER:
+            if self.version == 1 or waits and store.address_at < 0:
                 self.cause = store
                 return OLDER_STORE if self.version == 1 else STORE_ADDRESS
-            if found == STORE_TAINT or store.data_at != NEVER:
+            if found == STORE_TAINT or store.data_at >= 0:
                 continue
             if taint and self.pipeline.is_hidden(store.root_one):
                 found, self.cause = STORE_TAINT, store
@@ -315,7 +315,7 @@ class Reasons:
         for store in self.pipeline.open_stores:
             if store.serial >= load.serial:
                 break
-            if store.data_at == NEVER and self.shares(load, store) is None:
+            if store.data_at < 0 and self.shares(load, store) is None:
                 found.append(store)
         return found
 

@@ -5,7 +5,7 @@ from .front_end import FrontEnd
 from .instruction import CALL, DIVISION
 from .pipeline import ADDRESS_PART, DATA_PART, PREFETCH, Pipeline
 from .reasons import Reasons
-from .rows import CLEAR, COMPLETE, FETCH, FILL, ISSUE, RENAME, RESOLVE, RETIRE, text_of
+from .rows import text_of
 from .slots import Slots
 
 
@@ -108,17 +108,18 @@ class Replay:
     def take(self, row, phases):
         """The seven phases, and Clear behind Resolve. After an end in Retire no later phase acts."""
         pipeline, cycle = self.pipeline, row.cycle
-        if phases[FILL] or cycle in pipeline.dues:
-            self.fill([event.number for event in phases[FILL]])
-        if phases[COMPLETE] or cycle in self.checks.due:
-            self.complete(self.entries(phases[COMPLETE]))
-        squashed = self.resolve(phases[RESOLVE])
-        violated = self.clear(phases[CLEAR])
-        self.retire(phases[RETIRE], row.ends)
+        fills, completes, resolves, clears, retires, issues, renames, fetches = phases
+        if fills or cycle in pipeline.dues:
+            self.fill([event.number for event in fills])
+        if completes or cycle in self.checks.due:
+            self.complete(self.entries(completes))
+        squashed = self.resolve(resolves)
+        violated = self.clear(clears)
+        self.retire(retires, row.ends)
         if not row.ends:
-            self.issue(phases[ISSUE])
-            self.rename(phases[RENAME])
-            fetched = self.fetch(phases[FETCH])
+            self.issue(issues)
+            self.rename(renames)
+            fetched = self.fetch(fetches)
             if self.asked:
                 self.after_fetch(fetched, squashed, violated)
 

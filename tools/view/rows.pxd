@@ -2,9 +2,13 @@
 cimport cython
 
 
+cdef long long MOST_DIGITS, MOST_LETTERS
+
+
 cdef class Shape:
     cdef public str name
     cdef public long long phase, length, first, second, key
+    cdef public bint squashes
     cdef public tuple found
 
 
@@ -28,7 +32,7 @@ cdef class Row:
 
 
 @cython.locals(pool=list, number=cython.Py_ssize_t, place=cython.Py_ssize_t, last=cython.Py_ssize_t, behind=cython.Py_ssize_t, event=Event,
-               shape=Shape, phases=tuple, letters=bytes, phase=cython.Py_ssize_t)
+               shape=Shape, phases=tuple, letters=bytes, phase=list)
 cpdef tuple scan(str line)
 
 

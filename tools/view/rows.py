@@ -28,13 +28,14 @@ MOST_DIGITS, MOST_LETTERS = 15, 4
 
 
 class Shape:
-    """What the events of a name look like: as EVENTS and FOUND say. `key` is the name as a number."""
+    """What the events of a name look like: as EVENTS and FOUND say. `key` is the name as a number, `squashes` whether it is that of a
+    squash."""
 
-    __slots__ = ("name", "phase", "length", "first", "second", "found", "key")
+    __slots__ = ("name", "phase", "length", "first", "second", "found", "key", "squashes")
 
     def __init__(self, name, phase, length, first, second):
         self.name, self.phase, self.length, self.first, self.second, self.found = name, phase, length, first, second, FOUND.get(name)
-        self.key = int.from_bytes(name.encode(), "big")
+        self.key, self.squashes = int.from_bytes(name.encode(), "big"), name == "sq"
 
 
 SHAPES = {name: Shape(name, *shape) for name, shape in EVENTS.items()}
@@ -55,7 +56,7 @@ TABLE = table_of(list(SHAPES.values()))
 
 class Event:
     """An event: its name, and what stands behind it. `number` is the first number: the serial of an entry, or a line or an address; `second`
-    the one behind that, NONE where there is none; and `text` what is no number, as an outcome, or how a line is found: it may be none. `rest`
+    the one behind that, negative where there is none; and `text` what is no number, as an outcome, or how a line is found: it may be none. `rest`
     are the events that belong to this one of a load: that of its other line, and of what is prefetched behind it."""
 
     __slots__ = ("name", "number", "second", "text", "rest")
@@ -66,7 +67,7 @@ class Event:
     @property
     def behind(self):
         """What stands behind the first number."""
-        return [word for word in (self.second, self.text) if word not in (NONE, None)]
+        return [self.second] * (self.second >= 0) + [self.text] * (self.text is not None)
 
 
 # the events of the line that was read letter by letter last: they are those of the next one then
@@ -76,7 +77,7 @@ POOL = []
 def read_row(line, number):
     """The row of a line, which has to be the one of this cycle."""
     head = str(number)
-    if not line.startswith(head) or line[len(head):-1] and line[len(head)] != " ":
+    if not line.startswith(head) or len(line) > len(head) + 1 and line[len(head)] != " ":
         raise Fault(f"line {number} is no line of cycle {number}: `{line.strip()[:60]}`")
     return Row(number, line, False)
 
@@ -135,7 +136,10 @@ def scan(line):
         place = read_event(line, letters, behind, last, event, shape)
         if place < 0:
             return None
-        phases[CLEAR if shape.phase == RESOLVE and phases[CLEAR] and shape.name == "sq" else shape.phase].append(event)
+        phase = phases[shape.phase]
+        if shape.squashes and phases[CLEAR]:
+            phase = phases[CLEAR]
+        phase.append(event)
     return phases
 
 
@@ -154,7 +158,7 @@ def shape_of(letters, place, behind):
 def read_event(line, letters, place, last, event, shape):
     """Reads what stands behind an event's name, from the first colon on; answers the place behind it, or -1 where it isn't of this shape."""
     begin, place = place + 1, end_of_word(letters, place + 1, last)
-    event.name, event.number, event.second = shape.name, number_of(letters, begin, place, shape.first), NONE
+    event.name, event.number, event.second = shape.name, number_of(letters, begin, place, shape.first), -1
     event.text, event.rest = None, ()
     if event.number < 0:
         return -1
@@ -209,7 +213,7 @@ def text_of(event):
     """The text of an event."""
     shape = SHAPES[event.name]
     words = [event.name, number_text(event.number, shape.first)]
-    if event.second != NONE:
+    if event.second >= 0:
         words.append(number_text(event.second, shape.second))
     return ":".join(words + ([event.text] if event.text is not None else []))
 

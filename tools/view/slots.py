@@ -6,7 +6,6 @@ Where the defence held the entry before it issued, the last cycles of its execut
 Done by then. No more cycles are told so than the defence took. So is what a held branch delays behind it.
 """
 from .instruction import CALL, DIVISION, MULTIPLICATION, STORE
-from .pipeline import NEVER
 from .reasons import (
     ADDRESS_PORT, DATA_PORT, DIVIDER, HELD_BACK, MISS_REGISTER, ONE_A_CYCLE, ONE_CLEARED, PORT, STORE_TAINT, TAINT, TAINTED_CLEARING,
     TAINTED_OUTCOME, TWO_REGISTERS)
@@ -195,7 +194,7 @@ class Slots:
         elif last is not None and last.last == cycle:
             self.count(self.charge(last.reason), head.pc, self.left)
         else:
-            begun = head.address_at != NEVER or head.data_at != NEVER
+            begun = head.address_at >= 0 or head.data_at >= 0
             self.count(self.executes(head) if begun else UNEXPLAINED, head.pc, self.left)
 
 
