@@ -1,7 +1,8 @@
 # The types by which telling.py is compiled.
 cimport cython
 from verdict.values cimport Value, Valued
-from view.pipeline cimport Item, Pipeline
+from view.items cimport Item
+from view.pipeline cimport Pipeline
 from view.reasons cimport Reasons
 from view.replay cimport Replay
 from view.rows cimport Event, Row

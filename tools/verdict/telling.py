@@ -42,7 +42,8 @@ class Shown(namedtuple("Shown", "times cycle")):
 
 
 class Telling(Replay):
-    """`differs` says whether any byte does. `held` and `shown`, by an instruction's address and what of it shows; `wrong_loads` are the loads of differing bytes on wrong paths, by
+    """`differs` says whether any byte does: else nothing is marked. `held` and `shown`, by an instruction's address and what of it shows;
+    `wrong_loads` are the loads of differing bytes on wrong paths, by
     their addresses, and `wrong_values` how many of their values came. `holding` are the entries in flight that were held, by their serials,
     each with what it is counted in, and `loads` the serials of the loads of these bytes in flight. Values are compared with
     what the trace tells in any case; only where it is `thorough` also all that tools/view checks of a trace, and the reason of each wait. `rules`

@@ -2,7 +2,8 @@
 cimport cython
 from verdict.arithmetic cimport Decoded
 from verdict.hart cimport Memory
-from view.pipeline cimport Item, Pipeline
+from view.items cimport Item
+from view.pipeline cimport Pipeline
 from view.rows cimport Event
 
 

@@ -1,6 +1,7 @@
 # The types by which checks.py is compiled.
 cimport cython
-from view.pipeline cimport Item, Pipeline
+from view.items cimport Item
+from view.pipeline cimport Pipeline
 from view.rows cimport Event
 
 

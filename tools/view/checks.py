@@ -1,6 +1,7 @@
 """Whether what happens is what the machine's rules ask for: when lines come, when results are there, what loads find."""
 from .instruction import BRANCH, CALL, STORE
-from .pipeline import BY_AGE, DATA_PART, PREFETCH, lines_of
+from .items import BY_AGE, DATA_PART
+from .pipeline import PREFETCH, lines_of
 from .rows import Event, text_of
 
 # the event of an entry's issue by its kind, where it isn't `alu`

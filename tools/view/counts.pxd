@@ -1,6 +1,6 @@
 # The types by which counts.py is compiled.
 cimport cython
-from view.pipeline cimport Item, Wait
+from view.items cimport Item, Wait
 
 
 cdef class Counts:

@@ -1,6 +1,7 @@
 # The types by which front_end.py is compiled.
 cimport cython
-from view.pipeline cimport Item, Pipeline
+from view.items cimport Item
+from view.pipeline cimport Pipeline
 
 
 cdef class Stall:

@@ -64,8 +64,10 @@ class FrontEnd:
     def has_room(self):
         """Whether all that may be renamed in a cycle finds room, whatever it is but a call: then no item is asked for."""
         pipeline, width = self.pipeline, self.width
+        first = pipeline.window[0] if pipeline.window else None
         return (len(pipeline.window) + width <= self.rob and pipeline.waiting + width <= self.stations
-                and pipeline.loads + width <= self.loads and pipeline.stores + width <= self.stores and not pipeline.has_call)
+                and pipeline.loads + width <= self.loads and pipeline.stores + width <= self.stores
+                and (first is None or first.kind != CALL))
 
     def call_is_next(self):
         """Whether the front of the queue is a call."""

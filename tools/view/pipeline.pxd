@@ -1,53 +1,8 @@
 # The types by which pipeline.py is compiled (compile.py); without that nothing asks for this file.
 cimport cython
+from view.items cimport Code, Item
 from view.memory_side cimport Cache, Divider, Miss
 from view.rows cimport Event
-
-
-cdef class Item
-
-
-@cython.freelist(64)
-cdef class Wait:
-    cdef public long long first, last, serial, pc
-    cdef public object reason
-    cpdef begin(self, long long cycle, reason, Item cause)
-
-
-cdef class Code:
-    cdef public object instruction
-    cdef public str kind
-    cdef public tuple registers
-    cdef public long long destination, port, source_one, source_two
-    cdef public bint is_load, is_store, is_control, at_once
-
-
-@cython.freelist(256)
-cdef class Item:
-    cdef public long long number, pc, fetched, awaits, destination, serial, address_at, data_at, from_one, from_two
-    cdef public long long lacking_at, lacking, port, source_one, source_two
-    cdef public str kind
-    cdef public bint mispredicted, passed, violated, is_load, is_store, is_control, at_once, waiting, goes, address_goes, data_goes
-    cdef public object code, renamed, ready, issued, unit, due, done, resolved, outcome
-    cdef public object retired, squashed, trapped, written, output, consumers, cleared, fill, late, since, waits, sharers, value
-    cdef public tuple registers, lines
-    cdef public Item one, two, root_one, root_two, root, youngest_root
-    cdef public Wait open
-    cpdef fetch(self, long long number, long long pc, long long cycle, Code code)
-    @cython.locals(last=Wait, serial=cython.longlong)
-    cpdef wait(self, long long cycle, reason, Item cause)
-    cpdef sleep(self)
-    @cython.locals(last=Wait)
-    cpdef wake(self, long long cycle)
-    cpdef forget(self)
-
-
-@cython.locals(place=cython.longlong, other=Item, serial=cython.longlong)
-cpdef enter(list entries, Item item)
-
-
-@cython.locals(popped=list, last=Item)
-cpdef list pop_from(list entries, long long serial)
 
 
 cdef class Pipeline:
@@ -119,9 +74,15 @@ cdef class Pipeline:
 cpdef tuple lines_of(Event event)
 
 
+@cython.locals(place=cython.longlong, other=Item, serial=cython.longlong)
+cpdef enter(list entries, Item item)
+
+
+@cython.locals(popped=list, last=Item)
+cpdef list pop_from(list entries, long long serial)
+
+
 @cython.locals(entry=Item)
 cpdef bint is_among(Item item, list entries) except? -1
 
 
-@cython.locals(root=Item)
-cpdef add_source(Item item, Item writer)

@@ -1,178 +1,17 @@
-"""The window and the queue, as the events of a trace move them, and what became of each fetched instruction.
+"""The window and the queue, as the events of a trace move them.
 
 This module does what the events say; whether they are what the machine's rules ask for is the matter of `reasons` and
 `checks`. The words are those of docs/machine.md.
 """
-from operator import attrgetter
-
 from . import Fault
 from .description import FUTURISTIC, SPECTRE
-from .instruction import AT_ONCE, CALL, CONTROLS, DIVISION, LOAD, MULTIPLICATION, STORE
+from .items import ADDRESS_PART, DATA_PART, Code, Item
 from .memory_side import Cache, Divider, Miss
 from .rows import text_of
 
-NEVER = 1 << 62
 # how long the ring of entries is at first, and at most: powers of two
 RING, LONGEST_RING = 1024, 1 << 20
-# the serial of an item that isn't renamed
-UNNAMED = -1
-BY_AGE = attrgetter("serial")
 PREFETCH = "pf"
-# the parts of a store, by the names of their events
-PARTS = ADDRESS_PART, DATA_PART = "agu", "std"
-# the ports of the kinds that have one each, and of a store's parts; all others share those of arithmetic
-PORTS = {LOAD: 1, STORE: 2, MULTIPLICATION: 3, DIVISION: 4, ADDRESS_PART: 5, DATA_PART: 6}
-ARITHMETIC_PORTS = 0
-
-
-class Wait:
-    """Cycles in a row in which an instruction waited for one reason: that, and serial and address of the entry that it waited for, UNNAMED
-    where it is none. `last` is NEVER as long as it lasts until a writer is Done: its end is set then."""
-
-    __slots__ = ("first", "last", "reason", "serial", "pc")
-
-    def begin(self, cycle, reason, cause):
-        """It begins."""
-        self.first = self.last = cycle
-        self.reason, self.serial, self.pc = reason, -1, 0
-        if cause is not None:
-            self.serial, self.pc = cause.serial, cause.pc
-
-
-class Item:
-    """A fetched instruction. Its times are numbers of cycles, and None where it didn't come to that.
-
-    `unit` is how it issued: `alu`, `mul`, `div`, `agu`, or a load by its access: `hit`, `miss`, `join`, `second`, `forward`,
-    `fault`; where it has two lines, by the one that comes later. `lines` are those of a load and `written` those of a store, each with
-    the letter of how it was found. A store has issued once both of its parts have, in `address_at` and `data_at`, which are negative before that.
-    `one` and `two` are the writers of its sources, or None, and `root_one` and `root_two` the youngest loads from which these values flow,
-    or None; `youngest_root` is the younger of the two, the last
-    of them to become visible, and `root` what flows on from here. `ready` is the first cycle in which
-    it could have issued as far as its operands go; `open` is the wait that lasts until a writer is Done. Of a load `sharers` are the
-    stores of which one kept it for its data, and
-    `lacking_at` is the last cycle in which it surely lacked miss registers, and `lacking` how many of its lines then needed one; `passed` says
-    whether an older store's address wasn't known as it issued, and `violated` whether it is dropped for that. `cleared` is when a store
-    is cleared, where loads pass stores. `fill` is why it was renamed no earlier, `late` what the defence took of its time, and `since`
-    what had been charged to the defence when it was first held (`slots`). In this cycle it issues where it `goes`, a store's parts where
-    `address_goes` and `data_goes`; it `waiting` says whether it has to. `value` is what another tool keeps of it (`verdict.values`). `serial`
-    is UNNAMED until it is renamed.
-    """
-
-    __slots__ = ("number", "pc", "code", "kind", "serial", "fetched", "renamed", "ready", "issued", "unit", "due", "done", "resolved", "outcome",
-                 "mispredicted", "retired", "squashed", "trapped", "lines", "written", "output", "one", "two", "awaits", "consumers",
-                 "root_one", "root_two", "root", "youngest_root", "waits", "from_one", "from_two", "address_at", "data_at", "sharers",
-                 "lacking_at", "lacking", "cleared", "passed", "violated", "open", "fill", "late", "since", "registers", "destination",
-                 "is_load", "is_store", "is_control", "at_once", "port", "source_one", "source_two", "waiting", "goes", "address_goes", "data_goes", "value")
-
-    def __init__(self):
-        self.serial = -1
-        self.renamed = self.ready = self.issued = self.unit = self.due = self.done = self.resolved = self.outcome = None
-        self.retired = self.squashed = self.trapped = self.output = self.cleared = None
-        self.one = self.two = self.root_one = self.root_two = self.root = self.youngest_root = None
-        self.open = self.fill = self.late = self.since = self.value = None
-        self.mispredicted = self.passed = self.violated = self.waiting = self.goes = self.address_goes = self.data_goes = False
-        self.lines = self.written = self.sharers = self.consumers = self.waits = ()
-        self.awaits, self.address_at, self.data_at, self.from_one, self.from_two, self.lacking_at, self.lacking = 0, -1, -1, -1, -1, -1, 0
-
-    def fetch(self, number, pc, cycle, code):
-        """It is fetched."""
-        self.number, self.pc, self.fetched, self.code = number, pc, cycle, code.instruction
-        self.kind, self.registers, self.destination = code.kind, code.registers, code.destination
-        self.is_load, self.is_store, self.is_control, self.at_once = code.is_load, code.is_store, code.is_control, code.at_once
-        self.port, self.source_one, self.source_two = code.port, code.source_one, code.source_two
-
-    @property
-    def gone(self):
-        """The cycle in which it retired or was squashed."""
-        return self.squashed if self.retired is None else self.retired
-
-    @property
-    def parts(self):
-        """The cycles in which the parts of a store issued, by the names of their events."""
-        return {name: cycle for name, cycle in zip(PARTS, (self.address_at, self.data_at)) if cycle >= 0}
-
-    @property
-    def sources(self):
-        """The writers of its sources, as long as it is in flight."""
-        return (self.one, self.two)[:len(self.registers)]
-
-    @property
-    def producers(self):
-        """The numbers of the writers of its sources."""
-        return [number for number in (self.from_one, self.from_two) if number >= 0]
-
-    def wait(self, cycle, reason, cause):
-        """It waits in this cycle too, as before or for another reason."""
-        last, serial = self.waits[-1] if self.waits else None, -1 if cause is None else cause.serial
-        if last is not None and last.last == cycle - 1 and last.reason == reason and last.serial == serial:
-            last.last = cycle
-            return
-        last = Wait()
-        last.begin(cycle, reason, cause)
-        if self.waits:
-            self.waits.append(last)
-        else:
-            self.waits = [last]
-
-    def sleep(self):
-        """What it waits for in this cycle keeps it until a writer is Done."""
-        self.open = self.waits[-1]
-        self.open.last = NEVER
-
-    def wake(self, cycle):
-        """In this cycle it no longer waits as before; it didn't at all where it has only just been renamed."""
-        self.open.last = cycle - 1
-        self.open = None
-        last = self.waits[-1]
-        if last.last < last.first:
-            self.waits.pop()
-
-    def forget(self):
-        """Lets go of the other items that it names, so that a long trace takes no memory."""
-        self.consumers = self.sharers = ()
-        self.one = self.two = self.root_one = self.root_two = self.root = self.youngest_root = self.late = None
-
-
-class Code:
-    """What items take over of the instruction at an address: `source_one` and `source_two` are the registers that it reads, negative
-    where there are fewer."""
-
-    __slots__ = ("source_one", "source_two", "instruction", "kind", "registers", "destination", "is_load", "is_store", "is_control", "at_once", "port")
-
-    def __init__(self, instruction):
-        self.instruction = instruction
-        self.kind, self.registers, self.destination = instruction
-        self.source_one, self.source_two = (*self.registers, -1, -1)[:2]
-        self.is_load, self.is_store = self.kind == LOAD, self.kind == STORE
-        self.is_control, self.at_once = self.kind in CONTROLS, self.kind in AT_ONCE
-        self.port = PORTS.get(self.kind, ARITHMETIC_PORTS)
-
-
-def youngest(items):
-    """The youngest of these items, of which some may be None."""
-    return max((item for item in items if item is not None), key=BY_AGE, default=None)
-
-
-def enter(entries, item):
-    """Puts an entry to its place by age."""
-    place, serial = len(entries), item.serial
-    while place:
-        other = entries[place - 1]
-        if other.serial <= serial:
-            break
-        place -= 1
-    entries.insert(place, item)
-
-
-def pop_from(entries, serial):
-    """Takes the entries from this serial on out of a list by age, and answers them, the youngest first."""
-    popped = []
-    while entries:
-        last = entries[-1]
-        if last.serial < serial:
-            break
-        popped.append(entries.pop())
-    return popped
 
 
 LOAD_UNITS = {"h": "hit", "m": "miss", "j": "join", "2": "second", "f": "forward", "x": "fault"}
@@ -182,10 +21,9 @@ class Pipeline:
     """The machine's state, as far as a trace tells it. `misses` are the miss registers that are taken, by their lines, and `learnt` the
     bits of dependence that are set, each with the cycle in which it was.
 
-    `ring` has the entries in flight, each at the place that the low bits of its serial say; `waiting` is how many of them haven't issued,
-    and `awake` are those of these that don't wait for a writer
-    alone; `open_stores` the stores that aren't Done, and `shadows` the
-    entries that keep younger ones from being visible: what stands behind the first of them isn't. `outcomes` are the branches and JALRs
+    `ring` has the entries in flight, each at the place that the low bits of its serial say, of which `mask` has those that count. `waiting`
+    is how many of them haven't issued, and `awake` are those of these that don't wait for a writer alone; `open_stores` the stores that
+    aren't Done, and `shadows` the entries that keep younger ones from being visible: what stands behind the first of them isn't. `outcomes` are the branches and JALRs
     that are Done and not resolved, `clearable` the stores of known address that aren't cleared. `dues` are the lines that are to come, by
     their cycles. In the cycles that are looked at `counts` is set, and what is counted of cycles is counted: `filled` are the lines that
     came, `dropped` those that went for them, `prefetched` and `from_second` the lines that are prefetched and those of them from the second
@@ -515,10 +353,10 @@ class Pipeline:
         two = self.writers[second] if second >= 0 else None
         if one is not None:
             item.one, item.root_one, item.from_one = one, one.root, one.number
-            add_source(item, one)
+            item.add_source(one)
         if two is not None:
             item.two, item.root_two, item.from_two = two, two.root, two.number
-            add_source(item, two)
+            item.add_source(two)
         item.root = item if item.is_load else item.youngest_root
         if not item.awaits and not item.at_once:
             item.ready = self.cycle + 1
@@ -555,22 +393,6 @@ class Pipeline:
         self.flight.append(item)
         return item
 
-    @property
-    def has_call(self):
-        """A call is in flight, and so alone."""
-        return bool(self.window) and self.window[0].kind == CALL
-
-
-def add_source(item, writer):
-    """A source of an entry, by its writer."""
-    root = writer.root
-    if root is not None and (item.youngest_root is None or root.serial > item.youngest_root.serial):
-        item.youngest_root = root
-    if writer.done is None:
-        writer.consumers = writer.consumers or []
-        writer.consumers.append(item)
-        item.awaits += 1
-
 
 def lines_of(event):
     """The lines of a load, each with the letter of what it found; none where it faults or is forwarded."""
@@ -581,6 +403,28 @@ def lines_of(event):
         if other.name != PREFETCH:
             lines += ((other.second, other.text),)
     return lines
+
+
+def enter(entries, item):
+    """Puts an entry to its place by age."""
+    place, serial = len(entries), item.serial
+    while place:
+        other = entries[place - 1]
+        if other.serial <= serial:
+            break
+        place -= 1
+    entries.insert(place, item)
+
+
+def pop_from(entries, serial):
+    """Takes the entries from this serial on out of a list by age, and answers them, the youngest first."""
+    popped = []
+    while entries:
+        last = entries[-1]
+        if last.serial < serial:
+            break
+        popped.append(entries.pop())
+    return popped
 
 
 def is_among(item, entries):

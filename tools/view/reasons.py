@@ -6,7 +6,8 @@ made from its text, the image and the description alone.
 """
 from .description import FUTURISTIC, HOLD
 from .instruction import CALL, DIVISION, STORE
-from .pipeline import ADDRESS_PART, ARITHMETIC_PORTS, DATA_PART, PARTS, PORTS, enter
+from .items import ADDRESS_PART, ARITHMETIC_PORTS, DATA_PART, PARTS, PORTS
+from .pipeline import enter
 
 # to issue
 OPERAND, TAINT, OLDER_STORE, PORT, MISS_REGISTER, DIVIDER = (

@@ -2,7 +2,8 @@
 cimport cython
 from view.checks cimport Checks
 from view.front_end cimport FrontEnd
-from view.pipeline cimport Item, Pipeline
+from view.items cimport Item
+from view.pipeline cimport Pipeline
 from view.reasons cimport Reasons
 from view.rows cimport Event, Row
 from view.slots cimport Occupancy, Slots

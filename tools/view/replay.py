@@ -3,7 +3,8 @@ from . import Fault
 from .checks import Checks
 from .front_end import FrontEnd
 from .instruction import CALL, DIVISION
-from .pipeline import ADDRESS_PART, DATA_PART, PREFETCH, Pipeline
+from .items import ADDRESS_PART, DATA_PART
+from .pipeline import PREFETCH, Pipeline
 from .reasons import Reasons
 from .rows import text_of
 from .slots import Slots

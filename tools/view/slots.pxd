@@ -1,6 +1,7 @@
 # The types by which slots.py is compiled.
 cimport cython
-from view.pipeline cimport Item, Pipeline, Wait
+from view.items cimport Item, Wait
+from view.pipeline cimport Pipeline
 
 
 cdef class Late:
