@@ -56,14 +56,15 @@ class Telling(Replay):
         self.held, self.shown, self.wrong_loads, self.wrong_values = {}, {}, Counter(), 0
         self.holding, self.loads, self.held_now, self.was_empty, self.skips = {}, set(), [], False, False
         self.only_counts()
-        for item in self.items():
-            self.went(item)
+        for batch in self.batches():
+            for item in batch if self.differs else ():
+                self.went(item)
 
     def step(self, row):
         """One cycle. Behind a cycle without events another one changes nothing, and holds what that one held (docs/machine.md, "Cycles in
         which nothing happens")."""
         if self.was_empty and row.empty and not row.ends and not self.thorough:
-            self.pipeline.cycle = row.cycle
+            self.pipeline.begin(row.cycle)
             for held in self.held_now:
                 held.cycles += 1
             return
@@ -75,8 +76,6 @@ class Telling(Replay):
 
     def went(self, item):
         """Counts what became of an entry that was held, or loaded the differing bytes."""
-        if not self.differs:
-            return
         for held in self.holding.pop(item.serial, ()):
             held.dropped += item.squashed is not None
             held.retired += item.retired is not None

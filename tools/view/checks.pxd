@@ -8,7 +8,7 @@ from view.rows cimport Event
 cdef class Checks:
     cdef public Pipeline pipeline
     cdef public object tell
-    cdef public dict due, event_of
+    cdef public dict due
     cdef public long long line, misaligned, mshrs, prefetches
     cpdef fill(self, list lines)
     @cython.locals(item=Item)
@@ -33,6 +33,5 @@ cdef class Checks:
     @cython.locals(store=Item, found=list)
     cpdef list older_stores(self, Item item)
     cpdef write(self, Item item, long long line, answer)
-    @cython.locals(right=str)
     cpdef unit(self, Item item, str name)
     cpdef squash(self, told, dropped)

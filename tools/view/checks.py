@@ -4,8 +4,6 @@ from .items import BY_AGE, DATA_PART
 from .pipeline import PREFETCH, lines_of
 from .rows import Event, text_of
 
-# the event of an entry's issue by its kind, where it isn't `alu`
-EVENT_OF = {"load": "ld", "store": "agu", "multiplication": "mul", "division": "div"}
 # the letters of a line that takes a miss register
 TAKES = ("m", "2")
 
@@ -15,7 +13,7 @@ class Checks:
 
     def __init__(self, pipeline, tell):
         self.pipeline, self.tell = pipeline, tell
-        self.due, self.event_of, description = {}, EVENT_OF, pipeline.description
+        self.due, description = {}, pipeline.description
         self.line, self.misaligned, self.mshrs, self.prefetches = description.line, description.misaligned, description.mshrs, description.prefetch
 
     def fill(self, lines):
@@ -69,7 +67,7 @@ class Checks:
     def retired(self, item):
         """A store tells what it finds in the cache, a call how much it puts out."""
         store = item.is_store
-        if bool(item.written) != store or (item.output is None) == (item.code.kind == CALL):
+        if bool(item.written) != store or (item.output is None) == (item.kind == CALL):
             self.tell(f"entry {item.serial}, a {item.code.kind}, retires with the events of another kind")
         if store:
             self.lines(item, item.written)
@@ -185,9 +183,8 @@ class Checks:
 
     def unit(self, item, name):
         """The event of an entry's issue is that of its kind. The data part of a store has one in version 2 alone."""
-        right = self.event_of.get(item.kind, "alu")
-        if name != right and (name, item.code.kind, self.pipeline.description.version) != (DATA_PART, STORE, 2):
-            self.tell(f"entry {item.serial}: `{name}` for a {item.code.kind}")
+        if name != item.event and (name, item.kind, self.pipeline.description.version) != (DATA_PART, STORE, 2):
+            self.tell(f"entry {item.serial}: `{name}` for a {item.kind}")
 
     def squash(self, told, dropped):
         if told != dropped:

@@ -23,6 +23,10 @@ class Counts:
         self.held, self.held_cycles, self.held_dropped = Counter(), Counter(), Counter()
         self.cleared, self.passed, self.violated, self.waited = 0, Counter(), Counter(), Counter()
 
+    def add_all(self, items):
+        for item in items:
+            self.add(item)
+
     def add(self, item):
         retired = item.retired is not None
         self.fetched += 1
@@ -50,7 +54,7 @@ class Counts:
     def add_resolved(self, item):
         self.resolved[item.kind] += 1
         self.mispredicted[item.kind] += item.mispredicted
-        if item.code.is_return:
+        if item.is_return:
             self.resolved[RETURN] += 1
             self.mispredicted[RETURN] += item.mispredicted
 
@@ -86,12 +90,12 @@ class Counts:
             self.held_dropped[item.pc] += item.retired is None
 
 
-def count(items, holds=None, places=None):
-    """The counts of these instructions, of those that the test takes; by address too where places are given."""
+def count(batches, holds=None, places=None):
+    """The counts of the instructions of these lists, of those that the test takes; by address too where places are given."""
     counts = Counts()
-    for item in items:
-        if holds is None or holds(item):
-            counts.add(item)
-            if places is not None:
+    for batch in batches:
+        counts.add_all(batch if holds is None else list(filter(holds, batch)))
+        for item in batch if places is not None else ():
+            if holds is None or holds(item):
                 places.add(item)
     return counts

@@ -14,17 +14,18 @@ cdef class Wait:
 
 cdef class Code:
     cdef public object instruction
-    cdef public str kind
+    cdef public str kind, event
     cdef public tuple registers
     cdef public long long destination, port, source_one, source_two
-    cdef public bint is_load, is_store, is_control, at_once
+    cdef public bint is_load, is_store, is_control, at_once, divides, is_return
 
 
 @cython.freelist(256)
 cdef class Item:
     cdef public long long number, pc, fetched, awaits, destination, serial, address_at, data_at, from_one, from_two
     cdef public long long lacking_at, lacking, port, source_one, source_two
-    cdef public str kind
+    cdef public str kind, event
+    cdef public bint divides, is_return
     cdef public bint mispredicted, passed, violated, is_load, is_store, is_control, at_once, waiting, goes, address_goes, data_goes
     cdef public object code, renamed, ready, issued, unit, due, done, resolved, outcome
     cdef public object retired, squashed, trapped, written, output, consumers, cleared, fill, late, since, waits, sharers, value

@@ -12,6 +12,8 @@ PARTS = ADDRESS_PART, DATA_PART = "agu", "std"
 # the ports of the kinds that have one each, and of a store's parts; all others share those of arithmetic
 PORTS = {LOAD: 1, STORE: 2, MULTIPLICATION: 3, DIVISION: 4, ADDRESS_PART: 5, DATA_PART: 6}
 ARITHMETIC_PORTS = 0
+# the event of an entry's issue by its kind, where it isn't `alu`
+EVENT_OF = {LOAD: "ld", STORE: "agu", MULTIPLICATION: "mul", DIVISION: "div"}
 
 
 class Wait:
@@ -51,8 +53,8 @@ class Item:
                  "mispredicted", "retired", "squashed", "trapped", "lines", "written", "output", "one", "two", "awaits", "consumers",
                  "root_one", "root_two", "root", "youngest_root", "waits", "from_one", "from_two", "address_at", "data_at", "sharers",
                  "lacking_at", "lacking", "cleared", "passed", "violated", "open", "fill", "late", "since", "registers", "destination",
-                 "is_load", "is_store", "is_control", "at_once", "port", "source_one", "source_two", "waiting", "goes", "address_goes",
-                 "data_goes", "value")
+                 "is_load", "is_store", "is_control", "at_once", "port", "source_one", "source_two", "event", "divides", "is_return",
+                 "waiting", "goes", "address_goes", "data_goes", "value")
 
     def __init__(self):
         self.serial = -1
@@ -70,6 +72,7 @@ class Item:
         self.kind, self.registers, self.destination = code.kind, code.registers, code.destination
         self.is_load, self.is_store, self.is_control, self.at_once = code.is_load, code.is_store, code.is_control, code.at_once
         self.port, self.source_one, self.source_two = code.port, code.source_one, code.source_two
+        self.event, self.divides, self.is_return = code.event, code.divides, code.is_return
 
     @property
     def gone(self):
@@ -134,11 +137,11 @@ class Item:
 
 
 class Code:
-    """What items take over of the instruction at an address: `source_one` and `source_two` are the registers that it reads, negative
+    """What items take over of the instruction at an address: `event` is that of its issue, `source_one` and `source_two` are the registers that it reads, negative
     where there are fewer."""
 
     __slots__ = ("source_one", "source_two", "instruction", "kind", "registers", "destination", "is_load", "is_store", "is_control", "at_once",
-                 "port")
+                 "port", "event", "divides", "is_return")
 
     def __init__(self, instruction):
         self.instruction = instruction
@@ -146,4 +149,5 @@ class Code:
         self.source_one, self.source_two = (*self.registers, -1, -1)[:2]
         self.is_load, self.is_store = self.kind == LOAD, self.kind == STORE
         self.is_control, self.at_once = self.kind in CONTROLS, self.kind in AT_ONCE
-        self.port = PORTS.get(self.kind, ARITHMETIC_PORTS)
+        self.port, self.event = PORTS.get(self.kind, ARITHMETIC_PORTS), EVENT_OF.get(self.kind, "alu")
+        self.divides, self.is_return = self.kind == DIVISION, instruction.is_return

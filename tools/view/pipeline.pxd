@@ -6,7 +6,7 @@ from view.rows cimport Event
 
 
 cdef class Pipeline:
-    cdef public object image, description
+    cdef public object image, description, now
     cdef public Item last_squash
     cdef public long long filled, dropped, prefetched, from_second, mask, waiting
     cdef public long long cycle, version, depend, hit_latency, mul_latency, count, loads, stores, charged
@@ -17,6 +17,7 @@ cdef class Pipeline:
     cdef public Divider divider
     @cython.locals(first=Item)
     cpdef bint is_hidden(self, Item root) except? -1
+    cpdef begin(self, cycle)
     @cython.locals(item=Item)
     cpdef Item entry(self, Event event)
     cpdef put(self, Item item)

@@ -35,7 +35,7 @@ class Pipeline:
         self.version, self.depend = description.version, description.depend
         self.futuristic, self.spectre = description.model == FUTURISTIC, description.model == SPECTRE
         self.hit_latency, self.mul_latency = description.hit_latency, description.mul_latency
-        self.cycle = self.count = 0
+        self.cycle = self.now = self.count = 0
         self.codes = {}
         self.queue, self.window, self.flight, self.ring = [], [], [], [None] * RING
         self.mask = RING - 1
@@ -57,6 +57,10 @@ class Pipeline:
             return False
         first = self.shadows[0]
         return root.serial > first.serial
+
+    def begin(self, cycle):
+        """A cycle begins; `now` is its number as an object, for the times of items."""
+        self.cycle = self.now = cycle
 
     def entry(self, event):
         """The entry in flight of an event's serial."""
@@ -99,11 +103,11 @@ class Pipeline:
             self.second.fill(line)
 
     def complete(self, item):
-        item.done = self.cycle
+        item.done = self.now
         for consumer in item.consumers:
             consumer.awaits -= 1
             if not consumer.awaits:
-                consumer.ready = self.cycle
+                consumer.ready = self.now
                 consumer.late = item.late or consumer.late
             if consumer.open is not None:
                 consumer.wake(self.cycle)
@@ -134,7 +138,7 @@ class Pipeline:
     # ---- Resolve and Clear
 
     def resolve(self, item, outcome):
-        item.resolved, item.outcome = self.cycle, outcome
+        item.resolved, item.outcome = self.now, outcome
         for entries in (self.controls, self.outcomes, self.shadows):
             if is_among(item, entries):
                 entries.remove(item)
@@ -146,7 +150,7 @@ class Pipeline:
         return self.drop_from(item.serial + 1)
 
     def clear(self, store):
-        store.cleared = self.cycle
+        store.cleared = self.now
         if is_among(store, self.clearable):
             self.clearable.remove(store)
         if store.is_store or store.is_load and self.futuristic:
@@ -172,7 +176,7 @@ class Pipeline:
         """Drops the entries from this serial on, and the queue."""
         queued, dropped, registers = len(self.queue), pop_from(self.window, serial), set()
         for gone in self.queue:
-            gone.squashed = self.cycle
+            gone.squashed = self.now
         self.queue.clear()
         for gone in dropped:
             self.drop(gone)
@@ -186,7 +190,7 @@ class Pipeline:
 
     def drop(self, item):
         """An entry of the window goes."""
-        item.squashed = self.cycle
+        item.squashed = self.now
         if item.open is not None:
             item.wake(self.cycle)
         self.waiting -= item.waiting
@@ -218,7 +222,7 @@ class Pipeline:
         if not self.window or self.window[0] is not item:
             raise Fault(f"cycle {self.cycle}: ret:{item.serial} is not of the oldest entry")
         del self.window[0]
-        item.retired = self.cycle
+        item.retired = self.now
         self.leave(item)
         if item.is_store:
             for entries in (self.open_stores, self.clearable):
@@ -247,7 +251,7 @@ class Pipeline:
             return
         item.waiting = False
         self.waiting -= 1
-        item.issued, item.unit = self.cycle, name
+        item.issued, item.unit = self.now, name
         if name == "ld":
             item.passed = bool(self.open_stores) and self.passes_a_store(item)
             self.access(item, event)
@@ -275,7 +279,7 @@ class Pipeline:
         if item.address_at >= 0 and item.data_at >= 0:
             item.waiting = False
             self.waiting -= 1
-            item.issued, item.unit, item.due = self.cycle, ADDRESS_PART, self.cycle + 1
+            item.issued, item.unit, item.due = self.now, ADDRESS_PART, self.cycle + 1
 
     def lacks_address(self, store):
         """Whether the address of a store isn't known."""
@@ -337,7 +341,7 @@ class Pipeline:
         if item is None or item.pc != pc:
             raise Fault(f"cycle {self.cycle}: ren:{serial}:{pc:08x} is not of the front of the queue")
         del self.queue[0]
-        item.serial, item.renamed = serial, self.cycle
+        item.serial, item.renamed = serial, self.now
         self.find_sources(item)
         self.put(item)
         self.window.append(item)

@@ -38,7 +38,7 @@ cdef class Reasons:
     cpdef str to_issue_part(self, Item item, str part, Item writer, bint goes)
     cpdef bint may_be_held_back(self, Item writer, bint goes) except? -1
     cpdef keep(self, Item item, bint goes, str reason, Item cause)
-    @cython.locals(divides=cython.bint, reason=str)
+    @cython.locals(reason=str)
     cpdef str to_issue(self, Item item, bint goes)
     @cython.locals(store=Item, found=str, waits=cython.bint)
     cpdef str behind_stores(self, Item load, bint taint=*)

@@ -5,7 +5,7 @@ wait that no rule asks for, and a step that a rule forbids, are told as unexplai
 made from its text, the image and the description alone.
 """
 from .description import FUTURISTIC, HOLD
-from .instruction import CALL, DIVISION, STORE
+from .instruction import CALL
 from .items import ADDRESS_PART, ARITHMETIC_PORTS, DATA_PART, PARTS, PORTS
 from .pipeline import enter
 
@@ -157,7 +157,7 @@ class Reasons:
 
     def roots_of_wait(self, item):
         """The loads that have to be visible for this entry to issue: a load also asks for those of the addresses of stores without data."""
-        if self.description.defence == HOLD or item.is_load or item.kind == DIVISION:
+        if self.description.defence == HOLD or item.is_load or item.divides:
             yield item.youngest_root
         if item.is_load and self.description.version != 1:
             yield from [store.root_one for store in self.older_open_stores(item) if store.data_at < 0]
@@ -237,8 +237,7 @@ class Reasons:
             self.cause = self.held_back(item)
             if self.cause is not None:
                 return HELD_BACK
-        divides = item.kind == DIVISION
-        if item.is_load or divides:
+        if item.is_load or item.divides:
             self.cause = item.youngest_root
             if self.cause is not None and self.pipeline.is_hidden(self.cause):
                 return TAINT
@@ -246,7 +245,7 @@ class Reasons:
         reason = self.behind_stores(item) if item.is_load and self.pipeline.open_stores else None
         if reason is not None:
             return reason
-        if divides and self.pipeline.cycle < self.pipeline.divider.free_from:
+        if item.divides and self.pipeline.cycle < self.pipeline.divider.free_from:
             self.cause = self.pipeline.divider.user
             return DIVIDER
         if not self.ports[item.port]:

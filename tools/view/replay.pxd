@@ -26,7 +26,7 @@ cdef class Replay:
     cpdef list gone(self)
     cpdef bint nothing_due(self, long long cycle) except? -1
     cpdef repeat(self, long long cycle)
-    @cython.locals(pipeline=Pipeline, cycle=cython.longlong, squashed=cython.bint, violated=Item, fetched=list,
+    @cython.locals(pipeline=Pipeline, squashed=cython.bint, violated=Item, fetched=list,
                    fills=list, completes=list, resolves=list, clears=list, retires=list, issues=list, renames=list, fetches=list)
     cpdef take(self, Row row, tuple phases)
     @cython.locals(found=list, event=Event)

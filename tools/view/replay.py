@@ -2,7 +2,7 @@
 from . import Fault
 from .checks import Checks
 from .front_end import FrontEnd
-from .instruction import CALL, DIVISION
+from .instruction import CALL
 from .items import ADDRESS_PART, DATA_PART
 from .pipeline import PREFETCH, Pipeline
 from .reasons import Reasons
@@ -36,18 +36,26 @@ class Replay:
 
         Those that are in flight at the end come last. With `until` only the cycles up to that one are read.
         """
+        for batch in self.batches(until):
+            yield from batch
+
+    def batches(self, until=None):
+        """The fetched instructions as `items` has them, those of a cycle in a list."""
         flight, ends = self.pipeline.flight, False
         for row in self.trace:
             if until is not None and row.cycle > until:
                 break
             self.step(row)
             ends = row.ends
-            yield from self.gone()
+            if flight:
+                batch = self.gone()
+                if batch:
+                    yield batch
         self.end(self.trace.end)
         for item in flight:
             if item.open is not None:
                 item.wake(self.pipeline.cycle + (not ends))
-        yield from flight
+        yield flight
 
     def end(self, end):
         """What the last line says: the counts, and that the oldest entry traps."""
@@ -75,7 +83,8 @@ class Replay:
     def step(self, row):
         """One cycle."""
         pipeline, counted = self.pipeline, self.pipeline.counts
-        pipeline.cycle, told = row.cycle, len(self.reasons.unexplained) + len(self.reasons.presumed)
+        pipeline.begin(row.cycle)
+        told = len(self.reasons.unexplained) + len(self.reasons.presumed)
         pipeline.counts = self.span[0] <= row.cycle and (self.span[1] is None or row.cycle <= self.span[1])
         if self.quiet and row.empty and not row.ends and counted == pipeline.counts and self.nothing_due(row.cycle):
             self.repeat(row.cycle)
@@ -108,11 +117,11 @@ class Replay:
 
     def take(self, row, phases):
         """The seven phases, and Clear behind Resolve. After an end in Retire no later phase acts."""
-        pipeline, cycle = self.pipeline, row.cycle
+        pipeline = self.pipeline
         fills, completes, resolves, clears, retires, issues, renames, fetches = phases
-        if fills or cycle in pipeline.dues:
+        if fills or pipeline.now in pipeline.dues:
             self.fill([event.number for event in fills])
-        if completes or cycle in self.checks.due:
+        if completes or pipeline.now in self.checks.due:
             self.complete(self.entries(completes))
         squashed = self.resolve(resolves)
         violated = self.clear(clears)
@@ -241,7 +250,7 @@ class Replay:
             self.pipeline.issue(item, steps[place])
             if self.asked:
                 self.checks.issued(item)
-                if item.waits or item.kind == DIVISION:
+                if item.since is not None or item.divides:
                     self.slots.issue(item)
         if self.asked:
             self.close()
@@ -256,7 +265,8 @@ class Replay:
         for place in range(len(steps)):
             item, event = items[place], steps[place]
             item.goes = item.address_goes = item.data_goes = False
-            self.checks.unit(item, event.name)
+            if event.name != item.event:
+                self.checks.unit(item, event.name)
             if event.name == "ld":
                 self.checks.access(item, event)
 

@@ -2,7 +2,10 @@
 cimport cython
 
 
-cdef long long MOST_DIGITS, MOST_LETTERS
+cdef long long MOST_DIGITS, MOST_LETTERS, FACTOR
+
+
+cpdef Py_ssize_t place_of(long long key, long long factor)
 
 
 cdef class Shape:
@@ -18,7 +21,7 @@ cdef class Event:
     cdef public object rest
 
 
-@cython.locals(head=str)
+@cython.locals(head=str, row=Row)
 cpdef Row read_row(str line, long long number)
 
 
@@ -26,6 +29,7 @@ cdef class Row:
     cdef public long long cycle
     cdef public str line
     cdef public bint empty, ends
+    cpdef begin(self, long long cycle, str line)
     cpdef tuple phases(self)
     @cython.locals(words=list, name=str, text=str, shape=Shape)
     cpdef tuple split(self)

@@ -42,16 +42,21 @@ SHAPES = {name: Shape(name, *shape) for name, shape in EVENTS.items()}
 NO_SHAPE = Shape("", 0, 0, TEXT, TEXT)
 
 
+def place_of(key, factor):
+    """Where the shape of a key stands in the table, of 64 places."""
+    return key * factor >> 20 & 63
+
+
 def table_of(shapes):
-    """A list that has each shape at the place of its key, taken modulo the list's length: that is chosen so."""
-    length = next(number for number in range(len(shapes), 1000) if len({shape.key % number for shape in shapes}) == len(shapes))
-    table = [NO_SHAPE] * length
+    """A list that has each shape at its place, and the factor by which each has one of its own."""
+    factor = next(number for number in range(1, 1 << 20) if len({place_of(shape.key, number) for shape in shapes}) == len(shapes))
+    table = [NO_SHAPE] * 64
     for shape in shapes:
-        table[shape.key % length] = shape
-    return table
+        table[place_of(shape.key, factor)] = shape
+    return table, factor
 
 
-TABLE = table_of(list(SHAPES.values()))
+TABLE, FACTOR = table_of(list(SHAPES.values()))
 
 
 class Event:
@@ -79,7 +84,9 @@ def read_row(line, number):
     head = str(number)
     if not line.startswith(head) or len(line) > len(head) + 1 and line[len(head)] != " ":
         raise Fault(f"line {number} is no line of cycle {number}: `{line.strip()[:60]}`")
-    return Row(number, line, False)
+    row = Row()
+    row.begin(number, line)
+    return row
 
 
 class Row:
@@ -87,8 +94,9 @@ class Row:
 
     __slots__ = ("cycle", "line", "empty", "ends")
 
-    def __init__(self, cycle, line, ends):
-        self.cycle, self.line, self.empty, self.ends = cycle, line, " " not in line, ends
+    def begin(self, cycle, line):
+        """Its number and its line."""
+        self.cycle, self.line, self.empty, self.ends = cycle, line, " " not in line, False
 
     @property
     def events(self):
@@ -127,7 +135,7 @@ def scan(line):
     while 0 <= place < last:
         behind = end_of_word(letters, place + 1, last)
         shape = shape_of(letters, place + 1, behind)
-        if behind == last or shape.length == 0:
+        if behind == last or letters[behind] != ord(":") or shape.length == 0:
             return None
         if number == len(pool):
             pool.append(Event("", 0))
@@ -151,7 +159,7 @@ def shape_of(letters, place, behind):
     while place < behind:
         key = key << 8 | letters[place]
         place += 1
-    shape = table[key % len(table)]
+    shape = table[place_of(key, FACTOR)]
     return shape if shape.key == key else NO_SHAPE
 
 

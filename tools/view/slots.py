@@ -92,7 +92,7 @@ class Slots:
 
     def issue(self, item):
         """How long the defence held what issues or is resolved now, and what had delayed it before."""
-        divides = item.kind == DIVISION and item.issued is not None
+        divides = item.divides and item.issued is not None
         if item.since is None and not divides:
             return
         held = times_held(item)

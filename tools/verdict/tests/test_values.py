@@ -29,7 +29,7 @@ def renamed(numbers, model=SPECTRE):
 
 def issue(pipeline, item):
     """An entry issues in a cycle of its own; a load finds its lines."""
-    pipeline.cycle += 1
+    pipeline.begin(pipeline.cycle + 1)
     name = {LOAD: "ld", STORE: "agu"}.get(item.code.kind, "alu")
     lines = pipeline.lines_of(pipeline.located(item)) if name == "ld" else []
     pipeline.issue(item, Event(name, item.serial, lines[0], "h") if lines else Event(name, item.serial))

@@ -36,13 +36,13 @@ from verdict.path import walk
 from view import command, pipeline
 from view.description import read_description
 def run_of(image, described, model, steps):
-    """What the instruction set's run of an image loads, and how it leaves registers and memory."""
+    # what the instruction set's run of an image loads, each step, and how it leaves registers and memory
     loaded = load(image, read_description(described))
     run = hart.Hart(loaded, model != "futuristic")
     steps_taken = [tuple(step) for step in run.run(steps)]
     return walk(loaded, model, steps), steps_taken, hart.report(run, loaded)
 def values_of(numbers):
-    """What each instruction makes of each two of these words."""
+    # what each instruction makes of each two of these words
     pairs = [(a, b) for a in numbers for b in numbers]
     return [[name, [f(name, *pair) for pair in pairs]] for names, f in ((VALUES, value_of), (BRANCHES.values(), takes)) for name in sorted(names)]
 assert pipeline.__file__.endswith(".so") == bool(sys.argv[3:]), pipeline.__file__
