@@ -5,7 +5,7 @@ cimport cython
 cdef long long MOST_DIGITS, MOST_LETTERS, FACTOR
 
 
-cpdef Py_ssize_t place_of(long long key, long long factor)
+cpdef Py_ssize_t place_of(long long key)
 
 
 cdef class Shape:

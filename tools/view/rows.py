@@ -42,21 +42,24 @@ SHAPES = {name: Shape(name, *shape) for name, shape in EVENTS.items()}
 NO_SHAPE = Shape("", 0, 0, TEXT, TEXT)
 
 
-def place_of(key, factor):
-    """Where the shape of a key stands in the table, of 64 places."""
-    return key * factor >> 20 & 63
+# found by trial: by it each name has a place of its own in a table of 64
+FACTOR = 177567
+
+
+def place_of(key):
+    """Where the shape of a name stands in the table."""
+    return key * FACTOR >> 20 & 63
 
 
 def table_of(shapes):
-    """A list that has each shape at its place, and the factor by which each has one of its own."""
-    factor = next(number for number in range(1, 1 << 20) if len({place_of(shape.key, number) for shape in shapes}) == len(shapes))
+    """A list that has each shape at its place."""
     table = [NO_SHAPE] * 64
     for shape in shapes:
-        table[place_of(shape.key, factor)] = shape
-    return table, factor
+        table[place_of(shape.key)] = shape
+    return table
 
 
-TABLE, FACTOR = table_of(list(SHAPES.values()))
+TABLE = table_of(SHAPES.values())
 
 
 class Event:
@@ -159,7 +162,7 @@ def shape_of(letters, place, behind):
     while place < behind:
         key = key << 8 | letters[place]
         place += 1
-    shape = table[place_of(key, FACTOR)]
+    shape = table[place_of(key)]
     return shape if shape.key == key else NO_SHAPE
 
 

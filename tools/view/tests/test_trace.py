@@ -5,7 +5,7 @@ import unittest
 
 import support
 from view import Fault
-from view.rows import Row, scan
+from view.rows import EVENTS, TABLE, Row, scan
 from view.trace import Progress, Trace
 
 SHORT = """1 fet:00010000 fet:00010004
@@ -39,6 +39,9 @@ class Rows(unittest.TestCase):
         self.assertEqual([row.cycle for row in rows], [1, 2, 3, 4, 5])
         self.assertEqual(rows[1].events, ["ren:0:00010000", "fet:00010008"])
         self.assertEqual((trace.end.how, trace.end.retired, trace.end.cycles), ("exit 0", 2, 5))
+
+    def test_each_name_has_a_place_of_its_own(self):
+        self.assertEqual(sorted(shape.name for shape in TABLE if shape.name), sorted(EVENTS))
 
     def test_letter_by_letter(self):
         """What compiled modules read letter by letter is what `split` finds, or they leave a line that isn't just as written to it."""
