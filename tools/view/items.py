@@ -137,8 +137,8 @@ class Item:
 
 
 class Code:
-    """What items take over of the instruction at an address: `event` is that of its issue, `source_one` and `source_two` are the registers that it reads, negative
-    where there are fewer."""
+    """What items take over of the instruction at an address: `event` is that of its issue, `source_one` and `source_two` are the registers
+    that it reads, negative where there are fewer."""
 
     __slots__ = ("source_one", "source_two", "instruction", "kind", "registers", "destination", "is_load", "is_store", "is_control", "at_once",
                  "port", "event", "divides", "is_return")

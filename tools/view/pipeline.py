@@ -23,8 +23,9 @@ class Pipeline:
 
     `ring` has the entries in flight, each at the place that the low bits of its serial say, of which `mask` has those that count. `waiting`
     is how many of them haven't issued, and `awake` are those of these that don't wait for a writer alone; `open_stores` the stores that
-    aren't Done, and `shadows` the entries that keep younger ones from being visible: what stands behind the first of them isn't. `outcomes` are the branches and JALRs
-    that are Done and not resolved, `clearable` the stores of known address that aren't cleared. `dues` are the lines that are to come, by
+    aren't Done, and `shadows` the entries that keep younger ones from being visible: what stands behind the first of them isn't. `outcomes`
+    are the branches and JALRs that are Done and not resolved, `clearable` the stores of known address that aren't cleared. `dues` are the
+    lines that are to come, by
     their cycles. In the cycles that are looked at `counts` is set, and what is counted of cycles is counted: `filled` are the lines that
     came, `dropped` those that went for them, `prefetched` and `from_second` the lines that are prefetched and those of them from the second
     level. `fills` has the lines that came by their cycles; it may be none.
