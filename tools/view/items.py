@@ -4,8 +4,6 @@ from operator import attrgetter
 from .instruction import AT_ONCE, CONTROLS, DIVISION, LOAD, MULTIPLICATION, STORE
 
 NEVER = 1 << 62
-# the serial of an item that isn't renamed
-UNNAMED = -1
 BY_AGE = attrgetter("serial")
 # the parts of a store, by the names of their events
 PARTS = ADDRESS_PART, DATA_PART = "agu", "std"
@@ -17,8 +15,8 @@ EVENT_OF = {LOAD: "ld", STORE: "agu", MULTIPLICATION: "mul", DIVISION: "div"}
 
 
 class Wait:
-    """Cycles in a row in which an instruction waited for one reason: that, and serial and address of the entry that it waited for, UNNAMED
-    where it is none. `last` is NEVER as long as it lasts until a writer is Done: its end is set then."""
+    """Cycles in a row in which an instruction waited for one reason: that, and serial and address of the entry that it waited for, a
+    negative serial where it is none. `last` is NEVER as long as it lasts until a writer is Done: its end is set then."""
 
     __slots__ = ("first", "last", "reason", "serial", "pc")
 
@@ -46,7 +44,7 @@ class Item:
     is cleared, where loads pass stores. `fill` is why it was renamed no earlier, `late` what the defence took of its time, and `since`
     what had been charged to the defence when it was first held (`slots`). In this cycle it issues where it `goes`, a store's parts where
     `address_goes` and `data_goes`, and it is `waiting` as long as it hasn't. `value` is what another tool keeps of it (`verdict.values`). `serial`
-    is UNNAMED until it is renamed.
+    is negative until it is renamed.
     """
 
     __slots__ = ("number", "pc", "code", "kind", "serial", "fetched", "renamed", "ready", "issued", "unit", "due", "done", "resolved", "outcome",
