@@ -1,9 +1,9 @@
 """The instruction set's own machine: one instruction at a time, in order (docs/instruction-set.md)."""
-from typing import NamedTuple, Optional
+from collections import namedtuple
 
-from view.instruction import CALL, LOAD, STORE
+from view.instruction import CALL, LOAD
 
-from .operation import SIZES, WORD, decode, effect, extend
+from .operation import WORD, decoded_of, effect
 
 # The causes of traps.
 JUMP_MISALIGNED, OUTSIDE_CODE, ILLEGAL, BREAKPOINT = 0, 1, 2, 3
@@ -13,24 +13,16 @@ EXITS, WRITE, MOST_WRITTEN = (93, 94), 64, 1024
 NO_STREAM, NO_MEMORY, NO_CALL = -9, -14, -38
 
 
-class Access(NamedTuple):
+class Access(namedtuple("Access", "kind address size")):
     """What a load or store without fault accessed: so many bytes from an address on."""
-    kind: str
-    address: int
-    size: int
 
-    @property
-    def bytes(self):
-        return range(self.address, self.address + self.size)
+    __slots__ = ()
 
 
-class Step(NamedTuple):
-    """What one step did. `written` is a register and its value. `fault` is that of a load or store that was passed over."""
-    pc: int
-    word: Optional[int]
-    written: Optional[tuple] = None
-    access: Optional[Access] = None
-    fault: Optional[int] = None
+class Step(namedtuple("Step", "pc word written access fault")):
+    """What one step did. `written` is a register and its value, or none. `fault` is that of a load or store that was passed over."""
+
+    __slots__ = ()
 
 
 class Memory:
@@ -56,17 +48,31 @@ class Memory:
     def put(self, address, data):
         self.data[address - self.base:address - self.base + len(data)] = data
 
+    def number(self, address, size):
+        """The number that so many bytes are, the lowest first."""
+        number, place = 0, address - self.base + size
+        while size:
+            size, place = size - 1, place - 1
+            number = number << 8 | self.data[place]
+        return number
+
+    def put_number(self, address, size, number):
+        """Writes the low bytes of a number."""
+        place = address - self.base
+        while size:
+            self.data[place] = number & 0xff
+            number, place, size = number >> 8, place + 1, size - 1
+
 
 def stored_bytes(value, size):
     """The bytes that a store writes, the lowest first."""
     return (value & (1 << 8 * size) - 1).to_bytes(size, "little")
 
 
-class Call(NamedTuple):
+class Call(namedtuple("Call", "exit answer piece", defaults=(None, 0, b""))):
     """What a system call leaves: the exit's value, where it ends the run; else the answer in a0, and the bytes put out."""
-    exit: Optional[int] = None
-    answer: int = 0
-    piece: bytes = b""
+
+    __slots__ = ()
 
 
 def system_call(registers, memory):
@@ -87,12 +93,14 @@ class Hart:
     """Registers, pc and memory of an image's run. `end` is none until the run ends, then ("exit", value) or ("trap", cause, pc).
 
     With `passing` a load or store that would trap is passed over: a load gives 0, a store writes nothing. That is the path of the
-    model `spectre` (docs/machine.md, "Paths")."""
+    model `spectre` (docs/machine.md, "Paths"). `last` is the address of the instruction that the last step took; `size` how many bytes
+    from `address` on it accessed, or 0, and `fault` why it would trap where it was passed over."""
 
     def __init__(self, image, passing=False):
         self.code, self.memory, self.passing = image.words, Memory(image.base, image.memory, image.misaligned), passing
         self.pc, self.registers, self.retired, self.end, self.out = image.entry, [0] * 32, 0, None, []
         self.registers[2] = image.base + len(image.memory) - 16 & WORD
+        self.decoded, self.last, self.address, self.size, self.fault = {}, 0, 0, 0, None
 
     def run(self, steps):
         """The steps that are taken, at most so many. One that traps isn't among them."""
@@ -103,52 +111,84 @@ class Hart:
             if step is not None:
                 yield step
 
+    def loads(self, steps):
+        """Takes at most so many steps. Answers each byte that is loaded, with the pc of its first load."""
+        found = {}
+        for _ in range(steps):
+            if self.end is not None:
+                break
+            decoded = self.advance()
+            if decoded is not None and decoded.is_load and self.size:
+                for address in range(self.address, self.address + self.size):
+                    if address not in found:
+                        found[address] = self.last
+        return found
+
     def step(self):
         """One step; none, and the end of the run, where it traps."""
-        word = self.code.get(self.pc)
-        if word is None:
-            return self._trap(OUTSIDE_CODE)
-        operation = decode(word)
-        if operation.code.kind == CALL:
-            return self._call(word)
-        if operation.name in ("illegal", "ebreak"):
-            return self._trap(ILLEGAL if operation.name == "illegal" else BREAKPOINT)
-        outcome = effect(operation, self.pc, *[self.registers[source] for source in operation.code.sources])
-        if outcome.misaligned:
-            return self._trap(JUMP_MISALIGNED)
-        if operation.code.kind in (LOAD, STORE):
-            return self._access(word, operation, outcome)
-        return self._go_on(word, outcome.next, operation.code.destination, outcome.value)
+        decoded = self.advance()
+        if decoded is None:
+            return None
+        register = 10 if decoded.kind == CALL and self.end is None else decoded.destination
+        written = (register, self.registers[register]) if register else None
+        access = Access(decoded.kind, self.address, self.size) if self.size else None
+        return Step(self.last, self.code[self.last], written, access, self.fault)
 
-    def _trap(self, cause):
+    def advance(self):
+        """One step; answers the instruction that it took, or none where it traps, which ends the run."""
+        pc, registers = self.pc, self.registers
+        decoded = self.decoded.get(pc)
+        if decoded is None:
+            if self.code.get(pc) is None:
+                return self.trap(OUTSIDE_CODE)
+            decoded = self.decoded[pc] = decoded_of(self.code[pc])
+        self.size, self.fault = 0, None
+        a, b = registers[decoded.one], registers[decoded.two]
+        if decoded.has_value:
+            return self.go_on(decoded, pc + 4, decoded.value(a, b))
+        if decoded.is_load or decoded.is_store:
+            return self.access(decoded, a + decoded.imm & 0xffffffff, b)
+        if decoded.is_branch and not decoded.is_taken(a, b):
+            return self.go_on(decoded, pc + 4, 0)
+        return self.call(decoded) if decoded.kind == CALL else self.other(decoded, a, b)
+
+    def other(self, decoded, a, b):
+        """What is neither an operation on values nor an access: jumps, and what traps in any case."""
+        if decoded.name in ("illegal", "ebreak"):
+            return self.trap(ILLEGAL if decoded.name == "illegal" else BREAKPOINT)
+        outcome = effect(decoded.operation, self.pc, *(a, b)[:len(decoded.operation.code.sources)])
+        return self.trap(JUMP_MISALIGNED) if outcome.misaligned else self.go_on(decoded, outcome.next, outcome.value)
+
+    def trap(self, cause):
         self.end = ("trap", cause, self.pc)
 
-    def _go_on(self, word, following, rd=0, value=0, access=None, fault=None):
+    def go_on(self, decoded, following, value):
         """Writes the register, unless it is x0, and goes on."""
-        pc, self.pc, self.retired = self.pc, following, self.retired + 1
-        if rd:
-            self.registers[rd] = value
-        return Step(pc, word, (rd, value) if rd else None, access, fault)
+        self.last, self.pc, self.retired = self.pc, following & 0xffffffff, self.retired + 1
+        if decoded.destination:
+            self.registers[decoded.destination] = value
+        return decoded
 
-    def _access(self, word, operation, outcome):
-        (kind, _, destination), address, size = operation.code, outcome.address, SIZES[operation.name]
-        fault = self.memory.fault(kind, address, size)
-        if fault is not None:
-            return self._go_on(word, outcome.next, destination, 0, fault=fault) if self.passing else self._trap(fault)
-        access = Access(kind, address, size)
-        if kind == STORE:
-            self.memory.put(address, stored_bytes(outcome.stored, size))
-            return self._go_on(word, outcome.next, access=access)
-        return self._go_on(word, outcome.next, destination, extend(operation.name, self.memory.get(address, size)), access)
+    def access(self, decoded, address, stored):
+        """A load or a store."""
+        self.fault = self.memory.fault(decoded.kind, address, decoded.size)
+        if self.fault is not None:
+            return self.go_on(decoded, self.pc + 4, 0) if self.passing else self.trap(self.fault)
+        self.address, self.size = address, decoded.size
+        if decoded.is_store:
+            self.memory.put_number(address, decoded.size, stored)
+            return self.go_on(decoded, self.pc + 4, 0)
+        return self.go_on(decoded, self.pc + 4, decoded.extended(self.memory.number(address, decoded.size)))
 
-    def _call(self, word):
+    def call(self, decoded):
         call = system_call(self.registers, self.memory)
         if call.exit is not None:
             self.end = ("exit", call.exit)
-            return self._go_on(word, self.pc + 4 & WORD)
+            return self.go_on(decoded, self.pc + 4, 0)
         if call.piece:
             self.out.append(call.piece)
-        return self._go_on(word, self.pc + 4 & WORD, 10, call.answer)
+        self.registers[10] = call.answer
+        return self.go_on(decoded, self.pc + 4, 0)
 
 
 def end_text(end, retired):

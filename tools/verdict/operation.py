@@ -6,6 +6,8 @@ from typing import NamedTuple
 
 from view.instruction import BRANCH, ILLEGAL, LOAD, STORE, Instruction, instruction_of
 
+from .arithmetic import Decoded, takes, value_of
+
 WORD = 0xffffffff
 
 BRANCHES = {0: "beq", 1: "bne", 4: "blt", 5: "bge", 6: "bltu", 7: "bgeu"}
@@ -93,45 +95,8 @@ FORMS = {
 }
 
 
-def quotient(a, b):
-    """The quotient of two numbers with signs, rounded towards zero."""
-    size = abs(a) // abs(b)
-    return size if (a < 0) == (b < 0) else -size
-
-
-VALUES = {
-    "add": lambda a, b: a + b,
-    "sub": lambda a, b: a - b,
-    "sll": lambda a, b: a << (b & 31),
-    "slt": lambda a, b: signed(a) < signed(b),
-    "sltu": lambda a, b: a < b,
-    "xor": lambda a, b: a ^ b,
-    "srl": lambda a, b: a >> (b & 31),
-    "sra": lambda a, b: signed(a) >> (b & 31),
-    "or": lambda a, b: a | b,
-    "and": lambda a, b: a & b,
-    "mul": lambda a, b: a * b,
-    "mulh": lambda a, b: signed(a) * signed(b) >> 32,
-    "mulhsu": lambda a, b: signed(a) * b >> 32,
-    "mulhu": lambda a, b: a * b >> 32,
-    "div": lambda a, b: quotient(signed(a), signed(b)) if b else WORD,
-    "divu": lambda a, b: a // b if b else WORD,
-    "rem": lambda a, b: signed(a) - signed(b) * quotient(signed(a), signed(b)) if b else a,
-    "remu": lambda a, b: a % b if b else a,
-}
-VALUES.update({
-    "addi": VALUES["add"], "slti": VALUES["slt"], "sltiu": VALUES["sltu"], "xori": VALUES["xor"], "ori": VALUES["or"],
-    "andi": VALUES["and"], "slli": VALUES["sll"], "srli": VALUES["srl"], "srai": VALUES["sra"],
-})
-
-TAKEN = {
-    "beq": lambda a, b: a == b,
-    "bne": lambda a, b: a != b,
-    "blt": lambda a, b: signed(a) < signed(b),
-    "bge": lambda a, b: signed(a) >= signed(b),
-    "bltu": lambda a, b: a < b,
-    "bgeu": lambda a, b: a >= b,
-}
+# the names of what makes a value of two registers, or of one and an immediate
+VALUES = frozenset([*REGISTERS.values(), *IMMEDIATES.values(), *SHIFTS.values()])
 
 
 def division_time(name, dividend):
@@ -153,15 +118,14 @@ def effect(operation, pc, a=0, b=0):
     """The effect of an operation at this pc whose first and second source hold a and b."""
     (kind, sources, _), name, imm = operation
     behind = pc + 4 & WORD
-    value = VALUES.get(name)
-    if value is not None:
-        return Effect(int(value(a, b if len(sources) == 2 else imm & WORD)) & WORD, behind)
+    if name in VALUES:
+        return Effect(value_of(name, a, b if len(sources) == 2 else imm & WORD), behind)
     if name == "jal":
         return jump(behind, pc + imm & WORD)
     if name == "jalr":
         return jump(behind, a + imm & WORD & ~1)
     if kind == BRANCH:
-        return jump(1, pc + imm & WORD) if TAKEN[name](a, b) else Effect(0, behind)
+        return jump(1, pc + imm & WORD) if takes(name, a, b) else Effect(0, behind)
     if kind in (LOAD, STORE):
         return Effect(0, behind, a + imm & WORD, b)
     if name == "lui":
@@ -169,3 +133,9 @@ def effect(operation, pc, a=0, b=0):
     if name == "auipc":
         return Effect(pc + imm & WORD, behind)
     return Effect(0, behind)
+
+
+def decoded_of(word):
+    """What is taken of a word to execute it."""
+    operation = decode(word)
+    return Decoded(operation, SIZES.get(operation.name, 0), operation.name in VALUES)

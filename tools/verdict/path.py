@@ -2,7 +2,6 @@
 from typing import NamedTuple, Optional
 
 from view.description import FUTURISTIC
-from view.instruction import LOAD
 
 from .hart import Hart
 
@@ -21,12 +20,8 @@ def hart_of(image, model):
 
 def walk(image, model, steps):
     """The path of an image in so many steps."""
-    hart, loads = hart_of(image, model), {}
-    for step in hart.run(steps):
-        if step.access is not None and step.access.kind == LOAD:
-            for address in step.access.bytes:
-                loads.setdefault(address, step.pc)
-    return Path(loads, hart.retired, hart.end)
+    hart = hart_of(image, model)
+    return Path(hart.loads(steps), hart.retired, hart.end)
 
 
 def log_line(step, texts):

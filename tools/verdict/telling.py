@@ -11,7 +11,6 @@ from collections import Counter, namedtuple
 
 from view.description import HOLD
 from view.instruction import BRANCH, CALL, DIVISION, JALR, LOAD, STORE
-from view.pipeline import PARTS, lines_of
 from view.reasons import STORE_TAINT, Reasons
 from view.replay import Replay
 
@@ -43,27 +42,29 @@ class Shown(namedtuple("Shown", "times cycle")):
 
 
 class Telling(Replay):
-    """`held` and `shown`, by an instruction's address and what of it shows; `wrong_loads` are the loads of differing bytes on wrong paths, by
+    """`differs` says whether any byte does: else nothing is marked. `held` and `shown`, by an instruction's address and what of it shows;
+    `wrong_loads` are the loads of differing bytes on wrong paths, by
     their addresses, and `wrong_values` how many of their values came. `holding` are the entries in flight that were held, by their serials,
     each with what it is counted in, and `loads` the serials of the loads of these bytes in flight. Values are compared with
     what the trace tells in any case; only where it is `thorough` also all that tools/view checks of a trace, and the reason of each wait. `rules`
     are the rules of docs/machine.md by which a load waits for stores."""
 
     def __init__(self, trace, image, description, differing, thorough=True):
-        self.valued = Valued(image, description, differing)
+        self.valued, self.differs = Valued(image, description, differing), len(differing) > 0
         super().__init__(trace, image, description, self.valued, asked=thorough)
         self.rules, self.thorough = Reasons(self.pipeline), thorough
         self.held, self.shown, self.wrong_loads, self.wrong_values = {}, {}, Counter(), 0
         self.holding, self.loads, self.held_now, self.was_empty, self.skips = {}, set(), [], False, False
         self.only_counts()
-        for item in self.items():
-            self.went(item)
+        for batch in self.batches():
+            for item in batch if self.differs else ():
+                self.went(item)
 
     def step(self, row):
         """One cycle. Behind a cycle without events another one changes nothing, and holds what that one held (docs/machine.md, "Cycles in
         which nothing happens")."""
         if self.was_empty and row.empty and not row.ends and not self.thorough:
-            self.pipeline.cycle = row.cycle
+            self.pipeline.begin(row.cycle)
             for held in self.held_now:
                 held.cycles += 1
             return
@@ -84,41 +85,35 @@ class Telling(Replay):
                 self.wrong_loads[item.pc] += 1
                 self.wrong_values += item.done is not None
 
-    def marked(self, item):
-        """For each source, whether its value comes from the differing bytes."""
-        return item.value.marked
-
     def hidden(self, item):
         """Whether a source is made of the differing bytes, and tainted."""
         if item.youngest_root is None or not self.pipeline.is_hidden(item.youngest_root):
             return False
         value = item.value
-        for place in range(len(value.sources)):
-            source = value.sources[place]
-            if source.mark and self.pipeline.is_hidden(item.roots[place]):
-                return True
-        return False
+        if self.hidden_base(item):
+            return True
+        return value.two is not None and value.two.mark and self.pipeline.is_hidden(item.root_two)
 
-    def hidden_source(self, item, place):
-        if not self.pipeline.is_hidden(item.roots[place]):
-            return False
+    def hidden_base(self, item):
+        """Whether the first source is."""
         value = item.value
-        source = value.sources[place]
-        return source.mark
+        return value.one is not None and value.one.mark and self.pipeline.is_hidden(item.root_one)
 
-    @property
     def nothing_is_hidden(self):
-        """Whether everything in flight is visible: then nothing is held by taint, nor held back."""
-        last = self.pipeline.window[-1] if self.pipeline.window else None
-        return last is None or self.pipeline.point >= last.serial
+        """Whether no byte differs, or everything in flight is visible: then nothing is held by taint, nor held back."""
+        if not self.differs or not self.pipeline.window or not self.pipeline.shadows:
+            return True
+        first, last = self.pipeline.shadows[0], self.pipeline.window[-1]
+        return first.serial >= last.serial
 
     # ---- Phases
 
     def resolve(self, events):
-        hidden = [] if self.nothing_is_hidden else [item for item in self.pipeline.controls if self.hidden(item)]
-        for words in events[:1]:
-            item = self.pipeline.entry(words)
-            self.shows(item, item.value.is_marked)
+        hidden = [] if self.nothing_is_hidden() else [item for item in self.pipeline.controls if self.hidden(item)]
+        if events and self.differs:
+            item = self.pipeline.entry(events[0])
+            value = item.value
+            self.shows(item, value.is_marked())
         squashed = Replay.resolve(self, events)
         for item in hidden:
             if item.done is not None and item.resolved is None and item.squashed is None:
@@ -126,35 +121,40 @@ class Telling(Replay):
         return squashed
 
     def clear(self, events):
-        stores = [item for item in self.pipeline.clearable if item.issued is not None and self.hidden_source(item, 0)]
-        for words in events[:1]:
-            store = self.pipeline.entry(words)
-            self.shows(store, any(self.marked(store)[:1]), CLEARING)
+        stores = []
+        if self.differs:
+            stores = [item for item in self.pipeline.clearable if item.issued is not None and self.hidden_base(item)]
+        if events and self.differs:
+            store = self.pipeline.entry(events[0])
+            value = store.value
+            self.shows(store, value.one is not None and value.one.mark, CLEARING)
         violated = Replay.clear(self, events)
         for store in stores:
             self.holds(store, CLEARING)
         return violated
 
     def retire(self, events, ends):
-        for words in events:
-            if words[0] != "ret":
+        for event in events if self.differs else ():
+            if event.name != "ret":
                 continue
-            item = self.pipeline.entry(words)
+            item = self.pipeline.entry(event)
             if item.kind == CALL:
                 registers = arguments(self.valued.registers[A7])
                 self.shows(item, any([self.valued.marked_registers[register] for register in registers]))
-            elif item.kind == STORE:
-                self.shows(item, self.marked(item)[0])
+            elif item.is_store:
+                value = item.value
+                self.shows(item, value.one.mark)
         Replay.retire(self, events, ends)
 
     def issue(self, events):
-        before = None if self.nothing_is_hidden else self.before_issue()
-        for step in self.steps(events):
-            item = self.pipeline.entry(step[0])
-            if item.kind == LOAD:
-                self.load(item, bool(lines_of(step)))
+        before = None if self.nothing_is_hidden() else self.before_issue()
+        for event in self.steps(events) if self.differs else ():
+            item = self.pipeline.entry(event)
+            value = item.value
+            if item.is_load:
+                self.load(item, event.second >= 0)
             elif item.kind == DIVISION:
-                self.shows(item, item.value.is_marked)
+                self.shows(item, value.is_marked())
         Replay.issue(self, events)
         if before is not None:
             self.after_issue(before)
@@ -166,31 +166,30 @@ class Telling(Replay):
         ready = self.ready()
         hidden = [item for item in ready if self.hidden(item)]
         reaching = [item for item in ready if self.reaches(item) and item not in hidden]
-        held = [item for item in hidden + reaching if item.kind in (LOAD, DIVISION) and not self.uses_what_is_held_back(item)
+        held = [item for item in hidden + reaching if (item.is_load or item.kind == DIVISION) and not self.uses_what_is_held_back(item)
                 and not self.is_kept(item)]
-        stores = {store.serial for store in pipeline.open_stores if self.hidden_source(store, 0)}
-        loads = [item for item in ready if item.kind == LOAD] if stores else []
+        stores = {store.serial for store in pipeline.open_stores if self.hidden_base(store)}
+        loads = [item for item in ready if item.is_load] if stores else []
         behind = [(load, store) for load in loads for store in [self.awaited_store(load)] if store is not None and store.serial in stores]
         return set(hidden), held, behind
 
     def ready(self):
         """The entries that haven't issued and wait for no writer: loads, and what flows from loads."""
         found = []
-        for item in self.pipeline.waiting.values():
-            if not item.awaits and (item.youngest_root is not None or item.kind == LOAD):
+        for item in self.pipeline.window:
+            if item.waiting and not item.awaits and (item.youngest_root is not None or item.is_load):
                 found.append(item)
         return found
 
     def reaches(self, item):
         """Whether it is a load of hidden address that would load one of these bytes."""
-        return item.kind == LOAD and self.pipeline.is_hidden(item.roots[0]) and self.valued.loads_marked(item)
+        return item.is_load and self.pipeline.is_hidden(item.root_one) and self.valued.loads_marked(item)
 
     def awaited_store(self, load):
         """The store of hidden address without data for which this load waits, and for nothing before that."""
         if self.pipeline.is_hidden(load.youngest_root) or self.uses_what_is_held_back(load):
             return None
-        reason, store = self.rules.behind_stores(load)
-        return store if reason == STORE_TAINT else None
+        return self.rules.cause if self.rules.behind_stores(load) == STORE_TAINT else None
 
     def uses_what_is_held_back(self, item):
         return self.rules.held_back(item) is not None
@@ -208,26 +207,26 @@ class Telling(Replay):
 
     def is_kept(self, item):
         """It is a load that older stores would keep, were nothing tainted."""
-        return item.kind == LOAD and self.rules.behind_stores(item, taint=False)[0] is not None
+        return item.is_load and self.rules.behind_stores(item, False) is not None
 
     def hold_back(self):
         """Counts what would show the bytes, and waits for results that are held back, and for nothing else."""
-        for item in self.pipeline.waiting.values():
-            if item.kind in SHOWS and self.is_held_back(item) and not self.is_kept(item):
+        for item in self.pipeline.window:
+            if item.waiting and item.kind in SHOWS and self.is_held_back(item) and not self.is_kept(item):
                 what = self.would_show(item, [self.valued.prospect(source) for source in item.value.sources])
                 if what is not None:
                     self.holds(item, what)
 
     def would_show(self, item, sources):
         """What an instruction would show of the bytes with these operands, of which one is none where it can't be told yet."""
-        if item.kind == STORE:
-            loads = any(load.kind == LOAD and load.serial > item.serial for load in self.pipeline.window)
+        if item.is_store:
+            loads = any(load.is_load and load.serial > item.serial for load in self.pipeline.window)
             return BEFORE_A_LOAD if loads and sources[0] is not None and sources[0].mark else None
         if None in sources:
             return None
         if any(source.mark for source in sources):
             return SHOWS[item.kind]
-        reads = item.kind == LOAD and self.valued.would_load_marked(item, sources[0].result)
+        reads = item.is_load and self.valued.would_load_marked(item, sources[0].result)
         return LOAD_OF_THEM if reads else None
 
     def is_held_back(self, item):
@@ -237,20 +236,21 @@ class Telling(Replay):
 
     def waits_for_a_load(self, item):
         """Whether what it waits for itself is a result that is held back: of a store of version 2 the first part that didn't go."""
-        if item.kind != STORE or self.pipeline.description.version == 1:
+        if not item.is_store or self.pipeline.description.version == 1:
             return not item.awaits and self.uses_what_is_held_back(item)
-        for part, writer in zip(PARTS, item.sources):
-            if part not in item.parts:
+        for at, writer in ((item.address_at, item.one), (item.data_at, item.two)):
+            if at < 0:
                 return writer is not None and writer.done is not None and self.rules.is_held_back(writer)
         return False
 
     def load(self, item, accesses):
         """A load that issues: what it shows, what it loads, and which stores it goes to the cache for, covered or not."""
-        self.shows(item, self.marked(item)[0])
+        value = item.value
+        self.shows(item, value.one.mark)
         if self.valued.loads_marked(item):
             self.loads.add(item.serial)
         for store in self.valued.stores_in_flight if accesses else ():
-            if store.serial < item.serial and self.hidden_source(store, 0):
+            if store.serial < item.serial and self.hidden_base(store):
                 self.holds(store, BEFORE_A_LOAD)
 
     # ---- Counting

@@ -5,14 +5,11 @@ and retired memory, as it issues (docs/machine.md, "Writers and roots", "Loads")
 each part of a store with its own. The run checks itself: the lines, faults, times of divisions and directions of branches that are
 computed have to be those that the trace tells."""
 from view import Fault
-from view.instruction import CALL, DIVISION, JALR, LOAD, STORE
-from view.pipeline import ADDRESS_PART, DATA_PART, PREFETCH, Pipeline
+from view.instruction import CALL, DIVISION, JALR, LOAD
+from view.pipeline import PREFETCH, Pipeline
 
-from .hart import JUMP_MISALIGNED, Memory, stored_bytes, system_call
-from .operation import SIZES, WORD, decode, division_time, effect, extend
-
-
-NOWHERE = range(0)
+from .hart import JUMP_MISALIGNED, Memory, system_call
+from .operation import WORD, decoded_of, division_time, effect
 
 
 class Retired:
@@ -20,42 +17,53 @@ class Retired:
 
     __slots__ = ("result", "mark")
 
-    def __init__(self, result, mark):
+    def set(self, result, mark):
         self.result, self.mark = result, mark
 
 
 class Value(Retired):
-    """What an entry computes. `sources` are the values of its operands; `result` is its own, none until it issues, and `mark` whether it
-    comes from a marked byte. `address` is that of a load or store, once its base is known, `fault` is then why it would trap, or none, and
-    `bytes` the addresses of its access: none where it faults, or its base isn't known. `taken` is whether a branch is."""
+    """What an entry computes. `one` and `two` are the values of its operands, None where there are fewer; `result` is its own, negative until
+    it issues, and `mark` whether it comes from a marked byte. `address` is that of a load or store, negative until its base is known, `fault` is then
+    why it would trap, or none, and `first` and `behind` are where the bytes of its access begin and end: there are none where it faults, or
+    its base isn't known. `taken` is whether a branch is."""
 
-    __slots__ = ("operation", "pc", "sources", "address", "stored", "fault", "taken", "bytes")
+    __slots__ = ("decoded", "pc", "one", "two", "address", "stored", "fault", "taken", "first", "behind")
 
-    def __init__(self, operation, pc, sources):
-        super().__init__(None, False)
-        self.operation, self.pc, self.sources = operation, pc, sources
-        self.address = self.fault = self.taken = None
-        self.stored, self.bytes = 0, NOWHERE
-
-    @property
-    def size(self):
-        return SIZES[self.operation.name]
+    def begin(self, decoded, pc, one, two):
+        """Its entry is renamed."""
+        self.result, self.mark = -1, False
+        self.decoded, self.pc, self.one, self.two = decoded, pc, one, two
+        self.fault, self.taken = None, False
+        self.address, self.stored, self.first, self.behind = -1, 0, 0, 0
 
     @property
-    def marked(self):
-        """For each source whether its value comes from a marked byte."""
-        return [source.mark for source in self.sources]
+    def sources(self):
+        """The values of its operands."""
+        return [source for source in (self.one, self.two) if source is not None]
 
-    @property
     def is_marked(self):
-        """Whether any source's value does."""
-        for source in self.sources:
-            if source.mark:
-                return True
-        return False
+        """Whether any source's value comes from a marked byte."""
+        return self.one is not None and self.one.mark or self.two is not None and self.two.mark
 
-    def effect(self, *operands):
-        return effect(self.operation, self.pc, *operands)
+    def effect(self, operands):
+        """What it makes of these operands."""
+        return effect(self.decoded.operation, self.pc, *operands)
+
+    def covers(self, address):
+        """Whether its access has the byte of this address."""
+        return self.first <= address < self.behind
+
+
+def retired(result, mark):
+    """A retired value of this result and mark."""
+    made = Retired()
+    made.set(result, mark)
+    return made
+
+
+def known(value):
+    """The result of an operand's value; 0 where it isn't there, or there is no operand."""
+    return 0 if value is None or value.result < 0 else value.result
 
 
 def text(events):
@@ -73,117 +81,149 @@ class Valued(Pipeline):
         self.memory, self.registers = Memory(image.base, image.memory, image.misaligned), [0] * 32
         self.registers[2] = image.base + len(image.memory) - 16 & WORD
         self.marked_bytes, self.marked_registers = dict.fromkeys(marks, True), [False] * 32
-        self.kept = [Retired(value, False) for value in self.registers]
-        self.operations, self.to_write = {}, []
-        self.stores_in_flight = []
+        self.kept = [retired(value, False) for value in self.registers]
+        self.decoded, self.to_write, self.stores_in_flight, self.line = {}, [], [], description.line
+        # whether a byte that was found last is marked
+        self.found_mark = False
 
     # ---- Rename
 
     def rename(self, serial, pc):
         item = Pipeline.rename(self, serial, pc)
-        operation = self.operations.get(pc)
-        if operation is None:
-            operation = self.operations[pc] = decode(self.image.words.get(pc))
-        sources, written = [], item.sources
-        for place in range(len(written)):
-            writer = written[place]
-            sources.append(self.kept[item.registers[place]] if writer is None else writer.value)
-        item.value = Value(operation, pc, sources)
-        if item.kind == STORE:
+        decoded = self.decoded.get(pc)
+        if decoded is None:
+            decoded = self.decoded[pc] = decoded_of(self.image.words.get(pc))
+        one = two = None
+        if item.source_one >= 0:
+            one = self.kept[item.source_one] if item.one is None else item.one.value
+        if item.source_two >= 0:
+            two = self.kept[item.source_two] if item.two is None else item.two.value
+        value = item.value = Value()
+        value.begin(decoded, pc, one, two)
+        if item.is_store:
             self.stores_in_flight.append(item)
         return item
 
     def located(self, item):
         """The value of a load or store, with its address as soon as its base is known."""
         value = item.value
-        base = value.sources[0]
-        if value.address is None and base.result is not None:
-            value.address = base.result + value.operation.imm & WORD
-            value.fault = self.memory.fault(item.code.kind, value.address, value.size)
-            value.bytes = NOWHERE if value.fault is not None else range(value.address, value.address + value.size)
+        if value.address < 0 <= value.one.result:
+            decoded = value.decoded
+            value.address = value.one.result + decoded.imm & 0xffffffff
+            value.fault = self.memory.fault(decoded.kind, value.address, decoded.size)
+            if value.fault is None:
+                value.first, value.behind = value.address, value.address + decoded.size
         return value
 
     # ---- Issue executes
 
-    def issue(self, item, step):
-        value, kind = item.value, item.kind
-        if kind == LOAD or kind == DIVISION or len(step) > 1 or len(step[0]) > 2:
-            self.compare(item, step)
-        if kind == LOAD:
-            data, value.mark = self.found(item, self.located(item).bytes)
-            value.mark = value.mark or value.is_marked
-            value.result = extend(value.operation.name, data) if data else 0
-        elif kind == STORE:
+    def issue(self, item, event):
+        value = item.value
+        if item.is_load:
+            self.load(item, value, event)
+        elif item.kind == DIVISION or event.second >= 0 or event.text is not None or event.rest:
+            self.compare(item, event)
+        if item.is_store:
             self.located(item)
-        else:
+        elif not item.is_load:
             self.execute(value)
-        Pipeline.issue(self, item, step)
-        if DATA_PART in item.parts:
-            source = value.sources[1]
-            value.stored = value.stored if source.result is None else source.result
+        Pipeline.issue(self, item, event)
+        if item.data_at >= 0 and value.two is not None and value.two.result >= 0:
+            value.stored = value.two.result
 
-    def compare(self, item, step):
+    def load(self, item, value, event):
+        """A load finds its bytes."""
+        self.located(item)
+        lines = self.lines_of(value) if value.fault is None else None
+        if lines is None or event.rest or event.text != "f" and (len(lines) != 1 or event.second != lines[0] or event.text is None):
+            self.compare(item, event)
+        if value.behind:
+            value.result = value.decoded.extended(self.found(item, value.first, value.behind))
+            value.mark = self.found_mark or value.is_marked()
+        else:
+            value.result, value.mark = 0, value.is_marked()
+
+    def compare(self, item, event):
         """What an entry's issue tells has to be what is computed."""
-        told, computed = [words[2:] for words in step if words[0] != PREFETCH], self.told_by_issue(item, step)
+        events = [other for other in (event, *event.rest) if other.name != PREFETCH]
+        told, computed = [other.behind for other in events], self.told_by_issue(item, events)
         if told != computed:
-            self.differs(item, f"tells {step[0][0]}:{text(told)}", text(computed))
+            self.differs(item, f"tells {event.name}:{text(told)}", text(computed))
 
     def execute(self, value):
-        operands = [source.result or 0 for source in value.sources]
-        done = value.effect(*operands)
-        value.result, value.taken = done.value, bool(done.value)
+        decoded, a, b = value.decoded, known(value.one), known(value.two)
         # what a JALR writes is its own address plus 4, wherever it goes
-        value.mark = value.operation.code.kind != JALR and value.is_marked
-        if done.misaligned:
-            value.fault = JUMP_MISALIGNED
+        value.mark = decoded.kind != JALR and value.is_marked()
+        if decoded.has_value:
+            value.result = decoded.value(a, b)
+        elif decoded.is_branch:
+            value.taken = decoded.is_taken(a, b)
+            value.result = value.taken
+            if value.taken and value.pc + decoded.imm & 3:
+                value.fault = JUMP_MISALIGNED
+        else:
+            done = value.effect([a, b])
+            value.result = done.value
+            if done.misaligned:
+                value.fault = JUMP_MISALIGNED
 
-    def found(self, load, addresses):
-        """What a load finds at these addresses before Issue, and whether a byte of it is marked: each from the youngest older store that
-        covers it, as far as addresses are known, else from memory."""
-        stores = self.stores_before(load, addresses) if addresses else []
-        if not stores:
-            marks = self.marked_bytes
-            return self.memory.get(addresses.start, len(addresses)), bool(marks) and any(marks.get(address, False) for address in addresses)
-        sources = [next((store for store in stores if address in store.bytes), None) for address in addresses]
-        data = [self.memory.get(address, 1)[0] if store is None else stored_bytes(store.stored, store.size)[address - store.address]
-                for address, store in zip(addresses, sources)]
-        marks = [self.marked_bytes.get(address, False) if store is None else store.sources[1].mark
-                 for address, store in zip(addresses, sources)]
-        return bytes(data), any(marks)
+    def found(self, load, first, behind):
+        """The number that a load finds from one address up to another before Issue, and in `found_mark` whether a byte of it is marked: each
+        from the youngest older store that covers it, as far as addresses are known, else from memory."""
+        stores, marks, number, mark = self.stores_before(load, first, behind), self.marked_bytes, 0, False
+        if not stores and not marks:
+            self.found_mark = False
+            return self.memory.number(first, behind - first)
+        for address in range(behind - 1, first - 1, -1):
+            store = covering(stores, address)
+            if store is None:
+                number = number << 8 | self.memory.number(address, 1)
+                mark = mark or address in marks
+            else:
+                number = number << 8 | store.stored >> 8 * (address - store.address) & 0xff
+                mark = mark or store.two.mark
+        self.found_mark = mark
+        return number
 
-    def stores_before(self, load, addresses):
-        """The older stores of known address that cover one of these addresses, the youngest first."""
-        found, first, behind = [], addresses.start, addresses.stop
+    def stores_before(self, load, first, behind):
+        """The values of the older stores of known address that cover one of these bytes, the youngest first."""
+        found = []
         for store in reversed(self.stores_in_flight):
-            if store.serial < load.serial and store.parts.get(ADDRESS_PART, self.cycle) < self.cycle:
+            if store.serial < load.serial and 0 <= store.address_at < self.cycle:
                 value = store.value
-                if value.bytes and value.bytes.start < behind and first < value.bytes.stop:
+                if value.first < behind and first < value.behind:
                     found.append(value)
         return found
 
     def loads_marked(self, load):
         """Whether a load whose base is known loads a marked byte, as memory and stores are before Issue."""
-        return self.found(load, self.located(load).bytes)[1]
+        value = self.located(load)
+        if not value.behind:
+            return False
+        self.found(load, value.first, value.behind)
+        return self.found_mark
 
     def would_load_marked(self, load, base):
         """Whether a load would load a marked byte, were this its base."""
-        value = load.value
-        address = value.effect(base).address
-        inside = self.memory.fault(LOAD, address, value.size) is None
-        return inside and self.found(load, range(address, address + value.size))[1]
+        decoded = load.value.decoded
+        address = base + decoded.imm & 0xffffffff
+        if self.memory.fault(LOAD, address, decoded.size) is not None:
+            return False
+        self.found(load, address, address + decoded.size)
+        return self.found_mark
 
-    def told_by_issue(self, item, step):
+    def told_by_issue(self, item, events):
         """What the events of its issue tell behind the serial: how a load finds a line is for others to say."""
         value = item.value
-        if item.code.kind == DIVISION:
-            return [[division_time(value.operation.name, value.sources[0].result or 0)]]
-        if item.code.kind != LOAD:
+        if item.kind == DIVISION:
+            return [[division_time(value.decoded.name, known(value.one))]]
+        if not item.is_load:
             return [[]]
         if self.located(item).fault is not None:
             return [["x"]]
-        if step[0][-1] == "f":
+        if events[0].text == "f":
             return [["f"]]
-        found = [words[-1] for words in step if words[0] != PREFETCH] + [""]
+        found = [[event.number, *event.behind][-1] for event in events] + [""]
         return [[line, how] for line, how in zip(self.lines_of(value), found)]
 
     # ---- What is asked of addresses
@@ -191,13 +231,13 @@ class Valued(Pipeline):
     def shares(self, load, store):
         """Whether the two have a byte in common; where one faults it has none. None where the load's address isn't known yet."""
         one, two = self.located(load), self.located(store)
-        return None if one.address is None else bool(one.bytes and two.bytes) and (
-            one.bytes.start < two.bytes.stop and two.bytes.start < one.bytes.stop)
+        return None if one.address < 0 else one.first < two.behind and two.first < one.behind
 
     def lines_of(self, value):
         """The lines of an access, the lower first."""
-        ends = (value.address, value.address + value.size - 1)
-        return sorted({end - end % self.description.line for end in ends})
+        last = value.address + value.decoded.size - 1
+        low, high = value.address - value.address % self.line, last - last % self.line
+        return [low] if low == high else [low, high]
 
     def may_take_two(self, load):
         """Whether both of its lines lack in the cache and aren't on their way."""
@@ -206,16 +246,17 @@ class Valued(Pipeline):
 
     def faults(self, item):
         """A store that faults isn't safe, which the trace alone doesn't tell."""
-        return Pipeline.faults(self, item) or item.kind == STORE and item.value.fault is not None
+        value = item.value
+        return Pipeline.faults(self, item) or item.is_store and value.fault is not None
 
     def prospect(self, value):
         """What a value that isn't there yet will be, and its mark, where no load has to be waited for; else none."""
-        if value.result is not None:
-            return Retired(value.result, value.mark)
+        if value.result >= 0:
+            return retired(value.result, value.mark)
         sources = [self.prospect(source) for source in value.sources]
-        if None in sources or value.operation.code.kind == LOAD:
+        if None in sources or value.decoded.is_load:
             return None
-        return Retired(value.effect(*(source.result for source in sources)).value, any(source.mark for source in sources))
+        return retired(value.effect([source.result for source in sources]).value, any([source.mark for source in sources]))
 
     # ---- Resolve and Retire
 
@@ -229,30 +270,30 @@ class Valued(Pipeline):
     def leave(self, item):
         Pipeline.leave(self, item)
         item.value = None
-        if item.kind == STORE:
+        if item.is_store:
             self.stores_in_flight.remove(item)
 
     def retire(self, item):
         value = item.value
         Pipeline.retire(self, item)
         if item.destination:
-            self.keep(item.destination, value.result or 0, value.mark)
+            self.keep(item.destination, known(value), value.mark)
         if item.kind == CALL:
             call = system_call(self.registers, self.memory)
             if call.exit is None:
                 self.keep(10, call.answer, False)
-        self.to_write = self.lines_of(value) if item.kind == STORE else []
-        if item.kind == STORE and value.bytes:
-            source = value.sources[1]
-            self.memory.put(value.address, stored_bytes(value.stored, value.size))
-            self.mark_bytes(value.bytes, source.mark)
+        self.to_write = self.lines_of(value) if item.is_store else []
+        if item.is_store and value.behind:
+            self.memory.put_number(value.address, value.decoded.size, value.stored)
+            if value.two.mark or self.marked_bytes:
+                self.mark_bytes(range(value.first, value.behind), value.two.mark)
         # younger values name this one: without its own sources the values of a long run aren't kept
-        value.sources = []
+        value.one = value.two = None
 
     def keep(self, register, result, mark):
         """A register is written: its retired value, and whether that comes from a marked byte."""
         self.registers[register], self.marked_registers[register] = result, mark
-        self.kept[register] = Retired(result, mark)
+        self.kept[register] = retired(result, mark)
 
     def mark_bytes(self, addresses, mark):
         """Bytes are written: from now on they are marked, or aren't."""
@@ -272,3 +313,11 @@ class Valued(Pipeline):
     def differs(self, item, told, computed):
         raise Fault(f"cycle {self.cycle}: entry {item.serial} at {self.image.named(item.pc)} {told}, and {computed} is computed: "
                     f"the trace isn't one of this image under this description")
+
+
+def covering(stores, address):
+    """The first of these stores that covers a byte, or none."""
+    for store in stores:
+        if store.covers(address):
+            return store
+    return None

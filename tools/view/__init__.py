@@ -10,7 +10,8 @@ The modules, from the bottom up:
     disassembly  instructions as people write them
     description  the sizes and latencies of the core
     memory_side  the cache, the miss registers and the divider, as the events move them
-    pipeline     the window and the queue, as the events move them; what became of each fetched instruction
+    items        a fetched instruction, and what became of it
+    pipeline     the window and the queue, as the events move them
     reasons      why an instruction waits, and why nothing retires
     front_end    why rename or fetch stops short
     checks       whether what happens is what the machine's rules ask for

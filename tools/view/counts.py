@@ -1,7 +1,7 @@
 """What is counted over the fetched instructions of a run."""
 from collections import Counter
 
-from .instruction import BRANCH, JALR, LOAD, STORE
+from .instruction import BRANCH, JALR
 from .reasons import DEFENCE, STORE_ADDRESS
 
 RETURN = "return"
@@ -23,6 +23,10 @@ class Counts:
         self.held, self.held_cycles, self.held_dropped = Counter(), Counter(), Counter()
         self.cleared, self.passed, self.violated, self.waited = 0, Counter(), Counter(), Counter()
 
+    def add_all(self, items):
+        for item in items:
+            self.add(item)
+
     def add(self, item):
         retired = item.retired is not None
         self.fetched += 1
@@ -36,11 +40,11 @@ class Counts:
                 self.wrong[unit] = self.wrong.get(unit, 0) + 1
         if item.resolved is not None:
             self.add_resolved(item)
-        if item.kind == STORE:
+        if item.is_store:
             self.cleared += item.cleared is not None
             if item.written:
                 self.stores[all_hit(item.written)] += 1
-        elif item.kind == LOAD:
+        elif item.is_load:
             self.add_load(item)
         if item.output is not None:
             self.output += item.output
@@ -50,7 +54,7 @@ class Counts:
     def add_resolved(self, item):
         self.resolved[item.kind] += 1
         self.mispredicted[item.kind] += item.mispredicted
-        if item.code.is_return:
+        if item.is_return:
             self.resolved[RETURN] += 1
             self.mispredicted[RETURN] += item.mispredicted
 
@@ -60,8 +64,10 @@ class Counts:
             self.passed[item.pc] += 1
         if item.violated:
             self.violated[item.pc] += 1
-        if item.waits and STORE_ADDRESS in [wait.reason for wait in item.waits]:
-            self.waited[item.pc] += 1
+        for wait in item.waits:
+            if wait.reason == STORE_ADDRESS:
+                self.waited[item.pc] += 1
+                break
 
     @property
     def mispredictions(self):
@@ -84,12 +90,12 @@ class Counts:
             self.held_dropped[item.pc] += item.retired is None
 
 
-def count(items, holds=None, places=None):
-    """The counts of these instructions, of those that the test takes; by address too where places are given."""
+def count(batches, holds=None, places=None):
+    """The counts of the instructions of these lists, of those that the test takes; by address too where places are given."""
     counts = Counts()
-    for item in items:
-        if holds is None or holds(item):
-            counts.add(item)
-            if places is not None:
+    for batch in batches:
+        counts.add_all(batch if holds is None else list(filter(holds, batch)))
+        for item in batch if places is not None else ():
+            if holds is None or holds(item):
                 places.add(item)
     return counts

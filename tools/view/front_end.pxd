@@ -1,6 +1,7 @@
 # The types by which front_end.py is compiled.
 cimport cython
-from view.pipeline cimport Item, Pipeline
+from view.items cimport Item
+from view.pipeline cimport Pipeline
 
 
 cdef class Stall:
@@ -18,7 +19,7 @@ cdef class FrontEnd:
     cpdef count(self, dict counter, reason)
     @cython.locals(stall=Stall)
     cpdef repeat(self, long long cycle)
-    @cython.locals(pipeline=Pipeline, kind=str, first=Item)
+    @cython.locals(pipeline=Pipeline, first=Item)
     cpdef to_rename(self, Item item)
     @cython.locals(pipeline=Pipeline, width=cython.longlong, first=Item)
     cpdef bint has_room(self) except? -1

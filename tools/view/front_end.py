@@ -1,5 +1,5 @@
 """Why rename or fetch stops short of the width (docs/machine.md, "Rename" and "Fetch")."""
-from .instruction import AT_ONCE, CALL, LOAD, STOP, STORE
+from .instruction import CALL, STOP
 
 REORDER_BUFFER, CALL_IN_FLIGHT, LOADS, STORES, CALL_ALONE, STATIONS = (
     "reorder buffer", "call in flight", "loads", "stores", "call waits to be alone", "stations")
@@ -44,28 +44,30 @@ class FrontEnd:
 
     def to_rename(self, item):
         """The reason why the front of the queue can't go, None where it can."""
-        pipeline, kind = self.pipeline, item.kind
+        pipeline = self.pipeline
         if len(pipeline.window) >= self.rob:
             return REORDER_BUFFER
         if pipeline.window:
             first = pipeline.window[0]
             if first.kind == CALL:
                 return CALL_IN_FLIGHT
-        if kind == LOAD and pipeline.loads >= self.loads:
+        if item.is_load and pipeline.loads >= self.loads:
             return LOADS
-        if kind == STORE and pipeline.stores >= self.stores:
+        if item.is_store and pipeline.stores >= self.stores:
             return STORES
-        if kind == CALL and pipeline.window:
+        if item.kind == CALL and pipeline.window:
             return CALL_ALONE
-        if len(pipeline.waiting) >= self.stations and kind not in AT_ONCE:
+        if pipeline.waiting >= self.stations and not item.at_once:
             return STATIONS
         return None
 
     def has_room(self):
         """Whether all that may be renamed in a cycle finds room, whatever it is but a call: then no item is asked for."""
         pipeline, width = self.pipeline, self.width
-        return (len(pipeline.window) + width <= self.rob and len(pipeline.waiting) + width <= self.stations
-                and pipeline.loads + width <= self.loads and pipeline.stores + width <= self.stores and not pipeline.has_call)
+        first = pipeline.window[0] if pipeline.window else None
+        return (len(pipeline.window) + width <= self.rob and pipeline.waiting + width <= self.stations
+                and pipeline.loads + width <= self.loads and pipeline.stores + width <= self.stores
+                and (first is None or first.kind != CALL))
 
     def call_is_next(self):
         """Whether the front of the queue is a call."""

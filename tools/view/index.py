@@ -19,10 +19,10 @@ from .trace import Trace, lines_of_file, open_trace
 
 EVERY = 4000
 # which values a state has: another number where they change, so that an index of before isn't used
-FORM = 4
+FORM = 5
 HEAD = "head.json"
 CLASSES = {
-    "collections": {"Counter", "OrderedDict"}, "view.pipeline": {"Pipeline", "Item", "Wait"},
+    "builtins": {"bytearray"}, "collections": {"Counter", "OrderedDict"}, "view.pipeline": {"Pipeline"}, "view.items": {"Code", "Item", "Wait"},
     "view.memory_side": {"Cache", "Divider", "Miss"}, "view.instruction": {"Instruction"}, "view.description": {"Description"},
     "view.reasons": {"Reasons"}, "view.front_end": {"FrontEnd", "Stall"}, "view.checks": {"Checks"}, "view.slots": {"Slots", "Late"},
     "view.replay": {"Replay"}}

@@ -1,5 +1,6 @@
 """`list`: one line an instruction with all its times."""
-from .pipeline import LOAD_UNITS, NEVER
+from .items import NEVER
+from .pipeline import LOAD_UNITS
 from .places import function_of
 from .reasons import HELD, HELD_BACK
 from .why import cycles, held_by

@@ -1,5 +1,4 @@
 """Counts by the address of an instruction, and by the function that it stands in."""
-from .instruction import LOAD
 from .reasons import (
     ADDRESS_PORT, BASE, DATA, DATA_PORT, DEFENCE, DIVIDER, MISS_REGISTER, OLDER_STORE, ONE_A_CYCLE, ONE_CLEARED, OPERAND, PORT, STORE_ADDRESS,
     STORE_DATA, TWO_REGISTERS)
@@ -33,7 +32,7 @@ class Places:
         found["retired"] += item.retired is not None
         found["squashed"] += item.squashed is not None
         found["mispredicted"] += item.mispredicted
-        found["misses"] += item.kind == LOAD and item.unit in ("miss", "second")
+        found["misses"] += item.is_load and item.unit in ("miss", "second")
         for wait in item.waits:
             found[GROUPS[wait.reason]] += wait.last - wait.first + 1
 

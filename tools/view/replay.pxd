@@ -2,9 +2,10 @@
 cimport cython
 from view.checks cimport Checks
 from view.front_end cimport FrontEnd
-from view.pipeline cimport Item, Pipeline
+from view.items cimport Item
+from view.pipeline cimport Pipeline
 from view.reasons cimport Reasons
-from view.rows cimport Row
+from view.rows cimport Event, Row
 from view.slots cimport Occupancy, Slots
 
 
@@ -25,28 +26,35 @@ cdef class Replay:
     cpdef list gone(self)
     cpdef bint nothing_due(self, long long cycle) except? -1
     cpdef repeat(self, long long cycle)
-    @cython.locals(pipeline=Pipeline, cycle=cython.longlong, squashed=cython.bint, violated=Item, fetched=list, words=list)
+    @cython.locals(pipeline=Pipeline, squashed=cython.bint, violated=Item, fetched=list,
+                   fills=list, completes=list, resolves=list, clears=list, retires=list, issues=list, renames=list, fetches=list)
     cpdef take(self, Row row, tuple phases)
+    @cython.locals(found=list, event=Event)
+    cpdef list entries(self, list events)
+    @cython.locals(found=list, event=Event)
+    cpdef list fetch(self, list events)
     cpdef after_fetch(self, list fetched, bint squashed, Item violated)
     cpdef fill(self, list lines)
     @cython.locals(item=Item)
     cpdef complete(self, list items)
-    @cython.locals(resolved=Item, squashes=cython.bint)
+    @cython.locals(event=Event, last=Event, resolved=Item, squashes=cython.bint)
     cpdef bint resolve(self, list events) except? -1
     cpdef squash(self, Item item, told, dropped)
     @cython.locals(store=Item, violated=Item)
     cpdef Item clear(self, list events)
-    @cython.locals(words=list, name=str, item=Item, retired=list)
+    @cython.locals(event=Event, item=Item, retired=list)
     cpdef retire(self, list events, bint ends)
     @cython.locals(item=Item)
     cpdef after_retire(self, list retired, bint ends)
     @cython.locals(steps=list, items=list, item=Item, place=cython.Py_ssize_t)
     cpdef issue(self, list events)
-    @cython.locals(step=list, item=Item, name=str, place=cython.Py_ssize_t)
+    @cython.locals(event=Event, item=Item, place=cython.Py_ssize_t)
     cpdef check_issue(self, list steps, list items)
+    cpdef begins(self, Item item, Event event)
     cpdef close(self)
-    @cython.locals(words=list, steps=list, last=list)
+    @cython.locals(event=Event, steps=list, first=Event, last=Event)
     cpdef list steps(self, list events)
-    @cython.locals(roomy=cython.bint, words=list, item=Item)
+    @cython.locals(roomy=cython.bint, event=Event, item=Item)
     cpdef rename(self, list events)
+    @cython.locals(front=Item)
     cpdef after_rename(self, long long number)

@@ -2,15 +2,13 @@
 from . import Fault
 from .checks import Checks
 from .front_end import FrontEnd
-from .instruction import CALL, DIVISION, STORE
+from .instruction import CALL
+from .items import ADDRESS_PART, DATA_PART
 from .pipeline import PREFETCH, Pipeline
 from .reasons import Reasons
-from .rows import CLEAR, COMPLETE, FETCH, FILL, ISSUE, RENAME, RESOLVE, RETIRE, text_of
+from .rows import text_of
 from .slots import Slots
 
-LOAD_EVENTS = ("ld", PREFETCH)
-# what tells more as it retires
-EFFECTS = (STORE, CALL)
 
 
 class Replay:
@@ -38,23 +36,29 @@ class Replay:
 
         Those that are in flight at the end come last. With `until` only the cycles up to that one are read.
         """
+        for batch in self.batches(until):
+            yield from batch
+
+    def batches(self, until=None):
+        """The fetched instructions as `items` has them, those of a cycle in a list."""
         flight, ends = self.pipeline.flight, False
         for row in self.trace:
             if until is not None and row.cycle > until:
                 break
             self.step(row)
             ends = row.ends
-            yield from self.gone()
+            if flight:
+                batch = self.gone()
+                if batch:
+                    yield batch
         self.end(self.trace.end)
         for item in flight:
             if item.open is not None:
                 item.wake(self.pipeline.cycle + (not ends))
-        yield from flight
+        yield flight
 
     def end(self, end):
         """What the last line says: the counts, and that the oldest entry traps."""
-        if self.occupancy is not None:
-            self.occupancy.sum_up()
         if self.asked:
             self.checks.end(end, self.retired)
         if end and end.how.startswith("trap") and self.pipeline.window:
@@ -79,7 +83,8 @@ class Replay:
     def step(self, row):
         """One cycle."""
         pipeline, counted = self.pipeline, self.pipeline.counts
-        pipeline.cycle, told = row.cycle, len(self.reasons.unexplained) + len(self.reasons.presumed)
+        pipeline.begin(row.cycle)
+        told = len(self.reasons.unexplained) + len(self.reasons.presumed)
         pipeline.counts = self.span[0] <= row.cycle and (self.span[1] is None or row.cycle <= self.span[1])
         if self.quiet and row.empty and not row.ends and counted == pipeline.counts and self.nothing_due(row.cycle):
             self.repeat(row.cycle)
@@ -112,20 +117,35 @@ class Replay:
 
     def take(self, row, phases):
         """The seven phases, and Clear behind Resolve. After an end in Retire no later phase acts."""
-        pipeline, cycle = self.pipeline, row.cycle
-        if phases[FILL] or cycle in pipeline.dues:
-            self.fill([words[1] for words in phases[FILL]])
-        if phases[COMPLETE] or cycle in self.checks.due:
-            self.complete([pipeline.entry(words) for words in phases[COMPLETE]])
-        squashed = self.resolve(phases[RESOLVE])
-        violated = self.clear(phases[CLEAR])
-        self.retire(phases[RETIRE], row.ends)
+        pipeline = self.pipeline
+        fills, completes, resolves, clears, retires, issues, renames, fetches = phases
+        if fills or pipeline.now in pipeline.dues:
+            self.fill([event.number for event in fills])
+        if completes or pipeline.now in self.checks.due:
+            self.complete(self.entries(completes))
+        squashed = self.resolve(resolves)
+        violated = self.clear(clears)
+        self.retire(retires, row.ends)
         if not row.ends:
-            self.issue(phases[ISSUE])
-            self.rename(phases[RENAME])
-            fetched = [pipeline.fetch(words[1]) for words in phases[FETCH]]
+            self.issue(issues)
+            self.rename(renames)
+            fetched = self.fetch(fetches)
             if self.asked:
                 self.after_fetch(fetched, squashed, violated)
+
+    def entries(self, events):
+        """The entries in flight that these events are of."""
+        found = []
+        for event in events:
+            found.append(self.pipeline.entry(event))
+        return found
+
+    def fetch(self, events):
+        """What is fetched."""
+        found = []
+        for event in events:
+            found.append(self.pipeline.fetch(event.number))
+        return found
 
     def after_fetch(self, fetched, squashed, violated):
         """Why no more was fetched, and what makes it late."""
@@ -151,19 +171,20 @@ class Replay:
         """Answers whether there was a squash."""
         if not events and not self.pipeline.outcomes:
             return False
-        if events and events[0][0] != "res":
-            raise Fault(f"cycle {self.pipeline.cycle}: `{text_of(events[0])}` doesn't follow a res")
-        resolved = self.pipeline.entry(events[0]) if events else None
-        squashes = bool(events) and events[-1][0] == "sq"
+        event, last = (events[0], events[-1]) if events else (None, None)
+        if event is not None and event.name != "res":
+            raise Fault(f"cycle {self.pipeline.cycle}: `{text_of(event)}` doesn't follow a res")
+        resolved = self.pipeline.entry(event) if event is not None else None
+        squashes = last is not None and last.name == "sq"
         if self.asked:
             self.reasons.resolve(None if resolved is None else resolved.serial, squashes)
         if resolved is None:
             return False
         if self.asked:
-            self.checks.resolve(resolved, [words[0] for words in events])
-        self.pipeline.resolve(resolved, events[0][2])
+            self.checks.resolve(resolved, [event.name for event in events])
+        self.pipeline.resolve(resolved, event.text)
         if squashes:
-            self.squash(resolved, events[-1][1], self.pipeline.squash(resolved))
+            self.squash(resolved, last.number, self.pipeline.squash(resolved))
         return squashes
 
     def squash(self, item, told, dropped):
@@ -176,7 +197,7 @@ class Replay:
         """Answers the load that is violated, or none."""
         if not events and not self.pipeline.clearable:
             return None
-        if events and events[0][0] != "clr":
+        if events and events[0].name != "clr":
             raise Fault(f"cycle {self.pipeline.cycle}: `{text_of(events[0])}` doesn't follow a clr")
         store = self.pipeline.entry(events[0]) if events else None
         if self.asked:
@@ -185,30 +206,29 @@ class Replay:
             return None
         if self.asked:
             self.checks.clear(store, events)
-        violated = self.pipeline.entry(events[1]) if [words[0] for words in events[1:]] == ["vio", "dp", "sq"] else None
+        violated = self.pipeline.entry(events[1]) if [event.name for event in events[1:]] == ["vio", "dp", "sq"] else None
         self.pipeline.clear(store)
         if violated is not None:
-            self.squash(violated, events[-1][1], self.pipeline.violate(violated))
+            self.squash(violated, events[-1].number, self.pipeline.violate(violated))
         return violated
 
     def retire(self, events, ends):
         retired, item = [], None
         if self.asked:
-            self.reasons.retire([words[1] for words in events if words[0] == "ret"], ends)
-        for words in events:
-            name = words[0]
-            if name == "ret":
-                item = self.pipeline.entry(words)
+            self.reasons.retire(events, ends)
+        for event in events:
+            if event.name == "ret":
+                item = self.pipeline.entry(event)
                 retired.append(item)
                 self.pipeline.retire(item)
-            elif not retired or item.serial != words[1]:
-                raise Fault(f"cycle {self.pipeline.cycle}: `{text_of(words)}` doesn't follow its ret")
-            elif name == "st":
+            elif not retired or item.serial != event.number:
+                raise Fault(f"cycle {self.pipeline.cycle}: `{text_of(event)}` doesn't follow its ret")
+            elif event.name == "st":
                 if self.asked:
-                    self.checks.write(item, words[2], words[3])
-                self.pipeline.write(item, words[2], words[3])
+                    self.checks.write(item, event.second, event.text)
+                self.pipeline.write(item, event.second, event.text)
             else:
-                item.output = words[2]
+                item.output = event.second
         self.retired += len(retired)
         if self.asked:
             self.after_retire(retired, ends)
@@ -216,13 +236,13 @@ class Replay:
     def after_retire(self, retired, ends):
         """What retired has told what it has to, and why no more did."""
         for item in retired:
-            if item.kind in EFFECTS or item.written or item.output is not None:
+            if item.is_store or item.kind == CALL or item.written or item.output is not None:
                 self.checks.retired(item)
         self.slots.retire(retired, ends)
 
     def issue(self, events):
         steps = self.steps(events) if events else []
-        items = [self.pipeline.entry(step[0]) for step in steps]
+        items = self.entries(steps)
         if self.asked:
             self.check_issue(steps, items)
         for place in range(len(steps)):
@@ -230,7 +250,7 @@ class Replay:
             self.pipeline.issue(item, steps[place])
             if self.asked:
                 self.checks.issued(item)
-                if item.waits or item.kind == DIVISION:
+                if item.since is not None or item.divides:
                     self.slots.issue(item)
         if self.asked:
             self.close()
@@ -238,19 +258,25 @@ class Replay:
     def check_issue(self, steps, items):
         """Whether what issues may, before any of it does."""
         for place in range(len(steps)):
-            item, name = items[place], steps[place][0][0]
-            item.told += (name,)
-            if item.open is not None:
-                self.reasons.rouse(item)
+            self.begins(items[place], steps[place])
         self.reasons.issue(items)
         if len(steps) > 1:
             self.checks.order(steps)
         for place in range(len(steps)):
-            item, step = items[place], steps[place]
-            name, item.told = step[0][0], ()
-            self.checks.unit(item, name)
-            if name == "ld":
-                self.checks.access(item, step)
+            item, event = items[place], steps[place]
+            item.goes = item.address_goes = item.data_goes = False
+            if event.name != item.event:
+                self.checks.unit(item, event.name)
+            if event.name == "ld":
+                self.checks.access(item, event)
+
+    def begins(self, item, event):
+        """An entry issues in this cycle."""
+        item.goes = True
+        item.address_goes = item.address_goes or event.name == ADDRESS_PART
+        item.data_goes = item.data_goes or event.name == DATA_PART
+        if item.open is not None:
+            self.reasons.rouse(item)
 
     def close(self):
         """Issue is over: what it made of the oldest entry."""
@@ -260,27 +286,27 @@ class Replay:
             self.slots.close()
 
     def steps(self, events):
-        """The events of Issue, those of one load together: one for each of its lines, and that of what is prefetched behind them."""
-        steps = []
-        for words in events:
-            if words[0] not in LOAD_EVENTS:
-                steps.append([words])
-                continue
-            last = steps[-1][-1] if steps else [None, None]
-            if words[0] == PREFETCH and last[0] == "ld" or words[0] == "ld" and last[:2] == words[:2]:
-                steps[-1].append(words)
-            elif words[0] == PREFETCH:
-                raise Fault(f"cycle {self.pipeline.cycle}: `{text_of(words)}` doesn't follow a load")
+        """The events of Issue, those of one load together: behind its first one that of its other line, and that of what is prefetched."""
+        steps, first, last = [], None, None
+        for event in events:
+            if event.name == "ld" and last is not None and last.name == "ld" and last.number == event.number:
+                first.rest += (event,)
+            elif event.name != PREFETCH:
+                first, event.rest = event, ()
+                steps.append(event)
+            elif last is not None and last.name == "ld":
+                first.rest += (event,)
             else:
-                steps.append([words])
+                raise Fault(f"cycle {self.pipeline.cycle}: `{text_of(event)}` doesn't follow a load")
+            last = event
         return steps
 
     def rename(self, events):
         roomy = not self.asked or bool(events) and len(events) <= self.width and self.front.has_room()
-        for words in events:
+        for event in events:
             if self.asked and (not roomy or self.front.call_is_next()):
-                self.front.before_rename(words[1])
-            item = self.pipeline.rename(words[1], words[2])
+                self.front.before_rename(event.number)
+            item = self.pipeline.rename(event.number, event.second)
             if self.asked:
                 self.slots.rename(item)
                 if item.awaits:
@@ -292,4 +318,5 @@ class Replay:
         """Why no more was renamed."""
         reason = self.front.after_rename(number)
         if reason is not None:
-            self.slots.stall(reason, self.pipeline.queue[0].pc)
+            front = self.pipeline.queue[0]
+            self.slots.stall(reason, front.pc)

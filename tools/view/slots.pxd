@@ -1,6 +1,7 @@
 # The types by which slots.py is compiled.
 cimport cython
-from view.pipeline cimport Item, Pipeline, Wait
+from view.items cimport Item, Wait
+from view.pipeline cimport Pipeline
 
 
 cdef class Late:
@@ -16,6 +17,7 @@ cdef class Slots:
     cdef public object fill
     cdef public Late behind
     cdef public Item head
+    @cython.locals(key=tuple)
     cpdef count(self, reason, pc, long long slots)
     @cython.locals(late=Late, left=cython.longlong)
     cpdef squash(self, Item item)
@@ -36,7 +38,7 @@ cdef class Slots:
     cpdef executes(self, Item head)
     @cython.locals(late=Late, left=cython.longlong)
     cpdef late(self, Item head)
-    @cython.locals(head=Item, cycle=cython.longlong, last=Wait)
+    @cython.locals(head=Item, cycle=cython.longlong, last=Wait, begun=cython.bint)
     cpdef close(self)
 
 
@@ -44,9 +46,13 @@ cdef class Slots:
 cpdef dict times_held(Item item)
 
 
+cdef class Place:
+    cdef public long long sum, most
+    cpdef add(self, long long number)
+
+
 cdef class Occupancy:
-    cdef public list sums, most, retired
+    cdef public list retired
     cdef public long long cycles
-    cdef public dict seen
-    @cython.locals(numbers=tuple, seen=dict)
+    cdef public Place window, waiting, loads, stores, queue, misses
     cpdef add(self, Pipeline pipeline, long long retired)

@@ -5,7 +5,7 @@ all others: what it waits for, what executes it, or, where it has only just been
 Where the defence held the entry before it issued, the last cycles of its execution are the defence's: without it, it would have been
 Done by then. No more cycles are told so than the defence took. So is what a held branch delays behind it.
 """
-from .instruction import AT_ONCE, CALL, CONTROLS, DIVISION, LOAD, MULTIPLICATION, STORE
+from .instruction import CALL, DIVISION, MULTIPLICATION, STORE
 from .reasons import (
     ADDRESS_PORT, DATA_PORT, DIVIDER, HELD_BACK, MISS_REGISTER, ONE_A_CYCLE, ONE_CLEARED, PORT, STORE_TAINT, TAINT, TAINTED_CLEARING,
     TAINTED_OUTCOME, TWO_REGISTERS)
@@ -51,7 +51,8 @@ class Slots:
         self.fill, self.head, self.left, self.behind, self.until, self.divider = NOT_LATE, None, 0, None, 0, 0
 
     def count(self, reason, pc, slots):
-        self.lost[reason, pc] = self.lost.get((reason, pc), 0) + slots
+        key = reason, pc
+        self.lost[key] = self.lost.get(key, 0) + slots
 
     def sums(self):
         """The slots of each reason, in the stack's order."""
@@ -91,7 +92,7 @@ class Slots:
 
     def issue(self, item):
         """How long the defence held what issues or is resolved now, and what had delayed it before."""
-        divides = item.kind == DIVISION and item.issued is not None
+        divides = item.divides and item.issued is not None
         if item.since is None and not divides:
             return
         held = times_held(item)
@@ -129,7 +130,7 @@ class Slots:
             self.count(END, (head or retired[-1]).pc if head or retired else None, self.left)
         elif head is None:
             self.count(*self.empty(retired), self.left)
-        elif head.issued is None and head.kind not in AT_ONCE:
+        elif head.issued is None and not head.at_once:
             self.head = head
         else:
             self.count(self.reason_of(head, retired), head.pc, self.left)
@@ -145,15 +146,15 @@ class Slots:
 
     def reason_of(self, head, retired):
         """Why the oldest entry, which has issued, doesn't retire."""
-        if head.kind in AT_ONCE:
+        if head.at_once:
             return SYSTEM_CALL if head.kind == CALL else UNEXPLAINED
         if head.done is None:
             return self.late(head) or self.executes(head)
-        if head.kind in CONTROLS and head.resolved is None or head.kind == STORE and not self.pipeline.is_cleared(head):
+        if head.is_control and head.resolved is None or head.is_store and not self.pipeline.is_cleared(head):
             reasons = [wait.reason for wait in head.waits if wait.last >= self.pipeline.cycle - 1]
             held = [wait.reason for wait in head.waits if wait.reason in (TAINTED_OUTCOME, TAINTED_CLEARING)]
             return self.charge(held[0] if held else reasons[-1] if reasons else None)
-        if head.kind == STORE and STORE in [item.kind for item in retired]:
+        if head.is_store and STORE in [item.kind for item in retired]:
             return PORTS
         return UNEXPLAINED
 
@@ -165,7 +166,7 @@ class Slots:
 
     def executes(self, head):
         """What an entry does that has begun to execute."""
-        return LOAD_REASONS.get(head.unit, HIT) if head.kind == LOAD else KIND_REASONS.get(head.kind, SIMPLE)
+        return LOAD_REASONS.get(head.unit, HIT) if head.is_load else KIND_REASONS.get(head.kind, SIMPLE)
 
     def late(self, head):
         """The reason for which the defence held it, where without that it would be Done by now."""
@@ -193,7 +194,8 @@ class Slots:
         elif last is not None and last.last == cycle:
             self.count(self.charge(last.reason), head.pc, self.left)
         else:
-            self.count(self.executes(head) if head.parts else UNEXPLAINED, head.pc, self.left)
+            begun = head.address_at >= 0 or head.data_at >= 0
+            self.count(self.executes(head) if begun else UNEXPLAINED, head.pc, self.left)
 
 
 def times_held(item):
@@ -209,25 +211,43 @@ class Occupancy:
     """How many entries stand in each place when a cycle is over, and how many retire in it: sums, greatest numbers, and cycles."""
 
     PLACES = ("reorder buffer", "stations", "loads", "stores", "queue", "miss registers")
-    MOST_SEEN = 10000
 
     def __init__(self, width):
-        self.sums, self.most, self.cycles, self.retired = [0] * len(self.PLACES), [0] * len(self.PLACES), 0, [0] * (width + 1)
-        # cycles by what stood there, which aren't in the sums so far
-        self.seen = {}
+        self.cycles, self.retired = 0, [0] * (width + 1)
+        self.window, self.waiting, self.loads, self.stores, self.queue, self.misses = (Place() for _ in self.PLACES)
 
     def add(self, pipeline, retired):
         self.cycles += 1
         self.retired[min(retired, len(self.retired) - 1)] += 1
-        numbers = (len(pipeline.window), len(pipeline.waiting), pipeline.loads, pipeline.stores, len(pipeline.queue), len(pipeline.misses))
-        seen = self.seen
-        seen[numbers] = seen.get(numbers, 0) + 1
-        if len(seen) > self.MOST_SEEN:
-            self.sum_up()
+        self.window.add(len(pipeline.window))
+        self.waiting.add(pipeline.waiting)
+        self.loads.add(pipeline.loads)
+        self.stores.add(pipeline.stores)
+        self.queue.add(len(pipeline.queue))
+        self.misses.add(len(pipeline.misses))
 
-    def sum_up(self):
-        """What was seen goes into the sums."""
-        for numbers, cycles in self.seen.items():
-            self.sums = [total + cycles * number for total, number in zip(self.sums, numbers)]
-            self.most = list(map(max, self.most, numbers))
-        self.seen.clear()
+    @property
+    def places(self):
+        return self.window, self.waiting, self.loads, self.stores, self.queue, self.misses
+
+    @property
+    def sums(self):
+        return [place.sum for place in self.places]
+
+    @property
+    def most(self):
+        return [place.most for place in self.places]
+
+
+class Place:
+    """How many entries stood in a place, summed over cycles, and at most."""
+
+    __slots__ = ("sum", "most")
+
+    def __init__(self):
+        self.sum = self.most = 0
+
+    def add(self, number):
+        self.sum += number
+        if number > self.most:
+            self.most = number

@@ -25,7 +25,7 @@ class Run:
         replay.only_counts()
         self.places = Places() if by_place else None
         whole = span == (1, None) and function is None
-        self.counts = count(replay.items(span[1]), None if whole else self.holds, self.places)
+        self.counts = count(replay.batches(span[1]), None if whole else self.holds, self.places)
         if replay.pipeline.cycle < span[0]:
             raise Fault(f"--from {span[0]} is behind the last cycle of the trace, {replay.pipeline.cycle}")
         if function is not None and not self.counts.fetched:

@@ -1,7 +1,7 @@
 """`why`: the reason of each wait, and of each cycle in which rename stops short."""
 from collections import Counter
 
-from .pipeline import NEVER
+from .items import NEVER
 from .places import function_of
 from .reasons import HELD, HELD_BACK, STORE_TAINT
 

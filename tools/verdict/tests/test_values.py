@@ -10,6 +10,7 @@ from verdict.telling import arguments
 from verdict.values import Valued
 from view.description import FUTURISTIC, SPECTRE, read_description
 from view.instruction import LOAD, STORE
+from view.rows import Event
 
 
 def image(*numbers):
@@ -28,10 +29,10 @@ def renamed(numbers, model=SPECTRE):
 
 def issue(pipeline, item):
     """An entry issues in a cycle of its own; a load finds its lines."""
-    pipeline.cycle += 1
+    pipeline.begin(pipeline.cycle + 1)
     name = {LOAD: "ld", STORE: "agu"}.get(item.code.kind, "alu")
     lines = pipeline.lines_of(pipeline.located(item)) if name == "ld" else []
-    pipeline.issue(item, [[name, item.serial, line, "h"] for line in lines] or [[name, item.serial]])
+    pipeline.issue(item, Event(name, item.serial, lines[0], "h") if lines else Event(name, item.serial))
 
 
 def retire(pipeline, items):
@@ -74,7 +75,7 @@ class Marks(unittest.TestCase):
         for item in items:
             issue(pipeline, item)
         value = pipeline.serials[1].value
-        self.assertEqual((value.is_marked, value.mark, value.result), (True, False, CODE + 8))
+        self.assertEqual((value.is_marked(), value.mark, value.result), (True, False, CODE + 8))
 
     def test_dropped(self):
         """What is dropped leaves no trace in registers, memory and marks."""
@@ -94,7 +95,7 @@ class Shadows(unittest.TestCase):
         """Under futuristic a Done store is safe where it doesn't fault; under spectre stores cast no shadow."""
         for store, model, safe in [(sw(5, 0, 0), FUTURISTIC, False), (sw(5, 0, 2), FUTURISTIC, True), (sw(5, 0, 0), SPECTRE, True)]:
             pipeline, (item,) = renamed([store], model)
-            pipeline.issue(item, [["agu", "0"]])
+            pipeline.issue(item, Event("agu", 0))
             pipeline.complete(item)
             self.assertEqual(pipeline.shadows, [] if safe else [item], (hex(store), model))
 

@@ -1,5 +1,6 @@
 """The command: verdicts on the gadgets, statuses, refusals (docs/using.md, "Read a verdict")."""
 import os
+import shutil
 import signal
 import subprocess
 import sys
@@ -168,7 +169,7 @@ class OtherPrograms(unittest.TestCase):
                 self.assertIn(note, told.stderr)
 
     def test_long_traces(self):
-        """They are read by PyPy, where it is there: here by a stand-in that tells that it was asked."""
+        """They are read by PyPy, where it is there and no modules are compiled: here by a stand-in that tells that it was asked."""
         long = "#!/bin/sh\n[ $1 = pair ] && printf 'premise yes\\nequal\\nretired 5 cycles 21\\n' && exit 0\n" \
                "head -c 20000001 /dev/zero\nprintf '\\nend exit 0 retired 1 cycles 1\\n'\n"
         with tempfile.TemporaryDirectory() as folder:
@@ -176,7 +177,9 @@ class OtherPrograms(unittest.TestCase):
             with open(pypy, "w", encoding="utf-8") as file:
                 file.write("#!/bin/sh\nshift\necho by pypy: $1\n")
             os.chmod(pypy, 0o755)
-            words = [sys.executable, os.path.join(TOOLS, "verdict", "verdict"), *self.words(long)]
+            for package in ("view", "verdict"):
+                shutil.copytree(os.path.join(TOOLS, package), os.path.join(folder, package), ignore=shutil.ignore_patterns("tests"))
+            words = [sys.executable, os.path.join(folder, "verdict", "verdict"), *self.words(long)]
             told = subprocess.run(words, capture_output=True, text=True, check=False, env=os.environ | {"PATH": f"{folder}:{os.environ['PATH']}"})
         self.assertEqual((told.returncode, told.stdout, told.stderr), (0, f"by pypy: {CORE}\n", ""))
 

@@ -28,14 +28,33 @@ sys.path.insert(0, sys.argv[1])
 from view import Fault, faster
 if sys.argv[3:]:
     assert faster.by_compiled([], sys.argv[3])
-from verdict import judge, report
+from verdict import hart, judge, report
+from verdict.arithmetic import takes, value_of
+from verdict.loaded import load
+from verdict.operation import BRANCHES, VALUES
+from verdict.path import walk
 from view import command, pipeline
+from view.description import read_description
+def run_of(image, described, model, steps):
+    # what the instruction set's run of an image loads, each step, and how it leaves registers and memory
+    loaded = load(image, read_description(described))
+    run = hart.Hart(loaded, model != "futuristic")
+    steps_taken = [tuple(step) for step in run.run(steps)]
+    return walk(loaded, model, steps), steps_taken, hart.report(run, loaded)
+def values_of(numbers):
+    # what each instruction makes of each two of these words
+    pairs = [(a, b) for a in numbers for b in numbers]
+    return [[name, [f(name, *pair) for pair in pairs]] for names, f in ((VALUES, value_of), (BRANCHES.values(), takes)) for name in sorted(names)]
 assert pipeline.__file__.endswith(".so") == bool(sys.argv[3:]), pipeline.__file__
 for words in json.load(open(sys.argv[2])):
     out = io.StringIO()
     with contextlib.redirect_stdout(out), contextlib.redirect_stderr(out):
         if words[0] == "verdict":
             print(*report.lines(judge.case_of(*words[1:])), sep="\\n")
+        elif words[0] == "values":
+            print(values_of(words[1]))
+        elif words[0] == "run":
+            print(run_of(*words[1:]))
         else:
             print(command.main(words))
     print(json.dumps([words, out.getvalue()]))
@@ -125,6 +144,20 @@ class Compiled(unittest.TestCase):
         refused = ["doesn't follow" in text for text in told]
         self.assertTrue(any(refused) and not all(refused))
 
+    def test_values(self):
+        """What instructions make of drawn words, and of those at the edges of numbers with and without a sign."""
+        draw = random.Random(5)
+        edges = [0, 1, 2, 31, 32, 33, 0x7fffffff, 0x80000000, 0x80000001, 0xfffffffe, 0xffffffff]
+        text, = self.same([["values", edges + [draw.getrandbits(32) for _ in range(30)]]])
+        self.assertIn("['mulhsu', [0, ", text)
+
+    def test_runs(self):
+        """The instruction set's run of small, random and stored images: each step, what is loaded, and what is left."""
+        draw, images = random.Random(9), [support.image_of_words(f"run{place}", words) for place, words in enumerate(PROGRAMS.values())]
+        images += [aliasing.image(draw, f"run_random{number}") for number in range(6)] + sorted(glob.glob(support.example("*.elf")))
+        told = self.same([["run", image, support.example("core.toml"), model, 600] for image in images for model in ("spectre", "futuristic")])
+        self.assertTrue(any("end exit" in text for text in told) and any("end trap" in text for text in told))
+
     @unittest.skipIf(support.NO_PROGRAM, support.NO_PROGRAM)
     def test_verdicts(self):
         pairs = [(support.example(f"{name}.elf"), support.example(other)) for name, other in (
@@ -152,6 +185,9 @@ class Compiled(unittest.TestCase):
 
 class Command(unittest.TestCase):
     def test_what_is_missing_is_told(self):
+        """What was compiled before stays."""
+        before = are_compiled()
         answer = subprocess.run([os.path.join(TOOLS, "compile")], capture_output=True, text=True, timeout=60, env={"PATH": "/nowhere"})
         self.assertEqual((answer.stdout, answer.returncode), ("", 2))
         self.assertRegex(answer.stderr, r"^compile: no cython3; .*\n$")
+        self.assertEqual(are_compiled(), before)

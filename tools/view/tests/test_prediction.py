@@ -9,7 +9,7 @@ from view.stats import count
 def resolved(name):
     """How many branches, JALRs and returns of a run were resolved, and how many of them were mispredicted."""
     run, _, items = support.replay(*support.stored(name))
-    counts = count(items)
+    counts = count([items])
     return run.reasons.unexplained, [(counts.resolved[kind], counts.mispredicted[kind]) for kind in ("branch", "jalr", "return")]
 
 

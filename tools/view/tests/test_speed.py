@@ -11,7 +11,7 @@ from unittest import mock
 import aliasing
 import support
 from programs import PROGRAMS
-from view import faster
+from view import Fault, faster, pipeline
 from view.description import read_description
 from view.image import Image
 from view.replay import Replay
@@ -68,6 +68,28 @@ class Quiet(unittest.TestCase):
         told = taken(lines, *files, True)[1][6]
         self.assertEqual(told, taken(lines, *files, False)[1][6])
         self.assertGreater(len(told), 3)
+
+
+class Ring(unittest.TestCase):
+    """The entries in flight are found by the low bits of their serials."""
+
+    def test_it_grows(self):
+        """Where it is too short for what is in flight, the run tells the same."""
+        image, described = support.image_of_words("ring", PROGRAMS["forwarding"]), support.example("core.toml")
+        lines = support.modelled(described, image, 1000)
+        found = taken(lines, image, described, True)
+        with mock.patch.object(pipeline, "RING", 2):
+            self.assertEqual(taken(lines, image, described, True), found)
+            run = Replay(Trace(iter(lines)), Image(image), read_description(described))
+            self.assertEqual(len(run.pipeline.ring), 2)
+            self.assertTrue(list(run.items()))
+        self.assertGreater(len(run.pipeline.ring), 2)
+
+    def test_a_serial_in_flight(self):
+        """What is renamed with the serial of another entry in flight can't follow."""
+        lines = "".join(support.worked_trace("Bounds check bypass")).replace("ren:1:", "ren:0:", 1).splitlines(keepends=True)
+        with self.assertRaisesRegex(Fault, r"ren:0:00010004 can't follow, as entry 0 is in flight"):
+            taken(lines, support.example("bounds_check.elf"), support.example("core.toml"), True)
 
 
 @unittest.skipUnless(PYPY, "no pypy3")

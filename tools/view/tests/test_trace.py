@@ -5,7 +5,7 @@ import unittest
 
 import support
 from view import Fault
-from view.rows import Row, scan
+from view.rows import EVENTS, TABLE, Row, scan
 from view.trace import Progress, Trace
 
 SHORT = """1 fet:00010000 fet:00010004
@@ -21,6 +21,17 @@ def lines(text):
     return iter(text.splitlines(keepends=True))
 
 
+def row_of(line):
+    row = Row()
+    row.begin(1, line)
+    return row
+
+
+def told_of(phases):
+    """All that events tell, by their phases."""
+    return [[(event.name, event.number, event.second, event.text) for event in phase] for phase in phases]
+
+
 class Rows(unittest.TestCase):
     def test_rows_and_last_line(self):
         trace = Trace(lines(SHORT))
@@ -29,21 +40,24 @@ class Rows(unittest.TestCase):
         self.assertEqual(rows[1].events, ["ren:0:00010000", "fet:00010008"])
         self.assertEqual((trace.end.how, trace.end.retired, trace.end.cycles), ("exit 0", 2, 5))
 
+    def test_each_name_has_a_place_of_its_own(self):
+        self.assertEqual(sorted(shape.name for shape in TABLE if shape.name), sorted(EVENTS))
+
     def test_letter_by_letter(self):
         """What compiled modules read letter by letter is what `split` finds, or they leave a line that isn't just as written to it."""
         draw, found = random.Random(7), 0
         texts = [line for run in ("mixed_1", "mixed_any_address_1", "mixed_memory_1", "half_issued") for line in support.stored(run)[0]]
         for line in texts:
-            row = Row(1, line, False)
+            row = row_of(line)
             if not line.startswith("end "):
-                self.assertEqual(scan(line), row.split())
+                self.assertEqual(told_of(scan(line)), told_of(row.split()))
             for _ in range(20):
                 place = draw.randrange(len(line))
                 other = line[:place] + draw.choice(" ::fxhm2J09a_+-") + line[place + draw.choice((0, 1, 3)):-1] + "\n"
                 told = scan(other)
                 if told is not None:
                     found += 1
-                    self.assertEqual(told, Row(1, other, False).split(), other)
+                    self.assertEqual(told_of(told), told_of(row_of(other).split()), other)
         self.assertGreater(found, 100)
 
     def test_only_a_run_that_ended_ends_in_retire(self):
@@ -57,7 +71,7 @@ class Rows(unittest.TestCase):
                                         ("res:2:T bp:2:2 sq:7 clr:1 vio:3 dp:3:1 sq:0", ["res", "bp", "sq"], ["clr", "vio", "dp", "sq"])]:
             text = f"1 fill:0001fff0 done:0 {told} ret:2 ld:6:0001fff0:h ren:3:00010000 fet:00010004\n"
             row = next(iter(Trace(lines(text))))
-            self.assertEqual([[words[0] for words in phase] for phase in row.phases()],
+            self.assertEqual([[event.name for event in phase] for phase in row.phases()],
                              [["fill"], ["done"], resolved, cleared, ["ret"], ["ld"], ["ren"], ["fet"]])
 
     def test_a_torn_trace_has_its_whole_lines(self):

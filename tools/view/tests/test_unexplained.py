@@ -10,7 +10,7 @@ import support
 from generate.generated import generated_image
 from programs import PROGRAMS
 from view import Fault
-from view.pipeline import Item
+from view.items import Item
 
 GENERATED, BLOCKS, CYCLES = 20, 24, 3000
 RUNS = os.path.join(support.ROOT, "tools", "evaluate", "runs")
