@@ -8,9 +8,13 @@ import os
 import re
 import shutil
 import subprocess
+import sys
 
 TOP = os.path.dirname(os.path.dirname(os.path.dirname(os.path.abspath(__file__))))
-CRATES = {"STT_CLI": "stt_cli", "STT_SECRETS": "stt_secrets"}
+sys.path.append(os.path.join(TOP, "tools"))
+
+import built_programs
+
 DOCUMENTS = ("README.md", "docs/using.md", "docs/results.md", "docs/secrets.md")
 # what a command with such words asks for
 NEEDS = [("build/gcc", "riscv64-unknown-elf-gcc"), ("build/picolibc", "riscv64-unknown-elf-gcc"), ("build/clang", "clang"), ("xxd", "xxd"),
@@ -24,11 +28,10 @@ SECONDS = 120
 RAN = (0, 1, 3)
 
 
-def program(variable="STT_CLI"):
-    """The program that samples are held against: that of the variable, or the built one; None where there is none."""
-    crate = CRATES[variable]
-    named = os.environ.get(variable) or os.path.join(TOP, "crates", crate, "out", crate)
-    return os.path.abspath(named) if os.path.isfile(named) and os.access(named, os.X_OK) else None
+def program():
+    """The path of the program that samples are held against; None where there is none."""
+    found = built_programs.simulator()
+    return found and os.path.abspath(found)
 
 
 def samples(text):
@@ -73,7 +76,7 @@ def is_that_gcc():
 def lacking(command):
     """What a command asks for and isn't there, or None."""
     names = [name for words, name in NEEDS if words in command and shutil.which(name) is None]
-    if "--secret" in command and program("STT_SECRETS") is None:
+    if "--secret" in command and built_programs.secrets() is None:
         names.append("stt_secrets")
     if "build/picolibc" in command and not os.path.isdir(PICOLIBC):
         names.append("picolibc-riscv64-unknown-elf")

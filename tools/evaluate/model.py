@@ -10,10 +10,10 @@ from types import SimpleNamespace
 
 sys.path.insert(0, os.path.dirname(os.path.dirname(os.path.abspath(__file__))))
 
+from riscv.kinds import BRANCH, CALL, DIVISION, JAL, JALR, LOAD, MULTIPLICATION, STOP, STORE
+from riscv.operation import SIZES, WORD, decode, division_time, effect, extend
 from verdict.hart import JUMP_MISALIGNED, Memory, stored_bytes, system_call
-from verdict.operation import SIZES, WORD, decode, division_time, effect, extend
 from view.description import FUTURISTIC, HOLD, OPTIONAL, SPECTRE
-from view.instruction import BRANCH, CALL, DIVISION, JAL, JALR, LOAD, MULTIPLICATION, STOP, STORE
 
 WAITING, BUSY, DONE = "waiting", "busy", "done"
 ALU, MULTIPLIER, DIVIDER, ADDRESS, DATA, LOADS = "alu", "multiplier", "divider", "address", "data", "loads"

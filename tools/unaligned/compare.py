@@ -14,7 +14,6 @@ sys.path[:0] = [HERE, TOOLS]
 import generate
 
 C = os.path.join(ROOT, "examples", "c")
-BUILT = os.path.join(ROOT, "crates", "stt_cli", "out", "stt_cli")
 GCC = ["riscv64-unknown-elf-gcc", "-march=rv32im", "-mabi=ilp32", "-O2", "-mno-strict-align", "-mtune=size", "-ffreestanding", "-nostdlib",
        "-static", "-w", "-fno-tree-loop-distribute-patterns", f"-I{C}", "-T", os.path.join(HERE, "link.ld")]
 QEMU = "qemu-riscv32"
@@ -31,12 +30,6 @@ def missing():
     except ModuleNotFoundError:
         absent.append("python3-pyelftools")
     return absent
-
-
-def simulator(named=None):
-    """The program named, or that of the variable STT_CLI, or the built one; none where there is no such file."""
-    path = named or os.environ.get("STT_CLI") or BUILT
-    return path if os.access(path, os.X_OK) else None
 
 
 def descriptions(folder):

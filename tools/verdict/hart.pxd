@@ -1,6 +1,6 @@
 # The types by which hart.py is compiled.
 cimport cython
-from verdict.arithmetic cimport Decoded
+from riscv.arithmetic cimport Decoded
 
 
 cdef class Memory:

@@ -1,9 +1,8 @@
 """The instruction set's own machine: one instruction at a time, in order (docs/instruction-set.md)."""
 from collections import namedtuple
 
-from view.instruction import CALL, LOAD
-
-from .operation import WORD, decoded_of, effect
+from riscv.kinds import CALL, LOAD
+from riscv.operation import WORD, decoded_of, effect
 
 # The causes of traps.
 JUMP_MISALIGNED, OUTSIDE_CODE, ILLEGAL, BREAKPOINT = 0, 1, 2, 3

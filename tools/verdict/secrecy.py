@@ -3,6 +3,7 @@ what shows first (docs/secrets.md)."""
 import re
 from typing import NamedTuple, Optional
 
+import built_programs
 from view import Fault
 from view.trace import End, read_end
 
@@ -40,12 +41,7 @@ class Asked(NamedTuple):
     why: str = ""
 
 
-NOT_ASKED = Asked(None, f"no program {simulator.SECRETS}")
-
-
-def found(path=None):
-    """The program named, or that of the variable STT_SECRETS, or the built one; none where there is no such file."""
-    return simulator.found(path, simulator.SECRETS)
+NOT_ASKED = Asked(None, f"no program {built_programs.SECRETS}")
 
 
 def words_of(description, image, secret, cycles):
@@ -65,7 +61,7 @@ def read_answer(text, program="the program"):
         return Answer(Shown(int(cycle), what, int(serial), int(pc, 16)), None)
     if hidden:
         return Answer(None, read_end(hidden[1]))
-    raise Fault(f"{program} doesn't answer as {simulator.SECRETS} does: is it that program?")
+    raise Fault(f"{program} doesn't answer as {built_programs.SECRETS} does: is it that program?")
 
 
 def asked_of_pair(program, description, one, premises, cycles):

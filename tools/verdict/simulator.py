@@ -1,4 +1,4 @@
-"""The built programs: where they are, and what the simulator says of two images."""
+"""What the built programs write, and what the simulator says of two images."""
 import os
 import re
 import subprocess
@@ -8,8 +8,6 @@ from typing import NamedTuple, Optional
 from view import Fault
 from view.trace import read_end
 
-ROOT = os.path.dirname(os.path.dirname(os.path.dirname(os.path.abspath(__file__))))
-SIMULATOR, SECRETS = "stt_cli", "stt_secrets"
 RAN = (0, 1, 3)
 ANSWER = re.compile(r"premise (yes|no)\n(?:equal|unequal (end|\d+))\nretired \d+ cycles (\d+)\n")
 TAIL = 200
@@ -63,13 +61,6 @@ class Answer(NamedTuple):
     premise: bool
     unequal: Optional[int]
     cycles: int
-
-
-def found(named=None, name=SIMULATOR):
-    """The program named, or that of its variable (STT_CLI, STT_SECRETS), or the built one of this repository; none where there is no such
-    file."""
-    path = named or os.environ.get(name.upper()) or os.path.join(ROOT, "crates", name, "out", name)
-    return path if os.path.isfile(path) and os.access(path, os.X_OK) else None
 
 
 def started(program, words, out):

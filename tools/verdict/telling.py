@@ -9,8 +9,8 @@ or a load of these bytes was, and by taint alone; else it is vacuous. Under the 
 but results of loads that are held back."""
 from collections import Counter, namedtuple
 
+from riscv.kinds import BRANCH, CALL, DIVISION, JALR, LOAD, STORE
 from view.description import HOLD
-from view.instruction import BRANCH, CALL, DIVISION, JALR, LOAD, STORE
 from view.reasons import STORE_TAINT, Reasons
 from view.replay import Replay
 

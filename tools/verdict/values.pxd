@@ -1,6 +1,6 @@
 # The types by which values.py is compiled.
 cimport cython
-from verdict.arithmetic cimport Decoded
+from riscv.arithmetic cimport Decoded
 from verdict.hart cimport Memory
 from view.items cimport Item
 from view.pipeline cimport Pipeline

@@ -4,12 +4,12 @@ A trace has no values. But an entry computes its result from those of the writer
 and retired memory, as it issues (docs/machine.md, "Writers and roots", "Loads"): so each entry is executed with the event of its issue,
 each part of a store with its own. The run checks itself: the lines, faults, times of divisions and directions of branches that are
 computed have to be those that the trace tells."""
+from riscv.kinds import CALL, DIVISION, JALR, LOAD
+from riscv.operation import WORD, decoded_of, division_time, effect
 from view import Fault
-from view.instruction import CALL, DIVISION, JALR, LOAD
 from view.pipeline import PREFETCH, Pipeline
 
 from .hart import JUMP_MISALIGNED, Memory, system_call
-from .operation import WORD, decoded_of, division_time, effect
 
 
 class Retired:

@@ -1,10 +1,9 @@
 """A trace of the simulator, made readable: statistics, the reason of each wait, lists, differences and pictures.
 
-The modules, from the bottom up:
+The modules, from the bottom up; what words of code are is told by `riscv` beside this folder:
 
     rows         a line of a trace as the events of a cycle
     trace        the text of `trace`, line by line
-    instruction  what a word of code is to the pipeline: its kind, the registers it reads and writes
     sources      the lines of source files, by the image's line table
     image        an ELF image: its code, its symbols, its sources
     disassembly  instructions as people write them

@@ -1,5 +1,6 @@
 """Whether what happens is what the machine's rules ask for: when lines come, when results are there, what loads find."""
-from .instruction import BRANCH, CALL, STORE
+from riscv.kinds import BRANCH, CALL, STORE
+
 from .items import BY_AGE, DATA_PART
 from .pipeline import PREFETCH, lines_of
 from .rows import Event, text_of

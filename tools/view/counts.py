@@ -1,7 +1,8 @@
 """What is counted over the fetched instructions of a run."""
 from collections import Counter
 
-from .instruction import BRANCH, JALR
+from riscv.kinds import BRANCH, JALR
+
 from .reasons import DEFENCE, STORE_ADDRESS
 
 RETURN = "return"

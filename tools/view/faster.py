@@ -17,7 +17,7 @@ NURSERY = {"PYPY_GC_NURSERY": "24M"}
 TOOLS = os.path.dirname(os.path.dirname(os.path.realpath(__file__)))
 # the modules that are compiled, by package; each has its types beside it
 COMPILED = {"view": ("checks", "counts", "front_end", "items", "memory_side", "pipeline", "reasons", "replay", "rows", "slots", "trace"),
-            "verdict": ("arithmetic", "hart", "telling", "values")}
+            "riscv": ("arithmetic",), "verdict": ("hart", "telling", "values")}
 FOLDER, STAMP = os.path.join(TOOLS, "compiled"), "stamp"
 
 

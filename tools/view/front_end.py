@@ -1,5 +1,5 @@
 """Why rename or fetch stops short of the width (docs/machine.md, "Rename" and "Fetch")."""
-from .instruction import CALL, STOP
+from riscv.kinds import CALL, STOP
 
 REORDER_BUFFER, CALL_IN_FLIGHT, LOADS, STORES, CALL_ALONE, STATIONS = (
     "reorder buffer", "call in flight", "loads", "stores", "call waits to be alone", "stations")

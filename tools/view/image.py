@@ -6,8 +6,9 @@ from elftools.common.exceptions import ELFError
 from elftools.elf.constants import P_FLAGS
 from elftools.elf.elffile import ELFFile
 
+from riscv.kinds import instruction_of
+
 from . import Fault
-from .instruction import instruction_of
 from .sources import read_sources
 
 

@@ -23,7 +23,7 @@ FORM = 5
 HEAD = "head.json"
 CLASSES = {
     "builtins": {"bytearray"}, "collections": {"Counter", "OrderedDict"}, "view.pipeline": {"Pipeline"}, "view.items": {"Code", "Item", "Wait"},
-    "view.memory_side": {"Cache", "Divider", "Miss"}, "view.instruction": {"Instruction"}, "view.description": {"Description"},
+    "view.memory_side": {"Cache", "Divider", "Miss"}, "riscv.kinds": {"Instruction"}, "view.description": {"Description"},
     "view.reasons": {"Reasons"}, "view.front_end": {"FrontEnd", "Stall"}, "view.checks": {"Checks"}, "view.slots": {"Slots", "Late"},
     "view.replay": {"Replay"}}
 

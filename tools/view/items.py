@@ -1,7 +1,7 @@
 """A fetched instruction and what became of it, and lists of such by age."""
 from operator import attrgetter
 
-from .instruction import AT_ONCE, CONTROLS, DIVISION, LOAD, MULTIPLICATION, STORE
+from riscv.kinds import AT_ONCE, CONTROLS, DIVISION, LOAD, MULTIPLICATION, STORE
 
 NEVER = 1 << 62
 BY_AGE = attrgetter("serial")

@@ -2,7 +2,8 @@
 import json
 from collections import Counter
 
-from .instruction import BRANCH, JALR
+from riscv.kinds import BRANCH, JALR
+
 from .places import by_function, function_of, merged, slots_by_address
 from .stats import LOAD_KINDS, OTHER_UNITS, RETURN
 

@@ -4,8 +4,9 @@ Each reason is a rule of docs/machine.md that forbids the step in that cycle, te
 wait that no rule asks for, and a step that a rule forbids, are told as unexplained. So this is also a check of the trace,
 made from its text, the image and the description alone.
 """
+from riscv.kinds import CALL
+
 from .description import FUTURISTIC, HOLD
-from .instruction import CALL
 from .items import ADDRESS_PART, ARITHMETIC_PORTS, DATA_PART, PARTS, PORTS
 from .pipeline import enter
 

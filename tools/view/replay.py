@@ -1,8 +1,9 @@
 """A whole trace taken through the pipeline, the reasons and the checks."""
+from riscv.kinds import CALL
+
 from . import Fault
 from .checks import Checks
 from .front_end import FrontEnd
-from .instruction import CALL
 from .items import ADDRESS_PART, DATA_PART
 from .pipeline import PREFETCH, Pipeline
 from .reasons import Reasons

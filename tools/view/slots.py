@@ -5,7 +5,8 @@ all others: what it waits for, what executes it, or, where it has only just been
 Where the defence held the entry before it issued, the last cycles of its execution are the defence's: without it, it would have been
 Done by then. No more cycles are told so than the defence took. So is what a held branch delays behind it.
 """
-from .instruction import CALL, DIVISION, MULTIPLICATION, STORE
+from riscv.kinds import CALL, DIVISION, MULTIPLICATION, STORE
+
 from .reasons import (
     ADDRESS_PORT, DATA_PORT, DIVIDER, HELD_BACK, MISS_REGISTER, ONE_A_CYCLE, ONE_CLEARED, PORT, STORE_TAINT, TAINT, TAINTED_CLEARING,
     TAINTED_OUTCOME, TWO_REGISTERS)

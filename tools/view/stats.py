@@ -1,10 +1,11 @@
 """`stats`: the numbers of a run."""
 from collections import Counter
 
+from riscv.kinds import BRANCH, JALR
+
 from . import Fault
 from .counts import RETURN, count
 from .front_end import QUEUE_EMPTY
-from .instruction import BRANCH, JALR
 from .places import Places, function_of
 from .slots import Occupancy, Slots
 

@@ -9,9 +9,11 @@ from itertools import islice
 ROOT = os.path.dirname(os.path.dirname(os.path.dirname(os.path.dirname(os.path.abspath(__file__)))))
 sys.path.insert(0, os.path.join(ROOT, "tools"))
 
-from generate.generated import add, addi, beq, blt, div, draws, generated_image, jal, lw, mul, program, sw, xor
+import built_programs
+from generate.generated import draws, generated_image, program
+from riscv.encoding import add, addi, beq, blt, div, jal, lw, mul, sw, xor
 
-PROGRAM = os.environ.get("STT_CLI", os.path.join(ROOT, "crates", "stt_cli", "out", "stt_cli"))
+PROGRAM = built_programs.simulator()
 DESCRIPTION = os.path.join(ROOT, "examples", "core.toml")
 GENERATE = os.path.join(ROOT, "tools", "generate", "generate")
 
@@ -68,7 +70,7 @@ class Command(unittest.TestCase):
         for seed, blocks in ((-1, 1), (2**64, 1), (1, 0), (1, 4097), ("x", 1)):
             self.assertEqual(self.generate(seed, blocks).returncode, 2)
 
-    @unittest.skipUnless(os.path.isfile(PROGRAM), "the program isn't built (crates/stt_cli/out/stt_cli, or STT_CLI)")
+    @unittest.skipUnless(PROGRAM, "the program isn't built (crates/stt_cli/out/stt_cli, or STT_CLI)")
     def test_bench_and_run_on_the_written_image_give_one_report(self):
         for seed, blocks in [(seed, 1 + 3 * seed) for seed in range(20)] + [(2**31 + 7, 5), (2**64 - 1, 64), (7, 4096)]:
             with self.subTest(seed=seed, blocks=blocks):

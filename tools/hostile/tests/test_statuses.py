@@ -10,10 +10,11 @@ import unittest
 ROOT = os.path.dirname(os.path.dirname(os.path.dirname(os.path.dirname(os.path.abspath(__file__)))))
 sys.path.insert(0, os.path.join(ROOT, "tools"))
 
-from generate.generated import addi, image, jal, lw
+import built_programs
+from generate.generated import image
+from riscv.encoding import addi, jal, lw
 
-PROGRAM = os.environ.get("STT_CLI", os.path.join(ROOT, "crates", "stt_cli", "out", "stt_cli"))
-SECRETS = os.environ.get("STT_SECRETS", os.path.join(ROOT, "crates", "stt_secrets", "out", "stt_secrets"))
+PROGRAM, SECRETS = built_programs.simulator(), built_programs.secrets()
 EXIT = [addi(17, 0, 93), 0x00000073]
 TRAP = [lw(5, 1, 0)]
 LOOP = [jal(0, 0)]
@@ -94,7 +95,7 @@ class Ran(unittest.TestCase):
         self.assertLessEqual(set(started[:-1]), {(8, True, b"memory\n")})
 
 
-@unittest.skipUnless(os.path.isfile(PROGRAM), "the program isn't built (crates/stt_cli/out/stt_cli, or STT_CLI)")
+@unittest.skipUnless(PROGRAM, "the program isn't built (crates/stt_cli/out/stt_cli, or STT_CLI)")
 class Statuses(Ran):
     PROGRAM = PROGRAM
 
@@ -159,7 +160,7 @@ class Statuses(Ran):
         self.starved("run", self.core, self.exit, "--cycles", "100")
 
 
-@unittest.skipUnless(os.path.isfile(SECRETS), "the program isn't built (crates/stt_secrets/out/stt_secrets, or STT_SECRETS)")
+@unittest.skipUnless(SECRETS, "the program isn't built (crates/stt_secrets/out/stt_secrets, or STT_SECRETS)")
 class SecretsStatuses(Ran):
     PROGRAM = SECRETS
 

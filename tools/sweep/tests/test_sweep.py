@@ -17,11 +17,11 @@ TOOLS = os.path.dirname(os.path.dirname(os.path.dirname(os.path.abspath(__file__
 ROOT = os.path.dirname(TOOLS)
 sys.path.append(TOOLS)
 
+import built_programs
 from sweep import plots, results, settings
-from verdict import simulator
 from view import Fault
 
-PROGRAM = simulator.found()
+PROGRAM = built_programs.simulator()
 DESCRIPTION = """# a core
 version = 2  # the second
 

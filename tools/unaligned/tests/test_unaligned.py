@@ -7,7 +7,8 @@ HERE = os.path.dirname(os.path.dirname(os.path.realpath(__file__)))
 
 sys.dont_write_bytecode = True
 sys.path.insert(0, HERE)
-import compare
+import compare  # finds the modules below
+import built_programs
 import generate
 
 MISSING = compare.missing()
@@ -29,6 +30,6 @@ class Unaligned(unittest.TestCase):
         self.compared(None)
 
     @unittest.skipIf(MISSING, f"no {', '.join(MISSING)}")
-    @unittest.skipUnless(compare.simulator(), "the program isn't built (crates/stt_cli/out/stt_cli, or STT_CLI)")
+    @unittest.skipUnless(built_programs.simulator(), "the program isn't built (crates/stt_cli/out/stt_cli, or STT_CLI)")
     def test_the_simulator(self):
-        self.compared(compare.simulator())
+        self.compared(built_programs.simulator())

@@ -6,9 +6,9 @@ import random
 import unittest
 
 import material
-from generate.generated import add, addi, branch, div, immediate_form, jal, lw, mul, sw, xor
 from material import CODE_FLAGS, DATA_FLAGS, needs_program, support
 from programs import EXIT, lbu
+from riscv.encoding import add, addi, branch, div, immediate_form, jal, lw, mul, sw, xor
 from verdict import judge
 from verdict.loaded import load
 from verdict.path import walk

@@ -9,7 +9,8 @@ import tempfile
 import unittest
 from types import SimpleNamespace
 
-import material
+import material  # finds the modules below
+import built_programs
 from material import BOUND_0, CORE, SECRET, command, gadget, support
 from verdict import judge, premises, ranges, report, secrecy, simulator
 from verdict.ranges import Range
@@ -18,7 +19,7 @@ from view.description import read_description
 
 UNPROTECTED = support.example("core_unprotected.toml")
 GCC = "riscv64-unknown-elf-gcc"
-PROGRAM = secrecy.found()
+PROGRAM = built_programs.secrets()
 needs_secrets = unittest.skipUnless(PROGRAM, "the program stt_secrets isn't built (crates/stt_secrets/out/stt_secrets, or STT_SECRETS)")
 HIDDEN, CUT = "hidden\nend exit 0 retired 5 cycles 21\n", "hidden\nend budget retired 3 cycles 12\n"
 SHOWN = "shown 15 access 6 00010018\n"

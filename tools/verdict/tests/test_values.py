@@ -2,14 +2,14 @@
 import unittest
 
 import material  # finds the modules below
-from generate.generated import add, lw, sw
 from material import BOUND_0, CODE, CORE, DATA, SECRET, loaded, segment, words
 from programs import lbu
+from riscv.encoding import add, lw, sw
+from riscv.kinds import LOAD, STORE
 from verdict.path import walk
 from verdict.telling import arguments
 from verdict.values import Valued
 from view.description import FUTURISTIC, SPECTRE, read_description
-from view.instruction import LOAD, STORE
 from view.rows import Event
 
 

@@ -9,9 +9,10 @@ import tempfile
 import textwrap
 import unittest
 
-import material
+import material  # finds the modules below
+import built_programs
 from material import needs_program, support
-from verdict import report, secrecy
+from verdict import report
 
 FOLDER = support.example("c")
 COMPILERS = {"gcc": ("riscv64-unknown-elf-gcc",), "clang": ("clang", "ld.lld")}
@@ -73,7 +74,7 @@ class Victims(unittest.TestCase):
                 self.verdict(folder, name, description, word)
 
     def verdict(self, folder, name, description, word):
-        if word in ("certified", "exposed") and secrecy.found() is None:
+        if word in ("certified", "exposed") and built_programs.secrets() is None:
             word = "same"
         images = [os.path.join(folder, f"{name}_{secret}.elf") for secret in "ab"]
         with self.subTest(victim=name, description=description):
@@ -91,7 +92,7 @@ class Victims(unittest.TestCase):
         told = material.command("verdict", support.example("medium.toml"), *(f"{folder}/table_{secret}.elf" for secret in "ab")).stdout
         told = told.replace(folder, "examples/c/build/gcc").replace(support.example("medium.toml"), "examples/medium.toml")
         sample = textwrap.dedent(sample)
-        if secrecy.found() is None:
+        if built_programs.secrets() is None:
             sample, told = (re.sub(r"(?m)^one run .*\n", "", text) for text in (sample, told))
         self.assertEqual(sample, told)
 

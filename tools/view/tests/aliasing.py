@@ -1,7 +1,7 @@
 """Random programs whose stores have late addresses and share bytes with loads, and random descriptions of version 2 to run them under."""
 import support
-from generate.generated import add, addi, branch, div, immediate_form, jal, lw, mul, sw
 from programs import EXIT, lbu, sh
+from riscv.encoding import add, addi, branch, div, immediate_form, jal, lw, mul, sw
 
 REGISTERS = [5, 6, 7, 9, 10, 11]
 COUNTER = 12

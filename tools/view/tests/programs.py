@@ -1,5 +1,5 @@
 """Small programs that bring the machine to each of its rules, as words."""
-from generate.generated import add, addi, blt, branch, div, immediate_form, jal, lw, mul, store, sw, xor
+from riscv.encoding import add, addi, blt, branch, div, immediate_form, jal, lw, mul, store, sw, xor
 
 ECALL, EBREAK, ILLEGAL, FENCE = 0x00000073, 0x00100073, 0, 0x0FF0000F
 EXIT = [addi(17, 0, 93), ECALL]

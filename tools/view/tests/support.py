@@ -9,6 +9,7 @@ import tempfile
 ROOT = os.path.dirname(os.path.dirname(os.path.dirname(os.path.dirname(os.path.abspath(__file__)))))
 sys.path.insert(0, os.path.join(ROOT, "tools"))
 
+import built_programs
 from evaluate import model
 from generate.generated import image
 from verdict.loaded import load
@@ -20,8 +21,8 @@ from view.replay import Replay
 from view.trace import Trace
 
 EXAMPLES = ("bounds_check", "fault_shadow", "store_bypass", "tainted_store", "tainted_divisor", "target_injection")
-PROGRAM = os.environ.get("STT_CLI", os.path.join(ROOT, "crates", "stt_cli", "out", "stt_cli"))
-NO_PROGRAM = None if os.path.isfile(PROGRAM) else "the program isn't built (crates/stt_cli/out/stt_cli, or STT_CLI)"
+PROGRAM = built_programs.simulator()
+NO_PROGRAM = None if PROGRAM else "the program isn't built (crates/stt_cli/out/stt_cli, or STT_CLI)"
 FOLDER = tempfile.TemporaryDirectory()
 
 LARGEST = {"fetch_width": 4, "retire_width": 4, "rob": 64, "stations": 32, "loads": 16, "stores": 16, "queue": 16, "alus": 4,

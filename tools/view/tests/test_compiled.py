@@ -28,10 +28,10 @@ sys.path.insert(0, sys.argv[1])
 from view import Fault, faster
 if sys.argv[3:]:
     assert faster.by_compiled([], sys.argv[3])
+from riscv.arithmetic import takes, value_of
+from riscv.operation import BRANCHES, VALUES
 from verdict import hart, judge, report
-from verdict.arithmetic import takes, value_of
 from verdict.loaded import load
-from verdict.operation import BRANCHES, VALUES
 from verdict.path import walk
 from view import command, pipeline
 from view.description import read_description

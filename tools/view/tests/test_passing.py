@@ -5,8 +5,8 @@ from collections import deque
 
 import aliasing
 import support
-from generate.generated import add, lw, mul, sw
 from programs import EXIT, PROGRAMS
+from riscv.encoding import add, lw, mul, sw
 from verdict.loaded import load
 from verdict.telling import Telling
 from view import Fault

@@ -2,7 +2,7 @@
 import unittest
 
 import support
-from view.instruction import instruction_of
+from riscv.kinds import instruction_of
 from view.stats import count
 
 

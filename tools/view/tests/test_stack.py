@@ -6,8 +6,8 @@ import unittest
 from xml.etree import ElementTree
 
 import support
-from generate.generated import blt, div, lw, mul
 from programs import EXIT, PROGRAMS
+from riscv.encoding import blt, div, lw, mul
 from view import Fault, annotate, compare, numbers, slots, stack, stats
 from view.description import read_description
 from view.replay import Replay

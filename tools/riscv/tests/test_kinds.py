@@ -1,8 +1,11 @@
 """Kinds and registers, from the table of docs/instruction-set.md, "Decoding", and docs/machine.md, "Kinds"."""
+import os
+import sys
 import unittest
 
-import support  # puts the tools on the path
-from view.instruction import instruction_of
+sys.path.insert(0, os.path.dirname(os.path.dirname(os.path.dirname(os.path.realpath(__file__)))))
+
+from riscv.kinds import instruction_of
 
 # the word, its kind, what it reads, what it writes. The words are those that binutils assembles from the text beside.
 TABLE = [

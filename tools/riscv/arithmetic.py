@@ -1,5 +1,5 @@
 """What RV32IM makes of two words, by the names of instructions (docs/instruction-set.md, "Values")."""
-from view.instruction import BRANCH, LOAD, STORE
+from .kinds import BRANCH, LOAD, STORE
 
 ONES = 0xffffffff
 

@@ -1,14 +1,18 @@
 """Words, names, immediates and values (docs/instruction-set.md, "Decoding" and "Values")."""
+import os
 import random
 import re
 import shutil
+import struct
 import subprocess
+import sys
 import tempfile
 import unittest
 
-import material
-from verdict.arithmetic import takes, value_of
-from verdict.operation import IMMEDIATES, REGISTERS, SHIFTS, decode, division_time, effect, extend
+sys.path.insert(0, os.path.dirname(os.path.dirname(os.path.dirname(os.path.realpath(__file__)))))
+
+from riscv.arithmetic import takes, value_of
+from riscv.operation import IMMEDIATES, REGISTERS, SHIFTS, decode, division_time, effect, extend
 
 OBJDUMP = shutil.which("riscv64-unknown-elf-objdump")
 LEAST, ONES = 0x80000000, 0xffffffff
@@ -81,7 +85,7 @@ class Decoding(unittest.TestCase):
 
 def disassembled(numbers):
     with tempfile.NamedTemporaryFile(suffix=".bin") as file:
-        file.write(material.words(*numbers))
+        file.write(struct.pack(f"<{len(numbers)}I", *numbers))
         file.flush()
         text = subprocess.run([OBJDUMP, "-D", "-z", "-b", "binary", "-m", "riscv:rv32", "-M", "no-aliases,numeric", file.name],
                               capture_output=True, text=True, check=True).stdout

@@ -1,10 +1,10 @@
-"""RV32IM: what a word says, and what an instruction makes of its operands (docs/instruction-set.md, "Decoding" and "Values").
+"""What a word says, and what an instruction makes of its operands (docs/instruction-set.md, "Decoding" and "Values").
 
-Which words are legal, their kinds and registers are told by `view.instruction`; here are names, immediates and values."""
+Which words are legal, their kinds and registers are told by `kinds`; here are names, immediates and effects."""
 from functools import cache
 from typing import NamedTuple
 
-from view.instruction import BRANCH, ILLEGAL, LOAD, STORE, Instruction, instruction_of
+from .kinds import BRANCH, ILLEGAL, LOAD, STORE, Instruction, instruction_of
 
 from .arithmetic import Decoded, takes, value_of
 
