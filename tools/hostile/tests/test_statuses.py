@@ -2,6 +2,7 @@
 "Statuses", "Notes" and "The program stt_secrets"). No proof says which streams and words `main` hands on."""
 import os
 import resource
+import shutil
 import subprocess
 import sys
 import tempfile
@@ -56,6 +57,16 @@ class Ran(unittest.TestCase):
         done = subprocess.run([self.PROGRAM, *words], stdout=subprocess.PIPE, stderr=subprocess.PIPE, timeout=60, check=False, **more)
         return done.returncode, done.stdout, done.stderr
 
+    def behind(self, length):
+        """The exit's image under a name of so many bytes: in folders within folders, as a name's parts may have 255 at most."""
+        path = self.folder
+        while length - len(path) > 257:
+            path = os.path.join(path, "f" * min(255, length - len(path) - 3))
+        os.makedirs(path, exist_ok=True)
+        path = os.path.join(path, "n" * (length - len(path) - 1))
+        shutil.copy(self.exit, path)
+        return path
+
     def refused(self, status, note, *words):
         """A refusal writes its line to standard error, and nothing to standard output."""
         self.assertEqual(self.ran(*words), (status, b"", note), words)
@@ -98,6 +109,14 @@ class Ran(unittest.TestCase):
 @unittest.skipUnless(PROGRAM, "the program isn't built (crates/stt_cli/out/stt_cli, or STT_CLI)")
 class Statuses(Ran):
     PROGRAM = PROGRAM
+
+    def test_names(self):
+        """A name may be as long as the host takes, and have any characters; a longer one is no file."""
+        names = [self.behind(length) for length in (256, 257, 1000, 4095)] + [self.file(name, image(EXIT)) for name in ("-", "a b", "\u00e9", "--x")]
+        for path in names:
+            with self.subTest(length=len(path)):
+                self.written(0, b"end exit 0 retired 2", "isa", path, "--steps", "9")
+        self.refused(6, b"read image\n", "isa", "n" * 4096, "--steps", "9")
 
     def test_texts(self):
         self.written(0, b"end exit 0 retired 2", "isa", self.exit, "--steps", "9")
