@@ -177,9 +177,8 @@ class OtherPrograms(unittest.TestCase):
             with open(pypy, "w", encoding="utf-8") as file:
                 file.write("#!/bin/sh\nshift\necho by pypy: $1\n")
             os.chmod(pypy, 0o755)
-            for package in ("view", "verdict"):
-                shutil.copytree(os.path.join(TOOLS, package), os.path.join(folder, package), ignore=shutil.ignore_patterns("tests"))
-            words = [sys.executable, os.path.join(folder, "verdict", "verdict"), *self.words(long)]
+            tools = shutil.copytree(TOOLS, os.path.join(folder, "tools"), ignore=shutil.ignore_patterns("tests", "compiled", "runs"))
+            words = [sys.executable, os.path.join(tools, "verdict", "verdict"), *self.words(long)]
             told = subprocess.run(words, capture_output=True, text=True, check=False, env=os.environ | {"PATH": f"{folder}:{os.environ['PATH']}"})
         self.assertEqual((told.returncode, told.stdout, told.stderr), (0, f"by pypy: {CORE}\n", ""))
 
